@@ -1,0 +1,66 @@
+-- A tree as plain data: null, a truth value, an integer, a text, a list of trees, or an object (RFC 8259).
+-- A text is the list of its UTF-8 bytes.
+use Rattle.std.specs.Prelude.{◌≡◌, ℕ, suc, max, ℤ, List, Bool, FitsSigned}
+use Rattle.std.specs.Int.{w64}
+use Rattle.std.specs.Ordering.{nat_cmp}
+use Rattle.std.specs.Cmp.Lexicographic.{slice_cmp}
+use Rattle.std.specs.declared.cmp.Ordering.TheVariants.{Less}
+
+mutual
+  pub data Data : Type 0 where
+    null : Data
+    boolean : Bool → Data
+    integer : ℤ → Data
+    text : List ℕ → Data
+    list : Items → Data
+    object : Members → Data
+
+  pub data Items : Type 0 where
+    no_items : Items
+    item : Data → Items → Items
+
+  pub data Members : Type 0 where
+    no_members : Members
+    member : List ℕ → Data → Members → Members
+
+-- the name comes before all names of the members, by bytes
+abbrev pub IsBefore : List ℕ → Members → Type 0
+IsBefore name no_members = Unit {0}
+IsBefore name (member k d ms) = slice_cmp nat_cmp name k ≡ Less
+
+-- An object is a finite map from texts to trees: its members stand in the order of their names, and no name stands twice.
+-- Integers are those of 64 bits.
+abbrev mutual
+  pub IsTree : Data → Type 0
+  IsTree null = Unit {0}
+  IsTree (boolean b) = Unit {0}
+  IsTree (integer z) = FitsSigned w64 z
+  IsTree (text s) = Unit {0}
+  IsTree (list ds) = AreTrees ds
+  IsTree (object ms) = IsObject ms
+
+  pub AreTrees : Items → Type 0
+  AreTrees no_items = Unit {0}
+  AreTrees (item d ds) = IsTree d × AreTrees ds
+
+  pub IsObject : Members → Type 0
+  IsObject no_members = Unit {0}
+  IsObject (member k d ms) = IsTree d × IsBefore k ms × IsObject ms
+
+-- how deep lists and objects nest
+abbrev mutual
+  pub depth : Data → ℕ
+  depth null = 0
+  depth (boolean b) = 0
+  depth (integer z) = 0
+  depth (text s) = 0
+  depth (list ds) = suc (items_depth ds)
+  depth (object ms) = suc (members_depth ms)
+
+  pub items_depth : Items → ℕ
+  items_depth no_items = 0
+  items_depth (item d ds) = max (depth d) (items_depth ds)
+
+  pub members_depth : Members → ℕ
+  members_depth no_members = 0
+  members_depth (member k d ms) = max (depth d) (members_depth ms)

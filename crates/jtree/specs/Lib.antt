@@ -1,0 +1,11 @@
+pub mod Data
+pub mod Code
+pub mod View
+pub mod Falls
+pub mod Path
+pub mod Nodes
+pub mod Order
+pub mod Before
+pub mod Text
+pub mod Reads
+pub mod Pointer

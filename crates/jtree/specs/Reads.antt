@@ -1,0 +1,45 @@
+-- Which bytes are which tree: the value that `serde_json` reads, where all its numbers are integers of 64 bits.
+use Rattle.std.specs.Prelude.{◌≡◌, ◌≤◌, ℕ, List, length, Option, Some, None, option_map, option_and_then}
+use Rattle.std.specs.Str.{IsUtf8}
+use Rattle.serde_json.specs.Data as json
+use Rattle.serde_json.specs.Find.{as_i64}
+use Rattle.serde_json.specs.Read.{read}
+use Rattle.jtree.specs.Data.{Data, null, boolean, integer, text, list, object, Items, no_items, item, Members, no_members, member}
+
+-- the tree that a JSON value is, or none where some number is no integer of 64 bits
+abbrev mutual
+  pub tree_of : json.Data → Option Data
+  tree_of json.null = Some null
+  tree_of (json.boolean b) = Some (boolean b)
+  tree_of (json.number n) = option_map integer (as_i64 n)
+  tree_of (json.string s) = Some (text s)
+  tree_of (json.array ds) = option_map list (items_tree ds)
+  tree_of (json.object ms) = option_map object (members_tree ms)
+
+  pub items_tree : json.Items → Option Items
+  items_tree json.no_items = Some no_items
+  items_tree (json.item d ds) = option_and_then (λ t. option_map (item t) (items_tree ds)) (tree_of d)
+
+  pub members_tree : json.Members → Option Members
+  members_tree json.no_members = Some no_members
+  members_tree (json.member k d ms) = option_and_then (λ t. option_map (member k t) (members_tree ms)) (tree_of d)
+
+-- the longest document that is read
+abbrev pub most_bytes : ℕ
+most_bytes = 1048576
+
+-- the bytes are UTF-8, and `serde_json` reads this value of them
+abbrev pub IsJson : List ℕ → json.Data → Type 0
+IsJson bytes v = IsUtf8 bytes × (read bytes ≡ Some v)
+
+-- the bytes are this tree
+abbrev pub Reads : List ℕ → Data → Type 0
+Reads bytes d = (length bytes ≤ most_bytes) × (v : json.Data) × IsJson bytes v × (tree_of v ≡ Some d)
+
+-- `serde_json` reads no value of the bytes
+abbrev pub IsNoJson : List ℕ → Type 0
+IsNoJson bytes = (v : json.Data) → IsJson bytes v → ⊥
+
+-- `serde_json` reads a value, and some number of it is no integer of 64 bits
+abbrev pub HasOtherNumber : List ℕ → Type 0
+HasOtherNumber bytes = (v : json.Data) × IsJson bytes v × (tree_of v ≡ None)

@@ -1,0 +1,6 @@
+//! JSON trees with integers only: their order, their text, and pointers into them.
+#![tactic(auto)]
+
+mod value;
+
+pub use value::{Items, Member, Members, Text, Tree};

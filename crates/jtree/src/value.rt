@@ -1,0 +1,132 @@
+use std::marker::Model;
+
+/// A JSON value whose numbers are integers.
+#[cycle(tree)]
+#[derive(Drop)]
+pub enum Tree {
+    Null,
+    Bool(bool),
+    Int(i64),
+    Text(Text),
+    List(Items),
+    Object(Members),
+}
+
+/// The trees of a list, in order.
+#[cycle(tree)]
+#[derive(Drop)]
+pub struct Items {
+    pub items: Vec<Tree>,
+}
+
+/// The members of an object, by the bytes of their names, each name once.
+#[cycle(tree)]
+#[derive(Drop)]
+pub struct Members {
+    pub members: Vec<Member>,
+}
+
+/// A name and what stands under it.
+#[cycle(tree)]
+#[derive(Drop)]
+pub struct Member {
+    pub name: Text,
+    pub tree: Tree,
+}
+
+/// A text, which a contract sees as its bytes.
+#[derive(Drop)]
+pub struct Text {
+    pub text: String,
+}
+
+impl Model for Text {
+    ghost use Rattle.std.specs.Prelude.{ℕ, List, string_bytes};
+
+    ghost Value = { List ℕ };
+
+    ghost view = { λ a. string_bytes a.text };
+}
+
+impl Model for Items {
+    ghost use Rattle.jtree.specs.Data.{Items as ItemsData, items_depth, AreTrees};
+    ghost use Rattle.jtree.specs.Code.{items_coded};
+
+    ghost Value = { ItemsData };
+
+    ghost coded = { items_coded };
+
+    ghost use Rattle.jtree.specs.View.{items_of};
+
+    ghost view = { λ a. items_of a.items.items };
+
+    ghost invariant = { λ a. AreTrees (items_of a.items.items) };
+
+    ghost size = { items_depth };
+
+    ghost use Rattle.jtree.specs.Falls.{items_fall};
+
+    ghost size_decreases = { λ a h. items_fall a.items.items };
+}
+
+impl Model for Members {
+    ghost use Rattle.jtree.specs.Data.{Members as MembersData, members_depth, IsObject};
+    ghost use Rattle.jtree.specs.Code.{members_coded};
+
+    ghost Value = { MembersData };
+
+    ghost coded = { members_coded };
+
+    ghost use Rattle.jtree.specs.View.{members_of};
+
+    ghost view = { λ a. members_of a.members.items };
+
+    ghost invariant = { λ a. IsObject (members_of a.members.items) };
+
+    ghost size = { members_depth };
+
+    ghost use Rattle.jtree.specs.Falls.{members_fall};
+
+    ghost size_decreases = { λ a h. members_fall a.members.items };
+}
+
+impl Tree {
+    ghost use Rattle.jtree.specs.Data.{IsTree};
+    ghost use Rattle.jtree.specs.View.{data_of};
+
+    /// Brings to a proof that names stand in order, each once, and that integers have 64 bits. It does nothing.
+    pub fn is_tree(&self)
+        ensures { IsTree (data_of self.now) }
+    {
+        match self {
+            Tree::Int(n) => {
+                let _value = *n;
+            }
+            Tree::List(items) => items.are_trees(),
+            Tree::Object(members) => members.is_object(),
+            _ => {}
+        }
+    }
+}
+
+impl Items {
+    ghost use Rattle.jtree.specs.Data.{AreTrees};
+
+    /// Brings to a proof that each item is a tree. It does nothing.
+    pub fn are_trees(&self)
+        ensures { AreTrees self.now }
+    {
+        let _ = &self.items;
+    }
+}
+
+impl Members {
+    ghost use Rattle.jtree.specs.Data.{IsObject};
+
+    /// Brings to a proof that names stand in order, each once. It does nothing.
+    pub fn is_object(&self)
+        ensures { IsObject self.now }
+    {
+        let _ = &self.members;
+    }
+}
