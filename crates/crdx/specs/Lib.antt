@@ -1,0 +1,17 @@
+pub mod Node
+pub mod NodeCode
+pub mod NodeView
+pub mod NodeFalls
+pub mod Crd
+pub mod Place
+pub mod Accepted
+pub mod Leads
+pub mod Fault
+pub mod Pruned
+pub mod Filled
+pub mod Stored
+pub mod Pools
+pub mod Over
+pub mod Sample
+pub mod Page
+pub mod Line

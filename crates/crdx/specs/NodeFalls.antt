@@ -1,0 +1,18 @@
+-- A field's node nests less deep than the object: the measure of recursions over a schema.
+use Rattle.std.specs.Prelude.{◌≤◌, max, List, [], ◌∷◌}
+use Rattle.std.proofs.Common.{arith}
+use Rattle.crdx.specs.Node.{node_depth, fields_depth}
+use Rattle.crdx.specs.NodeView.{node_of, fields_of}
+use Rattle.crdx.specs.declared.schema.node.Node.{Node}
+use Rattle.crdx.specs.declared.schema.node.Node.TheVariants as node
+use Rattle.crdx.specs.declared.schema.node.Field.{Field}
+use Rattle.crdx.specs.declared.schema.node.Fields.TheDeep.{deep-Node, deep-Field}
+use denote.Param.Weighed.{most}
+
+node_falls : (N : Node) → deep-Node N ≤ node_depth (node_of N)
+node_falls (node.Scalar kind) = omega arith
+node_falls (node.Object fs) = omega arith
+
+pub fields_fall : (fs : List Field) → max (most (λ f. deep-Field f) fs) 0 ≤ fields_depth (fields_of fs)
+fields_fall [] = omega arith
+fields_fall (f ∷ fs) = omega (arith, node_falls f.node, fields_fall fs)

@@ -1,0 +1,12 @@
+-- A stored value: valid, and neither pruning nor defaulting changes it.
+use Rattle.std.specs.Prelude.{◌≡◌}
+use Rattle.jtree.specs.Data.{Data}
+use Rattle.crdx.specs.Node.{Node}
+use Rattle.crdx.specs.Fault.{IsValid}
+use Rattle.crdx.specs.Pruned.{IsPruned}
+use Rattle.crdx.specs.Filled.{filled}
+
+pub record IsStored (N : Node) (v : Data) : Type 0 where
+  pub valid : IsValid N v
+  pub pruned : IsPruned N v v
+  pub filled : filled N v ≡ v

@@ -1,0 +1,4 @@
+//! Explains the schema of a Kubernetes custom resource, and lists its small objects exhaustively.
+#![tactic(auto)]
+
+pub mod schema;
