@@ -12,6 +12,7 @@ pub mod Filled
 pub mod Stored
 pub mod Pools
 pub mod Over
+pub mod Fits
 pub mod Sample
 pub mod Page
 pub mod Line
