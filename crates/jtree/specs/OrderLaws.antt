@@ -212,7 +212,7 @@ mutual
   content_same (object ms) (object ns) p q = ap object (members_same ms ns q)
   content_same u v p q = cc
 
-  items_same : (ds es : Items) → items_cmp ds es ≡ Equal → ds ≡ es
+  pub items_same : (ds es : Items) → items_cmp ds es ≡ Equal → ds ≡ es
   items_same no_items no_items p = refl
   items_same no_items (item e es) p = cc
   items_same (item d ds) no_items p = cc
@@ -222,7 +222,7 @@ mutual
       let r : ds ≡ es = items_same ds es h.1 in
       λ i. item (q i) (r i)
 
-  members_same : (ms ns : Members) → members_cmp ms ns ≡ Equal → ms ≡ ns
+  pub members_same : (ms ns : Members) → members_cmp ms ns ≡ Equal → ms ≡ ns
   members_same no_members no_members p = refl
   members_same no_members (member l e ns) p = cc
   members_same (member k d ms) no_members p = cc

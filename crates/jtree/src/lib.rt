@@ -2,6 +2,7 @@
 #![tactic(auto)]
 
 mod nodes;
+mod order;
 mod value;
 
 pub use value::{Items, Member, Members, Text, Tree};
