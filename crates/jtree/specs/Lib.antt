@@ -5,6 +5,7 @@ pub mod Falls
 pub mod Path
 pub mod Nodes
 pub mod Order
+pub mod OrderLaws
 pub mod Before
 pub mod Text
 pub mod Reads

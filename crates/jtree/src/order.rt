@@ -1,0 +1,306 @@
+//! The order of trees, and of texts by their bytes.
+use std::cmp::Ordering;
+
+use crate::nodes::{items_nodes, members_nodes};
+use crate::value::{Member, Text, Tree};
+
+ghost use Rattle.std.specs.Prelude.{◌≡◌, ◌≢◌, ◌+◌, min, refl};
+ghost use Rattle.std.specs.Cmp.{IsTotalOrder, on_total, eq_by_cmp_equiv, partial_equiv_from_equiv, partial_order_from_total};
+ghost use Rattle.std.specs.Str.{bytes_eq};
+ghost use Rattle.std.specs.Cmp.Lexicographic.{texts_po, texts_ties};
+ghost use Rattle.std.proofs.lemmas.Cmp.{nat_list_eq_equiv};
+ghost use Rattle.std.specs.Ordering.{eq_by_cmp, as_partial_cmp, on, is_eq, nat_cmp, ordering_then};
+ghost use Rattle.jtree.specs.Data.{IsTree};
+ghost use Rattle.jtree.specs.View.{data_of, items_of, members_of};
+ghost use Rattle.jtree.specs.Nodes.{nodes, items_count, members_count, most_nodes};
+ghost use Rattle.jtree.specs.Order.{kind, text_cmp, items_cmp, members_cmp, tree_cmp};
+ghost use Rattle.jtree.specs.OrderLaws.{text_total, tree_total};
+
+impl PartialEq for Text {
+    ghost eq = { bytes_eq };
+
+    ghost laws = { partial_equiv_from_equiv nat_list_eq_equiv };
+
+    /// Whether the texts have the same bytes.
+    fn eq(&self, other: &Text) -> bool {
+        self.text.as_str() == other.text.as_str()
+    }
+}
+
+impl Eq for Text {
+    ghost laws = { nat_list_eq_equiv };
+}
+
+impl PartialOrd for Text {
+    ghost partial_cmp = { as_partial_cmp text_cmp };
+
+    ghost laws = { texts_po };
+
+    /// The order by bytes.
+    fn partial_cmp(&self, other: &Text) -> Option<Ordering> {
+        Some(self.cmp(other))
+    }
+}
+
+impl Ord for Text {
+    ghost cmp = { text_cmp };
+
+    ghost total = { text_total };
+
+    ghost matches_partial_cmp = { λ a b. refl };
+
+    ghost matches_eq = { λ a b. texts_ties a b };
+
+    /// The order by bytes.
+    fn cmp(&self, other: &Text) -> Ordering {
+        self.text.as_str().cmp(other.text.as_str())
+    }
+}
+
+impl PartialEq for Tree {
+    ghost eq = { eq_by_cmp (on data_of tree_cmp) };
+
+    ghost laws = { partial_equiv_from_equiv (eq_by_cmp_equiv (on_total data_of tree_total)) };
+
+    /// Whether the two are the same tree.
+    fn eq(&self, other: &Tree) -> bool {
+        is_same(self, other)
+    }
+}
+
+impl Eq for Tree {
+    ghost laws = { eq_by_cmp_equiv (on_total data_of tree_total) };
+}
+
+impl PartialOrd for Tree {
+    ghost partial_cmp = { as_partial_cmp (on data_of tree_cmp) };
+
+    ghost laws = { partial_order_from_total (on_total data_of tree_total) };
+
+    /// The tree order, as `cmp` has it.
+    fn partial_cmp(&self, other: &Tree) -> Option<Ordering> {
+        Some(self.cmp(other))
+    }
+}
+
+impl Ord for Tree {
+    ghost cmp = { on data_of tree_cmp };
+
+    ghost total = { on_total data_of tree_total };
+
+    ghost matches_partial_cmp = { λ u v. refl };
+
+    ghost matches_eq = { λ u v. refl };
+
+    /// The tree order: by the count of nodes, then by kind (null, boolean, integer, text, list, object), and then within
+    /// the kind. Lists are decided at the first place where they differ, and one that ends there comes first. Objects are
+    /// decided at the least name, by bytes, where they differ, and one without that name comes first.
+    fn cmp(&self, other: &Tree) -> Ordering {
+        compare(self, other).order
+    }
+}
+
+/// The place of a tree's kind: null, boolean, integer, text, list, object.
+fn kind_of(tree: &Tree) -> u8
+    ensures { result ≡ kind (data_of tree.now) }
+{
+    match tree {
+        Tree::Null => 0,
+        Tree::Bool(_) => 1,
+        Tree::Int(_) => 2,
+        Tree::Text(_) => 3,
+        Tree::List(_) => 4,
+        Tree::Object(_) => 5,
+    }
+}
+
+/// Whether the two are the same tree.
+#[cycle(same)]
+fn is_same(left: &Tree, right: &Tree) -> bool
+    ensures { result ≡ is_eq (tree_cmp (data_of left.now) (data_of right.now)) }
+{
+    match (left, right) {
+        (Tree::Null, Tree::Null) => true,
+        (Tree::Bool(a), Tree::Bool(b)) => a == b,
+        (Tree::Int(a), Tree::Int(b)) => a == b,
+        (Tree::Text(a), Tree::Text(b)) => a == b,
+        (Tree::List(a), Tree::List(b)) => are_same_items(&a.items, &b.items),
+        (Tree::Object(a), Tree::Object(b)) => are_same_members(&a.members, &b.members),
+        _ => false,
+    }
+}
+
+/// Whether the two have the same items in the same order.
+#[cycle(same)]
+fn are_same_items(left: &[Tree], right: &[Tree]) -> bool
+    ensures { result ≡ is_eq (items_cmp (items_of left.now) (items_of right.now)) }
+{
+    if left.len() != right.len() {
+        return false;
+    }
+    for i in 0..left.len() {
+        if !is_same(&left[i], &right[i]) {
+            return false;
+        }
+    }
+    true
+}
+
+/// Whether the two have the same names, with the same trees under them.
+#[cycle(same)]
+fn are_same_members(left: &[Member], right: &[Member]) -> bool
+    ensures { result ≡ is_eq (members_cmp (members_of left.now) (members_of right.now)) }
+{
+    if left.len() != right.len() {
+        return false;
+    }
+    for i in 0..left.len() {
+        if !is_same_member(&left[i], &right[i]) {
+            return false;
+        }
+    }
+    true
+}
+
+/// Whether the two have the same name, with the same tree under it.
+#[cycle(same)]
+fn is_same_member(left: &Member, right: &Member) -> bool
+    ensures { result ≡ is_eq (ordering_then (text_cmp right.now.name left.now.name) (tree_cmp (data_of left.now.tree) (data_of right.now.tree))) }
+{
+    left.name == right.name && is_same(&left.tree, &right.tree)
+}
+
+/// What one walk over two trees, or over the parts of two, answers.
+#[derive(Drop)]
+struct Compared {
+    /// The nodes on the left, at most 2^64 - 1.
+    left: u64,
+    /// The nodes on the right, at most 2^64 - 1.
+    right: u64,
+    /// How the left stands to the right.
+    order: Ordering,
+}
+
+impl Compared {
+    /// What two trees of one node each answer, of which the contents compare so.
+    fn leaves(order: Ordering) -> Compared
+        ensures left { result.left ≡ 1 }
+        ensures right { result.right ≡ 1 }
+        ensures order { result.order ≡ order }
+    {
+        Compared {
+            left: 1,
+            right: 1,
+            order,
+        }
+    }
+
+    /// This part first, and then the next one.
+    fn then(self, next: Compared) -> Compared
+        ensures left { result.left ≡ min (self.left + next.left) most_nodes }
+        ensures right { result.right ≡ min (self.right + next.right) most_nodes }
+        ensures order { result.order ≡ ordering_then self.order next.order }
+    {
+        Compared {
+            left: self.left.saturating_add(next.left),
+            right: self.right.saturating_add(next.right),
+            order: self.order.then(next.order),
+        }
+    }
+
+    /// What two lists or two objects answer of which all the parts answer this: the counts of nodes decide first.
+    fn whole(self) -> Compared
+        ensures left { result.left ≡ min (1 + self.left) most_nodes }
+        ensures right { result.right ≡ min (1 + self.right) most_nodes }
+        ensures order { result.order ≡ ordering_then (nat_cmp (min (1 + self.left) most_nodes) (min (1 + self.right) most_nodes)) self.order }
+    {
+        let left = self.left.saturating_add(1);
+        let right = self.right.saturating_add(1);
+        Compared {
+            left,
+            right,
+            order: left.cmp(&right).then(self.order),
+        }
+    }
+}
+
+/// Two trees in the tree order, with their counts of nodes. It visits each node once.
+#[cycle(compare)]
+fn compare(left: &Tree, right: &Tree) -> Compared
+    ensures left { result.left ≡ nodes (data_of left.now) }
+    ensures right { result.right ≡ nodes (data_of right.now) }
+    ensures order { result.order ≡ tree_cmp (data_of left.now) (data_of right.now) }
+{
+    match (left, right) {
+        (Tree::Null, Tree::Null) => Compared::leaves(Ordering::Equal),
+        (Tree::Bool(a), Tree::Bool(b)) => Compared::leaves(a.cmp(b)),
+        (Tree::Int(a), Tree::Int(b)) => Compared::leaves(a.cmp(b)),
+        (Tree::Text(a), Tree::Text(b)) => Compared::leaves(a.cmp(b)),
+        (Tree::List(a), Tree::List(b)) => compare_items(&a.items, &b.items).whole(),
+        (Tree::Object(a), Tree::Object(b)) => compare_members(&a.members, &b.members).whole(),
+        _ => compare_kinds(left, right),
+    }
+}
+
+/// Two trees of different kinds.
+fn compare_kinds(left: &Tree, right: &Tree) -> Compared
+    requires { kind (data_of left.now) ≢ kind (data_of right.now) }
+    ensures left { result.left ≡ nodes (data_of left.now) }
+    ensures right { result.right ≡ nodes (data_of right.now) }
+    ensures order { result.order ≡ tree_cmp (data_of left.now) (data_of right.now) }
+{
+    let nodes_left = left.nodes();
+    let nodes_right = right.nodes();
+    Compared {
+        left: nodes_left,
+        right: nodes_right,
+        order: nodes_left.cmp(&nodes_right).then(kind_of(left).cmp(&kind_of(right))),
+    }
+}
+
+/// The items of two lists, in order, with their counts of nodes.
+#[cycle(compare)]
+fn compare_items(left: &[Tree], right: &[Tree]) -> Compared
+    ensures left { result.left ≡ min (items_count (items_of left.now)) most_nodes }
+    ensures right { result.right ≡ min (items_count (items_of right.now)) most_nodes }
+    ensures order { result.order ≡ items_cmp (items_of left.now) (items_of right.now) }
+{
+    let both = left.len().min(right.len());
+    let mut found = Compared {
+        left: 0,
+        right: 0,
+        order: Ordering::Equal,
+    };
+    for i in 0..both {
+        found = found.then(compare(&left[i], &right[i]));
+    }
+    found.then(Compared {
+        left: items_nodes(&left[both..]),
+        right: items_nodes(&right[both..]),
+        order: left.len().cmp(&right.len()),
+    })
+}
+
+/// The members of two objects, by name, with their counts of nodes.
+#[cycle(compare)]
+fn compare_members(left: &[Member], right: &[Member]) -> Compared
+    ensures left { result.left ≡ min (members_count (members_of left.now)) most_nodes }
+    ensures right { result.right ≡ min (members_count (members_of right.now)) most_nodes }
+    ensures order { result.order ≡ members_cmp (members_of left.now) (members_of right.now) }
+{
+    let both = left.len().min(right.len());
+    let mut found = Compared {
+        left: 0,
+        right: 0,
+        order: Ordering::Equal,
+    };
+    for i in 0..both {
+        found.order = found.order.then(right[i].name.cmp(&left[i].name));
+        found = found.then(compare(&left[i].tree, &right[i].tree));
+    }
+    found.then(Compared {
+        left: members_nodes(&left[both..]),
+        right: members_nodes(&right[both..]),
+        order: left.len().cmp(&right.len()),
+    })
+}
