@@ -3,7 +3,9 @@
 
 mod copy;
 mod fault;
+mod read;
 mod value;
 
 pub use fault::JFault;
+pub use read::MOST_BYTES;
 pub use value::{Items, Member, Members, Text, Tree};
