@@ -5,6 +5,7 @@ mod copy;
 mod fault;
 mod read;
 mod value;
+mod write;
 
 pub use fault::JFault;
 pub use read::MOST_BYTES;
