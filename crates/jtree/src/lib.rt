@@ -3,6 +3,12 @@
 
 mod nodes;
 mod order;
+mod copy;
+mod fault;
+mod read;
 mod value;
+mod write;
 
+pub use fault::JFault;
+pub use read::MOST_BYTES;
 pub use value::{Items, Member, Members, Text, Tree};

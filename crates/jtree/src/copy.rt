@@ -1,0 +1,84 @@
+ghost use Rattle.std.specs.Prelude.{◌≡◌, IfOk, IfErr};
+ghost use Rattle.jtree.specs.declared.fault.JFault.TheVariants.{NoMemory};
+
+use crate::fault::JFault;
+use crate::value::{Items, Member, Members, Text, Tree};
+use std::alloc::Global;
+
+impl Text {
+    /// A text with these bytes. `NoMemory` where an allocation fails.
+    pub fn from_str(alloc: Global, text: &str) -> Result<Text, JFault>
+        ensures ok { IfOk result (λ t. t ≡ text.now) }
+        ensures err { IfErr result (λ e. e ≡ NoMemory) }
+    {
+        Ok(Text {
+            text: String::from_str(alloc, text)?,
+        })
+    }
+
+    /// The text itself.
+    pub fn as_str(&self) -> &str
+        ensures { result.now ≡ self.now }
+    {
+        self.text.as_str()
+    }
+
+    /// An equal text. `NoMemory` where an allocation fails.
+    pub fn copy(&self, alloc: Global) -> Result<Text, JFault>
+        ensures ok { IfOk result (λ t. t ≡ self.now) }
+        ensures err { IfErr result (λ e. e ≡ NoMemory) }
+    {
+        Text::from_str(alloc, self.as_str())
+    }
+}
+
+impl Tree {
+    /// An equal tree. `NoMemory` where an allocation fails.
+    pub fn copy(&self, alloc: Global) -> Result<Tree, JFault>
+        ensures ok { IfOk result (λ t. t ≡ self.now) }
+        ensures err { IfErr result (λ e. e ≡ NoMemory) }
+    {
+        copy_tree(self, alloc)
+    }
+}
+
+#[cycle(copy)]
+fn copy_tree(tree: &Tree, alloc: Global) -> Result<Tree, JFault>
+    ensures ok { IfOk result (λ t. t ≡ tree.now) }
+    ensures err { IfErr result (λ e. e ≡ NoMemory) }
+{
+    match tree {
+        Tree::Null => Ok(Tree::Null),
+        Tree::Bool(b) => Ok(Tree::Bool(*b)),
+        Tree::Int(n) => Ok(Tree::Int(*n)),
+        Tree::Text(text) => Ok(Tree::Text(text.copy(alloc)?)),
+        Tree::List(items) => Ok(Tree::List(copy_items(items, alloc)?)),
+        Tree::Object(members) => Ok(Tree::Object(copy_members(members, alloc)?)),
+    }
+}
+
+#[cycle(copy)]
+fn copy_items(items: &Items, alloc: Global) -> Result<Items, JFault>
+    ensures ok { IfOk result (λ t. t ≡ items.now) }
+    ensures err { IfErr result (λ e. e ≡ NoMemory) }
+{
+    let mut copies = Vec::with_capacity(alloc, items.items.len())?;
+    for item in &items.items {
+        copies.push(copy_tree(item, alloc)?)?;
+    }
+    Ok(Items { items: copies })
+}
+
+#[cycle(copy)]
+fn copy_members(members: &Members, alloc: Global) -> Result<Members, JFault>
+    ensures ok { IfOk result (λ t. t ≡ members.now) }
+    ensures err { IfErr result (λ e. e ≡ NoMemory) }
+{
+    let mut copies = Vec::with_capacity(alloc, members.members.len())?;
+    for member in &members.members {
+        let name = member.name.copy(alloc)?;
+        let tree = copy_tree(&member.tree, alloc)?;
+        copies.push(Member { name, tree })?;
+    }
+    Ok(Members { members: copies })
+}

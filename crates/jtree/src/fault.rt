@@ -1,0 +1,38 @@
+ghost use Rattle.std.specs.Prelude.{◌≡◌};
+ghost use Rattle.jtree.specs.declared.fault.JFault.TheVariants.{NoMemory};
+
+use std::alloc::{AllocError, AllocFailed};
+use thiserror::Error;
+
+/// Why a tree was not read, copied or written.
+#[derive(Debug, Drop, Clone, Copy, PartialEq, Eq, Error)]
+pub enum JFault {
+    /// A number of the document is no integer of 64 bits.
+    #[error("J1")]
+    NotAnInteger,
+    /// An allocation failed.
+    #[error("J2")]
+    NoMemory,
+    /// The bytes are no JSON (RFC 8259).
+    #[error("J3")]
+    NotJson,
+    /// The document has more than `MOST_BYTES` bytes.
+    #[error("J4")]
+    TooLong,
+}
+
+impl From<AllocError> for JFault {
+    ghost from_gives = { λ _ e. e ≡ NoMemory };
+
+    fn from(_refused: AllocError) -> JFault {
+        JFault::NoMemory
+    }
+}
+
+impl<T: Drop> From<AllocFailed<T>> for JFault {
+    ghost from_gives = { λ _ e. e ≡ NoMemory };
+
+    fn from(_refused: AllocFailed<T>) -> JFault {
+        JFault::NoMemory
+    }
+}

@@ -1,0 +1,91 @@
+// From a tree to its text: the writer of `json` puts the tokens of the tree, and no value of `serde_json` stands between.
+ghost use Rattle.std.specs.Prelude.{◌≡◌, ◌++◌, OnOk, IfOk, IfErr, IsUtf8, string_bytes};
+ghost use Rattle.json.specs.Tree.{json_tokens, items_tokens, members_tokens};
+ghost use Rattle.serde_json.specs.Written.{outline, items_outline, members_outline};
+ghost use Rattle.jtree.specs.Text.{json_of, items_json, members_json, compact};
+ghost use Rattle.jtree.specs.View.{data_of};
+ghost use Rattle.jtree.specs.declared.fault.JFault.TheVariants.{NoMemory};
+
+use crate::fault::JFault;
+use crate::value::{Items, Members, Tree};
+use json::Writer;
+use std::alloc::Global;
+
+impl Tree {
+    /// The compact JSON text (RFC 8259): no white space, members by the bytes of their names, integers in decimal, and
+    /// in texts the escapes `\"`, `\\`, `\b`, `\t`, `\n`, `\f` and `\r`, `\u00` with two lower-case digits for the other
+    /// control characters, and all else as it is. `NoMemory` where an allocation fails.
+    pub fn to_text(&self, alloc: Global) -> Result<String, JFault>
+        ensures ok { IfOk result (λ s. string_bytes s ≡ compact (data_of self.now)) }
+        ensures err { IfErr result (λ e. e ≡ NoMemory) }
+    {
+        let text = self.append_text(Vec::new(alloc))?;
+        Ok(String::from_utf8(text).unwrap())
+    }
+
+    /// What `out` holds, and behind it the text that `to_text` gives. `NoMemory` where an allocation fails, and `out`
+    /// is then dropped.
+    pub fn append_text(&self, out: Vec<u8>) -> Result<Vec<u8>, JFault>
+        ensures ok { IfOk result (λ v. v.items ≡ out.items ++ compact (data_of self.now)) }
+        ensures utf8 { OnOk result (IsUtf8 (compact (data_of self.now))) }
+        ensures err { IfErr result (λ e. e ≡ NoMemory) }
+    {
+        let mut writer = Writer::new(out);
+        write_tree(self, &mut writer)?;
+        Ok(writer.into_inner())
+    }
+}
+
+#[cycle(write)]
+fn write_tree(tree: &Tree, out: &mut Writer) -> Result<(), JFault>
+    ensures ok { OnOk result
+        (out.new.tokens ≡ out.old.tokens ++ json_tokens (outline (json_of (data_of tree.now)))) }
+    ensures before { out.new.before ≡ out.old.before }
+    ensures err { IfErr result (λ e. e ≡ NoMemory) }
+{
+    match tree {
+        Tree::Null => out.null()?,
+        Tree::Bool(b) => out.boolean(*b)?,
+        Tree::Int(n) => out.i64(*n)?,
+        Tree::Text(text) => out.string(text.as_str())?,
+        Tree::List(items) => {
+            out.begin_array()?;
+            write_items(items, out)?;
+        }
+        Tree::Object(members) => {
+            out.begin_object()?;
+            write_members(members, out)?;
+        }
+    }
+    Ok(())
+}
+
+#[cycle(write)]
+fn write_items(items: &Items, out: &mut Writer) -> Result<(), JFault>
+    ensures ok { OnOk result
+        (out.new.tokens ≡ out.old.tokens ++ items_tokens (items_outline (items_json items.now))) }
+    ensures before { out.new.before ≡ out.old.before }
+    ensures err { IfErr result (λ e. e ≡ NoMemory) }
+{
+    for item in &items.items {
+        write_tree(item, out)?;
+    }
+    out.end_array()?;
+    Ok(())
+}
+
+#[cycle(write)]
+fn write_members(members: &Members, out: &mut Writer) -> Result<(), JFault>
+    ensures ok { OnOk result
+        (out.new.tokens
+        ≡ out.old.tokens ++ members_tokens (members_outline (members_json members.now))) }
+    ensures before { out.new.before ≡ out.old.before }
+    ensures err { IfErr result (λ e. e ≡ NoMemory) }
+{
+    for member in &members.members {
+        out.key(member.name.as_str())?;
+        write_tree(&member.tree, out)?;
+    }
+    out.end_object()?;
+    Ok(())
+}
