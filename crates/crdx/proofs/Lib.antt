@@ -1,3 +1,7 @@
 pub mod Names
 pub mod FitsLemmas
 pub mod PageLemmas
+pub mod RowLemmas
+pub mod ValueLemmas
+pub mod FieldLemmas
+pub mod SampleLemmas

@@ -14,5 +14,6 @@ pub mod Pools
 pub mod Over
 pub mod Fits
 pub mod Sample
+pub mod Values
 pub mod Page
 pub mod Line

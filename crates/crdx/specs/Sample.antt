@@ -1,5 +1,7 @@
 -- A sample: a stored object over the pools and within the node limit (this project's own).
-use Rattle.std.specs.Prelude.{ℕ, ◌≤◌}
+use Rattle.std.specs.Prelude.{ℕ, ℤ, ◌≤◌, List, refl}
+use Rattle.std.specs.Coded.{Coded, code_by, coded×, coded_ℕ, coded_ℤ, coded_list}
+use Rattle.crdx.specs.NodeCode.{node_coded}
 use Rattle.jtree.specs.Data.{Data, IsTree}
 use Rattle.jtree.specs.Nodes.{nodes}
 use Rattle.crdx.specs.Node.{Node}
@@ -11,6 +13,10 @@ pub record Question : Type 0 where
   pub root : Node
   pub pools : Pools
   pub limit : ℕ
+
+abbrev pub question_coded : Coded Question
+question_coded = code_by (Node × (List ℤ × ℕ)) (coded× node_coded (coded× (coded_list coded_ℤ) coded_ℕ))
+    (λ q. (q.root, (q.pools.integers, q.limit))) (λ p. record { root = p.0; pools = record { integers = p.1.0 }; limit = p.1.1 }) (λ _. refl)
 
 pub record IsSample (q : Question) (v : Data) : Type 0 where
   pub tree : IsTree v

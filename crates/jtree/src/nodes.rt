@@ -1,5 +1,5 @@
 //! How many nodes a tree has.
-use crate::value::{Member, Tree};
+use crate::value::{Member, Members, Tree};
 
 ghost use Rattle.std.specs.Prelude.{◌≡◌, min};
 
@@ -23,6 +23,15 @@ impl Tree {
 
 ghost use Rattle.jtree.specs.Nodes.{items_count, members_count, most_nodes};
 ghost use Rattle.jtree.specs.View.{items_of, members_of};
+
+impl Members {
+    /// How many nodes stand under the names together, and 2^64 - 1 where there are more. It visits each node once.
+    pub fn nodes(&self) -> u64
+        ensures { result ≡ min (members_count self.now) most_nodes }
+    {
+        members_nodes(&self.members)
+    }
+}
 
 /// How many nodes the items have together, at most 2^64 - 1.
 #[cycle(nodes)]

@@ -51,3 +51,29 @@ impl Model for Fields {
 
     ghost size_decreases = { λ a h. fields_fall a.fields.items };
 }
+
+impl Node {
+    ghost use Rattle.crdx.specs.Node.{IsNode};
+    ghost use Rattle.crdx.specs.NodeView.{node_of};
+
+    /// Brings to a proof that declared names stand in order, each once. It does nothing.
+    pub fn is_node(&self)
+        ensures { IsNode (node_of self.now) }
+    {
+        match self {
+            Node::Scalar(_) => {}
+            Node::Object(fields) => fields.are_ordered(),
+        }
+    }
+}
+
+impl Fields {
+    ghost use Rattle.crdx.specs.Node.{AreOrdered};
+
+    /// Brings to a proof that declared names stand in order, each once. It does nothing.
+    pub fn are_ordered(&self)
+        ensures { AreOrdered self.now }
+    {
+        let _ = &self.fields;
+    }
+}

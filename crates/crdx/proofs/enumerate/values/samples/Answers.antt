@@ -1,0 +1,15 @@
+use Rattle.std.proofs.Common.{◌≡◌, ◌<◌, sym, ap, ◌∙◌, subst, arith}
+use Rattle.std.proofs.lemmas.Result.{IfOk-weaker}
+use Rattle.crdx.specs.Node.{IsNode}
+use Rattle.crdx.specs.Values.{AreValuesOf, AreSamples, trees_of}
+use Rattle.crdx.proofs.SampleLemmas.{values_are_samples}
+use Rattle.crdx.proofs.enumerate.values.samples.Goals as goal
+
+pub returns-clause-ok : goal.returns-clause-ok
+returns-clause-ok c =
+    let q = c.args.plan.now in
+    let node : IsNode q.root = subst IsNode c.root.ensures c.is_node.ensures in
+    let limit : c.from.result ≡ q.limit = c.from.ensures ∙ c.limit.ensures.limit in
+    let small : q.limit < 64 = omega (arith, c.limit.ensures.most, c.limit.ensures.limit) in
+    IfOk-weaker c.values_of.result _ (λ vs. AreSamples q (trees_of vs.items))
+      (λ vs h. values_are_samples q (trees_of vs.items) node small (rw (c.pools.ensures, c.root-2.ensures, limit) at h)) c.values_of.ensures.ok

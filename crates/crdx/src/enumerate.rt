@@ -1,0 +1,7 @@
+//! Lists the samples of a plan.
+
+mod fault;
+mod rows;
+mod values;
+
+pub use fault::EFault;

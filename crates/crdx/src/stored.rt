@@ -1,0 +1,5 @@
+//! Accepted schemas.
+
+mod accepted;
+
+pub use accepted::Schema;

@@ -1,0 +1,33 @@
+use crate::schema::Node;
+use std::marker::Model;
+
+/// An accepted schema, which a contract sees as its root.
+#[derive(Drop)]
+pub struct Schema {
+    root: Node,
+}
+
+impl Model for Schema {
+    ghost use Rattle.crdx.specs.Node.{Node as NodeData};
+    ghost use Rattle.crdx.specs.NodeCode.{node_coded};
+
+    ghost Value = { NodeData };
+
+    ghost coded = { node_coded };
+
+    ghost use Rattle.crdx.specs.NodeView.{node_of};
+
+    ghost view = { λ a. node_of a.root };
+}
+
+impl Schema {
+    ghost use Rattle.std.specs.Prelude.{◌≡◌};
+    ghost use Rattle.crdx.specs.NodeView.{node_of};
+
+    /// The node of the whole resource.
+    pub fn root(&self) -> &Node
+        ensures { node_of result.now ≡ self.now }
+    {
+        &self.root
+    }
+}
