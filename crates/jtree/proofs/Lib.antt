@@ -1,1 +1,2 @@
 pub mod OrderSteps
+pub mod OrderWords

@@ -5,4 +5,5 @@ mod nodes;
 mod order;
 mod value;
 
+pub use order::{order_in_words, order_is_total};
 pub use value::{Items, Member, Members, Text, Tree};

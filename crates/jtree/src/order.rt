@@ -4,17 +4,19 @@ use std::cmp::Ordering;
 use crate::nodes::{items_nodes, members_nodes};
 use crate::value::{Member, Text, Tree};
 
-ghost use Rattle.std.specs.Prelude.{◌≡◌, ◌≢◌, ◌+◌, min, refl};
+ghost use Rattle.std.specs.Prelude.{◌≡◌, ◌≢◌, ◌↔◌, ◌+◌, min, refl};
 ghost use Rattle.std.specs.Cmp.{IsTotalOrder, on_total, eq_by_cmp_equiv, partial_equiv_from_equiv, partial_order_from_total};
 ghost use Rattle.std.specs.Str.{bytes_eq};
 ghost use Rattle.std.specs.Cmp.Lexicographic.{texts_po, texts_ties};
 ghost use Rattle.std.proofs.lemmas.Cmp.{nat_list_eq_equiv};
 ghost use Rattle.std.specs.Ordering.{eq_by_cmp, as_partial_cmp, on, is_eq, nat_cmp, ordering_then};
-ghost use Rattle.jtree.specs.Data.{IsTree};
+ghost use Rattle.jtree.specs.Data.{Data, IsTree};
 ghost use Rattle.jtree.specs.View.{data_of, items_of, members_of};
 ghost use Rattle.jtree.specs.Nodes.{nodes, items_count, members_count, most_nodes};
 ghost use Rattle.jtree.specs.Order.{kind, text_cmp, items_cmp, members_cmp, tree_cmp};
 ghost use Rattle.jtree.specs.OrderLaws.{text_total, tree_total};
+ghost use Rattle.jtree.specs.Before.{IsBefore};
+ghost use Rattle.std.specs.declared.cmp.Ordering.TheVariants.{Less, Equal};
 
 impl PartialEq for Text {
     ghost eq = { bytes_eq };
@@ -303,4 +305,18 @@ fn compare_members(left: &[Member], right: &[Member]) -> Compared
         right: members_nodes(&right[both..]),
         order: left.len().cmp(&right.len()),
     })
+}
+
+/// A law, and nothing that runs: of two trees, `cmp` answers `Less` exactly where the first is before the second in the
+/// words of `IsBefore`.
+pub fn order_in_words()
+    ensures in_words { (u v : Data) → IsTree u → IsTree v → ((tree_cmp u v ≡ Less) ↔ IsBefore u v) }
+{
+}
+
+/// A law, and nothing that runs: `cmp` is a total order of trees, and it answers `Equal` for the same tree alone.
+pub fn order_is_total()
+    ensures total { IsTotalOrder tree_cmp }
+    ensures same { (u v : Data) → tree_cmp u v ≡ Equal → u ≡ v }
+{
 }

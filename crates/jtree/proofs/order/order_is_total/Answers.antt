@@ -1,0 +1,8 @@
+use Rattle.jtree.specs.OrderLaws.{tree_total, tree_same}
+use Rattle.jtree.proofs.order.order_is_total.Goals as goal
+
+pub returns-clause-total : goal.returns-clause-total
+returns-clause-total c = tree_total
+
+pub returns-clause-same : goal.returns-clause-same
+returns-clause-same c = tree_same
