@@ -1,7 +1,7 @@
 //! How many nodes a tree has.
-use crate::value::{Member, Tree};
-
 ghost use Rattle.std.specs.Prelude.{◌≡◌, min};
+
+use crate::value::{Member, Tree};
 
 impl Tree {
     ghost use Rattle.jtree.specs.Nodes.{nodes};

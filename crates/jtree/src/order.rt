@@ -1,9 +1,4 @@
 //! The order of trees, and of texts by their bytes.
-use std::cmp::Ordering;
-
-use crate::nodes::{items_nodes, members_nodes};
-use crate::value::{Member, Text, Tree};
-
 ghost use Rattle.std.specs.Prelude.{◌≡◌, ◌≢◌, ◌↔◌, ◌+◌, min, refl};
 ghost use Rattle.std.specs.Cmp.{IsTotalOrder, on_total, eq_by_cmp_equiv, partial_equiv_from_equiv, partial_order_from_total};
 ghost use Rattle.std.specs.Str.{bytes_eq};
@@ -17,6 +12,10 @@ ghost use Rattle.jtree.specs.Order.{kind, text_cmp, items_cmp, members_cmp, tree
 ghost use Rattle.jtree.specs.OrderLaws.{text_total, tree_total};
 ghost use Rattle.jtree.specs.Before.{IsBefore};
 ghost use Rattle.std.specs.declared.cmp.Ordering.TheVariants.{Less, Equal};
+
+use crate::nodes::{items_nodes, members_nodes};
+use crate::value::{Member, Text, Tree};
+use std::cmp::Ordering;
 
 impl PartialEq for Text {
     ghost eq = { bytes_eq };
@@ -256,7 +255,9 @@ fn compare_kinds(left: &Tree, right: &Tree) -> Compared
     Compared {
         left: nodes_left,
         right: nodes_right,
-        order: nodes_left.cmp(&nodes_right).then(kind_of(left).cmp(&kind_of(right))),
+        order: nodes_left
+            .cmp(&nodes_right)
+            .then(kind_of(left).cmp(&kind_of(right))),
     }
 }
 
@@ -311,12 +312,10 @@ fn compare_members(left: &[Member], right: &[Member]) -> Compared
 /// words of `IsBefore`.
 pub fn order_in_words()
     ensures in_words { (u v : Data) → IsTree u → IsTree v → ((tree_cmp u v ≡ Less) ↔ IsBefore u v) }
-{
-}
+{}
 
 /// A law, and nothing that runs: `cmp` is a total order of trees, and it answers `Equal` for the same tree alone.
 pub fn order_is_total()
     ensures total { IsTotalOrder tree_cmp }
-    ensures same { (u v : Data) → tree_cmp u v ≡ Equal → u ≡ v }
-{
-}
+    ensures same { (u v : Data) → (tree_cmp u v ≡ Equal) ↔ (u ≡ v) }
+{}
