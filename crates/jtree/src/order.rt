@@ -166,7 +166,9 @@ fn are_same_members(left: &[Member], right: &[Member]) -> bool
 /// Whether the two have the same name, with the same tree under it.
 #[cycle(same)]
 fn is_same_member(left: &Member, right: &Member) -> bool
-    ensures { result ≡ is_eq (ordering_then (text_cmp right.now.name left.now.name) (tree_cmp (data_of left.now.tree) (data_of right.now.tree))) }
+    ensures { let names = text_cmp right.now.name left.now.name in
+        let trees = tree_cmp (data_of left.now.tree) (data_of right.now.tree) in
+        result ≡ is_eq (ordering_then names trees) }
 {
     left.name == right.name && is_same(&left.tree, &right.tree)
 }
@@ -183,7 +185,7 @@ struct Compared {
 }
 
 impl Compared {
-    /// What two trees of one node each answer, of which the contents compare so.
+    /// Two trees of one kind and of one node each, whose contents compare as `order` says.
     fn leaves(order: Ordering) -> Compared
         ensures left { result.left ≡ 1 }
         ensures right { result.right ≡ 1 }
@@ -196,7 +198,7 @@ impl Compared {
         }
     }
 
-    /// This part first, and then the next one.
+    /// These parts, and then the next ones: the first order that is not `Equal` decides, and the counts add up.
     fn then(self, next: Compared) -> Compared
         ensures left { result.left ≡ min (self.left + next.left) most_nodes }
         ensures right { result.right ≡ min (self.right + next.right) most_nodes }
@@ -209,7 +211,7 @@ impl Compared {
         }
     }
 
-    /// What two lists or two objects answer of which all the parts answer this: the counts of nodes decide first.
+    /// Two lists, or two objects, with these parts: the counts of nodes decide first.
     fn whole(self) -> Compared
         ensures left { result.left ≡ min (1 + self.left) most_nodes }
         ensures right { result.right ≡ min (1 + self.right) most_nodes }
@@ -252,12 +254,12 @@ fn compare_kinds(left: &Tree, right: &Tree) -> Compared
 {
     let nodes_left = left.nodes();
     let nodes_right = right.nodes();
+    let by_count = nodes_left.cmp(&nodes_right);
+    let by_kind = kind_of(left).cmp(&kind_of(right));
     Compared {
         left: nodes_left,
         right: nodes_right,
-        order: nodes_left
-            .cmp(&nodes_right)
-            .then(kind_of(left).cmp(&kind_of(right))),
+        order: by_count.then(by_kind),
     }
 }
 
@@ -292,6 +294,7 @@ fn compare_members(left: &[Member], right: &[Member]) -> Compared
     ensures order { result.order ≡ members_cmp (members_of left.now) (members_of right.now) }
 {
     let both = left.len().min(right.len());
+    let shorter_first = left.len().cmp(&right.len());
     let mut found = Compared {
         left: 0,
         right: 0,
@@ -304,7 +307,7 @@ fn compare_members(left: &[Member], right: &[Member]) -> Compared
     found.then(Compared {
         left: members_nodes(&left[both..]),
         right: members_nodes(&right[both..]),
-        order: left.len().cmp(&right.len()),
+        order: shorter_first,
     })
 }
 
