@@ -1,2 +1,3 @@
 pub mod OrderSteps
 pub mod Reading
+pub mod OrderWords

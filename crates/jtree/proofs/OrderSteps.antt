@@ -1,5 +1,5 @@
 -- How the comparison of two lists of parts goes on by one part, and how it ends.
-use Rattle.std.proofs.Common.{◌≡◌, ◌≤◌, ◌<◌, ◌+◌, ℕ, suc, min, List, [], ◌∷◌, length, drop, get_or, Bool, true, false, refl, sym, ap, ◌∙◌, arith}
+use Rattle.std.proofs.Common.{◌≡◌, ◌<◌, ◌+◌, ℕ, suc, min, List, [], ◌∷◌, length, drop, get_or, true, false, refl, sym, ap, ◌∙◌, arith}
 use Rattle.std.proofs.lemmas.List.{at_drop_more, length-drop}
 use Rattle.std.specs.Cmp.{nat_cmp_is}
 use Rattle.std.proofs.lemmas.Cmp.{tied_itself, nat_list_eq_equiv}
@@ -24,25 +24,25 @@ then_assoc Greater b c = refl
 
 pub items_step : (xs ys : List Tree) (i : ℕ) (x y : Tree) → i < length xs → i < length ys → x ≡ get_or xs i x → y ≡ get_or ys i y
     → items_cmp (items_of (drop i xs)) (items_of (drop i ys))
-        ≡ ordering_then (tree_cmp (data_of x) (data_of y)) (items_cmp (items_of (drop (i + 1) xs)) (items_of (drop (i + 1) ys)))
+    ≡ ordering_then (tree_cmp (data_of x) (data_of y)) (items_cmp (items_of (drop (i + 1) xs)) (items_of (drop (i + 1) ys)))
 items_step xs ys i x y h k p q =
     let e : items_of (drop i xs) ≡ item (data_of x) (items_of (drop (i + 1) xs))
-            = at_drop_more items_of xs i x h ∙ ap (λ z. item (data_of z) (items_of (drop (i + 1) xs))) (sym p) in
+    = at_drop_more items_of xs i x h ∙ ap (λ z. item (data_of z) (items_of (drop (i + 1) xs))) (sym p) in
     let f : items_of (drop i ys) ≡ item (data_of y) (items_of (drop (i + 1) ys))
-            = at_drop_more items_of ys i y k ∙ ap (λ z. item (data_of z) (items_of (drop (i + 1) ys))) (sym q) in
+    = at_drop_more items_of ys i y k ∙ ap (λ z. item (data_of z) (items_of (drop (i + 1) ys))) (sym q) in
     rw (e, f)
 
 pub members_step : (xs ys : List Member) (i : ℕ) (x y : Member) → i < length xs → i < length ys → x ≡ get_or xs i x → y ≡ get_or ys i y
     → members_cmp (members_of (drop i xs)) (members_of (drop i ys))
-        ≡ ordering_then (ordering_then (text_cmp y.name x.name) (tree_cmp (data_of x.tree) (data_of y.tree)))
-            (members_cmp (members_of (drop (i + 1) xs)) (members_of (drop (i + 1) ys)))
+    ≡ ordering_then (ordering_then (text_cmp y.name x.name) (tree_cmp (data_of x.tree) (data_of y.tree)))
+    (members_cmp (members_of (drop (i + 1) xs)) (members_of (drop (i + 1) ys)))
 members_step xs ys i x y h k p q =
     let e : members_of (drop i xs) ≡ member x.name (data_of x.tree) (members_of (drop (i + 1) xs))
-            = at_drop_more members_of xs i x h ∙ ap (λ z. member z.name (data_of z.tree) (members_of (drop (i + 1) xs))) (sym p) in
+    = at_drop_more members_of xs i x h ∙ ap (λ z. member z.name (data_of z.tree) (members_of (drop (i + 1) xs))) (sym p) in
     let f : members_of (drop i ys) ≡ member y.name (data_of y.tree) (members_of (drop (i + 1) ys))
-            = at_drop_more members_of ys i y k ∙ ap (λ z. member z.name (data_of z.tree) (members_of (drop (i + 1) ys))) (sym q) in
+    = at_drop_more members_of ys i y k ∙ ap (λ z. member z.name (data_of z.tree) (members_of (drop (i + 1) ys))) (sym q) in
     rw (e, f) (sym (then_assoc (text_cmp y.name x.name) (tree_cmp (data_of x.tree) (data_of y.tree))
-        (members_cmp (members_of (drop (i + 1) xs)) (members_of (drop (i + 1) ys)))))
+    (members_cmp (members_of (drop (i + 1) xs)) (members_of (drop (i + 1) ys)))))
 
 -- ---- the end of the shorter one
 
@@ -100,8 +100,8 @@ unlike_members [] (y ∷ ys) h = refl
 unlike_members (x ∷ xs) [] h = refl
 unlike_members (x ∷ xs) (y ∷ ys) h =
     then_false (text_cmp y.name x.name) (ordering_then (tree_cmp (data_of x.tree) (data_of y.tree)) (members_cmp (members_of xs) (members_of ys)))
-        (then_false (tree_cmp (data_of x.tree) (data_of y.tree)) (members_cmp (members_of xs) (members_of ys))
-            (unlike_members xs ys (λ (e : length xs ≡ length ys). h (ap suc e))))
+    (then_false (tree_cmp (data_of x.tree) (data_of y.tree)) (members_cmp (members_of xs) (members_of ys))
+    (unlike_members xs ys (λ (e : length xs ≡ length ys). h (ap suc e))))
 
 -- counts of nodes and kinds tie where the contents do
 whole : (r o : Ordering) → (o ≡ Equal → r ≡ Equal) → is_eq o ≡ is_eq (ordering_then r o)

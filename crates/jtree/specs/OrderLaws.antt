@@ -1,9 +1,8 @@
 -- The laws of the tree order: it is total, and a tree ties with itself alone.
 use Rattle.std.specs.Prelude.{◌≡◌, ℕ, List, [], ◌∷◌, Bool, true, false, refl}
-use Rattle.std.proofs.Common.{sym, ◌∙◌, ap}
-use Rattle.std.specs.Cmp.{IsTotalOrder, bool_cmp_total, nat_cmp_is}
-use Rattle.std.specs.Cmp.Lexicographic.{slice_cmp}
-use Rattle.std.specs.Ordering.{nat_cmp, int_cmp, bool_cmp, ordering_then, ordering_reverse, flip_args, on, then_cmp, MatchOrdering}
+use Rattle.std.proofs.Common.{sym, ap}
+use Rattle.std.specs.Cmp.{IsTotalOrder, bool_cmp_total}
+use Rattle.std.specs.Ordering.{nat_cmp, bool_cmp, ordering_then, ordering_reverse, flip_args}
 use Rattle.std.specs.declared.cmp.Ordering.{Ordering}
 use Rattle.std.specs.declared.cmp.Ordering.TheVariants.{Less, Equal, Greater}
 use Rattle.std.proofs.lemmas.Cmp.{ranked, int_ranked, alike_right, nat_cmp_total, int_cmp_total, on_total, then_total, back_total, nat_list_cmp_total}
@@ -93,7 +92,7 @@ mutual
   members_turn (member k d ms) (member l e ns) = then_turn (text_cmp l k) (ordering_then (tree_cmp d e) (members_cmp ms ns))
       (text_cmp k l) (ordering_then (tree_cmp e d) (members_cmp ns ms)) (name_total.antisymm k l)
       (λ (p : text_cmp l k ≡ Equal). then_turn (tree_cmp d e) (members_cmp ms ns) (tree_cmp e d) (members_cmp ns ms)
-          (ranked_turn d e (content_turn d e)) (λ (q : tree_cmp d e ≡ Equal). members_turn ms ns))
+      (ranked_turn d e (content_turn d e)) (λ (q : tree_cmp d e ≡ Equal). members_turn ms ns))
 
 -- ---- in a row: what an order answers at x and y, y and z, and x and z
 
@@ -165,8 +164,8 @@ mutual
   items_chains (item d ds) (item e es) no_items = chains_greater (items_cmp (item d ds) (item e es))
   items_chains (item d ds) (item e es) (item f fs) =
       then_chains (tree_cmp d e) (tree_cmp e f) (tree_cmp d f) (items_cmp ds es) (items_cmp es fs) (items_cmp ds fs)
-          (ranked_chains d e f (content_chains d e f))
-          (λ (p : tree_cmp d e ≡ Equal) (q : tree_cmp e f ≡ Equal). items_chains ds es fs)
+      (ranked_chains d e f (content_chains d e f))
+      (λ (p : tree_cmp d e ≡ Equal) (q : tree_cmp e f ≡ Equal). items_chains ds es fs)
 
   members_chains : (ms ns os : Members) → Chains (members_cmp ms ns) (members_cmp ns os) (members_cmp ms os)
   members_chains no_members no_members no_members = all_equal
@@ -178,12 +177,12 @@ mutual
   members_chains (member k d ms) (member l e ns) no_members = chains_greater (members_cmp (member k d ms) (member l e ns))
   members_chains (member k d ms) (member l e ns) (member m f os) =
       then_chains (text_cmp l k) (text_cmp m l) (text_cmp m k)
-          (ordering_then (tree_cmp d e) (members_cmp ms ns)) (ordering_then (tree_cmp e f) (members_cmp ns os)) (ordering_then (tree_cmp d f) (members_cmp ms os))
-          (total_chains name_total k l m)
-          (λ (p : text_cmp l k ≡ Equal) (q : text_cmp m l ≡ Equal).
-              then_chains (tree_cmp d e) (tree_cmp e f) (tree_cmp d f) (members_cmp ms ns) (members_cmp ns os) (members_cmp ms os)
-                  (ranked_chains d e f (content_chains d e f))
-                  (λ (r : tree_cmp d e ≡ Equal) (s : tree_cmp e f ≡ Equal). members_chains ms ns os))
+      (ordering_then (tree_cmp d e) (members_cmp ms ns)) (ordering_then (tree_cmp e f) (members_cmp ns os)) (ordering_then (tree_cmp d f) (members_cmp ms os))
+      (total_chains name_total k l m)
+      (λ (p : text_cmp l k ≡ Equal) (q : text_cmp m l ≡ Equal).
+      then_chains (tree_cmp d e) (tree_cmp e f) (tree_cmp d f) (members_cmp ms ns) (members_cmp ns os) (members_cmp ms os)
+      (ranked_chains d e f (content_chains d e f))
+      (λ (r : tree_cmp d e ≡ Equal) (s : tree_cmp e f ≡ Equal). members_chains ms ns os))
 
 tree_chains : (u v w : Data) → Chains (tree_cmp u v) (tree_cmp v w) (tree_cmp u w)
 tree_chains u v w = ranked_chains u v w (content_chains u v w)

@@ -11,4 +11,5 @@ mod write;
 
 pub use fault::JFault;
 pub use read::MOST_BYTES;
+pub use order::{order_in_words, order_is_total};
 pub use value::{Items, Member, Members, Text, Tree};

@@ -3,6 +3,8 @@ use crate::value::{Member, Members, Tree};
 
 ghost use Rattle.std.specs.Prelude.{◌≡◌, min};
 
+use crate::value::{Member, Tree};
+
 impl Tree {
     ghost use Rattle.jtree.specs.Nodes.{nodes};
     ghost use Rattle.jtree.specs.View.{data_of};

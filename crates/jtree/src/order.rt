@@ -1,20 +1,21 @@
 //! The order of trees, and of texts by their bytes.
-use std::cmp::Ordering;
-
-use crate::nodes::{items_nodes, members_nodes};
-use crate::value::{Member, Text, Tree};
-
-ghost use Rattle.std.specs.Prelude.{◌≡◌, ◌≢◌, ◌+◌, min, refl};
+ghost use Rattle.std.specs.Prelude.{◌≡◌, ◌≢◌, ◌↔◌, ◌+◌, min, refl};
 ghost use Rattle.std.specs.Cmp.{IsTotalOrder, on_total, eq_by_cmp_equiv, partial_equiv_from_equiv, partial_order_from_total};
 ghost use Rattle.std.specs.Str.{bytes_eq};
 ghost use Rattle.std.specs.Cmp.Lexicographic.{texts_po, texts_ties};
 ghost use Rattle.std.proofs.lemmas.Cmp.{nat_list_eq_equiv};
 ghost use Rattle.std.specs.Ordering.{eq_by_cmp, as_partial_cmp, on, is_eq, nat_cmp, ordering_then};
-ghost use Rattle.jtree.specs.Data.{IsTree};
+ghost use Rattle.jtree.specs.Data.{Data, IsTree};
 ghost use Rattle.jtree.specs.View.{data_of, items_of, members_of};
 ghost use Rattle.jtree.specs.Nodes.{nodes, items_count, members_count, most_nodes};
 ghost use Rattle.jtree.specs.Order.{kind, text_cmp, items_cmp, members_cmp, tree_cmp};
 ghost use Rattle.jtree.specs.OrderLaws.{text_total, tree_total};
+ghost use Rattle.jtree.specs.Before.{IsBefore};
+ghost use Rattle.std.specs.declared.cmp.Ordering.TheVariants.{Less, Equal};
+
+use crate::nodes::{items_nodes, members_nodes};
+use crate::value::{Member, Text, Tree};
+use std::cmp::Ordering;
 
 impl PartialEq for Text {
     ghost eq = { bytes_eq };
@@ -165,7 +166,9 @@ fn are_same_members(left: &[Member], right: &[Member]) -> bool
 /// Whether the two have the same name, with the same tree under it.
 #[cycle(same)]
 fn is_same_member(left: &Member, right: &Member) -> bool
-    ensures { result ≡ is_eq (ordering_then (text_cmp right.now.name left.now.name) (tree_cmp (data_of left.now.tree) (data_of right.now.tree))) }
+    ensures { let names = text_cmp right.now.name left.now.name in
+        let trees = tree_cmp (data_of left.now.tree) (data_of right.now.tree) in
+        result ≡ is_eq (ordering_then names trees) }
 {
     left.name == right.name && is_same(&left.tree, &right.tree)
 }
@@ -182,7 +185,7 @@ struct Compared {
 }
 
 impl Compared {
-    /// What two trees of one node each answer, of which the contents compare so.
+    /// Two trees of one kind and of one node each, whose contents compare as `order` says.
     fn leaves(order: Ordering) -> Compared
         ensures left { result.left ≡ 1 }
         ensures right { result.right ≡ 1 }
@@ -195,7 +198,7 @@ impl Compared {
         }
     }
 
-    /// This part first, and then the next one.
+    /// These parts, and then the next ones: the first order that is not `Equal` decides, and the counts add up.
     fn then(self, next: Compared) -> Compared
         ensures left { result.left ≡ min (self.left + next.left) most_nodes }
         ensures right { result.right ≡ min (self.right + next.right) most_nodes }
@@ -208,7 +211,7 @@ impl Compared {
         }
     }
 
-    /// What two lists or two objects answer of which all the parts answer this: the counts of nodes decide first.
+    /// Two lists, or two objects, with these parts: the counts of nodes decide first.
     fn whole(self) -> Compared
         ensures left { result.left ≡ min (1 + self.left) most_nodes }
         ensures right { result.right ≡ min (1 + self.right) most_nodes }
@@ -251,10 +254,12 @@ fn compare_kinds(left: &Tree, right: &Tree) -> Compared
 {
     let nodes_left = left.nodes();
     let nodes_right = right.nodes();
+    let by_count = nodes_left.cmp(&nodes_right);
+    let by_kind = kind_of(left).cmp(&kind_of(right));
     Compared {
         left: nodes_left,
         right: nodes_right,
-        order: nodes_left.cmp(&nodes_right).then(kind_of(left).cmp(&kind_of(right))),
+        order: by_count.then(by_kind),
     }
 }
 
@@ -289,6 +294,7 @@ fn compare_members(left: &[Member], right: &[Member]) -> Compared
     ensures order { result.order ≡ members_cmp (members_of left.now) (members_of right.now) }
 {
     let both = left.len().min(right.len());
+    let shorter_first = left.len().cmp(&right.len());
     let mut found = Compared {
         left: 0,
         right: 0,
@@ -301,6 +307,18 @@ fn compare_members(left: &[Member], right: &[Member]) -> Compared
     found.then(Compared {
         left: members_nodes(&left[both..]),
         right: members_nodes(&right[both..]),
-        order: left.len().cmp(&right.len()),
+        order: shorter_first,
     })
 }
+
+/// A law, and nothing that runs: of two trees, `cmp` answers `Less` exactly where the first is before the second in the
+/// words of `IsBefore`.
+pub fn order_in_words()
+    ensures in_words { (u v : Data) → IsTree u → IsTree v → ((tree_cmp u v ≡ Less) ↔ IsBefore u v) }
+{}
+
+/// A law, and nothing that runs: `cmp` is a total order of trees, and it answers `Equal` for the same tree alone.
+pub fn order_is_total()
+    ensures total { IsTotalOrder tree_cmp }
+    ensures same { (u v : Data) → (tree_cmp u v ≡ Equal) ↔ (u ≡ v) }
+{}

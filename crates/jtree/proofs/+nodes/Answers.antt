@@ -1,6 +1,6 @@
-use Rattle.std.proofs.Common.{◌≡◌, min, ◌+◌, ◌≤◌, length, arith}
+use Rattle.std.proofs.Common.{arith}
 use Rattle.std.proofs.lemmas.List.{at_drop_all}
-use Rattle.jtree.specs.Nodes.{items_count, members_count, most_nodes}
+use Rattle.jtree.specs.Nodes.{items_count, members_count}
 use Rattle.jtree.specs.View.{items_of, members_of}
 use Rattle.jtree.proofs.+nodes.Goals as goal
 

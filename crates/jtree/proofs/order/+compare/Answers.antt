@@ -1,4 +1,4 @@
-use Rattle.std.proofs.Common.{arith, ◌≡◌, ◌+◌, drop}
+use Rattle.std.proofs.Common.{arith, ◌+◌, drop}
 use Rattle.std.proofs.lemmas.Grind.{common_steps}
 use Rattle.jtree.specs.View.{data_of, items_of}
 use Rattle.jtree.specs.Order.{tree_cmp, items_cmp}
@@ -11,9 +11,9 @@ compare_items-loop-i-preserved t c = record {
   right = grind (arith, common_steps);
   order =
       let s = items_step c.args.left.now c.args.right.now c.loop-i.i c.index-left-i.result c.index-right-i.result
-              (omega arith) (omega arith) c.index-left-i.is c.index-right-i.is in
+      (omega arith) (omega arith) c.index-left-i.is c.index-right-i.is in
       let a = then_assoc c.loop-i.found.order (tree_cmp (data_of c.index-left-i.result) (data_of c.index-right-i.result))
-              (items_cmp (items_of (drop (c.loop-i.i + 1) c.args.left.now)) (items_of (drop (c.loop-i.i + 1) c.args.right.now))) in
+      (items_cmp (items_of (drop (c.loop-i.i + 1) c.args.left.now)) (items_of (drop (c.loop-i.i + 1) c.args.right.now))) in
       cc;
 }
 

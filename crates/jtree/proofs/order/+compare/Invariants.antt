@@ -1,4 +1,4 @@
-use Rattle.std.proofs.Common.{◌≡◌, ◌≤◌, ◌+◌, min, drop}
+use Rattle.std.proofs.Common.{◌≡◌, ◌+◌, min, drop}
 use Rattle.std.specs.Ordering.{ordering_then}
 use Rattle.jtree.specs.View.{items_of, members_of}
 use Rattle.jtree.specs.Nodes.{items_count, members_count, most_nodes}

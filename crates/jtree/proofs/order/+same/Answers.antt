@@ -28,21 +28,21 @@ are_same_members-returns-then-left-right t c = unlike_members c.args.left.now c.
 pub are_same_items-loop-i-preserved : goal.are_same_items-loop-i-preserved
 are_same_items-loop-i-preserved t c =
     let s = items_step c.args.left.now c.args.right.now c.loop-i.i c.index-left-i.result c.index-right-i.result
-            (omega arith) (omega arith) c.index-left-i.is c.index-right-i.is in
+    (omega arith) (omega arith) c.index-left-i.is c.index-right-i.is in
     let p : true ≡ is_eq (tree_cmp (data_of c.index-left-i.result) (data_of c.index-right-i.result)) = cc in
     let e = then_tied (tree_cmp (data_of c.index-left-i.result) (data_of c.index-right-i.result))
-            (items_cmp (items_of (drop (c.loop-i.i + 1) c.args.left.now)) (items_of (drop (c.loop-i.i + 1) c.args.right.now))) p in
+    (items_cmp (items_of (drop (c.loop-i.i + 1) c.args.left.now)) (items_of (drop (c.loop-i.i + 1) c.args.right.now))) p in
     cc
 
 pub are_same_members-loop-i-preserved : goal.are_same_members-loop-i-preserved
 are_same_members-loop-i-preserved t c =
     let o : Ordering = ordering_then (text_cmp c.index-right-i.result.name c.index-left-i.result.name)
-            (tree_cmp (data_of c.index-left-i.result.tree) (data_of c.index-right-i.result.tree)) in
+    (tree_cmp (data_of c.index-left-i.result.tree) (data_of c.index-right-i.result.tree)) in
     let s = members_step c.args.left.now c.args.right.now c.loop-i.i c.index-left-i.result c.index-right-i.result
-            (omega arith) (omega arith) c.index-left-i.is c.index-right-i.is in
+    (omega arith) (omega arith) c.index-left-i.is c.index-right-i.is in
     let p : true ≡ is_eq o = cc in
     let e = then_tied o
-            (members_cmp (members_of (drop (c.loop-i.i + 1) c.args.left.now)) (members_of (drop (c.loop-i.i + 1) c.args.right.now))) p in
+    (members_cmp (members_of (drop (c.loop-i.i + 1) c.args.left.now)) (members_of (drop (c.loop-i.i + 1) c.args.right.now))) p in
     cc
 
 pub is_same_member-returns-then-eq : goal.is_same_member-returns-then-eq
@@ -50,7 +50,7 @@ is_same_member-returns-then-eq t c =
     let s = same_name c.args.left.now.name c.args.right.now.name in
     let p : true ≡ is_eq (text_cmp c.args.right.now.name c.args.left.now.name) = cc in
     let e = then_tied (text_cmp c.args.right.now.name c.args.left.now.name)
-            (tree_cmp (data_of c.args.left.now.tree) (data_of c.args.right.now.tree)) p in
+    (tree_cmp (data_of c.args.left.now.tree) (data_of c.args.right.now.tree)) p in
     cc
 
 pub is_same_member-returns-else-eq : goal.is_same_member-returns-else-eq
@@ -58,5 +58,5 @@ is_same_member-returns-else-eq t c =
     let s = same_name c.args.left.now.name c.args.right.now.name in
     let p : false ≡ is_eq (text_cmp c.args.right.now.name c.args.left.now.name) = cc in
     let e = then_first (text_cmp c.args.right.now.name c.args.left.now.name)
-            (tree_cmp (data_of c.args.left.now.tree) (data_of c.args.right.now.tree)) p in
+    (tree_cmp (data_of c.args.left.now.tree) (data_of c.args.right.now.tree)) p in
     cc

@@ -11,4 +11,4 @@ invariant-are_same_items-loop-i l =
 abbrev pub invariant-are_same_members-loop-i : goal.invariant-are_same_members-loop-i
 invariant-are_same_members-loop-i l =
     is_eq (members_cmp (members_of (drop l.i l.left)) (members_of (drop l.i l.right)))
-        ≡ is_eq (members_cmp (members_of l.left) (members_of l.right))
+    ≡ is_eq (members_cmp (members_of l.left) (members_of l.right))
