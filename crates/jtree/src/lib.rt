@@ -3,10 +3,12 @@
 
 mod copy;
 mod fault;
+mod pointer;
 mod read;
 mod value;
 mod write;
 
 pub use fault::JFault;
+pub use pointer::{push_index, push_name};
 pub use read::MOST_BYTES;
 pub use value::{Items, Member, Members, Text, Tree};
