@@ -18,7 +18,7 @@ pub escaped_other : (c : ℕ) → c ≢ 126 → c ≢ 47 → flat_map escaped (e
 escaped_other c p q = elim (cases_lt c 128) [
   | inl small ↦ rw (encode_ascii c small) (ap (λ xs. xs ++ []) (escaped_same c p q))
   | inr big ↦ all_same (encode_utf8 c) (λ k below. elim (cases_lt (get_or (encode_utf8 c) k 0) 128) [
-      | inl low ↦ absurd (omega (arith, inside_one c [] (encode_utf8 c) k (sym (append-nil _)) below low))
-      | inr h ↦ h
-    ])
+    | inl low ↦ absurd (omega (arith, inside_one c [] (encode_utf8 c) k (sym (append-nil _)) below low))
+    | inr h ↦ h
+  ])
 ]

@@ -5,6 +5,8 @@ mod copy;
 mod fault;
 mod pointer;
 mod read;
+#[cfg(test)]
+mod tests;
 mod value;
 mod write;
 

@@ -7,5 +7,5 @@ abbrev pub invariant-loop-letter : goal.invariant-loop-letter
 invariant-loop-letter l = record {
   done : List ℕ;
   name : l.name ≡ done ++ chars_rest l.letter-iterator;
-  token : string_bytes l.token ≡ name_token done
+  token : string_bytes l.token ≡ name_token done;
 }
