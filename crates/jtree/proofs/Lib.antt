@@ -1,3 +1,4 @@
+pub mod Escapes
 pub mod OrderSteps
-pub mod Reading
 pub mod OrderWords
+pub mod Reading

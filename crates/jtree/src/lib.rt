@@ -5,11 +5,15 @@ mod nodes;
 mod order;
 mod copy;
 mod fault;
+mod pointer;
 mod read;
+#[cfg(test)]
+mod tests;
 mod value;
 mod write;
 
 pub use fault::JFault;
+pub use pointer::{push_index, push_name};
 pub use read::MOST_BYTES;
 pub use order::{order_in_words, order_is_total};
 pub use value::{Items, Member, Members, Text, Tree};

@@ -1,9 +1,7 @@
 //! How many nodes a tree has.
-use crate::value::{Member, Members, Tree};
-
 ghost use Rattle.std.specs.Prelude.{◌≡◌, min};
 
-use crate::value::{Member, Tree};
+use crate::value::{Member, Members, Tree};
 
 impl Tree {
     ghost use Rattle.jtree.specs.Nodes.{nodes};

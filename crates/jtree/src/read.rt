@@ -17,8 +17,8 @@ impl Tree {
     /// The tree that a JSON value is (RFC 8259): members in the order of the bytes of their names, and numbers as
     /// integers of 64 bits.
     ///
-    /// `NotAnInteger` where some number of the value is no integer between -2^63 and 2^63 - 1, a number with a
-    /// fraction or an exponent among them, and `NoMemory` where an allocation fails.
+    /// `NotAnInteger` where some number of the value is no integer between -2^63 and 2^63 - 1: `serde_json` holds it as
+    /// a larger one or as a float, as it does with `1.0`, `1e2` and `-0`. `NoMemory` where an allocation fails.
     pub fn from_value(alloc: Global, value: &Value) -> Result<Tree, JFault>
         ensures ok { IfOk result (λ t. tree_of (view value.now) ≡ Some (data_of t)) }
         ensures not_an_integer { result ≡ Err NotAnInteger → tree_of (view value.now) ≡ None }
@@ -30,9 +30,9 @@ impl Tree {
     /// The tree that the bytes are, as JSON (RFC 8259). Of members of one name the last one stays.
     ///
     /// `TooLong` exactly where there are more than `MOST_BYTES` bytes, which is decided first. `NotJson` where the
-    /// bytes are no UTF-8 or no JSON, or nest deeper than 127 lists and objects. `NotAnInteger` where some number is no
-    /// integer between -2^63 and 2^63 - 1, a number with a fraction or an exponent among them. `NoMemory` where an
-    /// allocation fails.
+    /// bytes are no UTF-8 or no JSON, where lists and objects nest more than 127 deep, and where a number is beyond the
+    /// floats, as `1e999`. `NotAnInteger` where some number of the value is no integer between -2^63 and 2^63 - 1, as
+    /// for `from_value`. `NoMemory` where an allocation fails.
     pub fn from_bytes(alloc: Global, bytes: &[u8]) -> Result<Tree, JFault>
         ensures ok { IfOk result (λ t. Reads bytes.now (data_of t)) }
         ensures too_long { IsErrOf result TooLong ↔ most_bytes < length bytes.now }

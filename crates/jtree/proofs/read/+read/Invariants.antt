@@ -10,7 +10,7 @@ use Rattle.jtree.proofs.read.+read.Given as goal
 abbrev pub invariant-read_items-loop-value : goal.invariant-read_items-loop-value
 invariant-read_items-loop-value l = record {
   read : items_tree (items_view (take l.value-index l.value-items)) ≡ Some (items_of l.items.items);
-  trees : AreTrees (items_of l.items.items)
+  trees : AreTrees (items_of l.items.items);
 }
 
 abbrev pub invariant-read_members-loop-key : goal.invariant-read_members-loop-key
@@ -18,5 +18,5 @@ invariant-read_members-loop-key l = record {
   done : List Entry;
   entries : l.map.entries ≡ done ++ l.key-iterator;
   read : members_tree (members_view done) ≡ Some (members_of l.members.items);
-  trees : HaveTrees (members_of l.members.items)
+  trees : HaveTrees (members_of l.members.items);
 }

@@ -1,0 +1,230 @@
+use super::*;
+use serde_json::Value;
+use std::alloc::Global;
+use std::process::Abort;
+use std::test::Fail;
+
+// What is read of the bytes, as its text or its fault.
+fn outcome(alloc: Global, bytes: &[u8]) -> Result<String, Fail> {
+    match Tree::from_bytes(alloc, bytes) {
+        Ok(tree) => Ok(tree.to_text(alloc)?),
+        Err(fault) => Ok(fault.to_string(alloc)?),
+    }
+}
+
+fn is_outcome(
+    rt: &impl Abort,
+    alloc: Global,
+    bytes: &[u8],
+    wanted: &str,
+    name: &str,
+) -> Result<(), Fail> {
+    let found = outcome(alloc, bytes)?;
+    assert_eq!(rt; found.as_str(), wanted, "at {name}");
+    Ok(())
+}
+
+// A document, and its compact text or the fault.
+static DOCUMENTS: &str = r#"null => null
+ [ true , false ]  => [true,false]
+{"b":1,"a":2,"":3,"é":4,"Z":5,"a":6} => {"":3,"Z":5,"a":6,"b":1,"é":4}
+{"😀":1,"￼":2} => {"￼":2,"😀":1}
+{"k":[{},[],"",{"x":null}]} => {"k":[{},[],"",{"x":null}]}
+9223372036854775807 => 9223372036854775807
+9223372036854775808 => J1
+-9223372036854775808 => -9223372036854775808
+-9223372036854775809 => J1
+[0,-1,10] => [0,-1,10]
+1.5 => J1
+1e2 => J1
+1.0 => J1
+-0 => J1
+1e999 => J3
+{"a":1.5,"a":2} => {"a":2}
+{"a":[1,1.5]} => J1
+"\ud800" => J3
+1 2 => J3
+{"a": => J3
+[1,] => J3
+01 => J3
+nul => J3
+"\u0041\/\u00e9\ud83d\ude00" => "A/é😀"
+"a\"b\\c" => "a\"b\\c""#;
+
+#[test]
+fn documents(rt: HostRuntime) -> Result<(), Fail> {
+    let alloc = rt.alloc();
+    for row in DOCUMENTS.lines() {
+        let Some((document, wanted)) = row.split_once(" => ") else {
+            return Err(Fail::from("a row with no arrow"));
+        };
+        is_outcome(&rt, alloc, document.as_bytes(), wanted, document)?;
+    }
+    is_outcome(&rt, alloc, b"", "J3", "no byte")?;
+    is_outcome(&rt, alloc, b"\"\xff\"", "J3", "a byte of 255")?;
+    Ok(())
+}
+
+fn pushed(bytes: &mut Vec<u8>, byte: u8, count: usize) -> Result<(), Fail> {
+    for _ in 0..count {
+        bytes.push(byte)?;
+    }
+    Ok(())
+}
+
+fn nested(alloc: Global, depth: usize) -> Result<Vec<u8>, Fail> {
+    let mut bytes = Vec::new(alloc);
+    pushed(&mut bytes, b'[', depth)?;
+    pushed(&mut bytes, b']', depth)?;
+    Ok(bytes)
+}
+
+fn padded(alloc: Global, spaces: usize) -> Result<Vec<u8>, Fail> {
+    let mut bytes = Vec::new(alloc);
+    pushed(&mut bytes, b' ', spaces)?;
+    bytes.push(b'7')?;
+    Ok(bytes)
+}
+
+#[test]
+fn borders(rt: HostRuntime) -> Result<(), Fail> {
+    let alloc = rt.alloc();
+    let deepest = nested(alloc, 127)?;
+    let text = String::from_utf8(nested(alloc, 127)?)?;
+    is_outcome(&rt, alloc, &deepest, text.as_str(), "127 lists")?;
+    is_outcome(&rt, alloc, &nested(alloc, 128)?, "J3", "128 lists")?;
+    is_outcome(
+        &rt,
+        alloc,
+        &padded(alloc, 1_048_575)?,
+        "7",
+        "1,048,576 bytes",
+    )?;
+    is_outcome(
+        &rt,
+        alloc,
+        &padded(alloc, 1_048_576)?,
+        "J4",
+        "1,048,577 bytes",
+    )?;
+    let mut bad = padded(alloc, 1_048_576)?;
+    bad.push(255)?;
+    is_outcome(&rt, alloc, &bad, "J4", "the length goes first")?;
+    Ok(())
+}
+
+// The texts of the control characters from 0 to 31.
+static CONTROLS: &str = r#""\u0000"
+"\u0001"
+"\u0002"
+"\u0003"
+"\u0004"
+"\u0005"
+"\u0006"
+"\u0007"
+"\b"
+"\t"
+"\n"
+"\u000b"
+"\f"
+"\r"
+"\u000e"
+"\u000f"
+"\u0010"
+"\u0011"
+"\u0012"
+"\u0013"
+"\u0014"
+"\u0015"
+"\u0016"
+"\u0017"
+"\u0018"
+"\u0019"
+"\u001a"
+"\u001b"
+"\u001c"
+"\u001d"
+"\u001e"
+"\u001f""#;
+
+fn written(alloc: Global, text: &str) -> Result<String, Fail> {
+    let tree = Tree::Text(Text::from_str(alloc, text)?);
+    Ok(tree.to_text(alloc)?)
+}
+
+#[test]
+fn escapes(rt: HostRuntime) -> Result<(), Fail> {
+    let alloc = rt.alloc();
+    assert_eq!(rt; CONTROLS.lines().count(), 32);
+    for (code, wanted) in (0u8..32).zip(CONTROLS.lines()) {
+        let mut text = String::new(alloc);
+        text.push(char::from(code))?;
+        assert_eq!(rt;
+            written(alloc, text.as_str())?.as_str(),
+            wanted,
+            "at {code}"
+        );
+    }
+    assert_eq!(rt; written(alloc, "\"")?.as_str(), r#""\"""#);
+    assert_eq!(rt; written(alloc, "\\")?.as_str(), r#""\\""#);
+    assert_eq!(rt; written(alloc, "/\u{7f}é😀")?.as_str(), "\"/\u{7f}é😀\"");
+    Ok(())
+}
+
+#[test]
+fn copies(rt: HostRuntime) -> Result<(), Fail> {
+    let alloc = rt.alloc();
+    let document = r#"{"a":[1,null,true,"x"],"b":{"c":-5}}"#;
+    let value = Value::from_str(alloc, document)?;
+    let copy = Tree::from_value(alloc, &value)?.copy(alloc)?;
+    assert_eq!(rt; copy.to_text(alloc)?.as_str(), document);
+    let line = copy.append_text(Vec::from_slice(alloc, b"> ")?)?;
+    assert_eq!(rt;
+        line.as_slice(),
+        b"> {\"a\":[1,null,true,\"x\"],\"b\":{\"c\":-5}}".as_slice()
+    );
+    let text = Text::from_str(alloc, "abc")?.copy(alloc)?;
+    assert_eq!(rt; text.as_str(), "abc");
+    Ok(())
+}
+
+// Half a million items are read, copied and written.
+#[test]
+fn long_list(rt: HostRuntime) -> Result<(), Fail> {
+    let alloc = rt.alloc();
+    let mut bytes = Vec::from_slice(alloc, b"[1")?;
+    for _ in 1..500_000 {
+        bytes.extend_from_slice(b",1")?;
+    }
+    bytes.push(b']')?;
+    let copy = Tree::from_bytes(alloc, &bytes)?.copy(alloc)?;
+    assert!(rt; copy.to_text(alloc)?.as_bytes() == bytes.as_slice());
+    Ok(())
+}
+
+// A name, and its token.
+static NAMES: &str = "a~b/c => /a~0b~1c
+~1 => /~01
+~0 => /~00
+// => /~1~1
+é~😀/ => /é~0😀~1
+ => /";
+
+#[test]
+fn pointers(rt: HostRuntime) -> Result<(), Fail> {
+    let alloc = rt.alloc();
+    for row in NAMES.lines() {
+        let Some((name, wanted)) = row.split_once(" => ") else {
+            return Err(Fail::from("a row with no arrow"));
+        };
+        let mut text = String::new(alloc);
+        push_name(&mut text, name)?;
+        assert_eq!(rt; text.as_str(), wanted, "at {name}");
+    }
+    let mut text = String::from_str(alloc, "/x")?;
+    push_index(&mut text, 0)?;
+    push_name(&mut text, "y")?;
+    push_index(&mut text, 18_446_744_073_709_551_615)?;
+    assert_eq!(rt; text.as_str(), "/x/0/y/18446744073709551615");
+    Ok(())
+}
