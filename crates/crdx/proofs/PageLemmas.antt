@@ -17,7 +17,7 @@ abbrev Rising : List Data → Type 0
 Rising [] = Unit {0}
 Rising (x ∷ xs) = AllByRecursion (Precedes x) xs × Rising xs
 
-abbrev Among : List Data → Data → Type 0
+abbrev pub Among : List Data → Data → Type 0
 Among [] v = ⊥
 Among (x ∷ xs) v = (x ≡ v) ⊎ Among xs v
 
@@ -27,7 +27,7 @@ rising (x ∷ xs) h = (
     recursion_from_All (Precedes x) xs (λ k d lt. h 0 (suc k) d (omega arith) (omega arith)),
     rising xs (λ i j d lt within. h (suc i) (suc j) d (omega arith) (omega arith)))
 
-among : (xs : List Data) (v : Data) (k : ℕ) → k < length xs → get_or xs k v ≡ v → Among xs v
+pub among : (xs : List Data) (v : Data) (k : ℕ) → k < length xs → get_or xs k v ≡ v → Among xs v
 among [] v k lt e = absurd (omega arith)
 among (x ∷ xs) v zero lt e = inl e
 among (x ∷ xs) v (suc k) lt e = inr (among xs v k (omega arith) e)
@@ -42,17 +42,17 @@ recursion-zip : (C D : Data → Type 0) (xs : List Data) → AllByRecursion C xs
 recursion-zip C D [] c d = tt
 recursion-zip C D (x ∷ xs) c d = ((c.0, d.0), recursion-zip C D xs c.1 d.1)
 
-recursion-among : (C : Data → Type 0) (xs : List Data) (v : Data) → AllByRecursion C xs → Among xs v → C v
+pub recursion-among : (C : Data → Type 0) (xs : List Data) (v : Data) → AllByRecursion C xs → Among xs v → C v
 recursion-among C [] v h e = elim e [ ]
 recursion-among C (x ∷ xs) v h (inl e) = subst C e h.0
 recursion-among C (x ∷ xs) v h (inr e) = recursion-among C xs v h.1 e
 
-among_middle : (xs : List Data) (z : Data) (zs : List Data) → Among (xs ++ (z ∷ zs)) z
+pub among_middle : (xs : List Data) (z : Data) (zs : List Data) → Among (xs ++ (z ∷ zs)) z
 among_middle [] z zs = inl refl
 among_middle (x ∷ xs) z zs = inr (among_middle xs z zs)
 
 module _ (total : IsTotalOrder tree_cmp) where
-  not_before_itself : (u v : Data) → u ≡ v → Precedes u v → ⊥
+  pub not_before_itself : (u v : Data) → u ≡ v → Precedes u v → ⊥
   not_before_itself u v e h = let tied = tied_itself total v in let less = subst (λ t. Precedes t v) e h in cc
 
   not_both : (u v : Data) → Precedes u v → Precedes v u → ⊥

@@ -17,3 +17,5 @@ pub mod Sample
 pub mod Values
 pub mod Page
 pub mod Line
+pub mod Handed
+pub mod Building
