@@ -1,5 +1,5 @@
 -- The fields from a place on.
-use Rattle.std.proofs.Common.{◌≡◌, ℕ, zero, suc, ◌+◌, ◌-◌, ◌<◌, ◌≤◌, List, [], ◌∷◌, length, get_or, drop, refl, sym, ap, ◌∙◌, subst, arith, drop-cons}
+use Rattle.std.proofs.Common.{◌≡◌, ℕ, zero, suc, ◌-◌, ◌<◌, ◌≤◌, List, [], ◌∷◌, length, get_or, drop, sym, ap, ◌∙◌, subst, arith, drop-cons}
 use Rattle.crdx.specs.Node.{field, AreOrdered}
 use Rattle.crdx.specs.NodeView.{node_of, fields_of}
 use Rattle.crdx.specs.declared.schema.node.Field.{Field}

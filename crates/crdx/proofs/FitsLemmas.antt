@@ -1,22 +1,22 @@
 -- To fit a node, level by level, is to be stored and over the pools, asked at each path.
-use Rattle.std.proofs.Common.{◌≡◌, ◌⊎◌, ℕ, ℤ, List, [], ◌∷◌, ◌++◌, Bool, true, false, Option, Some, None, refl, sym, ap, ◌∙◌, subst, inl, inr}
-use Rattle.std.specs.Prelude.{option_and_then, option_map, Contains}
+use Rattle.std.proofs.Common.{◌≡◌, ℕ, List, [], ◌∷◌, false, Option, Some, None, refl, sym, ap, ◌∙◌, subst, inl, inr}
+use Rattle.std.specs.Prelude.{option_and_then, option_map}
 use Rattle.std.specs.Str.{bytes_eq}
 use Rattle.std.proofs.lemmas.Option.{option_and_then_some, same_Some}
 use Rattle.jtree.specs.Data.{Data, Members, no_members, member, IsBefore, IsObject, IsTree}
 use Rattle.jtree.specs.Data as tree
 use Rattle.jtree.specs.Path.{Path, Step, name, place, member_at, part_by, part_at}
-use Rattle.crdx.specs.Node.{ScalarKind, boolean, integer, Node, scalar, object, Fields, no_fields, field, declared, is_nullable, accepts_kind, IsNode, AreOrdered}
+use Rattle.crdx.specs.Node.{boolean, integer, Node, scalar, object, Fields, no_fields, field, declared, is_nullable, IsNode, AreOrdered}
 use Rattle.crdx.specs.Leads.{node_by, leads, StandsFor}
 use Rattle.crdx.specs.Fault.{HasFault, FaultAt, IsValid}
 use Rattle.crdx.specs.Fault as fault
-use Rattle.crdx.specs.Pruned.{IsUndeclared, undeclared, IsCut, IsPruned, label, label_at}
-use Rattle.crdx.specs.Filled.{filled, filled_members, replaced, without, with_member, standing}
+use Rattle.crdx.specs.Pruned.{IsUndeclared, undeclared, IsPruned, label}
+use Rattle.crdx.specs.Filled.{filled, filled_members, replaced, standing}
 use Rattle.crdx.specs.Stored.{IsStored}
-use Rattle.crdx.specs.Over.{Pools, IsOver, IsOverHere, IsFromPools, HasDeclaredNames}
-use Rattle.crdx.specs.Fits.{ScalarFits, Fits, MembersFit}
+use Rattle.crdx.specs.Over.{Pools, IsOver, IsOverHere}
+use Rattle.crdx.specs.Fits.{Fits, MembersFit}
 use Rattle.crdx.proofs.Names.{bool_cases, option_cases, same_name, member_first, member_later, member_tail, part_at-append, declared_tail, declared_first, own_name, before_none, past_name, ordering_cases}
-use Rattle.std.specs.declared.cmp.Ordering.TheVariants.{Less, Equal, Greater}
+use Rattle.std.specs.declared.cmp.Ordering.TheVariants.{Greater}
 use Rattle.std.proofs.lemmas.Cmp.{nat_list_cmp_total, tied_itself}
 use Rattle.std.proofs.lemmas.Map.Lookups.{exact_bytes}
 use Rattle.jtree.specs.Order.{text_cmp}
@@ -25,11 +25,11 @@ use Rattle.jtree.specs.Order.{text_cmp}
 pub fits_member : (P : Pools) (fs : Fields) (ms : Members) (k : List ℕ) (w : Data) → MembersFit P fs ms → member_at k ms ≡ Some w → (M : Node) × (declared k fs ≡ Some M) × Fits P M w
 fits_member P fs no_members k w h e = cc
 fits_member P fs (member l d ms) k w h e = elim (bool_cases (bytes_eq k l)) [
-    inl t ↦
+  | inl t ↦
       let is : d ≡ w = same_Some d w (rw t at e) in
       (h.0, subst (λ n. declared n fs ≡ Some h.0) (sym (same_name k l t)) h.1, subst (Fits P h.0) is h.2)
   | inr f ↦ fits_member P fs ms k w h.3 (sym (member_later k l d ms f) ∙ e)
-  ]
+]
 
 pub fits_step : (P : Pools) (N : Node) (v : Data) (s : Step) (M : Node) (w : Data) → Fits P N v → node_by N v s ≡ Some M → part_by v s ≡ Some w → Fits P M w
 fits_step P (scalar kind) v s M w h n p = cc
@@ -78,9 +78,9 @@ fits_valid P N v h path f = fits_faultless P f.node f.part (fits_along P N v pat
 -- what fits takes no undeclared name
 fits_declared : (P : Pools) (M : Node) (w : Data) (s : Step) → Fits P M w → IsUndeclared M w s → part_by w s ≡ None
 fits_declared P (object fs) (tree.object ms) (name k) h (undeclared _ _ _ none) = elim (option_cases (member_at k ms)) [
-    inl absent ↦ absent
+  | inl absent ↦ absent
   | inr found ↦ let m = fits_member P fs ms k found.0 h found.1 in let e = sym m.1 ∙ none in cc
-  ]
+]
 fits_declared P (scalar kind) w s h u = elim u [ ]
 fits_declared P (object fs) tree.null s h u = elim h [ ]
 fits_declared P (object fs) (tree.boolean b) s h u = elim h [ ]
@@ -91,12 +91,12 @@ fits_declared P (object fs) (tree.object ms) (place i) h u = elim u [ ]
 
 pub fits_pruned : (P : Pools) (N : Node) (v : Data) → Fits P N v → IsPruned N v v
 fits_pruned P N v h = record {
-    cut = λ path c.
+  cut = λ path c.
       let absent = fits_declared P c.at c.part c.step (fits_along P N v c.before c.at c.part h c.stands.node c.stands.part) c.undeclared in
       let gone : part_at v path ≡ None = ap (part_at v) c.is ∙ (part_at-append v c.before (c.step ∷ c.after) c.part c.stands.part ∙ rw absent refl) in
       ap (option_map label) gone;
-    kept = λ path k. refl
-  }
+  kept = λ path k. refl;
+}
 
 -- writing again what stands under a name changes nothing
 replaced_past : (k l : List ℕ) (o : Option Data) (d : Data) (ms : Members) → text_cmp k l ≡ Greater → replaced k o (member l d ms) ≡ member l d (replaced k o ms)
@@ -109,10 +109,10 @@ replaced_here k l d ms same = rw same (rw (own_name l, tied_itself nat_list_cmp_
 replaced_same : (k : List ℕ) (ms : Members) → IsObject ms → replaced k (member_at k ms) ms ≡ ms
 replaced_same k no_members sorted = refl
 replaced_same k (member l d ms) sorted = elim (ordering_cases (text_cmp k l)) [
-    inl before ↦ rw (before_none k (member l d ms) before sorted) (rw before refl)
+  | inl before ↦ rw (before_none k (member l d ms) before sorted) (rw before refl)
   | inr (inl same) ↦ replaced_here k l d ms (exact_bytes k l same)
   | inr (inr past) ↦ rw (member_later k l d ms (past_name k l past)) (replaced_past k l (member_at k ms) d ms past ∙ ap (member l d) (replaced_same k ms sorted.2))
-  ]
+]
 
 standing_same : (P : Pools) (N : Node) (w : Data) → Fits P N w → filled N w ≡ w → standing (is_nullable N) (λ d. filled N d) (Some w) ≡ Some w
 standing_same P (scalar boolean) tree.null h e = elim h [ ]
@@ -128,9 +128,9 @@ standing_same P N (tree.object ms) h e = ap Some e
 pub member_tree : (ms : Members) (k : List ℕ) (w : Data) → IsObject ms → member_at k ms ≡ Some w → IsTree w
 member_tree no_members k w sorted e = cc
 member_tree (member l d ms) k w sorted e = elim (bool_cases (bytes_eq k l)) [
-    inl t ↦ subst IsTree (same_Some d w (rw t at e)) sorted.0
+  | inl t ↦ subst IsTree (same_Some d w (rw t at e)) sorted.0
   | inr f ↦ member_tree ms k w sorted.2 (sym (member_later k l d ms f) ∙ e)
-  ]
+]
 
 mutual
   pub fits_filled : (P : Pools) (N : Node) (v : Data) → IsNode N → IsTree v → Fits P N v → filled N v ≡ v
@@ -149,11 +149,11 @@ mutual
   fits_filled_members P (field k N fs) ms ordered sorted h =
       let rest = fits_filled_members P fs ms ordered.2 sorted (λ l M w d m. h l M w (declared_tail k N fs l M ordered d) m) in
       let kept : standing (is_nullable N) (λ d. filled N d) (member_at k ms) ≡ member_at k ms = elim (option_cases (member_at k ms)) [
-          inl none ↦ rw none refl
+        | inl none ↦ rw none refl
         | inr found ↦
-          let fits = h k N found.0 (declared_first k N fs) found.1 in
-          rw found.1 (standing_same P N found.0 fits (fits_filled P N found.0 ordered.0 (member_tree ms k found.0 sorted found.1) fits))
-        ] in
+            let fits = h k N found.0 (declared_first k N fs) found.1 in
+            rw found.1 (standing_same P N found.0 fits (fits_filled P N found.0 ordered.0 (member_tree ms k found.0 sorted found.1) fits))
+      ] in
       rw (kept, rest) (replaced_same k ms sorted)
 
 -- what fits is over the pools, its parts aside
@@ -184,18 +184,18 @@ pub fits_stored : (P : Pools) (N : Node) (v : Data) → IsNode N → IsTree v �
 fits_stored P N v node t h = record { valid = fits_valid P N v h; pruned = fits_pruned P N v h; filled = fits_filled P N v node t h }
 
 -- and back: a valid value over the pools fits
-own_place : (N : Node) (v : Data) → StandsFor N v [] N v
+pub own_place : (N : Node) (v : Data) → StandsFor N v [] N v
 own_place N v = record { node = refl; part = refl }
 
 -- a member's place in the whole
-below : (fs : Fields) (ms : Members) (k : List ℕ) (M : Node) (w : Data) → declared k fs ≡ Some M → member_at k ms ≡ Some w
+pub below : (fs : Fields) (ms : Members) (k : List ℕ) (M : Node) (w : Data) → declared k fs ≡ Some M → member_at k ms ≡ Some w
     → (path : Path) (K : Node) (u : Data) → StandsFor M w path K u → StandsFor (object fs) (tree.object ms) (name k ∷ path) K u
 below fs ms k M w d m path K u s = record { node = rw (d, m) s.node; part = rw m s.part }
 
-faultless_kind : (N : Node) (v : Data) → IsValid N v → (HasFault N v → ⊥)
+pub faultless_kind : (N : Node) (v : Data) → IsValid N v → (HasFault N v → ⊥)
 faultless_kind N v valid f = valid [] (record { node = N; part = v; stands = own_place N v; fault = f })
 
-no_null : (N : Node) → is_nullable N ≡ false
+pub no_null : (N : Node) → is_nullable N ≡ false
 no_null (scalar kind) = refl
 no_null (object fs) = refl
 
@@ -225,10 +225,13 @@ mutual
   members_stored_fit P fs all (member k d ms) whole valid over among sorted =
       let here : member_at k all ≡ Some d = among k d (member_first k d ms) in
       elim (option_cases (declared k fs)) [
-        inl none ↦ let gone = over [] (object fs) (tree.object all) (own_place _ _) k none in cc
-      | inr M ↦ (M.0, M.1,
+        | inl none ↦ let gone = over [] (object fs) (tree.object all) (own_place _ _) k none in cc
+        | inr M ↦ (
+          M.0,
+          M.1,
           stored_fits P M.0 d sorted.0
-            (λ path f. valid (name k ∷ path) (record { node = f.node; part = f.part; stands = below fs all k M.0 d M.1 here path f.node f.part f.stands; fault = f.fault }))
-            (λ path K u s. over (name k ∷ path) K u (below fs all k M.0 d M.1 here path K u s)),
-          members_stored_fit P fs all ms whole valid over (λ l w e. among l w (member_tail k d ms l w sorted e)) sorted.2)
+              (λ path f. valid (name k ∷ path) (record { node = f.node; part = f.part; stands = below fs all k M.0 d M.1 here path f.node f.part f.stands; fault = f.fault }))
+              (λ path K u s. over (name k ∷ path) K u (below fs all k M.0 d M.1 here path K u s)),
+          members_stored_fit P fs all ms whole valid over (λ l w e. among l w (member_tail k d ms l w sorted e)) sorted.2,
+        )
       ]

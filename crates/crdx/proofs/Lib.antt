@@ -1,6 +1,8 @@
 pub mod Names
 pub mod FitsLemmas
 pub mod PageLemmas
+pub mod ValidLevels
+pub mod PrunedLevels
 pub mod RowLemmas
 pub mod ValueLemmas
 pub mod FieldLemmas

@@ -1,6 +1,5 @@
 -- Lookups by name in members and fields that stand in order, and parts at joined paths.
-use Rattle.std.proofs.Common.{◌≡◌, ◌⊎◌, ℕ, List, [], ◌∷◌, ◌++◌, Bool, true, false, Option, Some, None, refl, sym, ap, ◌∙◌, subst, inl, inr}
-use Rattle.std.specs.Prelude.{option_and_then}
+use Rattle.std.proofs.Common.{◌≡◌, ◌⊎◌, ℕ, List, [], ◌∷◌, ◌++◌, Bool, true, false, Option, Some, None, refl, sym, ◌∙◌, subst, inl, inr}
 use Rattle.std.specs.Str.{bytes_eq}
 use Rattle.std.specs.declared.cmp.Ordering.TheVariants.{Less, Equal, Greater}
 use Rattle.std.specs.declared.cmp.Ordering.{Ordering}
@@ -8,7 +7,7 @@ use Rattle.std.proofs.lemmas.Slice.Eq.{bytes_eq-Decides}
 use Rattle.std.proofs.lemmas.Cmp.{nat_list_cmp_total, tied_itself}
 use Rattle.std.proofs.lemmas.Option.{option_and_then_some, same_Some}
 use Rattle.jtree.specs.Data.{Data, Members, no_members, member, IsBefore, IsObject}
-use Rattle.jtree.specs.Path.{Path, Step, member_at, part_by, part_at}
+use Rattle.jtree.specs.Path.{Path, member_at, part_by, part_at}
 use Rattle.jtree.specs.Order.{text_cmp}
 use Rattle.crdx.specs.Node.{Node, Fields, no_fields, field, declared, IsBeforeFields, AreOrdered}
 
@@ -33,15 +32,15 @@ not_itself k l same before = let tied = tied_itself nat_list_cmp_total l in let 
 
 pub later_name : (k l : List ℕ) → text_cmp l k ≡ Less → bytes_eq k l ≡ false
 later_name k l before = elim (bool_cases (bytes_eq k l)) [
-    inl t ↦ absurd (not_itself l k (sym (same_name k l t)) before)
+  | inl t ↦ absurd (not_itself l k (sym (same_name k l t)) before)
   | inr f ↦ f
-  ]
+]
 
 pub earlier_name : (k l : List ℕ) → text_cmp k l ≡ Less → bytes_eq k l ≡ false
 earlier_name k l before = elim (bool_cases (bytes_eq k l)) [
-    inl t ↦ absurd (not_itself k l (same_name k l t) before)
+  | inl t ↦ absurd (not_itself k l (same_name k l t) before)
   | inr f ↦ f
-  ]
+]
 
 pub ordering_cases : (o : Ordering) → (o ≡ Less) ⊎ ((o ≡ Equal) ⊎ (o ≡ Greater))
 ordering_cases Less = inl refl
@@ -50,9 +49,9 @@ ordering_cases Greater = inr (inr refl)
 
 pub past_name : (k l : List ℕ) → text_cmp k l ≡ Greater → bytes_eq k l ≡ false
 past_name k l past = elim (bool_cases (bytes_eq k l)) [
-    inl t ↦ let tied = tied_itself nat_list_cmp_total l in let greater = subst (λ n. text_cmp n l ≡ Greater) (same_name k l t) past in cc
+  | inl t ↦ let tied = tied_itself nat_list_cmp_total l in let greater = subst (λ n. text_cmp n l ≡ Greater) (same_name k l t) past in cc
   | inr f ↦ f
-  ]
+]
 
 pub member_first : (k : List ℕ) (d : Data) (ms : Members) → member_at k (member k d ms) ≡ Some d
 member_first k d ms = rw own_name refl
@@ -68,16 +67,16 @@ IsBefore-trans k l (member m d ms) kl h = nat_list_cmp_total.trans k l m kl h
 pub before_each : (k : List ℕ) (ms : Members) (l : List ℕ) (d : Data) → IsBefore k ms → IsObject ms → member_at l ms ≡ Some d → text_cmp k l ≡ Less
 before_each k no_members l d before object found = cc
 before_each k (member m e ms) l d before object found = elim (bool_cases (bytes_eq l m)) [
-    inl t ↦ subst (λ n. text_cmp k n ≡ Less) (sym (same_name l m t)) before
+  | inl t ↦ subst (λ n. text_cmp k n ≡ Less) (sym (same_name l m t)) before
   | inr f ↦ before_each k ms l d (IsBefore-trans k m ms before object.1) object.2 (sym (member_later l m e ms f) ∙ found)
-  ]
+]
 
 -- and is no name of them
 pub before_none : (k : List ℕ) (ms : Members) → IsBefore k ms → IsObject ms → member_at k ms ≡ None
 before_none k ms before object = elim (option_cases (member_at k ms)) [
-    inl none ↦ none
+  | inl none ↦ none
   | inr found ↦ absurd (not_itself k k refl (before_each k ms k found.0 before object found.1))
-  ]
+]
 
 -- what stands under a name further on stands under it in the whole
 pub member_tail : (l : List ℕ) (e : Data) (ms : Members) (k : List ℕ) (d : Data) → IsObject (member l e ms) → member_at k ms ≡ Some d → member_at k (member l e ms) ≡ Some d
@@ -96,9 +95,9 @@ declared_first k N fs = rw own_name refl
 pub before_each_field : (k : List ℕ) (fs : Fields) (l : List ℕ) (N : Node) → IsBeforeFields k fs → AreOrdered fs → declared l fs ≡ Some N → text_cmp k l ≡ Less
 before_each_field k no_fields l N before ordered found = cc
 before_each_field k (field m M fs) l N before ordered found = elim (bool_cases (bytes_eq l m)) [
-    inl t ↦ subst (λ n. text_cmp k n ≡ Less) (sym (same_name l m t)) before
+  | inl t ↦ subst (λ n. text_cmp k n ≡ Less) (sym (same_name l m t)) before
   | inr f ↦ before_each_field k fs l N (IsBeforeFields-trans k m fs before ordered.1) ordered.2 (sym (declared_later l m M fs f) ∙ found)
-  ]
+]
 
 pub declared_tail : (l : List ℕ) (M : Node) (fs : Fields) (k : List ℕ) (N : Node) → AreOrdered (field l M fs) → declared k fs ≡ Some N → declared k (field l M fs) ≡ Some N
 declared_tail l M fs k N ordered found = declared_later k l M fs (later_name k l (before_each_field l fs k N ordered.1 ordered.2 found)) ∙ found

@@ -1,11 +1,10 @@
 -- Two pages of the same question are one.
-use Rattle.std.proofs.Common.{◌≡◌, ◌⊎◌, ℕ, zero, suc, ◌+◌, ◌<◌, ◌≤◌, List, [], ◌∷◌, ◌++◌, length, Bool, true, false, Option, refl, sym, ap, ◌∙◌, subst, inl, inr, arith, length-append, append-nil, get_or}
-use Rattle.std.specs.Prelude.{All, AllPairs, Contains, IsTrue}
+use Rattle.std.proofs.Common.{◌≡◌, ◌⊎◌, ℕ, zero, suc, ◌<◌, List, [], ◌∷◌, ◌++◌, length, Bool, true, Option, refl, sym, ap, ◌∙◌, subst, inl, inr, arith, length-append, append-nil, get_or}
+use Rattle.std.specs.Prelude.{AllPairs, Contains}
 use Rattle.std.specs.List.{AllByRecursion}
 use Rattle.std.specs.Cmp.{IsTotalOrder}
-use Rattle.std.specs.declared.cmp.Ordering.TheVariants.{Less, Equal, Greater}
 use Rattle.std.proofs.lemmas.Cmp.{tied_itself}
-use Rattle.std.proofs.lemmas.List.Elements.{recursion_from_All, Contains-append_left}
+use Rattle.std.proofs.lemmas.List.Elements.{recursion_from_All}
 use Rattle.jtree.specs.Data.{Data}
 use Rattle.jtree.specs.Order.{tree_cmp}
 use Rattle.crdx.specs.Sample.{Question}
@@ -24,8 +23,9 @@ Among (x ∷ xs) v = (x ≡ v) ⊎ Among xs v
 rising : (xs : List Data) → AllPairs Precedes xs → Rising xs
 rising [] h = tt
 rising (x ∷ xs) h = (
-    recursion_from_All (Precedes x) xs (λ k d lt. h 0 (suc k) d (omega arith) (omega arith)),
-    rising xs (λ i j d lt within. h (suc i) (suc j) d (omega arith) (omega arith)))
+  recursion_from_All (Precedes x) xs (λ k d lt. h 0 (suc k) d (omega arith) (omega arith)),
+  rising xs (λ i j d lt within. h (suc i) (suc j) d (omega arith) (omega arith)),
+)
 
 pub among : (xs : List Data) (v : Data) (k : ℕ) → k < length xs → get_or xs k v ≡ v → Among xs v
 among [] v k lt e = absurd (omega arith)
@@ -60,29 +60,29 @@ module _ (total : IsTotalOrder tree_cmp) where
 
   front_tail : (C : Data → Type 0) (x : Data) (xs : List Data) → IsFront C (x ∷ xs) → IsFront (λ v. C v × Precedes x v) xs
   front_tail C x xs f = record {
-      each = recursion-zip C (Precedes x) xs f.each.1 f.ascending.0;
-      ascending = f.ascending.1;
-      rest = λ v c. elim (f.rest v c.0) [
-          inl here ↦ elim here [ inl same ↦ absurd (not_before_itself x v same c.1) | inr later ↦ inl later ]
-        | inr all ↦ inr all.1
-        ]
-    }
+    each = recursion-zip C (Precedes x) xs f.each.1 f.ascending.0;
+    ascending = f.ascending.1;
+    rest = λ v c. elim (f.rest v c.0) [
+      | inl here ↦ elim here [ inl same ↦ absurd (not_before_itself x v same c.1) | inr later ↦ inl later ]
+      | inr all ↦ inr all.1
+    ];
+  }
 
   -- the first of one front is the first of the other, or after it
   first_after : (C : Data → Type 0) (x y : Data) (ys : List Data) → C x → IsFront C (y ∷ ys) → (y ≡ x) ⊎ Precedes y x
   first_after C x y ys c f = elim (f.rest x c) [
-      inl here ↦ elim here [ inl same ↦ inl same | inr later ↦ inr (recursion-among (Precedes y) ys x f.ascending.0 later) ]
+    | inl here ↦ elim here [ inl same ↦ inl same | inr later ↦ inr (recursion-among (Precedes y) ys x f.ascending.0 later) ]
     | inr all ↦ inr all.0
-    ]
+  ]
 
   same_first : (C : Data → Type 0) (x y : Data) (xs ys : List Data) → IsFront C (x ∷ xs) → IsFront C (y ∷ ys) → x ≡ y
   same_first C x y xs ys f g = elim (first_after C x y ys f.each.0 g) [
-      inl same ↦ sym same
+    | inl same ↦ sym same
     | inr before ↦ elim (first_after C y x xs g.each.0 f) [
-          inl same ↦ same
-        | inr after ↦ absurd (not_both x y after before)
-        ]
+      | inl same ↦ same
+      | inr after ↦ absurd (not_both x y after before)
     ]
+  ]
 
   same_front : (C : Data → Type 0) (xs ys : List Data) → IsFront C xs → IsFront C ys → (zs : List Data) × ((ys ≡ xs ++ zs) ⊎ (xs ≡ ys ++ zs))
   same_front C [] ys f g = (ys, inl refl)
@@ -90,21 +90,23 @@ module _ (total : IsTotalOrder tree_cmp) where
   same_front C (x ∷ xs) (y ∷ ys) f g =
       let same = same_first C x y xs ys f g in
       let back : IsFront C (x ∷ ys) = subst (λ t. IsFront C (t ∷ ys)) (sym same) g in
-      let tails = same_front (λ v. C v × Precedes x v) xs ys (front_tail C x xs f) (front_tail C x ys back) in
-      (tails.0, elim tails.1 [
-          inl e ↦ inl (λ i. sym same i ∷ e i)
-        | inr e ↦ inr (λ i. same i ∷ e i)
-        ])
+      let tails = same_front (λ v. C v × Precedes x v) xs ys (front_tail C x xs f) (front_tail C x ys back) in (
+        tails.0,
+        elim tails.1 [
+          | inl e ↦ inl (λ i. sym same i ∷ e i)
+          | inr e ↦ inr (λ i. same i ∷ e i)
+        ],
+      )
 
   page_front : (q : Question) (after : Option Data) (count : ℕ) (xs : List Data) (end : Bool) → IsPage q after count xs end → IsFront (IsCandidate q after) xs
   page_front q after count xs end p = record {
-      each = recursion_from_All (IsCandidate q after) xs p.candidates;
-      ascending = rising xs p.ascending;
-      rest = λ v c. elim (p.rest v c) [
-          inl found ↦ inl (among xs v found.0 found.1 found.2)
-        | inr all ↦ inr (recursion_from_All (λ u. Precedes u v) xs all)
-        ]
-    }
+    each = recursion_from_All (IsCandidate q after) xs p.candidates;
+    ascending = rising xs p.ascending;
+    rest = λ v c. elim (p.rest v c) [
+      | inl found ↦ inl (among xs v found.0 found.1 found.2)
+      | inr all ↦ inr (recursion_from_All (λ u. Precedes u v) xs all)
+    ];
+  }
 
   -- nothing that stands in a front stands again behind it
   no_repeat : (xs : List Data) (z : Data) (zs : List Data) → Rising (xs ++ (z ∷ zs)) → Among xs z → ⊥
@@ -129,17 +131,17 @@ module _ (total : IsTotalOrder tree_cmp) where
   same_items q after count xs ys d e p r =
       let front = same_front (IsCandidate q after) xs ys (page_front q after count xs d p) (page_front q after count ys e r) in
       elim front.1 [
-        inl is ↦ let none = no_more q after count xs ys front.0 d e p r is in sym (is ∙ (ap (λ zs. xs ++ zs) none ∙ append-nil xs))
-      | inr is ↦ let none = no_more q after count ys xs front.0 e d r p is in is ∙ (ap (λ zs. ys ++ zs) none ∙ append-nil ys)
+        | inl is ↦ let none = no_more q after count xs ys front.0 d e p r is in sym (is ∙ (ap (λ zs. xs ++ zs) none ∙ append-nil xs))
+        | inr is ↦ let none = no_more q after count ys xs front.0 e d r p is in is ∙ (ap (λ zs. ys ++ zs) none ∙ append-nil ys)
       ]
 
   pub same_end : (q : Question) (after : Option Data) (count : ℕ) (xs ys : List Data) (d e : Bool) → IsPage q after count xs d → IsPage q after count ys e → d ≡ e
   same_end q after count xs ys d e p r =
       let same = same_items q after count xs ys d e p r in
       elim (bool_cases d) [
-        inl t ↦ t ∙ sym (r.exact_end.1 (subst (λ us. (v : Data) → IsCandidate q after v → Contains us v) same (p.exact_end.0 t)))
-      | inr f ↦ elim (bool_cases e) [
-            inl t ↦ let d_too = p.exact_end.1 (subst (λ us. (v : Data) → IsCandidate q after v → Contains us v) (sym same) (r.exact_end.0 t)) in cc
+        | inl t ↦ t ∙ sym (r.exact_end.1 (subst (λ us. (v : Data) → IsCandidate q after v → Contains us v) same (p.exact_end.0 t)))
+        | inr f ↦ elim (bool_cases e) [
+          | inl t ↦ let d_too = p.exact_end.1 (subst (λ us. (v : Data) → IsCandidate q after v → Contains us v) (sym same) (r.exact_end.0 t)) in cc
           | inr g ↦ f ∙ sym g
-          ]
+        ]
       ]

@@ -1,17 +1,15 @@
 -- Rows of members, one field after another.
-use Rattle.std.proofs.Common.{◌≡◌, ◌⊎◌, ◌↔◌, ℕ, ◌+◌, ◌<◌, ◌≤◌, List, [], ◌∷◌, ◌++◌, length, map, Bool, true, false, Option, Some, None, Contains, refl, sym, ap, ◌∙◌, subst, inl, inr, arith}
+use Rattle.std.proofs.Common.{◌≡◌, ◌⊎◌, ◌↔◌, ℕ, ◌+◌, ◌<◌, ◌≤◌, List, [], ◌∷◌, ◌++◌, Contains, sym, ap, ◌∙◌, subst, inl, inr, arith}
 use Rattle.std.specs.Str.{bytes_eq}
-use Rattle.std.specs.declared.cmp.Ordering.TheVariants.{Less}
 use Rattle.std.proofs.lemmas.Option.{same_Some}
 use Rattle.std.proofs.lemmas.List.Elements.{Contains-append_left, Contains-append_right, Contains-push, Contains-push_cases, Contains-append_cases}
-use Rattle.jtree.specs.Data.{Data, Members, no_members, member, IsTree, IsBefore, IsObject}
+use Rattle.jtree.specs.Data.{Data, Members, no_members, member, IsBefore, IsObject}
 use Rattle.jtree.specs.Nodes.{node_count, members_count}
-use Rattle.jtree.specs.Order.{text_cmp}
-use Rattle.crdx.specs.Node.{Node, Fields, no_fields, field, declared, IsBeforeFields, IsNode, AreOrdered}
+use Rattle.crdx.specs.Node.{Node, Fields, no_fields, field, declared, IsBeforeFields, AreOrdered}
 use Rattle.crdx.specs.Over.{Pools}
 use Rattle.crdx.specs.Fits.{Fits, MembersFit}
-use Rattle.crdx.specs.Values.{IsValueOf, AreValuesOf, IsRowOf, AreRowsOf, IsExtendedRow, AreExtendedRows}
-use Rattle.crdx.proofs.Names.{bool_cases, option_cases, same_name, later_name, before_each_field, declared_first, declared_later, declared_tail, IsBefore-trans}
+use Rattle.crdx.specs.Values.{AreValuesOf, IsRowOf, AreRowsOf, IsExtendedRow, AreExtendedRows}
+use Rattle.crdx.proofs.Names.{bool_cases, same_name, later_name, before_each_field, declared_first, declared_later, declared_tail, IsBefore-trans}
 
 -- the one element of a list
 pub contains_one : {X : Type 0} (x y : X) → Contains (x ∷ []) y → x ≡ y
@@ -26,51 +24,54 @@ module _ (k : List ℕ) (room : ℕ) where
     pub pushed_row : node_count d + members_count r ≤ room
         → (ms : Members) → Contains (xs ++ member k d r ∷ []) ms ↔ (Contains base ms ⊎ IsExtendedRow k (d ∷ []) (front ++ r ∷ []) room ms)
     pushed_row fits ms = (
-        λ found. elim (Contains-push_cases xs (member k d r) ms found) [
-          inl old ↦ elim ((inv ms).0 old) [ inl b ↦ inl b | inr e ↦ inr (more_rows (d ∷ []) front r ms e) ]
+      λ found. elim (Contains-push_cases xs (member k d r) ms found) [
+        | inl old ↦ elim ((inv ms).0 old) [ inl b ↦ inl b | inr e ↦ inr (more_rows (d ∷ []) front r ms e) ]
         | inr same ↦ inr (record { value = d; row = r; is = sym same; among_values = Contains-push [] d; among_rows = Contains-push front r; within = fits })
-        ],
-        λ either. elim either [
-          inl b ↦ Contains-append_left xs (member k d r ∷ []) ms ((inv ms).1 (inl b))
+      ],
+      λ either. elim either [
+        | inl b ↦ Contains-append_left xs (member k d r ∷ []) ms ((inv ms).1 (inl b))
         | inr e ↦ elim (Contains-push_cases front r e.row e.among_rows) [
-            inl old ↦ Contains-append_left xs (member k d r ∷ []) ms ((inv ms).1 (inr (record { value = e.value; row = e.row; is = e.is; among_values = e.among_values; among_rows = old; within = e.within })))
+          | inl old ↦ Contains-append_left xs (member k d r ∷ []) ms ((inv ms).1 (inr (record { value = e.value; row = e.row; is = e.is; among_values = e.among_values; among_rows = old; within = e.within })))
           | inr same ↦
-            let one : d ≡ e.value = contains_one d e.value e.among_values in
-            let is : member k d r ≡ ms = (λ i. member k (one i) (same i)) ∙ sym e.is in
-            subst (Contains (xs ++ member k d r ∷ [])) is (Contains-push xs (member k d r))
-          ]
-        ])
+              let one : d ≡ e.value = contains_one d e.value e.among_values in
+              let is : member k d r ≡ ms = (λ i. member k (one i) (same i)) ∙ sym e.is in
+              subst (Contains (xs ++ member k d r ∷ [])) is (Contains-push xs (member k d r))
+        ]
+      ],
+    )
 
     -- a row that has no room
     pub skipped_row : room < node_count d + members_count r
         → (ms : Members) → Contains xs ms ↔ (Contains base ms ⊎ IsExtendedRow k (d ∷ []) (front ++ r ∷ []) room ms)
     skipped_row full ms = (
-        λ found. elim ((inv ms).0 found) [ inl b ↦ inl b | inr e ↦ inr (more_rows (d ∷ []) front r ms e) ],
-        λ either. elim either [
-          inl b ↦ (inv ms).1 (inl b)
+      λ found. elim ((inv ms).0 found) [ inl b ↦ inl b | inr e ↦ inr (more_rows (d ∷ []) front r ms e) ],
+      λ either. elim either [
+        | inl b ↦ (inv ms).1 (inl b)
         | inr e ↦ elim (Contains-push_cases front r e.row e.among_rows) [
-            inl old ↦ (inv ms).1 (inr (record { value = e.value; row = e.row; is = e.is; among_values = e.among_values; among_rows = old; within = e.within }))
+          | inl old ↦ (inv ms).1 (inr (record { value = e.value; row = e.row; is = e.is; among_values = e.among_values; among_rows = old; within = e.within }))
           | inr same ↦
-            let one : d ≡ e.value = contains_one d e.value e.among_values in
-            let too_much : node_count d + members_count r ≤ room = subst (λ w. node_count d + members_count w ≤ room) (sym same) (subst (λ u. node_count u + members_count e.row ≤ room) (sym one) e.within) in
-            absurd (omega (arith, full, too_much))
-          ]
-        ])
+              let one : d ≡ e.value = contains_one d e.value e.among_values in
+              let too_much : node_count d + members_count r ≤ room = subst (λ w. node_count d + members_count w ≤ room) (sym same) (subst (λ u. node_count u + members_count e.row ≤ room) (sym one) e.within) in
+              absurd (omega (arith, full, too_much))
+        ]
+      ],
+    )
 
   -- the rows that one more value extends
   pub more_values : (front : List Data) (d : Data) (rows xs ys : List Members) → AreExtendedRows k front rows room xs
       → ((ms : Members) → Contains ys ms ↔ (Contains xs ms ⊎ IsExtendedRow k (d ∷ []) rows room ms)) → AreExtendedRows k (front ++ d ∷ []) rows room ys
   more_values front d rows xs ys inv step ms = (
-      λ found. elim ((step ms).0 found) [
-        inl old ↦
+    λ found. elim ((step ms).0 found) [
+      | inl old ↦
           let e = (inv ms).0 old in
           record { value = e.value; row = e.row; is = e.is; among_values = Contains-append_left front (d ∷ []) e.value e.among_values; among_rows = e.among_rows; within = e.within }
       | inr e ↦ record { value = e.value; row = e.row; is = e.is; among_values = Contains-append_right front (d ∷ []) e.value e.among_values; among_rows = e.among_rows; within = e.within }
-      ],
-      λ e. elim (Contains-append_cases front (d ∷ []) e.value e.among_values) [
-        inl old ↦ (step ms).1 (inl ((inv ms).1 (record { value = e.value; row = e.row; is = e.is; among_values = old; among_rows = e.among_rows; within = e.within })))
+    ],
+    λ e. elim (Contains-append_cases front (d ∷ []) e.value e.among_values) [
+      | inl old ↦ (step ms).1 (inl ((inv ms).1 (record { value = e.value; row = e.row; is = e.is; among_values = old; among_rows = e.among_rows; within = e.within })))
       | inr new ↦ (step ms).1 (inr (record { value = e.value; row = e.row; is = e.is; among_values = new; among_rows = e.among_rows; within = e.within }))
-      ])
+    ],
+  )
 
 -- ---- one field more
 
@@ -100,13 +101,14 @@ module _ (P : Pools) (k : List ℕ) (N : Node) (fs : Fields) (room : ℕ) (order
       subst (IsRowOf P (field k N fs) room) (sym e.is) (record {
         sorted = (v.tree, row_after P k fs e.row ordered.1 ordered.2 r.fits, r.sorted);
         fits = (N, declared_first k N fs, v.fits, wider P k N fs e.row ordered r.fits);
-        within = e.within })
+        within = e.within;
+      })
 
   -- a row of all fields is one of the others, or has the first one's value in front
   row_cases : (values : List Data) (rows : List Members) (ms : Members) → AreValuesOf P N room values → AreRowsOf P fs room rows → IsRowOf P (field k N fs) room ms → Contains rows ms ⊎ IsExtendedRow k values rows room ms
   row_cases values rows no_members vs rs r = inl ((rs no_members).1 (record { sorted = tt; fits = tt; within = r.within }))
   row_cases values rows (member l d ms) vs rs r = elim (bool_cases (bytes_eq l k)) [
-      inl t ↦
+    | inl t ↦
         let same : l ≡ k = same_name l k t in
         let is : r.fits.0 ≡ N = same_Some r.fits.0 N (sym r.fits.1 ∙ (ap (λ n. declared n (field k N fs)) same ∙ declared_first k N fs)) in
         let sums : node_count d + members_count ms ≤ room = r.within in
@@ -117,23 +119,25 @@ module _ (P : Pools) (k : List ℕ) (N : Node) (fs : Fields) (room : ℕ) (order
           is = ap (λ n. member n d ms) same;
           among_values = (vs d).1 (record { tree = r.sorted.0; fits = subst (λ M. Fits P M d) is r.fits.2; within = omega (arith, sums) });
           among_rows = (rs ms).1 (record { sorted = r.sorted.2; fits = narrower P k N fs ms before r.sorted.2 r.fits.3; within = omega (arith, sums) });
-          within = sums })
+          within = sums;
+        })
     | inr f ↦
         let found = sym (declared_later l k N fs f) ∙ r.fits.1 in
         let before : IsBefore k (member l d ms) = before_each_field k fs l r.fits.0 ordered.1 ordered.2 found in
         inl ((rs (member l d ms)).1 (record { sorted = r.sorted; fits = narrower P k N fs (member l d ms) before r.sorted r.fits; within = r.within }))
-    ]
+  ]
 
   pub one_field_more : (values : List Data) (rows extended : List Members) → AreValuesOf P N room values → AreRowsOf P fs room rows → AreExtendedRows k values rows room extended → AreRowsOf P (field k N fs) room (rows ++ extended)
   one_field_more values rows extended vs rs es ms = (
-      λ found. elim (Contains-append_cases rows extended ms found) [
-        inl old ↦ kept_row ms ((rs ms).0 old)
+    λ found. elim (Contains-append_cases rows extended ms found) [
+      | inl old ↦ kept_row ms ((rs ms).0 old)
       | inr new ↦ new_row values rows ms vs rs ((es ms).0 new)
-      ],
-      λ r. elim (row_cases values rows ms vs rs r) [
-        inl old ↦ Contains-append_left rows extended ms old
+    ],
+    λ r. elim (row_cases values rows ms vs rs r) [
+      | inl old ↦ Contains-append_left rows extended ms old
       | inr new ↦ Contains-append_right rows extended ms ((es ms).1 new)
-      ])
+    ],
+  )
 
 -- of no fields there is the empty row alone
 pub no_field_rows : (P : Pools) (room : ℕ) → AreRowsOf P no_fields room (no_members ∷ [])

@@ -1,5 +1,5 @@
 -- For private contracts: how a page is built from all samples in order.
-use Rattle.std.specs.Prelude.{ℕ, ◌-◌, List, length, Option, MatchOption}
+use Rattle.std.specs.Prelude.{◌-◌, List, length, Option, MatchOption}
 use Rattle.std.specs.List.{slice_get}
 use Rattle.jtree.specs.Data.{Data}
 use Rattle.crdx.specs.Page.{Precedes, IsPast}

@@ -1,6 +1,6 @@
 -- A value fits a node where, level by level, it is of the node's kind, its scalars come from the pools and its names are
 -- declared. It is proved to say the same as: stored, and over the pools.
-use Rattle.std.specs.Prelude.{◌≡◌, ℤ, Option, Some, None, Contains, MatchOption}
+use Rattle.std.specs.Prelude.{◌≡◌, Some, Contains}
 use Rattle.jtree.specs.Data.{Data, Members, no_members, member}
 use Rattle.jtree.specs.Data as tree
 use Rattle.crdx.specs.Node.{ScalarKind, boolean, integer, Node, scalar, object, Fields, declared}

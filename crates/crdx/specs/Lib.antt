@@ -13,6 +13,7 @@ pub mod Stored
 pub mod Pools
 pub mod Over
 pub mod Fits
+pub mod ByLevel
 pub mod Sample
 pub mod Values
 pub mod Page

@@ -1,5 +1,7 @@
-//! Accepted schemas.
+//! Accepted schemas, and what their objects are.
 
 mod accepted;
+mod levels;
 
 pub use accepted::Schema;
+pub use levels::{fits_are_stored_over, pruning_by_level, validity_by_level};

@@ -22,12 +22,7 @@ use std::alloc::Global;
 /// left, which `end` says.
 ///
 /// `NotASample` exactly where `after` is no sample of the plan, and `NoMemory` where an allocation fails.
-pub fn page(
-    alloc: Global,
-    plan: &Plan,
-    after: Option<&Tree>,
-    count: u32,
-) -> Result<Page, EFault>
+pub fn page(alloc: Global, plan: &Plan, after: Option<&Tree>, count: u32) -> Result<Page, EFault>
     ensures page { IfOk result (λ page. IsPage plan.now (handed after.entry) count (trees_of page.items.items) page.end) }
     ensures sample { OnOk result (IfSome (handed after.entry) (λ a. IsSample plan.now a)) }
     ensures not_a_sample { result ≡ Err NotASample → IsSomeAnd (handed after.entry) (λ a. IsSample plan.now a → ⊥) }

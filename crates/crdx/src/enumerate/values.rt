@@ -61,12 +61,7 @@ fn objects(alloc: Global, mut rows: Vec<Members>) -> Result<Vec<Tree>, EFault>
 
 /// All values over the pools that fit the node and have at most `limit` nodes.
 #[cycle(values)]
-fn values_of(
-    alloc: Global,
-    node: &Node,
-    pools: &Pools,
-    limit: u64,
-) -> Result<Vec<Tree>, EFault>
+fn values_of(alloc: Global, node: &Node, pools: &Pools, limit: u64) -> Result<Vec<Tree>, EFault>
     requires { limit < 64 }
     ensures ok { IfOk result (λ vs. AreValuesOf pools.now (node_of node.now) limit (trees_of vs.items)) }
     ensures err { IfErr result (λ e. e ≡ NoMemory) }
@@ -82,12 +77,7 @@ fn values_of(
 
 /// All rows of members over the pools that fit the fields and have at most `room` nodes.
 #[cycle(values)]
-fn rows_of(
-    alloc: Global,
-    fields: &Fields,
-    pools: &Pools,
-    room: u64,
-) -> Result<Vec<Members>, EFault>
+fn rows_of(alloc: Global, fields: &Fields, pools: &Pools, room: u64) -> Result<Vec<Members>, EFault>
     requires { room < 64 }
     ensures ok { IfOk result (λ rows. AreRowsOf pools.now fields.now room rows.items) }
     ensures err { IfErr result (λ e. e ≡ NoMemory) }
@@ -100,8 +90,13 @@ fn rows_of(
     'fields: for i in (0..all.len()).rev() {
         let field = &all[i];
         let values = values_of(alloc, &field.node, pools, room)?;
-        let mut extended =
-            extended_rows(alloc, &field.name, values.as_slice(), rows.as_slice(), room)?;
+        let mut extended = extended_rows(
+            alloc,
+            &field.name,
+            values.as_slice(),
+            rows.as_slice(),
+            room,
+        )?;
         rows.append(&mut extended)?;
     }
     Ok(rows)

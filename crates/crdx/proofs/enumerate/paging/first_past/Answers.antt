@@ -21,18 +21,18 @@ loop-tree-preserved c =
     let order = subst InOrder (trees_around ts i t (omega arith) c.tree-item.is) (in_order ts c.requires) in
     let up = in_order_before front v (trees_of (drop (i + 1) ts)) order in
     elim c.if-is_next.branch [
-      then-is_next+else-len-count+in_ok-copy+in_ok-push w ↦
-        let next : IsNext (trees_of old) after v = subst (λ us. IsNext (trees_of us) after v) c.as_slice.ensures.value (c.is_next.ensures.0 w.if-is_next.true) in
-        let items : trees_of c.if-is_next.items.items ≡ trees_of old ++ v ∷ [] =
+      | then-is_next+else-len-count+in_ok-copy+in_ok-push w ↦
+          let next : IsNext (trees_of old) after v = subst (λ us. IsNext (trees_of us) after v) c.as_slice.ensures.value (c.is_next.ensures.0 w.if-is_next.true) in
+          let items : trees_of c.if-is_next.items.items ≡ trees_of old ++ v ∷ [] =
           ap (λ x. trees_of x.items) w.items-is ∙ (ap trees_of (w.in_ok-push.ensures.items ∙ ap (λ x. old ++ x ∷ []) w.in_ok-copy.ensures.ok) ∙ map-append (λ x. data_of x) old (t ∷ [])) in
-        let room : length (trees_of old) < c.args.count = omega (arith, length_trees old, c.loop-tree.invariant.short, w.len.ensures, w.if-len-count.false, c.loop-tree.items.ok.0) in
-        rw (more, items) (push_next after c.args.count front (trees_of old) c.loop-tree.invariant v next room)
-    | else-is_next w ↦
-        let items : trees_of c.if-is_next.items.items ≡ trees_of old = ap (λ x. trees_of x.items) w.items-is in
-        let not_next : IsNext (trees_of old) after v → ⊥ = λ next.
+          let room : length (trees_of old) < c.args.count = omega (arith, length_trees old, c.loop-tree.invariant.short, w.len.ensures, w.if-len-count.false, c.loop-tree.items.ok.0) in
+          rw (more, items) (push_next after c.args.count front (trees_of old) c.loop-tree.invariant v next room)
+      | else-is_next w ↦
+          let items : trees_of c.if-is_next.items.items ≡ trees_of old = ap (λ x. trees_of x.items) w.items-is in
+          let not_next : IsNext (trees_of old) after v → ⊥ = λ next.
           let yes = c.is_next.ensures.1 (subst (λ us. IsNext (trees_of us) after v) (sym c.as_slice.ensures.value) next) in
           let answers = sym yes ∙ w.if-is_next.false in cc in
-        rw (more, items) (skip_listed after c.args.count front (trees_of old) c.loop-tree.invariant v not_next up)
+          rw (more, items) (skip_listed after c.args.count front (trees_of old) c.loop-tree.invariant v not_next up)
     ]
 
 pub returns-then-len-count-clause-ok : goal.returns-then-len-count-clause-ok

@@ -1,6 +1,5 @@
-use Rattle.std.proofs.Common.{◌≡◌, true, false, Contains, sym, ap, ◌∙◌, subst}
+use Rattle.std.proofs.Common.{sym, ◌∙◌, subst}
 use Rattle.std.specs.Prelude.{IfSome}
-use Rattle.std.specs.List.{list_any}
 use Rattle.std.proofs.lemmas.Result.{IfOk-weaker}
 use Rattle.jtree.specs.View.{data_of}
 use Rattle.crdx.specs.Handed.{handed}
@@ -35,10 +34,10 @@ returns-clause-sample c =
     let sorted = c.sort.new.self.items in
     let are : AreSamples q (trees_of sorted) = sorted_samples q c.in_ok-all.all.items sorted c.in_ok-sort.ensures.permutation c.in_ok-all.ensures.ok in
     on_ok_always c.first_past.result (IfSome (handed c.args.after) (λ a. IsSample q a)) (elim c.match-after.branch [
-      in-Some+else-not-contains w ↦
-        let t = w.in-Some.tree.now in
-        let found = sym w.contains.ensures.value ∙ w.if-not-contains.false in
-        let here = rw w.as_slice.ensures.value at found in
-        rw w.in-Some.is ((are (data_of t)).0 (found_tree sorted t here))
-    | in_default w ↦ rw w.in_default.is tt
+      | in-Some+else-not-contains w ↦
+          let t = w.in-Some.tree.now in
+          let found = sym w.contains.ensures.value ∙ w.if-not-contains.false in
+          let here = rw w.as_slice.ensures.value at found in
+          rw w.in-Some.is ((are (data_of t)).0 (found_tree sorted t here))
+      | in_default w ↦ rw w.in_default.is tt
     ])

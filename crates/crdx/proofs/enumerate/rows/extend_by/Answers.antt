@@ -17,16 +17,16 @@ loop-row-preserved c =
     let within : i < length rows = omega arith in
     let more : take (i + 1) rows ≡ take i rows ++ r ∷ [] = take_more rows i r within ∙ ap (λ x. take i rows ++ x ∷ []) (sym c.row-item.is) in
     elim c.if-saturating_add-room.branch [
-      then-saturating_add-room+in_ok-with_first+in_ok-push w ↦
-        let made = w.in_ok-with_first.ensures.ok in
-        let items : c.if-saturating_add-room.extended.items ≡ old ++ member c.args.name.now d r ∷ [] =
+      | then-saturating_add-room+in_ok-with_first+in_ok-push w ↦
+          let made = w.in_ok-with_first.ensures.ok in
+          let items : c.if-saturating_add-room.extended.items ≡ old ++ member c.args.name.now d r ∷ [] =
           ap (λ e. e.items) w.extended-is ∙ (w.in_ok-push.ensures.items ∙ ap (λ m. old ++ m ∷ []) made) in
-        let fits : node_count d + members_count r ≤ c.args.room = omega (arith, c.nodes-used.ensures, c.nodes.ensures, c.saturating_add.ensures, w.if-saturating_add-room.true) in
-        λ row. rw (items, more) (pushed_row c.args.name.now c.args.room d (take i rows) r old c.args.extended.now.items c.loop-row.invariant fits row)
-    | else-saturating_add-room w ↦
-        let items : c.if-saturating_add-room.extended.items ≡ old = ap (λ e. e.items) w.extended-is in
-        let full : c.args.room < node_count d + members_count r = omega (arith, c.nodes-used.ensures, c.nodes.ensures, c.saturating_add.ensures, w.if-saturating_add-room.false) in
-        λ row. rw (items, more) (skipped_row c.args.name.now c.args.room d (take i rows) r old c.args.extended.now.items c.loop-row.invariant full row)
+          let fits : node_count d + members_count r ≤ c.args.room = omega (arith, c.nodes-used.ensures, c.nodes.ensures, c.saturating_add.ensures, w.if-saturating_add-room.true) in
+          λ row. rw (items, more) (pushed_row c.args.name.now c.args.room d (take i rows) r old c.args.extended.now.items c.loop-row.invariant fits row)
+      | else-saturating_add-room w ↦
+          let items : c.if-saturating_add-room.extended.items ≡ old = ap (λ e. e.items) w.extended-is in
+          let full : c.args.room < node_count d + members_count r = omega (arith, c.nodes-used.ensures, c.nodes.ensures, c.saturating_add.ensures, w.if-saturating_add-room.false) in
+          λ row. rw (items, more) (skipped_row c.args.name.now c.args.room d (take i rows) r old c.args.extended.now.items c.loop-row.invariant full row)
     ]
 
 pub returns-clause-ok : goal.returns-clause-ok

@@ -12,7 +12,7 @@ loop-value-preserved c =
     let v = c.value-item.result in
     let within : i < length values = omega arith in
     let more : trees_of (take (i + 1) values) ≡ trees_of (take i values) ++ data_of v ∷ [] =
-      ap trees_of (take_more values i v within ∙ ap (λ x. take i values ++ x ∷ []) (sym c.value-item.is)) ∙ map-append (λ t. data_of t) (take i values) (v ∷ []) in
+    ap trees_of (take_more values i v within ∙ ap (λ x. take i values ++ x ∷ []) (sym c.value-item.is)) ∙ map-append (λ t. data_of t) (take i values) (v ∷ []) in
     λ ms. rw more (more_values c.args.name.now c.args.room (trees_of (take i values)) (data_of v) c.args.rows.now c.loop-value.extended.items c.extend_by.new.extended.items c.loop-value.invariant c.in_ok-extend_by.ensures.ok ms)
 
 pub returns-clause-ok : goal.returns-clause-ok

@@ -1,4 +1,4 @@
-use Rattle.std.proofs.Common.{◌≡◌, ◌+◌, ◌-◌, ◌<◌, ◌≤◌, ◌++◌, length, drop, ap, sym, ◌∙◌, subst, map, arith, Contains}
+use Rattle.std.proofs.Common.{◌≡◌, ◌-◌, drop, ap, sym, subst, map, arith, Contains}
 use Rattle.std.proofs.lemmas.Result.{IfOk-weaker}
 use Rattle.crdx.specs.Node.{scalar, object, field, AreOrdered}
 use Rattle.jtree.specs.Data as tree
@@ -33,7 +33,7 @@ rows_of-fields-preserved t c =
     let extended = rw (c.as_slice.ensures.value, c.as_slice-in-fields.ensures.value) at c.in_ok-extended.ensures.ok in
     let more = one_field_more P f.name (node_of f.node) rest c.args.room ordered values rows c.in_ok-extended.extended.items c.in_ok-values.ensures.ok c.fields.invariant extended in
     subst (λ fs. AreRowsOf P fs c.args.room c.append.new.self.items) (sym split)
-      (subst (λ rs. AreRowsOf P (field f.name (node_of f.node) rest) c.args.room rs) (sym c.in_ok-append.ensures.items) more)
+    (subst (λ rs. AreRowsOf P (field f.name (node_of f.node) rest) c.args.room rs) (sym c.in_ok-append.ensures.items) more)
 
 pub values_of-returns-in-Scalar-clause-ok : goal.values_of-returns-in-Scalar-clause-ok
 values_of-returns-in-Scalar-clause-ok t c =
@@ -41,7 +41,7 @@ values_of-returns-in-Scalar-clause-ok t c =
     let N = node_of c.args.node.now in
     let is : scalar (kind_of c.in-Scalar.kind) ≡ N = sym (ap node_of c.in-Scalar.is) in
     IfOk-weaker c.scalars.result _ (λ vs. AreValuesOf P N c.args.limit (trees_of vs.items))
-      (λ vs h. subst (λ M. AreValuesOf P M c.args.limit (trees_of vs.items)) is (h c.args.limit (omega arith))) c.scalars.ensures.ok
+    (λ vs h. subst (λ M. AreValuesOf P M c.args.limit (trees_of vs.items)) is (h c.args.limit (omega arith))) c.scalars.ensures.ok
 
 pub values_of-returns-in_ok-rows_of-in-Object-clause-ok : goal.values_of-returns-in_ok-rows_of-in-Object-clause-ok
 values_of-returns-in_ok-rows_of-in-Object-clause-ok t c =
@@ -52,6 +52,6 @@ values_of-returns-in_ok-rows_of-in-Object-clause-ok t c =
     let rows = c.in_ok-rows_of-in-Object.field-0.items in
     let is : object fs ≡ N = sym (ap node_of c.in-Object.is) in
     let all : AreValuesOf P N limit (map tree.object rows) = subst (λ M. AreValuesOf P M limit (map tree.object rows)) is
-      (object_values P fs limit (limit - 1) rows c.in_ok-rows_of-in-Object.ensures.ok (omega arith)) in
+    (object_values P fs limit (limit - 1) rows c.in_ok-rows_of-in-Object.ensures.ok (omega arith)) in
     IfOk-weaker c.objects.result _ (λ vs. AreValuesOf P N limit (trees_of vs.items))
-      (λ vs h v. (λ found. (all v).0 ((h v).0 found), λ value. (h v).1 ((all v).1 value))) c.objects.ensures.ok
+    (λ vs h v. (λ found. (all v).0 ((h v).0 found), λ value. (h v).1 ((all v).1 value))) c.objects.ensures.ok

@@ -1,7 +1,7 @@
-use Rattle.std.proofs.Common.{◌≡◌, ◌<◌, sym, ap, ◌∙◌, subst, arith}
+use Rattle.std.proofs.Common.{◌≡◌, ◌<◌, ◌∙◌, subst, arith}
 use Rattle.std.proofs.lemmas.Result.{IfOk-weaker}
 use Rattle.crdx.specs.Node.{IsNode}
-use Rattle.crdx.specs.Values.{AreValuesOf, AreSamples, trees_of}
+use Rattle.crdx.specs.Values.{AreSamples, trees_of}
 use Rattle.crdx.proofs.SampleLemmas.{values_are_samples}
 use Rattle.crdx.proofs.enumerate.values.samples.Goals as goal
 
@@ -12,4 +12,4 @@ returns-clause-ok c =
     let limit : c.from.result ≡ q.limit = c.from.ensures ∙ c.limit.ensures.limit in
     let small : q.limit < 64 = omega (arith, c.limit.ensures.most, c.limit.ensures.limit) in
     IfOk-weaker c.values_of.result _ (λ vs. AreSamples q (trees_of vs.items))
-      (λ vs h. values_are_samples q (trees_of vs.items) node small (rw (c.pools.ensures, c.root-2.ensures, limit) at h)) c.values_of.ensures.ok
+    (λ vs h. values_are_samples q (trees_of vs.items) node small (rw (c.pools.ensures, c.root-2.ensures, limit) at h)) c.values_of.ensures.ok

@@ -1,0 +1,27 @@
+// The definitions by paths say what a walk over a value finds, level by level.
+ghost use Rattle.std.specs.Prelude.{◌≡◌, ◌↔◌};
+ghost use Rattle.jtree.specs.Data.{Data, IsTree};
+ghost use Rattle.crdx.specs.Node.{Node, IsNode};
+ghost use Rattle.crdx.specs.Fault.{IsValid};
+ghost use Rattle.crdx.specs.Pruned.{IsPruned};
+ghost use Rattle.crdx.specs.Stored.{IsStored};
+ghost use Rattle.crdx.specs.Over.{Pools, IsOver};
+ghost use Rattle.crdx.specs.Fits.{Fits};
+ghost use Rattle.crdx.specs.ByLevel.{IsValidByLevel, pruned};
+
+/// No place of a value has a fault exactly where the value is of a kind that its node accepts and each member under a
+/// declared name is valid by the node of the name.
+pub fn validity_by_level()
+    ensures { (N : Node) (v : Data) → IsTree v → IsValid N v ↔ IsValidByLevel N v }
+{}
+
+/// The tree whose paths are those that are not cut is, and is alone, what pruning level by level gives.
+pub fn pruning_by_level()
+    ensures { (N : Node) (v w : Data) → IsTree v → IsTree w → IsPruned N v w ↔ (w ≡ pruned N v) }
+{}
+
+/// A value is stored and over the pools exactly where, level by level, it is of its node's kind, its scalars are from the
+/// pools and its names are declared.
+pub fn fits_are_stored_over()
+    ensures { (P : Pools) (N : Node) (v : Data) → IsNode N → IsTree v → (IsStored N v × IsOver P N v) ↔ Fits P N v }
+{}
