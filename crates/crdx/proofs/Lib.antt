@@ -3,6 +3,7 @@ pub mod FitsLemmas
 pub mod PageLemmas
 pub mod ValidLevels
 pub mod PrunedLevels
+pub mod FilledNames
 pub mod RowLemmas
 pub mod ValueLemmas
 pub mod FieldLemmas

@@ -4,4 +4,4 @@ mod accepted;
 mod levels;
 
 pub use accepted::Schema;
-pub use levels::{fits_are_stored_over, pruning_by_level, validity_by_level};
+pub use levels::{filling_by_name, fits_are_stored_over, pruning_by_level, validity_by_level};

@@ -1,7 +1,9 @@
 // The definitions by paths say what a walk over a value finds, level by level.
-ghost use Rattle.std.specs.Prelude.{◌≡◌, ◌↔◌};
-ghost use Rattle.jtree.specs.Data.{Data, IsTree};
-ghost use Rattle.crdx.specs.Node.{Node, IsNode};
+ghost use Rattle.std.specs.Prelude.{◌≡◌, ◌↔◌, ℕ, List, Some, None};
+ghost use Rattle.jtree.specs.Data.{Data, Members, IsTree, IsObject};
+ghost use Rattle.jtree.specs.Path.{member_at};
+ghost use Rattle.crdx.specs.Node.{Node, Fields, declared, is_nullable, IsNode};
+ghost use Rattle.crdx.specs.Filled.{filled, filled_members, standing};
 ghost use Rattle.crdx.specs.Fault.{IsValid};
 ghost use Rattle.crdx.specs.Pruned.{IsPruned};
 ghost use Rattle.crdx.specs.Stored.{IsStored};
@@ -18,6 +20,15 @@ pub fn validity_by_level()
 /// The tree whose paths are those that are not cut is, and is alone, what pruning level by level gives.
 pub fn pruning_by_level()
     ensures { (N : Node) (v w : Data) → IsTree v → IsTree w → IsPruned N v w ↔ (w ≡ pruned N v) }
+{}
+
+/// In a filled object there stands under a declared name what the node of the name makes of what stood there (nothing in
+/// place of a null that the node does not admit), and under another name what stood there.
+pub fn filling_by_name()
+    ensures declared { (fs : Fields) (ms : Members) (k : List ℕ) (M : Node) → IsObject ms → declared k fs ≡ Some M
+        → member_at k (filled_members fs ms) ≡ standing (is_nullable M) (filled M) (member_at k ms) }
+    ensures undeclared { (fs : Fields) (ms : Members) (k : List ℕ) → declared k fs ≡ None
+        → member_at k (filled_members fs ms) ≡ member_at k ms }
 {}
 
 /// A value is stored and over the pools exactly where, level by level, it is of its node's kind, its scalars are from the

@@ -1,4 +1,4 @@
-use Rattle.std.proofs.Common.{◌≡◌, ◌-◌, drop, ap, sym, subst, map, arith, Contains}
+use Rattle.std.proofs.Common.{◌++◌, ◌≡◌, ◌-◌, drop, ap, sym, subst, map, arith, Contains}
 use Rattle.std.proofs.lemmas.Result.{IfOk-weaker}
 use Rattle.crdx.specs.Node.{scalar, object, field, AreOrdered}
 use Rattle.jtree.specs.Data as tree
@@ -32,8 +32,8 @@ rows_of-fields-preserved t c =
     let values = trees_of c.in_ok-values.values.items in
     let extended = rw (c.as_slice.ensures.value, c.as_slice-in-fields.ensures.value) at c.in_ok-extended.ensures.ok in
     let more = one_field_more P f.name (node_of f.node) rest c.args.room ordered values rows c.in_ok-extended.extended.items c.in_ok-values.ensures.ok c.fields.invariant extended in
-    subst (λ fs. AreRowsOf P fs c.args.room c.append.new.self.items) (sym split)
-    (subst (λ rs. AreRowsOf P (field f.name (node_of f.node) rest) c.args.room rs) (sym c.in_ok-append.ensures.items) more)
+    let items : c.append.new.self.items ≡ rows ++ c.in_ok-extended.extended.items = c.in_ok-append.ensures.items in
+    rw (split, items) more
 
 pub values_of-returns-in-Scalar-clause-ok : goal.values_of-returns-in-Scalar-clause-ok
 values_of-returns-in-Scalar-clause-ok t c =
