@@ -2,3 +2,4 @@ pub mod Escapes
 pub mod OrderSteps
 pub mod OrderWords
 pub mod Reading
+pub mod ReadBack

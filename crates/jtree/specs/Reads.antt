@@ -4,7 +4,7 @@ use Rattle.std.specs.Str.{IsUtf8}
 use Rattle.serde_json.specs.Data as json
 use Rattle.serde_json.specs.Find.{as_i64}
 use Rattle.serde_json.specs.Read.{read}
-use Rattle.jtree.specs.Data.{Data, null, boolean, integer, text, list, object, Items, no_items, item, Members, no_members, member}
+use Rattle.jtree.specs.Data.{Data, null, boolean, integer, text, list, object, Items, no_items, item, Members, no_members, member, depth}
 
 -- the tree that a JSON value is, or none where some number is no integer of 64 bits
 abbrev mutual
@@ -43,3 +43,11 @@ IsNoJson bytes = (v : json.Data) → IsJson bytes v → ⊥
 -- `serde_json` reads a value, and some number of it is no integer of 64 bits
 abbrev pub HasOtherNumber : List ℕ → Type 0
 HasOtherNumber bytes = (v : json.Data) × IsJson bytes v × (tree_of v ≡ None)
+
+-- The deepest nesting that is read.
+abbrev pub most_depth : ℕ
+most_depth = 127
+
+-- the text reads as the tree, where the tree nests no deeper and the text is no longer than what is read
+abbrev pub ReadsBack : Data → List ℕ → Type 0
+ReadsBack d bytes = depth d ≤ most_depth → length bytes ≤ most_bytes → Reads bytes d

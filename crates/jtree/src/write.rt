@@ -3,6 +3,7 @@ ghost use Rattle.std.specs.Prelude.{◌≡◌, ◌++◌, OnOk, IfOk, IfErr, IsUt
 ghost use Rattle.json.specs.Tree.{json_tokens, items_tokens, members_tokens};
 ghost use Rattle.serde_json.specs.Written.{outline, items_outline, members_outline};
 ghost use Rattle.jtree.specs.Text.{json_of, items_json, members_json, compact};
+ghost use Rattle.jtree.specs.Reads.{ReadsBack};
 ghost use Rattle.jtree.specs.View.{data_of};
 ghost use Rattle.jtree.specs.declared.fault.JFault.TheVariants.{NoMemory};
 
@@ -14,9 +15,11 @@ use std::alloc::Global;
 impl Tree {
     /// The compact JSON text (RFC 8259): no white space, members by the bytes of their names, integers in decimal, and
     /// in texts the escapes `\"`, `\\`, `\b`, `\t`, `\n`, `\f` and `\r`, `\u00` with two lower-case digits for the other
-    /// control characters, and all else as it is. `NoMemory` where an allocation fails.
+    /// control characters, and all else as it is. It reads back to the same tree where the tree nests at most 127 deep
+    /// and the text has at most `MOST_BYTES` bytes. `NoMemory` where an allocation fails.
     pub fn to_text(&self, alloc: Global) -> Result<String, JFault>
         ensures ok { IfOk result (λ s. string_bytes s ≡ compact (data_of self.now)) }
+        ensures reads_back { IfOk result (λ s. ReadsBack (data_of self.now) (string_bytes s)) }
         ensures err { IfErr result (λ e. e ≡ NoMemory) }
     {
         let text = self.append_text(Vec::new(alloc))?;
@@ -28,8 +31,10 @@ impl Tree {
     pub fn append_text(&self, out: Vec<u8>) -> Result<Vec<u8>, JFault>
         ensures ok { IfOk result (λ v. v.items ≡ out.items ++ compact (data_of self.now)) }
         ensures utf8 { OnOk result (IsUtf8 (compact (data_of self.now))) }
+        ensures reads_back { OnOk result (ReadsBack (data_of self.now) (compact (data_of self.now))) }
         ensures err { IfErr result (λ e. e ≡ NoMemory) }
     {
+        self.is_tree();
         let mut writer = Writer::new(out);
         write_tree(self, &mut writer)?;
         Ok(writer.into_inner())

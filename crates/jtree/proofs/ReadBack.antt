@@ -1,0 +1,146 @@
+-- The compact text of a tree reads back to the tree.
+use Rattle.std.proofs.Common.{◌≡◌, ℕ, ◌^◌, ◌<◌, ◌≤◌, ℤ, pos, negsuc, List, [], Some, refl, sym, ap, ◌∙◌, subst, arith, append-nil}
+use Rattle.std.specs.Prelude.{option_map, FitsSigned}
+use Rattle.std.specs.Int.{w64}
+use Rattle.std.specs.Ordering.{ordering_reverse}
+use Rattle.std.specs.declared.cmp.Ordering.TheVariants.{Less, Greater}
+use Rattle.std.proofs.lemmas.Int.{ints}
+use Rattle.std.proofs.lemmas.Cmp.{nat_list_cmp_total}
+use Rattle.std.proofs.lemmas.Bool.Decides.{Decides-ltb}
+use Rattle.json.specs.Lex.{tokens}
+use Rattle.json.specs.Json as token
+use Rattle.json.specs.Tree.{json_tokens}
+use Rattle.json.specs.Tree as token_tree
+use Rattle.serde_json.specs.Data as json
+use Rattle.serde_json.specs.Find.{of_integer, as_i64}
+use Rattle.serde_json.specs.Read.{number_of, of_json, of_items, of_members, read, max_depth}
+use Rattle.serde_json.specs.Written.{number_text, outline, items_outline, members_outline}
+use Rattle.serde_json.proofs.Numbers.{number_of-decimal, number_of-negative}
+use Rattle.json.proofs.Printed.Trees.{value-json_tokens}
+use Rattle.jtree.specs.Data.{Data, null, boolean, integer, text, list, object, Items, no_items, item, Members, no_members, member, IsTree, AreTrees, IsBefore, IsObject, depth, items_depth, members_depth}
+use Rattle.jtree.specs.Order.{text_cmp}
+use Rattle.jtree.specs.Reads.{tree_of, items_tree, members_tree}
+use Rattle.jtree.specs.Text.{json_of, items_json, members_json}
+
+-- ---- an integer's digits read back
+
+number_reads : (z : ℤ) → FitsSigned w64 z → number_of (number_text (of_integer z)) ≡ Some (of_integer z)
+number_reads (pos n) fits = number_of-decimal n (omega (arith, ints, fits))
+number_reads (negsuc n) fits = number_of-negative n (omega (arith, ints, fits))
+
+integer_reads : (z : ℤ) → FitsSigned w64 z → as_i64 (of_integer z) ≡ Some z
+integer_reads (pos n) fits = let small : n < 2 ^ 63 = omega (arith, ints, fits) in let below = (Decides-ltb n (2 ^ 63)).1 small in rw below refl
+integer_reads (negsuc n) fits = refl
+
+-- ---- the tree of a tree's JSON value is the tree
+
+mutual
+  pub tree_of-json_of : (d : Data) → IsTree d → tree_of (json_of d) ≡ Some d
+  tree_of-json_of null t = refl
+  tree_of-json_of (boolean b) t = refl
+  tree_of-json_of (integer z) t = ap (option_map integer) (integer_reads z t)
+  tree_of-json_of (text s) t = refl
+  tree_of-json_of (list ds) t = ap (option_map list) (items_tree-json ds t)
+  tree_of-json_of (object ms) t = ap (option_map object) (members_tree-json ms t)
+
+  items_tree-json : (ds : Items) → AreTrees ds → items_tree (items_json ds) ≡ Some ds
+  items_tree-json no_items t = refl
+  items_tree-json (item d ds) t = rw (tree_of-json_of d t.0, items_tree-json ds t.1) refl
+
+  members_tree-json : (ms : Members) → IsObject ms → members_tree (members_json ms) ≡ Some ms
+  members_tree-json no_members t = refl
+  members_tree-json (member k d ms) t = rw (tree_of-json_of d t.0, members_tree-json ms t.2) refl
+
+-- ---- the tokens of a tree are those of its JSON value
+
+-- some members, and others behind them
+abbrev behind : json.Members → json.Members → json.Members
+behind json.no_members ms = ms
+behind (json.member k d front) ms = json.member k d (behind front ms)
+
+behind-none : (front : json.Members) → behind front json.no_members ≡ front
+behind-none json.no_members = refl
+behind-none (json.member k d front) = ap (json.member k d) (behind-none front)
+
+behind_behind : (front middle ms : json.Members) → behind (behind front middle) ms ≡ behind front (behind middle ms)
+behind_behind json.no_members middle ms = refl
+behind_behind (json.member k d front) middle ms = ap (json.member k d) (behind_behind front middle ms)
+
+-- all names are before this one
+abbrev AreBelow : json.Members → List ℕ → Type 0
+AreBelow json.no_members k = Unit {0}
+AreBelow (json.member l d ms) k = (text_cmp l k ≡ Less) × AreBelow ms k
+
+below_trans : (front : json.Members) (k l : List ℕ) → AreBelow front k → text_cmp k l ≡ Less → AreBelow front l
+below_trans json.no_members k l h kl = tt
+below_trans (json.member m d front) k l h kl = (nat_list_cmp_total.trans m k l h.0 kl, below_trans front k l h.1 kl)
+
+below_behind : (front : json.Members) (k l : List ℕ) (d : json.Data) → AreBelow front l → text_cmp k l ≡ Less → AreBelow (behind front (json.member k d json.no_members)) l
+below_behind json.no_members k l d h kl = (kl, tt)
+below_behind (json.member m e front) k l d h kl = (h.0, below_behind front k l d h.1 kl)
+
+put_behind : (front : json.Members) (k : List ℕ) (d : json.Data) → AreBelow front k → json.put k d front ≡ behind front (json.member k d json.no_members)
+put_behind json.no_members k d h = refl
+put_behind (json.member l e front) k d h =
+    let past : text_cmp k l ≡ Greater = nat_list_cmp_total.antisymm k l ∙ ap ordering_reverse h.0 in
+    rw past (ap (json.member l e) (put_behind front k d h.1))
+
+-- the name of the first member
+abbrev IsFirstName : List ℕ → Members → Type 0
+IsFirstName k no_members = ⊥
+IsFirstName k (member l d ms) = k ≡ l
+
+next_below : (front : json.Members) (k : List ℕ) (d : json.Data) (ms : Members) → AreBelow front k → IsBefore k ms → (l : List ℕ) → IsFirstName l ms → AreBelow (behind front (json.member k d json.no_members)) l
+next_below front k d no_members here before l first = absurd first
+next_below front k d (member m e ms) here before l first =
+    let kl : text_cmp k l ≡ Less = subst (λ n. text_cmp k n ≡ Less) (sym first) before in
+    below_behind front k l d (below_trans front k l here kl) kl
+
+mutual
+  of_json-outline : (d : Data) → IsTree d → of_json (outline (json_of d)) ≡ Some (json_of d)
+  of_json-outline null t = refl
+  of_json-outline (boolean b) t = refl
+  of_json-outline (integer z) t = ap (option_map json.number) (number_reads z t)
+  of_json-outline (text s) t = refl
+  of_json-outline (list ds) t = ap (option_map json.array) (of_items-outline ds t)
+  of_json-outline (object ms) t = ap (option_map json.object) (of_members-outline json.no_members ms (λ k first. tt) t)
+
+  of_items-outline : (ds : Items) → AreTrees ds → of_items (items_outline (items_json ds)) ≡ Some (items_json ds)
+  of_items-outline no_items t = refl
+  of_items-outline (item d ds) t = rw (of_json-outline d t.0, of_items-outline ds t.1) refl
+
+  -- the members go in one behind another
+  of_members-outline : (front : json.Members) (ms : Members) → ((k : List ℕ) → IsFirstName k ms → AreBelow front k) → IsObject ms → of_members (members_outline (members_json ms)) front ≡ Some (behind front (members_json ms))
+  of_members-outline front no_members h t = ap Some (sym (behind-none front))
+  of_members-outline front (member k d ms) h t =
+      let here = h k refl in
+      let step : of_members (members_outline (members_json (member k d ms))) front ≡ of_members (members_outline (members_json ms)) (json.put k (json_of d) front) = rw (of_json-outline d t.0) refl in
+      let next = of_members-outline (behind front (json.member k (json_of d) json.no_members)) ms (next_below front k (json_of d) ms here t.1) t.2 in
+      step ∙ (ap (of_members (members_outline (members_json ms))) (put_behind front k (json_of d) here) ∙ (next ∙ ap Some (behind_behind front (json.member k (json_of d) json.no_members) (members_json ms))))
+
+-- ---- and nest as deep
+
+mutual
+  outline_depth : (d : Data) → token_tree.depth (outline (json_of d)) ≤ depth d
+  outline_depth null = omega arith
+  outline_depth (boolean b) = omega arith
+  outline_depth (integer z) = omega arith
+  outline_depth (text s) = omega arith
+  outline_depth (list ds) = omega (arith, items_outline_depth ds)
+  outline_depth (object ms) = omega (arith, members_outline_depth ms)
+
+  items_outline_depth : (ds : Items) → token_tree.items_depth (items_outline (items_json ds)) ≤ items_depth ds
+  items_outline_depth no_items = omega arith
+  items_outline_depth (item d ds) = omega (arith, outline_depth d, items_outline_depth ds)
+
+  members_outline_depth : (ms : Members) → token_tree.members_depth (members_outline (members_json ms)) ≤ members_depth ms
+  members_outline_depth no_members = omega arith
+  members_outline_depth (member k d ms) = omega (arith, outline_depth d, members_outline_depth ms)
+
+-- a text with the tokens of a tree reads as the tree's JSON value
+pub read_back : (d : Data) (bytes : List ℕ) → IsTree d → depth d ≤ max_depth → tokens bytes ≡ json_tokens (outline (json_of d)) → read bytes ≡ Some (json_of d)
+read_back d bytes t shallow same =
+    let tree = outline (json_of d) in
+    let whole : token.value max_depth (tokens bytes) ≡ Some (tree, []) =
+    ap (token.value max_depth) (same ∙ sym (append-nil (json_tokens tree))) ∙ value-json_tokens tree max_depth [] (omega (arith, outline_depth d)) in
+    rw whole (of_json-outline d t)
