@@ -1,8 +1,8 @@
 -- What stands under each name of a filled object.
-use Rattle.std.proofs.Common.{◌≡◌, ◌⊎◌, ℕ, List, [], ◌∷◌, Bool, true, false, Option, Some, None, refl, sym, ap, ◌∙◌, subst, inl, inr}
+use Rattle.std.proofs.Common.{◌≡◌, ℕ, List, Bool, true, false, Option, Some, None, refl, sym, ap, ◌∙◌, subst, inl, inr}
 use Rattle.std.specs.Prelude.{IfSome}
 use Rattle.std.specs.Str.{bytes_eq}
-use Rattle.std.specs.declared.cmp.Ordering.TheVariants.{Less, Equal, Greater}
+use Rattle.std.specs.declared.cmp.Ordering.TheVariants.{Less, Greater}
 use Rattle.std.specs.Ordering.{ordering_reverse}
 use Rattle.std.proofs.lemmas.Cmp.{nat_list_cmp_total}
 use Rattle.std.proofs.lemmas.Map.Lookups.{exact_bytes}
@@ -13,7 +13,7 @@ use Rattle.jtree.specs.Order.{text_cmp}
 use Rattle.jtree.specs.Path.{member_at}
 use Rattle.crdx.specs.Node.{Node, scalar, object, Fields, no_fields, field, declared, is_nullable}
 use Rattle.crdx.specs.Filled.{filled, filled_members, replaced, without, with_member, standing}
-use Rattle.crdx.proofs.Names.{bool_cases, option_cases, ordering_cases, same_name, own_name, member_first, member_later, before_none, IsBefore-trans, later_name, earlier_name, past_name, declared_later, declared_first}
+use Rattle.crdx.proofs.Names.{bool_cases, option_cases, ordering_cases, same_name, member_first, member_later, before_none, IsBefore-trans, past_name, declared_later}
 use Rattle.crdx.proofs.FitsLemmas.{member_tree}
 
 before_of : (k l : List ℕ) → text_cmp k l ≡ Greater → text_cmp l k ≡ Less

@@ -1,4 +1,4 @@
-ghost use Rattle.std.specs.Prelude.{◌≡◌, ◌⊎◌, ◌↔◌, ℕ, List, Bool, Option, Err, IfOk, IfErr, OnOk, IfSome, IsSomeAnd, IsTrue};
+ghost use Rattle.std.specs.Prelude.{◌≡◌, ◌⊎◌, ◌↔◌, ℕ, List, Bool, Option, Err, IfOk, IfErr, OnOk, IfSome, IsSomeAnd, IsTrue, Contains};
 ghost use Rattle.std.specs.List.Sorted.{IsSorted};
 ghost use Rattle.std.specs.Ordering.{on};
 ghost use Rattle.jtree.specs.Data.{Data};
@@ -30,11 +30,18 @@ pub fn page(alloc: Global, plan: &Plan, after: Option<&Tree>, count: u32) -> Res
     let mut all = samples(alloc, plan)?;
     all.sort()?;
     if let Some(tree) = after {
-        if !all.as_slice().contains(tree) {
+        if !is_among(all.as_slice(), tree) {
             return Err(EFault::NotASample);
         }
     }
     first_past(alloc, all.as_slice(), after, count)
+}
+
+/// Whether the tree is one of the trees.
+fn is_among(trees: &[Tree], tree: &Tree) -> bool
+    ensures { IsTrue result ↔ Contains (trees_of trees.now) (data_of tree.now) }
+{
+    trees.contains(tree)
 }
 
 /// Whether the tree comes next behind the items, or behind `after` where there is none yet.

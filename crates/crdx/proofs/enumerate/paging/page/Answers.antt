@@ -1,4 +1,4 @@
-use Rattle.std.proofs.Common.{sym, ◌∙◌, subst}
+use Rattle.std.proofs.Common.{Contains, sym, ◌∙◌, subst}
 use Rattle.std.specs.Prelude.{IfSome}
 use Rattle.std.proofs.lemmas.Result.{IfOk-weaker}
 use Rattle.jtree.specs.View.{data_of}
@@ -6,19 +6,19 @@ use Rattle.crdx.specs.Handed.{handed}
 use Rattle.crdx.specs.Sample.{IsSample}
 use Rattle.crdx.specs.Page.{IsPage}
 use Rattle.crdx.specs.Values.{trees_of, AreSamples}
-use Rattle.crdx.proofs.PageBuild.{sorted_samples, found_tree, absent_tree, on_ok_always}
+use Rattle.crdx.proofs.PageBuild.{sorted_samples, on_ok_always}
 use Rattle.crdx.proofs.enumerate.paging.page.Goals as goal
-use Rattle.crdx.proofs.enumerate.paging.page.Goals.{in-Some+else-not-contains, in_default}
+use Rattle.crdx.proofs.enumerate.paging.page.Goals.{in-Some+else-not-is_among, in_default}
 
-pub returns-then-not-contains-clause-not_a_sample : goal.returns-then-not-contains-clause-not_a_sample
-returns-then-not-contains-clause-not_a_sample c = λ e.
+pub returns-then-not-is_among-clause-not_a_sample : goal.returns-then-not-is_among-clause-not_a_sample
+returns-then-not-is_among-clause-not_a_sample c = λ e.
     let q = c.args.plan.now in
     let sorted = c.sort.new.self.items in
-    let t = c.in-Some.tree.now in
+    let t = data_of c.in-Some.tree.now in
     let are : AreSamples q (trees_of sorted) = sorted_samples q c.in_ok-all.all.items sorted c.in_ok-sort.ensures.permutation c.in_ok-all.ensures.ok in
-    let absent = sym c.contains.ensures.value ∙ c.if-not-contains.true in
-    let here = rw c.as_slice.ensures.value at absent in
-    rw c.in-Some.is (λ s. absent_tree sorted t here ((are (data_of t)).1 s))
+    rw c.in-Some.is (λ s.
+    let listed : Contains (trees_of c.as_slice.result.now) t = subst (λ us. Contains (trees_of us) t) (sym c.as_slice.ensures.value) ((are t).1 s) in
+    let answers = sym (c.is_among.ensures.1 listed) ∙ c.if-not-is_among.true in cc)
 
 pub returns-clause-page : goal.returns-clause-page
 returns-clause-page c =
@@ -34,10 +34,9 @@ returns-clause-sample c =
     let sorted = c.sort.new.self.items in
     let are : AreSamples q (trees_of sorted) = sorted_samples q c.in_ok-all.all.items sorted c.in_ok-sort.ensures.permutation c.in_ok-all.ensures.ok in
     on_ok_always c.first_past.result (IfSome (handed c.args.after) (λ a. IsSample q a)) (elim c.match-after.branch [
-      | in-Some+else-not-contains w ↦
-          let t = w.in-Some.tree.now in
-          let found = sym w.contains.ensures.value ∙ w.if-not-contains.false in
-          let here = rw w.as_slice.ensures.value at found in
-          rw w.in-Some.is ((are (data_of t)).0 (found_tree sorted t here))
+      | in-Some+else-not-is_among w ↦
+          let t = data_of w.in-Some.tree.now in
+          let listed : Contains (trees_of sorted) t = subst (λ us. Contains (trees_of us) t) w.as_slice.ensures.value (w.is_among.ensures.0 w.if-not-is_among.false) in
+          rw w.in-Some.is ((are t).0 listed)
       | in_default w ↦ rw w.in_default.is tt
     ])
