@@ -6,3 +6,4 @@ pub mod ValueLemmas
 pub mod FieldLemmas
 pub mod SampleLemmas
 pub mod PageBuild
+pub mod WrittenLemmas
