@@ -6,6 +6,6 @@ use Rattle.crdx.proofs.walk.blocks.block_of.Given as goal
 
 abbrev pub invariant-loop-tree : goal.invariant-loop-tree
 invariant-loop-tree l = record {
-    written : l.bytes.items ≡ lines (trees_of (take l.tree-index l.trees));
-    ended : HasEnds (trees_of (take l.tree-index l.trees)) l.ends.items
-  }
+  written : l.bytes.items ≡ lines (trees_of (take l.tree-index l.trees));
+  ended : HasEnds (trees_of (take l.tree-index l.trees)) l.ends.items;
+}
