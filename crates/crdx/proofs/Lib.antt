@@ -9,3 +9,4 @@ pub mod ValueLemmas
 pub mod FieldLemmas
 pub mod SampleLemmas
 pub mod PageBuild
+pub mod WrittenLemmas

@@ -20,3 +20,8 @@ pub mod Page
 pub mod Line
 pub mod Handed
 pub mod Building
+pub mod Sink
+pub mod Block
+pub mod Stopped
+pub mod Stopping
+pub mod Walk

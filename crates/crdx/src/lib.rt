@@ -4,4 +4,6 @@
 pub mod enumerate;
 pub mod plan;
 pub mod schema;
+pub mod sink;
 pub mod stored;
+pub mod walk;

@@ -1,0 +1,11 @@
+use Rattle.std.proofs.Common.{◌≡◌, take}
+use Rattle.crdx.specs.Block.{HasEnds}
+use Rattle.crdx.specs.Line.{lines}
+use Rattle.crdx.specs.Values.{trees_of}
+use Rattle.crdx.proofs.walk.blocks.block_of.Given as goal
+
+abbrev pub invariant-loop-tree : goal.invariant-loop-tree
+invariant-loop-tree l = record {
+  written : l.bytes.items ≡ lines (trees_of (take l.tree-index l.trees));
+  ended : HasEnds (trees_of (take l.tree-index l.trees)) l.ends.items;
+}
