@@ -1,10 +1,11 @@
 //! JSON trees with integers only: their order, their text, and pointers into them.
 #![tactic(auto)]
 
-mod nodes;
-mod order;
 mod copy;
 mod fault;
+mod nodes;
+mod order;
+mod parts;
 mod pointer;
 mod read;
 #[cfg(test)]
@@ -13,7 +14,7 @@ mod value;
 mod write;
 
 pub use fault::JFault;
+pub use order::{order_in_words, order_is_total};
 pub use pointer::{push_index, push_name};
 pub use read::MOST_BYTES;
-pub use order::{order_in_words, order_is_total};
 pub use value::{Items, Member, Members, Text, Tree};
