@@ -5,3 +5,4 @@ pub mod RowLemmas
 pub mod ValueLemmas
 pub mod FieldLemmas
 pub mod SampleLemmas
+pub mod PoolLemmas
