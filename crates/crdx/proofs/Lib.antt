@@ -10,3 +10,4 @@ pub mod FieldLemmas
 pub mod SampleLemmas
 pub mod PageBuild
 pub mod WrittenLemmas
+pub mod PoolLemmas

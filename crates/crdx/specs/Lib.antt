@@ -11,6 +11,8 @@ pub mod Pruned
 pub mod Filled
 pub mod Stored
 pub mod Pools
+pub mod PoolFault
+pub mod PoolForm
 pub mod Over
 pub mod Fits
 pub mod ByLevel

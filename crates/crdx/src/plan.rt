@@ -2,6 +2,7 @@
 
 mod fault;
 mod planning;
+mod pool_form;
 mod pool_lists;
 
 pub use fault::PFault;

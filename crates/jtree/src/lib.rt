@@ -5,6 +5,7 @@ mod copy;
 mod fault;
 mod nodes;
 mod order;
+mod parts;
 mod pointer;
 mod read;
 #[cfg(test)]

@@ -1,10 +1,15 @@
+ghost use Rattle.std.specs.Prelude.{◌≡◌};
+ghost use Rattle.crdx.specs.declared.plan.fault.PFault.TheVariants.{NoMemory};
+
+use jtree::JFault;
+use std::alloc::{AllocError, AllocFailed};
 use thiserror::Error;
 
-/// Why a pools document or a node limit was refused.
+/// Why a pools document or a node limit was refused. Each is displayed as its code.
 #[derive(Debug, Drop, Error)]
 pub enum PFault {
     /// What stands at the pointer (RFC 6901) has not the form that it has to have there.
-    #[error("P1 {0:?}")]
+    #[error("P1")]
     Form(String),
     /// A pool has more entries than a pool may have.
     #[error("P2")]
@@ -15,4 +20,29 @@ pub enum PFault {
     /// The node limit is not 1 to 63.
     #[error("P4")]
     BadLimit,
+}
+
+// A pointer is written, or memory is wanting.
+impl From<JFault> for PFault {
+    ghost from_gives = { λ _ e. e ≡ NoMemory };
+
+    fn from(_refused: JFault) -> PFault {
+        PFault::NoMemory
+    }
+}
+
+impl From<AllocError> for PFault {
+    ghost from_gives = { λ _ e. e ≡ NoMemory };
+
+    fn from(_refused: AllocError) -> PFault {
+        PFault::NoMemory
+    }
+}
+
+impl<T: Drop> From<AllocFailed<T>> for PFault {
+    ghost from_gives = { λ _ e. e ≡ NoMemory };
+
+    fn from(_refused: AllocFailed<T>) -> PFault {
+        PFault::NoMemory
+    }
 }
