@@ -7,3 +7,4 @@ pub mod FieldLemmas
 pub mod SampleLemmas
 pub mod PageBuild
 pub mod WrittenLemmas
+pub mod InputLemmas
