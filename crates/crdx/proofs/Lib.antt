@@ -11,3 +11,4 @@ pub mod SampleLemmas
 pub mod PageBuild
 pub mod WrittenLemmas
 pub mod PoolLemmas
+pub mod InputLemmas

@@ -2,8 +2,13 @@
 #![tactic(auto)]
 
 pub mod enumerate;
+pub mod inputs;
 pub mod plan;
+mod running;
 pub mod schema;
 pub mod sink;
 pub mod stored;
 pub mod walk;
+pub mod words;
+
+pub use running::run;

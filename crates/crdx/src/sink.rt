@@ -1,8 +1,8 @@
 //! Where bytes go, and what is known of them.
 
-ghost use Rattle.std.specs.Prelude.{◌≡◌, ◌≤◌, ℕ, List, Option, length, IfOk, IfErr, OnOk};
-ghost use Rattle.std.specs.Io.KnownBytes.{WriteAppends, Keeps};
-ghost use Rattle.crdx.specs.Sink.{failures_after, one_more};
+ghost use Rattle.std.specs.Prelude.{◌≡◌, ◌<◌, ◌≤◌, ℕ, List, Option, length, take, IfOk, IfErr, OnOk};
+ghost use Rattle.std.specs.Io.KnownBytes.{WriteAppends, Appends, Keeps};
+ghost use Rattle.crdx.specs.Sink.{failures_after, one_more, HasFailed};
 
 use std::io::Write;
 use thiserror::Error;
@@ -86,4 +86,23 @@ impl<T: Write> Sink for Plain<T> {
             }
         }
     }
+}
+
+/// Puts out all the bytes, in as many calls as the sink needs; on an error, how many it took.
+pub fn put_all<W: Sink>(sink: &mut W, bytes: &[u8]) -> Result<(), usize>
+    ensures ok { OnOk result (Appends (W.taken sink.old) (W.taken sink.new) bytes.now) }
+    ensures unfailed { OnOk result (W.failures sink.new ≡ W.failures sink.old) }
+    ensures fewer { IfErr result (λ n. n < length bytes.now) }
+    ensures part { IfErr result (λ n. Appends (W.taken sink.old) (W.taken sink.new) (take n bytes.now)) }
+    ensures failed { IfErr result (λ _. HasFailed (W.failures sink.old) (W.failures sink.new)) }
+{
+    let mut at = 0;
+    'put: while at < bytes.len() {
+        match sink.put(&bytes[at..]) {
+            Ok(0) => return Err(at),
+            Ok(n) => at += n,
+            Err(_) => return Err(at),
+        }
+    }
+    Ok(())
 }

@@ -1,12 +1,9 @@
 // Lines put together to blocks, so that one call of the sink takes many of them.
-ghost use Rattle.std.specs.Prelude.{◌≡◌, ◌≤◌, ◌<◌, ℕ, length, take, IfOk, IfErr, OnOk, slice_index};
-ghost use Rattle.std.specs.Io.KnownBytes.{Appends};
+ghost use Rattle.std.specs.Prelude.{◌≡◌, IfOk};
 ghost use Rattle.crdx.specs.Line.{lines};
 ghost use Rattle.crdx.specs.Block.{HasEnds, IsCountOfEnds};
-ghost use Rattle.crdx.specs.Sink.{HasFailed};
 ghost use Rattle.crdx.specs.Values.{trees_of};
 
-use crate::sink::Sink;
 use jtree::{JFault, Tree};
 use std::alloc::Global;
 
@@ -42,23 +39,4 @@ pub(crate) fn whole_lines(ends: &[usize], taken: usize) -> usize
         }
     }
     ends.len()
-}
-
-/// Puts out all the bytes, in as many calls as the sink needs; on an error, how many it took.
-pub(crate) fn put_all<W: Sink>(sink: &mut W, bytes: &[u8]) -> Result<(), usize>
-    ensures ok { OnOk result (Appends (W.taken sink.old) (W.taken sink.new) bytes.now) }
-    ensures unfailed { OnOk result (W.failures sink.new ≡ W.failures sink.old) }
-    ensures fewer { IfErr result (λ n. n < length bytes.now) }
-    ensures part { IfErr result (λ n. Appends (W.taken sink.old) (W.taken sink.new) (take n bytes.now)) }
-    ensures failed { IfErr result (λ _. HasFailed (W.failures sink.old) (W.failures sink.new)) }
-{
-    let mut at = 0;
-    'put: while at < bytes.len() {
-        match sink.put(&bytes[at..]) {
-            Ok(0) => return Err(at),
-            Ok(n) => at += n,
-            Err(_) => return Err(at),
-        }
-    }
-    Ok(())
 }

@@ -10,8 +10,8 @@ ghost use Rattle.crdx.specs.Stopping.{StopsAt};
 
 use crate::enumerate::{EFault, page};
 use crate::plan::Plan;
-use crate::sink::Sink;
-use crate::walk::blocks::{block_of, put_all, whole_lines};
+use crate::sink::{Sink, put_all};
+use crate::walk::blocks::{block_of, whole_lines};
 use crate::walk::fault::WFault;
 use jtree::Tree;
 use std::alloc::Global;

@@ -1,6 +1,6 @@
 use Rattle.std.proofs.Common.{◌≡◌, ◌≤◌, ◌-◌, length, take}
 use Rattle.std.specs.Io.KnownBytes.{Appends}
-use Rattle.crdx.proofs.walk.blocks.put_all.Given as goal
+use Rattle.crdx.proofs.sink.put_all.Given as goal
 
 abbrev pub invariant-put : goal.invariant-put
 invariant-put g l = record {

@@ -1,7 +1,7 @@
 use Rattle.std.proofs.Common.{◌∙◌}
 use Rattle.crdx.specs.declared.sink.SinkFault.{SinkFault}
 use Rattle.crdx.proofs.WrittenLemmas.{took_some, put_within, put_more}
-use Rattle.crdx.proofs.walk.blocks.put_all.Goals as goal
+use Rattle.crdx.proofs.sink.put_all.Goals as goal
 
 pub put-preserved : goal.put-preserved
 put-preserved g c =

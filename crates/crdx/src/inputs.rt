@@ -1,0 +1,87 @@
+//! Where documents come from.
+
+ghost use Rattle.std.specs.Prelude.{◌≡◌, ◌≢◌, ◌⊎◌, ◌<◌, length, Err, IfOk, IfSome};
+ghost use Rattle.jtree.specs.Reads.{Reads, most_bytes};
+ghost use Rattle.jtree.specs.View.{data_of};
+ghost use Rattle.jtree.specs.declared.fault.JFault.TheVariants.{TooLong, NoMemory};
+ghost use Rattle.crdx.specs.declared.inputs.InFault.TheVariants.{Failed, Document};
+
+use jtree::{JFault, MOST_BYTES, Tree};
+use std::alloc::Global;
+use std::fs;
+use std::io::{ErrorKind, Read};
+use std::rt::Files;
+use thiserror::Error;
+
+/// Why no document was read.
+#[derive(Clone, Copy, Debug, PartialEq, Eq, Drop, Error)]
+pub enum InFault {
+    /// The file could not be opened, or it or the standard input could not be read.
+    #[error("could not be read")]
+    Failed,
+    /// What was read is no document, or an allocation failed.
+    #[error("{0}")]
+    Document(JFault),
+}
+
+/// A place that has documents.
+pub trait Inputs {
+    /// The document of the file of this name, or of the standard input where there is no name.
+    ///
+    /// `Failed` where it cannot be opened or read, and `Document` where it is no document, or where memory is wanted.
+    fn tree(&mut self, name: Option<&str>) -> Result<Tree, InFault>;
+}
+
+/// The files and the standard input of a runtime.
+#[derive(Drop)]
+pub struct Outside<'a, R> {
+    rt: &'a R,
+}
+
+impl<'a, R> Outside<'a, R> {
+    /// The files and the standard input of this runtime.
+    pub fn new(rt: &'a R) -> Outside<'a, R> {
+        Outside { rt }
+    }
+}
+
+impl<R: Files + Input + AllocGlobal> Inputs for Outside<'_, R> {
+    fn tree(&mut self, name: Option<&str>) -> Result<Tree, InFault> {
+        let alloc = self.rt.alloc();
+        match name {
+            Some(name) => match fs::open(self.rt, name) {
+                Ok(mut file) => read_document(alloc, &mut file),
+                Err(error) => Err(fault_of(error.kind())),
+            },
+            None => read_document(alloc, &mut self.rt.reader()),
+        }
+    }
+}
+
+/// The document that is all that the reader has left. Of a document that is too long no more is read than tells so.
+fn read_document<R: Read>(alloc: Global, reader: &mut R) -> Result<Tree, InFault>
+    ensures ok { IfOk result (λ t. IfSome (R.remaining reader.old) (λ bytes. Reads bytes (data_of t))) }
+    ensures too_long { result ≡ Err (Document TooLong)
+        → IfSome (R.remaining reader.old) (λ bytes. most_bytes < length bytes) }
+{
+    let mut bytes = Vec::new(alloc);
+    match reader.take(MOST_BYTES as u64 + 1).read_to_end(&mut bytes) {
+        Ok(_) => match Tree::from_bytes(alloc, bytes.as_slice()) {
+            Ok(tree) => Ok(tree),
+            Err(fault) => Err(InFault::Document(fault)),
+        },
+        Err(error) => Err(fault_of(error.kind())),
+    }
+}
+
+/// A read that lacks memory is told apart from one that fails.
+fn fault_of(kind: ErrorKind) -> InFault
+    ensures memory { kind ≡ ErrorKind.OutOfMemory → result ≡ Document NoMemory }
+    ensures other { kind ≢ ErrorKind.OutOfMemory → result ≡ Failed }
+    ensures either { (result ≡ Failed) ⊎ (result ≡ Document NoMemory) }
+{
+    match kind {
+        ErrorKind::OutOfMemory => InFault::Document(JFault::NoMemory),
+        _ => InFault::Failed,
+    }
+}
