@@ -6,3 +6,5 @@ pub mod ValueLemmas
 pub mod FieldLemmas
 pub mod SampleLemmas
 pub mod PoolLemmas
+pub mod VersionLemmas
+pub mod CrdLemmas

@@ -1,5 +1,7 @@
 //! Accepted schemas.
 
 mod accepted;
+mod refused;
 
 pub use accepted::Schema;
+pub use refused::Refused;
