@@ -3,6 +3,7 @@ pub mod NodeCode
 pub mod NodeView
 pub mod NodeFalls
 pub mod Crd
+pub mod Versions
 pub mod Place
 pub mod Accepted
 pub mod Leads

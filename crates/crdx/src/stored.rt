@@ -2,6 +2,8 @@
 
 mod accepted;
 mod levels;
+mod refused;
 
 pub use accepted::Schema;
 pub use levels::{filling_by_name, fits_are_stored_over, pruning_by_level, validity_by_level};
+pub use refused::Refused;

@@ -1,0 +1,40 @@
+use jtree::Tree;
+use std::marker::Model;
+
+/// The schema of a version as it stands in the document, which a contract sees as its data.
+#[derive(Drop)]
+pub struct RawSchema {
+    tree: Tree,
+}
+
+impl Model for RawSchema {
+    ghost use Rattle.jtree.specs.Data.{Data};
+    ghost use Rattle.jtree.specs.Code.{data_coded};
+
+    ghost Value = { Data };
+
+    ghost coded = { data_coded };
+
+    ghost use Rattle.jtree.specs.View.{data_of};
+
+    ghost view = { λ a. data_of a.tree };
+}
+
+impl RawSchema {
+    ghost use Rattle.std.specs.Prelude.{◌≡◌};
+    ghost use Rattle.jtree.specs.View.{data_of};
+
+    /// The raw schema that a tree is.
+    pub(crate) fn new(tree: Tree) -> RawSchema
+        ensures { result ≡ data_of tree }
+    {
+        RawSchema { tree }
+    }
+
+    /// The tree of the schema.
+    pub fn tree(&self) -> &Tree
+        ensures { data_of result.now ≡ self.now }
+    {
+        &self.tree
+    }
+}
