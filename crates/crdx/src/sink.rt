@@ -55,6 +55,14 @@ impl<T: Write> Plain<T> {
             failures: 0,
         }
     }
+
+    fn count_failure(&mut self) -> SinkFault
+        ensures writer { self.new.writer ≡ self.old.writer }
+        ensures failures { self.new.failures ≡ one_more self.old.failures }
+    {
+        self.failures = self.failures.saturating_add(1);
+        SinkFault::Failed
+    }
 }
 
 impl<T: Write> Sink for Plain<T> {
@@ -66,14 +74,11 @@ impl<T: Write> Sink for Plain<T> {
         match self.writer.write(bytes) {
             Ok(n) => {
                 if n == 0 && !bytes.is_empty() {
-                    self.failures = self.failures.saturating_add(1);
+                    let _ = self.count_failure();
                 }
                 Ok(n)
             }
-            Err(_) => {
-                self.failures = self.failures.saturating_add(1);
-                Err(SinkFault::Failed)
-            }
+            Err(_) => Err(self.count_failure()),
         }
     }
 
@@ -81,8 +86,8 @@ impl<T: Write> Sink for Plain<T> {
         match self.writer.flush() {
             Ok(()) => Ok(()),
             Err(_) => {
-                self.failures = self.failures.saturating_add(1);
-                Err(SinkFault::Failed)
+                let fault = self.count_failure();
+                Err(fault)
             }
         }
     }

@@ -53,7 +53,7 @@ pub fn parse_words<'a>(alloc: Global, words: &'a [String]) -> Outcome<'a> {
     match matches_of(alloc, words) {
         Ok(matches) => match matches.subcommand_matches("sample") {
             Some(sample) => Outcome::Sample(sample_words(sample)),
-            None => Outcome::NoMemory,
+            None => mistake(alloc, "error: no command\n"),
         },
         Err(error) => outcome_of(alloc, &error),
     }
@@ -133,6 +133,13 @@ fn outcome_of<'a>(alloc: Global, error: &Error) -> Outcome<'a> {
     match error.to_string(alloc) {
         Ok(text) if error.use_stderr() => Outcome::Mistake(text),
         Ok(text) => Outcome::Help(text),
+        Err(_) => Outcome::NoMemory,
+    }
+}
+
+fn mistake<'a>(alloc: Global, text: &str) -> Outcome<'a> {
+    match String::from_str(alloc, text) {
+        Ok(text) => Outcome::Mistake(text),
         Err(_) => Outcome::NoMemory,
     }
 }
