@@ -8,3 +8,4 @@ pub mod SampleLemmas
 pub mod PoolLemmas
 pub mod VersionLemmas
 pub mod CrdLemmas
+pub mod ShapeLemmas
