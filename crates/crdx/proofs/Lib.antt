@@ -14,3 +14,4 @@ pub mod PoolLemmas
 pub mod InputLemmas
 pub mod VersionLemmas
 pub mod CrdLemmas
+pub mod ShapeLemmas

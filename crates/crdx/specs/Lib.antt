@@ -6,6 +6,8 @@ pub mod Crd
 pub mod Versions
 pub mod Place
 pub mod Accepted
+pub mod Refusal
+pub mod Acceptance
 pub mod Leads
 pub mod Fault
 pub mod Pruned

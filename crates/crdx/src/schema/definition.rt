@@ -1,15 +1,15 @@
 // Reads a CustomResourceDefinition (apiextensions.k8s.io/v1).
 ghost use Rattle.std.specs.Prelude.{◌≡◌, ◌≢◌, ◌↔◌, ℕ, List, [], None, Some, Err, option_map, codes, IfOk, IfSome, IsTrue};
-ghost use Rattle.jtree.specs.Data.{Items as ItemsData, text as text_of, list as list_of};
+ghost use Rattle.jtree.specs.Data.{Data, Items as ItemsData, text as text_of};
 ghost use Rattle.jtree.specs.View.{data_of};
-ghost use Rattle.crdx.specs.Node.{is_object};
-ghost use Rattle.crdx.specs.Crd.{under, under2, under3, IsRead, IsNoCrd, LacksVersion, IsSchemaOf};
+ghost use Rattle.crdx.specs.Crd.{under2, under3, IsRead, IsNoCrd, LacksVersion, IsSchemaOf};
 ghost use Rattle.crdx.specs.Versions.{HasHeader, IsHead};
 ghost use Rattle.crdx.specs.declared.schema.fault.SFault.TheVariants.{NotACrd, NoSuchVersion};
 
 use crate::schema::fault::SFault;
 use crate::schema::raw::RawSchema;
-use crate::schema::versions::{select, text_under};
+use crate::schema::texts::has_text;
+use crate::schema::versions::select;
 use jtree::{Items, Text, Tree};
 use std::alloc::Global;
 
@@ -95,15 +95,6 @@ fn has_header(document: &Tree) -> bool
         && has_text(document, "kind", "CustomResourceDefinition")
 }
 
-fn has_text(tree: &Tree, name: &str, text: &str) -> bool
-    ensures { IsTrue result ↔ (under (data_of tree.now) name.now ≡ Some (text_of text.now)) }
-{
-    match text_under(tree, name) {
-        Some(found) => found == text,
-        None => false,
-    }
-}
-
 /// What stands under a name below another.
 fn part_below<'a>(tree: &'a Tree, outer: &str, inner: &str) -> Option<&'a Tree>
     ensures { option_map (λ t. data_of t.now) result ≡ under2 (data_of tree.now) outer.now inner.now }
@@ -142,7 +133,7 @@ fn given_text(part: Option<&Tree>) -> Option<&str>
 /// The object at `schema.openAPIV3Schema` of a version.
 fn schema_of(version: &Tree) -> Option<&Tree>
     ensures some { IfSome result (λ s. IsSchemaOf (data_of version.now) (data_of s.now)) }
-    ensures none { result ≡ None → (s : _) → IsSchemaOf (data_of version.now) s → ⊥ }
+    ensures none { result ≡ None → (s : Data) → IsSchemaOf (data_of version.now) s → ⊥ }
 {
     let part = part_below(version, "schema", "openAPIV3Schema");
     match part {

@@ -1,25 +1,13 @@
 // The versions of a CustomResourceDefinition by their names.
-ghost use Rattle.std.specs.Prelude.{◌≡◌, None, option_map, OnOk, IfOk, IfErr, IfSome, ℕ, List};
-ghost use Rattle.jtree.specs.Data.{text as text_of};
+ghost use Rattle.std.specs.Prelude.{◌≡◌, option_map, OnOk, IfOk, IfErr};
 ghost use Rattle.jtree.specs.View.{data_of};
-ghost use Rattle.crdx.specs.Crd.{under};
 ghost use Rattle.crdx.specs.Versions.{AreVersions, IsSelected, IsVersionsFault};
 
 use crate::schema::fault::SFault;
+use crate::schema::texts::text_under;
 use jtree::{Items, Tree};
 use std::alloc::Global;
 use std::collections::BTreeMap;
-
-/// The text under a name.
-pub(crate) fn text_under<'a>(tree: &'a Tree, name: &str) -> Option<&'a str>
-    ensures some { IfSome result (λ s. under (data_of tree.now) name.now ≡ Some (text_of s.now)) }
-    ensures none { result ≡ None → (s : List ℕ) → under (data_of tree.now) name.now ≡ Some (text_of s) → ⊥ }
-{
-    match tree.get(name) {
-        Some(Tree::Text(text)) => Some(text.as_str()),
-        _ => None,
-    }
-}
 
 /// The version of a name, where each version has a text `name` and no name stands twice. `NotACrd` where this is not so.
 pub(crate) fn select<'a>(

@@ -24,6 +24,13 @@ impl Schema {
     ghost use Rattle.std.specs.Prelude.{◌≡◌};
     ghost use Rattle.crdx.specs.NodeView.{node_of};
 
+    /// The schema with this root.
+    pub(crate) fn new(root: Node) -> Schema
+        ensures { result ≡ node_of root }
+    {
+        Schema { root }
+    }
+
     /// The node of the whole resource.
     pub fn root(&self) -> &Node
         ensures { node_of result.now ≡ self.now }
