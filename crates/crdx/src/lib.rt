@@ -4,6 +4,8 @@
 pub mod enumerate;
 pub mod inputs;
 pub mod plan;
+#[cfg(test)]
+mod rows;
 mod running;
 pub mod schema;
 pub mod sink;

@@ -1,11 +1,116 @@
-ghost use Rattle.std.specs.Prelude.{◌≡◌};
+//! The whole program.
 
-use crate::inputs::Inputs;
+use crate::inputs::{InFault, Inputs};
+use crate::plan::{PFault, Plan, Pools};
+use crate::schema::{SFault, read_crd};
 use crate::sink::{Sink, put_all};
-use crate::words::{Outcome, parse_words};
-use std::alloc::Global;
+use crate::stored::{Refused, Schema, accept};
+use crate::walk::{WFault, Walked, walk};
+use crate::words::{Outcome, SampleWords, parse_words};
+use jtree::{JFault, Text, Tree};
+use std::alloc::{AllocError, Global};
+use std::fmt;
 
-/// Does what the words ask for, of which the first is the program's name, and answers the status to end with.
+/// An input of the program.
+#[derive(Clone, Copy, Drop)]
+enum Input {
+    Crd,
+    Pools,
+}
+
+impl fmt::Display for Input {
+    fn fmt<W: fmt::Write>(&self, f: &mut fmt::Formatter<W>) -> fmt::Result {
+        match self {
+            Input::Crd => write!(f, "crd"),
+            Input::Pools => write!(f, "pools"),
+        }
+    }
+}
+
+/// Why a run has no answer.
+#[derive(Drop)]
+enum Stop {
+    /// An input could not be opened or read.
+    Unread(Input),
+    /// An input is no document.
+    Document(Input, JFault),
+    /// The CustomResourceDefinition has no such version or schema.
+    Crd(SFault),
+    /// The pools or the limit are refused.
+    Pools(PFault),
+    /// An input is refused at a pointer, with this code.
+    Place(Input, PlaceCode, String),
+    /// The object to go on from is no sample.
+    NotASample,
+    /// Standard output took so many whole lines, and then failed.
+    Write(u64),
+    /// An allocation failed.
+    NoMemory,
+}
+
+/// The code of a refusal that names a place.
+#[derive(Clone, Copy, Drop)]
+enum PlaceCode {
+    NotYet,
+    Form,
+}
+
+impl fmt::Display for PlaceCode {
+    fn fmt<W: fmt::Write>(&self, f: &mut fmt::Formatter<W>) -> fmt::Result {
+        match self {
+            PlaceCode::NotYet => write!(f, "S0"),
+            PlaceCode::Form => write!(f, "P1"),
+        }
+    }
+}
+
+impl From<AllocError> for Stop {
+    fn from(_refused: AllocError) -> Stop {
+        Stop::NoMemory
+    }
+}
+
+impl From<SFault> for Stop {
+    fn from(fault: SFault) -> Stop {
+        match fault {
+            SFault::NoMemory => Stop::NoMemory,
+            other => Stop::Crd(other),
+        }
+    }
+}
+
+impl From<Refused> for Stop {
+    fn from(refused: Refused) -> Stop {
+        match refused {
+            Refused::NotYet(pointer) => Stop::Place(Input::Crd, PlaceCode::NotYet, pointer),
+            Refused::NoMemory => Stop::NoMemory,
+        }
+    }
+}
+
+impl From<PFault> for Stop {
+    fn from(fault: PFault) -> Stop {
+        match fault {
+            PFault::Form(pointer) => Stop::Place(Input::Pools, PlaceCode::Form, pointer),
+            PFault::NoMemory => Stop::NoMemory,
+            other => Stop::Pools(other),
+        }
+    }
+}
+
+impl From<WFault> for Stop {
+    fn from(fault: WFault) -> Stop {
+        match fault {
+            WFault::NotASample => Stop::NotASample,
+            WFault::NoMemory(_) => Stop::NoMemory,
+            WFault::Write(lines) => Stop::Write(lines),
+        }
+    }
+}
+
+/// Runs the program: the first word is its name, and what the others ask for is written to `out`, with a line on `err`
+/// where there is more to say. It answers the exit status: 0 done, 2 words that are refused, 3 an input that is no such
+/// document, 4 a read or a write that failed, 5 want of memory. A failure of `err` is passed over.
 pub fn run<I: Inputs, W: Sink, E: Sink>(
     alloc: Global,
     words: &[String],
@@ -13,18 +118,134 @@ pub fn run<I: Inputs, W: Sink, E: Sink>(
     out: &mut W,
     err: &mut E,
 ) -> u8 {
-    let _ = inputs;
     match parse_words(alloc, words) {
-        Outcome::Sample(_) => tell(err, "crdx: not yet\n", 3),
-        Outcome::Help(text) => tell(out, text.as_str(), 0),
-        Outcome::Mistake(text) => tell(err, text.as_str(), 2),
-        Outcome::NoMemory => tell(err, "crdx: out of memory\n", 5),
+        Outcome::Sample(words) => match sample(alloc, &words, inputs, out) {
+            Ok(walked) => {
+                let _ = put_all(err, line_of_end(&walked));
+                0
+            }
+            Err(stop) => report(alloc, &stop, err),
+        },
+        Outcome::Help(text) => match say(out, text.as_bytes()) {
+            Ok(()) => 0,
+            Err(stop) => report(alloc, &stop, err),
+        },
+        Outcome::Mistake(text) => {
+            let _ = put_all(err, text.as_bytes());
+            2
+        }
+        Outcome::NoMemory => report(alloc, &Stop::NoMemory, err),
     }
 }
 
-fn tell<S: Sink>(sink: &mut S, text: &str, status: u8) -> u8
-    ensures { result ≡ status }
-{
-    let _ = put_all(sink, text.as_bytes());
-    status
+/// Lists samples. Inputs are judged in the order CustomResourceDefinition, pools, and the first refusal ends the run.
+fn sample<I: Inputs, W: Sink>(
+    alloc: Global,
+    words: &SampleWords<'_>,
+    inputs: &mut I,
+    out: &mut W,
+) -> Result<Walked, Stop> {
+    let schema = schema_of(alloc, words, inputs)?;
+    let pools = pools_of(alloc, words, inputs)?;
+    let plan = Plan::new(schema, pools, words.limit)?;
+    let walked = walk(alloc, &plan, None, words.count, out)?;
+    match out.flush() {
+        Ok(()) => Ok(walked),
+        Err(_) => Err(Stop::Write(walked.lines)),
+    }
+}
+
+fn schema_of<I: Inputs>(
+    alloc: Global,
+    words: &SampleWords<'_>,
+    inputs: &mut I,
+) -> Result<Schema, Stop> {
+    let document = document(inputs, Input::Crd, words.crd)?;
+    let crd = read_crd(alloc, &document, words.version)?;
+    Ok(accept(alloc, crd.raw)?)
+}
+
+/// The pools of the document that the words name, and empty pools where they name none.
+fn pools_of<I: Inputs>(
+    alloc: Global,
+    words: &SampleWords<'_>,
+    inputs: &mut I,
+) -> Result<Pools, Stop> {
+    match words.pools {
+        Some(name) => Ok(Pools::read(alloc, &document(inputs, Input::Pools, name)?)?),
+        None => Ok(Pools::new(alloc)),
+    }
+}
+
+fn document<I: Inputs>(inputs: &mut I, input: Input, name: &str) -> Result<Tree, Stop> {
+    match inputs.tree(Some(name)) {
+        Ok(tree) => Ok(tree),
+        Err(InFault::Failed) => Err(Stop::Unread(input)),
+        Err(InFault::Document(JFault::NoMemory)) => Err(Stop::NoMemory),
+        Err(InFault::Document(fault)) => Err(Stop::Document(input, fault)),
+    }
+}
+
+/// Writes a text that is no line of samples.
+fn say<W: Sink>(out: &mut W, text: &[u8]) -> Result<(), Stop> {
+    match put_all(out, text) {
+        Ok(()) => match out.flush() {
+            Ok(()) => Ok(()),
+            Err(_) => Err(Stop::Write(0)),
+        },
+        Err(_) => Err(Stop::Write(0)),
+    }
+}
+
+/// Says on `err` why a run has no answer, and answers its status.
+fn report<E: Sink>(alloc: Global, stop: &Stop, err: &mut E) -> u8 {
+    match line_of(alloc, stop) {
+        Ok(line) => {
+            let _ = put_all(err, line.as_bytes());
+            status_of(stop)
+        }
+        Err(_) => {
+            let _ = put_all(err, b"crdx: out of memory\n");
+            5
+        }
+    }
+}
+
+fn line_of_end(walked: &Walked) -> &'static [u8] {
+    if walked.end {
+        b"crdx: end\n"
+    } else {
+        b"crdx: more\n"
+    }
+}
+
+fn line_of(alloc: Global, stop: &Stop) -> Result<String, AllocError> {
+    match stop {
+        Stop::Unread(input) => format!(in alloc; "crdx: {input}: read failed\n"),
+        Stop::Document(input, fault) => format!(in alloc; "crdx: {input}: {fault}\n"),
+        Stop::Crd(fault) => format!(in alloc; "crdx: crd: {fault}\n"),
+        Stop::Pools(fault) => format!(in alloc; "crdx: pools: {fault}\n"),
+        Stop::Place(input, code, pointer) => {
+            let pointer = json_text(alloc, pointer.as_str())?;
+            format!(in alloc; "crdx: {input}: {code} {pointer}\n")
+        }
+        Stop::NotASample => format!(in alloc; "crdx: after: not a sample\n"),
+        Stop::Write(lines) => format!(in alloc; "crdx: write failed after {lines} lines\n"),
+        Stop::NoMemory => format!(in alloc; "crdx: out of memory\n"),
+    }
+}
+
+fn status_of(stop: &Stop) -> u8 {
+    match stop {
+        Stop::NotASample => 1,
+        Stop::Document(_, _) | Stop::Crd(_) | Stop::Pools(_) | Stop::Place(_, _, _) => 3,
+        Stop::Unread(_) | Stop::Write(_) => 4,
+        Stop::NoMemory => 5,
+    }
+}
+
+/// A text as JSON, quoted (RFC 8259).
+fn json_text(alloc: Global, text: &str) -> Result<String, AllocError> {
+    let text = Text::from_str(alloc, text).map_err(|_| AllocError)?;
+    Tree::Text(text).to_text(alloc).map_err(|_| AllocError)
 }

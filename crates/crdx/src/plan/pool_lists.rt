@@ -27,7 +27,7 @@ impl Model for Pools {
 }
 
 impl Pools {
-    ghost use Rattle.std.specs.Prelude.{◌≡◌, ◌≤◌, length, All, FitsSigned, IfOk, IfErr, OnOk};
+    ghost use Rattle.std.specs.Prelude.{◌≡◌, ◌≤◌, length, All, FitsSigned, IfOk, IfErr, OnOk, []};
     ghost use Rattle.std.specs.Int.{w64};
     ghost use Rattle.jtree.specs.View.{data_of};
     ghost use Rattle.crdx.specs.Pools.{HasForm, most_entries, pools_of};
@@ -52,6 +52,15 @@ impl Pools {
             _ => Ok(Pools {
                 integers: Vec::new(alloc),
             }),
+        }
+    }
+
+    /// Empty pools.
+    pub fn new(alloc: Global) -> Pools
+        ensures { result.integers ≡ [] }
+    {
+        Pools {
+            integers: Vec::new(alloc),
         }
     }
 
