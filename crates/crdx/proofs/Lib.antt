@@ -9,3 +9,4 @@ pub mod PoolLemmas
 pub mod VersionLemmas
 pub mod CrdLemmas
 pub mod ShapeLemmas
+pub mod AcceptanceLemmas
