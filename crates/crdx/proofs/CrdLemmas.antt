@@ -1,8 +1,8 @@
 -- A CustomResourceDefinition is its head with its versions.
-use Rattle.std.proofs.Common.{◌≡◌, ℕ, List, Option, Some, None, Result, Err, refl, sym, ap, ◌∙◌, subst}
+use Rattle.std.proofs.Common.{◌≡◌, ℕ, List, Result, Err, sym, ◌∙◌, subst}
 use Rattle.std.proofs.lemmas.Option.{same_Some}
 use Rattle.jtree.specs.Data.{Data, list, Items}
-use Rattle.crdx.specs.Crd.{IsCrd, IsVersion, IsSchemaOf, IsNoCrd, no_crd, no_schema, LacksVersion}
+use Rattle.crdx.specs.Crd.{IsCrd, IsVersion, IsNoCrd, no_crd, LacksVersion}
 use Rattle.crdx.specs.Versions.{IsHead, AreVersions, IsVersionsFault}
 use Rattle.crdx.specs.declared.schema.fault.SFault.{SFault}
 use Rattle.crdx.specs.declared.schema.fault.SFault.TheVariants.{NotACrd}

@@ -15,3 +15,4 @@ pub mod InputLemmas
 pub mod VersionLemmas
 pub mod CrdLemmas
 pub mod ShapeLemmas
+pub mod AcceptanceLemmas

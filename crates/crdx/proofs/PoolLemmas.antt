@@ -1,5 +1,5 @@
 -- The first break of a pools document, from the first break of its members.
-use Rattle.std.proofs.Common.{◌≡◌, ◌≢◌, ◌⊎◌, ◌<◌, ◌≤◌, ◌+◌, ℕ, ℤ, zero, suc, List, [], ◌∷◌, ◌++◌, length, Bool, true, false, Option, Some, None, refl, sym, ap, ◌∙◌, subst, inl, inr, arith}
+use Rattle.std.proofs.Common.{◌≡◌, ◌≢◌, ◌⊎◌, ◌<◌, ℕ, zero, suc, List, [], ◌∷◌, ◌++◌, length, true, false, Option, Some, None, refl, sym, ap, ◌∙◌, subst, inl, inr, arith}
 use Rattle.std.specs.Prelude.{option_map, codes, All, FitsSigned}
 use Rattle.std.specs.Int.{w64}
 use Rattle.std.proofs.lemmas.List.{append_assoc, length-append}
@@ -46,13 +46,13 @@ pub others_none : (ds : Items) → other_item ds ≡ None → (i : ℕ) (v : Dat
 others_none no_items h zero v at = cc
 others_none no_items h (suc i) v at = cc
 others_none (item d ds) h zero v at = elim (bool_cases (is_integer d)) [
-    inl t ↦ subst (λ w. is_integer w ≡ true) (same_Some d v at) t
+  | inl t ↦ subst (λ w. is_integer w ≡ true) (same_Some d v at) t
   | inr f ↦ let none = rw f at h in cc
-  ]
+]
 others_none (item d ds) h (suc i) v at = elim (bool_cases (is_integer d)) [
-    inl t ↦ others_none ds (option_map_none suc (other_item ds) (rw t at h)) i v at
+  | inl t ↦ others_none ds (option_map_none suc (other_item ds) (rw t at h)) i v at
   | inr f ↦ let none = rw f at h in cc
-  ]
+]
 
 pub record IsOther (ds : Items) (n : ℕ) : Type 0 where
   pub value : Data
@@ -74,13 +74,13 @@ later_other d ds n whole o = record {
 pub others_some : (ds : Items) (n : ℕ) → other_item ds ≡ Some n → IsOther ds n
 others_some no_items n h = cc
 others_some (item d ds) n h = elim (bool_cases (is_integer d)) [
-    inl t ↦
+  | inl t ↦
       let rest = option_map_some suc (other_item ds) n (rw t at h) in
       subst (IsOther (item d ds)) rest.2 (later_other d ds rest.0 t (others_some ds rest.0 rest.1))
   | inr f ↦
       let here : 0 ≡ n = same_Some 0 n (rw f at h) in
       subst (IsOther (item d ds)) here (record { value = d; at = refl; other = f; first = λ j w below at. absurd (omega arith) })
-  ]
+]
 
 pub integers_here : (d : Data) (ds : Items) → integers_of_items (item d ds) ≡ integers_of_items (item d no_items) ++ integers_of_items ds
 integers_here tree.null ds = refl
@@ -113,9 +113,9 @@ not_less_end k (s ∷ p) less = let tied = tied_itself nat_list_cmp_total k in l
 
 not_less_place : (k : List ℕ) (i j : ℕ) → (j < i → ⊥) → path_cmp (name k ∷ place j ∷ []) (name k ∷ place i ∷ []) ≢ Less
 not_less_place k i j h less = elim (cases_lt j i) [
-    inl below ↦ absurd (h below)
+  | inl below ↦ absurd (h below)
   | inr above ↦ elim (cases_lt i j) [
-      inl past ↦
+    | inl past ↦
         let greater : Greater ≡ nat_cmp j i = nat_cmp_is j i Greater (omega arith) in
         let tied = tied_itself nat_list_cmp_total k in
         let contrary = rw (tied, ← greater) at less in
@@ -125,19 +125,19 @@ not_less_place k i j h less = elim (cases_lt j i) [
         let tied = tied_itself nat_list_cmp_total k in
         let contrary = rw (tied, ← equal) at less in
         cc
-    ]
   ]
+]
 
 -- a name of the members is the first one, or comes later
 not_less_first : (k : List ℕ) (d : Data) (ms : Members) (l : List ℕ) (p : Path) → IsObject (member k d ms) → member_at l (member k d ms) ≢ None
     → path_cmp (name l ∷ p) (name k ∷ []) ≢ Less
 not_less_first k d ms l p o present = elim (bool_cases (bytes_eq l k)) [
-    inl t ↦ let P : List ℕ → Type 0 = λ n. path_cmp (name n ∷ p) (name k ∷ []) ≢ Less in subst P (sym (same_name l k t)) (not_less_end k p)
+  | inl t ↦ let P : List ℕ → Type 0 = λ n. path_cmp (name n ∷ p) (name k ∷ []) ≢ Less in subst P (sym (same_name l k t)) (not_less_end k p)
   | inr f ↦ elim (option_cases (member_at l ms)) [
-      inl none ↦ absurd (present (member_later l k d ms f ∙ none))
+    | inl none ↦ absurd (present (member_later l k d ms f ∙ none))
     | inr found ↦ not_less_name k l p [] (before_each k ms l found.0 o.1 o.2 found.1)
-    ]
   ]
+]
 
 -- no break comes before the first name
 break_later : (k : List ℕ) (d : Data) (ms : Members) (e : Path) → IsObject (member k d ms) → BreaksForm (tree.object (member k d ms)) e → path_cmp e (name k ∷ []) ≢ Less
@@ -152,7 +152,7 @@ pub other_first : (k : List ℕ) (d : Data) (ms : Members) → IsObject (member 
     → IsFirstBreak (tree.object (member k d ms)) (name k ∷ [])
 other_first k d ms o f = record {
   breaks = other_member _ k (λ same. let own = own_name name_integers in let t : bytes_eq k name_integers ≡ true = subst (λ n. bytes_eq n name_integers ≡ true) (sym same) own in cc)
-    (λ none. let some = member_first k d ms in cc);
+      (λ none. let some = member_first k d ms in cc);
   first = λ e b. break_later k d ms e o b;
 }
 
@@ -168,12 +168,12 @@ list_first : (ds : Items) (ms : Members) (n : ℕ) → IsObject (member name_int
     → BreaksForm (tree.object (member name_integers (tree.list ds) ms)) e → path_cmp e (name name_integers ∷ place n ∷ []) ≢ Less
 list_first ds ms n o other e (no_object _ h) = λ _. cc
 list_first ds ms n o other e (other_member _ l differs present) = elim (bool_cases (bytes_eq l name_integers)) [
-    inl t ↦ absurd (differs (same_name l name_integers t))
+  | inl t ↦ absurd (differs (same_name l name_integers t))
   | inr f ↦ elim (option_cases (member_at l ms)) [
-      inl none ↦ absurd (present (member_later l name_integers (tree.list ds) ms f ∙ none))
+    | inl none ↦ absurd (present (member_later l name_integers (tree.list ds) ms f ∙ none))
     | inr found ↦ not_less_name name_integers l [] (place n ∷ []) (before_each name_integers ms l found.0 o.1 o.2 found.1)
-    ]
   ]
+]
 list_first ds ms n o other e (no_list _ v at differs) =
     absurd (differs ds (sym (same_Some (tree.list ds) v (sym (member_first name_integers (tree.list ds) ms) ∙ at))))
 list_first ds ms n o other e (no_integer _ es j v at item_is differs) =
@@ -210,9 +210,9 @@ good_list (tree.object ms) h = cc
 raised : (d : Data) (ms : Members) (e : Path) → IsObject (member name_integers d ms) → BreaksForm (tree.object ms) e → BreaksForm (tree.object (member name_integers d ms)) e
 raised d ms e o (no_object _ h) = cc
 raised d ms e o (other_member _ l other present) = elim (bool_cases (bytes_eq l name_integers)) [
-    inl t ↦ absurd (other (same_name l name_integers t))
+  | inl t ↦ absurd (other (same_name l name_integers t))
   | inr f ↦ other_member _ l other (λ none. present (sym (member_later l name_integers d ms f) ∙ none))
-  ]
+]
 raised d ms e o (no_list _ v at other) = let none = before_none name_integers ms o.1 o.2 in cc
 raised d ms e o (no_integer _ ds i v at item_is other) = let none = before_none name_integers ms o.1 o.2 in cc
 
@@ -220,9 +220,9 @@ raised d ms e o (no_integer _ ds i v at item_is other) = let none = before_none 
 lowered : (d : Data) (ms : Members) (e : Path) → IsObject (member name_integers d ms) → pool_break d ≡ None → BreaksForm (tree.object (member name_integers d ms)) e → BreaksForm (tree.object ms) e
 lowered d ms e o good (no_object _ h) = cc
 lowered d ms e o good (other_member _ l other present) = elim (bool_cases (bytes_eq l name_integers)) [
-    inl t ↦ absurd (other (same_name l name_integers t))
+  | inl t ↦ absurd (other (same_name l name_integers t))
   | inr f ↦ other_member _ l other (λ none. present (member_later l name_integers d ms f ∙ none))
-  ]
+]
 lowered d ms e o good (no_list _ v at other) =
     let ds = good_list d good in
     absurd (other ds.0 (sym (same_Some d v (sym (member_first name_integers d ms) ∙ at)) ∙ ds.1))
@@ -251,7 +251,7 @@ members_form no_members o h e (other_member _ l other present) = absurd (present
 members_form no_members o h e (no_list _ v at other) = cc
 members_form no_members o h e (no_integer _ ds i v at item_is other) = cc
 members_form (member k d ms) o h e b = elim (bool_cases (bytes_eq k name_integers)) [
-    inl t ↦
+  | inl t ↦
       let same : k ≡ name_integers = same_name k name_integers t in
       let none = or_else_none (below_name k (pool_break d)) (members_break ms) (rw t at h) in
       let good : pool_break d ≡ None = option_map_none (λ (path : Path). name k ∷ path) (pool_break d) none.0 in
@@ -259,7 +259,7 @@ members_form (member k d ms) o h e b = elim (bool_cases (bytes_eq k name_integer
       let b' = subst (λ n. BreaksForm (tree.object (member n d ms)) e) same b in
       members_form ms o.2 none.1 e (lowered d ms e o' good b')
   | inr f ↦ let some = rw f at h in cc
-  ]
+]
 
 or_else_some : (o p : Option Path) (x : Path) → or_else o p ≡ Some x → (o ≡ Some x) ⊎ ((o ≡ None) × (p ≡ Some x))
 or_else_some None p x h = inr (refl, h)
@@ -268,20 +268,20 @@ or_else_some (Some y) p x h = inl h
 pub members_first : (ms : Members) (path : Path) → IsObject ms → members_break ms ≡ Some path → IsFirstBreak (tree.object ms) path
 members_first no_members path o h = cc
 members_first (member k d ms) path o h = elim (bool_cases (bytes_eq k name_integers)) [
-    inl t ↦
+  | inl t ↦
       let same : k ≡ name_integers = same_name k name_integers t in
       let o' = subst (λ n. IsObject (member n d ms)) same o in
       elim (or_else_some (below_name k (pool_break d)) (members_break ms) path (rw t at h)) [
-        inl here ↦
-          let q = option_map_some (λ (p : Path). name k ∷ p) (pool_break d) path here in
-          subst (λ p. IsFirstBreak (tree.object (member k d ms)) p) q.2
+        | inl here ↦
+            let q = option_map_some (λ (p : Path). name k ∷ p) (pool_break d) path here in
+            subst (λ p. IsFirstBreak (tree.object (member k d ms)) p) q.2
             (subst (λ n. IsFirstBreak (tree.object (member n d ms)) (name n ∷ q.0)) (sym same) (pool_first d ms q.0 o' q.1))
-      | inr later ↦
-          let good : pool_break d ≡ None = option_map_none (λ (p : Path). name k ∷ p) (pool_break d) later.0 in
-          subst (λ n. IsFirstBreak (tree.object (member n d ms)) path) (sym same) (good_first d ms path o' good (members_first ms path o.2 later.1))
+        | inr later ↦
+            let good : pool_break d ≡ None = option_map_none (λ (p : Path). name k ∷ p) (pool_break d) later.0 in
+            subst (λ n. IsFirstBreak (tree.object (member n d ms)) path) (sym same) (good_first d ms path o' good (members_first ms path o.2 later.1))
       ]
   | inr f ↦ subst (λ p. IsFirstBreak (tree.object (member k d ms)) p) (same_Some (name k ∷ []) path (rw f at h)) (other_first k d ms o f)
-  ]
+]
 
 -- ---- the pool of a list
 
@@ -304,12 +304,12 @@ one_integer (tree.object ms) h = cc
 pub integers_length : (xs : List Tree) → other_item (items_of xs) ≡ None → length (integers_of_items (items_of xs)) ≡ length xs
 integers_length [] h = refl
 integers_length (x ∷ xs) h = elim (bool_cases (is_integer (data_of x))) [
-    inl t ↦
+  | inl t ↦
       let rest = integers_length xs (option_map_none suc (other_item (items_of xs)) (rw t at h)) in
       let one = one_integer (data_of x) t in
       ap length (integers_here (data_of x) (items_of xs)) ∙ (omega (arith, length-append (integers_of_items (item (data_of x) no_items)) (integers_of_items (items_of xs))))
   | inr f ↦ let none = rw f at h in cc
-  ]
+]
 
 pub integers_fit : (ds : Items) → AreTrees ds → All (λ z. FitsSigned w64 z) (integers_of_items ds)
 integers_fit no_items h = All-nil (λ z. FitsSigned w64 z)
@@ -346,9 +346,9 @@ other_tree (code.Object ms) h = absurd (h ms refl)
 -- what has the form has no other item
 pub form_items : (d : Data) (ds : Items) → HasForm d → under d name_integers ≡ Some (tree.list ds) → other_item ds ≡ None
 form_items d ds form at = elim (option_cases (other_item ds)) [
-    inl none ↦ none
+  | inl none ↦ none
   | inr n ↦ let other = others_some ds n.0 n.1 in absurd (form _ (no_integer d ds n.0 other.value at other.at other.other))
-  ]
+]
 
 pub integers_of_list : (d : Data) (ds : Items) → under d name_integers ≡ Some (tree.list ds) → pools_of d ≡ record { integers = integers_of_items ds }
 integers_of_list d ds at = let P : Option Data → Pools = λ o. record { integers = integers_of o } in ap P at

@@ -1,16 +1,16 @@
 -- An index of versions by their names.
-use Rattle.std.proofs.Common.{◌≡◌, ◌≢◌, ◌⊎◌, ◌<◌, ◌≤◌, ◌+◌, ℕ, zero, suc, List, [], ◌∷◌, ◌++◌, length, get_or, take, drop, Bool, true, false, Option, Some, None, refl, sym, ap, ◌∙◌, subst, inl, inr, arith}
-use Rattle.std.specs.Prelude.{option_map, is_some, codes, cond, if◌then◌else◌}
+use Rattle.std.proofs.Common.{◌≡◌, ◌⊎◌, ◌<◌, ◌+◌, ℕ, zero, suc, List, [], ◌∷◌, ◌++◌, length, get_or, take, drop, Bool, true, false, Option, Some, None, refl, sym, ap, ◌∙◌, subst, inl, inr, arith}
+use Rattle.std.specs.Prelude.{option_map, is_some, cond, if◌then◌else◌}
 use Rattle.std.specs.Str.{bytes_eq}
 use Rattle.std.proofs.lemmas.Option.{same_Some}
 use Rattle.std.proofs.lemmas.List.{take-append-drop, drop_more}
-use Rattle.jtree.specs.Data.{Data, text, Items, no_items, item}
+use Rattle.jtree.specs.Data.{Data, text, no_items}
 use Rattle.jtree.specs.Path.{item_at}
 use Rattle.jtree.specs.View.{data_of, items_of}
 use Rattle.jtree.specs.declared.value.Tree.{Tree}
-use Rattle.crdx.specs.Crd.{under, IsNamed, IsVersion}
+use Rattle.crdx.specs.Crd.{IsNamed, IsVersion}
 use Rattle.crdx.specs.Versions.{AreVersions, IsSelected}
-use Rattle.crdx.proofs.Names.{bool_cases, option_cases, same_name, own_name}
+use Rattle.crdx.proofs.Names.{bool_cases, same_name, own_name}
 
 pub record IsIndex (xs : List Tree) (look : List ℕ → Option Data) : Type 0 where
   pub versions : AreVersions (items_of xs)
@@ -52,9 +52,9 @@ push_cases [] t (suc zero) v at = cc
 push_cases [] t (suc (suc i)) v at = cc
 push_cases (x ∷ xs) t zero v at = inl at
 push_cases (x ∷ xs) t (suc i) v at = elim (push_cases xs t i v at) [
-    inl old ↦ inl old
+  | inl old ↦ inl old
   | inr new ↦ inr (ap suc new.0, new.1)
-  ]
+]
 
 same_text : (v : Data) (s r : List ℕ) → IsNamed v s → IsNamed v r → s ≡ r
 same_text v s r p q = let same : text s ≡ text r = same_Some _ _ (sym p ∙ q) in cc
@@ -64,42 +64,42 @@ pub index_push : (xs : List Tree) (t : Tree) (s : List ℕ) (look more : List �
 index_push xs t s look more h is none updated = record {
   versions = record {
     named = λ i v at. elim (push_cases xs t i v at) [
-        inl old ↦ h.versions.named i v old
+      | inl old ↦ h.versions.named i v old
       | inr new ↦ (s, subst (λ w. IsNamed w s) new.1 is)
-      ];
+    ];
     distinct = λ i j v w r at bt p q. elim (push_cases xs t i v at) [
-        inl old ↦ elim (push_cases xs t j w bt) [
-            inl too ↦ h.versions.distinct i j v w r old too p q
-          | inr new ↦
-              let same : s ≡ r = same_text (data_of t) s r is (subst (λ d. IsNamed d r) (sym new.1) q) in
-              absurd (h.none s none v (i, old, subst (λ n. IsNamed v n) (sym same) p))
-          ]
+      | inl old ↦ elim (push_cases xs t j w bt) [
+        | inl too ↦ h.versions.distinct i j v w r old too p q
+        | inr new ↦
+            let same : s ≡ r = same_text (data_of t) s r is (subst (λ d. IsNamed d r) (sym new.1) q) in
+            absurd (h.none s none v (i, old, subst (λ n. IsNamed v n) (sym same) p))
+      ]
       | inr new ↦ elim (push_cases xs t j w bt) [
-            inl too ↦
-              let same : s ≡ r = same_text (data_of t) s r is (subst (λ d. IsNamed d r) (sym new.1) p) in
-              absurd (h.none s none w (j, too, subst (λ n. IsNamed w n) (sym same) q))
-          | inr also ↦ new.0 ∙ sym also.0
-          ]
-      ];
+        | inl too ↦
+            let same : s ≡ r = same_text (data_of t) s r is (subst (λ d. IsNamed d r) (sym new.1) p) in
+            absurd (h.none s none w (j, too, subst (λ n. IsNamed w n) (sym same) q))
+        | inr also ↦ new.0 ∙ sym also.0
+      ]
+    ];
   };
   some = λ r v found. elim (bool_cases (bytes_eq s r)) [
-      inl hit ↦
+    | inl hit ↦
         let here : data_of t ≡ v = same_Some _ v (rw hit at (sym (updated r) ∙ found)) in
         (length xs, new_at xs [] t ∙ ap Some here, subst (λ n. IsNamed v n) (same_name s r hit) (subst (λ w. IsNamed w s) here is))
     | inr other ↦
         let old = h.some r v (rw other at (sym (updated r) ∙ found)) in
         (old.0, kept_at xs (t ∷ []) old.0 v old.1, old.2)
-    ];
+  ];
   none = λ r gone v found. elim (bool_cases (bytes_eq s r)) [
-      inl hit ↦ let contrary = rw hit at (sym (updated r) ∙ gone) in cc
+    | inl hit ↦ let contrary = rw hit at (sym (updated r) ∙ gone) in cc
     | inr other ↦ elim (push_cases xs t found.0 v found.1) [
-          inl old ↦ h.none r (rw other at (sym (updated r) ∙ gone)) v (found.0, old, found.2)
-        | inr new ↦
-            let same : s ≡ r = same_text (data_of t) s r is (subst (λ d. IsNamed d r) (sym new.1) found.2) in
-            let own : bytes_eq s r ≡ true = subst (λ n. bytes_eq s n ≡ true) same (own_name s) in
-            cc
-        ]
-    ];
+      | inl old ↦ h.none r (rw other at (sym (updated r) ∙ gone)) v (found.0, old, found.2)
+      | inr new ↦
+          let same : s ≡ r = same_text (data_of t) s r is (subst (λ d. IsNamed d r) (sym new.1) found.2) in
+          let own : bytes_eq s r ≡ true = subst (λ n. bytes_eq s n ≡ true) same (own_name s) in
+          cc
+    ]
+  ];
 }
 
 -- a name stands twice

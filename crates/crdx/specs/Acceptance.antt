@@ -1,11 +1,11 @@
 -- For private contracts: what is known of the schemas that stand at some places, and the shape of one of them.
-use Rattle.std.specs.Prelude.{◌≡◌, ◌≢◌, ◌⊎◌, ℕ, List, [], ◌∷◌, Bool, true, false, Option, Some, None, option_and_then, codes, string_bytes}
+use Rattle.std.specs.Prelude.{◌≡◌, ◌⊎◌, ℕ, List, [], ◌∷◌, Bool, false, Option, Some, None, option_and_then, codes, string_bytes}
 use Rattle.std.specs.declared.cmp.Ordering.TheVariants.{Less}
 use Rattle.jtree.specs.Data.{Data, Members, no_members, member}
 use Rattle.jtree.specs.Data as tree
 use Rattle.jtree.specs.Path.{member_at}
 use Rattle.crdx.specs.Crd.{under}
-use Rattle.crdx.specs.Node.{ScalarKind, boolean, integer, Node, Fields, no_fields, field, IsNode}
+use Rattle.crdx.specs.Node.{ScalarKind, boolean, integer, Fields, no_fields, field, IsNode}
 use Rattle.crdx.specs.NodeView.{kind_of}
 use Rattle.crdx.specs.Place.{Place, schema_at, place_pointer, place_cmp}
 use Rattle.crdx.specs.Accepted.{HasType, IsKnown, IsKnownScalar, IsKnownObject}

@@ -1,5 +1,5 @@
 -- For private contracts: the parts of which a CustomResourceDefinition is read, and its versions by their names.
-use Rattle.std.specs.Prelude.{◌≡◌, ◌≢◌, ℕ, List, [], ◌∷◌, Option, Some, None, codes}
+use Rattle.std.specs.Prelude.{◌≡◌, ◌≢◌, ℕ, List, [], Option, Some, None, codes}
 use Rattle.jtree.specs.Data.{Data, text, list, Items}
 use Rattle.jtree.specs.Path.{item_at}
 use Rattle.crdx.specs.Crd.{under, under2, under3, IsNamed, IsVersion}

@@ -9,7 +9,7 @@ ghost use Rattle.crdx.specs.PoolForm.{other_item, pool_break, members_break, bel
 ghost use Rattle.crdx.specs.declared.plan.fault.PFault.TheVariants.{NoMemory};
 
 use crate::plan::fault::PFault;
-use jtree::{push_index, push_name, Items, Members, Tree};
+use jtree::{Items, Members, Tree, push_index, push_name};
 use std::alloc::Global;
 
 /// The name of the pool of integers.

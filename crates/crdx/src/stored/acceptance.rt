@@ -80,7 +80,7 @@ fn read_field(alloc: Global, name: &str, tree: &Tree, root: bool) -> Result<Node
     ensures known { OnOk result (AreKnown root (members_at (member name.now (data_of tree.now) no_members))) }
     ensures not_yet { IfErr result (IsRefusedAt root (members_at (member name.now (data_of tree.now) no_members))) }
 {
-    if root && is_envelope(name) {
+    if is_envelope(name, root) {
         return Err(Refused::NotYet(property_pointer(alloc, name, "")?));
     }
     match read_node(alloc, tree, false) {

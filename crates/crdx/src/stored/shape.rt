@@ -1,5 +1,5 @@
 // What a raw schema is at its own place: a scalar, an object with or without properties, or unknown.
-ghost use Rattle.std.specs.Prelude.{◌≡◌, ◌≢◌, ◌⊎◌, ◌↔◌, ℕ, List, None, IfSome, IsTrue};
+ghost use Rattle.std.specs.Prelude.{◌≡◌, ◌≢◌, ◌⊎◌, ◌↔◌, ℕ, List, None, true, IfSome, IsTrue};
 ghost use Rattle.jtree.specs.View.{data_of};
 ghost use Rattle.crdx.specs.Crd.{under};
 ghost use Rattle.crdx.specs.NodeView.{kind_of};
@@ -107,8 +107,14 @@ fn are_objects(members: &Members) -> bool
     true
 }
 
-/// Whether the name is one of the envelope of a resource.
-pub(crate) fn is_envelope(name: &str) -> bool
+/// Whether a property at the root has a name of the envelope of a resource.
+pub(crate) fn is_envelope(name: &str, root: bool) -> bool
+    ensures { IsTrue result ↔ ((root ≡ true) × IsEnvelopeName name.now) }
+{
+    root && is_envelope_name(name)
+}
+
+fn is_envelope_name(name: &str) -> bool
     ensures { IsTrue result ↔ IsEnvelopeName name.now }
 {
     name == "apiVersion" || name == "kind" || name == "metadata"

@@ -1,4 +1,4 @@
-use Rattle.std.proofs.Common.{◌≡◌, [], ◌∷◌, ◌++◌, ap, sym, ◌∙◌}
+use Rattle.std.proofs.Common.{[], ◌∷◌, ◌++◌, ap, sym, ◌∙◌}
 use Rattle.std.proofs.lemmas.List.{append-nil}
 use Rattle.std.specs.Prelude.{option_map}
 use Rattle.jtree.specs.Path.{name, place}
@@ -11,7 +11,8 @@ returns-in_ok-push_index-in-Some-clause-err c =
     let k = c.args.name.now in
     let i = c.in-Some.i in
     let pushed = c.in_ok-push_index-in-Some.ensures.ok in
-    let named = c.in_ok-pointer-in-Some.ensures.ok in
-    (name k ∷ place i ∷ [],
+    let named = c.in_ok-pointer-in-Some.ensures.ok in (
+      name k ∷ place i ∷ [],
       pushed ∙ ap (λ xs. xs ++ index_token i) named ∙ ap (λ xs. name_token k ++ xs) (sym (append-nil (index_token i))),
-      ap (λ o. below_name k (option_map (λ j. place j ∷ []) o)) (sym c.in-Some.ensures))
+      ap (λ o. below_name k (option_map (λ j. place j ∷ []) o)) (sym c.in-Some.ensures),
+    )

@@ -1,9 +1,9 @@
-use Rattle.std.proofs.Common.{◌≡◌, [], ◌∷◌, ◌++◌, ap, sym, ◌∙◌}
+use Rattle.std.proofs.Common.{[], ◌∷◌, ap, sym, ◌∙◌}
 use Rattle.std.proofs.lemmas.List.{append-nil}
-use Rattle.jtree.specs.Path.{name, place}
+use Rattle.jtree.specs.Path.{name}
 use Rattle.jtree.specs.Pointer.{name_token}
 use Rattle.crdx.specs.PoolForm.{below_name}
-use Rattle.crdx.proofs.PoolLemmas.{no_list_break, others_some, integers_here}
+use Rattle.crdx.proofs.PoolLemmas.{no_list_break}
 use Rattle.crdx.proofs.plan.pool_form.check_pool.Goals as goal
 
 pub returns-in_ok-name_pointer-in_default : goal.returns-in_ok-name_pointer-in_default

@@ -11,4 +11,4 @@ returns-in-Object c =
     let ms = c.in-Object.members in
     let h = c.have_names.ensures in
     subst (λ t. IsTrue c.have_names.result ↔ ((n : List ℕ) → under (data_of t) n ≢ None → (n ≡ k) ⊎ (n ≡ l))) (sym c.in-Object.is)
-      ((λ b. names_one_by_one k l ms (h.0 b)), (λ all. h.1 (names_at_once k l ms all)))
+    ((λ b. names_one_by_one k l ms (h.0 b)), (λ all. h.1 (names_at_once k l ms all)))

@@ -1,6 +1,6 @@
-use Rattle.std.proofs.Common.{◌≡◌, [], ◌∷◌, ◌++◌, ap, sym, ◌∙◌}
+use Rattle.std.proofs.Common.{sym}
 use Rattle.jtree.specs.View.{data_of}
-use Rattle.crdx.proofs.PoolLemmas.{form_items, integers_of_list, list_fault}
+use Rattle.crdx.proofs.PoolLemmas.{form_items}
 use Rattle.crdx.proofs.plan.pool_lists.Pools.read.Goals as goal
 
 pub read_integers-requires : goal.read_integers-requires
