@@ -11,17 +11,22 @@ use std::alloc::{AllocError, Global};
 use std::process::Abort;
 use std::test::Fail;
 
-const WIDGET: &str = r#"{"apiVersion":"apiextensions.k8s.io/v1","kind":"CustomResourceDefinition","spec":{"group":"example.org","names":{"kind":"Widget"},"versions":[{"name":"v1","schema":{"openAPIV3Schema":{"type":"object","properties":{"spec":{"type":"object","properties":{"a":{"type":"integer"},"b":{"type":"boolean"}}}}}}}]}}"#;
+const WIDGET: &str =
+    r#"{"apiVersion":"apiextensions.k8s.io/v1","kind":"CustomResourceDefinition","spec":{"group":"example.org","names":{"kind":"Widget"},"versions":[{"name":"v1","schema":{"openAPIV3Schema":{"type":"object","properties":{"spec":{"type":"object","properties":{"a":{"type":"integer"},"b":{"type":"boolean"}}}}}}}]}}"#;
 
-const STRING_PROPERTY: &str = r#"{"apiVersion":"apiextensions.k8s.io/v1","kind":"CustomResourceDefinition","spec":{"group":"example.org","names":{"kind":"Widget"},"versions":[{"name":"v1","schema":{"openAPIV3Schema":{"type":"object","properties":{"a":{"type":"string"}}}}}]}}"#;
+const STRING_PROPERTY: &str =
+    r#"{"apiVersion":"apiextensions.k8s.io/v1","kind":"CustomResourceDefinition","spec":{"group":"example.org","names":{"kind":"Widget"},"versions":[{"name":"v1","schema":{"openAPIV3Schema":{"type":"object","properties":{"a":{"type":"string"}}}}}]}}"#;
 
-const QUOTED_PROPERTY: &str = r#"{"apiVersion":"apiextensions.k8s.io/v1","kind":"CustomResourceDefinition","spec":{"group":"example.org","names":{"kind":"Widget"},"versions":[{"name":"v1","schema":{"openAPIV3Schema":{"type":"object","properties":{"a\"/~é":{"type":"string"}}}}}]}}"#;
+const QUOTED_PROPERTY: &str =
+    r#"{"apiVersion":"apiextensions.k8s.io/v1","kind":"CustomResourceDefinition","spec":{"group":"example.org","names":{"kind":"Widget"},"versions":[{"name":"v1","schema":{"openAPIV3Schema":{"type":"object","properties":{"a\"/~é":{"type":"string"}}}}}]}}"#;
 
 const POOLS: &str = r#"{"integers":[0,1]}"#;
 
-const TEN_LINES: &str = "{}\n{\"spec\":{}}\n{\"spec\":{\"b\":false}}\n{\"spec\":{\"b\":true}}\n{\"spec\":{\"a\":0}}\n{\"spec\":{\"a\":1}}\n{\"spec\":{\"a\":0,\"b\":false}}\n{\"spec\":{\"a\":0,\"b\":true}}\n{\"spec\":{\"a\":1,\"b\":false}}\n{\"spec\":{\"a\":1,\"b\":true}}\n";
+const TEN_LINES: &str =
+    "{}\n{\"spec\":{}}\n{\"spec\":{\"b\":false}}\n{\"spec\":{\"b\":true}}\n{\"spec\":{\"a\":0}}\n{\"spec\":{\"a\":1}}\n{\"spec\":{\"a\":0,\"b\":false}}\n{\"spec\":{\"a\":0,\"b\":true}}\n{\"spec\":{\"a\":1,\"b\":false}}\n{\"spec\":{\"a\":1,\"b\":true}}\n";
 
-const SIX_LINES: &str = "{}\n{\"spec\":{}}\n{\"spec\":{\"b\":false}}\n{\"spec\":{\"b\":true}}\n{\"spec\":{\"a\":0}}\n{\"spec\":{\"a\":1}}\n";
+const SIX_LINES: &str =
+    "{}\n{\"spec\":{}}\n{\"spec\":{\"b\":false}}\n{\"spec\":{\"b\":true}}\n{\"spec\":{\"a\":0}}\n{\"spec\":{\"a\":1}}\n";
 
 /// Words behind the program's name, two documents, and what is to come of them.
 struct Row<'a> {
@@ -381,7 +386,11 @@ fn try_broken(rt: &impl Abort, alloc: Global, room: usize, most: usize) -> Resul
     let lines = lines_within(room);
     let whole = TEN_LINES.as_bytes();
     let taken = room.min(whole.len());
-    assert_eq!(rt; out.bytes.as_slice(), &whole[..taken], "what {room} bytes hold");
+    assert_eq!(rt;
+        out.bytes.as_slice(),
+        &whole[..taken],
+        "what {room} bytes hold"
+    );
     if lines == 10 {
         assert_eq!(rt; err.text(), "crdx: end\n", "with {room} bytes");
         assert_eq!(rt; status, 0, "with {room} bytes");
