@@ -5,3 +5,5 @@ pub mod enumerate;
 pub mod plan;
 pub mod schema;
 pub mod stored;
+#[cfg(test)]
+mod tests;
