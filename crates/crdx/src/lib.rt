@@ -10,6 +10,8 @@ mod running;
 pub mod schema;
 pub mod sink;
 pub mod stored;
+#[cfg(test)]
+mod tests;
 pub mod walk;
 pub mod words;
 
