@@ -12,8 +12,7 @@ fn read(alloc: Global, document: &str, version: &str) -> Result<String, Fail> {
     match read_crd(alloc, &document, version) {
         Ok(crd) => {
             let schema = crd.raw.tree().to_text(alloc)?;
-            Ok(format!(
-                in alloc;
+            Ok(format!(in alloc;
                 "{} {} {} {schema}",
                 crd.group.as_str(),
                 crd.kind.as_str(),
@@ -48,14 +47,20 @@ fn pools(alloc: Global, document: &str) -> Result<String, Fail> {
     }
 }
 
-fn is_row(rt: &impl Abort, found: Result<String, Fail>, wanted: &str, row: &str) -> Result<(), Fail> {
+fn is_row(
+    rt: &impl Abort,
+    found: Result<String, Fail>,
+    wanted: &str,
+    row: &str,
+) -> Result<(), Fail> {
     let found = found?;
     assert_eq!(rt; found.as_str(), wanted, "at {row}");
     Ok(())
 }
 
 // A document, and what is read of its version `v1`.
-static DEFINITIONS: &str = r#"{"apiVersion":"apiextensions.k8s.io/v1","kind":"CustomResourceDefinition","spec":{"group":"example.com","names":{"kind":"Widget"},"versions":[{"name":"v0"},{"name":"v1","schema":{"openAPIV3Schema":{"type":"object"}}}]}} => example.com Widget v1 {"type":"object"}
+static DEFINITIONS: &str =
+    r#"{"apiVersion":"apiextensions.k8s.io/v1","kind":"CustomResourceDefinition","spec":{"group":"example.com","names":{"kind":"Widget"},"versions":[{"name":"v0"},{"name":"v1","schema":{"openAPIV3Schema":{"type":"object"}}}]}} => example.com Widget v1 {"type":"object"}
 {"apiVersion":"apiextensions.k8s.io/v1beta1","kind":"CustomResourceDefinition","spec":{"group":"example.com","names":{"kind":"Widget"},"versions":[{"name":"v1","schema":{"openAPIV3Schema":{}}}]}} => S1
 {"apiVersion":"apiextensions.k8s.io/v1","kind":"CustomResource","spec":{"group":"example.com","names":{"kind":"Widget"},"versions":[{"name":"v1","schema":{"openAPIV3Schema":{}}}]}} => S1
 {"apiVersion":"apiextensions.k8s.io/v1","kind":"CustomResourceDefinition","spec":{"group":"example.com","names":{"kind":"Widget"},"versions":[{"name":"v1","schema":{"openAPIV3Schema":{}}},{"name":"v0"},{"name":"v1"}]}} => S1
@@ -70,7 +75,8 @@ static DEFINITIONS: &str = r#"{"apiVersion":"apiextensions.k8s.io/v1","kind":"Cu
 [] => S1"#;
 
 // A raw schema, and what is answered.
-static SCHEMAS: &str = r#"{"type":"object","properties":{"spec":{"type":"object","properties":{"replicas":{"type":"integer"},"paused":{"type":"boolean"}}}}} => accepted
+static SCHEMAS: &str =
+    r#"{"type":"object","properties":{"spec":{"type":"object","properties":{"replicas":{"type":"integer"},"paused":{"type":"boolean"}}}}} => accepted
 {"type":"object","properties":{"a":{"type":"string"}}} => S0 /properties/a
 {"type":"object","properties":{"metadata":{"type":"object"}}} => S0 /properties/metadata
 {"type":"object","properties":{"spec":{"type":"object","properties":{"metadata":{"type":"object"}}}}} => accepted
@@ -159,8 +165,18 @@ fn pool_documents(rt: HostRuntime) -> Result<(), Fail> {
         };
         is_row(&rt, pools(alloc, document), wanted, row)?;
     }
-    is_row(&rt, pools(alloc, zeros(alloc, 63, "1")?.as_str()), "64", "64 integers")?;
-    is_row(&rt, pools(alloc, zeros(alloc, 64, "1")?.as_str()), "P2", "65 integers")?;
+    is_row(
+        &rt,
+        pools(alloc, zeros(alloc, 63, "1")?.as_str()),
+        "64",
+        "64 integers",
+    )?;
+    is_row(
+        &rt,
+        pools(alloc, zeros(alloc, 64, "1")?.as_str()),
+        "P2",
+        "65 integers",
+    )?;
     is_row(
         &rt,
         pools(alloc, zeros(alloc, 64, "\"x\"")?.as_str()),

@@ -25,7 +25,7 @@ pub(crate) fn select<'a>(
             return Err(SFault::NotACrd);
         };
         if by_name.insert(name, item)?.is_some() {
-            return Err(SFault::NotACrd);
+            return Err(SFault::NotACrd); // the name stands twice
         }
     }
     Ok(by_name.get(version).copied())
