@@ -85,3 +85,6 @@ fn fault_of(kind: ErrorKind) -> InFault
         _ => InFault::Failed,
     }
 }
+
+#[cfg(test)]
+mod tests;

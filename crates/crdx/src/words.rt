@@ -143,3 +143,6 @@ fn mistake<'a>(alloc: Global, text: &str) -> Outcome<'a> {
         Err(_) => Outcome::NoMemory,
     }
 }
+
+#[cfg(test)]
+mod tests;

@@ -81,3 +81,6 @@ fn write_lines<W: Sink>(alloc: Global, trees: &[Tree], out: &mut W) -> Result<()
     }
     Ok(())
 }
+
+#[cfg(test)]
+mod tests;
