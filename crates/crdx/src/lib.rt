@@ -2,6 +2,8 @@
 #![tactic(auto)]
 
 pub mod enumerate;
+#[cfg(test)]
+mod fakes;
 pub mod inputs;
 pub mod plan;
 #[cfg(test)]

@@ -1,11 +1,14 @@
 // The program over documents and streams of memory, row by row: words, documents, and what is to come of them.
-use crate::enumerate::page;
+use crate::enumerate::{EFault, page, pages_agree};
+use crate::fakes::Limited;
 use crate::inputs::{InFault, Inputs};
 use crate::plan::{Plan, Pools};
 use crate::running::run;
 use crate::schema::read_crd;
-use crate::sink::{Sink, SinkFault};
-use crate::stored::accept;
+use crate::stored::{
+    accept, filling_by_name, fits_are_stored_over, pruning_by_level, validity_by_level,
+};
+use crate::walk::{WFault, Walked, walk};
 use jtree::Tree;
 use std::alloc::{AllocError, Global};
 use std::process::Abort;
@@ -225,65 +228,6 @@ impl Inputs for Shelf<'_> {
     }
 }
 
-/// A sink that takes so many bytes in all, and at most so many in one call.
-#[derive(Drop)]
-struct Paper {
-    bytes: Vec<u8>,
-    room: usize,
-    most: usize,
-    failures: u64,
-}
-
-impl Paper {
-    fn new(alloc: Global, room: usize, most: usize) -> Paper {
-        Paper {
-            bytes: Vec::new(alloc),
-            room,
-            most,
-            failures: 0,
-        }
-    }
-
-    /// A sink that takes all.
-    fn endless(alloc: Global) -> Paper {
-        Paper::new(alloc, usize::MAX, usize::MAX)
-    }
-
-    fn text(&self) -> &str {
-        std::str::from_utf8(self.bytes.as_slice()).unwrap_or("no UTF-8")
-    }
-}
-
-impl Sink for Paper {
-    ghost use Rattle.std.specs.Prelude.{Some};
-
-    ghost taken = { λ s. Some s.bytes.items };
-
-    ghost failures = { λ s. s.failures };
-
-    fn put(&mut self, bytes: &[u8]) -> Result<usize, SinkFault> {
-        let n = bytes.len().min(self.most).min(self.room);
-        if n == 0 && !bytes.is_empty() {
-            self.failures = self.failures.saturating_add(1);
-            return Err(SinkFault::Failed);
-        }
-        match self.bytes.extend_from_slice(&bytes[..n]) {
-            Ok(()) => {
-                self.room -= n;
-                Ok(n)
-            }
-            Err(_) => {
-                self.failures = self.failures.saturating_add(1);
-                Err(SinkFault::Failed)
-            }
-        }
-    }
-
-    fn flush(&mut self) -> Result<(), SinkFault> {
-        Ok(())
-    }
-}
-
 /// The program's name, and the words.
 fn words_of(alloc: Global, words: &str) -> Result<Vec<String>, AllocError> {
     let mut all = Vec::new(alloc);
@@ -301,8 +245,8 @@ fn try_row(rt: &impl Abort, alloc: Global, row: &Row<'_>) -> Result<(), AllocErr
         crd: row.crd,
         pools: row.pools,
     };
-    let mut out = Paper::endless(alloc);
-    let mut err = Paper::endless(alloc);
+    let mut out = Limited::endless(alloc);
+    let mut err = Limited::endless(alloc);
     let status = run(alloc, words.as_slice(), &mut shelf, &mut out, &mut err);
     let asked = row.words;
     assert_eq!(rt; out.text(), row.out, "standard output of {asked}");
@@ -329,12 +273,12 @@ fn mistakes(rt: HostRuntime) -> Result<(), Fail> {
             crd: WIDGET,
             pools: POOLS,
         };
-        let mut out = Paper::endless(alloc);
-        let mut err = Paper::endless(alloc);
+        let mut out = Limited::endless(alloc);
+        let mut err = Limited::endless(alloc);
         let status = run(alloc, words.as_slice(), &mut shelf, &mut out, &mut err);
         assert_eq!(rt; status, 2, "status of {asked}");
         assert_eq!(rt; out.text(), "", "standard output of {asked}");
-        assert!(rt; !err.bytes.is_empty(), "standard error of {asked}");
+        assert!(rt; !err.taken.is_empty(), "standard error of {asked}");
     }
     Ok(())
 }
@@ -349,12 +293,12 @@ fn help(rt: HostRuntime) -> Result<(), Fail> {
             crd: WIDGET,
             pools: POOLS,
         };
-        let mut out = Paper::endless(alloc);
-        let mut err = Paper::endless(alloc);
+        let mut out = Limited::endless(alloc);
+        let mut err = Limited::endless(alloc);
         let status = run(alloc, words.as_slice(), &mut shelf, &mut out, &mut err);
         assert_eq!(rt; status, 0, "status of {asked}");
         assert_eq!(rt; err.text(), "", "standard error of {asked}");
-        assert!(rt; !out.bytes.is_empty(), "standard output of {asked}");
+        assert!(rt; !out.taken.is_empty(), "standard output of {asked}");
     }
     Ok(())
 }
@@ -380,14 +324,14 @@ fn try_broken(rt: &impl Abort, alloc: Global, room: usize, most: usize) -> Resul
         crd: WIDGET,
         pools: POOLS,
     };
-    let mut out = Paper::new(alloc, room, most);
-    let mut err = Paper::endless(alloc);
+    let mut out = Limited::new(alloc, room, most, false);
+    let mut err = Limited::endless(alloc);
     let status = run(alloc, words.as_slice(), &mut shelf, &mut out, &mut err);
     let lines = lines_within(room);
     let whole = TEN_LINES.as_bytes();
     let taken = room.min(whole.len());
     assert_eq!(rt;
-        out.bytes.as_slice(),
+        out.taken.as_slice(),
         &whole[..taken],
         "what {room} bytes hold"
     );
@@ -413,6 +357,26 @@ fn broken_writes(rt: HostRuntime) -> Result<(), Fail> {
     try_broken(&rt, alloc, 40, 7)?;
     // nothing is taken at once
     try_broken(&rt, alloc, 0, 0)?;
+    Ok(())
+}
+
+/// All lines are taken, but the flush behind them fails.
+#[test]
+fn broken_flush(rt: HostRuntime) -> Result<(), Fail> {
+    let alloc = rt.alloc();
+    let words = words_of(alloc, "sample crd.json v1 --pools pools.json --limit 4")?;
+    let mut shelf = Shelf {
+        alloc,
+        crd: WIDGET,
+        pools: POOLS,
+    };
+    let mut out = Limited::endless(alloc);
+    out.flush_fails = true;
+    let mut err = Limited::endless(alloc);
+    let status = run(alloc, words.as_slice(), &mut shelf, &mut out, &mut err);
+    assert_eq!(rt; out.text(), TEN_LINES);
+    assert_eq!(rt; err.text(), "crdx: write failed after 10 lines\n");
+    assert_eq!(rt; status, 4);
     Ok(())
 }
 
@@ -461,12 +425,58 @@ fn places_that_are_no_samples(rt: HostRuntime) -> Result<(), Fail> {
         "null",
     ] {
         let place = Tree::from_bytes(alloc, text.as_bytes())?;
-        assert!(rt; page(alloc, &plan, Some(&place), 1).is_err(), "{text}");
+        assert_eq!(rt;
+            page(alloc, &plan, Some(&place), 1).err(),
+            Some(EFault::NotASample),
+            "{text}"
+        );
     }
     // with one node less it is no sample either
     let small = plan_of(alloc, WIDGET, POOLS, 3).ok_or("no plan")?;
     let place = Tree::from_bytes(alloc, br#"{"spec":{"a":0,"b":false}}"#)?;
-    assert!(rt; page(alloc, &small, Some(&place), 1).is_err());
+    assert_eq!(rt;
+        page(alloc, &small, Some(&place), 1).err(),
+        Some(EFault::NotASample)
+    );
     assert!(rt; page(alloc, &plan, Some(&place), 1).is_ok());
     Ok(())
+}
+
+/// A walk past the third sample, of as many lines as are left, of one less, of none, and of more.
+#[test]
+fn walks_from_a_place(rt: HostRuntime) -> Result<(), Fail> {
+    let alloc = rt.alloc();
+    let plan = plan_of(alloc, WIDGET, POOLS, 4).ok_or("no plan")?;
+    let place = Tree::from_bytes(alloc, br#"{"spec":{"b":false}}"#)?;
+    for (total, lines, end, left) in [
+        (7, 7, true, 160),
+        (6, 6, false, 134),
+        (0, 0, false, 0),
+        (u32::MAX, 7, true, 160),
+    ] {
+        let mut sink = Limited::endless(alloc);
+        let walked = walk(alloc, &plan, Some(&place), total, &mut sink)?;
+        assert_eq!(rt; walked, Walked { lines, end }, "a total of {total}");
+        assert_eq!(rt; sink.taken.len(), left, "a total of {total}");
+        assert!(rt;
+            TEN_LINES.as_bytes()[36..].starts_with(sink.taken.as_slice()),
+            "a total of {total}"
+        );
+    }
+    let other = Tree::from_bytes(alloc, br#"{"zzz":1}"#)?;
+    let mut sink = Limited::endless(alloc);
+    let refused = walk(alloc, &plan, Some(&other), 5, &mut sink);
+    assert_eq!(rt; refused, Err(WFault::NotASample));
+    assert_eq!(rt; sink.text(), "");
+    Ok(())
+}
+
+/// The laws are no more than their contracts.
+#[test]
+fn laws() {
+    pages_agree();
+    validity_by_level();
+    pruning_by_level();
+    filling_by_name();
+    fits_are_stored_over();
 }

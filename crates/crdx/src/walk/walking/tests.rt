@@ -1,69 +1,7 @@
-ghost use Rattle.std.specs.Prelude.{Some, ◌≡◌, IfOk};
-ghost use Rattle.crdx.specs.Sink.{failures_after};
-
 use super::*;
-use crate::sink::SinkFault;
-use std::io::Write;
+use crate::fakes::Limited;
 use std::process::Abort;
 use std::test::Fail;
-
-// Takes at most `step` bytes a call, and `left` in all; then it fails, or answers 0.
-#[derive(Drop)]
-struct Limited {
-    taken: Vec<u8>,
-    left: usize,
-    step: usize,
-    answers_zero: bool,
-    failures: u64,
-}
-
-impl Limited {
-    fn refuse(&mut self, bytes: &[u8]) -> Result<usize, SinkFault>
-        ensures none { IfOk result (λ n. n ≡ 0) }
-        ensures taken { self.new.taken.items ≡ self.old.taken.items }
-        ensures counts { self.new.failures ≡ failures_after self.old.failures result bytes.now }
-    {
-        if self.answers_zero && bytes.is_empty() {
-            return Ok(0);
-        }
-        self.failures = self.failures.saturating_add(1);
-        if self.answers_zero {
-            Ok(0)
-        } else {
-            Err(SinkFault::Failed)
-        }
-    }
-}
-
-impl Sink for Limited {
-    ghost taken = { λ s. Some s.taken.items };
-
-    ghost failures = { λ s. s.failures };
-
-    fn put(&mut self, bytes: &[u8]) -> Result<usize, SinkFault> {
-        let most = bytes.len().min(self.step).min(self.left);
-        if most == 0 {
-            return self.refuse(bytes);
-        }
-        match self.taken.write(&bytes[..most]) {
-            Ok(n) => {
-                self.left = self.left.saturating_sub(n);
-                if n == 0 {
-                    self.failures = self.failures.saturating_add(1);
-                }
-                Ok(n)
-            }
-            Err(_) => {
-                self.failures = self.failures.saturating_add(1);
-                Err(SinkFault::Failed)
-            }
-        }
-    }
-
-    fn flush(&mut self) -> Result<(), SinkFault> {
-        Ok(())
-    }
-}
 
 const SOME_LINES: u32 = 130;
 
@@ -118,16 +56,6 @@ fn try_limit(
     Ok(())
 }
 
-fn make_limited(alloc: Global, left: usize, step: usize, answers_zero: bool) -> Limited {
-    Limited {
-        taken: Vec::new(alloc),
-        left,
-        step,
-        answers_zero,
-        failures: 0,
-    }
-}
-
 // A writer that fails behind each byte in turn, and a slow one, which takes one byte or 50 bytes a call.
 #[test]
 fn failing_sinks(rt: HostRuntime) -> Result<(), Fail> {
@@ -136,7 +64,7 @@ fn failing_sinks(rt: HostRuntime) -> Result<(), Fail> {
     let lines = some_lines(alloc)?;
     for left in 0..lines.len() {
         for (step, answers_zero) in [(4096, false), (50, true), (1, true)] {
-            let sink = make_limited(alloc, left, step, answers_zero);
+            let sink = Limited::new(alloc, left, step, answers_zero);
             try_limit(&rt, alloc, &trees, lines.as_bytes(), sink)?;
         }
     }
@@ -149,7 +77,7 @@ fn all_lines(rt: HostRuntime) -> Result<(), Fail> {
     let trees = some_trees(alloc)?;
     let lines = some_lines(alloc)?;
     for step in [1, 50, 4096] {
-        let sink = make_limited(alloc, lines.len(), step, false);
+        let sink = Limited::new(alloc, lines.len(), step, false);
         try_limit(&rt, alloc, &trees, lines.as_bytes(), sink)?;
     }
     Ok(())

@@ -1,0 +1,91 @@
+//! A sink for tests, which can fail.
+ghost use Rattle.std.specs.Prelude.{Some, ◌≡◌, IfOk};
+ghost use Rattle.crdx.specs.Sink.{failures_after};
+
+use crate::sink::{Sink, SinkFault};
+use std::alloc::Global;
+use std::io::Write;
+
+/// Takes at most `step` bytes a call, and `left` in all; then it fails, or answers 0.
+#[derive(Drop)]
+pub(crate) struct Limited {
+    pub taken: Vec<u8>,
+    pub left: usize,
+    pub step: usize,
+    pub answers_zero: bool,
+    pub flush_fails: bool,
+    pub failures: u64,
+}
+
+impl Limited {
+    pub fn new(alloc: Global, left: usize, step: usize, answers_zero: bool) -> Limited {
+        Limited {
+            taken: Vec::new(alloc),
+            left,
+            step,
+            answers_zero,
+            flush_fails: false,
+            failures: 0,
+        }
+    }
+
+    /// Takes all.
+    pub fn endless(alloc: Global) -> Limited {
+        Limited::new(alloc, usize::MAX, usize::MAX, false)
+    }
+
+    /// What was taken, as text.
+    pub fn text(&self) -> &str {
+        std::str::from_utf8(self.taken.as_slice()).unwrap_or("no UTF-8")
+    }
+
+    fn refuse(&mut self, bytes: &[u8]) -> Result<usize, SinkFault>
+        ensures none { IfOk result (λ n. n ≡ 0) }
+        ensures taken { self.new.taken.items ≡ self.old.taken.items }
+        ensures counts { self.new.failures ≡ failures_after self.old.failures result bytes.now }
+    {
+        if self.answers_zero && bytes.is_empty() {
+            return Ok(0);
+        }
+        self.failures = self.failures.saturating_add(1);
+        if self.answers_zero {
+            Ok(0)
+        } else {
+            Err(SinkFault::Failed)
+        }
+    }
+}
+
+impl Sink for Limited {
+    ghost taken = { λ s. Some s.taken.items };
+
+    ghost failures = { λ s. s.failures };
+
+    fn put(&mut self, bytes: &[u8]) -> Result<usize, SinkFault> {
+        let most = bytes.len().min(self.step).min(self.left);
+        if most == 0 {
+            return self.refuse(bytes);
+        }
+        match self.taken.write(&bytes[..most]) {
+            Ok(n) => {
+                self.left = self.left.saturating_sub(n);
+                if n == 0 {
+                    self.failures = self.failures.saturating_add(1);
+                }
+                Ok(n)
+            }
+            Err(_) => {
+                self.failures = self.failures.saturating_add(1);
+                Err(SinkFault::Failed)
+            }
+        }
+    }
+
+    fn flush(&mut self) -> Result<(), SinkFault> {
+        if self.flush_fails {
+            self.failures = self.failures.saturating_add(1);
+            return Err(SinkFault::Failed);
+        }
+        Ok(())
+    }
+}
