@@ -30,3 +30,4 @@ pub mod Block
 pub mod Stopped
 pub mod Stopping
 pub mod Walk
+pub mod Ending

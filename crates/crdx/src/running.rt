@@ -1,5 +1,8 @@
 //! The whole program.
 
+ghost use Rattle.std.specs.Prelude.{◌≡◌, ◌≤◌, ◌⊎◌};
+ghost use Rattle.crdx.specs.Ending.{status};
+
 use crate::inputs::{InFault, Inputs};
 use crate::plan::{PFault, Plan, Pools};
 use crate::schema::{SFault, read_crd};
@@ -19,6 +22,11 @@ enum Input {
 }
 
 impl fmt::Display for Input {
+    ghost use Rattle.std.specs.Prelude.{Some};
+    ghost use Rattle.crdx.specs.Ending.{input_name};
+
+    ghost output = { λ i. Some (input_name i) };
+
     fn fmt<W: fmt::Write>(&self, f: &mut fmt::Formatter<W>) -> fmt::Result {
         match self {
             Input::Crd => write!(f, "crd"),
@@ -56,6 +64,11 @@ enum PlaceCode {
 }
 
 impl fmt::Display for PlaceCode {
+    ghost use Rattle.std.specs.Prelude.{Some};
+    ghost use Rattle.crdx.specs.Ending.{code_name};
+
+    ghost output = { λ c. Some (code_name c) };
+
     fn fmt<W: fmt::Write>(&self, f: &mut fmt::Formatter<W>) -> fmt::Result {
         match self {
             PlaceCode::NotYet => write!(f, "S0"),
@@ -65,12 +78,22 @@ impl fmt::Display for PlaceCode {
 }
 
 impl From<AllocError> for Stop {
+    ghost use Rattle.std.specs.Prelude.{◌≡◌};
+    ghost use Rattle.crdx.specs.declared.running.Stop.TheVariants.{NoMemory};
+
+    ghost from_gives = { λ _ stop. stop ≡ NoMemory };
+
     fn from(_refused: AllocError) -> Stop {
         Stop::NoMemory
     }
 }
 
 impl From<SFault> for Stop {
+    ghost use Rattle.std.specs.Prelude.{◌≡◌};
+    ghost use Rattle.crdx.specs.Ending.{stop_of_reading};
+
+    ghost from_gives = { λ fault stop. stop ≡ stop_of_reading fault };
+
     fn from(fault: SFault) -> Stop {
         match fault {
             SFault::NoMemory => Stop::NoMemory,
@@ -80,6 +103,11 @@ impl From<SFault> for Stop {
 }
 
 impl From<Refused> for Stop {
+    ghost use Rattle.std.specs.Prelude.{◌≡◌};
+    ghost use Rattle.crdx.specs.Ending.{stop_of_refusal};
+
+    ghost from_gives = { λ fault stop. stop ≡ stop_of_refusal fault };
+
     fn from(refused: Refused) -> Stop {
         match refused {
             Refused::NotYet(pointer) => Stop::Place(Input::Crd, PlaceCode::NotYet, pointer),
@@ -89,6 +117,11 @@ impl From<Refused> for Stop {
 }
 
 impl From<PFault> for Stop {
+    ghost use Rattle.std.specs.Prelude.{◌≡◌};
+    ghost use Rattle.crdx.specs.Ending.{stop_of_pools};
+
+    ghost from_gives = { λ fault stop. stop ≡ stop_of_pools fault };
+
     fn from(fault: PFault) -> Stop {
         match fault {
             PFault::Form(pointer) => Stop::Place(Input::Pools, PlaceCode::Form, pointer),
@@ -99,6 +132,11 @@ impl From<PFault> for Stop {
 }
 
 impl From<WFault> for Stop {
+    ghost use Rattle.std.specs.Prelude.{◌≡◌};
+    ghost use Rattle.crdx.specs.Ending.{stop_of_walk};
+
+    ghost from_gives = { λ fault stop. stop ≡ stop_of_walk fault };
+
     fn from(fault: WFault) -> Stop {
         match fault {
             WFault::NotASample => Stop::NotASample,
@@ -117,7 +155,9 @@ pub fn run<I: Inputs, W: Sink, E: Sink>(
     inputs: &mut I,
     out: &mut W,
     err: &mut E,
-) -> u8 {
+) -> u8
+    ensures { result ≤ 5 }
+{
     match parse_words(alloc, words) {
         Outcome::Sample(words) => match sample(alloc, &words, inputs, out) {
             Ok(walked) => {
@@ -198,7 +238,9 @@ fn say<W: Sink>(out: &mut W, text: &[u8]) -> Result<(), Stop> {
 }
 
 /// Says on `err` why a run has no answer, and answers its status.
-fn report<E: Sink>(alloc: Global, stop: &Stop, err: &mut E) -> u8 {
+fn report<E: Sink>(alloc: Global, stop: &Stop, err: &mut E) -> u8
+    ensures { (result ≡ status stop.now) ⊎ (result ≡ 5) }
+{
     match line_of(alloc, stop) {
         Ok(line) => {
             let _ = put_all(err, line.as_bytes());
@@ -235,7 +277,9 @@ fn line_of(alloc: Global, stop: &Stop) -> Result<String, AllocError> {
     }
 }
 
-fn status_of(stop: &Stop) -> u8 {
+fn status_of(stop: &Stop) -> u8
+    ensures { result ≡ status stop.now }
+{
     match stop {
         Stop::NotASample => 1,
         Stop::Document(_, _) | Stop::Crd(_) | Stop::Pools(_) | Stop::Place(_, _, _) => 3,
