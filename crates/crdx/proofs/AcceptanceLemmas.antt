@@ -3,51 +3,64 @@ use Rattle.std.proofs.Common.{◌≡◌, ◌≢◌, ◌⊎◌, ◌<◌, ◌≤�
 use Rattle.std.specs.Prelude.{option_and_then, codes}
 use Rattle.std.specs.Str.{bytes_eq}
 use Rattle.std.proofs.lemmas.Option.{same_Some, option_and_then_some}
-use Rattle.std.proofs.lemmas.List.{take-append-drop, drop_more}
+use Rattle.std.proofs.lemmas.List.{take-append-drop, drop_more, length-map}
 use Rattle.std.proofs.lemmas.Cmp.{nat_list_cmp_total, tied_itself}
 use Rattle.std.specs.declared.cmp.Ordering.TheVariants.{Less, Greater}
 use Rattle.jtree.specs.Data.{Data, Items, Members, no_members, member, IsBefore, IsObject, depth, members_depth}
 use Rattle.jtree.specs.Data as tree
 use Rattle.jtree.specs.Order.{text_cmp}
-use Rattle.jtree.specs.Path.{member_at}
+use Rattle.jtree.specs.Path.{member_at, under}
 use Rattle.jtree.specs.View.{data_of, members_of}
 use Rattle.jtree.specs.declared.value.Member.{Member}
-use Rattle.crdx.specs.Crd.{under}
-use Rattle.crdx.specs.Node.{Fields, no_fields, field, IsNode, IsBeforeFields, AreOrdered}
+use Rattle.crdx.specs.Node.{Node, scalar, object, Fields, no_fields, field, IsNode, IsBeforeFields, AreOrdered}
 use Rattle.crdx.specs.NodeView.{node_of, fields_of}
-use Rattle.crdx.specs.declared.schema.node.Field.{Field}
+use Rattle.crdx.specs.declared.stored.node.Field.{Field}
 use Rattle.crdx.specs.Place.{Place, schema_at, place_cmp}
-use Rattle.crdx.specs.Accepted.{IsEnvelope, IsEnvelopeName, IsKnown, known_object, known_scalar, IsKnownScalar, IsKnownObject, AllKnown, IsNodeOf, AreFieldsOf}
+use Rattle.crdx.specs.Accepted.{IsEnvelope, envelope_names, IsKnown, in_envelope, known_object, known_scalar, IsKnownScalar, IsKnownObject, AllKnown, IsNodeOf, IsNodeAt, AreFieldsOf, kept, properties_of}
+use Rattle.schema.specs.Forms.{is_among}
 use Rattle.crdx.specs.Acceptance.{members_at, AreKnown, IsFirst, IsRefusedAt, AreNodes}
+use Rattle.schema.specs.Breaks.{AreViolations, IsUnbroken, told, told_of}
+use Rattle.schema.specs.declared.violation.Violation.{Violation}
 use Rattle.crdx.specs.Refusal.{IsRefusal}
 use Rattle.crdx.specs.declared.stored.refused.Refused.{Refused}
-use Rattle.crdx.specs.declared.stored.refused.Refused.TheVariants.{NotYet, NoMemory}
-use Rattle.crdx.proofs.Names.{bool_cases, option_cases, same_name, own_name, member_first, member_tail, before_each}
+use Rattle.crdx.specs.declared.stored.refused.Refused.TheVariants.{Violations, NotYet, NoMemory}
+use Rattle.jtree.specs.Lookups.{bool_cases, option_cases, same_name, own_name, member_first, member_tail, before_each, IsBefore-trans}
 
 name_properties : List ℕ
 name_properties = codes "properties"
 
 -- ---- one place further from the root
 
-no_envelope : (root : Bool) (k : List ℕ) (q : Place) → ((root ≡ true) → IsEnvelopeName k → ⊥) → IsEnvelope root (k ∷ q) → ⊥
-no_envelope true k q h e = h refl e
-no_envelope false k q h e = e
-
 no_envelope_here : (root : Bool) → IsEnvelope root [] → ⊥
 no_envelope_here true e = e
 no_envelope_here false e = e
 
-known_below : (root : Bool) (k : List ℕ) (q : Place) (s : Data) → ((root ≡ true) → IsEnvelopeName k → ⊥) → IsKnown false q s → IsKnown root (k ∷ q) s
-known_below root k q s h (known_object _ _ _ e known) = known_object root (k ∷ q) s (no_envelope root k q h) known
-known_below root k q s h (known_scalar _ _ _ e below known) = known_scalar root (k ∷ q) s (no_envelope root k q h) (λ is none. cc) known
+known_below : (k : List ℕ) (q : Place) (s : Data) → IsKnown false q s → IsKnown false (k ∷ q) s
+known_below k q s (in_envelope _ _ _ e) = absurd e
+known_below k q s (known_object _ _ _ known) = known_object false (k ∷ q) s known
+known_below k q s (known_scalar _ _ _ below known) = known_scalar false (k ∷ q) s (λ is none. cc) known
 
-known_above : (root : Bool) (k : List ℕ) (q : Place) (s : Data) → IsKnown root (k ∷ q) s → IsKnown false q s
-known_above root k q s (known_object _ _ _ e known) = known_object false q s (λ x. x) known
-known_above root k q s (known_scalar _ _ _ e below known) = known_scalar false q s (λ x. x) (λ x. cc) known
+known_above : (k : List ℕ) (q : Place) (s : Data) → IsKnown false (k ∷ q) s → IsKnown false q s
+known_above k q s (in_envelope _ _ _ e) = absurd e
+known_above k q s (known_object _ _ _ known) = known_object false q s known
+known_above k q s (known_scalar _ _ _ below known) = known_scalar false q s (λ x. cc) known
 
-envelope_unknown : (k : List ℕ) (q : Place) (s : Data) → IsEnvelopeName k → IsKnown true (k ∷ q) s → ⊥
-envelope_unknown k q s is (known_object _ _ _ e known) = e is
-envelope_unknown k q s is (known_scalar _ _ _ e below known) = e is
+-- ---- at the root
+
+-- a name is of the envelope at each place below it
+same_envelope : (root : Bool) (k : List ℕ) (p q : Place) → IsEnvelope root (k ∷ p) → IsEnvelope root (k ∷ q)
+same_envelope true k p q e = e
+same_envelope false k p q e = e
+
+known_at : (root : Bool) (k : List ℕ) (q : Place) (s : Data) → IsKnown false (k ∷ q) s → IsKnown root (k ∷ q) s
+known_at root k q s (in_envelope _ _ _ e) = absurd e
+known_at root k q s (known_object _ _ _ known) = known_object root (k ∷ q) s known
+known_at root k q s (known_scalar _ _ _ below known) = known_scalar root (k ∷ q) s (λ is none. cc) known
+
+known_of : (root : Bool) (k : List ℕ) (q : Place) (s : Data) → (IsEnvelope root (k ∷ []) → ⊥) → IsKnown root (k ∷ q) s → IsKnown false (k ∷ q) s
+known_of root k q s other (in_envelope _ _ _ e) = absurd (other (same_envelope root k q [] e))
+known_of root k q s other (known_object _ _ _ known) = known_object false (k ∷ q) s known
+known_of root k q s other (known_scalar _ _ _ below known) = known_scalar false (k ∷ q) s (λ is none. cc) known
 
 -- ---- path order
 
@@ -79,32 +92,51 @@ below_one k d (l ∷ q) s at = elim (bool_cases (bytes_eq l k)) [
   | inr f ↦ let none = rw f at at in cc
 ]
 
-pub one_known : (root : Bool) (k : List ℕ) (d : Data) → ((root ≡ true) → IsEnvelopeName k → ⊥) → AllKnown false d → AreKnown root (members_at (member k d no_members))
-one_known root k d h known place s at =
+pub one_known : (k : List ℕ) (d : Data) → AllKnown false d → AreKnown false (members_at (member k d no_members))
+one_known k d known place s at =
     let below = below_one k d place s at in
-    subst (λ p. IsKnown root p s) (sym below.1) (known_below root k below.0 s h (known below.0 s below.2))
+    subst (λ p. IsKnown false p s) (sym below.1) (known_below k below.0 s (known below.0 s below.2))
 
-pub one_first : (root : Bool) (k : List ℕ) (d : Data) (q : Place) → ((root ≡ true) → IsEnvelopeName k → ⊥) → IsFirst false (schema_at d) q
-    → IsFirst root (members_at (member k d no_members)) (k ∷ q)
-one_first root k d q h f = record {
+pub one_first : (k : List ℕ) (d : Data) (q : Place) → IsFirst false (schema_at d) q → IsFirst false (members_at (member k d no_members)) (k ∷ q)
+one_first k d q f = record {
   schema = f.schema;
   is = one_at k d q ∙ f.is;
-  unknown = λ known. f.unknown (known_above root k q f.schema known);
+  unknown = λ known. f.unknown (known_above k q f.schema known);
   first = λ place s at before.
       let below = below_one k d place s at in
-      subst (λ p. IsKnown root p s) (sym below.1)
-      (known_below root k below.0 s h (f.first below.0 s below.2 (same_step k below.0 q (subst (λ p. place_cmp p (k ∷ q) ≡ Less) below.1 before))));
+      subst (λ p. IsKnown false p s) (sym below.1)
+      (known_below k below.0 s (f.first below.0 s below.2 (same_step k below.0 q (subst (λ p. place_cmp p (k ∷ q) ≡ Less) below.1 before))));
 }
 
-pub envelope_first : (root : Bool) (k : List ℕ) (d : Data) → root ≡ true → IsEnvelopeName k → IsFirst root (members_at (member k d no_members)) (k ∷ [])
-envelope_first root k d is name = record {
-  schema = d;
-  is = one_at k d [];
-  unknown = λ known. envelope_unknown k [] d name (subst (λ b. IsKnown b (k ∷ []) d) is known);
-  first = λ place s at before.
-      let below = below_one k d place s at in
-      absurd (not_before_none below.0 (same_step k below.0 [] (subst (λ p. place_cmp p (k ∷ []) ≡ Less) below.1 before)));
-}
+-- the same at the root
+pub one_known_at : (root : Bool) (k : List ℕ) (d : Data) → AreKnown false (members_at (member k d no_members)) → AreKnown root (members_at (member k d no_members))
+one_known_at root k d known place s at =
+    let below = below_one k d place s at in
+    subst (λ p. IsKnown root p s) (sym below.1) (known_at root k below.0 s (subst (λ p. IsKnown false p s) below.1 (known place s at)))
+
+pub envelope_known : (root : Bool) (k : List ℕ) (d : Data) → IsEnvelope root (k ∷ []) → AreKnown root (members_at (member k d no_members))
+envelope_known root k d e place s at =
+    let below = below_one k d place s at in
+    subst (λ p. IsKnown root p s) (sym below.1) (in_envelope root (k ∷ below.0) s (same_envelope root k [] below.0 e))
+
+pub one_first_at : (root : Bool) (k : List ℕ) (d : Data) (place : Place) → (IsEnvelope root (k ∷ []) → ⊥) → IsFirst false (members_at (member k d no_members)) place
+    → IsFirst root (members_at (member k d no_members)) place
+one_first_at root k d place other f =
+    let here = below_one k d place f.schema f.is in
+    record {
+      schema = f.schema;
+      is = f.is;
+      unknown = λ known. f.unknown (subst (λ p. IsKnown false p f.schema) (sym here.1) (known_of root k here.0 f.schema other (subst (λ p. IsKnown root p f.schema) here.1 known)));
+      first = λ earlier s at before.
+          let below = below_one k d earlier s at in
+          subst (λ p. IsKnown root p s) (sym below.1) (known_at root k below.0 s (subst (λ p. IsKnown false p s) below.1 (f.first earlier s at before)));
+    }
+
+pub refused_at : (root : Bool) (k : List ℕ) (d : Data) (e : Refused) → (IsEnvelope root (k ∷ []) → ⊥) → IsRefusedAt false (members_at (member k d no_members)) e
+    → IsRefusedAt root (members_at (member k d no_members)) e
+refused_at root k d (Violations vs) other r = r
+refused_at root k d (NotYet p) other r = (r.0, r.1, one_first_at root k d r.0 other r.2)
+refused_at root k d NoMemory other r = r
 
 -- ---- some properties
 
@@ -194,7 +226,7 @@ none_below : (d : Data) → under d (codes "properties") ≡ None → (k : List 
 none_below d at k q = rw at refl
 
 own_object : (root : Bool) (d s : Data) → IsKnownObject d → Some d ≡ Some s → IsKnown root [] s
-own_object root d s known at = subst (λ x. IsKnown root [] x) (same_Some d s at) (known_object root [] d (no_envelope_here root) known)
+own_object root d s known at = subst (λ x. IsKnown root [] x) (same_Some d s at) (known_object root [] d known)
 
 pub empty_known : (root : Bool) (d : Data) → IsKnownObject d → under d (codes "properties") ≡ None → AllKnown root d
 empty_known root d known none [] s at = own_object root d s known at
@@ -222,17 +254,18 @@ object_first root d ms (k ∷ q) known at f = record {
 no_properties : (d : Data) → IsKnownScalar d → under d (codes "properties") ≡ None
 no_properties d known = elim (option_cases (under d (codes "properties"))) [
   | inl none ↦ none
-  | inr some ↦ let same : codes "properties" ≡ codes "type" = known.alone (codes "properties") (λ none. cc) in cc
+  | inr some ↦ let word = known.alone (codes "properties") (λ none. cc) in cc
 ]
 
 pub scalar_known : (root : Bool) (d : Data) → root ≡ false → IsKnownScalar d → AllKnown root d
-scalar_known root d is known [] s at = subst (λ x. IsKnown root [] x) (same_Some d s at) (known_scalar root [] d (no_envelope_here root) (λ at_root. cc) known)
+scalar_known root d is known [] s at = subst (λ x. IsKnown root [] x) (same_Some d s at) (known_scalar root [] d (λ at_root. cc) known)
 scalar_known root d is known (k ∷ q) s at = let nothing = none_below d (no_properties d known) k q in cc
 
 unknown_here : (root : Bool) (d : Data) → (IsKnownObject d → ⊥) → (root ≡ false → IsKnownScalar d → ⊥) → IsKnown root [] d → ⊥
-unknown_here root d no_object no_scalar (known_object _ _ _ e known) = no_object known
-unknown_here true d no_object no_scalar (known_scalar _ _ _ e below known) = below refl refl
-unknown_here false d no_object no_scalar (known_scalar _ _ _ e below known) = no_scalar refl known
+unknown_here root d no_object no_scalar (in_envelope _ _ _ e) = no_envelope_here root e
+unknown_here root d no_object no_scalar (known_object _ _ _ known) = no_object known
+unknown_here true d no_object no_scalar (known_scalar _ _ _ below known) = below refl refl
+unknown_here false d no_object no_scalar (known_scalar _ _ _ below known) = no_scalar refl known
 
 pub root_unknown : (root : Bool) (d : Data) → (IsKnownObject d → ⊥) → (root ≡ false → IsKnownScalar d → ⊥) → IsFirst root (schema_at d) []
 root_unknown root d no_object no_scalar = record {
@@ -261,12 +294,79 @@ properties_fall (tree.object ns) ms at = let h = member_falls (codes "properties
 
 -- ---- fields
 
-pub push_fields : (fs : List Field) (f : Field) (xs : List Member) (m : Member) → AreFieldsOf (fields_of fs) (members_of xs) → f.name ≡ m.name → IsNodeOf (node_of f.node) (data_of m.tree)
-    → AreFieldsOf (fields_of (fs ++ f ∷ [])) (members_of (xs ++ m ∷ []))
-push_fields [] f [] m h name node = (name, node, tt)
-push_fields [] f (x ∷ xs) m h name node = absurd h
-push_fields (g ∷ fs) f [] m h name node = absurd h
-push_fields (g ∷ fs) f (x ∷ xs) m h name node = (h.0, h.1, push_fields fs f xs m h.2 name node)
+-- the members with one more at their end
+ended : Members → List ℕ → Data → Members
+ended no_members k d = member k d no_members
+ended (member l e ms) k d = member l e (ended ms k d)
+
+end_fields : (fs : List Field) (f : Field) (ms : Members) (k : List ℕ) (d : Data) → AreFieldsOf (fields_of fs) ms → f.name ≡ k → IsNodeOf (node_of f.node) d
+    → AreFieldsOf (fields_of (fs ++ f ∷ [])) (ended ms k d)
+unfolding ended
+end_fields [] f no_members k d h name node = (name, node, tt)
+end_fields [] f (member l e ms) k d h name node = absurd h
+end_fields (g ∷ fs) f no_members k d h name node = absurd h
+end_fields (g ∷ fs) f (member l e ms) k d h name node = (h.0, h.1, end_fields fs f ms k d h.2 name node)
+
+kept_all : (ms : Members) → kept false ms ≡ ms
+kept_all no_members = refl
+kept_all (member k d ms) = refl
+
+all_ended : (xs : List Member) (m : Member) → members_of (xs ++ m ∷ []) ≡ ended (members_of xs) m.name (data_of m.tree)
+unfolding ended
+all_ended [] m = refl
+all_ended (x ∷ xs) m = ap (member x.name (data_of x.tree)) (all_ended xs m)
+
+root_ended : (xs : List Member) (m : Member) → is_among m.name envelope_names ≡ false → kept true (members_of (xs ++ m ∷ [])) ≡ ended (kept true (members_of xs)) m.name (data_of m.tree)
+unfolding ended
+root_ended [] m other = rw other refl
+root_ended (x ∷ xs) m other = elim (bool_cases (is_among x.name envelope_names)) [
+  | inl t ↦ rw t (root_ended xs m other)
+  | inr f ↦ rw f (ap (member x.name (data_of x.tree)) (root_ended xs m other))
+]
+
+kept_ended : (root : Bool) (xs : List Member) (m : Member) → (IsEnvelope root (m.name ∷ []) → ⊥) → kept root (members_of (xs ++ m ∷ [])) ≡ ended (kept root (members_of xs)) m.name (data_of m.tree)
+kept_ended false xs m other = kept_all (members_of (xs ++ m ∷ [])) ∙ all_ended xs m ∙ ap (λ ms. ended ms m.name (data_of m.tree)) (sym (kept_all (members_of xs)))
+kept_ended true xs m other = elim (bool_cases (is_among m.name envelope_names)) [
+  | inl t ↦ absurd (other t)
+  | inr f ↦ root_ended xs m f
+]
+
+pub push_fields : (root : Bool) (fs : List Field) (f : Field) (xs : List Member) (m : Member) → (IsEnvelope root (m.name ∷ []) → ⊥) → AreFieldsOf (fields_of fs) (kept root (members_of xs)) → f.name ≡ m.name
+    → IsNodeOf (node_of f.node) (data_of m.tree) → AreFieldsOf (fields_of (fs ++ f ∷ [])) (kept root (members_of (xs ++ m ∷ [])))
+push_fields root fs f xs m other h name node =
+    subst (AreFieldsOf (fields_of (fs ++ f ∷ []))) (sym (kept_ended root xs m other)) (end_fields fs f (kept root (members_of xs)) m.name (data_of m.tree) h name node)
+
+root_dropped : (xs : List Member) (m : Member) → is_among m.name envelope_names ≡ true → kept true (members_of (xs ++ m ∷ [])) ≡ kept true (members_of xs)
+root_dropped [] m is = rw is refl
+root_dropped (x ∷ xs) m is = elim (bool_cases (is_among x.name envelope_names)) [
+  | inl t ↦ rw t (root_dropped xs m is)
+  | inr f ↦ rw f (ap (member x.name (data_of x.tree)) (root_dropped xs m is))
+]
+
+-- a member of the envelope is dropped
+pub kept_dropped : (root : Bool) (xs : List Member) (m : Member) → IsEnvelope root (m.name ∷ []) → kept root (members_of (xs ++ m ∷ [])) ≡ kept root (members_of xs)
+kept_dropped true xs m e = root_dropped xs m e
+kept_dropped false xs m e = absurd e
+
+kept_before : (k : List ℕ) (ms : Members) → IsBefore k ms → IsObject ms → IsBefore k (kept true ms)
+kept_before k no_members before o = tt
+kept_before k (member l d ms) before o = elim (bool_cases (is_among l envelope_names)) [
+  | inl t ↦ rw t (kept_before k ms (IsBefore-trans k l ms before o.1) o.2)
+  | inr f ↦ rw f before
+]
+
+pub kept_object : (root : Bool) (ms : Members) → IsObject ms → IsObject (kept root ms)
+kept_object false ms o = subst IsObject (sym (kept_all ms)) o
+kept_object true no_members o = tt
+kept_object true (member k d ms) o = elim (bool_cases (is_among k envelope_names)) [
+  | inl t ↦ rw t (kept_object true ms o.2)
+  | inr f ↦ rw f (o.0, kept_before k ms o.1 o.2, kept_object true ms o.2)
+]
+
+-- a node below the root
+pub node_below : (N : Node) (s : Data) → IsNodeAt false N s → IsNodeOf N s
+node_below (scalar kind) s h = h.1
+node_below (object fs) s h = (h.0, subst (AreFieldsOf fs) (kept_all (properties_of (under s (codes "properties")))) h.1)
 
 pub push_nodes : (fs : List Field) (f : Field) → AreNodes (fields_of fs) → IsNode (node_of f.node) → AreNodes (fields_of (fs ++ f ∷ []))
 push_nodes [] f h node = (node, tt)
@@ -287,10 +387,20 @@ fields_ordered (field k N fs) (member l d ms) h nodes o = (nodes.0, fields_befor
 -- ---- refusals
 
 pub refused_along : (root : Bool) (look more : Place → Option Data) → ((place : Place) → IsFirst root look place → IsFirst root more place) → (e : Refused) → IsRefusedAt root look e → IsRefusedAt root more e
+refused_along root look more h (Violations vs) r = absurd r
 refused_along root look more h (NotYet p) r = (r.0, r.1, h r.0 r.2)
 refused_along root look more h NoMemory r = tt
 
 -- the refusal of the whole
-pub refusal : (root : Bool) (raw : Data) (e : Refused) → IsRefusedAt root (schema_at raw) e → IsRefusal root raw e
-refusal root raw (NotYet p) r = (r.0, r.1, record { schema = r.2.schema; is = r.2.is; unknown = r.2.unknown; first = r.2.first })
-refusal root raw NoMemory r = tt
+pub refusal : (raw : Data) (e : Refused) → IsUnbroken raw → IsRefusedAt true (schema_at raw) e → IsRefusal raw e
+refusal raw (Violations vs) whole r = absurd r
+refusal raw (NotYet p) whole r = (whole, (r.0, r.1, record { schema = r.2.schema; is = r.2.is; unknown = r.2.unknown; first = r.2.first }))
+refusal raw NoMemory whole r = tt
+
+-- where no violation is told, nothing is broken
+pub nothing_told : (raw : Data) (vs : List Violation) → AreViolations raw vs → vs ≡ [] → IsUnbroken raw
+nothing_told raw vs all none p r broken =
+    let found = all.1.all p r broken in
+    let same : length all.0 ≡ length vs = sym (length-map all.0 told_of) ∙ ap length (sym all.2) ∙ length-map vs told in
+    let empty : length vs ≡ 0 = ap length none in
+    absurd (omega (arith, found.1))

@@ -15,7 +15,8 @@ use Rattle.crdx.specs.Filled.{filled, filled_members, replaced, standing}
 use Rattle.crdx.specs.Stored.{IsStored}
 use Rattle.crdx.specs.Over.{Pools, IsOver, IsOverHere}
 use Rattle.crdx.specs.Fits.{Fits, MembersFit}
-use Rattle.crdx.proofs.Names.{bool_cases, option_cases, same_name, member_first, member_later, member_tail, part_at-append, declared_tail, declared_first, own_name, before_none, past_name, ordering_cases}
+use Rattle.jtree.specs.Lookups.{bool_cases, option_cases, same_name, member_first, member_later, member_tail, part_at-append, own_name, before_none, past_name, ordering_cases}
+use Rattle.crdx.proofs.Names.{declared_tail, declared_first}
 use Rattle.std.specs.declared.cmp.Ordering.TheVariants.{Greater}
 use Rattle.std.proofs.lemmas.Cmp.{nat_list_cmp_total, tied_itself}
 use Rattle.std.proofs.lemmas.Map.Lookups.{exact_bytes}

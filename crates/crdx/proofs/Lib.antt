@@ -12,7 +12,5 @@ pub mod PageBuild
 pub mod WrittenLemmas
 pub mod PoolLemmas
 pub mod InputLemmas
-pub mod VersionLemmas
-pub mod CrdLemmas
 pub mod ShapeLemmas
 pub mod AcceptanceLemmas

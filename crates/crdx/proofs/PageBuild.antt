@@ -26,7 +26,7 @@ use Rattle.crdx.specs.Sample.{Question}
 use Rattle.crdx.specs.Page.{Precedes, IsPast, IsCandidate, IsPage}
 use Rattle.crdx.specs.Values.{trees_of, AreSamples}
 use Rattle.crdx.specs.Building.{IsNext}
-use Rattle.crdx.proofs.Names.{ordering_cases, bool_cases}
+use Rattle.jtree.specs.Lookups.{ordering_cases, bool_cases}
 use Rattle.crdx.proofs.PageLemmas.{not_before_itself, recursion-among, among_middle}
 use Rattle.crdx.proofs.ValueLemmas.{contains_cases, contains_none, contains_first, contains_later, contains_mapped, mapped_contains}
 

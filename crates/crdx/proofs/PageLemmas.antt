@@ -9,7 +9,7 @@ use Rattle.jtree.specs.Data.{Data}
 use Rattle.jtree.specs.Order.{tree_cmp}
 use Rattle.crdx.specs.Sample.{Question}
 use Rattle.crdx.specs.Page.{Precedes, IsCandidate, IsPage}
-use Rattle.crdx.proofs.Names.{bool_cases}
+use Rattle.jtree.specs.Lookups.{bool_cases}
 
 -- each is before all later ones, by recursion
 abbrev Rising : List Data → Type 0

@@ -14,19 +14,19 @@ use Rattle.std.specs.declared.cmp.Ordering.TheVariants.{Less, Equal, Greater}
 use Rattle.jtree.specs.Data.{Data, Items, no_items, item, Members, no_members, member, IsObject, AreTrees}
 use Rattle.jtree.specs.Data as tree
 use Rattle.jtree.specs.Order.{text_cmp}
-use Rattle.jtree.specs.Path.{Path, name, place, member_at, item_at}
+use Rattle.jtree.specs.Path.{Path, name, place, member_at, item_at, under}
 use Rattle.jtree.specs.View.{data_of, items_of}
 use Rattle.jtree.specs.declared.value.Tree.{Tree}
 use Rattle.jtree.specs.declared.value.Tree.TheVariants as code
-use Rattle.crdx.specs.Crd.{under}
-use Rattle.crdx.specs.Node.{is_integer, is_object}
-use Rattle.crdx.specs.Pools.{path_cmp, BreaksForm, no_object, other_member, no_list, no_integer, HasForm, IsFirstBreak, integers_of_items, integers_of, pools_of, most_entries}
+use Rattle.jtree.specs.Kind.{is_integer, is_object}
+use Rattle.jtree.specs.PathOrder.{path_cmp}
+use Rattle.crdx.specs.Pools.{BreaksForm, no_object, other_member, no_list, no_integer, HasForm, IsFirstBreak, integers_of_items, integers_of, pools_of, most_entries}
 use Rattle.crdx.specs.Over.{Pools}
 use Rattle.crdx.specs.PoolForm.{other_item, pool_break, below_name, or_else, members_break, IsBreakFault, IsPoolFault}
 use Rattle.crdx.specs.PoolFault.{IsPoolsFault}
 use Rattle.crdx.specs.declared.plan.fault.PFault.{PFault}
 use Rattle.crdx.specs.declared.plan.fault.PFault.TheVariants.{Form, TooLarge, NoMemory, BadLimit}
-use Rattle.crdx.proofs.Names.{bool_cases, option_cases, same_name, own_name, member_first, member_later, before_each, before_none}
+use Rattle.jtree.specs.Lookups.{bool_cases, option_cases, same_name, own_name, member_first, member_later, before_each, before_none}
 
 -- the name of the pool of integers
 abbrev name_integers : List ℕ

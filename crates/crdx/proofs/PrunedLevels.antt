@@ -15,7 +15,7 @@ use Rattle.crdx.specs.Node.{Node, scalar, object, Fields, declared}
 use Rattle.crdx.specs.Leads.{node_by, leads}
 use Rattle.crdx.specs.Pruned.{IsUndeclared, undeclared, IsCut, IsPruned, label, label_at}
 use Rattle.crdx.specs.ByLevel.{in_front, pruned, pruned_members}
-use Rattle.crdx.proofs.Names.{bool_cases, option_cases, ordering_cases, same_name, member_first, member_later, before_none, IsBefore-trans}
+use Rattle.jtree.specs.Lookups.{bool_cases, option_cases, ordering_cases, same_name, member_first, member_later, before_none, IsBefore-trans}
 
 -- ---- what stands where after pruning level by level
 

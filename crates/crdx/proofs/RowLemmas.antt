@@ -9,7 +9,8 @@ use Rattle.crdx.specs.Node.{Node, Fields, no_fields, field, declared, IsBeforeFi
 use Rattle.crdx.specs.Over.{Pools}
 use Rattle.crdx.specs.Fits.{Fits, MembersFit}
 use Rattle.crdx.specs.Values.{AreValuesOf, IsRowOf, AreRowsOf, IsExtendedRow, AreExtendedRows}
-use Rattle.crdx.proofs.Names.{bool_cases, same_name, later_name, before_each_field, declared_first, declared_later, declared_tail, IsBefore-trans}
+use Rattle.jtree.specs.Lookups.{bool_cases, same_name, later_name, IsBefore-trans}
+use Rattle.crdx.proofs.Names.{before_each_field, declared_first, declared_later, declared_tail}
 
 -- the one element of a list
 pub contains_one : {X : Type 0} (x y : X) → Contains (x ∷ []) y → x ≡ y

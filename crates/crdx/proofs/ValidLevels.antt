@@ -11,7 +11,7 @@ use Rattle.crdx.specs.Leads.{node_by, leads}
 use Rattle.crdx.specs.Fault.{HasFault, IsValid}
 use Rattle.crdx.specs.Fault as fault
 use Rattle.crdx.specs.ByLevel.{IsValidByLevel, AreValidMembers}
-use Rattle.crdx.proofs.Names.{bool_cases, option_cases, same_name, member_first, member_later, member_tail}
+use Rattle.jtree.specs.Lookups.{bool_cases, option_cases, same_name, member_first, member_later, member_tail}
 use Rattle.crdx.proofs.FitsLemmas.{below, faultless_kind, no_null}
 
 level_member : (fs : Fields) (ms : Members) (k : List ℕ) (w : Data) (M : Node) → AreValidMembers fs ms → member_at k ms ≡ Some w → declared k fs ≡ Some M → IsValidByLevel M w

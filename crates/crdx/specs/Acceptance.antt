@@ -1,16 +1,16 @@
 -- For private contracts: what is known of the schemas that stand at some places, and the shape of one of them.
-use Rattle.std.specs.Prelude.{◌≡◌, ◌⊎◌, ℕ, List, [], ◌∷◌, Bool, false, Option, Some, None, option_and_then, codes, string_bytes}
+use Rattle.std.specs.Prelude.{◌≡◌, ℕ, List, [], ◌∷◌, Bool, true, false, Option, Some, None, option_and_then, codes, string_bytes}
 use Rattle.std.specs.declared.cmp.Ordering.TheVariants.{Less}
 use Rattle.jtree.specs.Data.{Data, Members, no_members, member}
 use Rattle.jtree.specs.Data as tree
-use Rattle.jtree.specs.Path.{member_at}
-use Rattle.crdx.specs.Crd.{under}
+use Rattle.jtree.specs.Path.{member_at, under}
+use Rattle.schema.specs.Forms.{is_among}
 use Rattle.crdx.specs.Node.{ScalarKind, boolean, integer, Fields, no_fields, field, IsNode}
 use Rattle.crdx.specs.NodeView.{kind_of}
 use Rattle.crdx.specs.Place.{Place, schema_at, place_pointer, place_cmp}
-use Rattle.crdx.specs.Accepted.{HasType, IsKnown, IsKnownScalar, IsKnownObject}
+use Rattle.crdx.specs.Accepted.{HasType, IsKnown, IsKnownScalar, IsKnownObject, known_words}
 use Rattle.crdx.specs.declared.stored.refused.Refused.{Refused}
-use Rattle.crdx.specs.declared.stored.refused.Refused.TheVariants.{NotYet, NoMemory}
+use Rattle.crdx.specs.declared.stored.refused.Refused.TheVariants.{Violations, NotYet, NoMemory}
 use Rattle.crdx.specs.declared.stored.shape.Shape.{Shape}
 use Rattle.crdx.specs.declared.stored.shape.Shape.TheVariants as shape
 
@@ -30,6 +30,7 @@ pub record IsFirst (root : Bool) (look : Place → Option Data) (place : Place) 
 
 -- the pointer of the first unknown place, or memory is wanting
 abbrev pub IsRefusedAt : Bool → (Place → Option Data) → Refused → Type 0
+IsRefusedAt root look (Violations vs) = ⊥
 IsRefusedAt root look (NotYet p) = (place : Place) × (string_bytes p ≡ place_pointer place) × IsFirst root look place
 IsRefusedAt root look NoMemory = Unit {0}
 
@@ -37,10 +38,10 @@ abbrev pub kind_name : ScalarKind → List ℕ
 kind_name boolean = codes "boolean"
 kind_name integer = codes "integer"
 
--- each name is one of the two
-abbrev pub HaveNames : List ℕ → List ℕ → Members → Type 0
-HaveNames k l no_members = Unit {0}
-HaveNames k l (member m d ms) = ((m ≡ k) ⊎ (m ≡ l)) × HaveNames k l ms
+-- each name is a known keyword of a scalar, or of an object
+abbrev pub HaveNames : Bool → Members → Type 0
+HaveNames object no_members = Unit {0}
+HaveNames object (member m d ms) = (is_among m (known_words object) ≡ true) × HaveNames object ms
 
 -- what a raw schema is, its properties aside
 abbrev pub IsShape : Bool → Data → Shape → Type 0

@@ -1,18 +1,24 @@
--- Which raw schemas are accepted at this stage, and the node of each: objects with properties, integers and booleans.
-use Rattle.std.specs.Prelude.{◌≡◌, ◌≢◌, ◌⊎◌, ℕ, List, [], ◌∷◌, Bool, true, false, Option, Some, None, codes}
+-- Which raw schemas are accepted at this stage, and the node of each: objects with properties, integers and booleans. The
+-- envelope of a resource is let through, and so are keywords without effect.
+use Rattle.std.specs.Prelude.{◌≡◌, ◌≢◌, ◌⊎◌, ℕ, List, [], ◌∷◌, Bool, true, false, Option, Some, None, if◌then◌else◌, codes}
 use Rattle.std.specs.declared.cmp.Ordering.TheVariants.{Less}
 use Rattle.jtree.specs.Data.{Data, Members, no_members, member}
 use Rattle.jtree.specs.Data as tree
-use Rattle.crdx.specs.Crd.{under}
-use Rattle.crdx.specs.Node.{Node, scalar, boolean, integer, object, Fields, no_fields, field, is_object}
+use Rattle.jtree.specs.Path.{under}
+use Rattle.schema.specs.Forms.{is_among}
+use Rattle.crdx.specs.Node.{Node, scalar, boolean, integer, object, Fields, no_fields, field}
+use Rattle.jtree.specs.Kind.{is_object}
 use Rattle.crdx.specs.Place.{Place, schema_at, place_pointer, place_cmp}
 
 abbrev pub HasType : Data → List ℕ → Type 0
 HasType s name = under s (codes "type") ≡ Some (tree.text name)
 
 -- at the root of the schema `apiVersion`, `kind` and `metadata` are the envelope of a resource
+abbrev pub envelope_names : List (List ℕ)
+envelope_names = codes "apiVersion" ∷ codes "kind" ∷ codes "metadata" ∷ []
+
 abbrev pub IsEnvelopeName : List ℕ → Type 0
-IsEnvelopeName k = (k ≡ codes "apiVersion") ⊎ (k ≡ codes "kind") ⊎ (k ≡ codes "metadata")
+IsEnvelopeName k = is_among k envelope_names ≡ true
 
 abbrev pub IsEnvelope : Bool → Place → Type 0
 IsEnvelope true (k ∷ place) = IsEnvelopeName k
@@ -24,21 +30,31 @@ abbrev pub AreObjects : Members → Type 0
 AreObjects no_members = Unit {0}
 AreObjects (member k d ms) = (is_object d ≡ true) × AreObjects ms
 
--- a scalar of one of the two types, with no other keyword
+-- keywords without effect on what an object is; `uniqueItems` is false where no rule is broken
+abbrev pub idle_words : List (List ℕ)
+idle_words = codes "title" ∷ codes "description" ∷ codes "format" ∷ codes "example" ∷ codes "externalDocs" ∷ codes "uniqueItems" ∷ []
+
+-- the keywords that are known at a scalar, and at an object
+abbrev pub known_words : Bool → List (List ℕ)
+known_words false = codes "type" ∷ idle_words
+known_words true = codes "type" ∷ codes "properties" ∷ idle_words
+
+-- a scalar of one of the two types
 pub record IsKnownScalar (s : Data) : Type 0 where
   pub type_is : HasType s (codes "boolean") ⊎ HasType s (codes "integer")
-  pub alone : (k : List ℕ) → under s k ≢ None → k ≡ codes "type"
+  pub alone : (k : List ℕ) → under s k ≢ None → is_among k (known_words false) ≡ true
 
--- an object with or without properties, which are objects, and no other keyword
+-- an object with or without properties, which are objects
 pub record IsKnownObject (s : Data) : Type 0 where
   pub type_is : HasType s (codes "object")
-  pub alone : (k : List ℕ) → under s k ≢ None → (k ≡ codes "type") ⊎ (k ≡ codes "properties")
+  pub alone : (k : List ℕ) → under s k ≢ None → is_among k (known_words true) ≡ true
   pub properties : (p : Data) → under s (codes "properties") ≡ Some p → (ms : Members) × (p ≡ tree.object ms) × AreObjects ms
 
 -- What this stage knows at a place, counted from the root of the schema or from a place below it: at the root an object.
 pub data IsKnown : Bool → Place → Data → Type 0 where
-  known_object : (root : Bool) (place : Place) (s : Data) → (IsEnvelope root place → ⊥) → IsKnownObject s → IsKnown root place s
-  known_scalar : (root : Bool) (place : Place) (s : Data) → (IsEnvelope root place → ⊥) → (root ≡ true → place ≢ []) → IsKnownScalar s → IsKnown root place s
+  in_envelope : (root : Bool) (place : Place) (s : Data) → IsEnvelope root place → IsKnown root place s
+  known_object : (root : Bool) (place : Place) (s : Data) → IsKnownObject s → IsKnown root place s
+  known_scalar : (root : Bool) (place : Place) (s : Data) → (root ≡ true → place ≢ []) → IsKnownScalar s → IsKnown root place s
 
 -- each place is known
 abbrev pub AllKnown : Bool → Data → Type 0
@@ -76,3 +92,15 @@ abbrev mutual
   AreFieldsOf no_fields (member l d ms) = ⊥
   AreFieldsOf (field k N fs) no_members = ⊥
   AreFieldsOf (field k N fs) (member l d ms) = (k ≡ l) × IsNodeOf N d × AreFieldsOf fs ms
+
+-- the members without those of the envelope, at the root
+abbrev pub kept : Bool → Members → Members
+kept false no_members = no_members
+kept false (member k d ms) = member k d ms
+kept true no_members = no_members
+kept true (member k d ms) = if is_among k envelope_names then kept true ms else member k d (kept true ms)
+
+-- N is the node of a raw schema at the root of the whole, an object without the envelope, or below it
+abbrev pub IsNodeAt : Bool → Node → Data → Type 0
+IsNodeAt root (scalar kind) s = (root ≡ false) × IsNodeOf (scalar kind) s
+IsNodeAt root (object fs) s = HasType s (codes "object") × AreFieldsOf fs (kept root (properties_of (under s (codes "properties"))))

@@ -7,8 +7,8 @@ use Rattle.crdx.specs.declared.running.PlaceCode.{PlaceCode}
 use Rattle.crdx.specs.declared.running.PlaceCode.TheVariants as code
 use Rattle.crdx.specs.declared.running.Stop.{Stop}
 use Rattle.crdx.specs.declared.running.Stop.TheVariants as stop
-use Rattle.crdx.specs.declared.schema.fault.SFault.{SFault}
-use Rattle.crdx.specs.declared.schema.fault.SFault.TheVariants as s
+use Rattle.schema.specs.declared.fault.SFault.{SFault}
+use Rattle.schema.specs.declared.fault.SFault.TheVariants as s
 use Rattle.crdx.specs.declared.stored.refused.Refused.{Refused}
 use Rattle.crdx.specs.declared.stored.refused.Refused.TheVariants as refused
 use Rattle.crdx.specs.declared.plan.fault.PFault.{PFault}
@@ -22,15 +22,20 @@ input_name input.Pools = codes "pools"
 
 abbrev pub code_name : PlaceCode → List ℕ
 code_name code.NotYet = codes "S0"
+code_name code.KeywordForm = codes "S3"
+code_name code.TooLarge = codes "S4"
 code_name code.Form = codes "P1"
 
 -- want of memory is no fault of a document
 abbrev pub stop_of_reading : SFault → Stop
 stop_of_reading s.NotACrd = stop.Crd s.NotACrd
 stop_of_reading s.NoSuchVersion = stop.Crd s.NoSuchVersion
+stop_of_reading (s.KeywordForm pointer) = stop.Place input.Crd code.KeywordForm pointer
+stop_of_reading (s.TooLarge pointer) = stop.Place input.Crd code.TooLarge pointer
 stop_of_reading s.NoMemory = stop.NoMemory
 
 abbrev pub stop_of_refusal : Refused → Stop
+stop_of_refusal (refused.Violations violations) = stop.Violations violations
 stop_of_refusal (refused.NotYet pointer) = stop.Place input.Crd code.NotYet pointer
 stop_of_refusal refused.NoMemory = stop.NoMemory
 
@@ -53,5 +58,6 @@ status (stop.Crd fault) = 3
 status (stop.Pools fault) = 3
 status (stop.Place i c pointer) = 3
 status stop.NotASample = 1
+status (stop.Violations violations) = 1
 status (stop.Write n) = 4
 status stop.NoMemory = 5

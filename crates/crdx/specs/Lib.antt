@@ -2,8 +2,6 @@ pub mod Node
 pub mod NodeCode
 pub mod NodeView
 pub mod NodeFalls
-pub mod Crd
-pub mod Versions
 pub mod Place
 pub mod Accepted
 pub mod Refusal
@@ -30,4 +28,5 @@ pub mod Block
 pub mod Stopped
 pub mod Stopping
 pub mod Walk
+pub mod Phrases
 pub mod Ending

@@ -1,10 +1,10 @@
 -- A node of an accepted schema, as plain data: a scalar that accepts one kind of value, or an object with declared fields.
-use Rattle.std.specs.Prelude.{◌≡◌, ℕ, suc, max, List, Bool, true, false, Option, Some, None, if◌then◌else◌}
+use Rattle.std.specs.Prelude.{◌≡◌, ℕ, suc, max, List, Bool, false, Option, Some, None, if◌then◌else◌}
 use Rattle.std.specs.Str.{bytes_eq}
 use Rattle.std.specs.declared.cmp.Ordering.TheVariants.{Less}
 use Rattle.jtree.specs.Order.{text_cmp}
 use Rattle.jtree.specs.Data.{Data}
-use Rattle.jtree.specs.Data as tree
+use Rattle.jtree.specs.Kind.{is_boolean, is_integer, is_object}
 
 pub data ScalarKind : Type 0 where
   boolean : ScalarKind
@@ -44,30 +44,6 @@ declared k (field l N fs) = if bytes_eq k l then Some N else declared k fs
 abbrev pub is_nullable : Node → Bool
 is_nullable (scalar kind) = false
 is_nullable (object fs) = false
-
-abbrev pub is_boolean : Data → Bool
-is_boolean tree.null = false
-is_boolean (tree.boolean b) = true
-is_boolean (tree.integer z) = false
-is_boolean (tree.text s) = false
-is_boolean (tree.list ds) = false
-is_boolean (tree.object ms) = false
-
-abbrev pub is_integer : Data → Bool
-is_integer tree.null = false
-is_integer (tree.boolean b) = false
-is_integer (tree.integer z) = true
-is_integer (tree.text s) = false
-is_integer (tree.list ds) = false
-is_integer (tree.object ms) = false
-
-abbrev pub is_object : Data → Bool
-is_object tree.null = false
-is_object (tree.boolean b) = false
-is_object (tree.integer z) = false
-is_object (tree.text s) = false
-is_object (tree.list ds) = false
-is_object (tree.object ms) = true
 
 -- the value is of a kind that the node accepts
 abbrev pub accepts_kind : Node → Data → Bool

@@ -5,7 +5,7 @@ use Rattle.std.specs.declared.cmp.Ordering.{Ordering}
 use Rattle.jtree.specs.Data.{Data}
 use Rattle.jtree.specs.Order.{text_cmp}
 use Rattle.jtree.specs.Pointer.{name_token}
-use Rattle.crdx.specs.Crd.{under2}
+use Rattle.jtree.specs.Path.{under2}
 
 -- the names of the properties that lead to the place
 abbrev pub Place : Type 0

@@ -5,7 +5,7 @@ use Rattle.jtree.specs.Data.{Data, Items, no_items, item, Members, no_members, m
 use Rattle.jtree.specs.Data as tree
 use Rattle.jtree.specs.Path.{name, place, Path}
 use Rattle.jtree.specs.Pointer.{pointer}
-use Rattle.crdx.specs.Node.{is_integer}
+use Rattle.jtree.specs.Kind.{is_integer}
 use Rattle.crdx.specs.Pools.{integers_of_items, most_entries}
 use Rattle.crdx.specs.Over.{Pools}
 use Rattle.crdx.specs.declared.plan.fault.PFault.{PFault}

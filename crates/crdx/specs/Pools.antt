@@ -1,29 +1,15 @@
 -- The pools document: an object whose member `integers` is a list of at most 64 integers (this project's own).
 use Rattle.std.specs.Prelude.{◌≡◌, ◌≢◌, ℕ, ℤ, List, [], ◌∷◌, false, Option, Some, None, codes}
-use Rattle.std.specs.Ordering.{nat_cmp}
-use Rattle.std.specs.Cmp.Lexicographic.{slice_cmp}
-use Rattle.std.specs.declared.cmp.Ordering.{Ordering}
-use Rattle.std.specs.declared.cmp.Ordering.TheVariants.{Less, Greater}
+use Rattle.std.specs.declared.cmp.Ordering.TheVariants.{Less}
 use Rattle.jtree.specs.Data.{Data, Items, no_items, item}
 use Rattle.jtree.specs.Data as tree
-use Rattle.jtree.specs.Path.{Step, name, place, Path, item_at}
-use Rattle.jtree.specs.Order.{text_cmp}
-use Rattle.crdx.specs.Crd.{under}
-use Rattle.crdx.specs.Node.{is_object, is_integer}
+use Rattle.jtree.specs.Path.{name, place, Path, item_at, under}
+use Rattle.jtree.specs.PathOrder.{path_cmp}
+use Rattle.jtree.specs.Kind.{is_object, is_integer}
 use Rattle.crdx.specs.Over.{Pools}
 
 abbrev pub most_entries : ℕ
 most_entries = 64
-
--- Path order: names by bytes, places by number, a beginning before what goes on.
-abbrev pub step_cmp : Step → Step → Ordering
-step_cmp (name k) (name l) = text_cmp k l
-step_cmp (place i) (place j) = nat_cmp i j
-step_cmp (name k) (place j) = Less
-step_cmp (place i) (name l) = Greater
-
-abbrev pub path_cmp : Path → Path → Ordering
-path_cmp = slice_cmp step_cmp
 
 -- what stands at the path has not the form that it has to have there
 pub data BreaksForm : Data → Path → Type 0 where

@@ -1,10 +1,13 @@
--- What a refusal says of a raw schema: the pointer of the first place that is not known at this stage, or that memory is wanting.
-use Rattle.std.specs.Prelude.{Bool, string_bytes}
+-- What a refusal says of a raw schema: all that is broken in it, and at least one rule; where nothing is, the pointer of the
+-- first place that is not known at this stage; or that memory is wanting.
+use Rattle.std.specs.Prelude.{◌≢◌, [], true, string_bytes}
 use Rattle.jtree.specs.Data.{Data}
+use Rattle.schema.specs.Breaks.{AreViolations, IsUnbroken}
 use Rattle.crdx.specs.Accepted.{IsUnknownAt}
 use Rattle.crdx.specs.declared.stored.refused.Refused.{Refused}
-use Rattle.crdx.specs.declared.stored.refused.Refused.TheVariants.{NotYet, NoMemory}
+use Rattle.crdx.specs.declared.stored.refused.Refused.TheVariants.{Violations, NotYet, NoMemory}
 
-abbrev pub IsRefusal : Bool → Data → Refused → Type 0
-IsRefusal root raw (NotYet p) = IsUnknownAt root raw (string_bytes p)
-IsRefusal root raw NoMemory = Unit {0}
+abbrev pub IsRefusal : Data → Refused → Type 0
+IsRefusal raw (Violations vs) = AreViolations raw vs.items × (vs.items ≢ [])
+IsRefusal raw (NotYet p) = IsUnbroken raw × IsUnknownAt true raw (string_bytes p)
+IsRefusal raw NoMemory = Unit {0}

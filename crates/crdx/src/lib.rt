@@ -1,15 +1,19 @@
 //! Explains the schema of a Kubernetes custom resource, and lists its small objects exhaustively.
 #![tactic(auto)]
 
+#[cfg(test)]
+mod check_rows;
 pub mod enumerate;
 #[cfg(test)]
 mod fakes;
 pub mod inputs;
+pub mod phrases;
 pub mod plan;
 #[cfg(test)]
 mod rows;
 mod running;
-pub mod schema;
+#[cfg(test)]
+mod schema_rows;
 pub mod sink;
 pub mod stored;
 #[cfg(test)]

@@ -4,12 +4,12 @@ use crate::fakes::Limited;
 use crate::inputs::{InFault, Inputs};
 use crate::plan::{Plan, Pools};
 use crate::running::run;
-use crate::schema::read_crd;
 use crate::stored::{
     accept, filling_by_name, fits_are_stored_over, pruning_by_level, validity_by_level,
 };
 use crate::walk::{WFault, Walked, walk};
 use jtree::Tree;
+use schema::read_crd;
 use std::alloc::{AllocError, Global};
 use std::process::Abort;
 use std::test::Fail;
@@ -19,6 +19,15 @@ const WIDGET: &str =
 
 const STRING_PROPERTY: &str =
     r#"{"apiVersion":"apiextensions.k8s.io/v1","kind":"CustomResourceDefinition","spec":{"group":"example.org","names":{"kind":"Widget"},"versions":[{"name":"v1","schema":{"openAPIV3Schema":{"type":"object","properties":{"a":{"type":"string"}}}}}]}}"#;
+
+const NUMBER_REQUIRED: &str =
+    r#"{"apiVersion":"apiextensions.k8s.io/v1","kind":"CustomResourceDefinition","spec":{"group":"example.org","names":{"kind":"Widget"},"versions":[{"name":"v1","schema":{"openAPIV3Schema":{"type":"object","properties":{"a":{"type":"string","required":[1]}}}}}]}}"#;
+
+const FIVE_KEYS: &str =
+    r#"{"apiVersion":"apiextensions.k8s.io/v1","kind":"CustomResourceDefinition","spec":{"group":"example.org","names":{"kind":"Widget"},"versions":[{"name":"v1","schema":{"openAPIV3Schema":{"type":"object","properties":{"a":{"x-kubernetes-list-map-keys":["a","b","c","d","e"]}}}}}]}}"#;
+
+const WIDGET_IN_WORDS: &str =
+    r#"{"apiVersion":"apiextensions.k8s.io/v1","kind":"CustomResourceDefinition","spec":{"group":"example.org","names":{"kind":"Widget"},"versions":[{"name":"v1","schema":{"openAPIV3Schema":{"type":"object","description":"A widget.","properties":{"apiVersion":{"type":"string"},"kind":{"type":"string"},"metadata":{"type":"object"},"spec":{"type":"object","title":"What is wanted","properties":{"a":{"type":"integer","format":"int64","example":7},"b":{"type":"boolean","uniqueItems":false}}}}}}}]}}"#;
 
 const QUOTED_PROPERTY: &str =
     r#"{"apiVersion":"apiextensions.k8s.io/v1","kind":"CustomResourceDefinition","spec":{"group":"example.org","names":{"kind":"Widget"},"versions":[{"name":"v1","schema":{"openAPIV3Schema":{"type":"object","properties":{"a\"/~é":{"type":"string"}}}}}]}}"#;
@@ -41,7 +50,7 @@ struct Row<'a> {
     status: u8,
 }
 
-static ROWS: [Row<'static>; 18] = [
+static ROWS: [Row<'static>; 21] = [
     Row {
         words: "sample crd.json v1 --pools pools.json --limit 4",
         crd: WIDGET,
@@ -115,6 +124,32 @@ static ROWS: [Row<'static>; 18] = [
         pools: POOLS,
         out: "",
         err: "crdx: crd: S0 \"/properties/a\"\n",
+        status: 3,
+    },
+    // the envelope and keywords without effect change nothing
+    Row {
+        words: "sample crd.json v1 --pools pools.json --limit 4",
+        crd: WIDGET_IN_WORDS,
+        pools: POOLS,
+        out: TEN_LINES,
+        err: "crdx: end\n",
+        status: 0,
+    },
+    // the forms and limits of keywords are judged before what is known
+    Row {
+        words: "sample crd.json v1",
+        crd: NUMBER_REQUIRED,
+        pools: POOLS,
+        out: "",
+        err: "crdx: crd: S3 \"/properties/a/required/0\"\n",
+        status: 3,
+    },
+    Row {
+        words: "sample crd.json v1",
+        crd: FIVE_KEYS,
+        pools: POOLS,
+        out: "",
+        err: "crdx: crd: S4 \"/properties/a/x-kubernetes-list-map-keys\"\n",
         status: 3,
     },
     // the pointer is a JSON text
@@ -194,11 +229,12 @@ static ROWS: [Row<'static>; 18] = [
 ];
 
 /// Words that are refused, with status 2 and nothing on standard output.
-static MISTAKES: [&str; 9] = [
+static MISTAKES: [&str; 10] = [
     "",
     "sample",
     "sample crd.json",
-    "check crd.json v1",
+    "check crd.json",
+    "check crd.json v1 --count 1",
     "sample crd.json v1 --limit 0",
     "sample crd.json v1 --limit 64",
     "sample crd.json v1 --count 0",

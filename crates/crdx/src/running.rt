@@ -4,13 +4,14 @@ ghost use Rattle.std.specs.Prelude.{◌≡◌, ◌≤◌, ◌⊎◌};
 ghost use Rattle.crdx.specs.Ending.{status};
 
 use crate::inputs::{InFault, Inputs};
+use crate::phrases::phrase;
 use crate::plan::{PFault, Plan, Pools};
-use crate::schema::{SFault, read_crd};
 use crate::sink::{Sink, put_all};
 use crate::stored::{Refused, Schema, accept};
 use crate::walk::{WFault, Walked, walk};
-use crate::words::{Outcome, SampleWords, parse_words};
+use crate::words::{CheckWords, Outcome, SampleWords, parse_words};
 use jtree::{JFault, Text, Tree};
+use schema::{SFault, Violation, read_crd};
 use std::alloc::{AllocError, Global};
 use std::fmt;
 
@@ -48,6 +49,8 @@ enum Stop {
     Pools(PFault),
     /// An input is refused at a pointer, with this code.
     Place(Input, PlaceCode, String),
+    /// The schema breaks rules.
+    Violations(Vec<Violation>),
     /// The object to go on from is no sample.
     NotASample,
     /// Standard output took so many whole lines, and then failed.
@@ -60,6 +63,8 @@ enum Stop {
 #[derive(Clone, Copy, Drop)]
 enum PlaceCode {
     NotYet,
+    KeywordForm,
+    TooLarge,
     Form,
 }
 
@@ -72,6 +77,8 @@ impl fmt::Display for PlaceCode {
     fn fmt<W: fmt::Write>(&self, f: &mut fmt::Formatter<W>) -> fmt::Result {
         match self {
             PlaceCode::NotYet => write!(f, "S0"),
+            PlaceCode::KeywordForm => write!(f, "S3"),
+            PlaceCode::TooLarge => write!(f, "S4"),
             PlaceCode::Form => write!(f, "P1"),
         }
     }
@@ -96,6 +103,10 @@ impl From<SFault> for Stop {
 
     fn from(fault: SFault) -> Stop {
         match fault {
+            SFault::KeywordForm(pointer) => {
+                Stop::Place(Input::Crd, PlaceCode::KeywordForm, pointer)
+            }
+            SFault::TooLarge(pointer) => Stop::Place(Input::Crd, PlaceCode::TooLarge, pointer),
             SFault::NoMemory => Stop::NoMemory,
             other => Stop::Crd(other),
         }
@@ -110,6 +121,7 @@ impl From<Refused> for Stop {
 
     fn from(refused: Refused) -> Stop {
         match refused {
+            Refused::Violations(violations) => Stop::Violations(violations),
             Refused::NotYet(pointer) => Stop::Place(Input::Crd, PlaceCode::NotYet, pointer),
             Refused::NoMemory => Stop::NoMemory,
         }
@@ -147,7 +159,7 @@ impl From<WFault> for Stop {
 }
 
 /// Runs the program: the first word is its name, and what the others ask for is written to `out`, with a line on `err`
-/// where there is more to say. It answers the exit status: 0 done, 2 words that are refused, 3 an input that is no such
+/// where there is more to say. It answers the exit status: 0 done, 1 the answer is no, 2 words that are refused, 3 an input that is no such
 /// document, 4 a read or a write that failed, 5 want of memory. A failure of `err` is passed over.
 pub fn run<I: Inputs, W: Sink, E: Sink>(
     alloc: Global,
@@ -159,6 +171,14 @@ pub fn run<I: Inputs, W: Sink, E: Sink>(
     ensures { result ≤ 5 }
 {
     match parse_words(alloc, words) {
+        Outcome::Check(words) => match check(alloc, &words, inputs, out) {
+            Ok(()) => 0,
+            Err(Stop::Violations(violations)) => match say_violations(alloc, &violations, out) {
+                Ok(()) => 1,
+                Err(stop) => report(alloc, &stop, err),
+            },
+            Err(stop) => report(alloc, &stop, err),
+        },
         Outcome::Sample(words) => match sample(alloc, &words, inputs, out) {
             Ok(walked) => {
                 let _ = put_all(err, line_of_end(&walked));
@@ -178,6 +198,17 @@ pub fn run<I: Inputs, W: Sink, E: Sink>(
     }
 }
 
+/// Says `structural` of a schema that is accepted.
+fn check<I: Inputs, W: Sink>(
+    alloc: Global,
+    words: &CheckWords<'_>,
+    inputs: &mut I,
+    out: &mut W,
+) -> Result<(), Stop> {
+    let _schema = schema_of(alloc, words.crd, words.version, inputs)?;
+    say(out, b"structural\n")
+}
+
 /// Lists samples. Inputs are judged in the order CustomResourceDefinition, pools, and the first refusal ends the run.
 fn sample<I: Inputs, W: Sink>(
     alloc: Global,
@@ -185,7 +216,7 @@ fn sample<I: Inputs, W: Sink>(
     inputs: &mut I,
     out: &mut W,
 ) -> Result<Walked, Stop> {
-    let schema = schema_of(alloc, words, inputs)?;
+    let schema = schema_of(alloc, words.crd, words.version, inputs)?;
     let pools = pools_of(alloc, words, inputs)?;
     let plan = Plan::new(schema, pools, words.limit)?;
     let walked = walk(alloc, &plan, None, words.count, out)?;
@@ -197,11 +228,12 @@ fn sample<I: Inputs, W: Sink>(
 
 fn schema_of<I: Inputs>(
     alloc: Global,
-    words: &SampleWords<'_>,
+    crd: &str,
+    version: &str,
     inputs: &mut I,
 ) -> Result<Schema, Stop> {
-    let document = document(inputs, Input::Crd, words.crd)?;
-    let crd = read_crd(alloc, &document, words.version)?;
+    let document = document(inputs, Input::Crd, crd)?;
+    let crd = read_crd(alloc, &document, version)?;
     Ok(accept(alloc, crd.raw)?)
 }
 
@@ -237,10 +269,45 @@ fn say<W: Sink>(out: &mut W, text: &[u8]) -> Result<(), Stop> {
     }
 }
 
+/// Writes a line for each violation: the rule, the pointer of the place as a JSON text, and what is wrong there.
+fn say_violations<W: Sink>(
+    alloc: Global,
+    violations: &[Violation],
+    out: &mut W,
+) -> Result<(), Stop> {
+    let mut lines: u64 = 0;
+    for violation in violations {
+        let line = violation_line(alloc, violation)?;
+        match put_all(out, line.as_bytes()) {
+            Ok(()) => lines = lines.saturating_add(1),
+            Err(_) => return Err(Stop::Write(lines)),
+        }
+    }
+    match out.flush() {
+        Ok(()) => Ok(()),
+        Err(_) => Err(Stop::Write(lines)),
+    }
+}
+
+fn violation_line(alloc: Global, violation: &Violation) -> Result<String, AllocError> {
+    let pointer = json_text(alloc, violation.pointer.as_str())?;
+    let rule = violation.rule;
+    format!(in alloc; "{rule} {pointer} {}\n", phrase(rule))
+}
+
 /// Says on `err` why a run has no answer, and answers its status.
 fn report<E: Sink>(alloc: Global, stop: &Stop, err: &mut E) -> u8
     ensures { (result ≡ status stop.now) ⊎ (result ≡ 5) }
 {
+    if let Stop::Violations(violations) = stop {
+        return match say_violations(alloc, violations, err) {
+            Err(Stop::NoMemory) => {
+                let _ = put_all(err, b"crdx: out of memory\n");
+                5
+            }
+            _ => 1,
+        };
+    }
     match line_of(alloc, stop) {
         Ok(line) => {
             let _ = put_all(err, line.as_bytes());
@@ -271,6 +338,7 @@ fn line_of(alloc: Global, stop: &Stop) -> Result<String, AllocError> {
             let pointer = json_text(alloc, pointer.as_str())?;
             format!(in alloc; "crdx: {input}: {code} {pointer}\n")
         }
+        Stop::Violations(_) => Ok(String::new(alloc)),
         Stop::NotASample => format!(in alloc; "crdx: after: not a sample\n"),
         Stop::Write(lines) => format!(in alloc; "crdx: write failed after {lines} lines\n"),
         Stop::NoMemory => format!(in alloc; "crdx: out of memory\n"),
@@ -281,7 +349,7 @@ fn status_of(stop: &Stop) -> u8
     ensures { result ≡ status stop.now }
 {
     match stop {
-        Stop::NotASample => 1,
+        Stop::NotASample | Stop::Violations(_) => 1,
         Stop::Document(_, _) | Stop::Crd(_) | Stop::Pools(_) | Stop::Place(_, _, _) => 3,
         Stop::Unread(_) | Stop::Write(_) => 4,
         Stop::NoMemory => 5,

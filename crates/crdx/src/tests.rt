@@ -1,7 +1,7 @@
 use crate::plan::{PFault, Pools};
-use crate::schema::{Node, RawSchema, ScalarKind, read_crd};
-use crate::stored::{Refused, accept};
+use crate::stored::{Node, Refused, ScalarKind, accept};
 use jtree::Tree;
+use schema::{RawSchema, read_crd};
 use std::alloc::Global;
 use std::process::Abort;
 use std::test::Fail;
@@ -23,10 +23,21 @@ fn read(alloc: Global, document: &str, version: &str) -> Result<String, Fail> {
     }
 }
 
+// The raw schema of a CustomResourceDefinition whose one version has this schema.
+fn raw_schema(alloc: Global, schema: &str) -> Result<RawSchema, Fail> {
+    let document = format!(in alloc;
+        r#"{{"apiVersion":"apiextensions.k8s.io/v1","kind":"CustomResourceDefinition","spec":{{"group":"example.com","names":{{"kind":"Widget"}},"versions":[{{"name":"v1","schema":{{"openAPIV3Schema":{schema}}}}}]}}}}"#
+    )?;
+    let document = Tree::from_bytes(alloc, document.as_bytes())?;
+    match read_crd(alloc, &document, "v1") {
+        Ok(crd) => Ok(crd.raw),
+        Err(_fault) => Err(Fail::from("no CustomResourceDefinition")),
+    }
+}
+
 // `accepted`, or the fault with its pointer.
 fn acceptance(alloc: Global, schema: &str) -> Result<String, Fail> {
-    let tree = Tree::from_bytes(alloc, schema.as_bytes())?;
-    match accept(alloc, RawSchema::new(tree)) {
+    match accept(alloc, raw_schema(alloc, schema)?) {
         Ok(_schema) => Ok(String::from_str(alloc, "accepted")?),
         Err(Refused::NotYet(pointer)) => {
             Ok(format!(in alloc; "{} {pointer}", Refused::NotYet(String::new(alloc)))?)
@@ -78,15 +89,17 @@ static DEFINITIONS: &str =
 static SCHEMAS: &str =
     r#"{"type":"object","properties":{"spec":{"type":"object","properties":{"replicas":{"type":"integer"},"paused":{"type":"boolean"}}}}} => accepted
 {"type":"object","properties":{"a":{"type":"string"}}} => S0 /properties/a
-{"type":"object","properties":{"metadata":{"type":"object"}}} => S0 /properties/metadata
+{"type":"object","properties":{"metadata":{"type":"object"}}} => accepted
+{"type":"object","title":"","properties":{"apiVersion":{"type":"string"},"kind":{"type":"array"},"metadata":{"type":"object","properties":{"name":{"type":"string","minLength":1}}},"spec":{"type":"object","description":"","format":"","example":[1],"externalDocs":{"url":""},"uniqueItems":false,"properties":{"kind":{"type":"integer","format":"int32","title":"x"}}}}} => accepted
+{"type":"object","properties":{"spec":{"type":"object","properties":{"kind":{"type":"string"}}}}} => S0 /properties/spec/properties/kind
+{"type":"object","properties":{"a":{"type":"integer","nullable":false}}} => S0 /properties/a
+{"type":"object","properties":{"a":{"type":"integer","properties":{}}}} => S0 /properties/a
 {"type":"object","properties":{"spec":{"type":"object","properties":{"metadata":{"type":"object"}}}}} => accepted
 {"type":"object","properties":{"spec":{"type":"object","properties":{"x/y":{"type":"integer","minimum":1}}}}} => S0 /properties/spec/properties/x~1y
 {"type":"integer"} => S0 
-{} => S0 
-{"type":"object","properties":[]} => S0 
-{"type":"object","properties":{"a":1}} => S0 
-{"type":"object","properties":{"spec-b":{},"spec":{"type":"object","properties":{"z":{}}}}} => S0 /properties/spec/properties/z
-{"type":"object","properties":{"b":{},"a":{"type":"object","properties":{"d":{},"c":{}}}}} => S0 /properties/a/properties/c"#;
+{} => violations
+{"type":"object","properties":{"spec-b":{"type":"string"},"spec":{"type":"object","properties":{"z":{"type":"string"}}}}} => S0 /properties/spec/properties/z
+{"type":"object","properties":{"b":{"type":"string"},"a":{"type":"object","properties":{"d":{"type":"string"},"c":{"type":"string"}}}}} => S0 /properties/a/properties/c"#;
 
 // A pools document, and what is answered.
 static POOLS: &str = r#"{} => 0
@@ -127,11 +140,11 @@ fn schemas(rt: HostRuntime) -> Result<(), Fail> {
 #[test]
 fn nodes(rt: HostRuntime) -> Result<(), Fail> {
     let alloc = rt.alloc();
-    let tree = Tree::from_bytes(
+    let raw = raw_schema(
         alloc,
-        br#"{"type":"object","properties":{"b":{"type":"object"},"a":{"type":"integer"}}}"#,
+        r#"{"type":"object","properties":{"b":{"type":"object"},"a":{"type":"integer"}}}"#,
     )?;
-    let schema = accept(alloc, RawSchema::new(tree)).expect(&rt, "a schema");
+    let schema = accept(alloc, raw).expect(&rt, "a schema");
     let Node::Object(fields) = schema.root() else {
         return Err(Fail::from("no object"));
     };

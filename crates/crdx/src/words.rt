@@ -35,9 +35,20 @@ pub struct SampleWords<'a> {
     ghost count_most: { count ≤ 10000 },
 }
 
+/// The words of `check`.
+#[derive(Drop)]
+pub struct CheckWords<'a> {
+    /// The file of the CustomResourceDefinition.
+    pub crd: &'a str,
+    /// The version whose schema is asked for.
+    pub version: &'a str,
+}
+
 /// What the words ask for.
 #[derive(Drop)]
 pub enum Outcome<'a> {
+    /// To judge a schema.
+    Check(CheckWords<'a>),
     /// To list samples.
     Sample(SampleWords<'a>),
     /// To print this help on standard output, with status 0.
@@ -51,38 +62,65 @@ pub enum Outcome<'a> {
 /// What the words ask for; the first of them is the program's name, which the usage lines repeat.
 pub fn parse_words<'a>(alloc: Global, words: &'a [String]) -> Outcome<'a> {
     match matches_of(alloc, words) {
-        Ok(matches) => match matches.subcommand_matches("sample") {
-            Some(sample) => Outcome::Sample(sample_words(sample)),
-            None => mistake(alloc, "error: no command\n"),
-        },
+        Ok(matches) => command_words(alloc, &matches),
         Err(error) => outcome_of(alloc, &error),
+    }
+}
+
+fn command_words<'a>(alloc: Global, matches: &ArgMatches<'a>) -> Outcome<'a> {
+    if let Some(check) = matches.subcommand_matches("check") {
+        return Outcome::Check(CheckWords {
+            crd: check.get_str("CRD").unwrap_or(""),
+            version: check.get_str("VERSION").unwrap_or(""),
+        });
+    }
+    match matches.subcommand_matches("sample") {
+        Some(sample) => Outcome::Sample(sample_words(sample)),
+        None => mistake(alloc, "error: no command\n"),
     }
 }
 
 fn matches_of<'a>(alloc: Global, words: &'a [String]) -> Result<ArgMatches<'a>, Error> {
     let command = Command::new(alloc, "crdx")
-        .about("Lists the small objects of a Kubernetes custom resource exhaustively.")
+        .about(
+            "Explains the schema of a Kubernetes custom resource and lists its small objects exhaustively.",
+        )
         .subcommand_required(true)
+        .subcommand(check_command(alloc)?)?
         .subcommand(sample_command(alloc)?)?;
     command.try_get_matches_from(words)
 }
 
+/// The words that `check` takes.
+fn check_command<'a>(alloc: Global) -> Result<Command<'a>, AllocError> {
+    Command::new(alloc, "check")
+        .about("Says whether a schema is structural, or each rule that it breaks and where")
+        .arg(crd_word(alloc))?
+        .arg(version_word(alloc))
+}
+
+fn crd_word<'a>(alloc: Global) -> Arg<'a> {
+    Arg::new(alloc, "CRD")
+        .required(true)
+        .help("The file of the CustomResourceDefinition")
+}
+
+fn version_word<'a>(alloc: Global) -> Arg<'a> {
+    Arg::new(alloc, "VERSION")
+        .required(true)
+        .help("The version whose schema is asked for")
+}
+
 /// The words that `sample` takes.
 fn sample_command<'a>(alloc: Global) -> Result<Command<'a>, AllocError> {
-    let crd = Arg::new(alloc, "CRD")
-        .required(true)
-        .help("The file of the CustomResourceDefinition");
-    let version = Arg::new(alloc, "VERSION")
-        .required(true)
-        .help("The version whose schema is asked for");
     let pools = Arg::new(alloc, "pools")
         .long("pools")
         .value_name("FILE")
         .help("The file of the pools of values");
     Command::new(alloc, "sample")
         .about("Lists samples, a line for each")
-        .arg(crd)?
-        .arg(version)?
+        .arg(crd_word(alloc))?
+        .arg(version_word(alloc))?
         .arg(pools)?
         .arg(limit_option(alloc))?
         .arg(count_option(alloc))

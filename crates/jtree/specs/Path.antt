@@ -37,3 +37,13 @@ part_by (object ms) (place i) = None
 abbrev pub part_at : Data → Path → Option Data
 part_at d [] = Some d
 part_at d (s ∷ path) = option_and_then (λ e. part_at e path) (part_by d s)
+
+-- what stands under a name, under a name below another, and under one below these
+abbrev pub under : Data → List ℕ → Option Data
+under d k = part_by d (name k)
+
+abbrev pub under2 : Data → List ℕ → List ℕ → Option Data
+under2 d k l = part_at d (name k ∷ name l ∷ [])
+
+abbrev pub under3 : Data → List ℕ → List ℕ → List ℕ → Option Data
+under3 d k l m = part_at d (name k ∷ name l ∷ name m ∷ [])

@@ -1,6 +1,7 @@
 //! What stands under a name.
-ghost use Rattle.std.specs.Prelude.{◌≡◌, option_map};
-ghost use Rattle.jtree.specs.Path.{name as name_step, member_at, part_by};
+ghost use Rattle.std.specs.Prelude.{◌≡◌, ◌↔◌, ℕ, List, None, Some, IfSome, IsTrue, option_map};
+ghost use Rattle.jtree.specs.Data.{text as text_of};
+ghost use Rattle.jtree.specs.Path.{member_at, under};
 ghost use Rattle.jtree.specs.View.{data_of};
 
 use crate::value::{Members, Tree};
@@ -24,11 +25,31 @@ impl Tree {
     /// The tree under a name of an object, by the bytes of the name. `None` where no member has the name, and for what
     /// is no object.
     pub fn get(&self, name: &str) -> Option<&Tree>
-        ensures { option_map (λ t. data_of t.now) result ≡ part_by (data_of self.now) (name_step name.now) }
+        ensures { option_map (λ t. data_of t.now) result ≡ under (data_of self.now) name.now }
     {
         match self {
             Tree::Object(members) => members.get(name),
             _ => None,
+        }
+    }
+    /// The text under a name of an object. `None` where no text stands there.
+    pub fn get_text(&self, name: &str) -> Option<&str>
+        ensures some { IfSome result (λ s. under (data_of self.now) name.now ≡ Some (text_of s.now)) }
+        ensures none { result ≡ None → (s : List ℕ) → under (data_of self.now) name.now ≡ Some (text_of s) → ⊥ }
+    {
+        match self.get(name) {
+            Some(Tree::Text(text)) => Some(text.as_str()),
+            _ => None,
+        }
+    }
+
+    /// Whether this text stands under the name of an object.
+    pub fn has_text(&self, name: &str, text: &str) -> bool
+        ensures { IsTrue result ↔ (under (data_of self.now) name.now ≡ Some (text_of text.now)) }
+    {
+        match self.get_text(name) {
+            Some(found) => found == text,
+            None => false,
         }
     }
 }

@@ -1,7 +1,6 @@
 use crate::plan::fault::PFault;
 use crate::plan::pool_lists::Pools;
-use crate::schema::Node;
-use crate::stored::Schema;
+use crate::stored::{Node, Schema};
 use std::marker::Model;
 
 /// The greatest node limit.

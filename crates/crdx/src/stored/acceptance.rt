@@ -5,30 +5,43 @@ ghost use Rattle.jtree.specs.Pointer.{name_token};
 ghost use Rattle.jtree.specs.View.{data_of};
 ghost use Rattle.crdx.specs.NodeView.{node_of};
 ghost use Rattle.crdx.specs.Place.{schema_at};
-ghost use Rattle.crdx.specs.Accepted.{AllKnown, IsNodeOf, AreFieldsOf};
+ghost use Rattle.crdx.specs.Accepted.{AllKnown, IsNodeOf, IsNodeAt, AreFieldsOf, kept};
+ghost use Rattle.schema.specs.Breaks.{IsUnbroken};
 ghost use Rattle.crdx.specs.Refusal.{IsRefusal};
 ghost use Rattle.crdx.specs.Acceptance.{members_at, AreKnown, IsRefusedAt};
 ghost use Rattle.crdx.specs.declared.stored.refused.Refused.TheVariants.{NoMemory};
 
-use crate::schema::{Field, Fields, Node, RawSchema};
 use crate::stored::accepted::Schema;
+use crate::stored::node::{Field, Fields, Node};
 use crate::stored::refused::Refused;
 use crate::stored::shape::{Shape, is_envelope, shape_of};
 use jtree::{Members, Tree, push_name};
+use schema::{RawSchema, breaks};
 use std::alloc::Global;
 
-/// Accepts the raw schema of a version (apiextensions.k8s.io/v1, `schema.openAPIV3Schema`), where each of its places is
-/// known at this stage: below the root `type` is `object`, `integer` or `boolean`; an object may have `properties`,
-/// which is an object of objects; and no other keyword stands there. The root itself is an object, and its `properties`
-/// have none of the names `apiVersion`, `kind` and `metadata`, which are the envelope of a resource.
+/// Accepts the raw schema of a version (apiextensions.k8s.io/v1, `schema.openAPIV3Schema`), where it breaks no rule of
+/// structural schemas, and each of its places is known at this stage: below the root `type` is `object`, `integer` or
+/// `boolean`; an object may have `properties`, which is an object of objects; and no other keyword stands there but those
+/// without effect (`title`, `description`, `format`, `example`, `externalDocs` and a false `uniqueItems`). The root itself
+/// is an object. `apiVersion`, `kind` and `metadata` among its properties, the envelope of a resource, are let through, and
+/// the schema is without them.
 ///
-/// `NotYet` with the pointer (RFC 6901) of the first place in path order that is not known, where some place is not.
-/// `NoMemory` where an allocation fails. Each place is visited once.
+/// `Violations` with all that is broken, in path order of the places and then by number, where some rule is broken.
+/// `NotYet` with the pointer (RFC 6901) of the first place in path order that is not known, where nothing is broken and
+/// some place is not. `NoMemory` where an allocation fails.
 pub fn accept(alloc: Global, raw: RawSchema) -> Result<Schema, Refused>
-    ensures node { IfOk result (λ s. IsNodeOf s raw) }
+    ensures node { IfOk result (λ s. IsNodeAt true s raw) }
+    ensures unbroken { OnOk result (IsUnbroken raw) }
     ensures known { OnOk result (AllKnown true raw) }
-    ensures not_yet { IfErr result (IsRefusal true raw) }
+    ensures refused { IfErr result (IsRefusal raw) }
 {
+    let violations = match breaks(alloc, &raw) {
+        Ok(violations) => violations,
+        Err(_refused) => return Err(Refused::NoMemory),
+    };
+    if !violations.as_slice().is_empty() {
+        return Err(Refused::Violations(violations));
+    }
     match read_node(alloc, raw.tree(), true) {
         Ok(node) => Ok(Schema::new(node)),
         Err(refused) => Err(refused),
@@ -38,7 +51,7 @@ pub fn accept(alloc: Global, raw: RawSchema) -> Result<Schema, Refused>
 /// The node of a raw schema. A pointer that it refuses is counted from the schema.
 #[cycle(read)]
 fn read_node(alloc: Global, tree: &Tree, root: bool) -> Result<Node, Refused>
-    ensures node { IfOk result (λ n. IsNodeOf (node_of n) (data_of tree.now)) }
+    ensures node { IfOk result (λ n. IsNodeAt root (node_of n) (data_of tree.now)) }
     ensures known { OnOk result (AllKnown root (data_of tree.now)) }
     ensures not_yet { IfErr result (IsRefusedAt root (schema_at (data_of tree.now))) }
 {
@@ -55,34 +68,35 @@ fn read_node(alloc: Global, tree: &Tree, root: bool) -> Result<Node, Refused>
     }
 }
 
-/// The fields of the properties of a schema. A pointer that it refuses is counted from that schema.
+/// The fields of the properties of a schema, without the envelope at the root. A pointer that it refuses is counted from
+/// that schema.
 #[cycle(read)]
 fn read_fields(alloc: Global, properties: &Members, root: bool) -> Result<Fields, Refused>
-    ensures fields { IfOk result (λ fs. AreFieldsOf fs properties.now) }
+    ensures fields { IfOk result (λ fs. AreFieldsOf fs (kept root properties.now)) }
     ensures known { OnOk result (AreKnown root (members_at properties.now)) }
     ensures not_yet { IfErr result (IsRefusedAt root (members_at properties.now)) }
 {
     properties.is_object();
     let mut fields = Vec::new(alloc);
     for property in &properties.members {
+        if is_envelope(property.name.as_str(), root) {
+            continue;
+        }
         let name = property.name.copy(alloc)?;
-        let node = read_field(alloc, property.name.as_str(), &property.tree, root)?;
+        let node = read_field(alloc, property.name.as_str(), &property.tree)?;
         node.is_node();
         fields.push(Field { name, node })?;
     }
     Ok(Fields { fields })
 }
 
-/// The node of one property. A pointer that it refuses is counted from the schema that has the property.
+/// The node of one property below the root. A pointer that it refuses is counted from the schema that has the property.
 #[cycle(read)]
-fn read_field(alloc: Global, name: &str, tree: &Tree, root: bool) -> Result<Node, Refused>
+fn read_field(alloc: Global, name: &str, tree: &Tree) -> Result<Node, Refused>
     ensures node { IfOk result (λ n. IsNodeOf (node_of n) (data_of tree.now)) }
-    ensures known { OnOk result (AreKnown root (members_at (member name.now (data_of tree.now) no_members))) }
-    ensures not_yet { IfErr result (IsRefusedAt root (members_at (member name.now (data_of tree.now) no_members))) }
+    ensures known { OnOk result (AreKnown false (members_at (member name.now (data_of tree.now) no_members))) }
+    ensures not_yet { IfErr result (IsRefusedAt false (members_at (member name.now (data_of tree.now) no_members))) }
 {
-    if is_envelope(name, root) {
-        return Err(Refused::NotYet(property_pointer(alloc, name, "")?));
-    }
     match read_node(alloc, tree, false) {
         Ok(node) => Ok(node),
         Err(Refused::NotYet(below)) => Err(Refused::NotYet(property_pointer(
@@ -90,7 +104,7 @@ fn read_field(alloc: Global, name: &str, tree: &Tree, root: bool) -> Result<Node
             name,
             below.as_str(),
         )?)),
-        Err(Refused::NoMemory) => Err(Refused::NoMemory),
+        Err(other) => Err(other),
     }
 }
 

@@ -1,4 +1,4 @@
-use crate::schema::Node;
+use crate::stored::node::Node;
 use std::marker::Model;
 
 /// An accepted schema, which a contract sees as its root.

@@ -2,12 +2,16 @@ ghost use Rattle.std.specs.Prelude.{◌≡◌};
 ghost use Rattle.crdx.specs.declared.stored.refused.Refused.TheVariants.{NoMemory};
 
 use jtree::JFault;
+use schema::Violation;
 use std::alloc::{AllocError, AllocFailed};
 use thiserror::Error;
 
-/// Why a raw schema was not accepted. Each is displayed as its code.
+/// Why a raw schema was not accepted. Each but the first is displayed as its code.
 #[derive(Debug, Drop, Error)]
 pub enum Refused {
+    /// The schema breaks rules at these places: all of them, and at least one.
+    #[error("violations")]
+    Violations(Vec<Violation>),
     /// What stands at the pointer (RFC 6901), counted from the root of the schema, is not known yet.
     #[error("S0")]
     NotYet(String),

@@ -1,12 +1,13 @@
 // What a raw schema is at its own place: a scalar, an object with or without properties, or unknown.
-ghost use Rattle.std.specs.Prelude.{◌≡◌, ◌≢◌, ◌⊎◌, ◌↔◌, ℕ, List, None, true, IfSome, IsTrue};
+ghost use Rattle.std.specs.Prelude.{◌≡◌, ◌≢◌, ◌↔◌, ℕ, List, [], ◌∷◌, None, true, IfSome, IsTrue};
 ghost use Rattle.jtree.specs.View.{data_of};
-ghost use Rattle.crdx.specs.Crd.{under};
+ghost use Rattle.jtree.specs.Path.{under};
+ghost use Rattle.schema.specs.Forms.{is_among};
 ghost use Rattle.crdx.specs.NodeView.{kind_of};
-ghost use Rattle.crdx.specs.Accepted.{HasType, AreObjects, IsEnvelopeName, IsKnownScalar};
+ghost use Rattle.crdx.specs.Accepted.{HasType, AreObjects, IsEnvelope, IsKnownScalar, known_words, idle_words, envelope_names};
 ghost use Rattle.crdx.specs.Acceptance.{HaveNames, IsShape, IsObjectShape, kind_name};
 
-use crate::schema::{ScalarKind, has_text, text_under};
+use crate::stored::node::ScalarKind;
 use jtree::{Members, Tree};
 
 /// What a raw schema is, its properties aside.
@@ -31,19 +32,19 @@ pub(crate) fn shape_of(tree: &Tree, root: bool) -> Shape<'_>
     }
 }
 
-/// The kind of a scalar with no keyword but its type.
+/// The kind of a scalar with no keyword but its type and those without effect.
 fn known_scalar(tree: &Tree) -> Option<ScalarKind>
     ensures some { IfSome result (λ k. IsKnownScalar (data_of tree.now)) }
     ensures kind { IfSome result (λ k. HasType (data_of tree.now) (kind_name (kind_of k))) }
     ensures none { result ≡ None → IsKnownScalar (data_of tree.now) → ⊥ }
 {
-    if !has_only(tree, "type", "type") {
+    if !has_known_words(tree, false) {
         return None;
     }
-    if has_text(tree, "type", "boolean") {
+    if tree.has_text("type", "boolean") {
         return Some(ScalarKind::Boolean);
     }
-    if has_text(tree, "type", "integer") {
+    if tree.has_text("type", "integer") {
         return Some(ScalarKind::Integer);
     }
     None
@@ -53,10 +54,10 @@ fn known_scalar(tree: &Tree) -> Option<ScalarKind>
 fn object_shape(tree: &Tree) -> Shape<'_>
     ensures { IsObjectShape (data_of tree.now) result }
 {
-    if !has_text(tree, "type", "object") {
+    if !tree.has_text("type", "object") {
         return Shape::Unknown;
     }
-    if !has_only(tree, "type", "properties") {
+    if !has_known_words(tree, true) {
         return Shape::Unknown;
     }
     match tree.get("properties") {
@@ -72,26 +73,43 @@ fn object_shape(tree: &Tree) -> Shape<'_>
     }
 }
 
-/// Whether each name of an object is one of the two.
-fn has_only(tree: &Tree, first: &str, second: &str) -> bool
-    ensures { IsTrue result ↔ ((k : List ℕ) → under (data_of tree.now) k ≢ None → (k ≡ first.now) ⊎ (k ≡ second.now)) }
+/// Whether each keyword is known at a scalar, or at an object.
+fn has_known_words(tree: &Tree, object: bool) -> bool
+    ensures { IsTrue result ↔ ((k : List ℕ) → under (data_of tree.now) k ≢ None → is_among k (known_words object) ≡ true) }
 {
     match tree {
-        Tree::Object(members) => have_names(members, first, second),
+        Tree::Object(members) => have_known_names(members, object),
         _ => true,
     }
 }
 
-fn have_names(members: &Members, first: &str, second: &str) -> bool
-    ensures { IsTrue result ↔ HaveNames first.now second.now members.now }
+fn have_known_names(members: &Members, object: bool) -> bool
+    ensures { IsTrue result ↔ HaveNames object members.now }
 {
     for member in &members.members {
-        let name = member.name.as_str();
-        if name != first && name != second {
+        if !is_known_word(member.name.as_str(), object) {
             return false;
         }
     }
     true
+}
+
+fn is_known_word(word: &str, object: bool) -> bool
+    ensures { result ≡ is_among word.now (known_words object) }
+{
+    word == "type" || object && word == "properties" || is_idle_word(word)
+}
+
+/// Whether a keyword has no effect on what an object is, where no rule is broken.
+fn is_idle_word(word: &str) -> bool
+    ensures { result ≡ is_among word.now idle_words }
+{
+    word == "title"
+        || word == "description"
+        || word == "format"
+        || word == "example"
+        || word == "externalDocs"
+        || word == "uniqueItems"
 }
 
 /// Whether each member is an object.
@@ -109,13 +127,13 @@ fn are_objects(members: &Members) -> bool
 
 /// Whether a property at the root has a name of the envelope of a resource.
 pub(crate) fn is_envelope(name: &str, root: bool) -> bool
-    ensures { IsTrue result ↔ ((root ≡ true) × IsEnvelopeName name.now) }
+    ensures { IsTrue result ↔ IsEnvelope root (name.now ∷ []) }
 {
     root && is_envelope_name(name)
 }
 
 fn is_envelope_name(name: &str) -> bool
-    ensures { IsTrue result ↔ IsEnvelopeName name.now }
+    ensures { result ≡ is_among name.now envelope_names }
 {
     name == "apiVersion" || name == "kind" || name == "metadata"
 }

@@ -3,6 +3,9 @@ use std::test::Fail;
 
 // A command line, and what it asks for: of a mistake the first line, of help the usage.
 static ROWS: &str = "crdx sample c.json v1 => c.json v1 - 8 100
+crdx check c.json v1 => check c.json v1
+crdx check c.json => error: the following required arguments were not provided:
+crdx check c.json v1 --limit 4 => error: unexpected argument '--limit' found
 crdx sample c.json v1 --pools p.json --limit 1 --count 1 => c.json v1 p.json 1 1
 crdx sample --limit 63 --count=10000 - v1beta1 => - v1beta1 - 63 10000
 crdx sample c v --limit 0 => error: invalid value '0' for '--limit <N>': 0 is not in 1..=63
@@ -36,6 +39,10 @@ fn said(alloc: Global, outcome: Outcome<'_>) -> Result<String, Fail> {
             } = words;
             let pools = pools.unwrap_or("-");
             format!(in alloc; "{crd} {version} {pools} {limit} {count}")?
+        }
+        Outcome::Check(words) => {
+            let CheckWords { crd, version } = words;
+            format!(in alloc; "check {crd} {version}")?
         }
         Outcome::Help(text) => {
             let usage = usage_of(text.as_str());

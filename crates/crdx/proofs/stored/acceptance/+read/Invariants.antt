@@ -2,7 +2,7 @@ use Rattle.std.proofs.Common.{◌+◌, ◌*◌, take}
 use Rattle.jtree.specs.Data.{depth, members_depth}
 use Rattle.jtree.specs.View.{data_of, members_of}
 use Rattle.crdx.specs.NodeView.{fields_of}
-use Rattle.crdx.specs.Accepted.{AreFieldsOf}
+use Rattle.crdx.specs.Accepted.{AreFieldsOf, kept}
 use Rattle.crdx.specs.Acceptance.{members_at, AreKnown, AreNodes}
 use Rattle.crdx.proofs.stored.acceptance.+read.Given as goal
 
@@ -18,7 +18,7 @@ decreases-read_field l = 3 * depth (data_of l.tree.now) + 1
 -- the properties so far are known, and the fields are theirs
 abbrev pub invariant-read_fields-loop-property : goal.invariant-read_fields-loop-property
 invariant-read_fields-loop-property l = record {
-  fields : AreFieldsOf (fields_of l.fields.items) (members_of (take l.property-index l.property-items));
+  fields : AreFieldsOf (fields_of l.fields.items) (kept l.root (members_of (take l.property-index l.property-items)));
   nodes : AreNodes (fields_of l.fields.items);
   known : AreKnown l.root (members_at (members_of (take l.property-index l.property-items)));
 }

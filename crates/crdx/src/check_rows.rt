@@ -1,0 +1,113 @@
+// What the program says of schemas that break rules, row by row.
+use crate::fakes::Limited;
+use crate::inputs::{InFault, Inputs};
+use crate::running::run;
+use jtree::Tree;
+use std::alloc::Global;
+use std::test::Fail;
+
+/// The one document that there is, by any name.
+#[derive(Drop)]
+struct Only<'a> {
+    alloc: Global,
+    document: &'a str,
+}
+
+impl Inputs for Only<'_> {
+    fn tree(&mut self, _name: Option<&str>) -> Result<Tree, InFault> {
+        match Tree::from_bytes(self.alloc, self.document.as_bytes()) {
+            Ok(tree) => Ok(tree),
+            Err(fault) => Err(InFault::Document(fault)),
+        }
+    }
+}
+
+// The lines of a text, with bars between.
+fn lines_of(alloc: Global, text: &str) -> Result<String, Fail> {
+    let mut joined = String::new(alloc);
+    for line in text.lines() {
+        if !joined.is_empty() {
+            joined.push_str(" | ")?;
+        }
+        joined.push_str(line)?;
+    }
+    Ok(joined)
+}
+
+// The status, the lines of standard output, `/` and those of standard error, of a command on a definition whose one
+// version has this schema.
+fn said(alloc: Global, command: &str, schema: &str) -> Result<String, Fail> {
+    let mut document = String::from_str(
+        alloc,
+        r#"{"apiVersion":"apiextensions.k8s.io/v1","kind":"CustomResourceDefinition","spec":{"group":"example.com","names":{"kind":"Widget"},"versions":[{"name":"v1","schema":{"openAPIV3Schema":"#,
+    )?;
+    document.push_str(schema)?;
+    document.push_str("}}]}}")?;
+    let mut only = Only {
+        alloc,
+        document: document.as_str(),
+    };
+    let mut words = Vec::new(alloc);
+    for word in ["crdx", command, "crd.json", "v1"] {
+        words.push(word.to_string(alloc)?)?;
+    }
+    let mut out = Limited::endless(alloc);
+    let mut err = Limited::endless(alloc);
+    let status = run(alloc, words.as_slice(), &mut only, &mut out, &mut err);
+    let output = lines_of(alloc, out.text())?;
+    let errors = lines_of(alloc, err.text())?;
+    Ok(format!(in alloc; "{status} {output} / {errors}")?)
+}
+
+// A schema, and what `check` says.
+static CHECKS: &str =
+    r#"{"type":"object","properties":{"spec":{"type":"object","properties":{"a":{"type":"integer"},"b":{"type":"boolean"}}}}} => 0 structural / 
+{"type":"object","properties":{"a":{},"b":{"type":"string","uniqueItems":true}}} => 1 V01 "/properties/a" missing type | V06 "/properties/b" uniqueItems is true / 
+{"type":"object","properties":{"a":{"type":"object","properties":{"b":{}}},"a-b":{}}} => 1 V01 "/properties/a/properties/b" missing type | V01 "/properties/a-b" missing type / 
+{"type":"object","properties":{"x":{"type":"integer","anyOf":[{"type":"integer"},{"type":"string"}]}}} => 1 V03 "/properties/x/anyOf/0" keyword not allowed in a junctor | V03 "/properties/x/anyOf/1" keyword not allowed in a junctor / 
+{"type":"object","properties":{"metadata":{"type":"object","properties":{"labels":{"type":"object"},"name":{"type":"string"}}},"p":{"type":"string","x-kubernetes-int-or-string":true},"q":{"type":"object","additionalProperties":false,"properties":{}},"r":{"type":"string","$ref":"x"},"s":{"type":"object","properties":{"t":{"type":"string"}},"allOf":[{"properties":{"u":{}}}]}}} => 1 V04 "/properties/metadata/properties/labels" metadata restricted | V09 "/properties/p" int-or-string with a type | V07 "/properties/q" additionalProperties is false | V08 "/properties/q" properties with additionalProperties | V05 "/properties/r" keyword not supported | V02 "/properties/s/allOf/0/properties/u" not specified outside the junctor / 
+{"type":"object","properties":{"a":{"type":"string","required":[1]}}} => 3  / crdx: crd: S3 "/properties/a/required/0"
+{"type":"object","properties":{"a":{"type":"string"}}} => 3  / crdx: crd: S0 "/properties/a"
+{"type":"object","properties":{"a":{"type":"string"},"z":{}}} => 1 V01 "/properties/z" missing type / 
+{"type":"object","properties":{"x":{"x-kubernetes-int-or-string":true,"anyOf":[{"type":"integer"},{"type":"string"}]}}} => 3  / crdx: crd: S0 "/properties/x"
+{"type":"object","properties":{"x":{"x-kubernetes-int-or-string":true,"allOf":[{"anyOf":[{"type":"integer"},{"type":"string"}]},{"minimum":1}]}}} => 3  / crdx: crd: S0 "/properties/x"
+{"type":"object","properties":{"x":{"x-kubernetes-int-or-string":true,"allOf":[{"minimum":1},{"anyOf":[{"type":"integer"},{"type":"string"}]}]}}} => 1 V03 "/properties/x/allOf/1/anyOf/0" keyword not allowed in a junctor | V03 "/properties/x/allOf/1/anyOf/1" keyword not allowed in a junctor / 
+{"type":"object","properties":{"x":{"x-kubernetes-int-or-string":true,"anyOf":[{"type":"string"},{"type":"integer"}]}}} => 1 V03 "/properties/x/anyOf/0" keyword not allowed in a junctor | V03 "/properties/x/anyOf/1" keyword not allowed in a junctor / 
+{"type":"object","properties":{"x":{"type":"","x-kubernetes-preserve-unknown-fields":true},"y":{"type":""}}} => 1 V01 "/properties/y" missing type / 
+{} => 1 V01 "" missing type / 
+{"type":"object","additionalProperties":{"items":{}}} => 1 V01 "/additionalProperties" missing type | V01 "/additionalProperties/items" missing type / 
+{"type":"object","not":{"description":"","default":1,"nullable":false,"additionalProperties":{"type":"string"}}} => 1 V03 "/not" keyword not allowed in a junctor | V03 "/not/additionalProperties" keyword not allowed in a junctor / 
+{"type":"object","oneOf":[{"items":{"minimum":1}},{"required":["a"]}]} => 1 V02 "/oneOf/0/items" not specified outside the junctor / 
+{"type":"object","properties":{"s":{"type":"array","items":{"type":"integer"},"not":{"items":{"minimum":1}}}}} => 3  / crdx: crd: S0 "/properties/s"
+{"type":"object","properties":{"metadata":{"type":"string","minLength":1,"properties":{"generateName":{"type":"string"}}}}} => 1 V04 "/properties/metadata" metadata restricted / 
+{"type":"object","properties":{"spec":{"type":"object","properties":{"metadata":{"type":"object","properties":{"labels":{"type":"object"}}}}}}} => 0 structural / 
+{"type":"object","definitions":1,"dependencies":1,"deprecated":1,"not":{"discriminator":1,"uniqueItems":true}} => 1 V05 "" keyword not supported | V05 "/not" keyword not supported | V06 "/not" uniqueItems is true / 
+{"type":"object","properties":{"a":{"type":"object","additionalProperties":true,"properties":{}},"b":{"type":"object","uniqueItems":false,"id":"","xml":{}}}} => 1 V08 "/properties/a" properties with additionalProperties | V05 "/properties/b" keyword not supported / "#;
+
+#[test]
+fn checks(rt: HostRuntime) -> Result<(), Fail> {
+    let alloc = rt.alloc();
+    for row in CHECKS.lines() {
+        let Some((schema, wanted)) = row.split_once(" => ") else {
+            return Err(Fail::from("a row with no arrow"));
+        };
+        let found = said(alloc, "check", schema)?;
+        assert_eq!(rt; found.as_str(), wanted, "at {schema}");
+    }
+    Ok(())
+}
+
+// Under `sample` violations go to standard error, before the pools are read.
+#[test]
+fn violations_of_samples(rt: HostRuntime) -> Result<(), Fail> {
+    let alloc = rt.alloc();
+    let found = said(
+        alloc,
+        "sample",
+        r#"{"type":"object","properties":{"a":{},"b":{"type":"string","uniqueItems":true}}}"#,
+    )?;
+    let wanted =
+        r#"1  / V01 "/properties/a" missing type | V06 "/properties/b" uniqueItems is true"#;
+    assert_eq!(rt; found.as_str(), wanted);
+    Ok(())
+}

@@ -1,0 +1,23 @@
+-- Path order: paths compare as lists of names and places, names by bytes, places by number, and a beginning comes before
+-- what goes on. So `/a/b` comes before `/a-b`.
+use Rattle.std.specs.Prelude.{◌≢◌}
+use Rattle.std.specs.Ordering.{nat_cmp}
+use Rattle.std.specs.Cmp.Lexicographic.{slice_cmp}
+use Rattle.std.specs.declared.cmp.Ordering.{Ordering}
+use Rattle.std.specs.declared.cmp.Ordering.TheVariants.{Less, Greater}
+use Rattle.jtree.specs.Order.{text_cmp}
+use Rattle.jtree.specs.Path.{Step, name, place, Path}
+
+abbrev pub step_cmp : Step → Step → Ordering
+step_cmp (name k) (name l) = text_cmp k l
+step_cmp (place i) (place j) = nat_cmp i j
+step_cmp (name k) (place j) = Less
+step_cmp (place i) (name l) = Greater
+
+abbrev pub path_cmp : Path → Path → Ordering
+path_cmp = slice_cmp step_cmp
+
+-- the first path at which something holds
+pub record IsFirst (Holds : Path → Type 0) (path : Path) : Type 0 where
+  pub here : Holds path
+  pub none_before : (earlier : Path) → Holds earlier → path_cmp earlier path ≢ Less

@@ -1,0 +1,301 @@
+-- What is found of the pairs of places and rules are the breaks of a schema.
+use Rattle.std.proofs.Common.{◌≡◌, ◌<◌, ◌+◌, ℕ, List, [], ◌∷◌, ◌++◌, length, take, get_or, true, false, refl, sym, ap, ◌∙◌, subst, inl, inr, arith}
+use Rattle.std.specs.Prelude.{◌↔◌, All, IsTrue, map, string_bytes}
+use Rattle.std.specs.Cmp.{nat_cmp_is}
+use Rattle.std.specs.Ordering.{nat_cmp}
+use Rattle.std.proofs.lemmas.Cmp.{tied_itself}
+use Rattle.std.proofs.lemmas.List.{append_assoc, append-nil, map-append, take_more}
+use Rattle.std.proofs.lemmas.Grind.{flat_map-append}
+use Rattle.std.specs.declared.cmp.Ordering.TheVariants.{Less}
+use Rattle.jtree.specs.Data.{Data, object, Members, IsObject}
+use Rattle.jtree.specs.PathOrder.{path_cmp}
+use Rattle.schema.specs.Places.{Place, place_path, place_pointer, IsPlace}
+use Rattle.schema.specs.PlaceView.{place_of, visit_of}
+use Rattle.schema.specs.Marks.{Mark, visited, too_long, IsIn, Ascend, visits_of, schema_marks}
+use Rattle.schema.specs.Rules.{Broken, metadata_word, metadata_type, metadata_field}
+use Rattle.schema.specs.Breaks.{Break, number, break_cmp, Told, told, told_of, AreViolations}
+use Rattle.schema.specs.Visits.{IsVisit, AreVisits}
+use Rattle.schema.specs.Judged.{judged, pair, pairs_at, pairs_of, AreBroken, none, broken, kept, AreFound}
+use Rattle.schema.specs.declared.listing.Visit.{Visit}
+use Rattle.schema.specs.declared.violation.Rule.{Rule}
+use Rattle.schema.specs.declared.violation.Rule.TheVariants.{V01, V02, V03, V04, V05, V06, V07, V08, V09, V10, V11, V12, V13, V14, V15, V16, V17}
+use Rattle.schema.specs.declared.violation.Violation.{Violation}
+use Rattle.schema.proofs.Rising.{Among, Rising, contains, each_of, all_pairs, among_left, among_right, among_parts, rising_join}
+use Rattle.schema.proofs.LimitLemmas.{path_total}
+use Rattle.schema.proofs.MarkLemmas.{schema_marks_are}
+
+-- ---- what is found
+
+broken-append : (raw : Data) (ps qs bs cs : List Break) → AreBroken raw ps bs → AreBroken raw qs cs → AreBroken raw (ps ++ qs) (bs ++ cs)
+broken-append raw ps qs bs cs (none r) h = h
+broken-append raw ps qs bs cs (broken r b rest more is f) h = broken r b (rest ++ qs) (more ++ cs) is (broken-append r rest qs more cs f h)
+broken-append raw ps qs bs cs (kept r b rest more not f) h = kept r b (rest ++ qs) (more ++ cs) not (broken-append r rest qs more cs f h)
+
+pub found_none : {Known : Data → Type 0} (old : List Violation) → AreFound Known [] old old
+found_none old = record { found = []; told_as = sym (append-nil (map told old)); are = λ raw known. none raw }
+
+found_join : {Known Needed : Data → Type 0} (ps qs : List Break) (old mid new : List Violation) → ((raw : Data) → Known raw → Needed raw)
+    → AreFound Known ps old mid → AreFound Needed qs mid new → AreFound Known (ps ++ qs) old new
+found_join ps qs old mid new enough f g = record {
+  found = f.found ++ g.found;
+  told_as =
+      g.told_as ∙ ap (λ ts. ts ++ map told_of g.found) f.told_as ∙ append_assoc (map told old) (map told_of f.found) (map told_of g.found)
+      ∙ ap (λ ts. map told old ++ ts) (sym (map-append told_of f.found g.found));
+  are = λ raw known. broken-append raw ps qs f.found g.found (f.are raw known) (g.are raw (enough raw known));
+}
+
+-- ---- one more rule, and one more place
+
+more_pairs : (p : Place) (rules : List Rule) (i : ℕ) (d : Rule) → i < length rules
+    → pairs_at p (take (i + 1) rules) ≡ pairs_at p (take i rules) ++ (pair p (get_or rules i d) ∷ [])
+more_pairs p rules i d within = ap (pairs_at p) (take_more rules i d within) ∙ map-append (pair p) (take i rules) (get_or rules i d ∷ [])
+
+pub found_rule : (v : Visit) (rules : List Rule) (i : ℕ) (d : Rule) (old mid : List Violation) (w : Violation) → i < length rules
+    → w.rule ≡ get_or rules i d → string_bytes w.pointer ≡ place_pointer (place_of v.place.items)
+    → ((raw : Data) → IsVisit raw v → IsTrue true ↔ Broken raw (place_of v.place.items) (get_or rules i d))
+    → AreFound (λ raw. IsVisit raw v) (pairs_at (place_of v.place.items) (take i rules)) old mid
+    → AreFound (λ raw. IsVisit raw v) (pairs_at (place_of v.place.items) (take (i + 1) rules)) old (mid ++ (w ∷ []))
+found_rule v rules i d old mid w within rule_is pointer_is is f =
+    let p = place_of v.place.items in
+    let r = get_or rules i d in
+    let as_told : List ℕ → Rule → Told = λ bytes rule. record { pointer = bytes; rule = rule } in
+    let tells : told w ≡ told_of (pair p r) = ap (λ bytes. as_told bytes w.rule) pointer_is ∙ ap (as_told (place_pointer p)) rule_is in
+    let one : AreFound (λ raw. IsVisit raw v) (pair p r ∷ []) mid (mid ++ (w ∷ [])) = record {
+      found = pair p r ∷ [];
+      told_as = map-append told mid (w ∷ []) ∙ ap (λ t. map told mid ++ (t ∷ [])) tells;
+      are = λ raw known. broken raw (pair p r) [] [] ((is raw known).0 refl) (none raw);
+    } in
+    subst (λ ps. AreFound (λ raw. IsVisit raw v) ps old (mid ++ (w ∷ []))) (sym (more_pairs p rules i d within))
+    (found_join (pairs_at p (take i rules)) (pair p r ∷ []) old mid (mid ++ (w ∷ [])) (λ raw known. known) f one)
+
+pub kept_rule : (v : Visit) (rules : List Rule) (i : ℕ) (d : Rule) (old mid : List Violation) → i < length rules
+    → ((raw : Data) → IsVisit raw v → IsTrue false ↔ Broken raw (place_of v.place.items) (get_or rules i d))
+    → AreFound (λ raw. IsVisit raw v) (pairs_at (place_of v.place.items) (take i rules)) old mid
+    → AreFound (λ raw. IsVisit raw v) (pairs_at (place_of v.place.items) (take (i + 1) rules)) old mid
+kept_rule v rules i d old mid within is f =
+    let p = place_of v.place.items in
+    let r = get_or rules i d in
+    let one : AreFound (λ raw. IsVisit raw v) (pair p r ∷ []) mid mid = record {
+      found = [];
+      told_as = sym (append-nil (map told mid));
+      are = λ raw known. kept raw (pair p r) [] [] (λ h. let no : false ≡ true = (is raw known).1 h in cc) (none raw);
+    } in
+    subst (λ ps. AreFound (λ raw. IsVisit raw v) ps old mid) (sym (more_pairs p rules i d within))
+    (found_join (pairs_at p (take i rules)) (pair p r ∷ []) old mid mid (λ raw known. known) f one)
+
+pub found_visit : (visits : List Visit) (i : ℕ) (v : Visit) (mid new : List Violation) → i < length visits → v ≡ get_or visits i v
+    → AreFound (λ raw. IsVisit raw v) (pairs_at (place_of v.place.items) judged) mid new
+    → AreFound (λ raw. All (IsVisit raw) visits) (pairs_of (take i visits)) [] mid
+    → AreFound (λ raw. All (IsVisit raw) visits) (pairs_of (take (i + 1) visits)) [] new
+found_visit visits i v mid new within at here f =
+    let pairs = λ (w : Visit). pairs_at (place_of w.place.items) judged in
+    let more : take (i + 1) visits ≡ take i visits ++ (v ∷ []) = take_more visits i v within ∙ ap (λ w. take i visits ++ (w ∷ [])) (sym at) in
+    let split : pairs_of (take (i + 1) visits) ≡ pairs_of (take i visits) ++ pairs v =
+    ap pairs_of more ∙ flat_map-append pairs (take i visits) (v ∷ []) ∙ ap (λ ps. pairs_of (take i visits) ++ ps) (append-nil (pairs v)) in
+    subst (λ ps. AreFound (λ raw. All (IsVisit raw) visits) ps [] new) (sym split)
+    (found_join (pairs_of (take i visits)) (pairs v) [] mid new (λ raw all. subst (IsVisit raw) (sym at) (all i v within)) f here)
+
+-- ---- broken pairs
+
+broken_each : (raw : Data) (ps bs : List Break) (b : Break) → AreBroken raw ps bs → Among bs b → Broken raw b.place b.rule
+broken_each raw ps bs b (none r) a = elim a [ ]
+broken_each raw ps bs b (broken r c rest more is f) (inl e) = subst (λ x. Broken r x.place x.rule) e is
+broken_each raw ps bs b (broken r c rest more is f) (inr a) = broken_each r rest more b f a
+broken_each raw ps bs b (kept r c rest more not f) a = broken_each r rest more b f a
+
+broken_all : (raw : Data) (ps bs : List Break) (b : Break) → AreBroken raw ps bs → Among ps b → Broken raw b.place b.rule → Among bs b
+broken_all raw ps bs b (none r) a h = elim a [ ]
+broken_all raw ps bs b (broken r c rest more is f) (inl e) h = inl e
+broken_all raw ps bs b (broken r c rest more is f) (inr a) h = inr (broken_all r rest more b f a h)
+broken_all raw ps bs b (kept r c rest more not f) (inl e) h = absurd (not (subst (λ x. Broken r x.place x.rule) (sym e) h))
+broken_all raw ps bs b (kept r c rest more not f) (inr a) h = broken_all r rest more b f a h
+
+broken_from : (raw : Data) (ps bs : List Break) (b : Break) → AreBroken raw ps bs → Among bs b → Among ps b
+broken_from raw ps bs b (none r) a = a
+broken_from raw ps bs b (broken r c rest more is f) (inl e) = inl e
+broken_from raw ps bs b (broken r c rest more is f) (inr a) = inr (broken_from r rest more b f a)
+broken_from raw ps bs b (kept r c rest more not f) a = inr (broken_from r rest more b f a)
+
+abbrev IsLess : Break → Break → Type 0
+IsLess b c = break_cmp b c ≡ Less
+
+broken_rising : (raw : Data) (ps bs : List Break) → AreBroken raw ps bs → Rising IsLess ps → Rising IsLess bs
+broken_rising raw ps bs (none r) h = tt
+broken_rising raw ps bs (broken r c rest more is f) h = (λ b a. h.0 b (broken_from r rest more b f a), broken_rising r rest more f h.1)
+broken_rising raw ps bs (kept r c rest more not f) h = broken_rising r rest more f h.1
+
+-- ---- each rule that is broken is judged, at a place
+
+is_judged : (raw : Data) (p : Place) (r : Rule) → Broken raw p r → Among judged r
+is_judged raw p V01 h = inl refl
+is_judged raw p V02 h = inr (inl refl)
+is_judged raw p V03 h = inr (inr (inl refl))
+is_judged raw p V04 h = inr (inr (inr (inl refl)))
+is_judged raw p V05 h = inr (inr (inr (inr (inl refl))))
+is_judged raw p V06 h = inr (inr (inr (inr (inr (inl refl)))))
+is_judged raw p V07 h = inr (inr (inr (inr (inr (inr (inl refl))))))
+is_judged raw p V08 h = inr (inr (inr (inr (inr (inr (inr (inl refl)))))))
+is_judged raw p V09 h = inr (inr (inr (inr (inr (inr (inr (inr (inl refl))))))))
+is_judged raw p V10 h = absurd h
+is_judged raw p V11 h = absurd h
+is_judged raw p V12 h = absurd h
+is_judged raw p V13 h = absurd h
+is_judged raw p V14 h = absurd h
+is_judged raw p V15 h = absurd h
+is_judged raw p V16 h = absurd h
+is_judged raw p V17 h = absurd h
+
+restricted_place : (raw : Data) (p : Place) → Broken raw p V04 → IsPlace raw p
+restricted_place raw p (metadata_word r at) = (at.0, at.1)
+restricted_place raw p (metadata_type r at) = (at.0, at.1)
+restricted_place raw p (metadata_field r k at n g) = at
+
+at_place : (raw : Data) (p : Place) (r : Rule) → Broken raw p r → IsPlace raw p
+at_place raw p V01 h = (h.1.0, h.1.1)
+at_place raw p V02 h = h.1
+at_place raw p V03 h = (h.1.0, h.1.1)
+at_place raw p V04 h = restricted_place raw p h
+at_place raw p V05 h = (h.0, h.1)
+at_place raw p V06 h = (h.0, h.1)
+at_place raw p V07 h = (h.0, h.1)
+at_place raw p V08 h = (h.0, h.1)
+at_place raw p V09 h = (h.1.0, h.1.1)
+at_place raw p V10 h = absurd h
+at_place raw p V11 h = absurd h
+at_place raw p V12 h = absurd h
+at_place raw p V13 h = absurd h
+at_place raw p V14 h = absurd h
+at_place raw p V15 h = absurd h
+at_place raw p V16 h = absurd h
+at_place raw p V17 h = absurd h
+
+-- ---- the pairs of the places are in order, and all are there
+
+among_pairs : (p : Place) (rules : List Rule) (r : Rule) → Among rules r → Among (pairs_at p rules) (pair p r)
+among_pairs p [] r a = a
+among_pairs p (s ∷ rules) r (inl e) = inl (ap (pair p) e)
+among_pairs p (s ∷ rules) r (inr a) = inr (among_pairs p rules r a)
+
+pairs_place : (p : Place) (rules : List Rule) (b : Break) → Among (pairs_at p rules) b → (r : Rule) × Among rules r × (pair p r ≡ b)
+pairs_place p [] b a = elim a [ ]
+pairs_place p (s ∷ rules) b (inl e) = (s, inl refl, e)
+pairs_place p (s ∷ rules) b (inr a) = let f = pairs_place p rules b a in (f.0, inr f.1, f.2)
+
+among_all : (visits : List Visit) (v : Visit) (r : Rule) → Among visits v → Among judged r → Among (pairs_of visits) (pair (place_of v.place.items) r)
+among_all [] v r a j = elim a [ ]
+among_all (w ∷ visits) v r (inl e) j = among_left (pairs_at (place_of w.place.items) judged) (pairs_of visits) (pair (place_of v.place.items) r)
+    (subst (λ x. Among (pairs_at (place_of w.place.items) judged) (pair (place_of x.place.items) r)) e (among_pairs (place_of w.place.items) judged r j))
+among_all (w ∷ visits) v r (inr a) j = among_right (pairs_at (place_of w.place.items) judged) (pairs_of visits) (pair (place_of v.place.items) r) (among_all visits v r a j)
+
+all_place : (visits : List Visit) (b : Break) → Among (pairs_of visits) b → (v : Visit) × (r : Rule) × Among visits v × (pair (place_of v.place.items) r ≡ b)
+all_place [] b a = elim a [ ]
+all_place (w ∷ visits) b a = elim (among_parts (pairs_at (place_of w.place.items) judged) (pairs_of visits) b a) [
+  | inl l ↦ let f = pairs_place (place_of w.place.items) judged b l in (w, f.0, inl refl, f.2)
+  | inr h ↦ let f = all_place visits b h in (f.0, f.1, inr f.2, f.3)
+]
+
+abbrev IsLower : Rule → Rule → Type 0
+IsLower r s = number r < number s
+
+abbrev Chained : List Rule → Type 0
+Chained [] = Unit {0}
+Chained (r ∷ []) = Unit {0}
+Chained (r ∷ s ∷ rules) = IsLower r s × Chained (s ∷ rules)
+
+chain_first : (r : Rule) (rules : List Rule) → Chained (r ∷ rules) → (s : Rule) → Among rules s → IsLower r s
+chain_first r [] h s a = elim a [ ]
+chain_first r (t ∷ rules) h s (inl e) = subst (IsLower r) e h.0
+chain_first r (t ∷ rules) h s (inr a) = let later = chain_first t rules h.1 s a in omega (arith, h.0, later)
+
+chain_tail : (r : Rule) (rules : List Rule) → Chained (r ∷ rules) → Chained rules
+chain_tail r [] h = tt
+chain_tail r (s ∷ rules) h = h.1
+
+rule_before : (p : Place) (r s : Rule) → IsLower r s → IsLess (pair p r) (pair p s)
+rule_before p r s lower =
+    let tied = tied_itself path_total (place_path p) in
+    let less : Less ≡ nat_cmp (number r) (number s) = nat_cmp_is (number r) (number s) Less lower in
+    rw (tied, ← less) refl
+
+pairs_rising : (p : Place) (rules : List Rule) → Chained rules → Rising IsLess (pairs_at p rules)
+pairs_rising p [] h = tt
+pairs_rising p (r ∷ rules) h = (
+  λ b a. let f = pairs_place p rules b a in subst (IsLess (pair p r)) f.2 (rule_before p r f.0 (chain_first r rules h f.0 f.1)),
+  pairs_rising p rules (chain_tail r rules h),
+)
+
+judged_chain : Chained judged
+judged_chain = (omega arith, (omega arith, (omega arith, (omega arith, (omega arith, (omega arith, (omega arith, (omega arith, tt))))))))
+
+abbrev Earlier : Visit → Visit → Type 0
+Earlier v w = path_cmp (place_path (place_of v.place.items)) (place_path (place_of w.place.items)) ≡ Less
+
+place_before : (v w : Visit) (r s : Rule) → Earlier v w → IsLess (pair (place_of v.place.items) r) (pair (place_of w.place.items) s)
+place_before v w r s less = rw less refl
+
+all_rising : (visits : List Visit) → Rising Earlier visits → Rising IsLess (pairs_of visits)
+all_rising [] h = tt
+all_rising (v ∷ visits) h =
+    let p = place_of v.place.items in
+    rising_join IsLess (pairs_at p judged) (pairs_of visits) (pairs_rising p judged judged_chain) (all_rising visits h.1) (λ b c here there.
+    let f = pairs_place p judged b here in
+    let g = all_place visits c there in
+    let less : IsLess (pair p f.0) (pair (place_of g.0.place.items) g.1) = place_before v g.0 f.0 g.1 (h.0 g.0 g.2) in
+    subst (λ x. IsLess x c) f.2 (subst (λ x. IsLess (pair p f.0) x) g.3 less))
+
+-- ---- the visits are the places in path order
+
+in_visits : (marks : List Mark) (m : Mark) → IsIn m (visits_of marks) → IsIn m marks
+in_visits [] m h = h
+in_visits (visited p s ∷ marks) m (inl e) = inl e
+in_visits (visited p s ∷ marks) m (inr h) = inr (in_visits marks m h)
+in_visits (too_long p k ∷ marks) m h = inr (in_visits marks m h)
+
+is_visit : (marks : List Mark) (p : Place) (s : Data) → IsIn (visited p s) marks → IsIn (visited p s) (visits_of marks)
+is_visit [] p s h = h
+is_visit (visited q t ∷ marks) p s (inl e) = inl e
+is_visit (visited q t ∷ marks) p s (inr h) = inr (is_visit marks p s h)
+is_visit (too_long q k ∷ marks) p s (inl e) = absurd (cc)
+is_visit (too_long q k ∷ marks) p s (inr h) = is_visit marks p s h
+
+visits_ascend : (marks : List Mark) → Ascend marks → Ascend (visits_of marks)
+visits_ascend [] h = tt
+visits_ascend (visited p s ∷ marks) h = (λ n i. h.0 n (in_visits marks n i), visits_ascend marks h.1)
+visits_ascend (too_long p k ∷ marks) h = visits_ascend marks h.1
+
+in_map : (visits : List Visit) (v : Visit) → Among visits v → IsIn (visit_of v) (map visit_of visits)
+in_map [] v a = a
+in_map (w ∷ visits) v (inl e) = inl (ap visit_of (sym e))
+in_map (w ∷ visits) v (inr a) = inr (in_map visits v a)
+
+from_map : (visits : List Visit) (m : Mark) → IsIn m (map visit_of visits) → (v : Visit) × Among visits v × (m ≡ visit_of v)
+from_map [] m h = elim h [ ]
+from_map (w ∷ visits) m (inl e) = (w, inl refl, e)
+from_map (w ∷ visits) m (inr h) = let f = from_map visits m h in (f.0, inr f.1, f.2)
+
+visits_rising : (visits : List Visit) → Ascend (map visit_of visits) → Rising Earlier visits
+visits_rising [] h = tt
+visits_rising (v ∷ visits) h = (λ w a. h.0 (visit_of w) (in_map visits w a), visits_rising visits h.1)
+
+pub violations_of : (ms : Members) (visits : List Visit) (violations : List Violation) → IsObject ms → AreVisits ms visits
+    → AreFound (λ raw. All (IsVisit raw) visits) (pairs_of visits) [] violations → AreViolations (object ms) violations
+violations_of ms visits violations o are f =
+    let raw = object ms in
+    let marks = schema_marks_are ms o in
+    let broken = f.are raw are.each in
+    let ascending = subst Ascend (sym are.whole) (visits_ascend (schema_marks [] ms) marks.ascending) in
+    let each = λ (b : Break) (a : Among f.found b). broken_each raw (pairs_of visits) f.found b broken a in (
+      f.found,
+      record {
+        each = each_of (λ b. Broken raw b.place b.rule) f.found each;
+        all = λ p r h.
+            let at : IsPlace raw p = at_place raw p r h in
+            let marked = is_visit (schema_marks [] ms) p at.0 ((marks.visits p at.0).0 at.1) in
+            let v = from_map visits (visited p at.0) (subst (IsIn (visited p at.0)) (sym are.whole) marked) in
+            let same : place_of v.0.place.items ≡ p = let e = v.2 in cc in
+            let here : Among (pairs_of visits) (pair p r) = subst (λ q. Among (pairs_of visits) (pair q r)) same (among_all visits v.0 r v.1 (is_judged raw p r h)) in
+            contains f.found (pair p r) (broken_all raw (pairs_of visits) f.found (pair p r) broken here h);
+        ascending = all_pairs IsLess f.found (broken_rising raw (pairs_of visits) f.found broken (all_rising visits (visits_rising visits ascending)));
+      },
+      f.told_as,
+    )

@@ -1,0 +1,16 @@
+pub mod VersionLemmas
+pub mod CrdLemmas
+pub mod FormLemmas
+pub mod FormFirst
+pub mod PlaceLemmas
+pub mod Rising
+pub mod LimitLemmas
+pub mod ListingLemmas
+pub mod MarkParts
+pub mod MarkVisits
+pub mod MarkLemmas
+pub mod ContextLemmas
+pub mod PatternLemmas
+pub mod SchemaFaults
+pub mod RuleLemmas
+pub mod JudgedLemmas

@@ -1,0 +1,40 @@
+use Rattle.std.proofs.Common.{◌≡◌, ◌<◌, ◌+◌, suc, ◌∷◌, length, drop, ap, sym, ◌∙◌, subst, arith}
+use Rattle.std.proofs.lemmas.List.{drop_more}
+use Rattle.jtree.specs.Path.{name, place}
+use Rattle.jtree.specs.View.{data_of, items_of, members_of}
+use Rattle.schema.specs.FormBreak.{first_break, items_break, members_break, below, IsBreakFault}
+use Rattle.schema.specs.Forms.{form_below}
+use Rattle.schema.proofs.FormLemmas.{first_fault}
+use Rattle.schema.proofs.forms.+forms.Goals as goal
+
+pub check_items-returns-in-Err-clause-err : goal.check_items-returns-in-Err-clause-err
+check_items-returns-in-Err-clause-err t c =
+    let form = c.args.form in
+    let xs = c.deref-item-items.result.now in
+    let i = c.loop-i.i in
+    let x = c.item-item.result in
+    let e = c.below_index.result in
+    let within : i < length xs = omega arith in
+    let rest = items_break form (suc i) (items_of (drop (i + 1) xs)) in
+    let here = c.below_index.ensures (first_break (form_below form (place i)) (data_of x)) (subst (λ f. IsBreakFault (first_break f (data_of x)) c.in-Err.fault) (c.form_of_items-item_form.ensures i) c.in-Err.ensures.err) in
+    let split : drop i xs ≡ x ∷ drop (i + 1) xs = drop_more xs i x within ∙ ap (λ y. y ∷ drop (i + 1) xs) (sym c.item-item.is) in
+    let whole : items_of xs ≡ c.args.items.now = ap items_of c.deref-item-items.ensures.value ∙ c.items.view_is in
+    subst (λ o. IsBreakFault o e) (ap (λ ys. items_break form i (items_of ys)) (sym split) ∙ c.loop-i.invariant ∙ ap (items_break form 0) whole)
+    (first_fault _ rest e here)
+
+pub check_members-returns-in-Err-clause-err : goal.check_members-returns-in-Err-clause-err
+check_members-returns-in-Err-clause-err t c =
+    let form = c.args.form in
+    let xs = c.deref-member-items.result.now in
+    let i = c.loop-member.member-index in
+    let m = c.member-item.result in
+    let e = c.below_name.result in
+    let within : i < length xs = omega arith in
+    let rest = members_break form (members_of (drop (i + 1) xs)) in
+    let here = c.below_name.ensures (first_break (form_below form (name m.name)) (data_of m.tree))
+    (subst (λ f. IsBreakFault (first_break f (data_of m.tree)) c.in-Err.fault) (c.form_of_member.ensures ∙ ap (λ k. form_below form (name k)) c.as_str-name.ensures) c.in-Err.ensures.err) in
+    let split : drop i xs ≡ m ∷ drop (i + 1) xs = drop_more xs i m within ∙ ap (λ y. y ∷ drop (i + 1) xs) (sym c.member-item.is) in
+    let whole : members_of xs ≡ c.args.members.now = ap members_of c.deref-member-items.ensures.value ∙ c.members.view_is in
+    subst (λ o. IsBreakFault o e) (ap (λ ys. members_break form (members_of ys)) (sym split) ∙ c.loop-member.invariant ∙ ap (members_break form) whole)
+    (first_fault (below (name m.name) (first_break (form_below form (name m.name)) (data_of m.tree))) rest e
+    (subst (λ k. IsBreakFault (below (name k) (first_break (form_below form (name m.name)) (data_of m.tree))) e) c.as_str-name.ensures here))

@@ -1,0 +1,229 @@
+use Rattle.std.proofs.Common.{◌≡◌, ◌<◌, ◌+◌, suc, [], ◌∷◌, ◌++◌, IfErr, length, drop, true, false, refl, ap, sym, ◌∙◌, subst, arith}
+use Rattle.std.specs.Prelude.{map, All}
+use Rattle.std.proofs.lemmas.List.Elements.{All-append, All-cons, All-nil}
+use Rattle.std.proofs.lemmas.List.{drop_more, length-append}
+use Rattle.std.proofs.lemmas.Result.{on_ok_weaker}
+use Rattle.jtree.specs.Data.{list, object, IsObject}
+use Rattle.jtree.specs.View.{data_of, items_of, members_of}
+use Rattle.schema.specs.Limits.{size}
+use Rattle.schema.specs.Contexts.{StandsAs}
+use Rattle.schema.specs.Visits.{IsVisit}
+use Rattle.schema.specs.Marks.{properties, branches, most_of, is_past, a_schema, part_of, branch, word_mark, part_marks, member_marks, item_marks, schema_marks, visits_of, limit_break}
+use Rattle.schema.specs.Places.{property}
+use Rattle.schema.specs.PlaceView.{step_of, place_of, junctor_of, part_view, visit_of}
+use Rattle.schema.specs.LimitBreak.{IsLimitRefusal}
+use Rattle.schema.proofs.ListingLemmas.{HasGrown, grown_visits, grown_limit, refusal_stays, short_word}
+use Rattle.schema.proofs.ContextLemmas.{context_visit, part_stands, property_stands, branch_stands, member_stands, item_stands}
+use Rattle.schema.proofs.listing.+listing.Goals as goal
+
+pub list_branches-loop-i-preserved : goal.list_branches-loop-i-preserved
+list_branches-loop-i-preserved t c =
+    let xs = c.deref-item-items.result.now in
+    let i = c.loop-i.i in
+    let x = c.item-item.result in
+    let P = place_of c.args.place.now in
+    let j = junctor_of c.args.junctor in
+    let old = c.loop-i.visits.items in
+    let new = c.list_part.new.visits.items in
+    let within : i < length xs = omega arith in
+    let split : drop i xs ≡ x ∷ drop (i + 1) xs = drop_more xs i x within ∙ ap (λ y. y ∷ drop (i + 1) xs) (sym c.item-item.is) in
+    let here = part_marks P (a_schema (branch j i)) (data_of x) in
+    let rest = item_marks P j (i + 1) (items_of (drop (i + 1) xs)) in
+    let next : suc i ≡ i + 1 = omega arith in
+    let marks : item_marks P j i (items_of (drop i xs)) ≡ here ++ rest =
+    ap (λ ys. item_marks P j i (items_of ys)) split ∙ ap (λ n. here ++ item_marks P j n (items_of (drop (i + 1) xs))) next in
+    let step = c.branch-step.ensures in
+    let grown : HasGrown old new here = record {
+      visits = c.in-Ok.ensures.visits ∙ ap (λ s. map visit_of old ++ visits_of (part_marks P (a_schema s) (data_of x))) step;
+      limit = ap (λ s. limit_break (length old) (part_marks P (a_schema s) (data_of x))) (sym step) ∙ c.in-Ok.ensures.ok;
+    } in
+    record {
+      visits = grown_visits old new here rest grown ∙ ap (λ ms. map visit_of old ++ visits_of ms) (sym marks) ∙ c.loop-i.invariant.visits;
+      limit = grown_limit old new here rest grown ∙ ap (limit_break (length old)) (sym marks) ∙ c.loop-i.invariant.limit;
+      contexts = λ raw s h stands all.
+          let item = item_stands xs (drop (i + 1) xs) i x split in
+          let here : StandsAs s (a_schema (step_of c.branch-step.result)) (data_of x) = subst (λ r. StandsAs s (a_schema r) (data_of x)) (sym step) (branch_stands s j (items_of xs) i (data_of x) stands item) in
+          c.in-Ok.ensures.contexts raw s h here (c.loop-i.invariant.contexts raw s h stands all);
+    }
+
+pub list_branches-returns-in-Err-clause-err : goal.list_branches-returns-in-Err-clause-err
+list_branches-returns-in-Err-clause-err t c =
+    let xs = c.deref-item-items.result.now in
+    let i = c.loop-i.i in
+    let x = c.item-item.result in
+    let P = place_of c.args.place.now in
+    let j = junctor_of c.args.junctor in
+    let old = c.loop-i.visits.items in
+    let e = c.in-Err.fault in
+    let within : i < length xs = omega arith in
+    let split : drop i xs ≡ x ∷ drop (i + 1) xs = drop_more xs i x within ∙ ap (λ y. y ∷ drop (i + 1) xs) (sym c.item-item.is) in
+    let here = part_marks P (a_schema (branch j i)) (data_of x) in
+    let rest = item_marks P j (suc i) (items_of (drop (i + 1) xs)) in
+    let refused = subst (λ s. IsLimitRefusal (limit_break (length old) (part_marks P (a_schema s) (data_of x))) e) c.branch-step.ensures c.in-Err.ensures.err in
+    let whole : items_of xs ≡ c.args.items.now = ap items_of c.deref-item-items.ensures.value ∙ c.items.view_is in
+    subst (λ o. IsLimitRefusal o e)
+    (ap (λ ys. limit_break (length old) (item_marks P j i (items_of ys))) (sym split) ∙ c.loop-i.invariant.limit ∙ ap (λ ds. limit_break (length c.args.visits.now.items) (item_marks P j 0 ds)) whole)
+    (refusal_stays (length old) here rest e refused)
+
+pub list_properties-loop-property-preserved : goal.list_properties-loop-property-preserved
+list_properties-loop-property-preserved t c =
+    let xs = c.deref-property-items.result.now in
+    let i = c.loop-property.property-index in
+    let m = c.property-item.result in
+    let P = place_of c.args.place.now in
+    let old = c.loop-property.visits.items in
+    let new = c.list_part.new.visits.items in
+    let within : i < length xs = omega arith in
+    let split : drop i xs ≡ m ∷ drop (i + 1) xs = drop_more xs i m within ∙ ap (λ y. y ∷ drop (i + 1) xs) (sym c.property-item.is) in
+    let here = part_marks P (a_schema (property m.name)) (data_of m.tree) in
+    let rest = member_marks P false (members_of (drop (i + 1) xs)) in
+    let marks : member_marks P false (members_of (drop i xs)) ≡ here ++ rest = ap (λ ys. member_marks P false (members_of ys)) split in
+    let named = c.as_str.ensures in
+    let whole : members_of xs ≡ c.args.properties.now = ap members_of c.deref-property-items.ensures.value ∙ c.properties.view_is in
+    let grown : HasGrown old new here = record {
+      visits = c.in-Ok.ensures.visits ∙ ap (λ k. map visit_of old ++ visits_of (part_marks P (a_schema (property k)) (data_of m.tree))) named;
+      limit = ap (λ k. limit_break (length old) (part_marks P (a_schema (property k)) (data_of m.tree))) (sym named) ∙ c.in-Ok.ensures.ok;
+    } in
+    record {
+      visits = grown_visits old new here rest grown ∙ ap (λ ms. map visit_of old ++ visits_of ms) (sym marks) ∙ c.loop-property.invariant.visits;
+      limit = grown_limit old new here rest grown ∙ ap (limit_break (length old)) (sym marks) ∙ c.loop-property.invariant.limit;
+      contexts = λ raw s h stands all.
+          let member = member_stands xs (drop (i + 1) xs) i m (subst IsObject (sym whole) c.is_object.ensures) split in
+          let here : StandsAs s (a_schema (property c.as_str.result.now)) (data_of m.tree) =
+          subst (λ k. StandsAs s (a_schema (property k)) (data_of m.tree)) (sym named) (property_stands s (members_of xs) m.name (data_of m.tree) stands member) in
+          c.in-Ok.ensures.contexts raw s h here (c.loop-property.invariant.contexts raw s h stands all);
+    }
+
+pub list_properties-returns-in-Err-clause-err : goal.list_properties-returns-in-Err-clause-err
+list_properties-returns-in-Err-clause-err t c =
+    let xs = c.deref-property-items.result.now in
+    let i = c.loop-property.property-index in
+    let m = c.property-item.result in
+    let P = place_of c.args.place.now in
+    let old = c.loop-property.visits.items in
+    let e = c.in-Err.fault in
+    let within : i < length xs = omega arith in
+    let split : drop i xs ≡ m ∷ drop (i + 1) xs = drop_more xs i m within ∙ ap (λ y. y ∷ drop (i + 1) xs) (sym c.property-item.is) in
+    let here = part_marks P (a_schema (property m.name)) (data_of m.tree) in
+    let rest = member_marks P false (members_of (drop (i + 1) xs)) in
+    let refused = subst (λ k. IsLimitRefusal (limit_break (length old) (part_marks P (a_schema (property k)) (data_of m.tree))) e) c.as_str.ensures c.in-Err.ensures.err in
+    let whole : members_of xs ≡ c.args.properties.now = ap members_of c.deref-property-items.ensures.value ∙ c.properties.view_is in
+    subst (λ o. IsLimitRefusal o e)
+    (ap (λ ys. limit_break (length old) (member_marks P false (members_of ys))) (sym split) ∙ c.loop-property.invariant.limit ∙ ap (λ ms. limit_break (length c.args.visits.now.items) (member_marks P false ms)) whole)
+    (refusal_stays (length old) here rest e refused)
+
+pub list_schema-returns-in-Err-clause-err : goal.list_schema-returns-in-Err-clause-err
+list_schema-returns-in-Err-clause-err t c =
+    let P = place_of c.args.place.now in
+    let ms = c.args.members.now in
+    let same : c.len.result ≡ length c.args.visits.now.items = omega arith in
+    subst (λ n. IsLimitRefusal (limit_break n (schema_marks P ms)) c.in-Err.fault) same (c.in-Err.ensures.err (object ms) (member_marks P true ms))
+
+pub list_schema-returns-clause-ok : goal.list_schema-returns-clause-ok
+list_schema-returns-clause-ok t c =
+    let P = place_of c.args.place.now in
+    let ms = c.args.members.now in
+    let marks = member_marks P true ms in
+    let r = c.list_words.result in
+    let same : c.len.result ≡ length c.args.visits.now.items = omega arith in
+    let pushed = simp length-append at (ap length c.in_ok-push.ensures.items) in
+    let count : suc c.len.result ≡ length c.push.new.self.items = omega (arith, pushed) in
+    on_ok_weaker r (λ e. ap (λ n. limit_break n (schema_marks P ms)) (sym same) ∙ c.in-Ok.ensures.ok (object ms) marks ∙ ap (λ n. limit_break n marks) count ∙ e) c.list_words.ensures.ok
+
+pub list_schema-returns-clause-err : goal.list_schema-returns-clause-err
+list_schema-returns-clause-err t c =
+    let P = place_of c.args.place.now in
+    let ms = c.args.members.now in
+    let marks = member_marks P true ms in
+    let r = c.list_words.result in
+    let same : c.len.result ≡ length c.args.visits.now.items = omega arith in
+    let pushed = simp length-append at (ap length c.in_ok-push.ensures.items) in
+    let count : suc c.len.result ≡ length c.push.new.self.items = omega (arith, pushed) in
+    let along : limit_break (length c.push.new.self.items) marks ≡ limit_break (length c.args.visits.now.items) (schema_marks P ms) =
+    ap (λ n. limit_break n marks) (sym count) ∙ sym (c.in-Ok.ensures.ok (object ms) marks) ∙ ap (λ n. limit_break n (schema_marks P ms)) same in
+    subst (λ o. IfErr r (IsLimitRefusal o)) along c.list_words.ensures.err
+
+pub list_words-returns-in-Err-clause-err : goal.list_words-returns-in-Err-clause-err
+list_words-returns-in-Err-clause-err t c =
+    let xs = c.deref-member-items.result.now in
+    let i = c.loop-member.member-index in
+    let m = c.member-item.result in
+    let d = data_of m.tree in
+    let P = place_of c.args.place.now in
+    let old = c.loop-member.visits.items in
+    let e = c.in-Err.fault in
+    let within : i < length xs = omega arith in
+    let split : drop i xs ≡ m ∷ drop (i + 1) xs = drop_more xs i m within ∙ ap (λ y. y ∷ drop (i + 1) xs) (sym c.member-item.is) in
+    let named = c.as_str-word.ensures in
+    let here = part_marks P (part_of m.name) d in
+    let rest = member_marks P true (members_of (drop (i + 1) xs)) in
+    let part : part_view c.part_of.result ≡ part_of m.name = c.part_of.ensures ∙ ap part_of named in
+    let short : word_mark P m.name d ≡ [] = short_word P m.name d (ap (λ k. is_past (most_of k) (size d)) (sym named) ∙ sym c.if-is_too_long.ensures) in
+    let marks : member_marks P true (members_of (drop i xs)) ≡ here ++ rest = ap (λ ys. member_marks P true (members_of ys)) split ∙ ap (λ ws. ws ++ (here ++ rest)) short in
+    let refused = subst (λ p. IsLimitRefusal (limit_break (length old) (part_marks P p d)) e) part c.in-Err.ensures.err in
+    let whole : members_of xs ≡ c.args.members.now = ap members_of c.deref-member-items.ensures.value ∙ c.members.view_is in
+    subst (λ o. IsLimitRefusal o e)
+    (ap (limit_break (length old)) (sym marks) ∙ c.loop-member.invariant.limit ∙ ap (λ ms. limit_break (length c.args.visits.now.items) (member_marks P true ms)) whole)
+    (refusal_stays (length old) here rest e refused)
+
+pub list_words-loop-member-preserved : goal.list_words-loop-member-preserved
+list_words-loop-member-preserved t c =
+    let xs = c.deref-member-items.result.now in
+    let i = c.loop-member.member-index in
+    let m = c.member-item.result in
+    let d = data_of m.tree in
+    let P = place_of c.args.place.now in
+    let old = c.loop-member.visits.items in
+    let new = c.list_part.new.visits.items in
+    let within : i < length xs = omega arith in
+    let split : drop i xs ≡ m ∷ drop (i + 1) xs = drop_more xs i m within ∙ ap (λ y. y ∷ drop (i + 1) xs) (sym c.member-item.is) in
+    let named = c.as_str-word.ensures in
+    let here = part_marks P (part_of m.name) d in
+    let rest = member_marks P true (members_of (drop (i + 1) xs)) in
+    let part : part_view c.part_of.result ≡ part_of m.name = c.part_of.ensures ∙ ap part_of named in
+    let short : word_mark P m.name d ≡ [] = short_word P m.name d (ap (λ k. is_past (most_of k) (size d)) (sym named) ∙ sym c.if-is_too_long.ensures) in
+    let marks : member_marks P true (members_of (drop i xs)) ≡ here ++ rest = ap (λ ys. member_marks P true (members_of ys)) split ∙ ap (λ ws. ws ++ (here ++ rest)) short in
+    let whole : members_of xs ≡ c.args.members.now = ap members_of c.deref-member-items.ensures.value ∙ c.members.view_is in
+    let grown : HasGrown old new here = record {
+      visits = c.in-Ok.ensures.visits ∙ ap (λ p. map visit_of old ++ visits_of (part_marks P p d)) part;
+      limit = ap (λ p. limit_break (length old) (part_marks P p d)) (sym part) ∙ c.in-Ok.ensures.ok;
+    } in
+    record {
+      visits = grown_visits old new here rest grown ∙ ap (λ ms. map visit_of old ++ visits_of ms) (sym marks) ∙ c.loop-member.invariant.visits;
+      limit = grown_limit old new here rest grown ∙ ap (limit_break (length old)) (sym marks) ∙ c.loop-member.invariant.limit;
+      contexts = λ raw h all.
+          let member = member_stands xs (drop (i + 1) xs) i m (subst IsObject (sym whole) c.is_object.ensures) split in
+          let here : StandsAs (object (members_of xs)) (part_view c.part_of.result) d = subst (λ p. StandsAs (object (members_of xs)) p d) (sym part) (part_stands (members_of xs) m.name d member) in
+          c.in-Ok.ensures.contexts raw (object (members_of xs)) h here (c.loop-member.invariant.contexts raw h all);
+    }
+
+pub list_branches-returns-clause-contexts : goal.list_branches-returns-clause-contexts
+list_branches-returns-clause-contexts t c =
+    let whole : items_of c.deref-item-items.result.now ≡ c.args.items.now = ap items_of c.deref-item-items.ensures.value ∙ c.items.view_is in
+    λ raw s h stands all. c.loop-i.invariant.contexts raw s h (subst (λ ds. StandsAs s (branches (junctor_of c.args.junctor)) (list ds)) (sym whole) stands) all
+
+pub list_part-returns-in-Object-tree-clause-contexts : goal.list_part-returns-in-Object-tree-clause-contexts
+list_part-returns-in-Object-tree-clause-contexts t c =
+    on_ok_weaker c.list_properties.result
+    (λ e raw s h stands all. e raw s h (let here = subst (λ r. StandsAs s (part_view r) (data_of c.args.tree.now)) c.in-Properties.is stands in subst (λ x. StandsAs s properties (data_of x)) c.in-Object-tree.is here) all)
+    c.list_properties.ensures.contexts
+
+pub list_part-returns-in-List-clause-contexts : goal.list_part-returns-in-List-clause-contexts
+list_part-returns-in-List-clause-contexts t c =
+    on_ok_weaker c.list_branches.result
+    (λ e raw s h stands all. e raw s h (let here = subst (λ r. StandsAs s (part_view r) (data_of c.args.tree.now)) c.in-Branches.is stands in subst (λ x. StandsAs s (branches (junctor_of c.in-Branches.junctor)) (data_of x)) c.in-List.is here) all)
+    c.list_branches.ensures.contexts
+
+pub list_properties-returns-clause-contexts : goal.list_properties-returns-clause-contexts
+list_properties-returns-clause-contexts t c =
+    let whole : members_of c.deref-property-items.result.now ≡ c.args.properties.now = ap members_of c.deref-property-items.ensures.value ∙ c.properties.view_is in
+    λ raw s h stands all. c.loop-property.invariant.contexts raw s h (subst (λ ms. StandsAs s properties (object ms)) (sym whole) stands) all
+
+pub list_schema-returns-clause-contexts : goal.list_schema-returns-clause-contexts
+list_schema-returns-clause-contexts t c =
+    let P = place_of c.args.place.now in
+    let steps = c.in_ok-copied.field-0 in
+    let same : place_of steps.items ≡ P = c.in_ok-copied.ensures.ok in
+    on_ok_weaker c.list_words.result
+    (λ e raw h all. e raw h (subst (All (IsVisit raw)) (sym c.in_ok-push.ensures.items) (All-append (IsVisit raw) c.args.visits.now.items _ all (All-cons (IsVisit raw) _ [] (context_visit raw P c.args.context _ same refl refl h) (All-nil (IsVisit raw))))))
+    c.list_words.ensures.contexts

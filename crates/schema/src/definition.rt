@@ -1,0 +1,202 @@
+// Reads a CustomResourceDefinition (apiextensions.k8s.io/v1).
+ghost use Rattle.std.specs.Prelude.{◌≡◌, ◌≢◌, ◌↔◌, ℕ, List, [], None, Some, option_map, codes, OnOk, IfOk, IfErr, IfSome, IsTrue};
+ghost use Rattle.jtree.specs.Data.{Data, Items as ItemsData, text as text_of};
+ghost use Rattle.jtree.specs.View.{data_of};
+ghost use Rattle.schema.specs.Crd.{IsRead, IsSchemaOf};
+ghost use Rattle.schema.specs.ReadFault.{IsSound, IsReadFault, IsDefinitionFault, IsSchemaFault};
+ghost use Rattle.jtree.specs.Path.{under2, under3};
+ghost use Rattle.schema.specs.Versions.{HasHeader, IsHead};
+
+use crate::fault::SFault;
+use crate::forms::{Form, check_form};
+use crate::listing::list_places;
+use crate::raw::RawSchema;
+use crate::versions::select;
+use jtree::{Items, Text, Tree};
+use std::alloc::Global;
+
+/// What is read of a CustomResourceDefinition.
+#[derive(Drop)]
+pub struct Crd {
+    /// The API group of the resources.
+    pub group: Text,
+    /// The kind of the resources.
+    pub kind: Text,
+    /// The name of the version that was asked for.
+    pub version: Text,
+    /// The schema of that version, as written.
+    pub raw: RawSchema,
+}
+
+/// The parts of the document that come before its versions are looked at.
+#[derive(Drop)]
+struct Head<'a> {
+    group: &'a str,
+    kind: &'a str,
+    versions: &'a Items,
+}
+
+/// What is found of a version before its schema is judged.
+#[derive(Drop)]
+struct Definition<'a> {
+    group: &'a str,
+    kind: &'a str,
+    schema: &'a Tree,
+}
+
+/// Reads the group, the kind and the schema of one version of a CustomResourceDefinition
+/// (apiextensions.k8s.io/v1): the schema is the object at `schema.openAPIV3Schema` of the version.
+///
+/// `NotACrd` where the document is no CustomResourceDefinition: an object with `apiVersion`
+/// `apiextensions.k8s.io/v1`, `kind` `CustomResourceDefinition`, non-empty texts `spec.group` and `spec.names.kind`, and
+/// a list `spec.versions` of objects with a text `name` each, no name twice. `NoSuchVersion` where it is one, and no
+/// version has the name that is asked for. `NotACrd` where that version has no object as its schema. `KeywordForm` where
+/// a keyword of the schema has not its JSON form (OpenAPI 3.0, Schema Object). `TooLarge` where a limit is passed: 512
+/// places, 24 steps of a place, 32 members of `properties`, 32 entries of `required`, 4 of `x-kubernetes-list-map-keys`,
+/// 64 of `enum`. `NoMemory` where an allocation fails. They are decided in this order. The document is gone through a
+/// bounded number of times.
+pub fn read_crd(alloc: Global, document: &Tree, version: &str) -> Result<Crd, SFault>
+    ensures ok { IfOk result (λ c. IsRead (data_of document.now) version.now c.group c.kind c.raw) }
+    ensures version { IfOk result (λ c. c.version ≡ version.now) }
+    ensures sound { IfOk result (λ c. IsSound c.raw) }
+    ensures err { IfErr result (IsReadFault (data_of document.now) version.now) }
+{
+    let definition = match find_definition(alloc, document, version) {
+        Ok(definition) => definition,
+        Err(fault) => return Err(fault),
+    };
+    match check_schema(alloc, definition.schema) {
+        Ok(()) => {}
+        Err(fault) => return Err(fault),
+    }
+    Ok(Crd {
+        group: Text::from_str(alloc, definition.group)?,
+        kind: Text::from_str(alloc, definition.kind)?,
+        version: Text::from_str(alloc, version)?,
+        raw: RawSchema::new(definition.schema.copy(alloc)?),
+    })
+}
+
+fn find_definition<'a>(
+    alloc: Global,
+    document: &'a Tree,
+    version: &str,
+) -> Result<Definition<'a>, SFault>
+    ensures ok { IfOk result (λ f. IsRead (data_of document.now) version.now f.group.now f.kind.now (data_of f.schema.now)) }
+    ensures err { IfErr result (IsDefinitionFault (data_of document.now) version.now) }
+{
+    let Some(head) = head_of(document) else {
+        return Err(SFault::NotACrd);
+    };
+    let selected = match select(alloc, head.versions, version) {
+        Ok(selected) => selected,
+        Err(fault) => return Err(fault),
+    };
+    let Some(selected) = selected else {
+        return Err(SFault::NoSuchVersion);
+    };
+    let Some(schema) = schema_of(selected) else {
+        return Err(SFault::NotACrd);
+    };
+    Ok(Definition {
+        group: head.group,
+        kind: head.kind,
+        schema,
+    })
+}
+
+/// Whether each keyword of a schema has its form, and no limit is passed.
+fn check_schema(alloc: Global, schema: &Tree) -> Result<(), SFault>
+    ensures ok { OnOk result (IsSound (data_of schema.now)) }
+    ensures err { IfErr result (IsSchemaFault (data_of schema.now)) }
+{
+    schema.is_tree();
+    match check_form(alloc, Form::Object, schema) {
+        Ok(()) => {}
+        Err(fault) => return Err(fault),
+    }
+    match schema {
+        Tree::Object(members) => match list_places(alloc, members) {
+            Ok(_places) => Ok(()),
+            Err(fault) => Err(fault),
+        },
+        _ => Ok(()),
+    }
+}
+
+fn head_of(document: &Tree) -> Option<Head<'_>>
+    ensures some { IfSome result (λ h. IsHead (data_of document.now) h.group.now h.kind.now h.versions.now) }
+    ensures none { result ≡ None → (group kind : List ℕ) (versions : ItemsData) → IsHead (data_of document.now) group kind versions → ⊥ }
+{
+    if !has_header(document) {
+        return None;
+    }
+    let Some(group) = given_text(part_below(document, "spec", "group")) else {
+        return None;
+    };
+    let Some(kind) = given_text(kind_part(document)) else {
+        return None;
+    };
+    let Some(Tree::List(versions)) = part_below(document, "spec", "versions") else {
+        return None;
+    };
+    Some(Head {
+        group,
+        kind,
+        versions,
+    })
+}
+
+fn has_header(document: &Tree) -> bool
+    ensures { IsTrue result ↔ HasHeader (data_of document.now) }
+{
+    document.has_text("apiVersion", "apiextensions.k8s.io/v1")
+        && document.has_text("kind", "CustomResourceDefinition")
+}
+
+/// What stands under a name below another.
+fn part_below<'a>(tree: &'a Tree, outer: &str, inner: &str) -> Option<&'a Tree>
+    ensures { option_map (λ t. data_of t.now) result ≡ under2 (data_of tree.now) outer.now inner.now }
+{
+    match tree.get(outer) {
+        Some(part) => part.get(inner),
+        None => None,
+    }
+}
+
+/// What stands at `spec.names.kind`.
+fn kind_part(document: &Tree) -> Option<&Tree>
+    ensures { option_map (λ t. data_of t.now) result ≡ under3 (data_of document.now) (codes "spec") (codes "names") (codes "kind") }
+{
+    match part_below(document, "spec", "names") {
+        Some(names) => names.get("kind"),
+        None => None,
+    }
+}
+
+/// A text that is not empty.
+fn given_text(part: Option<&Tree>) -> Option<&str>
+    ensures some { IfSome result (λ s. option_map (λ t. data_of t.now) part.entry ≡ Some (text_of s.now)) }
+    ensures given { IfSome result (λ s. s.now ≢ []) }
+    ensures none { result ≡ None → (s : List ℕ) → option_map (λ t. data_of t.now) part.entry ≡ Some (text_of s) → s ≢ [] → ⊥ }
+{
+    match part {
+        Some(Tree::Text(text)) => {
+            let text = text.as_str();
+            if text.is_empty() { None } else { Some(text) }
+        }
+        _ => None,
+    }
+}
+
+/// The object at `schema.openAPIV3Schema` of a version.
+fn schema_of(version: &Tree) -> Option<&Tree>
+    ensures some { IfSome result (λ s. IsSchemaOf (data_of version.now) (data_of s.now)) }
+    ensures none { result ≡ None → (s : Data) → IsSchemaOf (data_of version.now) s → ⊥ }
+{
+    let part = part_below(version, "schema", "openAPIV3Schema");
+    match part {
+        Some(Tree::Object(_)) => part,
+        _ => None,
+    }
+}

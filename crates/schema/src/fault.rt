@@ -1,0 +1,54 @@
+ghost use Rattle.std.specs.Prelude.{◌≡◌};
+ghost use Rattle.schema.specs.declared.fault.SFault.TheVariants.{NoMemory};
+
+use jtree::JFault;
+use std::alloc::{AllocError, AllocFailed};
+use thiserror::Error;
+
+/// Why no schema was read of a document. Each is displayed as its code.
+#[derive(Debug, Drop, Error)]
+pub enum SFault {
+    /// The document is no CustomResourceDefinition, or the version has no schema.
+    #[error("S1")]
+    NotACrd,
+    /// The CustomResourceDefinition has no version of this name.
+    #[error("S2")]
+    NoSuchVersion,
+    /// A keyword's value has not its JSON form. The pointer (RFC 6901), counted from the schema, is that of the innermost
+    /// value that breaks the form, the first in path order.
+    #[error("S3")]
+    KeywordForm(String),
+    /// A limit is passed: 512 places, 24 steps of a place, 32 members of `properties`, 32 entries of `required`, 4 of
+    /// `x-kubernetes-list-map-keys`, 64 of `enum`. The pointer, counted from the schema, is that of the 513th place in path
+    /// order, of the place with too many steps, or of the keyword, the first in path order.
+    #[error("S4")]
+    TooLarge(String),
+    /// An allocation failed.
+    #[error("S5")]
+    NoMemory,
+}
+
+// A copy of a part fails for memory alone.
+impl From<JFault> for SFault {
+    ghost from_gives = { λ _ e. e ≡ NoMemory };
+
+    fn from(_refused: JFault) -> SFault {
+        SFault::NoMemory
+    }
+}
+
+impl From<AllocError> for SFault {
+    ghost from_gives = { λ _ e. e ≡ NoMemory };
+
+    fn from(_refused: AllocError) -> SFault {
+        SFault::NoMemory
+    }
+}
+
+impl<T: Drop> From<AllocFailed<T>> for SFault {
+    ghost from_gives = { λ _ e. e ≡ NoMemory };
+
+    fn from(_refused: AllocFailed<T>) -> SFault {
+        SFault::NoMemory
+    }
+}

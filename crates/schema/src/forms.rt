@@ -1,0 +1,247 @@
+// The form of each keyword's value, and the first value in path order that has not its form.
+ghost use Rattle.std.specs.Prelude.{◌≡◌, ◌++◌, ℕ, Option, None, OnOk, IfOk, IfErr, string_bytes};
+ghost use Rattle.jtree.specs.Path.{Path, name as name_step, place as place_step};
+ghost use Rattle.jtree.specs.Pointer.{name_token, index_token};
+ghost use Rattle.jtree.specs.View.{data_of};
+ghost use Rattle.schema.specs.Forms.{is_among, text_words, truth_value_words, count_words, form_of as form_of_word, form_below, has_form as has_form_of, is_some_list as is_some_list_of, is_count as is_count_of};
+ghost use Rattle.schema.specs.FormBreak.{first_break, items_break, members_break, below, IsBreakFault};
+
+use crate::fault::SFault;
+use jtree::{Items, JFault, Members, Tree, push_index, push_name};
+use std::alloc::Global;
+
+/// The form of a JSON value.
+#[derive(Clone, Copy, Drop)]
+pub(crate) enum Form {
+    AnyTree,
+    Text,
+    TruthValue,
+    /// An object, each of whose members is an object.
+    ObjectOfObjects,
+    TruthValueOrObject,
+    Object,
+    /// A list of at least one object, with nothing else in it.
+    SomeObjects,
+    /// A list of texts.
+    Texts,
+    List,
+    Integer,
+    /// An integer, 0 or more.
+    Count,
+}
+
+fn is_text_word(word: &str) -> bool
+    ensures { result ≡ is_among word.now text_words }
+{
+    word == "type"
+        || word == "description"
+        || word == "title"
+        || word == "format"
+        || word == "x-kubernetes-list-type"
+        || word == "x-kubernetes-map-type"
+}
+
+fn is_truth_value_word(word: &str) -> bool
+    ensures { result ≡ is_among word.now truth_value_words }
+{
+    word == "nullable"
+        || word == "uniqueItems"
+        || word == "exclusiveMinimum"
+        || word == "exclusiveMaximum"
+        || word == "x-kubernetes-int-or-string"
+        || word == "x-kubernetes-preserve-unknown-fields"
+}
+
+fn is_count_word(word: &str) -> bool
+    ensures { result ≡ is_among word.now count_words }
+{
+    word == "minLength"
+        || word == "maxLength"
+        || word == "minItems"
+        || word == "maxItems"
+        || word == "minProperties"
+        || word == "maxProperties"
+}
+
+/// The form of a keyword.
+fn form_of(word: &str) -> Form
+    ensures { result ≡ form_of_word word.now }
+{
+    if is_text_word(word) {
+        return Form::Text;
+    }
+    if is_truth_value_word(word) {
+        return Form::TruthValue;
+    }
+    if word == "properties" {
+        return Form::ObjectOfObjects;
+    }
+    if word == "additionalProperties" {
+        return Form::TruthValueOrObject;
+    }
+    if word == "items" || word == "not" {
+        return Form::Object;
+    }
+    if word == "allOf" || word == "anyOf" || word == "oneOf" {
+        return Form::SomeObjects;
+    }
+    if word == "required" || word == "x-kubernetes-list-map-keys" {
+        return Form::Texts;
+    }
+    if word == "enum" {
+        return Form::List;
+    }
+    if word == "minimum" || word == "maximum" {
+        return Form::Integer;
+    }
+    if is_count_word(word) {
+        return Form::Count;
+    }
+    Form::AnyTree
+}
+
+/// The form of a member, from the form of its object.
+fn form_of_member(form: Form, name: &str) -> Form
+    ensures { result ≡ form_below form (name_step name.now) }
+{
+    match form {
+        Form::Object | Form::TruthValueOrObject => form_of(name),
+        Form::ObjectOfObjects => Form::Object,
+        _ => Form::AnyTree,
+    }
+}
+
+/// The form of each item, from the form of the list.
+fn form_of_items(form: Form) -> Form
+    ensures { (i : ℕ) → result ≡ form_below form (place_step i) }
+{
+    match form {
+        Form::SomeObjects => Form::Object,
+        Form::Texts => Form::Text,
+        _ => Form::AnyTree,
+    }
+}
+
+/// Whether a value has a form, whatever its parts are.
+fn has_form(form: Form, tree: &Tree) -> bool
+    ensures { result ≡ has_form_of form (data_of tree.now) }
+{
+    match form {
+        Form::AnyTree => true,
+        Form::Text => matches!(tree, Tree::Text(_)),
+        Form::TruthValue => matches!(tree, Tree::Bool(_)),
+        Form::ObjectOfObjects | Form::Object => matches!(tree, Tree::Object(_)),
+        Form::TruthValueOrObject => matches!(tree, Tree::Bool(_) | Tree::Object(_)),
+        Form::SomeObjects => is_some_list(tree),
+        Form::Texts | Form::List => matches!(tree, Tree::List(_)),
+        Form::Integer => matches!(tree, Tree::Int(_)),
+        Form::Count => is_count(tree),
+    }
+}
+
+fn is_some_list(tree: &Tree) -> bool
+    ensures { result ≡ is_some_list_of (data_of tree.now) }
+{
+    match tree {
+        Tree::List(items) => !items.items.as_slice().is_empty(),
+        _ => false,
+    }
+}
+
+fn is_count(tree: &Tree) -> bool
+    ensures { result ≡ is_count_of (data_of tree.now) }
+{
+    match tree {
+        Tree::Int(number) => *number >= 0,
+        _ => false,
+    }
+}
+
+/// Answers `KeywordForm` with the pointer, counted from the value, of the first part in path order that has not its form.
+#[cycle(forms)]
+pub(crate) fn check_form(alloc: Global, form: Form, tree: &Tree) -> Result<(), SFault>
+    ensures ok { OnOk result (first_break form (data_of tree.now) ≡ None) }
+    ensures err { IfErr result (IsBreakFault (first_break form (data_of tree.now))) }
+{
+    if !has_form(form, tree) {
+        return Err(SFault::KeywordForm(String::new(alloc)));
+    }
+    match tree {
+        Tree::List(items) => check_items(alloc, form, items),
+        Tree::Object(members) => check_members(alloc, form, members),
+        _ => Ok(()),
+    }
+}
+
+#[cycle(forms)]
+fn check_items(alloc: Global, form: Form, items: &Items) -> Result<(), SFault>
+    ensures ok { OnOk result (items_break form 0 items.now ≡ None) }
+    ensures err { IfErr result (IsBreakFault (items_break form 0 items.now)) }
+{
+    let item_form = form_of_items(form);
+    for (i, item) in items.items.iter().enumerate() {
+        match check_form(alloc, item_form, item) {
+            Ok(()) => {}
+            Err(fault) => return Err(below_index(alloc, i, fault)),
+        }
+    }
+    Ok(())
+}
+
+#[cycle(forms)]
+fn check_members(alloc: Global, form: Form, members: &Members) -> Result<(), SFault>
+    ensures ok { OnOk result (members_break form members.now ≡ None) }
+    ensures err { IfErr result (IsBreakFault (members_break form members.now)) }
+{
+    for member in &members.members {
+        let name = member.name.as_str();
+        match check_form(alloc, form_of_member(form, name), &member.tree) {
+            Ok(()) => {}
+            Err(fault) => return Err(below_name(alloc, name, fault)),
+        }
+    }
+    Ok(())
+}
+
+/// The fault with its pointer counted from an object, where it was counted from a member.
+fn below_name(alloc: Global, name: &str, fault: SFault) -> SFault
+    ensures { (o : Option Path) → IsBreakFault o fault → IsBreakFault (below (name_step name.now) o) result }
+{
+    match fault {
+        SFault::KeywordForm(pointer) => match name_and(alloc, name, pointer.as_str()) {
+            Ok(pointer) => SFault::KeywordForm(pointer),
+            Err(_refused) => SFault::NoMemory,
+        },
+        other => other,
+    }
+}
+
+fn below_index(alloc: Global, index: usize, fault: SFault) -> SFault
+    ensures { (o : Option Path) → IsBreakFault o fault → IsBreakFault (below (place_step index) o) result }
+{
+    match fault {
+        SFault::KeywordForm(pointer) => match index_and(alloc, index as u64, pointer.as_str()) {
+            Ok(pointer) => SFault::KeywordForm(pointer),
+            Err(_refused) => SFault::NoMemory,
+        },
+        other => other,
+    }
+}
+
+fn name_and(alloc: Global, name: &str, pointer: &str) -> Result<String, JFault>
+    ensures { IfOk result (λ s. string_bytes s ≡ name_token name.now ++ pointer.now) }
+{
+    let mut joined = String::new(alloc);
+    push_name(&mut joined, name)?;
+    joined.push_str(pointer)?;
+    Ok(joined)
+}
+
+fn index_and(alloc: Global, index: u64, pointer: &str) -> Result<String, JFault>
+    ensures { IfOk result (λ s. string_bytes s ≡ index_token index ++ pointer.now) }
+{
+    let mut joined = String::new(alloc);
+    push_index(&mut joined, index)?;
+    joined.push_str(pointer)?;
+    Ok(joined)
+}

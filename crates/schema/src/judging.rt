@@ -1,0 +1,92 @@
+// All breaks of the rules at the places of a schema.
+ghost use Rattle.std.specs.Prelude.{◌≡◌, OnOk, IfOk, IfErr};
+ghost use Rattle.jtree.specs.Data.{object, Members as MembersData, IsObject};
+ghost use Rattle.schema.specs.PlaceView.{place_of};
+ghost use Rattle.schema.specs.Visits.{IsVisit, AreVisits};
+ghost use Rattle.schema.specs.Breaks.{AreViolations};
+ghost use Rattle.schema.specs.Judged.{judged, pairs_at, AreFound};
+ghost use Rattle.schema.specs.declared.fault.SFault.TheVariants.{NoMemory};
+
+use crate::fault::SFault;
+use crate::listing::{Visit, list_places};
+use crate::places::pointer_of;
+use crate::raw::RawSchema;
+use crate::rules::is_broken;
+use crate::violation::{Rule, Violation};
+use jtree::Tree;
+use std::alloc::Global;
+
+/// All breaks of the rules V01 to V09 (apiextensions.k8s.io/v1, "specifying a structural schema"), each once, in path order
+/// of the places and then by the number of the rule. `NoMemory` where an allocation fails. Each place is looked at once.
+pub fn breaks(alloc: Global, raw: &RawSchema) -> Result<Vec<Violation>, SFault>
+    ensures ok { IfOk result (λ found. AreViolations raw.now found.items) }
+    ensures err { IfErr result (λ e. e ≡ NoMemory) }
+{
+    raw.is_sound();
+    match raw.tree() {
+        Tree::Object(members) => {
+            members.is_object();
+            match list_places(alloc, members) {
+                Ok(visits) => breaks_of(alloc, visits.as_slice()),
+                Err(fault) => Err(fault),
+            }
+        }
+        // no schema whose keywords have their forms
+        _ => Ok(Vec::new(alloc)),
+    }
+}
+
+/// All breaks of the rules at these places, in their order and then by number.
+fn breaks_of(alloc: Global, visits: &[Visit<'_>]) -> Result<Vec<Violation>, SFault>
+    ensures ok { IfOk result (λ found. (ms : MembersData) → IsObject ms → AreVisits ms visits.now → AreViolations (object ms) found.items) }
+    ensures err { IfErr result (λ e. e ≡ NoMemory) }
+{
+    let mut violations = Vec::new(alloc);
+    for visit in visits {
+        match judge(alloc, visit, &mut violations) {
+            Ok(()) => {}
+            Err(fault) => return Err(fault),
+        }
+    }
+    Ok(violations)
+}
+
+/// Adds the breaks of a place.
+fn judge(alloc: Global, visit: &Visit<'_>, violations: &mut Vec<Violation>) -> Result<(), SFault>
+    ensures ok { OnOk result (AreFound (λ raw. IsVisit raw visit.now) (pairs_at (place_of visit.now.place.items) judged) violations.old.items violations.new.items) }
+    ensures err { IfErr result (λ e. e ≡ NoMemory) }
+{
+    let rules = [
+        Rule::V01,
+        Rule::V02,
+        Rule::V03,
+        Rule::V04,
+        Rule::V05,
+        Rule::V06,
+        Rule::V07,
+        Rule::V08,
+        Rule::V09,
+    ];
+    judge_by(alloc, visit, &rules, violations)
+}
+
+/// Adds the breaks of these rules at a place.
+fn judge_by(
+    alloc: Global,
+    visit: &Visit<'_>,
+    rules: &[Rule],
+    violations: &mut Vec<Violation>,
+) -> Result<(), SFault>
+    ensures ok { OnOk result (AreFound (λ raw. IsVisit raw visit.now) (pairs_at (place_of visit.now.place.items) rules.now) violations.old.items violations.new.items) }
+    ensures err { IfErr result (λ e. e ≡ NoMemory) }
+{
+    for rule in rules {
+        if is_broken(visit, *rule) {
+            violations.push(Violation {
+                pointer: pointer_of(alloc, visit.place.as_slice())?,
+                rule: *rule,
+            })?;
+        }
+    }
+    Ok(())
+}

@@ -1,0 +1,455 @@
+// The places of a schema in path order, each visited once, as far as no limit is passed.
+ghost use Rattle.std.specs.Prelude.{◌≡◌, ◌↔◌, ◌++◌, suc, List, ◌∷◌, [], Some, None, true, false, map, length, option_map, option_and_then, All, OnOk, IfOk, IfErr, IsTrue};
+ghost use Rattle.jtree.specs.Data.{Data, object, list, item, Items as ItemsData};
+ghost use Rattle.jtree.specs.Path.{member_at};
+ghost use Rattle.jtree.specs.View.{data_of};
+ghost use Rattle.schema.specs.Limits.{size as size_of, IsWithinLimits};
+ghost use Rattle.schema.specs.Marks.{Mark, visited, part_of as part_of_word, most_of as most_of_word, is_past, part_marks, member_marks, item_marks, schema_marks, visits_of, limit_break, branch as branch_of, properties as properties_part, branches};
+ghost use Rattle.schema.specs.LimitBreak.{IsLimitRefusal};
+ghost use Rattle.schema.specs.LimitFault.{IsLimitFaultOf};
+ghost use Rattle.schema.specs.Places.{Place, only_object, schema_by};
+ghost use Rattle.schema.specs.Kinds.{IsIntOrString};
+ghost use Rattle.schema.specs.Rules.{pattern, holder, typed};
+ghost use Rattle.schema.specs.Contexts.{HasAnyPattern, HasAllPattern, is_any as is_any_step, is_first_of_all as is_first_of_all_step, outer_by, IsContext, StandsAs};
+ghost use Rattle.schema.specs.Visits.{IsVisit, AreVisits};
+ghost use Rattle.schema.specs.PlaceView.{step_of, place_of, junctor_of, part_view, visit_of};
+ghost use Rattle.schema.specs.declared.fault.SFault.TheVariants.{NoMemory};
+
+use crate::fault::SFault;
+use crate::keywords::has_true;
+use crate::places::{Step, is_junctor, keyword_pointer, pointer_of};
+use jtree::{Items, Members, Tree};
+use std::alloc::Global;
+
+/// The most places of a schema, branches of junctors among them.
+const MOST_PLACES: usize = 512;
+
+/// The most steps of a place.
+const MOST_STEPS: usize = 24;
+
+/// A place of a schema, and what a rule asks of it.
+#[derive(Drop)]
+pub(crate) struct Visit<'a> {
+    pub place: Vec<Step<'a>>,
+    pub schema: &'a Members,
+    /// The schema at the place without its steps into branches, where that is a place.
+    pub outer: Option<&'a Members>,
+    /// Whether it is a branch of the int-or-string pattern.
+    pub in_pattern: bool,
+}
+
+/// What is known of a place on the way down to it.
+#[derive(Clone, Copy, Drop)]
+struct Context<'a> {
+    /// The schema at the place without its steps into branches, where that is a place.
+    outer: Option<&'a Members>,
+    /// Whether a step of the place is into a branch.
+    is_inside: bool,
+    /// Whether the place is a branch of the int-or-string pattern.
+    in_pattern: bool,
+    /// Whether the entries of its `anyOf` are.
+    any_are: bool,
+    /// Whether the entries of the `anyOf` in the first entry of its `allOf` are.
+    all_are: bool,
+}
+
+/// A keyword with branches.
+#[derive(Clone, Copy, Drop)]
+enum Junctor {
+    All,
+    Any,
+    One,
+}
+
+/// What a value is among the schemas, by the keyword or the name that it stands under.
+#[derive(Clone, Copy, Drop)]
+enum Part<'a> {
+    Schema(Step<'a>),
+    Properties,
+    Branches(Junctor),
+    Other,
+}
+
+fn part_of<'a>(word: &str) -> Part<'a>
+    ensures { part_view result ≡ part_of_word word.now }
+{
+    match word {
+        "properties" => Part::Properties,
+        "additionalProperties" => Part::Schema(Step::MapValue),
+        "items" => Part::Schema(Step::Items),
+        "allOf" => Part::Branches(Junctor::All),
+        "anyOf" => Part::Branches(Junctor::Any),
+        "oneOf" => Part::Branches(Junctor::One),
+        "not" => Part::Schema(Step::Not),
+        _ => Part::Other,
+    }
+}
+
+fn branch<'a>(junctor: Junctor, index: u64) -> Step<'a>
+    ensures { step_of result ≡ branch_of (junctor_of junctor) index }
+{
+    match junctor {
+        Junctor::All => Step::AllOf(index),
+        Junctor::Any => Step::AnyOf(index),
+        Junctor::One => Step::OneOf(index),
+    }
+}
+
+/// Whether a keyword's value has more members or entries than the keyword may have.
+fn is_too_long(word: &str, tree: &Tree) -> bool
+    ensures { result ≡ is_past (most_of_word word.now) (size_of (data_of tree.now)) }
+{
+    match most_of(word) {
+        Some(most) => size(tree) > most,
+        None => false,
+    }
+}
+
+fn most_of(word: &str) -> Option<usize>
+    ensures { result ≡ most_of_word word.now }
+{
+    match word {
+        "properties" | "required" => Some(32),
+        "x-kubernetes-list-map-keys" => Some(4),
+        "enum" => Some(64),
+        _ => None,
+    }
+}
+
+/// How many members or entries a value has.
+fn size(tree: &Tree) -> usize
+    ensures { result ≡ size_of (data_of tree.now) }
+{
+    match tree {
+        Tree::List(items) => items.items.as_slice().len(),
+        Tree::Object(members) => members.members.as_slice().len(),
+        _ => 0,
+    }
+}
+
+/// The context of a whole schema.
+fn root_context<'a>(schema: &'a Members) -> Context<'a>
+    ensures { IsContext (object schema.now) [] (object schema.now) result }
+{
+    Context {
+        outer: Some(schema),
+        is_inside: false,
+        in_pattern: false,
+        any_are: has_any_pattern(schema),
+        all_are: has_all_pattern(schema),
+    }
+}
+
+/// The context one step on from a place, where the step leads to this schema.
+fn context_below<'a>(context: Context<'a>, step: Step<'_>, schema: &'a Members) -> Context<'a>
+    ensures { (raw s : Data) (p : Place) → IsContext raw p s context.entry → schema_by s (step_of step.entry) ≡ Some (object schema.now) → IsContext raw (p ++ (step_of step.entry ∷ [])) (object schema.now) result }
+{
+    let is_inside = context.is_inside || is_junctor(step);
+    let is_held = is_first_of_all(step) && context.all_are;
+    Context {
+        outer: outer_below(context.outer, step),
+        is_inside,
+        in_pattern: is_any(step) && context.any_are,
+        any_are: is_held || !is_inside && has_any_pattern(schema),
+        all_are: !is_inside && has_all_pattern(schema),
+    }
+}
+
+fn is_any(step: Step<'_>) -> bool
+    ensures { result ≡ is_any_step (step_of step.entry) }
+{
+    match step {
+        Step::AnyOf(_) => true,
+        _ => false,
+    }
+}
+
+fn is_first_of_all(step: Step<'_>) -> bool
+    ensures { result ≡ is_first_of_all_step (step_of step.entry) }
+{
+    match step {
+        Step::AllOf(index) => index == 0,
+        _ => false,
+    }
+}
+
+/// The schema at a place without its steps into branches, one step on.
+fn outer_below<'a>(outer: Option<&'a Members>, step: Step<'_>) -> Option<&'a Members>
+    ensures { option_map (λ m. object m.now) result ≡ outer_by (option_map (λ m. object m.now) outer.entry) (step_of step.entry) }
+{
+    match step {
+        Step::Property(name) => object_under(object_under(outer?, "properties")?, name),
+        Step::MapValue => object_under(outer?, "additionalProperties"),
+        Step::Items => object_under(outer?, "items"),
+        Step::AllOf(_) | Step::AnyOf(_) | Step::OneOf(_) | Step::Not => outer,
+    }
+}
+
+/// Whether the `anyOf` of a schema with `x-kubernetes-int-or-string` is the int-or-string pattern.
+fn has_any_pattern(schema: &Members) -> bool
+    ensures { IsTrue result ↔ HasAnyPattern (object schema.now) }
+{
+    match schema.get("anyOf") {
+        Some(any) => is_pattern(any) && is_int_or_string(schema),
+        None => false,
+    }
+}
+
+/// Whether the `allOf` of a schema with `x-kubernetes-int-or-string` begins with an entry that is the pattern's alone.
+fn has_all_pattern(schema: &Members) -> bool
+    ensures { IsTrue result ↔ HasAllPattern (object schema.now) }
+{
+    match schema.get("allOf") {
+        Some(all) => begins_with_holder(all) && is_int_or_string(schema),
+        None => false,
+    }
+}
+
+fn is_int_or_string(schema: &Members) -> bool
+    ensures { IsTrue result ↔ IsIntOrString (object schema.now) }
+{
+    has_true(schema, "x-kubernetes-int-or-string")
+}
+
+fn begins_with_holder(tree: &Tree) -> bool
+    ensures { IsTrue result ↔ ((rest : ItemsData) × (data_of tree.now ≡ list (item holder rest))) }
+{
+    match tree {
+        Tree::List(items) => match items.items.as_slice() {
+            [first, ..] => is_holder(first),
+            [] => false,
+        },
+        _ => false,
+    }
+}
+
+/// Whether a value is `{"anyOf":[{"type":"integer"},{"type":"string"}]}`.
+fn is_holder(tree: &Tree) -> bool
+    ensures { IsTrue result ↔ (data_of tree.now ≡ holder) }
+{
+    match tree.get("anyOf") {
+        Some(any) => size(tree) == 1 && is_pattern(any),
+        None => false,
+    }
+}
+
+/// Whether a value is `[{"type":"integer"},{"type":"string"}]`.
+fn is_pattern(tree: &Tree) -> bool
+    ensures { IsTrue result ↔ (data_of tree.now ≡ pattern) }
+{
+    match tree {
+        Tree::List(items) => match items.items.as_slice() {
+            [first, second] => is_typed(first, "integer") && is_typed(second, "string"),
+            _ => false,
+        },
+        _ => false,
+    }
+}
+
+/// Whether a value is an object with this `type` alone.
+fn is_typed(tree: &Tree, name: &str) -> bool
+    ensures { IsTrue result ↔ (data_of tree.now ≡ typed name.now) }
+{
+    size(tree) == 1 && tree.has_text("type", name)
+}
+
+fn object_under<'a>(schema: &'a Members, name: &str) -> Option<&'a Members>
+    ensures { option_map (λ m. object m.now) result ≡ option_and_then only_object (member_at name.now schema.now) }
+{
+    match schema.get(name) {
+        Some(Tree::Object(members)) => Some(members),
+        _ => None,
+    }
+}
+
+fn below<'a>(alloc: Global, place: &[Step<'a>], step: Step<'a>) -> Result<Vec<Step<'a>>, SFault>
+    ensures ok { IfOk result (λ v. place_of v.items ≡ place_of place.now ++ (step_of step.entry ∷ [])) }
+    ensures err { IfErr result (λ e. e ≡ NoMemory) }
+{
+    let mut below = Vec::with_capacity(alloc, place.len() + 1)?;
+    below.extend_from_slice(place)?;
+    below.push(step)?;
+    Ok(below)
+}
+
+/// Refuses a place behind so many others, or with so many steps, that a limit is passed.
+fn check_place(alloc: Global, place: &[Step<'_>], count: usize) -> Result<(), SFault>
+    ensures ok { OnOk result ((s : Data) (marks : List Mark) → limit_break count (visited (place_of place.now) s ∷ marks) ≡ limit_break (suc count) marks) }
+    ensures err { IfErr result (λ e. (s : Data) (marks : List Mark) → IsLimitRefusal (limit_break count (visited (place_of place.now) s ∷ marks)) e) }
+{
+    if count >= MOST_PLACES || place.len() > MOST_STEPS {
+        return Err(SFault::TooLarge(pointer_of(alloc, place)?));
+    }
+    Ok(())
+}
+
+/// The places of a schema in path order, each once.
+pub(crate) fn list_places<'a>(alloc: Global, schema: &'a Members) -> Result<Vec<Visit<'a>>, SFault>
+    ensures visits { IfOk result (λ v. AreVisits schema.now v.items) }
+    ensures within { OnOk result (IsWithinLimits (object schema.now)) }
+    ensures err { IfErr result (IsLimitFaultOf (object schema.now)) }
+{
+    schema.is_object();
+    let mut visits = Vec::new(alloc);
+    match list_schema(alloc, &[], schema, root_context(schema), &mut visits) {
+        Ok(()) => Ok(visits),
+        Err(fault) => Err(fault),
+    }
+}
+
+/// Lists a place and those below it behind the places that are listed already.
+#[cycle(listing)]
+fn list_schema<'a>(
+    alloc: Global,
+    place: &[Step<'a>],
+    members: &'a Members,
+    context: Context<'a>,
+    visits: &mut Vec<Visit<'a>>,
+) -> Result<(), SFault>
+    ensures visits { OnOk result (map visit_of visits.new.items ≡ map visit_of visits.old.items ++ visits_of (schema_marks (place_of place.now) members.now)) }
+    ensures ok { OnOk result (limit_break (length visits.old.items) (schema_marks (place_of place.now) members.now) ≡ None) }
+    ensures err { IfErr result (IsLimitRefusal (limit_break (length visits.old.items) (schema_marks (place_of place.now) members.now))) }
+    ensures contexts { OnOk result ((raw : Data) → IsContext raw (place_of place.now) (object members.now) context.entry → All (IsVisit raw) visits.old.items → All (IsVisit raw) visits.new.items) }
+{
+    match check_place(alloc, place, visits.len()) {
+        Ok(()) => {}
+        Err(fault) => return Err(fault),
+    }
+    visits.push(Visit {
+        place: copied(alloc, place)?,
+        schema: members,
+        outer: context.outer,
+        in_pattern: context.in_pattern,
+    })?;
+    list_words(alloc, place, members, context, visits)
+}
+
+/// Lists the places below the keywords of a place.
+#[cycle(listing)]
+fn list_words<'a>(
+    alloc: Global,
+    place: &[Step<'a>],
+    members: &'a Members,
+    context: Context<'a>,
+    visits: &mut Vec<Visit<'a>>,
+) -> Result<(), SFault>
+    ensures visits { OnOk result (map visit_of visits.new.items ≡ map visit_of visits.old.items ++ visits_of (member_marks (place_of place.now) true members.now)) }
+    ensures ok { OnOk result (limit_break (length visits.old.items) (member_marks (place_of place.now) true members.now) ≡ None) }
+    ensures err { IfErr result (IsLimitRefusal (limit_break (length visits.old.items) (member_marks (place_of place.now) true members.now))) }
+    ensures contexts { OnOk result ((raw : Data) → IsContext raw (place_of place.now) (object members.now) context.entry → All (IsVisit raw) visits.old.items → All (IsVisit raw) visits.new.items) }
+{
+    members.is_object();
+    for member in &members.members {
+        let word = member.name.as_str();
+        if is_too_long(word, &member.tree) {
+            return Err(SFault::TooLarge(keyword_pointer(alloc, place, word)?));
+        }
+        match list_part(alloc, place, context, part_of(word), &member.tree, visits) {
+            Ok(()) => {}
+            Err(fault) => return Err(fault),
+        }
+    }
+    Ok(())
+}
+
+/// Lists the places that the properties of a place are.
+#[cycle(listing)]
+fn list_properties<'a>(
+    alloc: Global,
+    place: &[Step<'a>],
+    context: Context<'a>,
+    properties: &'a Members,
+    visits: &mut Vec<Visit<'a>>,
+) -> Result<(), SFault>
+    ensures visits { OnOk result (map visit_of visits.new.items ≡ map visit_of visits.old.items ++ visits_of (member_marks (place_of place.now) false properties.now)) }
+    ensures ok { OnOk result (limit_break (length visits.old.items) (member_marks (place_of place.now) false properties.now) ≡ None) }
+    ensures err { IfErr result (IsLimitRefusal (limit_break (length visits.old.items) (member_marks (place_of place.now) false properties.now))) }
+    ensures contexts { OnOk result ((raw s : Data) → IsContext raw (place_of place.now) s context.entry → StandsAs s (properties_part) (object properties.now) → All (IsVisit raw) visits.old.items → All (IsVisit raw) visits.new.items) }
+{
+    properties.is_object();
+    for property in &properties.members {
+        let step = Step::Property(property.name.as_str());
+        match list_part(
+            alloc,
+            place,
+            context,
+            Part::Schema(step),
+            &property.tree,
+            visits,
+        ) {
+            Ok(()) => {}
+            Err(fault) => return Err(fault),
+        }
+    }
+    Ok(())
+}
+
+/// Lists the places that the branches of a junctor are.
+#[cycle(listing)]
+fn list_branches<'a>(
+    alloc: Global,
+    place: &[Step<'a>],
+    context: Context<'a>,
+    junctor: Junctor,
+    items: &'a Items,
+    visits: &mut Vec<Visit<'a>>,
+) -> Result<(), SFault>
+    ensures visits { OnOk result (map visit_of visits.new.items ≡ map visit_of visits.old.items ++ visits_of (item_marks (place_of place.now) (junctor_of junctor) 0 items.now)) }
+    ensures ok { OnOk result (limit_break (length visits.old.items) (item_marks (place_of place.now) (junctor_of junctor) 0 items.now) ≡ None) }
+    ensures err { IfErr result (IsLimitRefusal (limit_break (length visits.old.items) (item_marks (place_of place.now) (junctor_of junctor) 0 items.now))) }
+    ensures contexts { OnOk result ((raw s : Data) → IsContext raw (place_of place.now) s context.entry → StandsAs s (branches (junctor_of junctor)) (list items.now) → All (IsVisit raw) visits.old.items → All (IsVisit raw) visits.new.items) }
+{
+    for (i, item) in items.items.iter().enumerate() {
+        let step = branch(junctor, i as u64);
+        match list_part(alloc, place, context, Part::Schema(step), item, visits) {
+            Ok(()) => {}
+            Err(fault) => return Err(fault),
+        }
+    }
+    Ok(())
+}
+
+/// Lists the places in a value that stands below a place.
+#[cycle(listing)]
+fn list_part<'a>(
+    alloc: Global,
+    place: &[Step<'a>],
+    context: Context<'a>,
+    part: Part<'a>,
+    tree: &'a Tree,
+    visits: &mut Vec<Visit<'a>>,
+) -> Result<(), SFault>
+    ensures visits { OnOk result (map visit_of visits.new.items ≡ map visit_of visits.old.items ++ visits_of (part_marks (place_of place.now) (part_view part.entry) (data_of tree.now))) }
+    ensures ok { OnOk result (limit_break (length visits.old.items) (part_marks (place_of place.now) (part_view part.entry) (data_of tree.now)) ≡ None) }
+    ensures err { IfErr result (IsLimitRefusal (limit_break (length visits.old.items) (part_marks (place_of place.now) (part_view part.entry) (data_of tree.now)))) }
+    ensures contexts { OnOk result ((raw s : Data) → IsContext raw (place_of place.now) s context.entry → StandsAs s (part_view part.entry) (data_of tree.now) → All (IsVisit raw) visits.old.items → All (IsVisit raw) visits.new.items) }
+{
+    match part {
+        Part::Schema(step) => match tree {
+            Tree::Object(members) => {
+                let place = below(alloc, place, step)?;
+                let context = context_below(context, step, members);
+                list_schema(alloc, place.as_slice(), members, context, visits)
+            }
+            _ => Ok(()),
+        },
+        Part::Properties => match tree {
+            Tree::Object(members) => list_properties(alloc, place, context, members, visits),
+            _ => Ok(()),
+        },
+        Part::Branches(junctor) => match tree {
+            Tree::List(items) => list_branches(alloc, place, context, junctor, items, visits),
+            _ => Ok(()),
+        },
+        Part::Other => Ok(()),
+    }
+}
+
+fn copied<'a>(alloc: Global, place: &[Step<'a>]) -> Result<Vec<Step<'a>>, SFault>
+    ensures ok { IfOk result (λ v. place_of v.items ≡ place_of place.now) }
+    ensures err { IfErr result (λ e. e ≡ NoMemory) }
+{
+    let mut steps = Vec::with_capacity(alloc, place.len())?;
+    steps.extend_from_slice(place)?;
+    Ok(steps)
+}

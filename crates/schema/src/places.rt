@@ -1,0 +1,86 @@
+// The places of a schema, and their pointers.
+ghost use Rattle.std.specs.Prelude.{◌≡◌, ◌++◌, ◌∷◌, [], OnOk, IfOk, IfErr, string_bytes};
+ghost use Rattle.jtree.specs.Path.{name as name_step, place as place_step};
+ghost use Rattle.jtree.specs.Pointer.{pointer};
+ghost use Rattle.schema.specs.Places.{place_path, step_path, is_junctor as is_junctor_of};
+ghost use Rattle.schema.specs.PlaceView.{step_of, place_of};
+
+use jtree::{JFault, push_index, push_name};
+use std::alloc::Global;
+
+/// A step from a place of a schema to a place below it.
+#[derive(Clone, Copy, Drop)]
+pub(crate) enum Step<'a> {
+    /// To the member of `properties` of this name.
+    Property(&'a str),
+    /// To `additionalProperties`.
+    MapValue,
+    /// To `items`.
+    Items,
+    /// To the entry of `allOf` at this place, counted from 0.
+    AllOf(u64),
+    /// To the entry of `anyOf` at this place.
+    AnyOf(u64),
+    /// To the entry of `oneOf` at this place.
+    OneOf(u64),
+    /// To `not`.
+    Not,
+}
+
+/// Whether a step is into a branch of a junctor.
+pub(crate) fn is_junctor(step: Step<'_>) -> bool
+    ensures { result ≡ is_junctor_of (step_of step.entry) }
+{
+    match step {
+        Step::AllOf(_) | Step::AnyOf(_) | Step::OneOf(_) | Step::Not => true,
+        _ => false,
+    }
+}
+
+/// The pointer of a place (RFC 6901), counted from the root of the schema.
+pub(crate) fn pointer_of(alloc: Global, place: &[Step<'_>]) -> Result<String, JFault>
+    ensures { IfOk result (λ s. string_bytes s ≡ pointer (place_path (place_of place.now))) }
+{
+    let mut text = String::new(alloc);
+    for step in place {
+        push_step(&mut text, *step)?;
+    }
+    Ok(text)
+}
+
+/// The pointer of a keyword of a place.
+pub(crate) fn keyword_pointer(
+    alloc: Global,
+    place: &[Step<'_>],
+    word: &str,
+) -> Result<String, JFault>
+    ensures { IfOk result (λ s. string_bytes s ≡ pointer (place_path (place_of place.now) ++ (name_step word.now ∷ []))) }
+{
+    let mut text = pointer_of(alloc, place)?;
+    push_name(&mut text, word)?;
+    Ok(text)
+}
+
+fn push_step(text: &mut String, step: Step<'_>) -> Result<(), JFault>
+    ensures { OnOk result (string_bytes text.new ≡ string_bytes text.old ++ pointer (step_path (step_of step.entry))) }
+{
+    match step {
+        Step::Property(name) => {
+            push_name(text, "properties")?;
+            push_name(text, name)
+        }
+        Step::MapValue => push_name(text, "additionalProperties"),
+        Step::Items => push_name(text, "items"),
+        Step::AllOf(index) => push_branch(text, "allOf", index),
+        Step::AnyOf(index) => push_branch(text, "anyOf", index),
+        Step::OneOf(index) => push_branch(text, "oneOf", index),
+        Step::Not => push_name(text, "not"),
+    }
+}
+
+fn push_branch(text: &mut String, word: &str, index: u64) -> Result<(), JFault>
+    ensures { OnOk result (string_bytes text.new ≡ string_bytes text.old ++ pointer (name_step word.now ∷ place_step index ∷ [])) }
+{
+    push_name(text, word)?;
+    push_index(text, index)
+}

@@ -1,0 +1,176 @@
+// Which rules a place breaks.
+ghost use Rattle.std.specs.Prelude.{◌≡◌, ◌↔◌, IsTrue};
+ghost use Rattle.jtree.specs.Data.{Data, object};
+ghost use Rattle.schema.specs.Places.{property, is_inside as is_inside_of};
+ghost use Rattle.schema.specs.PlaceView.{step_of, place_of};
+ghost use Rattle.schema.specs.Rules.{Broken, metadata, is_field as is_field_of, ends_in_field as ends_in_field_of, HasOneOf, unsupported_words};
+ghost use Rattle.schema.specs.Forms.{is_among};
+ghost use Rattle.schema.specs.RuleParts.{metadata_names, IsOtherName, IsOtherField, LacksType, IsUnspecified, HasOuterWord, Restricts, HasBothTypes};
+ghost use Rattle.schema.specs.Visits.{IsVisit};
+
+use crate::keywords::{
+    has, has_false, has_no_type, has_one_of, has_other_type, has_other_word, has_true,
+};
+use crate::listing::Visit;
+use crate::places::{Step, is_junctor};
+use crate::violation::Rule;
+
+/// Whether a place breaks a rule.
+pub(crate) fn is_broken(visit: &Visit<'_>, rule: Rule) -> bool
+    ensures { (raw : Data) → IsVisit raw visit.now → IsTrue result ↔ Broken raw (place_of visit.now.place.items) rule }
+{
+    match rule {
+        Rule::V01 => lacks_type(visit),
+        Rule::V02 => is_unspecified(visit),
+        Rule::V03 => has_outer_word(visit),
+        Rule::V04 => restricts_metadata(visit),
+        Rule::V05 => has_unsupported_word(visit),
+        Rule::V06 => has_true(visit.schema, "uniqueItems"),
+        Rule::V07 => has_false(visit.schema, "additionalProperties"),
+        Rule::V08 => has(visit.schema, "properties") && has(visit.schema, "additionalProperties"),
+        Rule::V09 => has_both_types(visit),
+        _ => false,
+    }
+}
+
+/// V01: an outside place has no type, and neither is int-or-string nor accepts every value.
+fn lacks_type(visit: &Visit<'_>) -> bool
+    ensures { IsTrue result ↔ LacksType (place_of visit.now.place.items) (object visit.now.schema.now) }
+{
+    !is_inside(visit.place.as_slice())
+        && has_no_type(visit.schema)
+        && !has_true(visit.schema, "x-kubernetes-int-or-string")
+        && !has_true(visit.schema, "x-kubernetes-preserve-unknown-fields")
+}
+
+/// V02: a field or the items of a list in a branch are not specified outside of it.
+fn is_unspecified(visit: &Visit<'_>) -> bool
+    ensures { IsTrue result ↔ IsUnspecified visit.now }
+{
+    let place = visit.place.as_slice();
+    is_inside(place) && ends_in_field(place) && visit.outer.is_none()
+}
+
+/// V03: a branch has a keyword that no branch may have.
+fn has_outer_word(visit: &Visit<'_>) -> bool
+    ensures { IsTrue result ↔ HasOuterWord visit.now }
+{
+    let words = ["description", "default", "additionalProperties", "nullable"];
+    is_inside(visit.place.as_slice())
+        && (has_one_of(visit.schema, &words) || (has(visit.schema, "type") && !visit.in_pattern))
+}
+
+/// V04: `metadata` has another keyword, another type or another field than it may have.
+fn restricts_metadata(visit: &Visit<'_>) -> bool
+    ensures { IsTrue result ↔ Restricts (place_of visit.now.place.items) (object visit.now.schema.now) }
+{
+    let place = visit.place.as_slice();
+    if is_metadata(place) {
+        return has_other_word(visit.schema) || has_other_type(visit.schema);
+    }
+    is_other_field(place)
+}
+
+/// V05: a keyword that is not supported.
+fn has_unsupported_word(visit: &Visit<'_>) -> bool
+    ensures { IsTrue result ↔ HasOneOf unsupported_words (object visit.now.schema.now) }
+{
+    let words = [
+        "definitions",
+        "dependencies",
+        "deprecated",
+        "discriminator",
+        "id",
+        "patternProperties",
+        "readOnly",
+        "writeOnly",
+        "xml",
+        "$ref",
+    ];
+    has_one_of(visit.schema, &words)
+}
+
+/// V09: an outside place that is int-or-string has a type.
+fn has_both_types(visit: &Visit<'_>) -> bool
+    ensures { IsTrue result ↔ HasBothTypes (place_of visit.now.place.items) (object visit.now.schema.now) }
+{
+    !is_inside(visit.place.as_slice())
+        && has_true(visit.schema, "x-kubernetes-int-or-string")
+        && has(visit.schema, "type")
+}
+
+/// Whether a step of the place is into a branch.
+fn is_inside(place: &[Step<'_>]) -> bool
+    ensures { result ≡ is_inside_of (place_of place.now) }
+{
+    for step in place {
+        if is_junctor(*step) {
+            return true;
+        }
+    }
+    false
+}
+
+/// Whether the last step is to a property or to the items of a list.
+fn ends_in_field(place: &[Step<'_>]) -> bool
+    ensures { result ≡ ends_in_field_of (place_of place.now) }
+{
+    match place.last() {
+        Some(step) => is_field(*step),
+        None => false,
+    }
+}
+
+fn is_field(step: Step<'_>) -> bool
+    ensures { result ≡ is_field_of (step_of step.entry) }
+{
+    match step {
+        Step::Property(_) | Step::Items => true,
+        _ => false,
+    }
+}
+
+/// Whether the place is `metadata` of the root.
+fn is_metadata(place: &[Step<'_>]) -> bool
+    ensures { IsTrue result ↔ (place_of place.now ≡ metadata) }
+{
+    match place {
+        [step] => is_property(*step, "metadata"),
+        _ => false,
+    }
+}
+
+/// Whether the place is a field of `metadata`, and neither `name` nor `generateName`.
+fn is_other_field(place: &[Step<'_>]) -> bool
+    ensures { IsTrue result ↔ IsOtherField (place_of place.now) }
+{
+    match place {
+        [step, field] => is_property(*step, "metadata") && is_other_name(*field),
+        _ => false,
+    }
+}
+
+/// Whether the step is to a property, and its name neither `name` nor `generateName`.
+fn is_other_name(step: Step<'_>) -> bool
+    ensures { IsTrue result ↔ IsOtherName (step_of step.entry) }
+{
+    match step {
+        Step::Property(name) => !is_metadata_name(name),
+        _ => false,
+    }
+}
+
+fn is_metadata_name(name: &str) -> bool
+    ensures { result ≡ is_among name.now metadata_names }
+{
+    name == "name" || name == "generateName"
+}
+
+fn is_property(step: Step<'_>, name: &str) -> bool
+    ensures { IsTrue result ↔ (step_of step.entry ≡ property name.now) }
+{
+    match step {
+        Step::Property(found) => found == name,
+        _ => false,
+    }
+}
