@@ -173,7 +173,8 @@ fn steps_at_the_limit(rt: HostRuntime) -> Result<(), Fail> {
     let alloc = rt.alloc();
     try_reading(&rt, alloc, lists(alloc, 24)?.as_str(), "read")?;
     let past = lists(alloc, 60)?;
-    let wanted = "S4 /items/items/items/items/items/items/items/items/items/items/items/items/items/items/items/items/items/items/items/items/items/items/items/items/items";
+    let wanted =
+        "S4 /items/items/items/items/items/items/items/items/items/items/items/items/items/items/items/items/items/items/items/items/items/items/items/items/items";
     try_reading(&rt, alloc, past.as_str(), wanted)
 }
 
