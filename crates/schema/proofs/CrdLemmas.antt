@@ -6,7 +6,7 @@ use Rattle.schema.specs.Crd.{IsCrd, IsVersion, IsNoCrd, no_crd, LacksVersion}
 use Rattle.schema.specs.Versions.{IsHead, AreVersions, IsVersionsFault}
 use Rattle.schema.specs.declared.fault.SFault.{SFault}
 use Rattle.schema.specs.declared.fault.SFault.TheVariants.{NotACrd, NoSuchVersion, KeywordForm, TooLarge, NoMemory}
-use Rattle.schema.specs.ReadFault.{IsDefinitionFault, IsReadFault, IsSchemaFault, HasSchema}
+use Rattle.schema.specs.ReadFault.{IsDefinitionFault}
 
 pub crd_from : {d : Data} {group kind : List ℕ} {versions : Items} → IsHead d group kind versions → AreVersions versions → IsCrd d group kind versions
 crd_from h v = record {
@@ -51,18 +51,3 @@ versions_fault d version group kind versions NoMemory head h = tt
 
 pub lacks : {d : Data} {version group kind : List ℕ} {versions : Items} → IsHead d group kind versions → AreVersions versions → ((v : Data) → IsVersion versions version v → ⊥) → LacksVersion d version
 lacks {group = group} {kind = kind} {versions = versions} head all none = record { group = group; kind = kind; versions = versions; crd = crd_from head all; none = none }
-
--- a fault of the definition, or of its schema, is one of the document
-pub definition_fault : (d : Data) (version : List ℕ) (e : SFault) → IsDefinitionFault d version e → IsReadFault d version e
-definition_fault d version NotACrd h = h
-definition_fault d version NoSuchVersion h = h
-definition_fault d version (KeywordForm p) h = absurd h
-definition_fault d version (TooLarge p) h = absurd h
-definition_fault d version NoMemory h = tt
-
-pub schema_fault : (d : Data) (version : List ℕ) (raw : Data) (e : SFault) → HasSchema d version raw → IsSchemaFault raw e → IsReadFault d version e
-schema_fault d version raw NotACrd has h = absurd h
-schema_fault d version raw NoSuchVersion has h = absurd h
-schema_fault d version raw (KeywordForm p) has h = (raw, has, h)
-schema_fault d version raw (TooLarge p) has h = (raw, has, h)
-schema_fault d version raw NoMemory has h = tt
