@@ -186,6 +186,19 @@ fn copies(rt: HostRuntime) -> Result<(), Fail> {
     Ok(())
 }
 
+// The deepest chain is read, copied, compared and written.
+#[test]
+fn deepest_chain(rt: HostRuntime) -> Result<(), Fail> {
+    let alloc = rt.alloc();
+    let bytes = nested(alloc, 127)?;
+    let chain = Tree::from_bytes(alloc, &bytes)?;
+    let copy = chain.copy(alloc)?;
+    assert!(rt; copy == chain);
+    assert!(rt; Tree::from_bytes(alloc, &nested(alloc, 126)?)? < chain);
+    assert!(rt; copy.to_text(alloc)?.as_bytes() == bytes.as_slice());
+    Ok(())
+}
+
 // Half a million items are read, copied and written.
 #[test]
 fn long_list(rt: HostRuntime) -> Result<(), Fail> {
