@@ -16,14 +16,15 @@ use Rattle.crdx.specs.Node.{Node, scalar, object, Fields, no_fields, field, IsNo
 use Rattle.crdx.specs.NodeView.{node_of, fields_of}
 use Rattle.crdx.specs.declared.stored.node.Field.{Field}
 use Rattle.crdx.specs.Place.{Place, schema_at, place_cmp}
-use Rattle.crdx.specs.Accepted.{IsEnvelope, envelope_names, IsKnown, in_envelope, known_object, known_scalar, IsKnownScalar, IsKnownObject, AllKnown, IsNodeOf, IsNodeAt, AreFieldsOf, kept, properties_of}
+use Rattle.crdx.specs.Accepted.{IsEnvelope, IsKnown, in_envelope, known_object, known_scalar, IsKnownScalar, IsKnownObject, AllKnown, IsNodeOf, IsNodeAt, AreFieldsOf, kept, properties_of}
+use Rattle.schema.specs.Places.{envelope_names}
 use Rattle.schema.specs.Forms.{is_among}
 use Rattle.crdx.specs.Acceptance.{members_at, AreKnown, IsFirst, IsRefusedAt, AreNodes}
 use Rattle.schema.specs.Breaks.{AreViolations, IsUnbroken, told, told_of}
 use Rattle.schema.specs.declared.violation.Violation.{Violation}
 use Rattle.crdx.specs.Refusal.{IsRefusal}
-use Rattle.crdx.specs.declared.stored.refused.Refused.{Refused}
-use Rattle.crdx.specs.declared.stored.refused.Refused.TheVariants.{Violations, NotYet, NoMemory}
+use Rattle.schema.specs.declared.refused.Refused.{Refused}
+use Rattle.schema.specs.declared.refused.Refused.TheVariants.{Violations, NotYet, NoMemory}
 use Rattle.jtree.specs.Lookups.{bool_cases, option_cases, same_name, own_name, member_first, member_tail, before_each, IsBefore-trans}
 
 name_properties : List ℕ

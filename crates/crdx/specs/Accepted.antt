@@ -6,6 +6,7 @@ use Rattle.jtree.specs.Data.{Data, Members, no_members, member}
 use Rattle.jtree.specs.Data as tree
 use Rattle.jtree.specs.Path.{under}
 use Rattle.schema.specs.Forms.{is_among}
+use Rattle.schema.specs.Places.{envelope_names, IsEnvelopeName}
 use Rattle.crdx.specs.Node.{Node, scalar, boolean, integer, object, Fields, no_fields, field}
 use Rattle.jtree.specs.Kind.{is_object}
 use Rattle.crdx.specs.Place.{Place, schema_at, place_pointer, place_cmp}
@@ -14,12 +15,6 @@ abbrev pub HasType : Data → List ℕ → Type 0
 HasType s name = under s (codes "type") ≡ Some (tree.text name)
 
 -- at the root of the schema `apiVersion`, `kind` and `metadata` are the envelope of a resource
-abbrev pub envelope_names : List (List ℕ)
-envelope_names = codes "apiVersion" ∷ codes "kind" ∷ codes "metadata" ∷ []
-
-abbrev pub IsEnvelopeName : List ℕ → Type 0
-IsEnvelopeName k = is_among k envelope_names ≡ true
-
 abbrev pub IsEnvelope : Bool → Place → Type 0
 IsEnvelope true (k ∷ place) = IsEnvelopeName k
 IsEnvelope true [] = ⊥

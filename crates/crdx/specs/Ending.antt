@@ -9,8 +9,8 @@ use Rattle.crdx.specs.declared.running.Stop.{Stop}
 use Rattle.crdx.specs.declared.running.Stop.TheVariants as stop
 use Rattle.schema.specs.declared.fault.SFault.{SFault}
 use Rattle.schema.specs.declared.fault.SFault.TheVariants as s
-use Rattle.crdx.specs.declared.stored.refused.Refused.{Refused}
-use Rattle.crdx.specs.declared.stored.refused.Refused.TheVariants as refused
+use Rattle.schema.specs.declared.refused.Refused.{Refused}
+use Rattle.schema.specs.declared.refused.Refused.TheVariants as refused
 use Rattle.crdx.specs.declared.plan.fault.PFault.{PFault}
 use Rattle.crdx.specs.declared.plan.fault.PFault.TheVariants as p
 use Rattle.crdx.specs.declared.walk.fault.WFault.{WFault}

@@ -4,8 +4,8 @@ use Rattle.std.specs.Prelude.{◌≢◌, [], true, string_bytes}
 use Rattle.jtree.specs.Data.{Data}
 use Rattle.schema.specs.Breaks.{AreViolations, IsUnbroken}
 use Rattle.crdx.specs.Accepted.{IsUnknownAt}
-use Rattle.crdx.specs.declared.stored.refused.Refused.{Refused}
-use Rattle.crdx.specs.declared.stored.refused.Refused.TheVariants.{Violations, NotYet, NoMemory}
+use Rattle.schema.specs.declared.refused.Refused.{Refused}
+use Rattle.schema.specs.declared.refused.Refused.TheVariants.{Violations, NotYet, NoMemory}
 
 abbrev pub IsRefusal : Data → Refused → Type 0
 IsRefusal raw (Violations vs) = AreViolations raw vs.items × (vs.items ≢ [])

@@ -227,7 +227,7 @@ pairs_rising p (r ∷ rules) h = (
 judged_chain : Chained judged
 judged_chain = (omega arith, (omega arith, (omega arith, (omega arith, (omega arith, (omega arith, (omega arith, (omega arith, tt))))))))
 
-abbrev Earlier : Visit → Visit → Type 0
+abbrev pub Earlier : Visit → Visit → Type 0
 Earlier v w = path_cmp (place_path (place_of v.place.items)) (place_path (place_of w.place.items)) ≡ Less
 
 place_before : (v w : Visit) (r s : Rule) → Earlier v w → IsLess (pair (place_of v.place.items) r) (pair (place_of w.place.items) s)
@@ -277,25 +277,33 @@ visits_rising : (visits : List Visit) → Ascend (map visit_of visits) → Risin
 visits_rising [] h = tt
 visits_rising (v ∷ visits) h = (λ w a. h.0 (visit_of w) (in_map visits w a), visits_rising visits h.1)
 
+-- each place is that of a visit
+pub place_visited : (ms : Members) (visits : List Visit) → IsObject ms → AreVisits ms visits → (p : Place) → IsPlace (object ms) p
+    → (v : Visit) × Among visits v × (place_of v.place.items ≡ p)
+place_visited ms visits o are p at =
+    let marks = schema_marks_are ms o in
+    let marked = is_visit (schema_marks [] ms) p at.0 ((marks.visits p at.0).0 at.1) in
+    let v = from_map visits (visited p at.0) (subst (IsIn (visited p at.0)) (sym are.whole) marked) in
+    (v.0, v.1, let e = v.2 in cc)
+
+-- and the places of the visits ascend
+pub visits_earlier : (ms : Members) (visits : List Visit) → IsObject ms → AreVisits ms visits → Rising Earlier visits
+visits_earlier ms visits o are = visits_rising visits (subst Ascend (sym are.whole) (visits_ascend (schema_marks [] ms) (schema_marks_are ms o).ascending))
+
 pub violations_of : (ms : Members) (visits : List Visit) (violations : List Violation) → IsObject ms → AreVisits ms visits
     → AreFound (λ raw. All (IsVisit raw) visits) (pairs_of visits) [] violations → AreViolations (object ms) violations
 violations_of ms visits violations o are f =
     let raw = object ms in
-    let marks = schema_marks_are ms o in
     let broken = f.are raw are.each in
-    let ascending = subst Ascend (sym are.whole) (visits_ascend (schema_marks [] ms) marks.ascending) in
     let each = λ (b : Break) (a : Among f.found b). broken_each raw (pairs_of visits) f.found b broken a in (
       f.found,
       record {
         each = each_of (λ b. Broken raw b.place b.rule) f.found each;
         all = λ p r h.
-            let at : IsPlace raw p = at_place raw p r h in
-            let marked = is_visit (schema_marks [] ms) p at.0 ((marks.visits p at.0).0 at.1) in
-            let v = from_map visits (visited p at.0) (subst (IsIn (visited p at.0)) (sym are.whole) marked) in
-            let same : place_of v.0.place.items ≡ p = let e = v.2 in cc in
-            let here : Among (pairs_of visits) (pair p r) = subst (λ q. Among (pairs_of visits) (pair q r)) same (among_all visits v.0 r v.1 (is_judged raw p r h)) in
+            let v = place_visited ms visits o are p (at_place raw p r h) in
+            let here : Among (pairs_of visits) (pair p r) = subst (λ q. Among (pairs_of visits) (pair q r)) v.2 (among_all visits v.0 r v.1 (is_judged raw p r h)) in
             contains f.found (pair p r) (broken_all raw (pairs_of visits) f.found (pair p r) broken here h);
-        ascending = all_pairs IsLess f.found (broken_rising raw (pairs_of visits) f.found broken (all_rising visits (visits_rising visits ascending)));
+        ascending = all_pairs IsLess f.found (broken_rising raw (pairs_of visits) f.found broken (all_rising visits (visits_earlier ms visits o are)));
       },
       f.told_as,
     )

@@ -11,7 +11,7 @@ abbrev pub Rising : {X : Type 0} → (X → X → Type 0) → List X → Type 0
 Rising R [] = Unit {0}
 Rising {X} R (x ∷ xs) = ((v : X) → Among xs v → R x v) × Rising R xs
 
-index_of : {X : Type 0} (xs : List X) (v d : X) → Among xs v → (k : ℕ) × (k < length xs) × (get_or xs k d ≡ v)
+pub index_of : {X : Type 0} (xs : List X) (v d : X) → Among xs v → (k : ℕ) × (k < length xs) × (get_or xs k d ≡ v)
 index_of [] v d e = elim e [ ]
 index_of (x ∷ xs) v d (inl e) = (0, omega arith, e)
 index_of (x ∷ xs) v d (inr e) = let r = index_of xs v d e in (suc r.0, omega (arith, r.1), r.2)

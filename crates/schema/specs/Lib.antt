@@ -17,3 +17,12 @@ pub mod Visits
 pub mod Contexts
 pub mod RuleParts
 pub mod Judged
+pub mod Node
+pub mod NodeView
+pub mod NodeCode
+pub mod NodeFalls
+pub mod Reading
+pub mod Conditions
+pub mod Shape
+pub mod KindView
+pub mod Building

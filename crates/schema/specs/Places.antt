@@ -1,9 +1,10 @@
 -- The places of a schema: the schema itself, and what a step from a place leads to, where that is an object. A place is a
 -- list of steps; its pointer begins at `openAPIV3Schema`, whose own pointer is the empty text (RFC 6901).
-use Rattle.std.specs.Prelude.{◌≡◌, ◌⊎◌, ℕ, List, [], ◌∷◌, Bool, true, false, Option, Some, None, option_and_then, flat_map, filter, not, codes}
+use Rattle.std.specs.Prelude.{◌≡◌, ℕ, List, [], ◌∷◌, Bool, true, false, Option, Some, None, option_and_then, flat_map, filter, not, codes}
 use Rattle.jtree.specs.Data.{Data, null, boolean, integer, text, list, object}
 use Rattle.jtree.specs.Path.{Path, name, place, part_at}
 use Rattle.jtree.specs.Pointer.{pointer}
+use Rattle.schema.specs.Forms.{is_among}
 
 pub data Step : Type 0 where
   -- to the member of `properties` of this name
@@ -84,8 +85,11 @@ abbrev pub core : Place → Place
 core p = filter (λ s. not (is_junctor s)) p
 
 -- at the root `apiVersion`, `kind` and `metadata`, and all below them, are the envelope of a resource
+abbrev pub envelope_names : List (List ℕ)
+envelope_names = codes "apiVersion" ∷ codes "kind" ∷ codes "metadata" ∷ []
+
 abbrev pub IsEnvelopeName : List ℕ → Type 0
-IsEnvelopeName k = (k ≡ codes "apiVersion") ⊎ (k ≡ codes "kind") ⊎ (k ≡ codes "metadata")
+IsEnvelopeName k = is_among k envelope_names ≡ true
 
 abbrev pub IsEnvelope : Place → Type 0
 IsEnvelope [] = ⊥

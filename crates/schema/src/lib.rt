@@ -1,20 +1,37 @@
 //! Reads a CustomResourceDefinition, and the schema of one of its versions.
 #![tactic(auto)]
 
+mod conditions;
 mod definition;
 mod fault;
 mod forms;
 mod judging;
 mod keywords;
+mod kinds;
+mod lacking;
 mod listing;
+mod node;
 mod places;
 mod raw;
+mod reading;
+mod refused;
 mod rules;
+mod shaped;
+mod shaping;
+#[cfg(test)]
+mod tests;
 mod versions;
 mod violation;
 
 pub use definition::{Crd, read_crd};
 pub use fault::SFault;
 pub use judging::breaks;
+pub use node::{
+    Below, Bounds, Branches, Conditions, Field, Fields, ListNode, ListType, MapNode, MapType, Node,
+    ObjectNode, ScalarKind, ScalarNode, Sort, Tests,
+};
 pub use raw::RawSchema;
+pub use refused::Refused;
+pub use shaped::Shape;
+pub use shaping::shape;
 pub use violation::{Rule, Violation};

@@ -2,7 +2,8 @@
 ghost use Rattle.std.specs.Prelude.{◌≡◌, ◌++◌, ◌∷◌, [], OnOk, IfOk, IfErr, string_bytes};
 ghost use Rattle.jtree.specs.Path.{name as name_step, place as place_step};
 ghost use Rattle.jtree.specs.Pointer.{pointer};
-ghost use Rattle.schema.specs.Places.{place_path, step_path, is_junctor as is_junctor_of};
+ghost use Rattle.schema.specs.Forms.{is_among};
+ghost use Rattle.schema.specs.Places.{place_path, step_path, is_junctor as is_junctor_of, envelope_names};
 ghost use Rattle.schema.specs.PlaceView.{step_of, place_of};
 
 use jtree::{JFault, push_index, push_name};
@@ -35,6 +36,13 @@ pub(crate) fn is_junctor(step: Step<'_>) -> bool
         Step::AllOf(_) | Step::AnyOf(_) | Step::OneOf(_) | Step::Not => true,
         _ => false,
     }
+}
+
+/// Whether a property of the root is of the envelope of a resource.
+pub(crate) fn is_envelope_name(name: &str) -> bool
+    ensures { result ≡ is_among name.now envelope_names }
+{
+    name == "apiVersion" || name == "kind" || name == "metadata"
 }
 
 /// The pointer of a place (RFC 6901), counted from the root of the schema.

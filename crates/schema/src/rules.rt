@@ -100,7 +100,7 @@ fn has_both_types(visit: &Visit<'_>) -> bool
 }
 
 /// Whether a step of the place is into a branch.
-fn is_inside(place: &[Step<'_>]) -> bool
+pub(crate) fn is_inside(place: &[Step<'_>]) -> bool
     ensures { result ≡ is_inside_of (place_of place.now) }
 {
     for step in place {

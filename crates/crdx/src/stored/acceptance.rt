@@ -9,14 +9,13 @@ ghost use Rattle.crdx.specs.Accepted.{AllKnown, IsNodeOf, IsNodeAt, AreFieldsOf,
 ghost use Rattle.schema.specs.Breaks.{IsUnbroken};
 ghost use Rattle.crdx.specs.Refusal.{IsRefusal};
 ghost use Rattle.crdx.specs.Acceptance.{members_at, AreKnown, IsRefusedAt};
-ghost use Rattle.crdx.specs.declared.stored.refused.Refused.TheVariants.{NoMemory};
+ghost use Rattle.schema.specs.declared.refused.Refused.TheVariants.{NoMemory};
 
 use crate::stored::accepted::Schema;
 use crate::stored::node::{Field, Fields, Node};
-use crate::stored::refused::Refused;
 use crate::stored::shape::{Shape, is_envelope, shape_of};
 use jtree::{Members, Tree, push_name};
-use schema::{RawSchema, breaks};
+use schema::{RawSchema, Refused, breaks};
 use std::alloc::Global;
 
 /// Accepts the raw schema of a version (apiextensions.k8s.io/v1, `schema.openAPIV3Schema`), where it breaks no rule of

@@ -4,7 +4,8 @@ ghost use Rattle.jtree.specs.View.{data_of};
 ghost use Rattle.jtree.specs.Path.{under};
 ghost use Rattle.schema.specs.Forms.{is_among};
 ghost use Rattle.crdx.specs.NodeView.{kind_of};
-ghost use Rattle.crdx.specs.Accepted.{HasType, AreObjects, IsEnvelope, IsKnownScalar, known_words, idle_words, envelope_names};
+ghost use Rattle.crdx.specs.Accepted.{HasType, AreObjects, IsEnvelope, IsKnownScalar, known_words, idle_words};
+ghost use Rattle.schema.specs.Places.{envelope_names};
 ghost use Rattle.crdx.specs.Acceptance.{HaveNames, IsShape, IsObjectShape, kind_name};
 
 use crate::stored::node::ScalarKind;

@@ -1,8 +1,8 @@
 ghost use Rattle.std.specs.Prelude.{◌≡◌};
-ghost use Rattle.crdx.specs.declared.stored.refused.Refused.TheVariants.{NoMemory};
+ghost use Rattle.schema.specs.declared.refused.Refused.TheVariants.{NoMemory};
 
+use crate::violation::Violation;
 use jtree::JFault;
-use schema::Violation;
 use std::alloc::{AllocError, AllocFailed};
 use thiserror::Error;
 

@@ -1,0 +1,196 @@
+-- The schemas below one whose places have nodes have nodes, and the fields of properties.
+use Rattle.std.proofs.Common.{◌≡◌, ◌<◌, ◌+◌, ℕ, List, [], ◌∷◌, ◌++◌, length, get_or, take, drop, Bool, true, false, Some, None, refl, sym, ap, ◌∙◌, subst, inl, inr}
+use Rattle.std.specs.Prelude.{option_and_then, option_map, codes, ◌||◌}
+use Rattle.std.specs.Str.{bytes_eq}
+use Rattle.std.proofs.lemmas.Option.{same_Some}
+use Rattle.std.proofs.lemmas.List.{take-append-drop, drop_more}
+use Rattle.std.specs.declared.cmp.Ordering.TheVariants.{Less}
+use Rattle.jtree.specs.Data.{Data, Items, Members, no_members, member, IsBefore, IsObject, depth, members_depth}
+use Rattle.jtree.specs.Data as tree
+use Rattle.jtree.specs.Kind.{is_object}
+use Rattle.jtree.specs.Lookups.{bool_cases, IsBefore-trans, member_first, member_tail}
+use Rattle.jtree.specs.Order.{text_cmp}
+use Rattle.jtree.specs.Path.{member_at, under}
+use Rattle.jtree.specs.View.{data_of, items_of, members_of}
+use Rattle.jtree.specs.declared.value.Tree.{Tree}
+use Rattle.jtree.specs.declared.value.Member.{Member}
+use Rattle.schema.specs.Forms.{is_among}
+use Rattle.schema.specs.Raw.{HasObject}
+use Rattle.schema.specs.Kinds as kinds
+use Rattle.schema.specs.Kinds.{IsOfKind, then_map}
+use Rattle.schema.specs.Places.{property, map_value, items, schema_by, schema_at, IsEnvelopeName}
+use Rattle.schema.specs.Reading.{texts_of}
+use Rattle.schema.specs.Node.{Fields, no_fields, field, IsNode, IsBeforeFields, AreOrdered}
+use Rattle.schema.specs.NodeView.{node_of, fields_of}
+use Rattle.schema.specs.Shape.{HasNoNode, IsNodeOf, AreFieldsOf, is_declared, declared_of}
+use Rattle.schema.specs.Building.{HasNodes, HaveNodes, AreNodes}
+use Rattle.schema.specs.declared.node.Field.{Field}
+
+-- ---- places one step below
+
+pub has_node : (root : Bool) (s : Data) → HasNodes root s → HasNoNode s → ⊥
+has_node root s h lacks = h [] refl (λ is e. e) (s, refl, lacks)
+
+list_below : (root : Bool) (s d : Data) → HasNodes root s → schema_by s items ≡ Some d → HasNodes false d
+list_below root s d h by p outside other at =
+    h (items ∷ p) outside (λ is e. e) (at.0, ap (option_and_then (λ t. schema_at t p)) by ∙ at.1, at.2)
+
+map_below : (root : Bool) (s d : Data) → HasNodes root s → schema_by s map_value ≡ Some d → HasNodes false d
+map_below root s d h by p outside other at =
+    h (map_value ∷ p) outside (λ is e. e) (at.0, ap (option_and_then (λ t. schema_at t p)) by ∙ at.1, at.2)
+
+property_below : (root : Bool) (s d : Data) (k : List ℕ) → HasNodes root s → (root ≡ true → IsEnvelopeName k → ⊥) → schema_by s (property k) ≡ Some d → HasNodes false d
+property_below root s d k h other by p outside none at =
+    h (property k ∷ p) outside other (at.0, ap (option_and_then (λ t. schema_at t p)) by ∙ at.1, at.2)
+
+-- ---- the items of a list
+
+pub list_has_items : (root : Bool) (s : Data) → HasNodes root s → IsOfKind s kinds.list → under s (codes "items") ≡ None → ⊥
+list_has_items root s h kind none = has_node root s h (inr (kind, λ o. let some = o.1 in cc))
+
+pub list_nodes : (root : Bool) (s d : Data) → HasNodes root s → IsOfKind s kinds.list → under s (codes "items") ≡ Some d → HasNodes false d
+list_nodes root s tree.null h kind at = absurd (has_node root s h (inr (kind, λ o. let some = o.1 in cc)))
+list_nodes root s (tree.boolean b) h kind at = absurd (has_node root s h (inr (kind, λ o. let some = o.1 in cc)))
+list_nodes root s (tree.integer z) h kind at = absurd (has_node root s h (inr (kind, λ o. let some = o.1 in cc)))
+list_nodes root s (tree.text t) h kind at = absurd (has_node root s h (inr (kind, λ o. let some = o.1 in cc)))
+list_nodes root s (tree.list ds) h kind at = absurd (has_node root s h (inr (kind, λ o. let some = o.1 in cc)))
+list_nodes root s (tree.object ms) h kind at = list_below root s (tree.object ms) h (rw at refl)
+
+-- ---- the values of a map
+
+map_has_object : (s : Data) → IsOfKind s kinds.map → HasObject s (codes "additionalProperties")
+map_has_object s (then_map _ _ _ o) = o
+
+pub map_has_values : (s : Data) → IsOfKind s kinds.map → under s (codes "additionalProperties") ≡ None → ⊥
+map_has_values s kind none = let some = (map_has_object s kind).1 in cc
+
+pub map_nodes : (root : Bool) (s d : Data) → HasNodes root s → IsOfKind s kinds.map → under s (codes "additionalProperties") ≡ Some d → HasNodes false d
+map_nodes root s d h kind at =
+    let o = map_has_object s kind in
+    let same : d ≡ tree.object o.0 = same_Some d (tree.object o.0) (sym at ∙ o.1) in
+    subst (HasNodes false) (sym same) (map_below root s (tree.object o.0) h (rw o.1 refl))
+
+-- ---- the properties of an object
+
+declared_is_object : (root : Bool) (k : List ℕ) (d : Data) → is_declared root k d ≡ true → (ms : Members) × (d ≡ tree.object ms)
+declared_is_object root k tree.null is = cc
+declared_is_object root k (tree.boolean b) is = cc
+declared_is_object root k (tree.integer z) is = cc
+declared_is_object root k (tree.text t) is = cc
+declared_is_object root k (tree.list ds) is = cc
+declared_is_object root k (tree.object ms) is = (ms, refl)
+
+declared_is_other : (root : Bool) (k : List ℕ) (d : Data) → is_declared root k d ≡ true → root ≡ true → IsEnvelopeName k → ⊥
+declared_is_other false k d is at e = cc
+declared_is_other true k d is at e = elim (bool_cases (is_object d)) [
+  | inl t ↦ let h = rw (t, e) at is in cc
+  | inr f ↦ let h = rw f at is in cc
+]
+
+pub property_nodes : (root : Bool) (s : Data) (ms : Members) → HasNodes root s → under s (codes "properties") ≡ Some (tree.object ms) → HaveNodes root ms
+property_nodes root s ms h at k d there is =
+    let o = declared_is_object root k d is in
+    let found : member_at k ms ≡ Some (tree.object o.0) = there ∙ ap Some o.1 in
+    let by : schema_by s (property k) ≡ Some (tree.object o.0) = rw (at, found) refl in
+    subst (HasNodes false) (sym o.1) (property_below root s (tree.object o.0) k h (declared_is_other root k d is) by)
+
+-- ---- fields
+
+-- the members with one more at their end
+ended : Members → List ℕ → Data → Members
+ended no_members k d = member k d no_members
+ended (member l e ms) k d = member l e (ended ms k d)
+
+end_fields : (fs : List Field) (f : Field) (names : List (List ℕ)) (ms : Members) (k : List ℕ) (d : Data) → AreFieldsOf (fields_of fs) names ms → f.name ≡ k
+    → IsNodeOf false (node_of f.node) d → f.required ≡ is_among k names → option_map data_of f.default ≡ under d (codes "default")
+    → AreFieldsOf (fields_of (fs ++ f ∷ [])) names (ended ms k d)
+unfolding ended
+end_fields [] f names no_members k d h name node required default = (name, node, required, default, tt)
+end_fields [] f names (member l e ms) k d h name node required default = absurd h
+end_fields (g ∷ fs) f names no_members k d h name node required default = absurd h
+end_fields (g ∷ fs) f names (member l e ms) k d h name node required default =
+    (h.0, h.1, h.2, h.3, end_fields fs f names ms k d h.4 name node required default)
+
+declared_ended : (root : Bool) (xs : List Member) (m : Member) → is_declared root m.name (data_of m.tree) ≡ true
+    → declared_of root (members_of (xs ++ m ∷ [])) ≡ ended (declared_of root (members_of xs)) m.name (data_of m.tree)
+unfolding ended
+declared_ended root [] m is = rw is refl
+declared_ended root (x ∷ xs) m is = elim (bool_cases (is_declared root x.name (data_of x.tree))) [
+  | inl t ↦ rw t (ap (member x.name (data_of x.tree)) (declared_ended root xs m is))
+  | inr f ↦ rw f (declared_ended root xs m is)
+]
+
+-- a property that has no field is passed over
+pub declared_dropped : (root : Bool) (xs : List Member) (m : Member) → is_declared root m.name (data_of m.tree) ≡ false
+    → declared_of root (members_of (xs ++ m ∷ [])) ≡ declared_of root (members_of xs)
+declared_dropped root [] m is = rw is refl
+declared_dropped root (x ∷ xs) m is = elim (bool_cases (is_declared root x.name (data_of x.tree))) [
+  | inl t ↦ rw t (ap (member x.name (data_of x.tree)) (declared_dropped root xs m is))
+  | inr f ↦ rw f (declared_dropped root xs m is)
+]
+
+pub push_field : (root : Bool) (fs : List Field) (f : Field) (names : List (List ℕ)) (xs : List Member) (m : Member) → is_declared root m.name (data_of m.tree) ≡ true
+    → AreFieldsOf (fields_of fs) names (declared_of root (members_of xs)) → f.name ≡ m.name → IsNodeOf false (node_of f.node) (data_of m.tree)
+    → f.required ≡ is_among m.name names → option_map data_of f.default ≡ under (data_of m.tree) (codes "default")
+    → AreFieldsOf (fields_of (fs ++ f ∷ [])) names (declared_of root (members_of (xs ++ m ∷ [])))
+push_field root fs f names xs m is h name node required default =
+    subst (AreFieldsOf (fields_of (fs ++ f ∷ [])) names) (sym (declared_ended root xs m is))
+    (end_fields fs f names (declared_of root (members_of xs)) m.name (data_of m.tree) h name node required default)
+
+declared_before : (root : Bool) (k : List ℕ) (ms : Members) → IsBefore k ms → IsObject ms → IsBefore k (declared_of root ms)
+declared_before root k no_members before o = tt
+declared_before root k (member l d ms) before o = elim (bool_cases (is_declared root l d)) [
+  | inl t ↦ rw t before
+  | inr f ↦ rw f (declared_before root k ms (IsBefore-trans k l ms before o.1) o.2)
+]
+
+pub declared_object : (root : Bool) (ms : Members) → IsObject ms → IsObject (declared_of root ms)
+declared_object root no_members o = tt
+declared_object root (member k d ms) o = elim (bool_cases (is_declared root k d)) [
+  | inl t ↦ rw t (o.0, declared_before root k ms o.1 o.2, declared_object root ms o.2)
+  | inr f ↦ rw f (declared_object root ms o.2)
+]
+
+pub push_nodes : (fs : List Field) (f : Field) → AreNodes (fields_of fs) → IsNode (node_of f.node) → AreNodes (fields_of (fs ++ f ∷ []))
+push_nodes [] f h node = (node, tt)
+push_nodes (g ∷ fs) f h node = (h.0, push_nodes fs f h.1 node)
+
+fields_before : (k l : List ℕ) (fs : Fields) (names : List (List ℕ)) (ms : Members) → k ≡ l → AreFieldsOf fs names ms → IsBefore l ms → IsBeforeFields k fs
+fields_before k l no_fields names no_members same h before = tt
+fields_before k l no_fields names (member m d ms) same h before = absurd h
+fields_before k l (field n N r e fs) names no_members same h before = absurd h
+fields_before k l (field n N r e fs) names (member m d ms) same h before = subst (λ x. text_cmp x n ≡ Less) (sym same) (subst (λ x. text_cmp l x ≡ Less) (sym h.0) before)
+
+pub fields_ordered : (fs : Fields) (names : List (List ℕ)) (ms : Members) → AreFieldsOf fs names ms → AreNodes fs → IsObject ms → AreOrdered fs
+fields_ordered no_fields names no_members h nodes o = tt
+fields_ordered no_fields names (member l d ms) h nodes o = absurd h
+fields_ordered (field k N r e fs) names no_members h nodes o = absurd h
+fields_ordered (field k N r e fs) names (member l d ms) h nodes o = (nodes.0, fields_before k l fs names ms h.0 h.4 o.1, fields_ordered fs names ms h.4 nodes.1 o.2)
+
+-- ---- members and texts by their places
+
+item_named : (xs : List Member) (m : Member) (ys : List Member) → IsObject (members_of (xs ++ m ∷ ys)) → member_at m.name (members_of (xs ++ m ∷ ys)) ≡ Some (data_of m.tree)
+item_named [] m ys o = member_first m.name (data_of m.tree) (members_of ys)
+item_named (x ∷ xs) m ys o = member_tail x.name (data_of x.tree) (members_of (xs ++ m ∷ ys)) m.name (data_of m.tree) o (item_named xs m ys o.2)
+
+pub member_named : (xs : List Member) (i : ℕ) (m : Member) → i < length xs → m ≡ get_or xs i m → IsObject (members_of xs)
+    → member_at m.name (members_of xs) ≡ Some (data_of m.tree)
+member_named xs i m within is o =
+    let split : xs ≡ take i xs ++ m ∷ drop (i + 1) xs = sym (take-append-drop i xs) ∙ ap (λ ys. take i xs ++ ys) (drop_more xs i m within ∙ ap (λ x. x ∷ drop (i + 1) xs) (sym is)) in
+    subst (λ zs. member_at m.name (members_of zs) ≡ Some (data_of m.tree)) (sym split) (item_named (take i xs) m (drop (i + 1) xs) (subst (λ zs. IsObject (members_of zs)) split o))
+
+texts_split : (x : Data) (k : List ℕ) (ds : Items) → is_among k (texts_of (tree.item x ds)) ≡ (is_among k (texts_of (tree.item x tree.no_items)) || is_among k (texts_of ds))
+texts_split tree.null k ds = refl
+texts_split (tree.boolean b) k ds = refl
+texts_split (tree.integer z) k ds = refl
+texts_split (tree.text t) k ds = elim (bool_cases (bytes_eq k t)) [
+  | inl same ↦ rw same refl
+  | inr f ↦ rw f refl
+]
+texts_split (tree.list es) k ds = refl
+texts_split (tree.object ms) k ds = refl
+
+pub texts_next : (xs : List Tree) (i : ℕ) (t : Tree) (k : List ℕ) → i < length xs → t ≡ get_or xs i t
+    → is_among k (texts_of (items_of (drop i xs))) ≡ (is_among k (texts_of (tree.item (data_of t) tree.no_items)) || is_among k (texts_of (items_of (drop (i + 1) xs))))
+texts_next xs i t k within is =
+    ap (λ ys. is_among k (texts_of (items_of ys))) (drop_more xs i t within ∙ ap (λ x. x ∷ drop (i + 1) xs) (sym is)) ∙ texts_split (data_of t) k (items_of (drop (i + 1) xs))

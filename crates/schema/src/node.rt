@@ -1,0 +1,249 @@
+use jtree::{Items, Text, Tree};
+use std::marker::Model;
+
+/// The kinds of value that a scalar node accepts: truth values, integers, texts, or both integers and texts.
+#[derive(Clone, Copy, Debug, PartialEq, Eq, Drop)]
+pub enum ScalarKind {
+    Boolean,
+    Integer,
+    String,
+    IntOrString,
+}
+
+/// How the items of a list merge, and which may stand beside one another (`x-kubernetes-list-type`).
+#[derive(Clone, Copy, Debug, PartialEq, Eq, Drop)]
+pub enum ListType {
+    Atomic,
+    Set,
+    Map,
+}
+
+/// How the members of an object or a map merge (`x-kubernetes-map-type`).
+#[derive(Clone, Copy, Debug, PartialEq, Eq, Drop)]
+pub enum MapType {
+    Granular,
+    Atomic,
+}
+
+/// The least and the most parts that a value may have, where there is such a bound.
+#[derive(Clone, Copy, Drop)]
+pub struct Bounds {
+    pub least: Option<u64>,
+    pub most: Option<u64>,
+}
+
+/// What is asked of a scalar besides its kind. Lengths are counted in Unicode scalar values.
+#[derive(Drop)]
+pub struct Tests {
+    /// The values of `enum` as written, where it is there.
+    pub choices: Option<Items>,
+    pub minimum: Option<i64>,
+    pub maximum: Option<i64>,
+    pub exclusive_minimum: bool,
+    pub exclusive_maximum: bool,
+    pub lengths: Bounds,
+}
+
+/// The tests of a scalar node, or of a branch of a junctor, and the junctors that stand beside them.
+#[cycle(conditions)]
+#[derive(Drop)]
+pub struct Conditions {
+    pub tests: Tests,
+    /// The branches of `allOf`, none where it is absent; and so for the next two.
+    pub all_of: Branches,
+    pub any_of: Branches,
+    pub one_of: Branches,
+    /// The branch of `not`, where it is there.
+    pub negated: Branches,
+}
+
+/// The branches of a junctor, as written.
+#[cycle(conditions)]
+#[derive(Drop)]
+pub struct Branches {
+    pub branches: Vec<Conditions>,
+}
+
+/// A node of an accepted schema.
+#[cycle(node)]
+#[derive(Drop)]
+pub struct Node {
+    /// Whether null is accepted.
+    pub nullable: bool,
+    pub description: Option<Text>,
+    pub sort: Sort,
+}
+
+/// What a node accepts besides null: scalars, objects with declared fields, maps, lists, or any value.
+#[cycle(node)]
+#[derive(Drop)]
+pub enum Sort {
+    Scalar(ScalarNode),
+    Object(ObjectNode),
+    Map(MapNode),
+    List(ListNode),
+    Open,
+}
+
+#[derive(Drop)]
+pub struct ScalarNode {
+    pub kind: ScalarKind,
+    pub conditions: Conditions,
+}
+
+#[cycle(node)]
+#[derive(Drop)]
+pub struct ObjectNode {
+    pub fields: Fields,
+    /// Whether fields that are not declared are kept (`x-kubernetes-preserve-unknown-fields`).
+    pub preserves: bool,
+    pub map_type: MapType,
+    /// On the number of members (`minProperties`, `maxProperties`).
+    pub bounds: Bounds,
+}
+
+#[cycle(node)]
+#[derive(Drop)]
+pub struct MapNode {
+    /// The node of each value (`additionalProperties`).
+    pub value: Below,
+    pub map_type: MapType,
+    /// On the number of members (`minProperties`, `maxProperties`).
+    pub bounds: Bounds,
+}
+
+#[cycle(node)]
+#[derive(Drop)]
+pub struct ListNode {
+    /// The node of each item (`items`).
+    pub item: Below,
+    pub list_type: ListType,
+    /// The names of the fields that tell the items of a map list apart (`x-kubernetes-list-map-keys`), as written.
+    pub keys: Vec<Text>,
+    /// On the number of items (`minItems`, `maxItems`).
+    pub bounds: Bounds,
+}
+
+/// A node below another.
+#[cycle(node)]
+#[derive(Drop)]
+pub struct Below {
+    pub node: Box<Node>,
+}
+
+/// The declared fields of an object, by the bytes of their names, each name once.
+#[cycle(node)]
+#[derive(Drop)]
+pub struct Fields {
+    pub fields: Vec<Field>,
+}
+
+/// A declared field.
+#[cycle(node)]
+#[derive(Drop)]
+pub struct Field {
+    pub name: Text,
+    pub node: Node,
+    pub required: bool,
+    pub default: Option<Tree>,
+}
+
+impl Model for Branches {
+    ghost use Rattle.schema.specs.Node.{Branches as BranchesData, branches_depth};
+    ghost use Rattle.schema.specs.NodeCode.{branches_coded};
+
+    ghost Value = { BranchesData };
+
+    ghost coded = { branches_coded };
+
+    ghost use Rattle.schema.specs.NodeView.{branches_of};
+
+    ghost view = { λ a. branches_of a.branches.items };
+
+    ghost size = { branches_depth };
+
+    ghost use Rattle.schema.specs.NodeFalls.{branches_fall};
+
+    ghost size_decreases = { λ a h. branches_fall a.branches.items };
+}
+
+impl Model for Below {
+    ghost use Rattle.schema.specs.Node.{Node as NodeData, node_depth, IsNode};
+    ghost use Rattle.schema.specs.NodeCode.{node_coded};
+
+    ghost Value = { NodeData };
+
+    ghost coded = { node_coded };
+
+    ghost use Rattle.schema.specs.NodeView.{node_of};
+
+    ghost view = { λ a. node_of a.node.value };
+
+    ghost invariant = { λ a. IsNode (node_of a.node.value) };
+
+    ghost size = { node_depth };
+
+    ghost use Rattle.schema.specs.NodeFalls.{below_falls};
+
+    ghost size_decreases = { λ a h. below_falls a.node.value };
+}
+
+impl Model for Fields {
+    ghost use Rattle.schema.specs.Node.{Fields as FieldsData, fields_depth, AreOrdered};
+    ghost use Rattle.schema.specs.NodeCode.{fields_coded};
+
+    ghost Value = { FieldsData };
+
+    ghost coded = { fields_coded };
+
+    ghost use Rattle.schema.specs.NodeView.{fields_of};
+
+    ghost view = { λ a. fields_of a.fields.items };
+
+    ghost invariant = { λ a. AreOrdered (fields_of a.fields.items) };
+
+    ghost size = { fields_depth };
+
+    ghost use Rattle.schema.specs.NodeFalls.{fields_fall};
+
+    ghost size_decreases = { λ a h. fields_fall a.fields.items };
+}
+
+impl Node {
+    ghost use Rattle.schema.specs.Node.{IsNode};
+    ghost use Rattle.schema.specs.NodeView.{node_of};
+
+    /// Brings to a proof that declared names stand in order, each once. It does nothing.
+    pub fn is_node(&self)
+        ensures { IsNode (node_of self.now) }
+    {
+        match &self.sort {
+            Sort::Scalar(_) | Sort::Open => {}
+            Sort::Object(object) => object.fields.are_ordered(),
+            Sort::Map(map) => map.value.is_node(),
+            Sort::List(list) => list.item.is_node(),
+        }
+    }
+}
+
+impl Below {
+    ghost use Rattle.schema.specs.Node.{IsNode};
+
+    /// Brings to a proof that declared names stand in order, each once. It does nothing.
+    pub fn is_node(&self)
+        ensures { IsNode self.now }
+    {
+        let _ = &self.node;
+    }
+}
+
+impl Fields {
+    ghost use Rattle.schema.specs.Node.{AreOrdered};
+
+    /// Brings to a proof that declared names stand in order, each once. It does nothing.
+    pub fn are_ordered(&self)
+        ensures { AreOrdered self.now }
+    {
+        let _ = &self.fields;
+    }
+}

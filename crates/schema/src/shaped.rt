@@ -1,0 +1,40 @@
+use crate::node::Node;
+use std::marker::Model;
+
+/// The nodes of a schema that breaks no rule, which a contract sees as the node of the root.
+#[derive(Drop)]
+pub struct Shape {
+    root: Node,
+}
+
+impl Model for Shape {
+    ghost use Rattle.schema.specs.Node.{Node as NodeData};
+    ghost use Rattle.schema.specs.NodeCode.{node_coded};
+
+    ghost Value = { NodeData };
+
+    ghost coded = { node_coded };
+
+    ghost use Rattle.schema.specs.NodeView.{node_of};
+
+    ghost view = { λ a. node_of a.root };
+}
+
+impl Shape {
+    ghost use Rattle.std.specs.Prelude.{◌≡◌};
+    ghost use Rattle.schema.specs.NodeView.{node_of};
+
+    /// The shape with this root.
+    pub(crate) fn new(root: Node) -> Shape
+        ensures { result ≡ node_of root }
+    {
+        Shape { root }
+    }
+
+    /// The node of the whole resource.
+    pub fn root(&self) -> &Node
+        ensures { node_of result.now ≡ self.now }
+    {
+        &self.root
+    }
+}

@@ -1,0 +1,281 @@
+// The nodes of a schema that breaks no rule.
+ghost use Rattle.std.specs.Prelude.{◌≡◌, true, false, OnOk, IfOk, IfErr, option_map, codes};
+ghost use Rattle.jtree.specs.Data.{no_items, item};
+ghost use Rattle.jtree.specs.Path.{under};
+ghost use Rattle.jtree.specs.View.{data_of};
+ghost use Rattle.schema.specs.Forms.{is_among};
+ghost use Rattle.schema.specs.Kinds.{list as list_kind, map as map_kind, object as object_kind, IsOfKind};
+ghost use Rattle.schema.specs.Places.{Place};
+ghost use Rattle.schema.specs.Breaks.{IsUnbroken};
+ghost use Rattle.schema.specs.Reading.{text_under, texts_of, texts_under};
+ghost use Rattle.schema.specs.NodeView.{node_of, sort_of, object_of, map_of, list_of};
+ghost use Rattle.schema.specs.Shape.{IsNodeOf, IsSortOf, AreFieldsOf, LacksNode, IsShapeRefusal, is_declared as is_declared_of, declared_of, list_type_named, map_type_named};
+ghost use Rattle.schema.specs.Building.{HasNodes, HaveNodes, IsFieldOf};
+ghost use Rattle.schema.specs.declared.refused.Refused.TheVariants.{NoMemory};
+
+use crate::conditions::read_conditions;
+use crate::judging::breaks;
+use crate::kinds::{Kind, kind_of};
+use crate::lacking::first_without_node;
+use crate::node::{
+    Below, Field, Fields, ListNode, ListType, MapNode, MapType, Node, ObjectNode, ScalarNode, Sort,
+};
+use crate::places::is_envelope_name;
+use crate::raw::RawSchema;
+use crate::reading::{bounds, copy_text, copy_texts, flag, text};
+use crate::refused::Refused;
+use crate::shaped::Shape;
+use jtree::{Items, Member, Members, Tree};
+use std::alloc::Global;
+
+/// The nodes of a schema that breaks none of the rules V01 to V09 (apiextensions.k8s.io/v1, "specifying a structural
+/// schema"): one for each place that is in no branch of a junctor and not of the envelope, of its kind and with its
+/// keywords. The root has no field for `apiVersion`, `kind` and `metadata`. Keywords that a kind does not know are passed
+/// over, and so are values that the rules V10 to V17 forbid: these rules are not judged yet.
+///
+/// `Violations` with all that is broken, in path order of the places and then by number, where some rule is broken.
+/// `NotYet` with the pointer (RFC 6901) of the first place in path order that has no node, where nothing is broken and some
+/// place is of no kind, or is a list without `items`. `NoMemory` where an allocation fails.
+pub fn shape(alloc: Global, raw: &RawSchema) -> Result<Shape, Refused>
+    ensures node { IfOk result (λ s. IsNodeOf true s raw.now) }
+    ensures unbroken { OnOk result (IsUnbroken raw.now) }
+    ensures whole { OnOk result ((p : Place) → LacksNode raw.now p → ⊥) }
+    ensures refused { IfErr result (IsShapeRefusal raw.now) }
+{
+    let violations = match breaks(alloc, raw) {
+        Ok(violations) => violations,
+        Err(_refused) => return Err(Refused::NoMemory),
+    };
+    if !violations.as_slice().is_empty() {
+        return Err(Refused::Violations(violations));
+    }
+    match first_without_node(alloc, raw) {
+        Ok(None) => {}
+        Ok(Some(pointer)) => return Err(Refused::NotYet(pointer)),
+        Err(refused) => return Err(refused),
+    }
+    match read_node(alloc, raw.tree(), true) {
+        Ok(root) => Ok(Shape::new(root)),
+        Err(refused) => Err(refused),
+    }
+}
+
+/// The node of a schema, at the root of the whole or below it.
+#[cycle(read)]
+fn read_node(alloc: Global, schema: &Tree, root: bool) -> Result<Node, Refused>
+    requires { HasNodes root (data_of schema.now) }
+    ensures node { IfOk result (λ n. IsNodeOf root (node_of n) (data_of schema.now)) }
+    ensures err { IfErr result (λ e. e ≡ NoMemory) }
+{
+    let sort = read_sort(alloc, schema, root)?;
+    let description = copy_text(alloc, schema, "description")?;
+    Ok(Node {
+        nullable: flag(schema, "nullable"),
+        description,
+        sort,
+    })
+}
+
+/// What the node of a schema accepts besides null.
+#[cycle(read)]
+fn read_sort(alloc: Global, schema: &Tree, root: bool) -> Result<Sort, Refused>
+    requires { HasNodes root (data_of schema.now) }
+    ensures sort { IfOk result (λ s. IsSortOf root (sort_of s) (data_of schema.now)) }
+    ensures err { IfErr result (λ e. e ≡ NoMemory) }
+{
+    match kind_of(schema) {
+        Some(Kind::Scalar(kind)) => {
+            let conditions = read_conditions(alloc, schema)?;
+            Ok(Sort::Scalar(ScalarNode { kind, conditions }))
+        }
+        Some(Kind::Object) => Ok(Sort::Object(read_object(alloc, schema, root)?)),
+        Some(Kind::Map) => Ok(Sort::Map(read_map(alloc, schema, root)?)),
+        Some(Kind::List) => Ok(Sort::List(read_list(alloc, schema, root)?)),
+        Some(Kind::Open) => Ok(Sort::Open),
+        None => unreachable!(),
+    }
+}
+
+#[cycle(read)]
+fn read_object(alloc: Global, schema: &Tree, root: bool) -> Result<ObjectNode, Refused>
+    requires nodes { HasNodes root (data_of schema.now) }
+    requires kind { IsOfKind (data_of schema.now) object_kind }
+    ensures node { IfOk result (λ n. IsSortOf root (object_of n) (data_of schema.now)) }
+    ensures err { IfErr result (λ e. e ≡ NoMemory) }
+{
+    let fields = match schema.get("properties") {
+        Some(Tree::Object(properties)) => read_fields(alloc, schema, properties, root)?,
+        _ => Fields {
+            fields: Vec::new(alloc),
+        },
+    };
+    Ok(ObjectNode {
+        fields,
+        preserves: flag(schema, "x-kubernetes-preserve-unknown-fields"),
+        map_type: map_type(schema),
+        bounds: bounds(schema, "minProperties", "maxProperties"),
+    })
+}
+
+#[cycle(read)]
+fn read_map(alloc: Global, schema: &Tree, root: bool) -> Result<MapNode, Refused>
+    requires nodes { HasNodes root (data_of schema.now) }
+    requires kind { IsOfKind (data_of schema.now) map_kind }
+    ensures node { IfOk result (λ n. IsSortOf root (map_of n) (data_of schema.now)) }
+    ensures err { IfErr result (λ e. e ≡ NoMemory) }
+{
+    match schema.get("additionalProperties") {
+        Some(below) => Ok(MapNode {
+            value: read_below(alloc, below)?,
+            map_type: map_type(schema),
+            bounds: bounds(schema, "minProperties", "maxProperties"),
+        }),
+        None => unreachable!(),
+    }
+}
+
+#[cycle(read)]
+fn read_list(alloc: Global, schema: &Tree, root: bool) -> Result<ListNode, Refused>
+    requires nodes { HasNodes root (data_of schema.now) }
+    requires kind { IsOfKind (data_of schema.now) list_kind }
+    ensures node { IfOk result (λ n. IsSortOf root (list_of n) (data_of schema.now)) }
+    ensures err { IfErr result (λ e. e ≡ NoMemory) }
+{
+    match schema.get("items") {
+        Some(below) => Ok(ListNode {
+            item: read_below(alloc, below)?,
+            list_type: list_type(schema),
+            keys: copy_texts(alloc, schema, "x-kubernetes-list-map-keys")?,
+            bounds: bounds(schema, "minItems", "maxItems"),
+        }),
+        None => unreachable!(),
+    }
+}
+
+/// The node of the items of a list, or of the values of a map.
+#[cycle(read)]
+fn read_below(alloc: Global, schema: &Tree) -> Result<Below, Refused>
+    requires { HasNodes false (data_of schema.now) }
+    ensures node { IfOk result (λ b. IsNodeOf false b (data_of schema.now)) }
+    ensures err { IfErr result (λ e. e ≡ NoMemory) }
+{
+    let node = read_node(alloc, schema, false)?;
+    node.is_node();
+    Ok(Below {
+        node: Box::new(alloc, node)?,
+    })
+}
+
+/// The fields of the properties of a schema, at the root without those of the envelope.
+#[cycle(read)]
+fn read_fields(
+    alloc: Global,
+    schema: &Tree,
+    properties: &Members,
+    root: bool,
+) -> Result<Fields, Refused>
+    requires { HaveNodes root properties.now }
+    ensures fields { IfOk result (λ fs. AreFieldsOf fs (texts_under (data_of schema.now) (codes "required")) (declared_of root properties.now)) }
+    ensures err { IfErr result (λ e. e ≡ NoMemory) }
+{
+    properties.is_object();
+    let mut fields = Vec::new(alloc);
+    for property in &properties.members {
+        if !is_declared(property, root) {
+            continue;
+        }
+        let field = read_field(alloc, schema, property)?;
+        field.node.is_node();
+        fields.push(field)?;
+    }
+    Ok(Fields { fields })
+}
+
+/// The field of a property.
+#[cycle(read)]
+fn read_field(alloc: Global, schema: &Tree, property: &Member) -> Result<Field, Refused>
+    requires { HasNodes false (data_of property.now.tree) }
+    ensures field { IfOk result (λ f. IsFieldOf f (data_of schema.now) property.now) }
+    ensures err { IfErr result (λ e. e ≡ NoMemory) }
+{
+    let name = property.name.copy(alloc)?;
+    let node = read_node(alloc, &property.tree, false)?;
+    let required = is_required(schema, property.name.as_str());
+    let default = copy_default(alloc, &property.tree)?;
+    Ok(Field {
+        name,
+        node,
+        required,
+        default,
+    })
+}
+
+/// Whether a property has a field.
+fn is_declared(property: &Member, root: bool) -> bool
+    ensures { result ≡ is_declared_of root property.now.name (data_of property.now.tree) }
+{
+    match &property.tree {
+        Tree::Object(_) => !(root && is_envelope_name(property.name.as_str())),
+        _ => false,
+    }
+}
+
+fn is_required(schema: &Tree, name: &str) -> bool
+    ensures { result ≡ is_among name.now (texts_under (data_of schema.now) (codes "required")) }
+{
+    match schema.get("required") {
+        Some(Tree::List(names)) => has_text(names, name),
+        _ => false,
+    }
+}
+
+/// Whether a list has this text.
+fn has_text(items: &Items, name: &str) -> bool
+    ensures { result ≡ is_among name.now (texts_of items.now) }
+{
+    for item in &items.items {
+        if is_text(item, name) {
+            return true;
+        }
+    }
+    false
+}
+
+fn is_text(tree: &Tree, name: &str) -> bool
+    ensures { result ≡ is_among name.now (texts_of (item (data_of tree.now) no_items)) }
+{
+    match tree {
+        Tree::Text(text) => name == text.as_str(),
+        _ => false,
+    }
+}
+
+/// An equal default of a property, where it has one.
+fn copy_default(alloc: Global, property: &Tree) -> Result<Option<Tree>, Refused>
+    ensures ok { IfOk result (λ o. option_map data_of o ≡ under (data_of property.now) (codes "default")) }
+    ensures err { IfErr result (λ e. e ≡ NoMemory) }
+{
+    match property.get("default") {
+        Some(tree) => Ok(Some(tree.copy(alloc)?)),
+        None => Ok(None),
+    }
+}
+
+fn list_type(schema: &Tree) -> ListType
+    ensures { result ≡ list_type_named (text_under (data_of schema.now) (codes "x-kubernetes-list-type")) }
+{
+    match text(schema, "x-kubernetes-list-type") {
+        Some("set") => ListType::Set,
+        Some("map") => ListType::Map,
+        _ => ListType::Atomic,
+    }
+}
+
+fn map_type(schema: &Tree) -> MapType
+    ensures { result ≡ map_type_named (text_under (data_of schema.now) (codes "x-kubernetes-map-type")) }
+{
+    match text(schema, "x-kubernetes-map-type") {
+        Some("atomic") => MapType::Atomic,
+        _ => MapType::Granular,
+    }
+}
