@@ -1,29 +1,12 @@
 // What the program says of schemas that break rules, row by row.
-use crate::fakes::Limited;
-use crate::inputs::{InFault, Inputs};
-use crate::running::run;
-use jtree::Tree;
-use std::alloc::Global;
+use crate::fakes::{Limited, Shelf};
+use crate::trials::{Trial, definition, is_text, run_on, sides};
+use std::alloc::{AllocError, Global};
+use std::process::Abort;
 use std::test::Fail;
 
-/// The one document that there is, by any name.
-#[derive(Drop)]
-struct Only<'a> {
-    alloc: Global,
-    document: &'a str,
-}
-
-impl Inputs for Only<'_> {
-    fn tree(&mut self, _name: Option<&str>) -> Result<Tree, InFault> {
-        match Tree::from_bytes(self.alloc, self.document.as_bytes()) {
-            Ok(tree) => Ok(tree),
-            Err(fault) => Err(InFault::Document(fault)),
-        }
-    }
-}
-
 // The lines of a text, with bars between.
-fn lines_of(alloc: Global, text: &str) -> Result<String, Fail> {
+fn lines_of(alloc: Global, text: &str) -> Result<String, AllocError> {
     let mut joined = String::new(alloc);
     for line in text.lines() {
         if !joined.is_empty() {
@@ -34,29 +17,24 @@ fn lines_of(alloc: Global, text: &str) -> Result<String, Fail> {
     Ok(joined)
 }
 
-// The status, the lines of standard output, `/` and those of standard error, of a command on a definition whose one
-// version has this schema.
-fn said(alloc: Global, command: &str, schema: &str) -> Result<String, Fail> {
-    let mut document = String::from_str(
+// The status, the lines of standard output, `/` and those of standard error.
+fn answer(alloc: Global, trial: &Trial) -> Result<String, AllocError> {
+    let output = lines_of(alloc, trial.out.text())?;
+    let errors = lines_of(alloc, trial.err.text())?;
+    let status = trial.status;
+    format!(in alloc; "{status} {output} / {errors}")
+}
+
+// What is said of a command on a definition whose one version has this schema.
+fn said(alloc: Global, command: &str, schema: &str) -> Result<String, AllocError> {
+    let document = definition(alloc, schema)?;
+    let shelf = Shelf {
         alloc,
-        r#"{"apiVersion":"apiextensions.k8s.io/v1","kind":"CustomResourceDefinition","spec":{"group":"example.com","names":{"kind":"Widget"},"versions":[{"name":"v1","schema":{"openAPIV3Schema":"#,
-    )?;
-    document.push_str(schema)?;
-    document.push_str("}}]}}")?;
-    let mut only = Only {
-        alloc,
-        document: document.as_str(),
+        crd: document.as_str(),
+        pools: "",
     };
-    let mut words = Vec::new(alloc);
-    for word in ["crdx", command, "crd.json", "v1"] {
-        words.push(word.to_string(alloc)?)?;
-    }
-    let mut out = Limited::endless(alloc);
-    let mut err = Limited::endless(alloc);
-    let status = run(alloc, words.as_slice(), &mut only, &mut out, &mut err);
-    let output = lines_of(alloc, out.text())?;
-    let errors = lines_of(alloc, err.text())?;
-    Ok(format!(in alloc; "{status} {output} / {errors}")?)
+    let trial = run_on(alloc, command, shelf, Limited::endless(alloc))?;
+    answer(alloc, &trial)
 }
 
 // A schema, and what `check` says.
@@ -84,15 +62,17 @@ static CHECKS: &str =
 {"type":"object","definitions":1,"dependencies":1,"deprecated":1,"not":{"discriminator":1,"uniqueItems":true}} => 1 V05 "" keyword not supported | V05 "/not" keyword not supported | V06 "/not" uniqueItems is true / 
 {"type":"object","properties":{"a":{"type":"object","additionalProperties":true,"properties":{}},"b":{"type":"object","uniqueItems":false,"id":"","xml":{}}}} => 1 V08 "/properties/a" properties with additionalProperties | V05 "/properties/b" keyword not supported / "#;
 
+fn try_check(rt: &impl Abort, alloc: Global, row: &str) -> Result<(), Fail> {
+    let (schema, wanted) = sides(row)?;
+    let found = said(alloc, "check crd.json v1", schema)?;
+    is_text(rt, found.as_str(), wanted, "what is said", schema);
+    Ok(())
+}
+
 #[test]
 fn checks(rt: HostRuntime) -> Result<(), Fail> {
-    let alloc = rt.alloc();
     for row in CHECKS.lines() {
-        let Some((schema, wanted)) = row.split_once(" => ") else {
-            return Err(Fail::from("a row with no arrow"));
-        };
-        let found = said(alloc, "check", schema)?;
-        assert_eq!(rt; found.as_str(), wanted, "at {schema}");
+        try_check(&rt, rt.alloc(), row)?;
     }
     Ok(())
 }
@@ -100,14 +80,13 @@ fn checks(rt: HostRuntime) -> Result<(), Fail> {
 // Under `sample` violations go to standard error, before the pools are read.
 #[test]
 fn violations_of_samples(rt: HostRuntime) -> Result<(), Fail> {
-    let alloc = rt.alloc();
     let found = said(
-        alloc,
-        "sample",
+        rt.alloc(),
+        "sample crd.json v1",
         r#"{"type":"object","properties":{"a":{},"b":{"type":"string","uniqueItems":true}}}"#,
     )?;
     let wanted =
         r#"1  / V01 "/properties/a" missing type | V06 "/properties/b" uniqueItems is true"#;
-    assert_eq!(rt; found.as_str(), wanted);
+    is_text(&rt, found.as_str(), wanted, "what is said", "a sample");
     Ok(())
 }

@@ -1,8 +1,10 @@
-//! A sink for tests, which can fail.
+//! A sink for tests, which can fail, and documents.
 ghost use Rattle.std.specs.Prelude.{Some, ◌≡◌, IfOk};
 ghost use Rattle.crdx.specs.Sink.{failures_after};
 
+use crate::inputs::{InFault, Inputs};
 use crate::sink::{Sink, SinkFault};
+use jtree::Tree;
 use std::alloc::Global;
 use std::io::Write;
 
@@ -87,5 +89,27 @@ impl Sink for Limited {
             return Err(SinkFault::Failed);
         }
         Ok(())
+    }
+}
+
+/// Two documents by name. Another name cannot be opened.
+#[derive(Drop)]
+pub(crate) struct Shelf<'a> {
+    pub alloc: Global,
+    pub crd: &'a str,
+    pub pools: &'a str,
+}
+
+impl Inputs for Shelf<'_> {
+    fn tree(&mut self, name: Option<&str>) -> Result<Tree, InFault> {
+        let text = match name {
+            Some("crd.json") => self.crd,
+            Some("pools.json") => self.pools,
+            _ => return Err(InFault::Failed),
+        };
+        match Tree::from_bytes(self.alloc, text.as_bytes()) {
+            Ok(tree) => Ok(tree),
+            Err(fault) => Err(InFault::Document(fault)),
+        }
     }
 }

@@ -18,6 +18,8 @@ pub mod sink;
 pub mod stored;
 #[cfg(test)]
 mod tests;
+#[cfg(test)]
+mod trials;
 pub mod walk;
 pub mod words;
 

@@ -1,12 +1,11 @@
 // The program over documents and streams of memory, row by row: words, documents, and what is to come of them.
-use crate::enumerate::{EFault, page, pages_agree};
-use crate::fakes::Limited;
-use crate::inputs::{InFault, Inputs};
+use crate::enumerate::{EFault, Page, page, pages_agree};
+use crate::fakes::{Limited, Shelf};
 use crate::plan::{Plan, Pools};
-use crate::running::run;
 use crate::stored::{
-    accept, filling_by_name, fits_are_stored_over, pruning_by_level, validity_by_level,
+    Schema, accept, filling_by_name, fits_are_stored_over, pruning_by_level, validity_by_level,
 };
+use crate::trials::{Trial, holds, is_number, is_text, run_on};
 use crate::walk::{WFault, Walked, walk};
 use jtree::Tree;
 use schema::read_crd;
@@ -14,327 +13,243 @@ use std::alloc::{AllocError, Global};
 use std::process::Abort;
 use std::test::Fail;
 
-const WIDGET: &str =
-    r#"{"apiVersion":"apiextensions.k8s.io/v1","kind":"CustomResourceDefinition","spec":{"group":"example.org","names":{"kind":"Widget"},"versions":[{"name":"v1","schema":{"openAPIV3Schema":{"type":"object","properties":{"spec":{"type":"object","properties":{"a":{"type":"integer"},"b":{"type":"boolean"}}}}}}}]}}"#;
-
-const STRING_PROPERTY: &str =
-    r#"{"apiVersion":"apiextensions.k8s.io/v1","kind":"CustomResourceDefinition","spec":{"group":"example.org","names":{"kind":"Widget"},"versions":[{"name":"v1","schema":{"openAPIV3Schema":{"type":"object","properties":{"a":{"type":"string"}}}}}]}}"#;
-
-const NUMBER_REQUIRED: &str =
-    r#"{"apiVersion":"apiextensions.k8s.io/v1","kind":"CustomResourceDefinition","spec":{"group":"example.org","names":{"kind":"Widget"},"versions":[{"name":"v1","schema":{"openAPIV3Schema":{"type":"object","properties":{"a":{"type":"string","required":[1]}}}}}]}}"#;
-
-const FIVE_KEYS: &str =
-    r#"{"apiVersion":"apiextensions.k8s.io/v1","kind":"CustomResourceDefinition","spec":{"group":"example.org","names":{"kind":"Widget"},"versions":[{"name":"v1","schema":{"openAPIV3Schema":{"type":"object","properties":{"a":{"x-kubernetes-list-map-keys":["a","b","c","d","e"]}}}}}]}}"#;
-
-const WIDGET_IN_WORDS: &str =
-    r#"{"apiVersion":"apiextensions.k8s.io/v1","kind":"CustomResourceDefinition","spec":{"group":"example.org","names":{"kind":"Widget"},"versions":[{"name":"v1","schema":{"openAPIV3Schema":{"type":"object","description":"A widget.","properties":{"apiVersion":{"type":"string"},"kind":{"type":"string"},"metadata":{"type":"object"},"spec":{"type":"object","title":"What is wanted","properties":{"a":{"type":"integer","format":"int64","example":7},"b":{"type":"boolean","uniqueItems":false}}}}}}}]}}"#;
-
-const QUOTED_PROPERTY: &str =
-    r#"{"apiVersion":"apiextensions.k8s.io/v1","kind":"CustomResourceDefinition","spec":{"group":"example.org","names":{"kind":"Widget"},"versions":[{"name":"v1","schema":{"openAPIV3Schema":{"type":"object","properties":{"a\"/~é":{"type":"string"}}}}}]}}"#;
-
-const POOLS: &str = r#"{"integers":[0,1]}"#;
+/// Documents, a line each, behind their names.
+static DOCUMENTS: &str =
+    r#"widget {"apiVersion":"apiextensions.k8s.io/v1","kind":"CustomResourceDefinition","spec":{"group":"example.org","names":{"kind":"Widget"},"versions":[{"name":"v1","schema":{"openAPIV3Schema":{"type":"object","properties":{"spec":{"type":"object","properties":{"a":{"type":"integer"},"b":{"type":"boolean"}}}}}}}]}}
+widget-in-words {"apiVersion":"apiextensions.k8s.io/v1","kind":"CustomResourceDefinition","spec":{"group":"example.org","names":{"kind":"Widget"},"versions":[{"name":"v1","schema":{"openAPIV3Schema":{"type":"object","description":"A widget.","properties":{"apiVersion":{"type":"string"},"kind":{"type":"string"},"metadata":{"type":"object"},"spec":{"type":"object","title":"What is wanted","properties":{"a":{"type":"integer","format":"int64","example":7},"b":{"type":"boolean","uniqueItems":false}}}}}}}]}}
+string-property {"apiVersion":"apiextensions.k8s.io/v1","kind":"CustomResourceDefinition","spec":{"group":"example.org","names":{"kind":"Widget"},"versions":[{"name":"v1","schema":{"openAPIV3Schema":{"type":"object","properties":{"a":{"type":"string"}}}}}]}}
+quoted-property {"apiVersion":"apiextensions.k8s.io/v1","kind":"CustomResourceDefinition","spec":{"group":"example.org","names":{"kind":"Widget"},"versions":[{"name":"v1","schema":{"openAPIV3Schema":{"type":"object","properties":{"a\"/~é":{"type":"string"}}}}}]}}
+number-required {"apiVersion":"apiextensions.k8s.io/v1","kind":"CustomResourceDefinition","spec":{"group":"example.org","names":{"kind":"Widget"},"versions":[{"name":"v1","schema":{"openAPIV3Schema":{"type":"object","properties":{"a":{"type":"string","required":[1]}}}}}]}}
+five-keys {"apiVersion":"apiextensions.k8s.io/v1","kind":"CustomResourceDefinition","spec":{"group":"example.org","names":{"kind":"Widget"},"versions":[{"name":"v1","schema":{"openAPIV3Schema":{"type":"object","properties":{"a":{"x-kubernetes-list-map-keys":["a","b","c","d","e"]}}}}}]}}
+no-definition {"kind":"Widget"}
+cut {"apiVersion":"apiextensions.k8s.io/v1","kind":"CustomRes
+zero-and-one {"integers":[0,1]}
+repeated-and-negative {"integers":[5,-9223372036854775808,5,-1]}
+text-among-integers {"integers":[0,"x"]}
+fraction {"integers":[1.5]}
+past-64-bits {"integers":[9223372036854775808]}"#;
 
 const TEN_LINES: &str =
     "{}\n{\"spec\":{}}\n{\"spec\":{\"b\":false}}\n{\"spec\":{\"b\":true}}\n{\"spec\":{\"a\":0}}\n{\"spec\":{\"a\":1}}\n{\"spec\":{\"a\":0,\"b\":false}}\n{\"spec\":{\"a\":0,\"b\":true}}\n{\"spec\":{\"a\":1,\"b\":false}}\n{\"spec\":{\"a\":1,\"b\":true}}\n";
 
-const SIX_LINES: &str =
-    "{}\n{\"spec\":{}}\n{\"spec\":{\"b\":false}}\n{\"spec\":{\"b\":true}}\n{\"spec\":{\"a\":0}}\n{\"spec\":{\"a\":1}}\n";
-
 /// Words behind the program's name, two documents, and what is to come of them.
+#[derive(Drop)]
 struct Row<'a> {
     words: &'a str,
     crd: &'a str,
     pools: &'a str,
     out: &'a str,
     err: &'a str,
-    status: u8,
+    status: u64,
 }
 
-static ROWS: [Row<'static>; 21] = [
-    Row {
-        words: "sample crd.json v1 --pools pools.json --limit 4",
-        crd: WIDGET,
-        pools: POOLS,
-        out: TEN_LINES,
-        err: "crdx: end\n",
-        status: 0,
-    },
-    Row {
-        words: "sample crd.json v1 --pools pools.json --limit 1",
-        crd: WIDGET,
-        pools: POOLS,
-        out: "{}\n",
-        err: "crdx: end\n",
-        status: 0,
-    },
-    Row {
-        words: "sample crd.json v1 --pools pools.json --limit 2",
-        crd: WIDGET,
-        pools: POOLS,
-        out: "{}\n{\"spec\":{}}\n",
-        err: "crdx: end\n",
-        status: 0,
-    },
-    Row {
-        words: "sample crd.json v1 --pools pools.json --limit 3",
-        crd: WIDGET,
-        pools: POOLS,
-        out: SIX_LINES,
-        err: "crdx: end\n",
-        status: 0,
-    },
-    Row {
-        words: "sample crd.json v1 --pools pools.json --limit 4 --count 6",
-        crd: WIDGET,
-        pools: POOLS,
-        out: SIX_LINES,
-        err: "crdx: more\n",
-        status: 0,
-    },
-    // all are listed and none is left, with a count that just fits
-    Row {
-        words: "sample crd.json v1 --pools pools.json --count 10",
-        crd: WIDGET,
-        pools: POOLS,
-        out: TEN_LINES,
-        err: "crdx: end\n",
-        status: 0,
-    },
-    // without pools there are truth values alone
-    Row {
-        words: "sample crd.json v1",
-        crd: WIDGET,
-        pools: POOLS,
-        out: "{}\n{\"spec\":{}}\n{\"spec\":{\"b\":false}}\n{\"spec\":{\"b\":true}}\n",
-        err: "crdx: end\n",
-        status: 0,
-    },
-    // entries that stand twice count once, and negative numbers come first
-    Row {
-        words: "sample crd.json v1 --pools pools.json --limit 3",
-        crd: WIDGET,
-        pools: r#"{"integers":[5,-9223372036854775808,5,-1]}"#,
-        out: "{}\n{\"spec\":{}}\n{\"spec\":{\"b\":false}}\n{\"spec\":{\"b\":true}}\n{\"spec\":{\"a\":-9223372036854775808}}\n{\"spec\":{\"a\":-1}}\n{\"spec\":{\"a\":5}}\n",
-        err: "crdx: end\n",
-        status: 0,
-    },
-    Row {
-        words: "sample crd.json v1 --pools pools.json --limit 4",
-        crd: STRING_PROPERTY,
-        pools: POOLS,
-        out: "",
-        err: "crdx: crd: S0 \"/properties/a\"\n",
-        status: 3,
-    },
-    // the envelope and keywords without effect change nothing
-    Row {
-        words: "sample crd.json v1 --pools pools.json --limit 4",
-        crd: WIDGET_IN_WORDS,
-        pools: POOLS,
-        out: TEN_LINES,
-        err: "crdx: end\n",
-        status: 0,
-    },
-    // the forms and limits of keywords are judged before what is known
-    Row {
-        words: "sample crd.json v1",
-        crd: NUMBER_REQUIRED,
-        pools: POOLS,
-        out: "",
-        err: "crdx: crd: S3 \"/properties/a/required/0\"\n",
-        status: 3,
-    },
-    Row {
-        words: "sample crd.json v1",
-        crd: FIVE_KEYS,
-        pools: POOLS,
-        out: "",
-        err: "crdx: crd: S4 \"/properties/a/x-kubernetes-list-map-keys\"\n",
-        status: 3,
-    },
-    // the pointer is a JSON text
-    Row {
-        words: "sample crd.json v1",
-        crd: QUOTED_PROPERTY,
-        pools: POOLS,
-        out: "",
-        err: "crdx: crd: S0 \"/properties/a\\\"~1~0é\"\n",
-        status: 3,
-    },
-    Row {
-        words: "sample crd.json v1 --pools pools.json",
-        crd: WIDGET,
-        pools: r#"{"integers":[1.5]}"#,
-        out: "",
-        err: "crdx: pools: J1\n",
-        status: 3,
-    },
-    Row {
-        words: "sample crd.json v1 --pools pools.json",
-        crd: WIDGET,
-        pools: r#"{"integers":[9223372036854775808]}"#,
-        out: "",
-        err: "crdx: pools: J1\n",
-        status: 3,
-    },
-    Row {
-        words: "sample crd.json v1 --pools pools.json",
-        crd: WIDGET,
-        pools: r#"{"integers":[0,"x"]}"#,
-        out: "",
-        err: "crdx: pools: P1 \"/integers/1\"\n",
-        status: 3,
-    },
-    // cut in the middle; the CustomResourceDefinition is judged before the pools
-    Row {
-        words: "sample crd.json v1 --pools pools.json",
-        crd: r#"{"apiVersion":"apiextensions.k8s.io/v1","kind":"CustomRes"#,
-        pools: r#"{"integers":[1.5]}"#,
-        out: "",
-        err: "crdx: crd: J3\n",
-        status: 3,
-    },
-    Row {
-        words: "sample crd.json v1",
-        crd: r#"{"kind":"Widget"}"#,
-        pools: POOLS,
-        out: "",
-        err: "crdx: crd: S1\n",
-        status: 3,
-    },
-    Row {
-        words: "sample crd.json v2",
-        crd: WIDGET,
-        pools: POOLS,
-        out: "",
-        err: "crdx: crd: S2\n",
-        status: 3,
-    },
-    Row {
-        words: "sample nowhere.json v1",
-        crd: WIDGET,
-        pools: POOLS,
-        out: "",
-        err: "crdx: crd: read failed\n",
-        status: 4,
-    },
-    Row {
-        words: "sample crd.json v1 --pools nowhere.json",
-        crd: WIDGET,
-        pools: POOLS,
-        out: "",
-        err: "crdx: pools: read failed\n",
-        status: 4,
-    },
-];
+// Words, the names of the two documents, the lines of standard output and of standard error, and the status.
+//
+// With a count of 10 all are listed and none is left. Without pools there are truth values alone. Integers that stand
+// twice count once, and negative ones come first. The envelope and keywords without effect change nothing. The forms and
+// limits of keywords are judged before what is known. A pointer is written as a JSON text. A CustomResourceDefinition that
+// is cut in the middle is judged before the pools.
+static ROWS: &str =
+    r#"sample crd.json v1 --pools pools.json --limit 4 => widget => zero-and-one => {} | {"spec":{}} | {"spec":{"b":false}} | {"spec":{"b":true}} | {"spec":{"a":0}} | {"spec":{"a":1}} | {"spec":{"a":0,"b":false}} | {"spec":{"a":0,"b":true}} | {"spec":{"a":1,"b":false}} | {"spec":{"a":1,"b":true}} => crdx: end => 0
+sample crd.json v1 --pools pools.json --limit 1 => widget => zero-and-one => {} => crdx: end => 0
+sample crd.json v1 --pools pools.json --limit 2 => widget => zero-and-one => {} | {"spec":{}} => crdx: end => 0
+sample crd.json v1 --pools pools.json --limit 3 => widget => zero-and-one => {} | {"spec":{}} | {"spec":{"b":false}} | {"spec":{"b":true}} | {"spec":{"a":0}} | {"spec":{"a":1}} => crdx: end => 0
+sample crd.json v1 --pools pools.json --limit 4 --count 6 => widget => zero-and-one => {} | {"spec":{}} | {"spec":{"b":false}} | {"spec":{"b":true}} | {"spec":{"a":0}} | {"spec":{"a":1}} => crdx: more => 0
+sample crd.json v1 --pools pools.json --count 10 => widget => zero-and-one => {} | {"spec":{}} | {"spec":{"b":false}} | {"spec":{"b":true}} | {"spec":{"a":0}} | {"spec":{"a":1}} | {"spec":{"a":0,"b":false}} | {"spec":{"a":0,"b":true}} | {"spec":{"a":1,"b":false}} | {"spec":{"a":1,"b":true}} => crdx: end => 0
+sample crd.json v1 => widget => zero-and-one => {} | {"spec":{}} | {"spec":{"b":false}} | {"spec":{"b":true}} => crdx: end => 0
+sample crd.json v1 --pools pools.json --limit 3 => widget => repeated-and-negative => {} | {"spec":{}} | {"spec":{"b":false}} | {"spec":{"b":true}} | {"spec":{"a":-9223372036854775808}} | {"spec":{"a":-1}} | {"spec":{"a":5}} => crdx: end => 0
+sample crd.json v1 --pools pools.json --limit 4 => string-property => zero-and-one =>  => crdx: crd: S0 "/properties/a" => 3
+sample crd.json v1 --pools pools.json --limit 4 => widget-in-words => zero-and-one => {} | {"spec":{}} | {"spec":{"b":false}} | {"spec":{"b":true}} | {"spec":{"a":0}} | {"spec":{"a":1}} | {"spec":{"a":0,"b":false}} | {"spec":{"a":0,"b":true}} | {"spec":{"a":1,"b":false}} | {"spec":{"a":1,"b":true}} => crdx: end => 0
+sample crd.json v1 => number-required => zero-and-one =>  => crdx: crd: S3 "/properties/a/required/0" => 3
+sample crd.json v1 => five-keys => zero-and-one =>  => crdx: crd: S4 "/properties/a/x-kubernetes-list-map-keys" => 3
+sample crd.json v1 => quoted-property => zero-and-one =>  => crdx: crd: S0 "/properties/a\"~1~0é" => 3
+sample crd.json v1 --pools pools.json => widget => fraction =>  => crdx: pools: J1 => 3
+sample crd.json v1 --pools pools.json => widget => past-64-bits =>  => crdx: pools: J1 => 3
+sample crd.json v1 --pools pools.json => widget => text-among-integers =>  => crdx: pools: P1 "/integers/1" => 3
+sample crd.json v1 --pools pools.json => cut => fraction =>  => crdx: crd: J3 => 3
+sample crd.json v1 => no-definition => zero-and-one =>  => crdx: crd: S1 => 3
+sample crd.json v2 => widget => zero-and-one =>  => crdx: crd: S2 => 3
+sample nowhere.json v1 => widget => zero-and-one =>  => crdx: crd: read failed => 4
+sample crd.json v1 --pools nowhere.json => widget => zero-and-one =>  => crdx: pools: read failed => 4"#;
 
-/// Words that are refused, with status 2 and nothing on standard output.
-static MISTAKES: [&str; 10] = [
-    "",
-    "sample",
-    "sample crd.json",
-    "check crd.json",
-    "check crd.json v1 --count 1",
-    "sample crd.json v1 --limit 0",
-    "sample crd.json v1 --limit 64",
-    "sample crd.json v1 --count 0",
-    "sample crd.json v1 --count 10001",
-    "sample crd.json v1 --limit x",
-];
+/// Words that are refused, with status 2 and nothing on standard output. On the first line there are none.
+static MISTAKES: &str = "
+sample
+sample crd.json
+check crd.json
+check crd.json v1 --count 1
+sample crd.json v1 --limit 0
+sample crd.json v1 --limit 64
+sample crd.json v1 --count 0
+sample crd.json v1 --count 10001
+sample crd.json v1 --limit x";
 
-/// Two documents by name. Another name cannot be opened.
-#[derive(Drop)]
-struct Shelf<'a> {
-    alloc: Global,
-    crd: &'a str,
-    pools: &'a str,
+static HELP: &str = "--help
+sample --help
+help sample";
+
+const SAMPLE_OF_FOUR: &str = "sample crd.json v1 --pools pools.json --limit 4";
+
+/// What stands behind the name and a space, if the line begins so.
+fn behind<'a>(line: &'a str, name: &str) -> Option<&'a str> {
+    line.strip_prefix(name)?.strip_prefix(" ")
 }
 
-impl Inputs for Shelf<'_> {
-    fn tree(&mut self, name: Option<&str>) -> Result<Tree, InFault> {
-        let text = match name {
-            Some("crd.json") => self.crd,
-            Some("pools.json") => self.pools,
-            _ => return Err(InFault::Failed),
-        };
-        match Tree::from_bytes(self.alloc, text.as_bytes()) {
-            Ok(tree) => Ok(tree),
-            Err(fault) => Err(InFault::Document(fault)),
+fn document(name: &str) -> Option<&'static str> {
+    for line in DOCUMENTS.lines() {
+        let found = behind(line, name);
+        if found.is_some() {
+            return found;
         }
     }
+    None
 }
 
-/// The program's name, and the words.
-fn words_of(alloc: Global, words: &str) -> Result<Vec<String>, AllocError> {
-    let mut all = Vec::new(alloc);
-    all.push(String::from_str(alloc, "crdx")?)?;
-    for word in words.split_whitespace() {
-        all.push(String::from_str(alloc, word)?)?;
-    }
-    Ok(all)
-}
-
-fn try_row(rt: &impl Abort, alloc: Global, row: &Row<'_>) -> Result<(), AllocError> {
-    let words = words_of(alloc, row.words)?;
-    let mut shelf = Shelf {
+/// The two documents of these names.
+fn shelf(alloc: Global, crd: &str, pools: &str) -> Option<Shelf<'static>> {
+    Some(Shelf {
         alloc,
-        crd: row.crd,
-        pools: row.pools,
-    };
-    let mut out = Limited::endless(alloc);
-    let mut err = Limited::endless(alloc);
-    let status = run(alloc, words.as_slice(), &mut shelf, &mut out, &mut err);
-    let asked = row.words;
-    assert_eq!(rt; out.text(), row.out, "standard output of {asked}");
-    assert_eq!(rt; err.text(), row.err, "standard error of {asked}");
-    assert_eq!(rt; status, row.status, "status of {asked}");
+        crd: document(crd)?,
+        pools: document(pools)?,
+    })
+}
+
+/// A run over the documents of these names.
+fn try_on(alloc: Global, words: &str, crd: &str, pools: &str, out: Limited) -> Result<Trial, Fail> {
+    match shelf(alloc, crd, pools) {
+        Some(shelf) => Ok(run_on(alloc, words, shelf, out)?),
+        None => Err(Fail::from("no document of this name")),
+    }
+}
+
+fn try_widget(alloc: Global, words: &str, out: Limited) -> Result<Trial, Fail> {
+    try_on(alloc, words, "widget", "zero-and-one", out)
+}
+
+/// The lines that stand with bars between.
+fn lines_of(alloc: Global, joined: &str) -> Result<String, AllocError> {
+    let mut text = String::new(alloc);
+    if joined.is_empty() {
+        return Ok(text);
+    }
+    for line in joined.split(" | ") {
+        text.push_str(line)?;
+        text.push('\n')?;
+    }
+    Ok(text)
+}
+
+fn row_of(line: &str) -> Option<Row<'_>> {
+    let (words, rest) = line.split_once(" => ")?;
+    let (crd, rest) = rest.split_once(" => ")?;
+    let (pools, rest) = rest.split_once(" => ")?;
+    let (out, rest) = rest.split_once(" => ")?;
+    let (err, status) = rest.split_once(" => ")?;
+    Some(Row {
+        words,
+        crd,
+        pools,
+        out,
+        err,
+        status: status.parse::<u64>().ok()?,
+    })
+}
+
+fn is_lines(
+    rt: &impl Abort,
+    alloc: Global,
+    found: &str,
+    joined: &str,
+    what: &str,
+    row: &str,
+) -> Result<(), AllocError> {
+    let wanted = lines_of(alloc, joined)?;
+    is_text(rt, found, wanted.as_str(), what, row);
+    Ok(())
+}
+
+fn is_answer(
+    rt: &impl Abort,
+    alloc: Global,
+    trial: &Trial,
+    row: &Row<'_>,
+) -> Result<(), AllocError> {
+    is_lines(
+        rt,
+        alloc,
+        trial.out.text(),
+        row.out,
+        "standard output",
+        row.words,
+    )?;
+    is_lines(
+        rt,
+        alloc,
+        trial.err.text(),
+        row.err,
+        "standard error",
+        row.words,
+    )?;
+    is_number(rt, trial.status as u64, row.status, "the status", row.words);
+    Ok(())
+}
+
+fn try_row(rt: &impl Abort, alloc: Global, row: &Row<'_>) -> Result<(), Fail> {
+    let out = Limited::endless(alloc);
+    let trial = try_on(alloc, row.words, row.crd, row.pools, out)?;
+    is_answer(rt, alloc, &trial, row)?;
     Ok(())
 }
 
 #[test]
 fn rows(rt: HostRuntime) -> Result<(), Fail> {
-    for row in &ROWS {
-        try_row(&rt, rt.alloc(), row)?;
+    for line in ROWS.lines() {
+        match row_of(line) {
+            Some(row) => try_row(&rt, rt.alloc(), &row)?,
+            None => return Err(Fail::from("a row without its six columns")),
+        }
     }
+    Ok(())
+}
+
+fn try_mistake(rt: &impl Abort, alloc: Global, asked: &str) -> Result<(), Fail> {
+    let trial = try_widget(alloc, asked, Limited::endless(alloc))?;
+    is_number(rt, trial.status as u64, 2, "the status", asked);
+    is_text(rt, trial.out.text(), "", "standard output", asked);
+    holds(
+        rt,
+        !trial.err.taken.is_empty(),
+        "some standard error",
+        asked,
+    );
     Ok(())
 }
 
 #[test]
 fn mistakes(rt: HostRuntime) -> Result<(), Fail> {
-    let alloc = rt.alloc();
-    for asked in MISTAKES {
-        let words = words_of(alloc, asked)?;
-        let mut shelf = Shelf {
-            alloc,
-            crd: WIDGET,
-            pools: POOLS,
-        };
-        let mut out = Limited::endless(alloc);
-        let mut err = Limited::endless(alloc);
-        let status = run(alloc, words.as_slice(), &mut shelf, &mut out, &mut err);
-        assert_eq!(rt; status, 2, "status of {asked}");
-        assert_eq!(rt; out.text(), "", "standard output of {asked}");
-        assert!(rt; !err.taken.is_empty(), "standard error of {asked}");
+    for asked in MISTAKES.lines() {
+        try_mistake(&rt, rt.alloc(), asked)?;
     }
+    Ok(())
+}
+
+fn try_help(rt: &impl Abort, alloc: Global, asked: &str) -> Result<(), Fail> {
+    let trial = try_widget(alloc, asked, Limited::endless(alloc))?;
+    is_number(rt, trial.status as u64, 0, "the status", asked);
+    is_text(rt, trial.err.text(), "", "standard error", asked);
+    holds(
+        rt,
+        !trial.out.taken.is_empty(),
+        "some standard output",
+        asked,
+    );
     Ok(())
 }
 
 #[test]
 fn help(rt: HostRuntime) -> Result<(), Fail> {
-    let alloc = rt.alloc();
-    for asked in ["--help", "sample --help", "help sample"] {
-        let words = words_of(alloc, asked)?;
-        let mut shelf = Shelf {
-            alloc,
-            crd: WIDGET,
-            pools: POOLS,
-        };
-        let mut out = Limited::endless(alloc);
-        let mut err = Limited::endless(alloc);
-        let status = run(alloc, words.as_slice(), &mut shelf, &mut out, &mut err);
-        assert_eq!(rt; status, 0, "status of {asked}");
-        assert_eq!(rt; err.text(), "", "standard error of {asked}");
-        assert!(rt; !out.taken.is_empty(), "standard output of {asked}");
+    for asked in HELP.lines() {
+        try_help(&rt, rt.alloc(), asked)?;
     }
     Ok(())
 }
@@ -352,33 +267,52 @@ fn lines_within(taken: usize) -> usize {
     lines
 }
 
-/// Standard output takes so many bytes, at most so many a call, and then fails.
-fn try_broken(rt: &impl Abort, alloc: Global, room: usize, most: usize) -> Result<(), AllocError> {
-    let words = words_of(alloc, "sample crd.json v1 --pools pools.json --limit 4")?;
-    let mut shelf = Shelf {
-        alloc,
-        crd: WIDGET,
-        pools: POOLS,
-    };
-    let mut out = Limited::new(alloc, room, most, false);
-    let mut err = Limited::endless(alloc);
-    let status = run(alloc, words.as_slice(), &mut shelf, &mut out, &mut err);
-    let lines = lines_within(room);
+/// As much of the ten lines is out as there is room for.
+fn is_beginning(rt: &impl Abort, taken: &[u8], room: usize) {
     let whole = TEN_LINES.as_bytes();
-    let taken = room.min(whole.len());
-    assert_eq!(rt;
-        out.taken.as_slice(),
-        &whole[..taken],
-        "what {room} bytes hold"
+    let most = room.min(whole.len());
+    holds(
+        rt,
+        taken == &whole[..most],
+        "the output of so many bytes",
+        room,
     );
+}
+
+fn is_ending(rt: &impl Abort, trial: &Trial, err: &str, status: u64, room: usize) {
+    is_text(
+        rt,
+        trial.err.text(),
+        err,
+        "standard error, with bytes",
+        room,
+    );
+    is_number(
+        rt,
+        trial.status as u64,
+        status,
+        "the status, with bytes",
+        room,
+    );
+}
+
+fn is_broken(rt: &impl Abort, alloc: Global, trial: &Trial, room: usize) -> Result<(), AllocError> {
+    let lines = lines_within(room);
     if lines == 10 {
-        assert_eq!(rt; err.text(), "crdx: end\n", "with {room} bytes");
-        assert_eq!(rt; status, 0, "with {room} bytes");
+        is_ending(rt, trial, "crdx: end\n", 0, room);
     } else {
         let line = format!(in alloc; "crdx: write failed after {lines} lines\n")?;
-        assert_eq!(rt; err.text(), line.as_str(), "with {room} bytes");
-        assert_eq!(rt; status, 4, "with {room} bytes");
+        is_ending(rt, trial, line.as_str(), 4, room);
     }
+    Ok(())
+}
+
+/// Standard output takes so many bytes, at most so many a call, and then fails.
+fn try_broken(rt: &impl Abort, alloc: Global, room: usize, most: usize) -> Result<(), Fail> {
+    let out = Limited::new(alloc, room, most, false);
+    let trial = try_widget(alloc, SAMPLE_OF_FOUR, out)?;
+    is_beginning(rt, trial.out.taken.as_slice(), room);
+    is_broken(rt, alloc, &trial, room)?;
     Ok(())
 }
 
@@ -400,111 +334,240 @@ fn broken_writes(rt: HostRuntime) -> Result<(), Fail> {
 #[test]
 fn broken_flush(rt: HostRuntime) -> Result<(), Fail> {
     let alloc = rt.alloc();
-    let words = words_of(alloc, "sample crd.json v1 --pools pools.json --limit 4")?;
-    let mut shelf = Shelf {
-        alloc,
-        crd: WIDGET,
-        pools: POOLS,
-    };
     let mut out = Limited::endless(alloc);
     out.flush_fails = true;
-    let mut err = Limited::endless(alloc);
-    let status = run(alloc, words.as_slice(), &mut shelf, &mut out, &mut err);
-    assert_eq!(rt; out.text(), TEN_LINES);
-    assert_eq!(rt; err.text(), "crdx: write failed after 10 lines\n");
-    assert_eq!(rt; status, 4);
+    let trial = try_widget(alloc, SAMPLE_OF_FOUR, out)?;
+    let asked = "a flush that fails";
+    is_text(&rt, trial.out.text(), TEN_LINES, "standard output", asked);
+    is_text(
+        &rt,
+        trial.err.text(),
+        "crdx: write failed after 10 lines\n",
+        "standard error",
+        asked,
+    );
+    is_number(&rt, trial.status as u64, 4, "the status", asked);
     Ok(())
 }
 
-fn plan_of(alloc: Global, crd: &str, pools: &str, limit: u32) -> Option<Plan> {
-    let crd = Tree::from_bytes(alloc, crd.as_bytes()).ok()?;
-    let pools = Tree::from_bytes(alloc, pools.as_bytes()).ok()?;
-    let crd = read_crd(alloc, &crd, "v1").ok()?;
-    let schema = accept(alloc, crd.raw).ok()?;
-    let pools = Pools::read(alloc, &pools).ok()?;
+fn widget_schema(alloc: Global) -> Option<Schema> {
+    let document = Tree::from_bytes(alloc, document("widget")?.as_bytes()).ok()?;
+    let crd = read_crd(alloc, &document, "v1").ok()?;
+    accept(alloc, crd.raw).ok()
+}
+
+fn zero_and_one(alloc: Global) -> Option<Pools> {
+    let document = Tree::from_bytes(alloc, document("zero-and-one")?.as_bytes()).ok()?;
+    Pools::read(alloc, &document).ok()
+}
+
+fn widget_plan(alloc: Global, limit: u32) -> Option<Plan> {
+    let schema = widget_schema(alloc)?;
+    let pools = zero_and_one(alloc)?;
     Plan::new(schema, pools, limit).ok()
+}
+
+/// How far pages have come: their lines, and their last item.
+#[derive(Drop)]
+struct Reached {
+    written: String,
+    last: Option<Tree>,
+}
+
+fn reach(alloc: Global, item: &Tree, reached: &mut Reached) -> Result<(), Fail> {
+    let line = item.to_text(alloc)?;
+    reached.written.push_str(line.as_str())?;
+    reached.written.push('\n')?;
+    reached.last = Some(item.copy(alloc)?);
+    Ok(())
+}
+
+/// The next page of three has so many items.
+fn try_page(
+    rt: &impl Abort,
+    alloc: Global,
+    plan: &Plan,
+    reached: &mut Reached,
+    items: u64,
+    end: bool,
+) -> Result<(), Fail> {
+    let page = page(alloc, plan, reached.last.as_ref(), 3)?;
+    let written = reached.written.as_str();
+    is_number(
+        rt,
+        page.items.len() as u64,
+        items,
+        "the items behind",
+        written,
+    );
+    holds(rt, page.end == end, "the end behind", written);
+    for item in &page.items {
+        reach(alloc, item, reached)?;
+    }
+    Ok(())
+}
+
+fn try_pages(
+    rt: &impl Abort,
+    alloc: Global,
+    plan: &Plan,
+    reached: &mut Reached,
+) -> Result<(), Fail> {
+    for (items, end) in [(3, false), (3, false), (3, false), (1, true), (0, true)] {
+        try_page(rt, alloc, plan, reached, items, end)?;
+    }
+    is_text(
+        rt,
+        reached.written.as_str(),
+        TEN_LINES,
+        "the lines",
+        "pages",
+    );
+    Ok(())
+}
+
+fn try_pages_of(rt: &impl Abort, alloc: Global, plan: &Plan) -> Result<(), Fail> {
+    let mut reached = Reached {
+        written: String::new(alloc),
+        last: None,
+    };
+    try_pages(rt, alloc, plan, &mut reached)
 }
 
 /// Pages of three, each past the last item of the one before: 3, 3, 3 and 1 items, and then none.
 #[test]
 fn pages(rt: HostRuntime) -> Result<(), Fail> {
-    let alloc = rt.alloc();
-    let plan = plan_of(alloc, WIDGET, POOLS, 4).ok_or("no plan")?;
-    let mut written = String::new(alloc);
-    let mut last: Option<Tree> = None;
-    for (items, end) in [(3, false), (3, false), (3, false), (1, true), (0, true)] {
-        let page = page(alloc, &plan, last.as_ref(), 3)?;
-        assert_eq!(rt; page.items.len(), items, "behind {written}");
-        assert_eq!(rt; page.end, end, "behind {written}");
-        for item in &page.items {
-            written.push_str(item.to_text(alloc)?.as_str())?;
-            written.push('\n')?;
-            last = Some(item.copy(alloc)?);
-        }
+    match widget_plan(rt.alloc(), 4) {
+        Some(plan) => try_pages_of(&rt, rt.alloc(), &plan),
+        None => Err(Fail::from("no plan")),
     }
-    assert_eq!(rt; written.as_str(), TEN_LINES);
+}
+
+static NO_SAMPLES: &str = r#"{"zzz":1}
+{"spec":{"a":2}}
+{"spec":{"a":null}}
+{"spec":{"a":true}}
+{"spec":[]}
+[]
+null"#;
+
+fn said_of_page(asked: Result<Page, EFault>) -> &'static str {
+    match asked {
+        Ok(_page) => "a page",
+        Err(EFault::NotASample) => "no sample",
+        Err(EFault::NoMemory) => "no memory",
+    }
+}
+
+fn try_place(
+    rt: &impl Abort,
+    alloc: Global,
+    plan: &Plan,
+    text: &str,
+    wanted: &str,
+) -> Result<(), Fail> {
+    let place = Tree::from_bytes(alloc, text.as_bytes())?;
+    let said = said_of_page(page(alloc, plan, Some(&place), 1));
+    is_text(rt, said, wanted, "what is said", text);
     Ok(())
+}
+
+fn try_no_samples(rt: &impl Abort, alloc: Global, plan: &Plan) -> Result<(), Fail> {
+    for text in NO_SAMPLES.lines() {
+        try_place(rt, alloc, plan, text, "no sample")?;
+    }
+    Ok(())
+}
+
+/// With one node less it is no sample either.
+fn try_small_plan(rt: &impl Abort, alloc: Global, plan: &Plan, small: &Plan) -> Result<(), Fail> {
+    let place = r#"{"spec":{"a":0,"b":false}}"#;
+    try_place(rt, alloc, small, place, "no sample")?;
+    try_place(rt, alloc, plan, place, "a page")
+}
+
+fn try_plans(rt: &impl Abort, alloc: Global, plan: &Plan, small: &Plan) -> Result<(), Fail> {
+    try_no_samples(rt, alloc, plan)?;
+    try_small_plan(rt, alloc, plan, small)
 }
 
 /// What is no sample is no place to go on from.
 #[test]
 fn places_that_are_no_samples(rt: HostRuntime) -> Result<(), Fail> {
-    let alloc = rt.alloc();
-    let plan = plan_of(alloc, WIDGET, POOLS, 4).ok_or("no plan")?;
-    for text in [
-        r#"{"zzz":1}"#,
-        r#"{"spec":{"a":2}}"#,
-        r#"{"spec":{"a":null}}"#,
-        r#"{"spec":{"a":true}}"#,
-        r#"{"spec":[]}"#,
-        "[]",
-        "null",
-    ] {
-        let place = Tree::from_bytes(alloc, text.as_bytes())?;
-        assert_eq!(rt;
-            page(alloc, &plan, Some(&place), 1).err(),
-            Some(EFault::NotASample),
-            "{text}"
-        );
+    match (widget_plan(rt.alloc(), 4), widget_plan(rt.alloc(), 3)) {
+        (Some(plan), Some(small)) => try_plans(&rt, rt.alloc(), &plan, &small),
+        _ => Err(Fail::from("no plan")),
     }
-    // with one node less it is no sample either
-    let small = plan_of(alloc, WIDGET, POOLS, 3).ok_or("no plan")?;
-    let place = Tree::from_bytes(alloc, br#"{"spec":{"a":0,"b":false}}"#)?;
-    assert_eq!(rt;
-        page(alloc, &small, Some(&place), 1).err(),
-        Some(EFault::NotASample)
+}
+
+/// A walk of at most so many lines leaves so many bytes, behind the third sample.
+fn try_walk(
+    rt: &impl Abort,
+    alloc: Global,
+    plan: &Plan,
+    total: u32,
+    wanted: Walked,
+    left: u64,
+) -> Result<(), Fail> {
+    let place = Tree::from_bytes(alloc, br#"{"spec":{"b":false}}"#)?;
+    let mut sink = Limited::endless(alloc);
+    let walked = walk(alloc, plan, Some(&place), total, &mut sink)?;
+    is_number(
+        rt,
+        walked.lines,
+        wanted.lines,
+        "the lines of a total",
+        total,
     );
-    assert!(rt; page(alloc, &plan, Some(&place), 1).is_ok());
+    holds(rt, walked.end == wanted.end, "the end of a total", total);
+    is_left(rt, sink.taken.as_slice(), left, total);
     Ok(())
 }
 
-/// A walk past the third sample, of as many lines as are left, of one less, of none, and of more.
-#[test]
-fn walks_from_a_place(rt: HostRuntime) -> Result<(), Fail> {
-    let alloc = rt.alloc();
-    let plan = plan_of(alloc, WIDGET, POOLS, 4).ok_or("no plan")?;
-    let place = Tree::from_bytes(alloc, br#"{"spec":{"b":false}}"#)?;
+fn is_left(rt: &impl Abort, taken: &[u8], left: u64, total: u32) {
+    let behind = &TEN_LINES.as_bytes()[36..];
+    is_number(rt, taken.len() as u64, left, "the bytes of a total", total);
+    holds(
+        rt,
+        behind.starts_with(taken),
+        "the output of a total",
+        total,
+    );
+}
+
+fn try_walks(rt: &impl Abort, alloc: Global, plan: &Plan) -> Result<(), Fail> {
     for (total, lines, end, left) in [
         (7, 7, true, 160),
         (6, 6, false, 134),
         (0, 0, false, 0),
         (u32::MAX, 7, true, 160),
     ] {
-        let mut sink = Limited::endless(alloc);
-        let walked = walk(alloc, &plan, Some(&place), total, &mut sink)?;
-        assert_eq!(rt; walked, Walked { lines, end }, "a total of {total}");
-        assert_eq!(rt; sink.taken.len(), left, "a total of {total}");
-        assert!(rt;
-            TEN_LINES.as_bytes()[36..].starts_with(sink.taken.as_slice()),
-            "a total of {total}"
-        );
+        try_walk(rt, alloc, plan, total, Walked { lines, end }, left)?;
     }
+    Ok(())
+}
+
+fn try_refused_walk(rt: &impl Abort, alloc: Global, plan: &Plan) -> Result<(), Fail> {
     let other = Tree::from_bytes(alloc, br#"{"zzz":1}"#)?;
     let mut sink = Limited::endless(alloc);
-    let refused = walk(alloc, &plan, Some(&other), 5, &mut sink);
-    assert_eq!(rt; refused, Err(WFault::NotASample));
-    assert_eq!(rt; sink.text(), "");
+    let refused = walk(alloc, plan, Some(&other), 5, &mut sink) == Err(WFault::NotASample);
+    holds(rt, refused, "the refusal", "a walk");
+    is_text(rt, sink.text(), "", "the output", "a walk");
     Ok(())
+}
+
+fn try_walks_of(rt: &impl Abort, alloc: Global, plan: &Plan) -> Result<(), Fail> {
+    try_walks(rt, alloc, plan)?;
+    try_refused_walk(rt, alloc, plan)
+}
+
+/// A walk past the third sample, of as many lines as are left, of one less, of none, and of more.
+#[test]
+fn walks_from_a_place(rt: HostRuntime) -> Result<(), Fail> {
+    match widget_plan(rt.alloc(), 4) {
+        Some(plan) => try_walks_of(&rt, rt.alloc(), &plan),
+        None => Err(Fail::from("no plan")),
+    }
 }
 
 /// The laws are no more than their contracts.

@@ -1,25 +1,31 @@
 // Schemas whose keywords have not their forms, or that pass a limit.
+use crate::trials::{definition, is_text, sides};
 use jtree::Tree;
-use schema::{SFault, read_crd};
-use std::alloc::Global;
+use schema::{Crd, SFault, read_crd};
+use std::alloc::{AllocError, Global};
 use std::process::Abort;
 use std::test::Fail;
 
 // `read`, or the code and the pointer of the fault, of a definition whose one version has this schema.
 fn reading(alloc: Global, schema: &str) -> Result<String, Fail> {
-    let mut document = String::from_str(
-        alloc,
-        r#"{"apiVersion":"apiextensions.k8s.io/v1","kind":"CustomResourceDefinition","spec":{"group":"example.com","names":{"kind":"Widget"},"versions":[{"name":"v1","schema":{"openAPIV3Schema":"#,
-    )?;
-    document.push_str(schema)?;
-    document.push_str("}}]}}")?;
+    let document = definition(alloc, schema)?;
     let document = Tree::from_bytes(alloc, document.as_bytes())?;
-    match read_crd(alloc, &document, "v1") {
-        Ok(_crd) => Ok(String::from_str(alloc, "read")?),
-        Err(SFault::KeywordForm(pointer)) => Ok(format!(in alloc; "S3 {pointer}")?),
-        Err(SFault::TooLarge(pointer)) => Ok(format!(in alloc; "S4 {pointer}")?),
-        Err(fault) => Ok(fault.to_string(alloc)?),
+    Ok(outcome(alloc, read_crd(alloc, &document, "v1"))?)
+}
+
+fn outcome(alloc: Global, read: Result<Crd, SFault>) -> Result<String, AllocError> {
+    match read {
+        Ok(_crd) => String::from_str(alloc, "read"),
+        Err(SFault::KeywordForm(pointer)) => coded(alloc, "S3 ", pointer.as_str()),
+        Err(SFault::TooLarge(pointer)) => coded(alloc, "S4 ", pointer.as_str()),
+        Err(fault) => fault.to_string(alloc),
     }
+}
+
+fn coded(alloc: Global, code: &str, pointer: &str) -> Result<String, AllocError> {
+    let mut text = String::from_str(alloc, code)?;
+    text.push_str(pointer)?;
+    Ok(text)
 }
 
 // A text, an entry so many times, with commas between, and another text.
@@ -29,7 +35,7 @@ fn repeated(
     entry: &str,
     count: usize,
     tail: &str,
-) -> Result<String, Fail> {
+) -> Result<String, AllocError> {
     let mut text = String::from_str(alloc, head)?;
     for i in 0..count {
         if i > 0 {
@@ -41,22 +47,26 @@ fn repeated(
     Ok(text)
 }
 
+fn push_property(alloc: Global, text: &mut String, i: usize) -> Result<(), AllocError> {
+    let property = format!(in alloc; r#""p{i}":{{}}"#)?;
+    text.push_str(property.as_str())
+}
+
 // Properties `p0`, `p1` and so on.
-fn properties(alloc: Global, count: usize) -> Result<String, Fail> {
+fn properties(alloc: Global, count: usize) -> Result<String, AllocError> {
     let mut text = String::from_str(alloc, r#"{"properties":{"q":{"properties":{"#)?;
     for i in 0..count {
         if i > 0 {
             text.push(',')?;
         }
-        let property = format!(in alloc; r#""p{i}":{{}}"#)?;
-        text.push_str(property.as_str())?;
+        push_property(alloc, &mut text, i)?;
     }
     text.push_str("}}}}")?;
     Ok(text)
 }
 
 // A schema of lists in lists, so many deep.
-fn lists(alloc: Global, depth: usize) -> Result<String, Fail> {
+fn lists(alloc: Global, depth: usize) -> Result<String, AllocError> {
     let mut text = String::new(alloc);
     for _ in 0..depth {
         text.push_str(r#"{"items":"#)?;
@@ -115,21 +125,28 @@ static FORMS: &str =
 {"properties":{"a/~":{"type":1}}} => S3 /properties/a~1~0/type
 {"additionalProperties":{"additionalProperties":{"required":[["x"]]}}} => S3 /additionalProperties/additionalProperties/required/0"#;
 
+fn try_form(rt: &impl Abort, alloc: Global, row: &str) -> Result<(), Fail> {
+    let (schema, wanted) = sides(row)?;
+    try_reading(rt, alloc, schema, wanted, row)
+}
+
 #[test]
 fn forms(rt: HostRuntime) -> Result<(), Fail> {
-    let alloc = rt.alloc();
     for row in FORMS.lines() {
-        let Some((schema, wanted)) = row.split_once(" => ") else {
-            return Err(Fail::from("a row with no arrow"));
-        };
-        assert_eq!(rt; reading(alloc, schema)?.as_str(), wanted, "at {row}");
+        try_form(&rt, rt.alloc(), row)?;
     }
     Ok(())
 }
 
-fn try_reading(rt: &impl Abort, alloc: Global, schema: &str, wanted: &str) -> Result<(), Fail> {
+fn try_reading(
+    rt: &impl Abort,
+    alloc: Global,
+    schema: &str,
+    wanted: &str,
+    row: &str,
+) -> Result<(), Fail> {
     let found = reading(alloc, schema)?;
-    assert_eq!(rt; found.as_str(), wanted, "of a schema at a limit");
+    is_text(rt, found.as_str(), wanted, "what is read", row);
     Ok(())
 }
 
@@ -139,51 +156,100 @@ static LIMITS: &str = r#"{"anyOf":[ ],"minimum":0} {} 511 S4 /anyOf/511
 {"not":{"x-kubernetes-list-map-keys":[ ]}} "k" 4 S4 /not/x-kubernetes-list-map-keys
 {"required":[ ]} "k" 32 S4 /required"#;
 
-fn try_limit(rt: &impl Abort, alloc: Global, row: &str) -> Result<(), Fail> {
-    let mut words = row.splitn(5, ' ');
-    let head = words.next().unwrap_or("");
-    let tail = words.next().unwrap_or("");
-    let entry = words.next().unwrap_or("");
-    let most = words.next().unwrap_or("").parse::<usize>().unwrap_or(0);
-    let wanted = words.next().unwrap_or("");
-    let full = repeated(alloc, head, entry, most, tail)?;
-    try_reading(rt, alloc, full.as_str(), "read")?;
-    let past = repeated(alloc, head, entry, most.saturating_add(1), tail)?;
-    try_reading(rt, alloc, past.as_str(), wanted)
+#[derive(Drop)]
+struct Limit<'a> {
+    head: &'a str,
+    tail: &'a str,
+    entry: &'a str,
+    most: usize,
+    wanted: &'a str,
+}
+
+fn limit_of(row: &str) -> Option<Limit<'_>> {
+    let (head, rest) = row.split_once(" ")?;
+    let (tail, rest) = rest.split_once(" ")?;
+    let (entry, rest) = rest.split_once(" ")?;
+    let (most, wanted) = rest.split_once(" ")?;
+    Some(Limit {
+        head,
+        tail,
+        entry,
+        most: most.parse::<usize>().ok()?,
+        wanted,
+    })
+}
+
+fn try_entries(
+    rt: &impl Abort,
+    alloc: Global,
+    limit: &Limit<'_>,
+    count: usize,
+    wanted: &str,
+) -> Result<(), Fail> {
+    let schema = repeated(alloc, limit.head, limit.entry, count, limit.tail)?;
+    try_reading(rt, alloc, schema.as_str(), wanted, limit.head)
+}
+
+fn try_limit(rt: &impl Abort, alloc: Global, limit: &Limit<'_>) -> Result<(), Fail> {
+    try_entries(rt, alloc, limit, limit.most, "read")?;
+    try_entries(rt, alloc, limit, limit.most.saturating_add(1), limit.wanted)
 }
 
 #[test]
 fn limits(rt: HostRuntime) -> Result<(), Fail> {
     for row in LIMITS.lines() {
-        try_limit(&rt, rt.alloc(), row)?;
+        match limit_of(row) {
+            Some(limit) => try_limit(&rt, rt.alloc(), &limit)?,
+            None => return Err(Fail::from("a row without its five columns")),
+        }
     }
     Ok(())
 }
 
+fn try_properties(rt: &impl Abort, alloc: Global, count: usize, wanted: &str) -> Result<(), Fail> {
+    let schema = properties(alloc, count)?;
+    try_reading(rt, alloc, schema.as_str(), wanted, "properties")
+}
+
 #[test]
 fn properties_at_the_limit(rt: HostRuntime) -> Result<(), Fail> {
-    let alloc = rt.alloc();
-    try_reading(&rt, alloc, properties(alloc, 32)?.as_str(), "read")?;
-    let past = properties(alloc, 33)?;
-    try_reading(&rt, alloc, past.as_str(), "S4 /properties/q/properties")
+    try_properties(&rt, rt.alloc(), 32, "read")?;
+    try_properties(&rt, rt.alloc(), 33, "S4 /properties/q/properties")
+}
+
+fn try_lists(rt: &impl Abort, alloc: Global, depth: usize, wanted: &str) -> Result<(), Fail> {
+    let schema = lists(alloc, depth)?;
+    try_reading(rt, alloc, schema.as_str(), wanted, "lists in lists")
 }
 
 #[test]
 fn steps_at_the_limit(rt: HostRuntime) -> Result<(), Fail> {
-    let alloc = rt.alloc();
-    try_reading(&rt, alloc, lists(alloc, 24)?.as_str(), "read")?;
-    let past = lists(alloc, 60)?;
-    let wanted =
-        "S4 /items/items/items/items/items/items/items/items/items/items/items/items/items/items/items/items/items/items/items/items/items/items/items/items/items";
-    try_reading(&rt, alloc, past.as_str(), wanted)
+    try_lists(&rt, rt.alloc(), 24, "read")?;
+    try_lists(
+        &rt,
+        rt.alloc(),
+        60,
+        "S4 /items/items/items/items/items/items/items/items/items/items/items/items/items/items/items/items/items/items/items/items/items/items/items/items/items",
+    )
 }
 
 // Forms are judged before limits, and the first limit in path order is named.
 #[test]
 fn first_limits(rt: HostRuntime) -> Result<(), Fail> {
-    let alloc = rt.alloc();
-    let formless = repeated(alloc, r#"{"enum":["#, "1", 65, r#"],"type":1}"#)?;
-    try_reading(&rt, alloc, formless.as_str(), "S3 /type")?;
-    let wide = repeated(alloc, r#"{"anyOf":["#, "{}", 600, r#"],"enum":[]}"#)?;
-    try_reading(&rt, alloc, wide.as_str(), "S4 /anyOf/511")
+    let formless = Limit {
+        head: r#"{"enum":["#,
+        tail: r#"],"type":1}"#,
+        entry: "1",
+        most: 65,
+        wanted: "S3 /type",
+    };
+    let wide = Limit {
+        head: r#"{"anyOf":["#,
+        tail: r#"],"enum":[]}"#,
+        entry: "{}",
+        most: 600,
+        wanted: "S4 /anyOf/511",
+    };
+    try_entries(&rt, rt.alloc(), &formless, formless.most, formless.wanted)?;
+    try_entries(&rt, rt.alloc(), &wide, wide.most, wide.wanted)
 }

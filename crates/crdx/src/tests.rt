@@ -1,33 +1,32 @@
 use crate::plan::{PFault, Pools};
-use crate::stored::{Node, Refused, ScalarKind, accept};
+use crate::stored::{Field, Fields, Node, Refused, ScalarKind, accept};
+use crate::trials::{definition, is_text, sides};
 use jtree::Tree;
-use schema::{RawSchema, read_crd};
-use std::alloc::Global;
+use schema::{Crd, RawSchema, read_crd};
+use std::alloc::{AllocError, Global};
 use std::process::Abort;
 use std::test::Fail;
 
+fn said_of_crd(alloc: Global, crd: &Crd) -> Result<String, Fail> {
+    let schema = crd.raw.tree().to_text(alloc)?;
+    let group = crd.group.as_str();
+    let kind = crd.kind.as_str();
+    let version = crd.version.as_str();
+    Ok(format!(in alloc; "{group} {kind} {version} {schema}")?)
+}
+
 // The group, the kind, the version and the schema that are read, or the fault.
-fn read(alloc: Global, document: &str, version: &str) -> Result<String, Fail> {
+fn read(alloc: Global, document: &str) -> Result<String, Fail> {
     let document = Tree::from_bytes(alloc, document.as_bytes())?;
-    match read_crd(alloc, &document, version) {
-        Ok(crd) => {
-            let schema = crd.raw.tree().to_text(alloc)?;
-            Ok(format!(in alloc;
-                "{} {} {} {schema}",
-                crd.group.as_str(),
-                crd.kind.as_str(),
-                crd.version.as_str()
-            )?)
-        }
+    match read_crd(alloc, &document, "v1") {
+        Ok(crd) => said_of_crd(alloc, &crd),
         Err(fault) => Ok(fault.to_string(alloc)?),
     }
 }
 
 // The raw schema of a CustomResourceDefinition whose one version has this schema.
 fn raw_schema(alloc: Global, schema: &str) -> Result<RawSchema, Fail> {
-    let document = format!(in alloc;
-        r#"{{"apiVersion":"apiextensions.k8s.io/v1","kind":"CustomResourceDefinition","spec":{{"group":"example.com","names":{{"kind":"Widget"}},"versions":[{{"name":"v1","schema":{{"openAPIV3Schema":{schema}}}}}]}}}}"#
-    )?;
+    let document = definition(alloc, schema)?;
     let document = Tree::from_bytes(alloc, document.as_bytes())?;
     match read_crd(alloc, &document, "v1") {
         Ok(crd) => Ok(crd.raw),
@@ -35,38 +34,49 @@ fn raw_schema(alloc: Global, schema: &str) -> Result<RawSchema, Fail> {
     }
 }
 
+// A code, a space and a pointer.
+fn pointed(alloc: Global, code: &str, pointer: &str) -> Result<String, AllocError> {
+    let mut text = String::from_str(alloc, code)?;
+    text.push(' ')?;
+    text.push_str(pointer)?;
+    Ok(text)
+}
+
+fn said_of_refusal(alloc: Global, fault: &Refused) -> Result<String, AllocError> {
+    let code = fault.to_string(alloc)?;
+    match fault {
+        Refused::NotYet(pointer) => pointed(alloc, code.as_str(), pointer.as_str()),
+        _ => Ok(code),
+    }
+}
+
 // `accepted`, or the fault with its pointer.
 fn acceptance(alloc: Global, schema: &str) -> Result<String, Fail> {
     match accept(alloc, raw_schema(alloc, schema)?) {
         Ok(_schema) => Ok(String::from_str(alloc, "accepted")?),
-        Err(Refused::NotYet(pointer)) => {
-            Ok(format!(in alloc; "{} {pointer}", Refused::NotYet(String::new(alloc)))?)
-        }
-        Err(fault) => Ok(fault.to_string(alloc)?),
+        Err(fault) => Ok(said_of_refusal(alloc, &fault)?),
+    }
+}
+
+fn said_of_pools(alloc: Global, fault: &PFault) -> Result<String, AllocError> {
+    let code = fault.to_string(alloc)?;
+    match fault {
+        PFault::Form(pointer) => pointed(alloc, code.as_str(), pointer.as_str()),
+        _ => Ok(code),
+    }
+}
+
+fn said_of_reading(alloc: Global, read: Result<Pools, PFault>) -> Result<String, AllocError> {
+    match read {
+        Ok(pools) => pools.integers().len().to_string(alloc),
+        Err(fault) => said_of_pools(alloc, &fault),
     }
 }
 
 // How many integers, or the fault with its pointer.
 fn pools(alloc: Global, document: &str) -> Result<String, Fail> {
     let document = Tree::from_bytes(alloc, document.as_bytes())?;
-    match Pools::read(alloc, &document) {
-        Ok(pools) => Ok(format!(in alloc; "{}", pools.integers().len())?),
-        Err(PFault::Form(pointer)) => {
-            Ok(format!(in alloc; "{} {pointer}", PFault::Form(String::new(alloc)))?)
-        }
-        Err(fault) => Ok(fault.to_string(alloc)?),
-    }
-}
-
-fn is_row(
-    rt: &impl Abort,
-    found: Result<String, Fail>,
-    wanted: &str,
-    row: &str,
-) -> Result<(), Fail> {
-    let found = found?;
-    assert_eq!(rt; found.as_str(), wanted, "at {row}");
-    Ok(())
+    Ok(said_of_reading(alloc, Pools::read(alloc, &document))?)
 }
 
 // A document, and what is read of its version `v1`.
@@ -112,54 +122,74 @@ static POOLS: &str = r#"{} => 0
 {"integers":[true],"strings":[]} => P1 /integers/0
 {"integers":[],"strings":[]} => P1 /strings"#;
 
+fn try_definition(rt: &impl Abort, alloc: Global, row: &str) -> Result<(), Fail> {
+    let (document, wanted) = sides(row)?;
+    let found = read(alloc, document)?;
+    is_text(rt, found.as_str(), wanted, "what is read", row);
+    Ok(())
+}
+
 #[test]
 fn definitions(rt: HostRuntime) -> Result<(), Fail> {
-    let alloc = rt.alloc();
     for row in DEFINITIONS.lines() {
-        let Some((document, wanted)) = row.split_once(" => ") else {
-            return Err(Fail::from("a row with no arrow"));
-        };
-        is_row(&rt, read(alloc, document, "v1"), wanted, row)?;
+        try_definition(&rt, rt.alloc(), row)?;
     }
+    Ok(())
+}
+
+fn try_schema(rt: &impl Abort, alloc: Global, row: &str) -> Result<(), Fail> {
+    let (schema, wanted) = sides(row)?;
+    let found = acceptance(alloc, schema)?;
+    is_text(rt, found.as_str(), wanted, "what is answered", row);
     Ok(())
 }
 
 #[test]
 fn schemas(rt: HostRuntime) -> Result<(), Fail> {
-    let alloc = rt.alloc();
     for row in SCHEMAS.lines() {
-        let Some((schema, wanted)) = row.split_once(" => ") else {
-            return Err(Fail::from("a row with no arrow"));
-        };
-        is_row(&rt, acceptance(alloc, schema), wanted, row)?;
+        try_schema(&rt, rt.alloc(), row)?;
     }
+    Ok(())
+}
+
+fn kind_of(node: &Node) -> &'static str {
+    match node {
+        Node::Scalar(ScalarKind::Boolean) => "boolean",
+        Node::Scalar(ScalarKind::Integer) => "integer",
+        Node::Object(_) => "object",
+    }
+}
+
+fn is_field(rt: &impl Abort, field: &Field, name: &str, kind: &str) {
+    is_text(rt, field.name.as_str(), name, "the name", kind);
+    is_text(rt, kind_of(&field.node), kind, "the kind", name);
+}
+
+fn has_two_fields(rt: &impl Abort, fields: &Fields) -> Result<(), Fail> {
+    let [first, second] = fields.fields.as_slice() else {
+        return Err(Fail::from("no two fields"));
+    };
+    is_field(rt, first, "a", "integer");
+    is_field(rt, second, "b", "object");
     Ok(())
 }
 
 // An object with an integer and an empty object.
 #[test]
 fn nodes(rt: HostRuntime) -> Result<(), Fail> {
-    let alloc = rt.alloc();
     let raw = raw_schema(
-        alloc,
+        rt.alloc(),
         r#"{"type":"object","properties":{"b":{"type":"object"},"a":{"type":"integer"}}}"#,
     )?;
-    let schema = accept(alloc, raw).expect(&rt, "a schema");
-    let Node::Object(fields) = schema.root() else {
-        return Err(Fail::from("no object"));
-    };
-    let [first, second] = fields.fields.as_slice() else {
-        return Err(Fail::from("no two fields"));
-    };
-    assert_eq!(rt; first.name.as_str(), "a");
-    assert!(rt; matches!(first.node, Node::Scalar(ScalarKind::Integer)));
-    assert_eq!(rt; second.name.as_str(), "b");
-    assert!(rt; matches!(second.node, Node::Object(_)));
-    Ok(())
+    let schema = accept(rt.alloc(), raw)?;
+    match schema.root() {
+        Node::Object(fields) => has_two_fields(&rt, fields),
+        Node::Scalar(_) => Err(Fail::from("no object")),
+    }
 }
 
 // A document with so many zeros, and then this entry.
-fn zeros(alloc: Global, count: usize, last: &str) -> Result<String, Fail> {
+fn zeros(alloc: Global, count: usize, last: &str) -> Result<String, AllocError> {
     let mut document = String::from_str(alloc, "{\"integers\":[")?;
     for _ in 0..count {
         document.push_str("0,")?;
@@ -169,32 +199,34 @@ fn zeros(alloc: Global, count: usize, last: &str) -> Result<String, Fail> {
     Ok(document)
 }
 
+fn try_pools(rt: &impl Abort, alloc: Global, document: &str, wanted: &str) -> Result<(), Fail> {
+    let found = pools(alloc, document)?;
+    is_text(rt, found.as_str(), wanted, "what is answered", document);
+    Ok(())
+}
+
+fn try_zeros(
+    rt: &impl Abort,
+    alloc: Global,
+    count: usize,
+    last: &str,
+    wanted: &str,
+) -> Result<(), Fail> {
+    let document = zeros(alloc, count, last)?;
+    try_pools(rt, alloc, document.as_str(), wanted)
+}
+
+fn try_pools_row(rt: &impl Abort, alloc: Global, row: &str) -> Result<(), Fail> {
+    let (document, wanted) = sides(row)?;
+    try_pools(rt, alloc, document, wanted)
+}
+
 #[test]
 fn pool_documents(rt: HostRuntime) -> Result<(), Fail> {
-    let alloc = rt.alloc();
     for row in POOLS.lines() {
-        let Some((document, wanted)) = row.split_once(" => ") else {
-            return Err(Fail::from("a row with no arrow"));
-        };
-        is_row(&rt, pools(alloc, document), wanted, row)?;
+        try_pools_row(&rt, rt.alloc(), row)?;
     }
-    is_row(
-        &rt,
-        pools(alloc, zeros(alloc, 63, "1")?.as_str()),
-        "64",
-        "64 integers",
-    )?;
-    is_row(
-        &rt,
-        pools(alloc, zeros(alloc, 64, "1")?.as_str()),
-        "P2",
-        "65 integers",
-    )?;
-    is_row(
-        &rt,
-        pools(alloc, zeros(alloc, 64, "\"x\"")?.as_str()),
-        "P1 /integers/64",
-        "65 entries with a text",
-    )?;
-    Ok(())
+    try_zeros(&rt, rt.alloc(), 63, "1", "64")?;
+    try_zeros(&rt, rt.alloc(), 64, "1", "P2")?;
+    try_zeros(&rt, rt.alloc(), 64, "\"x\"", "P1 /integers/64")
 }

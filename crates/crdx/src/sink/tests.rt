@@ -1,6 +1,8 @@
 use super::*;
+use crate::trials::{holds, is_number};
+use std::alloc::Global;
 use std::io;
-use std::test::Fail;
+use std::process::Abort;
 
 /// A writer that takes nothing or fails, and does not flush.
 #[derive(Drop)]
@@ -22,22 +24,54 @@ impl Write for Broken {
     }
 }
 
-#[test]
-fn failures_are_counted(rt: HostRuntime) -> Result<(), Fail> {
-    let mut fails = Plain::new(Broken {
+fn is_failing(rt: &impl Abort) {
+    let mut sink = Plain::new(Broken {
         answers_zero: false,
     });
-    assert!(rt; fails.put(b"x").is_err());
-    assert!(rt; fails.flush().is_err());
-    assert_eq!(rt; fails.failures, 2);
-    let mut takes_nothing = Plain::new(Broken { answers_zero: true });
-    assert_eq!(rt; takes_nothing.put(b"x").unwrap_or(9), 0);
-    assert_eq!(rt; takes_nothing.put(b"").unwrap_or(9), 0);
-    assert_eq!(rt; takes_nothing.failures, 1);
-    let mut takes_all = Plain::new(Vec::new(rt.alloc()));
-    assert_eq!(rt; takes_all.put(b"xyz").unwrap_or(9), 3);
-    assert!(rt; takes_all.flush().is_ok());
-    assert_eq!(rt; takes_all.failures, 0);
-    assert_eq!(rt; takes_all.writer.as_slice(), b"xyz".as_slice());
-    Ok(())
+    holds(rt, sink.put(b"x").is_err(), "a write", "a sink that fails");
+    holds(rt, sink.flush().is_err(), "a flush", "a sink that fails");
+    is_number(rt, sink.failures, 2, "the failures", "a sink that fails");
+}
+
+fn is_count(rt: &impl Abort, put: Result<usize, SinkFault>, wanted: u64) {
+    is_number(rt, put.unwrap_or(9) as u64, wanted, "the count", "a write");
+}
+
+fn is_taking_nothing(rt: &impl Abort) {
+    let mut sink = Plain::new(Broken { answers_zero: true });
+    is_count(rt, sink.put(b"x"), 0);
+    is_count(rt, sink.put(b""), 0);
+    is_number(
+        rt,
+        sink.failures,
+        1,
+        "the failures",
+        "a sink that takes nothing",
+    );
+}
+
+fn is_taking_all(rt: &impl Abort, alloc: Global) {
+    let mut sink = Plain::new(Vec::new(alloc));
+    is_count(rt, sink.put(b"xyz"), 3);
+    holds(rt, sink.flush().is_ok(), "a flush", "a sink that takes all");
+    is_number(
+        rt,
+        sink.failures,
+        0,
+        "the failures",
+        "a sink that takes all",
+    );
+    holds(
+        rt,
+        sink.writer.as_slice() == b"xyz".as_slice(),
+        "the bytes",
+        "a sink that takes all",
+    );
+}
+
+#[test]
+fn failures_are_counted(rt: HostRuntime) {
+    is_failing(&rt);
+    is_taking_nothing(&rt);
+    is_taking_all(&rt, rt.alloc());
 }

@@ -1,4 +1,6 @@
 use super::*;
+use crate::trials::{is_text, sides};
+use std::process::Abort;
 use std::test::Fail;
 
 // A command line, and what it asks for: of a mistake the first line, of help the usage.
@@ -27,49 +29,62 @@ fn usage_of(text: &str) -> &str {
         .unwrap_or("no usage")
 }
 
-fn said(alloc: Global, outcome: Outcome<'_>) -> Result<String, Fail> {
-    let text = match outcome {
-        Outcome::Sample(words) => {
-            let SampleWords {
-                crd,
-                version,
-                pools,
-                limit,
-                count,
-            } = words;
-            let pools = pools.unwrap_or("-");
-            format!(in alloc; "{crd} {version} {pools} {limit} {count}")?
-        }
-        Outcome::Check(words) => {
-            let CheckWords { crd, version } = words;
-            format!(in alloc; "check {crd} {version}")?
-        }
-        Outcome::Help(text) => {
-            let usage = usage_of(text.as_str());
-            format!(in alloc; "help {usage}")?
-        }
-        Outcome::Mistake(text) => {
-            let line = text.lines().next().unwrap_or("");
-            line.to_string(alloc)?
-        }
-        Outcome::NoMemory => "out of memory".to_string(alloc)?,
-    };
-    Ok(text)
+fn said_of_sample(alloc: Global, words: &SampleWords<'_>) -> Result<String, AllocError> {
+    let SampleWords {
+        crd,
+        version,
+        pools,
+        limit,
+        count,
+    } = words;
+    let pools = pools.unwrap_or("-");
+    format!(in alloc; "{crd} {version} {pools} {limit} {count}")
+}
+
+fn said_of_check(alloc: Global, words: &CheckWords<'_>) -> Result<String, AllocError> {
+    let CheckWords { crd, version } = words;
+    format!(in alloc; "check {crd} {version}")
+}
+
+fn said_of_help(alloc: Global, text: &str) -> Result<String, AllocError> {
+    let usage = usage_of(text);
+    format!(in alloc; "help {usage}")
+}
+
+fn said(alloc: Global, outcome: Outcome<'_>) -> Result<String, AllocError> {
+    match outcome {
+        Outcome::Sample(words) => said_of_sample(alloc, &words),
+        Outcome::Check(words) => said_of_check(alloc, &words),
+        Outcome::Help(text) => said_of_help(alloc, text.as_str()),
+        Outcome::Mistake(text) => text.lines().next().unwrap_or("").to_string(alloc),
+        Outcome::NoMemory => "out of memory".to_string(alloc),
+    }
+}
+
+fn words_of(alloc: Global, line: &str) -> Result<Vec<String>, AllocError> {
+    let mut words = Vec::new(alloc);
+    for word in line.split(' ') {
+        words.push(word.to_string(alloc)?)?;
+    }
+    Ok(words)
+}
+
+fn said_of_line(alloc: Global, line: &str) -> Result<String, AllocError> {
+    let words = words_of(alloc, line)?;
+    said(alloc, parse_words(alloc, words.as_slice()))
+}
+
+fn try_row(rt: &impl Abort, alloc: Global, row: &str) -> Result<(), Fail> {
+    let (line, wanted) = sides(row)?;
+    let found = said_of_line(alloc, line)?;
+    is_text(rt, found.as_str(), wanted, "what is said", line);
+    Ok(())
 }
 
 #[test]
 fn rows(rt: HostRuntime) -> Result<(), Fail> {
-    let alloc = rt.alloc();
     for row in ROWS.lines() {
-        let Some((line, wanted)) = row.split_once(" => ") else {
-            return Err(Fail::from("a row with no arrow"));
-        };
-        let mut words = Vec::new(alloc);
-        for word in line.split(' ') {
-            words.push(word.to_string(alloc)?)?;
-        }
-        let found = said(alloc, parse_words(alloc, words.as_slice()))?;
-        assert_eq!(rt; found.as_str(), wanted, "at {line}");
+        try_row(&rt, rt.alloc(), row)?;
     }
     Ok(())
 }
