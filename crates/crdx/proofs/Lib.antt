@@ -14,3 +14,4 @@ pub mod PoolLemmas
 pub mod InputLemmas
 pub mod ShapeLemmas
 pub mod AcceptanceLemmas
+pub mod RunLemmas

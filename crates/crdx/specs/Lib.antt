@@ -30,3 +30,8 @@ pub mod Stopping
 pub mod Walk
 pub mod Phrases
 pub mod Ending
+pub mod Documents
+pub mod InputFault
+pub mod Asked
+pub mod Stops
+pub mod Answered

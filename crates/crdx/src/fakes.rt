@@ -1,5 +1,6 @@
 //! A sink for tests, which can fail, and documents.
-ghost use Rattle.std.specs.Prelude.{Some, ◌≡◌, IfOk};
+ghost use Rattle.std.specs.Prelude.{Some, ◌≡◌, ◌⊎◌, IfOk};
+ghost use Rattle.crdx.specs.InputFault.{IsReading};
 ghost use Rattle.crdx.specs.Sink.{failures_after};
 
 use crate::inputs::{InFault, Inputs};
@@ -101,6 +102,8 @@ pub(crate) struct Shelf<'a> {
 }
 
 impl Inputs for Shelf<'_> {
+    ghost has = { λ s name read. IsReading s.crd.now read ⊎ IsReading s.pools.now read };
+
     fn tree(&mut self, name: Option<&str>) -> Result<Tree, InFault> {
         let text = match name {
             Some("crd.json") => self.crd,

@@ -1,9 +1,13 @@
 //! Where documents come from.
 
-ghost use Rattle.std.specs.Prelude.{◌≡◌, ◌≢◌, ◌⊎◌, ◌<◌, length, Err, IfOk, IfSome};
-ghost use Rattle.jtree.specs.Reads.{Reads, most_bytes};
+ghost use Rattle.std.specs.Prelude.{◌≡◌, ◌≢◌, ◌⊎◌, ◌<◌, ℕ, List, Option, Result, length, Ok, Err, IfOk, IfErr, IfSome};
+ghost use Rattle.jtree.specs.Data.{Data};
+ghost use Rattle.jtree.specs.Reads.{Reads};
 ghost use Rattle.jtree.specs.View.{data_of};
 ghost use Rattle.jtree.specs.declared.fault.JFault.TheVariants.{TooLong, NoMemory};
+ghost use Rattle.crdx.specs.Documents.{file_name, AreAmong};
+ghost use Rattle.crdx.specs.InputFault.{IsInputFault, IsFaultOf};
+ghost use Rattle.jtree.specs.declared.fault.JFault.{JFault};
 ghost use Rattle.crdx.specs.declared.inputs.InFault.TheVariants.{Failed, Document};
 
 use jtree::{JFault, MOST_BYTES, Tree};
@@ -26,10 +30,16 @@ pub enum InFault {
 
 /// A place that has documents.
 pub trait Inputs {
+    // What stands under the name of a file, or is the standard input where there is no name: a document, or why there is none.
+    ghost has: { Self → Option (List ℕ) → Result Data JFault → Type 0 };
+
     /// The document of the file of this name, or of the standard input where there is no name.
     ///
     /// `Failed` where it cannot be opened or read, and `Document` where it is no document, or where memory is wanted.
-    fn tree(&mut self, name: Option<&str>) -> Result<Tree, InFault>;
+    fn tree(&mut self, name: Option<&str>) -> Result<Tree, InFault>
+        ensures document { IfOk result (λ t. has self.old (file_name name.entry) (Ok (data_of t))) }
+        ensures refused { IfErr result (IsInputFault (has self.old) (file_name name.entry)) }
+        ensures stays { AreAmong (has self.new) (has self.old) };
 }
 
 /// The files and the standard input of a runtime.
@@ -46,6 +56,9 @@ impl<'a, R> Outside<'a, R> {
 }
 
 impl<R: Files + Input + AllocGlobal> Inputs for Outside<'_, R> {
+    // Nothing is known of files.
+    ghost has = { λ _ _ _. Unit {0} };
+
     fn tree(&mut self, name: Option<&str>) -> Result<Tree, InFault> {
         let alloc = self.rt.alloc();
         match name {
@@ -61,8 +74,7 @@ impl<R: Files + Input + AllocGlobal> Inputs for Outside<'_, R> {
 /// The document that is all that the reader has left. Of a document that is too long no more is read than tells so.
 fn read_document<R: Read>(alloc: Global, reader: &mut R) -> Result<Tree, InFault>
     ensures ok { IfOk result (λ t. IfSome (R.remaining reader.old) (λ bytes. Reads bytes (data_of t))) }
-    ensures too_long { result ≡ Err (Document TooLong)
-        → IfSome (R.remaining reader.old) (λ bytes. most_bytes < length bytes) }
+    ensures err { IfErr result (λ e. IfSome (R.remaining reader.old) (λ bytes. IsFaultOf bytes e)) }
 {
     let mut bytes = Vec::new(alloc);
     match reader.take(MOST_BYTES as u64 + 1).read_to_end(&mut bytes) {

@@ -1,7 +1,22 @@
 //! The whole program.
 
-ghost use Rattle.std.specs.Prelude.{◌≡◌, ◌≤◌, ◌⊎◌};
+ghost use Rattle.std.specs.Prelude.{◌≡◌, ◌≤◌, ◌⊎◌, true, Some, None, Ok, map, IfOk, IfErr, OnOk, string_bytes, codes};
+ghost use Rattle.std.specs.Io.KnownBytes.{Appends, Keeps};
+ghost use Rattle.jtree.specs.Data.{Data};
+ghost use Rattle.jtree.specs.Data as tree;
+ghost use Rattle.jtree.specs.Text.{compact};
+ghost use Rattle.jtree.specs.View.{data_of};
+ghost use Rattle.schema.specs.Breaks.{told};
+ghost use Rattle.crdx.specs.Accepted.{IsNodeAt};
+ghost use Rattle.crdx.specs.Answered.{IsAnswered, told_line, told_lines};
+ghost use Rattle.crdx.specs.Stops.{IsUnreadStop, IsSchemaStop, IsPoolsStop, IsSampleStop, IsWriteStop};
+ghost use Rattle.crdx.specs.Asked.{IsAcceptedSchema, IsAsked, ArePools};
+ghost use Rattle.crdx.specs.Documents.{AreAmong};
 ghost use Rattle.crdx.specs.Ending.{status};
+ghost use Rattle.crdx.specs.Sample.{Question};
+ghost use Rattle.crdx.specs.Walk.{WritesPage};
+ghost use Rattle.crdx.specs.declared.words.Outcome.{Outcome};
+ghost use Rattle.crdx.specs.declared.words.Outcome.TheVariants.{Check, Sample};
 
 use crate::inputs::{InFault, Inputs};
 use crate::phrases::phrase;
@@ -168,24 +183,11 @@ pub fn run<I: Inputs, W: Sink, E: Sink>(
     out: &mut W,
     err: &mut E,
 ) -> u8
-    ensures { result ≤ 5 }
+    ensures { (outcome : Outcome) × IsAnswered (I.has inputs.old) outcome (W.taken out.old) (W.taken out.new) (W.failures out.old) (W.failures out.new) result }
 {
     match parse_words(alloc, words) {
-        Outcome::Check(words) => match check(alloc, &words, inputs, out) {
-            Ok(()) => 0,
-            Err(Stop::Violations(violations)) => match say_violations(alloc, &violations, out) {
-                Ok(()) => 1,
-                Err(stop) => report(alloc, &stop, err),
-            },
-            Err(stop) => report(alloc, &stop, err),
-        },
-        Outcome::Sample(words) => match sample(alloc, &words, inputs, out) {
-            Ok(walked) => {
-                let _ = put_all(err, line_of_end(&walked));
-                0
-            }
-            Err(stop) => report(alloc, &stop, err),
-        },
+        Outcome::Check(words) => answer_check(alloc, &words, inputs, out, err),
+        Outcome::Sample(words) => answer_sample(alloc, &words, inputs, out, err),
         Outcome::Help(text) => match say(out, text.as_bytes()) {
             Ok(()) => 0,
             Err(stop) => report(alloc, &stop, err),
@@ -198,13 +200,59 @@ pub fn run<I: Inputs, W: Sink, E: Sink>(
     }
 }
 
+fn answer_check<I: Inputs, W: Sink, E: Sink>(
+    alloc: Global,
+    words: &CheckWords<'_>,
+    inputs: &mut I,
+    out: &mut W,
+    err: &mut E,
+) -> u8
+    ensures { IsAnswered (I.has inputs.old) (Check words.now) (W.taken out.old) (W.taken out.new) (W.failures out.old) (W.failures out.new) result }
+{
+    let stop = match check(alloc, words, inputs, out) {
+        Ok(()) => return 0,
+        Err(stop) => stop,
+    };
+    match stop {
+        Stop::Violations(violations) => match say_violations(alloc, &violations, out) {
+            Ok(()) => 1,
+            Err(stop) => report(alloc, &stop, err),
+        },
+        other => report(alloc, &other, err),
+    }
+}
+
+fn answer_sample<I: Inputs, W: Sink, E: Sink>(
+    alloc: Global,
+    words: &SampleWords<'_>,
+    inputs: &mut I,
+    out: &mut W,
+    err: &mut E,
+) -> u8
+    ensures { IsAnswered (I.has inputs.old) (Sample words.now) (W.taken out.old) (W.taken out.new) (W.failures out.old) (W.failures out.new) result }
+{
+    match sample(alloc, words, inputs, out) {
+        Ok(walked) => {
+            let _ = put_all(err, line_of_end(&walked));
+            0
+        }
+        Err(stop) => report(alloc, &stop, err),
+    }
+}
+
 /// Says `structural` of a schema that is accepted.
 fn check<I: Inputs, W: Sink>(
     alloc: Global,
     words: &CheckWords<'_>,
     inputs: &mut I,
     out: &mut W,
-) -> Result<(), Stop> {
+) -> Result<(), Stop>
+    ensures accepted { OnOk result ((raw : Data) × IsAcceptedSchema (I.has inputs.old) words.now.crd.now words.now.version.now raw) }
+    ensures said { OnOk result (Appends (W.taken out.old) (W.taken out.new) (codes "structural\n")) }
+    ensures unfailed { OnOk result (W.failures out.new ≡ W.failures out.old) }
+    ensures stops { IfErr result (λ stop. (IsSchemaStop (I.has inputs.old) words.now.crd.now words.now.version.now stop × (out.new ≡ out.old))
+        ⊎ IsWriteStop (W.failures out.old) (W.failures out.new) stop) }
+{
     let _schema = schema_of(alloc, words.crd, words.version, inputs)?;
     say(out, b"structural\n")
 }
@@ -215,9 +263,15 @@ fn sample<I: Inputs, W: Sink>(
     words: &SampleWords<'_>,
     inputs: &mut I,
     out: &mut W,
-) -> Result<Walked, Stop> {
+) -> Result<Walked, Stop>
+    ensures sampled { IfOk result (λ walked. (q : Question) × IsAsked (I.has inputs.old) words.now q
+        × WritesPage q None words.now.count walked.lines walked.end (W.taken out.old) (W.taken out.new)) }
+    ensures unfailed { OnOk result (W.failures out.new ≡ W.failures out.old) }
+    ensures stops { IfErr result (λ stop. (IsSampleStop (I.has inputs.old) words.now stop × (out.new ≡ out.old))
+        ⊎ IsWriteStop (W.failures out.old) (W.failures out.new) stop) }
+{
     let schema = schema_of(alloc, words.crd, words.version, inputs)?;
-    let pools = pools_of(alloc, words, inputs)?;
+    let pools = pools_of(alloc, words.pools, inputs)?;
     let plan = Plan::new(schema, pools, words.limit)?;
     let walked = walk(alloc, &plan, None, words.count, out)?;
     match out.flush() {
@@ -231,25 +285,32 @@ fn schema_of<I: Inputs>(
     crd: &str,
     version: &str,
     inputs: &mut I,
-) -> Result<Schema, Stop> {
+) -> Result<Schema, Stop>
+    ensures accepted { IfOk result (λ schema. (raw : Data) × IsAcceptedSchema (I.has inputs.old) crd.now version.now raw × IsNodeAt true schema raw) }
+    ensures stops { IfErr result (IsSchemaStop (I.has inputs.old) crd.now version.now) }
+    ensures stays { AreAmong (I.has inputs.new) (I.has inputs.old) }
+{
     let document = document(inputs, Input::Crd, crd)?;
     let crd = read_crd(alloc, &document, version)?;
     Ok(accept(alloc, crd.raw)?)
 }
 
-/// The pools of the document that the words name, and empty pools where they name none.
-fn pools_of<I: Inputs>(
-    alloc: Global,
-    words: &SampleWords<'_>,
-    inputs: &mut I,
-) -> Result<Pools, Stop> {
-    match words.pools {
+/// The pools of the document of this name, and empty pools where there is no name.
+fn pools_of<I: Inputs>(alloc: Global, name: Option<&str>, inputs: &mut I) -> Result<Pools, Stop>
+    ensures ok { IfOk result (λ pools. ArePools (I.has inputs.old) name.entry pools) }
+    ensures stops { IfErr result (IsPoolsStop (I.has inputs.old) name.entry) }
+{
+    match name {
         Some(name) => Ok(Pools::read(alloc, &document(inputs, Input::Pools, name)?)?),
         None => Ok(Pools::new(alloc)),
     }
 }
 
-fn document<I: Inputs>(inputs: &mut I, input: Input, name: &str) -> Result<Tree, Stop> {
+fn document<I: Inputs>(inputs: &mut I, input: Input, name: &str) -> Result<Tree, Stop>
+    ensures ok { IfOk result (λ t. I.has inputs.old (Some name.now) (Ok (data_of t))) }
+    ensures stops { IfErr result (IsUnreadStop (I.has inputs.old) input name.now) }
+    ensures stays { AreAmong (I.has inputs.new) (I.has inputs.old) }
+{
     match inputs.tree(Some(name)) {
         Ok(tree) => Ok(tree),
         Err(InFault::Failed) => Err(Stop::Unread(input)),
@@ -259,7 +320,11 @@ fn document<I: Inputs>(inputs: &mut I, input: Input, name: &str) -> Result<Tree,
 }
 
 /// Writes a text that is no line of samples.
-fn say<W: Sink>(out: &mut W, text: &[u8]) -> Result<(), Stop> {
+fn say<W: Sink>(out: &mut W, text: &[u8]) -> Result<(), Stop>
+    ensures ok { OnOk result (Appends (W.taken out.old) (W.taken out.new) text.now) }
+    ensures unfailed { OnOk result (W.failures out.new ≡ W.failures out.old) }
+    ensures err { IfErr result (IsWriteStop (W.failures out.old) (W.failures out.new)) }
+{
     match put_all(out, text) {
         Ok(()) => match out.flush() {
             Ok(()) => Ok(()),
@@ -270,11 +335,11 @@ fn say<W: Sink>(out: &mut W, text: &[u8]) -> Result<(), Stop> {
 }
 
 /// Writes a line for each violation: the rule, the pointer of the place as a JSON text, and what is wrong there.
-fn say_violations<W: Sink>(
-    alloc: Global,
-    violations: &[Violation],
-    out: &mut W,
-) -> Result<(), Stop> {
+fn say_violations<W: Sink>(alloc: Global, violations: &[Violation], out: &mut W) -> Result<(), Stop>
+    ensures ok { OnOk result (Appends (W.taken out.old) (W.taken out.new) (told_lines (map told violations.now))) }
+    ensures unfailed { OnOk result (W.failures out.new ≡ W.failures out.old) }
+    ensures err { IfErr result (IsWriteStop (W.failures out.old) (W.failures out.new)) }
+{
     let mut lines: u64 = 0;
     for violation in violations {
         let line = violation_line(alloc, violation)?;
@@ -289,7 +354,9 @@ fn say_violations<W: Sink>(
     }
 }
 
-fn violation_line(alloc: Global, violation: &Violation) -> Result<String, AllocError> {
+fn violation_line(alloc: Global, violation: &Violation) -> Result<String, AllocError>
+    ensures { IfOk result (λ s. string_bytes s ≡ told_line (told violation.now)) }
+{
     let pointer = json_text(alloc, violation.pointer.as_str())?;
     let rule = violation.rule;
     format!(in alloc; "{rule} {pointer} {}\n", phrase(rule))
@@ -357,7 +424,9 @@ fn status_of(stop: &Stop) -> u8
 }
 
 /// A text as JSON, quoted (RFC 8259).
-fn json_text(alloc: Global, text: &str) -> Result<String, AllocError> {
+fn json_text(alloc: Global, text: &str) -> Result<String, AllocError>
+    ensures { IfOk result (λ s. string_bytes s ≡ compact (tree.text text.now)) }
+{
     let text = Text::from_str(alloc, text).map_err(|_| AllocError)?;
     Tree::Text(text).to_text(alloc).map_err(|_| AllocError)
 }

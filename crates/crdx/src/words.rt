@@ -60,7 +60,7 @@ pub enum Outcome<'a> {
 }
 
 /// What the words ask for; the first of them is the program's name, which the usage lines repeat.
-pub fn parse_words<'a>(alloc: Global, words: &'a [String]) -> Outcome<'a> {
+pub(crate) fn parse_words<'a>(alloc: Global, words: &'a [String]) -> Outcome<'a> {
     match matches_of(alloc, words) {
         Ok(matches) => command_words(alloc, &matches),
         Err(error) => outcome_of(alloc, &error),

@@ -1,8 +1,9 @@
 // Lines put together to blocks, so that one call of the sink takes many of them.
-ghost use Rattle.std.specs.Prelude.{◌≡◌, IfOk};
+ghost use Rattle.std.specs.Prelude.{◌≡◌, IfOk, IfErr};
 ghost use Rattle.crdx.specs.Line.{lines};
 ghost use Rattle.crdx.specs.Block.{HasEnds, IsCountOfEnds};
 ghost use Rattle.crdx.specs.Values.{trees_of};
+ghost use Rattle.jtree.specs.declared.fault.JFault.TheVariants.{NoMemory};
 
 use jtree::{JFault, Tree};
 use std::alloc::Global;
@@ -18,6 +19,7 @@ pub(crate) struct Block {
 pub(crate) fn block_of(alloc: Global, trees: &[Tree]) -> Result<Block, JFault>
     ensures lines { IfOk result (λ block. block.bytes.items ≡ lines (trees_of trees.now)) }
     ensures ends { IfOk result (λ block. HasEnds (trees_of trees.now) block.ends.items) }
+    ensures err { IfErr result (λ e. e ≡ NoMemory) }
 {
     let mut bytes = Vec::new(alloc);
     let mut ends = Vec::new(alloc);
