@@ -148,7 +148,7 @@ pools_refused has pools NoMemory why is = absurd (omega (arith, is))
 
 sample_refused : (has : Documents) (words : SampleWords) (stop : Stop) → IsSampleStop has words stop → status stop ≡ 3 → IsInputRefused has (Sample words)
 sample_refused has words stop (inl why) is = inl (crd_refused has words.crd.now words.version.now stop why is)
-sample_refused has words stop (inr why) is = inr (pools_refused has words.pools stop why is)
+sample_refused has words stop (inr why) is = inr (why.0, pools_refused has words.pools stop why.1 is)
 
 module _ (has : Documents) (old new : Option (List ℕ)) (before now : ℕ) (keeps : Keeps old new) where
   pub answered_check : (words : CheckWords) (stop : Stop) (answer : ℕ) → ((vs : Vec Violation Global) → stop ≡ Violations vs → ⊥)
@@ -159,11 +159,11 @@ module _ (has : Documents) (old new : Option (List ℕ)) (before now : ℕ) (kee
 
   broken_sample : (words : SampleWords) (vs : Vec Violation Global) → IsSampleStop has words (Violations vs) → IsRefused has (Sample words) old new
   broken_sample words vs (inl why) = (why.0, why.1, why.2.0, why.2.1, some_break vs.items why.2.0 why.2.2 why.3, keeps)
-  broken_sample words vs (inr why) = absurd why
+  broken_sample words vs (inr why) = absurd why.1
 
   no_sample : (words : SampleWords) → IsSampleStop has words NotASample → ⊥
   no_sample words (inl why) = why
-  no_sample words (inr why) = why
+  no_sample words (inr why) = why.1
 
   pub answered_sample : (words : SampleWords) (stop : Stop) (answer : ℕ) → IsSampleStop has words stop → (answer ≡ status stop) ⊎ (answer ≡ 5) → IsAnswered has (Sample words) old new before now answer
   answered_sample words stop answer why is =

@@ -4,7 +4,7 @@ use Rattle.std.specs.Io.KnownBytes.{Appends, Keeps}
 use Rattle.jtree.specs.Data.{Data, text}
 use Rattle.jtree.specs.Text.{compact}
 use Rattle.schema.specs.Breaks.{Break, AreBreaks, Told, told_of, rule_name}
-use Rattle.crdx.specs.Asked.{IsAskedSchema, IsAcceptedSchema, IsCrdRefused, IsAsked, ArePoolsRefused}
+use Rattle.crdx.specs.Asked.{IsAskedSchema, HasAcceptedSchema, IsCrdRefused, IsAsked, ArePoolsRefused}
 use Rattle.crdx.specs.Documents.{Documents}
 use Rattle.crdx.specs.Phrases.{phrase_of}
 use Rattle.crdx.specs.Sample.{Question}
@@ -22,7 +22,7 @@ told_lines ts = flat_map told_line ts
 
 -- the request is carried out, and the whole answer is out
 abbrev pub IsDone : Documents → Outcome → Option (List ℕ) → Option (List ℕ) → Type 0
-IsDone has (Check words) old new = (raw : Data) × IsAcceptedSchema has words.crd.now words.version.now raw × Appends old new (codes "structural\n")
+IsDone has (Check words) old new = HasAcceptedSchema has words.crd.now words.version.now × Appends old new (codes "structural\n")
 IsDone has (Sample words) old new = (q : Question) × IsAsked has words q × (count : ℕ) × (end : Bool) × WritesPage q None words.count count end old new
 IsDone has (Help help) old new = Appends old new (string_bytes help)
 IsDone has (Mistake said) old new = ⊥
@@ -45,10 +45,10 @@ IsMistake (Help help) = ⊥
 IsMistake (Mistake said) = Unit {0}
 IsMistake NoMemory = ⊥
 
--- an input of the request is refused
+-- an input of the request is refused; pools only where the schema is accepted
 abbrev pub IsInputRefused : Documents → Outcome → Type 0
 IsInputRefused has (Check words) = IsCrdRefused has words.crd.now words.version.now
-IsInputRefused has (Sample words) = IsCrdRefused has words.crd.now words.version.now ⊎ ArePoolsRefused has words.pools
+IsInputRefused has (Sample words) = IsCrdRefused has words.crd.now words.version.now ⊎ (HasAcceptedSchema has words.crd.now words.version.now × ArePoolsRefused has words.pools)
 IsInputRefused has (Help help) = ⊥
 IsInputRefused has (Mistake said) = ⊥
 IsInputRefused has NoMemory = ⊥

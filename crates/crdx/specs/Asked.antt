@@ -34,6 +34,9 @@ pub record IsAcceptedSchema (has : Documents) (crd version : List ℕ) (raw : Da
   pub unbroken : IsUnbroken raw
   pub known : AllKnown true raw
 
+abbrev pub HasAcceptedSchema : Documents → List ℕ → List ℕ → Type 0
+HasAcceptedSchema has crd version = (raw : Data) × IsAcceptedSchema has crd version raw
+
 -- a fault of the document of this name, read for this version
 abbrev pub HasReadFault : Documents → List ℕ → List ℕ → SFault → Type 0
 HasReadFault has crd version fault = (document : Data) × has (Some crd) (Ok document) × (fault ≢ s.NoMemory) × IsReadFault document version fault

@@ -4,7 +4,7 @@ use Rattle.std.specs.Borrow.{Bor}
 use Rattle.jtree.specs.Data.{Data}
 use Rattle.schema.specs.Breaks.{AreViolations}
 use Rattle.schema.specs.declared.fault.SFault.TheVariants as s
-use Rattle.crdx.specs.Asked.{IsAskedSchema, HasReadFault, HasUnknownPlace, HasPoolsFault}
+use Rattle.crdx.specs.Asked.{IsAskedSchema, HasAcceptedSchema, HasReadFault, HasUnknownPlace, HasPoolsFault}
 use Rattle.crdx.specs.Documents.{Documents}
 use Rattle.crdx.specs.Sink.{HasFailed}
 use Rattle.crdx.specs.declared.words.SampleWords.{SampleWords}
@@ -71,6 +71,6 @@ IsWriteStop before now (Place i c p) = ⊥
 IsWriteStop before now (Violations vs) = ⊥
 IsWriteStop before now NotASample = ⊥
 
--- why words of `sample` have no answer before anything is written
+-- why words of `sample` have no answer before anything is written; the pools are read where the schema is accepted
 abbrev pub IsSampleStop : Documents → SampleWords → Stop → Type 0
-IsSampleStop has words stop = IsSchemaStop has words.crd.now words.version.now stop ⊎ IsPoolsStop has words.pools stop
+IsSampleStop has words stop = IsSchemaStop has words.crd.now words.version.now stop ⊎ (HasAcceptedSchema has words.crd.now words.version.now × IsPoolsStop has words.pools stop)

@@ -10,7 +10,7 @@ ghost use Rattle.schema.specs.Breaks.{told};
 ghost use Rattle.crdx.specs.Accepted.{IsNodeAt};
 ghost use Rattle.crdx.specs.Answered.{IsAnswered, told_line, told_lines};
 ghost use Rattle.crdx.specs.Stops.{IsUnreadStop, IsSchemaStop, IsPoolsStop, IsSampleStop, IsWriteStop};
-ghost use Rattle.crdx.specs.Asked.{IsAcceptedSchema, IsAsked, ArePools};
+ghost use Rattle.crdx.specs.Asked.{IsAcceptedSchema, HasAcceptedSchema, IsAsked, ArePools};
 ghost use Rattle.crdx.specs.Documents.{AreAmong};
 ghost use Rattle.crdx.specs.Ending.{status};
 ghost use Rattle.crdx.specs.Sample.{Question};
@@ -247,7 +247,7 @@ fn check<I: Inputs, W: Sink>(
     inputs: &mut I,
     out: &mut W,
 ) -> Result<(), Stop>
-    ensures accepted { OnOk result ((raw : Data) × IsAcceptedSchema (I.has inputs.old) words.now.crd.now words.now.version.now raw) }
+    ensures accepted { OnOk result (HasAcceptedSchema (I.has inputs.old) words.now.crd.now words.now.version.now) }
     ensures said { OnOk result (Appends (W.taken out.old) (W.taken out.new) (codes "structural\n")) }
     ensures unfailed { OnOk result (W.failures out.new ≡ W.failures out.old) }
     ensures stops { IfErr result (λ stop. (IsSchemaStop (I.has inputs.old) words.now.crd.now words.now.version.now stop × (out.new ≡ out.old))

@@ -49,9 +49,7 @@ impl Pools {
         check_form(alloc, document)?;
         match document.get("integers") {
             Some(Tree::List(items)) => read_integers(alloc, items),
-            _ => Ok(Pools {
-                integers: Vec::new(alloc),
-            }),
+            _ => Ok(Pools::new(alloc)),
         }
     }
 
