@@ -9,7 +9,7 @@ use Rattle.schema.specs.declared.fault.SFault.TheVariants as s
 use Rattle.schema.specs.declared.refused.Refused.{Refused}
 use Rattle.schema.specs.declared.refused.Refused.TheVariants as refused
 use Rattle.schema.specs.declared.violation.Violation.{Violation}
-use Rattle.crdx.specs.Answered.{IsAnswered, IsInputRefused, IsRefused}
+use Rattle.crdx.specs.Answered.{IsAnswered, IsInputRefused, SaysBreaks}
 use Rattle.crdx.specs.Sink.{HasFailed}
 use Rattle.crdx.specs.Asked.{ArePools, ArePoolsRefused, IsAskedSchema, IsCrdRefused}
 use Rattle.crdx.specs.Documents.{Documents, AreAmong}
@@ -48,9 +48,9 @@ module _ (has : Documents) (outcome : Outcome) (old new : Option (List ℕ)) (be
   answered_4 : Keeps old new ⊎ HasFailed before now → IsAnswered has outcome old new before now 4
   answered_4 failed = record {
     done = λ e. absurd (omega (arith, e));
-    refused = λ e. absurd (omega (arith, e));
+    broken = λ e. absurd (omega (arith, e));
     mistaken = λ e. absurd (omega (arith, e));
-    unread = λ e. absurd (omega (arith, e));
+    refused = λ e. absurd (omega (arith, e));
     failed = λ _. failed;
     ranged = omega arith;
   }
@@ -58,9 +58,9 @@ module _ (has : Documents) (outcome : Outcome) (old new : Option (List ℕ)) (be
   answered_5 : IsAnswered has outcome old new before now 5
   answered_5 = record {
     done = λ e. absurd (omega (arith, e));
-    refused = λ e. absurd (omega (arith, e));
+    broken = λ e. absurd (omega (arith, e));
     mistaken = λ e. absurd (omega (arith, e));
-    unread = λ e. absurd (omega (arith, e));
+    refused = λ e. absurd (omega (arith, e));
     failed = λ e. absurd (omega (arith, e));
     ranged = omega arith;
   }
@@ -68,25 +68,25 @@ module _ (has : Documents) (outcome : Outcome) (old new : Option (List ℕ)) (be
   answered_3 : IsInputRefused has outcome → Keeps old new → IsAnswered has outcome old new before now 3
   answered_3 why keeps = record {
     done = λ e. absurd (omega (arith, e));
-    refused = λ e. absurd (omega (arith, e));
+    broken = λ e. absurd (omega (arith, e));
     mistaken = λ e. absurd (omega (arith, e));
-    unread = λ _. (why, keeps);
+    refused = λ _. (why, keeps);
     failed = λ e. absurd (omega (arith, e));
     ranged = omega arith;
   }
 
-  answered_1 : IsRefused has outcome old new → IsAnswered has outcome old new before now 1
+  answered_1 : SaysBreaks has outcome old new → IsAnswered has outcome old new before now 1
   answered_1 is = record {
     done = λ e. absurd (omega (arith, e));
-    refused = λ _. is;
+    broken = λ _. is;
     mistaken = λ e. absurd (omega (arith, e));
-    unread = λ e. absurd (omega (arith, e));
+    refused = λ e. absurd (omega (arith, e));
     failed = λ e. absurd (omega (arith, e));
     ranged = omega arith;
   }
 
   -- an input is refused, and nothing was written
-  answered_input : (stop : Stop) (answer : ℕ) → (status stop ≡ 3 → IsInputRefused has outcome) → ((vs : Vec Violation Global) → stop ≡ Violations vs → IsRefused has outcome old new)
+  answered_input : (stop : Stop) (answer : ℕ) → (status stop ≡ 3 → IsInputRefused has outcome) → ((vs : Vec Violation Global) → stop ≡ Violations vs → SaysBreaks has outcome old new)
       → stop ≢ NotASample → Keeps old new → (answer ≡ status stop) ⊎ (answer ≡ 5) → IsAnswered has outcome old new before now answer
   answered_input stop answer refused violated sampled keeps (inr e) = rw e answered_5
   answered_input (Unread i) answer refused violated sampled keeps (inl e) = rw e (answered_4 (inl keeps))
@@ -157,7 +157,7 @@ module _ (has : Documents) (old new : Option (List ℕ)) (before now : ℕ) (kee
       answered_input has (Check words) old new before now stop answer (crd_refused has words.crd.now words.version.now stop why) (λ vs e. absurd (not vs e))
       (λ e. subst (λ s. IsSchemaStop has words.crd.now words.version.now s) e why) keeps is
 
-  broken_sample : (words : SampleWords) (vs : Vec Violation Global) → IsSampleStop has words (Violations vs) → IsRefused has (Sample words) old new
+  broken_sample : (words : SampleWords) (vs : Vec Violation Global) → IsSampleStop has words (Violations vs) → SaysBreaks has (Sample words) old new
   broken_sample words vs (inl why) = (why.0, why.1, why.2.0, why.2.1, some_break vs.items why.2.0 why.2.2 why.3, keeps)
   broken_sample words vs (inr why) = absurd why.1
 

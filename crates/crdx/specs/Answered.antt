@@ -29,14 +29,14 @@ IsDone has (Mistake said) old new = ⊥
 IsDone has NoMemory old new = ⊥
 
 -- the schema breaks a rule: under `check` the lines of all that is broken are out
-abbrev pub IsRefused : Documents → Outcome → Option (List ℕ) → Option (List ℕ) → Type 0
-IsRefused has (Check words) old new = (raw : Data) × IsAskedSchema has words.crd.now words.version.now raw
+abbrev pub SaysBreaks : Documents → Outcome → Option (List ℕ) → Option (List ℕ) → Type 0
+SaysBreaks has (Check words) old new = (raw : Data) × IsAskedSchema has words.crd.now words.version.now raw
     × (breaks : List Break) × AreBreaks raw breaks × (breaks ≢ []) × Appends old new (told_lines (map told_of breaks))
-IsRefused has (Sample words) old new = (raw : Data) × IsAskedSchema has words.crd.now words.version.now raw
+SaysBreaks has (Sample words) old new = (raw : Data) × IsAskedSchema has words.crd.now words.version.now raw
     × (breaks : List Break) × AreBreaks raw breaks × (breaks ≢ []) × Keeps old new
-IsRefused has (Help help) old new = ⊥
-IsRefused has (Mistake said) old new = ⊥
-IsRefused has NoMemory old new = ⊥
+SaysBreaks has (Help help) old new = ⊥
+SaysBreaks has (Mistake said) old new = ⊥
+SaysBreaks has NoMemory old new = ⊥
 
 abbrev pub IsMistake : Outcome → Type 0
 IsMistake (Check words) = ⊥
@@ -56,8 +56,8 @@ IsInputRefused has NoMemory = ⊥
 -- 0 done, 1 the schema breaks a rule, 2 the words are refused, 3 an input is refused, 4 a read or a write failed; 5 is for want of memory
 pub record IsAnswered (has : Documents) (outcome : Outcome) (old new : Option (List ℕ)) (before now : ℕ) (status : ℕ) : Type 0 where
   pub done : status ≡ 0 → IsDone has outcome old new × (now ≡ before)
-  pub refused : status ≡ 1 → IsRefused has outcome old new
+  pub broken : status ≡ 1 → SaysBreaks has outcome old new
   pub mistaken : status ≡ 2 → IsMistake outcome × Keeps old new
-  pub unread : status ≡ 3 → IsInputRefused has outcome × Keeps old new
+  pub refused : status ≡ 3 → IsInputRefused has outcome × Keeps old new
   pub failed : status ≡ 4 → Keeps old new ⊎ HasFailed before now
   pub ranged : status ≤ 5
