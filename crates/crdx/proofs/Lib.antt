@@ -15,3 +15,4 @@ pub mod InputLemmas
 pub mod ShapeLemmas
 pub mod AcceptanceLemmas
 pub mod RunLemmas
+pub mod CommandLineLemmas

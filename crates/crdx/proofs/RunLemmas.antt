@@ -22,10 +22,10 @@ use Rattle.crdx.specs.declared.running.Input.TheVariants as input
 use Rattle.crdx.specs.declared.running.PlaceCode.TheVariants as code
 use Rattle.crdx.specs.declared.running.Stop.{Stop}
 use Rattle.crdx.specs.declared.running.Stop.TheVariants.{Unread, Document, Crd, Pools as PoolsStop, Place, Violations, NotASample, Write, NoMemory}
-use Rattle.crdx.specs.declared.words.CheckWords.{CheckWords}
-use Rattle.crdx.specs.declared.words.SampleWords.{SampleWords}
-use Rattle.crdx.specs.declared.words.Outcome.{Outcome}
-use Rattle.crdx.specs.declared.words.Outcome.TheVariants.{Check, Sample}
+use Rattle.crdx.specs.declared.words.outcome.CheckWords.{CheckWords}
+use Rattle.crdx.specs.declared.words.outcome.SampleWords.{SampleWords}
+use Rattle.crdx.specs.declared.words.outcome.Outcome.{Outcome}
+use Rattle.crdx.specs.declared.words.outcome.Outcome.TheVariants.{Check, Sample}
 
 -- pools of documents that were at hand before
 pub pools_before : (first second : Documents) (name : Option (Bor (List ℕ))) (P : Pools) → AreAmong first second → ArePools first name P → ArePools second name P
@@ -117,7 +117,7 @@ some_break (v ∷ vs) [] same some none = cc
 some_break (v ∷ vs) (b ∷ breaks) same some none = cc
 
 crd_refused : (has : Documents) (crd version : List ℕ) (stop : Stop) → IsSchemaStop has crd version stop → status stop ≡ 3 → IsCrdRefused has crd version
-crd_refused has crd version (Document i fault) why is = inl (fault, why.1)
+crd_refused has crd version (Document i fault) why is = inl (fault, why.1, why.2)
 crd_refused has crd version (Crd fault) why is = inr (inl (fault, why))
 crd_refused has crd version (Place input.Crd code.NotYet p) why is = inr (inr (string_bytes p, why))
 crd_refused has crd version (Place input.Crd code.KeywordForm p) why is = inr (inl (s.KeywordForm p, why))
@@ -132,7 +132,7 @@ crd_refused has crd version (Write lines) why is = absurd why
 crd_refused has crd version NoMemory why is = absurd (omega (arith, is))
 
 pools_refused : (has : Documents) (pools : Option (Bor (List ℕ))) (stop : Stop) → IsPoolsStop has pools stop → status stop ≡ 3 → ArePoolsRefused has pools
-pools_refused has pools (Document i fault) why is = inl (fault, why.1)
+pools_refused has pools (Document i fault) why is = inl (fault, why.1, why.2)
 pools_refused has pools (PoolsStop fault) why is = inr (fault, why)
 pools_refused has pools (Place input.Pools code.Form p) why is = inr (Form p, why)
 pools_refused has pools (Place input.Pools code.NotYet p) why is = absurd why

@@ -10,8 +10,8 @@ use Rattle.crdx.specs.Phrases.{phrase_of}
 use Rattle.crdx.specs.Sample.{Question}
 use Rattle.crdx.specs.Sink.{HasFailed}
 use Rattle.crdx.specs.Walk.{WritesPage}
-use Rattle.crdx.specs.declared.words.Outcome.{Outcome}
-use Rattle.crdx.specs.declared.words.Outcome.TheVariants.{Check, Sample, Help, Mistake, NoMemory}
+use Rattle.crdx.specs.declared.words.outcome.Outcome.{Outcome}
+use Rattle.crdx.specs.declared.words.outcome.Outcome.TheVariants.{Check, Sample, Help, Mistake, NoMemory}
 
 -- the line of a violation: the rule, the pointer of the place as a JSON text, and what is wrong there
 abbrev pub told_line : Told → List ℕ

@@ -4,6 +4,7 @@ use Rattle.std.specs.Prelude.{◌≡◌, ◌≢◌, ◌⊎◌, ℕ, List, [], tr
 use Rattle.std.specs.Borrow.{Bor}
 use Rattle.jtree.specs.Data.{Data}
 use Rattle.jtree.specs.declared.fault.JFault.{JFault}
+use Rattle.jtree.specs.declared.fault.JFault.TheVariants as j
 use Rattle.schema.specs.Crd.{IsRead}
 use Rattle.schema.specs.ReadFault.{IsSound, IsReadFault}
 use Rattle.schema.specs.Breaks.{IsUnbroken}
@@ -17,7 +18,7 @@ use Rattle.crdx.specs.Pools.{HasForm, pools_of}
 use Rattle.crdx.specs.Sample.{Question}
 use Rattle.crdx.specs.declared.plan.fault.PFault.{PFault}
 use Rattle.crdx.specs.declared.plan.fault.PFault.TheVariants as p
-use Rattle.crdx.specs.declared.words.SampleWords.{SampleWords}
+use Rattle.crdx.specs.declared.words.outcome.SampleWords.{SampleWords}
 
 -- the schema of this version of the CustomResourceDefinition of this name
 pub record IsAskedSchema (has : Documents) (crd version : List ℕ) (raw : Data) : Type 0 where
@@ -47,7 +48,7 @@ HasUnknownPlace has crd version pointer = (raw : Data) × IsAskedSchema has crd 
 
 -- there is no document of this name, or it has a fault, or its schema for this version has a place that is not known
 abbrev pub IsCrdRefused : Documents → List ℕ → List ℕ → Type 0
-IsCrdRefused has crd version = ((fault : JFault) × has (Some crd) (Err fault)) ⊎ (((fault : SFault) × HasReadFault has crd version fault)
+IsCrdRefused has crd version = ((fault : JFault) × (fault ≢ j.NoMemory) × has (Some crd) (Err fault)) ⊎ (((fault : SFault) × HasReadFault has crd version fault)
     ⊎ ((pointer : List ℕ) × HasUnknownPlace has crd version pointer))
 
 -- the pools of the document of this name, and empty ones without a name
@@ -61,7 +62,7 @@ HasPoolsFault has pools fault = IsSomeAnd pools (λ name. (document : Data) × h
 
 -- there is no document of this name, or it has a fault as pools
 abbrev pub ArePoolsRefused : Documents → Option (Bor (List ℕ)) → Type 0
-ArePoolsRefused has pools = ((fault : JFault) × IsSomeAnd pools (λ name. has (Some name.now) (Err fault))) ⊎ ((fault : PFault) × HasPoolsFault has pools fault)
+ArePoolsRefused has pools = ((fault : JFault) × (fault ≢ j.NoMemory) × IsSomeAnd pools (λ name. has (Some name.now) (Err fault))) ⊎ ((fault : PFault) × HasPoolsFault has pools fault)
 
 -- the question that the words of `sample` ask
 pub record IsAsked (has : Documents) (words : SampleWords) (q : Question) : Type 0 where

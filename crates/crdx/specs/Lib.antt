@@ -30,6 +30,7 @@ pub mod Stopping
 pub mod Walk
 pub mod Phrases
 pub mod Ending
+pub mod CommandLine
 pub mod Documents
 pub mod InputFault
 pub mod Asked

@@ -2,12 +2,13 @@
 use Rattle.std.specs.Prelude.{◌≡◌, ◌≢◌, ◌⊎◌, ℕ, List, [], Option, Some, IsSomeAnd, Err, string_bytes}
 use Rattle.std.specs.Borrow.{Bor}
 use Rattle.jtree.specs.Data.{Data}
+use Rattle.jtree.specs.declared.fault.JFault.TheVariants as j
 use Rattle.schema.specs.Breaks.{AreViolations}
 use Rattle.schema.specs.declared.fault.SFault.TheVariants as s
 use Rattle.crdx.specs.Asked.{IsAskedSchema, HasAcceptedSchema, HasReadFault, HasUnknownPlace, HasPoolsFault}
 use Rattle.crdx.specs.Documents.{Documents}
 use Rattle.crdx.specs.Sink.{HasFailed}
-use Rattle.crdx.specs.declared.words.SampleWords.{SampleWords}
+use Rattle.crdx.specs.declared.words.outcome.SampleWords.{SampleWords}
 use Rattle.crdx.specs.declared.plan.fault.PFault.TheVariants.{Form}
 use Rattle.crdx.specs.declared.running.Input.{Input}
 use Rattle.crdx.specs.declared.running.Input.TheVariants as input
@@ -18,7 +19,7 @@ use Rattle.crdx.specs.declared.running.Stop.TheVariants.{Unread, Document, Crd, 
 -- why an input gives no document
 abbrev pub IsUnreadStop : Documents → Input → List ℕ → Stop → Type 0
 IsUnreadStop has input name (Unread i) = i ≡ input
-IsUnreadStop has input name (Document i fault) = (i ≡ input) × has (Some name) (Err fault)
+IsUnreadStop has input name (Document i fault) = (i ≡ input) × (fault ≢ j.NoMemory) × has (Some name) (Err fault)
 IsUnreadStop has input name NoMemory = Unit {0}
 IsUnreadStop has input name (Crd fault) = ⊥
 IsUnreadStop has input name (Pools fault) = ⊥
@@ -30,7 +31,7 @@ IsUnreadStop has input name (Write lines) = ⊥
 -- why there is no accepted schema
 abbrev pub IsSchemaStop : Documents → List ℕ → List ℕ → Stop → Type 0
 IsSchemaStop has crd version (Unread i) = i ≡ input.Crd
-IsSchemaStop has crd version (Document i fault) = (i ≡ input.Crd) × has (Some crd) (Err fault)
+IsSchemaStop has crd version (Document i fault) = (i ≡ input.Crd) × (fault ≢ j.NoMemory) × has (Some crd) (Err fault)
 IsSchemaStop has crd version (Crd fault) = HasReadFault has crd version fault
 IsSchemaStop has crd version (Pools fault) = ⊥
 IsSchemaStop has crd version (Place input.Crd code.NotYet p) = HasUnknownPlace has crd version (string_bytes p)
@@ -46,7 +47,7 @@ IsSchemaStop has crd version NoMemory = Unit {0}
 -- why there are no pools
 abbrev pub IsPoolsStop : Documents → Option (Bor (List ℕ)) → Stop → Type 0
 IsPoolsStop has pools (Unread i) = i ≡ input.Pools
-IsPoolsStop has pools (Document i fault) = (i ≡ input.Pools) × IsSomeAnd pools (λ name. has (Some name.now) (Err fault))
+IsPoolsStop has pools (Document i fault) = (i ≡ input.Pools) × (fault ≢ j.NoMemory) × IsSomeAnd pools (λ name. has (Some name.now) (Err fault))
 IsPoolsStop has pools (Crd fault) = ⊥
 IsPoolsStop has pools (Pools fault) = HasPoolsFault has pools fault
 IsPoolsStop has pools (Place input.Crd c p) = ⊥

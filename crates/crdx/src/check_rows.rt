@@ -1,6 +1,6 @@
 // What the program says of schemas that break rules, row by row.
 use crate::fakes::{Limited, Shelf};
-use crate::trials::{Trial, definition, is_text, run_on, sides};
+use crate::trials::{Trial, definition, is_number, is_text, run_on, sides};
 use std::alloc::{AllocError, Global};
 use std::process::Abort;
 use std::test::Fail;
@@ -25,15 +25,19 @@ fn answer(alloc: Global, trial: &Trial) -> Result<String, AllocError> {
     format!(in alloc; "{status} {output} / {errors}")
 }
 
-// What is said of a command on a definition whose one version has this schema.
-fn said(alloc: Global, command: &str, schema: &str) -> Result<String, AllocError> {
+// What comes of a command on a definition whose one version has this schema.
+fn try_on(alloc: Global, command: &str, schema: &str, out: Limited) -> Result<Trial, AllocError> {
     let document = definition(alloc, schema)?;
     let shelf = Shelf {
         alloc,
         crd: document.as_str(),
         pools: "",
     };
-    let trial = run_on(alloc, command, shelf, Limited::endless(alloc))?;
+    run_on(alloc, command, shelf, out)
+}
+
+fn said(alloc: Global, command: &str, schema: &str) -> Result<String, AllocError> {
+    let trial = try_on(alloc, command, schema, Limited::endless(alloc))?;
     answer(alloc, &trial)
 }
 
@@ -89,4 +93,112 @@ fn violations_of_samples(rt: HostRuntime) -> Result<(), Fail> {
         r#"1  / V01 "/properties/a" missing type | V06 "/properties/b" uniqueItems is true"#;
     is_text(&rt, found.as_str(), wanted, "what is said", "a sample");
     Ok(())
+}
+
+static BROKEN: &str =
+    r#"{"type":"object","properties":{"a":{},"b":{"type":"string","uniqueItems":true}}}"#;
+
+static ITS_LINES: &str = r#"V01 "/properties/a" missing type
+V06 "/properties/b" uniqueItems is true
+"#;
+
+// Where the two lines end.
+const FIRST_END: usize = 33;
+
+const SECOND_END: usize = 73;
+
+static SOUND: &str = r#"{"type":"object"}"#;
+
+// What `check` leaves where standard output takes so many bytes and then fails.
+fn try_cut(
+    rt: &impl Abort,
+    alloc: Global,
+    schema: &str,
+    room: usize,
+    wanted: &str,
+) -> Result<(), Fail> {
+    let out = Limited::new(alloc, room, usize::MAX, false);
+    let trial = try_on(alloc, "check crd.json v1", schema, out)?;
+    is_text(
+        rt,
+        trial.err.text(),
+        wanted,
+        "standard error, with bytes",
+        room,
+    );
+    is_number(rt, trial.status as u64, 4, "the status, with bytes", room);
+    is_number(
+        rt,
+        trial.out.taken.as_slice().len() as u64,
+        room as u64,
+        "what was taken, with bytes",
+        room,
+    );
+    Ok(())
+}
+
+#[test]
+fn cut_checks(rt: HostRuntime) -> Result<(), Fail> {
+    let alloc = rt.alloc();
+    is_number(
+        &rt,
+        ITS_LINES.len() as u64,
+        SECOND_END as u64,
+        "bytes",
+        "the lines",
+    );
+    for room in 0..SECOND_END {
+        let wanted = if room < FIRST_END {
+            "crdx: write failed after 0 lines\n"
+        } else {
+            "crdx: write failed after 1 lines\n"
+        };
+        try_cut(&rt, alloc, BROKEN, room, wanted)?;
+    }
+    for room in 0..11 {
+        try_cut(
+            &rt,
+            alloc,
+            SOUND,
+            room,
+            "crdx: write failed after 0 lines\n",
+        )?;
+    }
+    Ok(())
+}
+
+fn try_unflushed(
+    rt: &impl Abort,
+    alloc: Global,
+    schema: &str,
+    lines: &str,
+    wanted: &str,
+) -> Result<(), Fail> {
+    let mut out = Limited::endless(alloc);
+    out.flush_fails = true;
+    let trial = try_on(alloc, "check crd.json v1", schema, out)?;
+    is_text(rt, trial.out.text(), lines, "standard output", schema);
+    is_text(rt, trial.err.text(), wanted, "standard error", schema);
+    is_number(rt, trial.status as u64, 4, "the status", schema);
+    Ok(())
+}
+
+// All lines are taken, but the flush behind them fails.
+#[test]
+fn unflushed_checks(rt: HostRuntime) -> Result<(), Fail> {
+    let alloc = rt.alloc();
+    try_unflushed(
+        &rt,
+        alloc,
+        BROKEN,
+        ITS_LINES,
+        "crdx: write failed after 2 lines\n",
+    )?;
+    try_unflushed(
+        &rt,
+        alloc,
+        SOUND,
+        "structural\n",
+        "crdx: write failed after 1 lines\n",
+    )
 }

@@ -7,6 +7,8 @@ pub mod enumerate;
 #[cfg(test)]
 mod fakes;
 pub mod inputs;
+#[cfg(test)]
+mod page_rows;
 pub mod phrases;
 pub mod plan;
 #[cfg(test)]

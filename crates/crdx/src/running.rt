@@ -11,12 +11,13 @@ ghost use Rattle.crdx.specs.Accepted.{IsNodeAt};
 ghost use Rattle.crdx.specs.Answered.{IsAnswered, told_line, told_lines};
 ghost use Rattle.crdx.specs.Stops.{IsUnreadStop, IsSchemaStop, IsPoolsStop, IsSampleStop, IsWriteStop};
 ghost use Rattle.crdx.specs.Asked.{IsAcceptedSchema, HasAcceptedSchema, IsAsked, ArePools};
+ghost use Rattle.crdx.specs.CommandLine.{Asks};
 ghost use Rattle.crdx.specs.Documents.{AreAmong};
 ghost use Rattle.crdx.specs.Ending.{status};
 ghost use Rattle.crdx.specs.Sample.{Question};
 ghost use Rattle.crdx.specs.Walk.{WritesPage};
-ghost use Rattle.crdx.specs.declared.words.Outcome.{Outcome};
-ghost use Rattle.crdx.specs.declared.words.Outcome.TheVariants.{Check, Sample};
+ghost use Rattle.crdx.specs.declared.words.outcome.Outcome.{Outcome};
+ghost use Rattle.crdx.specs.declared.words.outcome.Outcome.TheVariants.{Check, Sample};
 
 use crate::inputs::{InFault, Inputs};
 use crate::phrases::phrase;
@@ -184,7 +185,8 @@ pub fn run<I: Inputs, W: Sink, E: Sink>(
     out: &mut W,
     err: &mut E,
 ) -> u8
-    ensures { (outcome : Outcome) × IsAnswered (I.has inputs.old) outcome (W.taken out.old) (W.taken out.new) (W.failures out.old) (W.failures out.new) result }
+    ensures { (outcome : Outcome) × Asks (map string_bytes words.now) outcome
+        × IsAnswered (I.has inputs.old) outcome (W.taken out.old) (W.taken out.new) (W.failures out.old) (W.failures out.new) result }
 {
     match parse_words(alloc, words) {
         Outcome::Check(words) => answer_check(alloc, &words, inputs, out, err),
@@ -329,10 +331,14 @@ fn say<W: Sink>(out: &mut W, text: &[u8]) -> Result<(), Stop>
     match put_all(out, text) {
         Ok(()) => match out.flush() {
             Ok(()) => Ok(()),
-            Err(_) => Err(Stop::Write(0)),
+            Err(_) => Err(Stop::Write(whole_lines(text))),
         },
-        Err(_) => Err(Stop::Write(0)),
+        Err(taken) => Err(Stop::Write(whole_lines(&text[..taken]))),
     }
+}
+
+fn whole_lines(text: &[u8]) -> u64 {
+    text.iter().filter(|byte| **byte == b'\n').count() as u64
 }
 
 /// Writes a line for each violation: the rule, the pointer of the place as a JSON text, and what is wrong there.

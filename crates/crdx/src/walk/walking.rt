@@ -1,5 +1,5 @@
-ghost use Rattle.std.specs.Prelude.{◌≡◌, IfOk, IfErr, OnOk, IfSome};
-ghost use Rattle.std.specs.Io.KnownBytes.{Appends};
+ghost use Rattle.std.specs.Prelude.{◌≡◌, ◌⊎◌, Err, IfOk, IfErr, OnOk, IfSome, IsSomeAnd};
+ghost use Rattle.std.specs.Io.KnownBytes.{Appends, Keeps};
 ghost use Rattle.crdx.specs.Line.{lines};
 ghost use Rattle.crdx.specs.Values.{trees_of};
 ghost use Rattle.crdx.specs.Sample.{IsSample};
@@ -7,6 +7,7 @@ ghost use Rattle.crdx.specs.Handed.{handed};
 ghost use Rattle.crdx.specs.Stopped.{Leaves};
 ghost use Rattle.crdx.specs.Walk.{WritesPage};
 ghost use Rattle.crdx.specs.Stopping.{StopsAt};
+ghost use Rattle.crdx.specs.declared.walk.fault.WFault.TheVariants.{NotASample, NoMemory};
 
 use crate::enumerate::{EFault, page};
 use crate::plan::Plan;
@@ -42,6 +43,8 @@ pub fn walk<W: Sink>(
 ) -> Result<Walked, WFault>
     ensures lines { IfOk result (λ walked. WritesPage plan.now (handed after.entry) total walked.lines walked.end (W.taken out.old) (W.taken out.new)) }
     ensures sample { OnOk result (IfSome (handed after.entry) (λ a. IsSample plan.now a)) }
+    ensures refused { IsSomeAnd (handed after.entry) (λ a. IsSample plan.now a → ⊥)
+        → ((result ≡ Err NotASample) ⊎ (result ≡ Err (NoMemory 0))) × Keeps (W.taken out.old) (W.taken out.new) }
     ensures stopped { IfErr result (λ e. Leaves plan.now (handed after.entry) total (W.taken out.old) (W.taken out.new) (W.failures out.old) (W.failures out.new) e) }
     ensures unfailed { OnOk result (W.failures out.new ≡ W.failures out.old) }
 {

@@ -1,5 +1,6 @@
 use super::*;
 use crate::trials::{is_text, sides};
+use std::alloc::{AllocError, Global};
 use std::process::Abort;
 use std::test::Fail;
 

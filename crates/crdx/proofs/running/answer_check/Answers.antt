@@ -1,7 +1,7 @@
 use Rattle.std.proofs.Common.{sym, subst, inl, inr}
 use Rattle.std.proofs.KnownBytes.{Keeps-refl}
 use Rattle.crdx.specs.Answered.{IsAnswered}
-use Rattle.crdx.specs.declared.words.Outcome.TheVariants.{Check}
+use Rattle.crdx.specs.declared.words.outcome.Outcome.TheVariants.{Check}
 use Rattle.crdx.proofs.RunLemmas.{answered_check, answered_write}
 use Rattle.crdx.proofs.running.answer_check.Goals as goal
 

@@ -1,7 +1,7 @@
 use Rattle.std.proofs.Common.{sym, subst, inl, inr}
 use Rattle.std.proofs.KnownBytes.{Keeps-refl}
 use Rattle.crdx.specs.Answered.{IsAnswered}
-use Rattle.crdx.specs.declared.words.Outcome.TheVariants.{Sample}
+use Rattle.crdx.specs.declared.words.outcome.Outcome.TheVariants.{Sample}
 use Rattle.crdx.proofs.RunLemmas.{answered_sample, answered_write}
 use Rattle.crdx.proofs.running.answer_sample.Goals as goal
 

@@ -1,0 +1,74 @@
+-- What the matches of `clap` say of a command and its words.
+use Rattle.std.proofs.Common.{◌≡◌, ℕ, List, [], ◌∷◌, Option, Some, None, Bor, Box, refl, sym, ap, subst, ◌∙◌, inl, inr, true}
+use Rattle.std.specs.Prelude.{◌<◌, ◌^◌, Result, Ok, Err, option_map, unwrap_or}
+use Rattle.std.specs.Str.Parse.{IsNumeral, ParsesUnsigned, without_leading_plus}
+use Rattle.std.specs.Box.{box_value}
+use Rattle.clap.specs.Matches.{first_value, ReadsOne}
+use Rattle.clap.specs.Faults.{fault_of, is_simple_and_free}
+use Rattle.clap.specs.Kinds.{HasKind}
+use Rattle.clap.specs.Simple.{is_simple, subcommand_of, subcommand_rows}
+use Rattle.clap.specs.Values.{kind_of}
+use Rattle.clap.specs.Walk.{Row, Text, first_of, rows_of}
+use Rattle.clap.specs.declared.parser.matches.Found.{Found}
+use Rattle.clap.specs.declared.parser.matches.SubCommand.{SubCommand}
+use Rattle.clap.specs.declared.parser.matches.ArgMatches.TheViews.{out-SubCommand}
+use Rattle.clap.specs.declared.error.Error.{Error}
+use Rattle.clap.specs.declared.error.kind.ErrorKind.{ErrorKind}
+use Rattle.clap.specs.declared.error.kind.ErrorKind.TheVariants.{OutOfMemory}
+use Rattle.clap.proofs.WalkLemmas.{first_value-rows}
+use Rattle.crdx.specs.CommandLine.{crdx_app, entered, faults, value_of, decimal_value, IsCommand, IsHelp, IsOutcomeOf, Asks}
+use Rattle.crdx.specs.declared.words.outcome.Outcome.{Outcome}
+use Rattle.crdx.specs.declared.words.outcome.Outcome.TheVariants.{Check, Sample, Help, Mistake, NoMemory}
+
+-- the command that was met has this name and these rows
+pub met_as : {Z : Type 0} (s : Option (Box SubCommand Z)) (name : Text) (rows : List Row) → option_map (λ b. (out-SubCommand (box_value b)).name.now) s ≡ Some name
+    → option_map (λ p. p.1) (subcommand_rows s) ≡ Some rows → subcommand_rows s ≡ Some (name, rows)
+met_as None name rows named listed = cc
+met_as (Some b) name rows named listed = cc
+
+-- the value of a word that has to be there, from what `get_str` gives
+pub value_text : (f : Found) (id : Text) (v : Option (Bor Text)) (word other : Bor Text) → option_map (λ s. s.now) v ≡ first_value f id → word ≡ unwrap_or v other → other.now ≡ []
+    → word.now ≡ value_of id (rows_of f)
+value_text f id None word other given is none = ap (λ w. w.now) is ∙ (none ∙ ap (λ o. unwrap_or o []) (given ∙ first_value-rows f id))
+value_text f id (Some w) word other given is none = ap (λ w. w.now) is ∙ ap (λ o. unwrap_or o []) (given ∙ first_value-rows f id)
+
+-- the number of an option, from what `get_one` reads
+pub number_read : {E : Type 0} (gives : List ℕ → Result ℕ E → Type 0) → ((bs : List ℕ) (r : Result ℕ E) → gives bs r → ParsesUnsigned 32 10 bs r) → (t : Text) (n : Option ℕ) → ReadsOne gives t n
+    → IsNumeral 10 (without_leading_plus t) → decimal_value t < 2 ^ 32 → n ≡ Some (decimal_value t)
+number_read gives parses t (Some v) read numeral fits = ap (λ k. Some k) (parses t (Ok v) read).1
+number_read gives parses t None read numeral fits = absurd (parses t (Err read.0) read.1 (numeral, fits))
+
+pub crdx_is_simple : is_simple crdx_app ≡ true
+crdx_is_simple = refl
+
+pub crdx_is_free : is_simple_and_free crdx_app ≡ true
+crdx_is_free = refl
+
+pub entered_is : (words : List Text) → subcommand_of crdx_app words ≡ entered words
+unfolding entered
+entered_is words = refl
+
+pub faults_are : (words : List Text) → fault_of crdx_app words ≡ faults words
+unfolding faults
+faults_are words = refl
+
+-- what is asked where `clap` takes the words, and where it refuses them
+pub asks_command : (words : List Text) (named : Option (Text × List Row)) (o : Outcome) → named ≡ entered words → faults words ≡ [] → IsCommand named o → Asks words o
+asks_command words named (Check w) same none is = (none, subst (λ n. IsCommand n (Check w)) same is)
+asks_command words named (Sample w) same none is = (none, subst (λ n. IsCommand n (Sample w)) same is)
+asks_command words named (Help text) same none is = absurd is
+asks_command words named (Mistake text) same none is = inr (none, subst (λ n. IsCommand n (Mistake text)) same is)
+asks_command words named NoMemory same none is = tt
+
+no_help : (k : ErrorKind) → k ≡ OutOfMemory → IsHelp k → ⊥
+no_help k memory (inl help) = cc
+no_help k memory (inr version) = cc
+
+pub asks_refused : (words : List Text) (e : Error) (o : Outcome) → HasKind (faults words) e → IsOutcomeOf (kind_of e) o → Asks words o
+asks_refused words e (Check w) has is = absurd is
+asks_refused words e (Sample w) has is = absurd is
+asks_refused words e (Help text) (inl memory) is = absurd (no_help (kind_of e) memory is)
+asks_refused words e (Help text) (inr among) is = (kind_of e, among, is)
+asks_refused words e (Mistake text) (inl memory) is = absurd (is.0 memory)
+asks_refused words e (Mistake text) (inr among) is = inl (kind_of e, among, is.1)
+asks_refused words e NoMemory has is = tt
