@@ -1,5 +1,5 @@
 -- What the matches of `clap` say of a command and its words.
-use Rattle.std.proofs.Common.{◌≡◌, ℕ, List, [], ◌∷◌, Option, Some, None, Bor, Box, refl, sym, ap, subst, ◌∙◌, inl, inr, true}
+use Rattle.std.proofs.Common.{◌≡◌, ℕ, List, [], Option, Some, None, Bor, Box, refl, ap, subst, ◌∙◌, inl, inr, true}
 use Rattle.std.specs.Prelude.{◌<◌, ◌^◌, Result, Ok, Err, option_map, unwrap_or}
 use Rattle.std.specs.Str.Parse.{IsNumeral, ParsesUnsigned, without_leading_plus}
 use Rattle.std.specs.Box.{box_value}
@@ -8,7 +8,7 @@ use Rattle.clap.specs.Faults.{fault_of, is_simple_and_free}
 use Rattle.clap.specs.Kinds.{HasKind}
 use Rattle.clap.specs.Simple.{is_simple, subcommand_of, subcommand_rows}
 use Rattle.clap.specs.Values.{kind_of}
-use Rattle.clap.specs.Walk.{Row, Text, first_of, rows_of}
+use Rattle.clap.specs.Walk.{Row, Text, rows_of}
 use Rattle.clap.specs.declared.parser.matches.Found.{Found}
 use Rattle.clap.specs.declared.parser.matches.SubCommand.{SubCommand}
 use Rattle.clap.specs.declared.parser.matches.ArgMatches.TheViews.{out-SubCommand}

@@ -1,5 +1,5 @@
 -- Which raw schemas are accepted at this stage, and the node of each: objects with properties, integers and booleans. The
--- envelope of a resource is let through, and so are keywords without effect.
+-- envelope of a resource is let through, and so are keywords without effect (this project's own).
 use Rattle.std.specs.Prelude.{◌≡◌, ◌≢◌, ◌⊎◌, ℕ, List, [], ◌∷◌, Bool, true, false, Option, Some, None, if◌then◌else◌, codes}
 use Rattle.std.specs.declared.cmp.Ordering.TheVariants.{Less}
 use Rattle.jtree.specs.Data.{Data, Members, no_members, member}

@@ -1,4 +1,5 @@
--- Which node of a schema stands for a part of a value. Where none does, the part is free.
+-- Which node of a schema stands for a part of a value. Where none does, the part is free (structural schemas,
+-- CustomResourceDefinition documentation).
 use Rattle.std.specs.Prelude.{◌≡◌, [], ◌∷◌, Option, Some, None, option_and_then}
 use Rattle.jtree.specs.Data.{Data}
 use Rattle.jtree.specs.Data as tree

@@ -1,4 +1,4 @@
--- What is written for samples: the compact JSON of each, and a newline.
+-- What is written for samples: the compact JSON of each, and a newline (this project's own).
 use Rattle.std.specs.Prelude.{ℕ, List, [], ◌∷◌, ◌++◌, flat_map}
 use Rattle.jtree.specs.Data.{Data}
 use Rattle.jtree.specs.Text.{compact}

@@ -1,4 +1,5 @@
--- A node of an accepted schema, as plain data: a scalar that accepts one kind of value, or an object with declared fields.
+-- A node of an accepted schema, as plain data: a scalar that accepts one kind of value, or an object with declared fields
+-- (OpenAPI 3.0, Schema Object).
 use Rattle.std.specs.Prelude.{◌≡◌, ℕ, suc, max, List, Bool, false, Option, Some, None, if◌then◌else◌}
 use Rattle.std.specs.Str.{bytes_eq}
 use Rattle.std.specs.declared.cmp.Ordering.TheVariants.{Less}

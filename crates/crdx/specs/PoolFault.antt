@@ -1,4 +1,5 @@
--- What a fault says of a pools document: its first break, or that a pool has too many entries. A bad limit is none of its faults.
+-- What a fault says of a pools document: its first break, or that a pool has too many entries. A bad limit is none of its faults
+-- (this project's own).
 use Rattle.std.specs.Prelude.{◌≡◌, ◌<◌, length, string_bytes}
 use Rattle.jtree.specs.Data.{Data}
 use Rattle.jtree.specs.Path.{Path}

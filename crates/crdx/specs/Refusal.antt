@@ -1,5 +1,5 @@
 -- What a refusal says of a raw schema: all that is broken in it, and at least one rule; where nothing is, the pointer of the
--- first place that is not known at this stage; or that memory is wanting.
+-- first place that is not known at this stage; or that memory is wanting (this project's own).
 use Rattle.std.specs.Prelude.{◌≢◌, [], true, string_bytes}
 use Rattle.jtree.specs.Data.{Data}
 use Rattle.schema.specs.Breaks.{AreViolations, IsUnbroken}

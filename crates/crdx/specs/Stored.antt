@@ -1,4 +1,4 @@
--- A stored value: valid, and neither pruning nor defaulting changes it.
+-- A stored value: valid, and neither pruning nor defaulting changes it (CustomResourceDefinition documentation).
 use Rattle.std.specs.Prelude.{◌≡◌}
 use Rattle.jtree.specs.Data.{Data}
 use Rattle.crdx.specs.Node.{Node}

@@ -1,4 +1,4 @@
--- The tree order in words: which of two trees is before the other.
+-- The tree order in words: which of two trees is before the other (this project's own).
 use Rattle.std.specs.Prelude.{◌≡◌, ◌<◌, ◌<ℤ◌, ℕ, ℤ, List, true, false, Some, None}
 use Rattle.std.specs.declared.cmp.Ordering.TheVariants.{Less}
 use Rattle.jtree.specs.Data.{Data, boolean, integer, text, list, object, Items, Members}

@@ -1,4 +1,4 @@
--- Of which kind a tree is.
+-- Of which kind a tree is (JSON, RFC 8259).
 use Rattle.std.specs.Prelude.{Bool, true, false}
 use Rattle.jtree.specs.Data.{Data, null, boolean, integer, text, list, object}
 

@@ -1,4 +1,5 @@
--- The size of a tree: 1 for null and a scalar, and 1 plus the sum over the parts for a list or object. Names do not count.
+-- The size of a tree: 1 for null and a scalar, and 1 plus the sum over the parts for a list or object. Names do not count (this
+-- project's own).
 use Rattle.std.specs.Prelude.{ℕ, ◌+◌, ◌-◌, ◌^◌, min}
 use Rattle.jtree.specs.Data.{Data, null, boolean, integer, text, list, object, Items, no_items, item, Members, no_members, member}
 

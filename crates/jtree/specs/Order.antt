@@ -1,4 +1,4 @@
--- The tree order as a comparison. `specs/Before.antt` says it in words, and the two are proved to agree.
+-- The tree order as a comparison (this project's own). `specs/Before.antt` says it in words, and the two are proved to agree.
 use Rattle.std.specs.Prelude.{ℕ, List}
 use Rattle.std.specs.Ordering.{nat_cmp, int_cmp, bool_cmp, ordering_then}
 use Rattle.std.specs.Cmp.Lexicographic.{slice_cmp}

@@ -1,4 +1,5 @@
--- The parts of a tree: a path is a list of names and places, and the empty path leads to the tree itself.
+-- The parts of a tree: a path is a list of names and places, and the empty path leads to the tree itself
+-- (JSON, RFC 8259).
 use Rattle.std.specs.Prelude.{ℕ, zero, suc, List, [], ◌∷◌, Option, Some, None, option_and_then, if◌then◌else◌}
 use Rattle.std.specs.Str.{bytes_eq}
 use Rattle.jtree.specs.Data.{Data, null, boolean, integer, text, list, object, Items, no_items, item, Members, no_members, member}

@@ -1,5 +1,5 @@
 -- Path order: paths compare as lists of names and places, names by bytes, places by number, and a beginning comes before
--- what goes on. So `/a/b` comes before `/a-b`.
+-- what goes on (this project's own). So `/a/b` comes before `/a-b`.
 use Rattle.std.specs.Prelude.{◌≢◌}
 use Rattle.std.specs.Ordering.{nat_cmp}
 use Rattle.std.specs.Cmp.Lexicographic.{slice_cmp}

@@ -1,4 +1,5 @@
--- A raw schema is a JSON object; its members are its keywords, whatever their names.
+-- A raw schema is a JSON object; its members are its keywords, whatever their names (JSONSchemaProps,
+-- apiextensions.k8s.io/v1).
 use Rattle.std.specs.Prelude.{◌≡◌, ◌≢◌, ℕ, List, true, false, Some, None}
 use Rattle.jtree.specs.Data.{Data, Members}
 use Rattle.jtree.specs.Data as tree

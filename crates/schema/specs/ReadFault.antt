@@ -1,4 +1,4 @@
--- What a fault says of the document that was read.
+-- What a fault says of the document that was read (this project's own).
 use Rattle.std.specs.Prelude.{◌≡◌, ℕ, List, string_bytes}
 use Rattle.jtree.specs.Data.{Data}
 use Rattle.jtree.specs.Path.{Path}

@@ -1,4 +1,5 @@
--- What a keyword of a schema says: nothing where it is absent, or where its value has another JSON form.
+-- What a keyword of a schema says: nothing where it is absent, or where its value has another JSON form
+-- (OpenAPI 3.0, Schema Object).
 use Rattle.std.specs.Prelude.{ℕ, ℤ, pos, negsuc, List, [], ◌∷◌, Bool, false, Option, Some, None, option_and_then}
 use Rattle.jtree.specs.Data.{Data, null, boolean, integer, text, list, object, Items, no_items, item, Members, no_members}
 use Rattle.jtree.specs.Path.{under}

@@ -1,9 +1,8 @@
-use Rattle.std.proofs.Common.{◌≡◌, ◌∙◌, ap, ap₂, sym, subst, true, codes, map, string_bytes}
+use Rattle.std.proofs.Common.{◌≡◌, ◌∙◌, ap, ap₂, subst, true, codes, map, string_bytes}
 use Rattle.std.proofs.lemmas.Result.{IfOk-weaker}
 use Rattle.clap.specs.Faults.{fault_of, is_simple_and_free}
 use Rattle.clap.specs.Kinds.{FailsBy}
 use Rattle.clap.specs.Simple.{App, app_of, app_of_fields, is_simple, new_app, on_top, subcommand_of, with_subcommand}
-use Rattle.clap.specs.declared.builder.command.Command.{Command}
 use Rattle.crdx.specs.CommandLine.{crdx_app}
 use Rattle.crdx.proofs.CommandLineLemmas.{crdx_is_simple, crdx_is_free, entered_is, faults_are}
 use Rattle.crdx.proofs.words.parsing.matches_of.Goals as goal

@@ -1,7 +1,6 @@
 use Rattle.std.proofs.Common.{codes, ap, ap₂, ◌≡◌, ◌∙◌, ◌||◌}
 use Rattle.std.proofs.lemmas.Result.{IfOk-weaker}
 use Rattle.clap.specs.Simple.{app_of, app_of_fields, new_app, with_rule}
-use Rattle.crdx.specs.CommandLine.{sample_app}
 use Rattle.crdx.proofs.words.parsing.sample_command.Goals as goal
 
 pub returns-clause-app : goal.returns-clause-app
