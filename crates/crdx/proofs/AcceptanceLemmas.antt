@@ -12,20 +12,20 @@ use Rattle.jtree.specs.Order.{text_cmp}
 use Rattle.jtree.specs.Path.{member_at, under}
 use Rattle.jtree.specs.View.{data_of, members_of}
 use Rattle.jtree.specs.declared.value.Member.{Member}
-use Rattle.crdx.specs.Node.{Node, scalar, object, Fields, no_fields, field, IsNode, IsBeforeFields, AreOrdered}
-use Rattle.crdx.specs.NodeView.{node_of, fields_of}
+use Rattle.crdx.specs.Objects.Node.{Node, scalar, object, Fields, no_fields, field, IsNode, IsBeforeFields, AreOrdered}
+use Rattle.crdx.specs.Objects.NodeView.{node_of, fields_of}
 use Rattle.crdx.specs.declared.stored.node.Field.{Field}
-use Rattle.crdx.specs.Place.{Place, schema_at, place_cmp}
-use Rattle.crdx.specs.Accepted.{IsEnvelope, IsKnown, in_envelope, known_object, known_scalar, IsKnownScalar, IsKnownObject, AllKnown, IsNodeOf, IsNodeAt, AreFieldsOf, kept, properties_of}
-use Rattle.schema.specs.Places.{envelope_names}
-use Rattle.schema.specs.Forms.{is_among}
-use Rattle.crdx.specs.Acceptance.{members_at, AreKnown, IsFirst, IsRefusedAt, AreNodes}
-use Rattle.schema.specs.Breaks.{AreViolations, IsUnbroken, told, told_of}
+use Rattle.crdx.specs.Objects.Place.{Place, schema_at, place_cmp}
+use Rattle.crdx.specs.Objects.Accepted.{IsEnvelope, IsKnown, in_envelope, known_object, known_scalar, IsKnownScalar, IsKnownObject, AllKnown, IsNodeOf, IsNodeAt, AreFieldsOf, kept, properties_of}
+use Rattle.schema.specs.Document.Places.{envelope_names}
+use Rattle.schema.specs.Document.Texts.{is_among}
+use Rattle.crdx.specs.Internal.Acceptance.{members_at, AreKnown, IsFirst, IsRefusedAt, AreNodes}
+use Rattle.schema.specs.Rules.Breaks.{AreViolations, IsUnbroken, told, told_of}
 use Rattle.schema.specs.declared.violation.Violation.{Violation}
-use Rattle.crdx.specs.Refusal.{IsRefusal}
+use Rattle.crdx.specs.Objects.Refusal.{IsRefusal}
 use Rattle.schema.specs.declared.refused.Refused.{Refused}
 use Rattle.schema.specs.declared.refused.Refused.TheVariants.{Violations, NotYet, NoMemory}
-use Rattle.jtree.specs.Lookups.{bool_cases, option_cases, same_name, own_name, member_first, member_tail, before_each, IsBefore-trans}
+use Rattle.jtree.specs.Internal.Lookups.{bool_cases, option_cases, same_name, own_name, member_first, member_tail, before_each, IsBefore-trans}
 
 name_properties : List ℕ
 name_properties = codes "properties"
@@ -255,7 +255,7 @@ object_first root d ms (k ∷ q) known at f = record {
 no_properties : (d : Data) → IsKnownScalar d → under d (codes "properties") ≡ None
 no_properties d known = elim (option_cases (under d (codes "properties"))) [
   | inl none ↦ none
-  | inr some ↦ let word = known.alone (codes "properties") (λ none. cc) in cc
+  | inr some ↦ let keyword = known.alone (codes "properties") (λ none. cc) in cc
 ]
 
 pub scalar_known : (root : Bool) (d : Data) → root ≡ false → IsKnownScalar d → AllKnown root d
@@ -278,20 +278,20 @@ root_unknown root d no_object no_scalar = record {
 
 -- ---- depth
 
-member_falls : (k : List ℕ) (ms : Members) (d : Data) → member_at k ms ≡ Some d → depth d ≤ members_depth ms
-member_falls k no_members d at = cc
-member_falls k (member l e ms) d at = elim (bool_cases (bytes_eq k l)) [
+member_decreases : (k : List ℕ) (ms : Members) (d : Data) → member_at k ms ≡ Some d → depth d ≤ members_depth ms
+member_decreases k no_members d at = cc
+member_decreases k (member l e ms) d at = elim (bool_cases (bytes_eq k l)) [
   | inl t ↦ let same : e ≡ d = same_Some e d (rw t at at) in let h = ap depth same in omega arith
-  | inr f ↦ let h = member_falls k ms d (rw f at at) in omega arith
+  | inr f ↦ let h = member_decreases k ms d (rw f at at) in omega arith
 ]
 
-pub properties_fall : (d : Data) (ms : Members) → under d (codes "properties") ≡ Some (tree.object ms) → members_depth ms + 2 ≤ depth d
-properties_fall tree.null ms at = cc
-properties_fall (tree.boolean b) ms at = cc
-properties_fall (tree.integer z) ms at = cc
-properties_fall (tree.text s) ms at = cc
-properties_fall (tree.list ds) ms at = cc
-properties_fall (tree.object ns) ms at = let h = member_falls (codes "properties") ns (tree.object ms) at in omega arith
+pub properties_decrease : (d : Data) (ms : Members) → under d (codes "properties") ≡ Some (tree.object ms) → members_depth ms + 2 ≤ depth d
+properties_decrease tree.null ms at = cc
+properties_decrease (tree.boolean b) ms at = cc
+properties_decrease (tree.integer z) ms at = cc
+properties_decrease (tree.text s) ms at = cc
+properties_decrease (tree.list ds) ms at = cc
+properties_decrease (tree.object ns) ms at = let h = member_decreases (codes "properties") ns (tree.object ms) at in omega arith
 
 -- ---- fields
 

@@ -1,4 +1,4 @@
--- What the matches of `clap` say of a command and its words.
+-- What the matches of `clap` say of a command and its arguments.
 use Rattle.std.proofs.Common.{◌≡◌, ℕ, List, [], Option, Some, None, Bor, Box, refl, ap, subst, ◌∙◌, inl, inr, true}
 use Rattle.std.specs.Prelude.{◌<◌, ◌^◌, Result, Ok, Err, option_map, unwrap_or}
 use Rattle.std.specs.Str.Parse.{IsNumeral, ParsesUnsigned, without_leading_plus}
@@ -16,9 +16,9 @@ use Rattle.clap.specs.declared.error.Error.{Error}
 use Rattle.clap.specs.declared.error.kind.ErrorKind.{ErrorKind}
 use Rattle.clap.specs.declared.error.kind.ErrorKind.TheVariants.{OutOfMemory}
 use Rattle.clap.proofs.WalkLemmas.{first_value-rows}
-use Rattle.crdx.specs.CommandLine.{crdx_app, entered, faults, value_of, decimal_value, IsCommand, IsHelp, IsOutcomeOf, Asks}
-use Rattle.crdx.specs.declared.words.outcome.Outcome.{Outcome}
-use Rattle.crdx.specs.declared.words.outcome.Outcome.TheVariants.{Check, Sample, Help, Mistake, NoMemory}
+use Rattle.crdx.specs.Program.CommandLine.{crdx_app, entered, faults, value_of, decimal_value, IsCommand, IsHelp, IsRequestOf, Asks}
+use Rattle.crdx.specs.declared.arguments.request.Request.{Request}
+use Rattle.crdx.specs.declared.arguments.request.Request.TheVariants.{Check, Sample, Help, UsageError, NoMemory}
 
 -- the command that was met has this name and these rows
 pub met_as : {Z : Type 0} (s : Option (Box SubCommand Z)) (name : Text) (rows : List Row) → option_map (λ b. (out-SubCommand (box_value b)).name.now) s ≡ Some name
@@ -44,31 +44,31 @@ crdx_is_simple = refl
 pub crdx_is_free : is_simple_and_free crdx_app ≡ true
 crdx_is_free = refl
 
-pub entered_is : (words : List Text) → subcommand_of crdx_app words ≡ entered words
+pub entered_is : (arguments : List Text) → subcommand_of crdx_app arguments ≡ entered arguments
 unfolding entered
-entered_is words = refl
+entered_is arguments = refl
 
-pub faults_are : (words : List Text) → fault_of crdx_app words ≡ faults words
+pub faults_are : (arguments : List Text) → fault_of crdx_app arguments ≡ faults arguments
 unfolding faults
-faults_are words = refl
+faults_are arguments = refl
 
--- what is asked where `clap` takes the words, and where it refuses them
-pub asks_command : (words : List Text) (named : Option (Text × List Row)) (o : Outcome) → named ≡ entered words → faults words ≡ [] → IsCommand named o → Asks words o
-asks_command words named (Check w) same none is = (none, subst (λ n. IsCommand n (Check w)) same is)
-asks_command words named (Sample w) same none is = (none, subst (λ n. IsCommand n (Sample w)) same is)
-asks_command words named (Help text) same none is = absurd is
-asks_command words named (Mistake text) same none is = inr (none, subst (λ n. IsCommand n (Mistake text)) same is)
-asks_command words named NoMemory same none is = tt
+-- what is asked where `clap` takes the arguments, and where it refuses them
+pub asks_command : (arguments : List Text) (named : Option (Text × List Row)) (o : Request) → named ≡ entered arguments → faults arguments ≡ [] → IsCommand named o → Asks arguments o
+asks_command arguments named (Check w) same none is = (none, subst (λ n. IsCommand n (Check w)) same is)
+asks_command arguments named (Sample w) same none is = (none, subst (λ n. IsCommand n (Sample w)) same is)
+asks_command arguments named (Help text) same none is = absurd is
+asks_command arguments named (UsageError text) same none is = inr (none, subst (λ n. IsCommand n (UsageError text)) same is)
+asks_command arguments named NoMemory same none is = tt
 
 no_help : (k : ErrorKind) → k ≡ OutOfMemory → IsHelp k → ⊥
 no_help k memory (inl help) = cc
 no_help k memory (inr version) = cc
 
-pub asks_refused : (words : List Text) (e : Error) (o : Outcome) → HasKind (faults words) e → IsOutcomeOf (kind_of e) o → Asks words o
-asks_refused words e (Check w) has is = absurd is
-asks_refused words e (Sample w) has is = absurd is
-asks_refused words e (Help text) (inl memory) is = absurd (no_help (kind_of e) memory is)
-asks_refused words e (Help text) (inr among) is = (kind_of e, among, is)
-asks_refused words e (Mistake text) (inl memory) is = absurd (is.0 memory)
-asks_refused words e (Mistake text) (inr among) is = inl (kind_of e, among, is.1)
-asks_refused words e NoMemory has is = tt
+pub asks_refused : (arguments : List Text) (e : Error) (o : Request) → HasKind (faults arguments) e → IsRequestOf (kind_of e) o → Asks arguments o
+asks_refused arguments e (Check w) has is = absurd is
+asks_refused arguments e (Sample w) has is = absurd is
+asks_refused arguments e (Help text) (inl memory) is = absurd (no_help (kind_of e) memory is)
+asks_refused arguments e (Help text) (inr among) is = (kind_of e, among, is)
+asks_refused arguments e (UsageError text) (inl memory) is = absurd (is.0 memory)
+asks_refused arguments e (UsageError text) (inr among) is = inl (kind_of e, among, is.1)
+asks_refused arguments e NoMemory has is = tt

@@ -1,7 +1,7 @@
 -- The fields from a place on.
 use Rattle.std.proofs.Common.{◌≡◌, ℕ, zero, suc, ◌-◌, ◌<◌, ◌≤◌, List, [], ◌∷◌, length, get_or, drop, sym, ap, ◌∙◌, subst, arith, drop-cons}
-use Rattle.crdx.specs.Node.{field, AreOrdered}
-use Rattle.crdx.specs.NodeView.{node_of, fields_of}
+use Rattle.crdx.specs.Objects.Node.{field, AreOrdered}
+use Rattle.crdx.specs.Objects.NodeView.{node_of, fields_of}
 use Rattle.crdx.specs.declared.stored.node.Field.{Field}
 
 pub dropped_ordered : (xs : List Field) (n : ℕ) → AreOrdered (fields_of xs) → AreOrdered (fields_of (drop n xs))

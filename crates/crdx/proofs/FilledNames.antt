@@ -11,9 +11,9 @@ use Rattle.jtree.specs.Data.{Data, Members, no_members, member, IsBefore, IsObje
 use Rattle.jtree.specs.Data as tree
 use Rattle.jtree.specs.Order.{text_cmp}
 use Rattle.jtree.specs.Path.{member_at}
-use Rattle.crdx.specs.Node.{Node, scalar, object, Fields, no_fields, field, declared, is_nullable}
-use Rattle.crdx.specs.Filled.{filled, filled_members, replaced, without, with_member, standing}
-use Rattle.jtree.specs.Lookups.{bool_cases, option_cases, ordering_cases, same_name, member_first, member_later, before_none, IsBefore-trans, past_name}
+use Rattle.crdx.specs.Objects.Node.{Node, scalar, object, Fields, no_fields, field, declared, is_nullable}
+use Rattle.crdx.specs.Objects.Filled.{filled, filled_members, replaced, without, with_member, standing}
+use Rattle.jtree.specs.Internal.Lookups.{bool_cases, option_cases, ordering_cases, same_name, member_first, member_later, before_none, IsBefore-trans, past_name}
 use Rattle.crdx.proofs.Names.{declared_later}
 use Rattle.crdx.proofs.FitsLemmas.{member_tree}
 

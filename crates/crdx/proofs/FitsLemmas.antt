@@ -5,17 +5,17 @@ use Rattle.std.specs.Str.{bytes_eq}
 use Rattle.std.proofs.lemmas.Option.{option_and_then_some, same_Some}
 use Rattle.jtree.specs.Data.{Data, Members, no_members, member, IsBefore, IsObject, IsTree}
 use Rattle.jtree.specs.Data as tree
-use Rattle.jtree.specs.Path.{Path, Step, name, place, member_at, part_by, part_at}
-use Rattle.crdx.specs.Node.{boolean, integer, Node, scalar, object, Fields, no_fields, field, declared, is_nullable, IsNode, AreOrdered}
-use Rattle.crdx.specs.Leads.{node_by, leads, StandsFor}
-use Rattle.crdx.specs.Fault.{HasFault, FaultAt, IsValid}
-use Rattle.crdx.specs.Fault as fault
-use Rattle.crdx.specs.Pruned.{IsUndeclared, undeclared, IsPruned, label}
-use Rattle.crdx.specs.Filled.{filled, filled_members, replaced, standing}
-use Rattle.crdx.specs.Stored.{IsStored}
-use Rattle.crdx.specs.Over.{Pools, IsOver, IsOverHere}
-use Rattle.crdx.specs.Fits.{Fits, MembersFit}
-use Rattle.jtree.specs.Lookups.{bool_cases, option_cases, same_name, member_first, member_later, member_tail, part_at-append, own_name, before_none, past_name, ordering_cases}
+use Rattle.jtree.specs.Path.{Path, Step, name, index, member_at, part_by, part_at}
+use Rattle.crdx.specs.Objects.Node.{boolean, integer, Node, scalar, object, Fields, no_fields, field, declared, is_nullable, IsNode, AreOrdered}
+use Rattle.crdx.specs.Objects.Leads.{node_by, leads, StandsFor}
+use Rattle.crdx.specs.Objects.Fault.{HasFault, FaultAt, IsValid}
+use Rattle.crdx.specs.Objects.Fault as fault
+use Rattle.crdx.specs.Objects.Pruned.{IsUndeclared, undeclared, IsPruned, label}
+use Rattle.crdx.specs.Objects.Filled.{filled, filled_members, replaced, standing}
+use Rattle.crdx.specs.Objects.Stored.{IsStored}
+use Rattle.crdx.specs.Samples.Over.{Pools, IsOver, IsOverHere}
+use Rattle.crdx.specs.Objects.Fits.{Fits, MembersFit}
+use Rattle.jtree.specs.Internal.Lookups.{bool_cases, option_cases, same_name, member_first, member_later, member_tail, part_at-append, own_name, before_none, past_name, ordering_cases}
 use Rattle.crdx.proofs.Names.{declared_tail, declared_first}
 use Rattle.std.specs.declared.cmp.Ordering.TheVariants.{Greater}
 use Rattle.std.proofs.lemmas.Cmp.{nat_list_cmp_total, tied_itself}
@@ -39,7 +39,7 @@ fits_step P (object fs) (tree.boolean b) s M w h n p = absurd h
 fits_step P (object fs) (tree.integer z) s M w h n p = absurd h
 fits_step P (object fs) (tree.text t) s M w h n p = absurd h
 fits_step P (object fs) (tree.list ds) s M w h n p = absurd h
-fits_step P (object fs) (tree.object ms) (place i) M w h n p = cc
+fits_step P (object fs) (tree.object ms) (index i) M w h n p = cc
 fits_step P (object fs) (tree.object ms) (name k) M w h n p =
     let found = fits_member P fs ms k w h p in
     subst (λ N. Fits P N w) (same_Some found.0 M (sym found.1 ∙ n)) found.2
@@ -88,7 +88,7 @@ fits_declared P (object fs) (tree.boolean b) s h u = elim h [ ]
 fits_declared P (object fs) (tree.integer z) s h u = elim h [ ]
 fits_declared P (object fs) (tree.text t) s h u = elim h [ ]
 fits_declared P (object fs) (tree.list ds) s h u = elim h [ ]
-fits_declared P (object fs) (tree.object ms) (place i) h u = elim u [ ]
+fits_declared P (object fs) (tree.object ms) (index i) h u = elim u [ ]
 
 pub fits_pruned : (P : Pools) (N : Node) (v : Data) → Fits P N v → IsPruned N v v
 fits_pruned P N v h = record {

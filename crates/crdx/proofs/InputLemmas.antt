@@ -7,7 +7,7 @@ use Rattle.jtree.specs.Data.{Data}
 use Rattle.jtree.specs.Reads.{Reads, IsNoJson, HasOtherNumber, most_bytes}
 use Rattle.jtree.specs.declared.fault.JFault.{JFault}
 use Rattle.jtree.specs.declared.fault.JFault.TheVariants.{NotAnInteger, NoMemory, NotJson, TooLong}
-use Rattle.crdx.specs.InputFault.{IsNoDocument}
+use Rattle.crdx.specs.Program.InputFault.{IsNoDocument}
 
 module _ (limit : ℕ) (start bytes : List ℕ) (cut : limit ≡ most_bytes + 1) (empty : start ≡ []) where
   -- what is no longer than a document is all that there was

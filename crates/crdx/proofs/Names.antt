@@ -4,8 +4,8 @@ use Rattle.std.specs.Str.{bytes_eq}
 use Rattle.std.specs.declared.cmp.Ordering.TheVariants.{Less}
 use Rattle.std.proofs.lemmas.Cmp.{nat_list_cmp_total}
 use Rattle.jtree.specs.Order.{text_cmp}
-use Rattle.jtree.specs.Lookups.{bool_cases, same_name, own_name, later_name}
-use Rattle.crdx.specs.Node.{Node, Fields, no_fields, field, declared, IsBeforeFields, AreOrdered}
+use Rattle.jtree.specs.Internal.Lookups.{bool_cases, same_name, own_name, later_name}
+use Rattle.crdx.specs.Objects.Node.{Node, Fields, no_fields, field, declared, IsBeforeFields, AreOrdered}
 
 pub IsBeforeFields-trans : (k l : List ℕ) (fs : Fields) → text_cmp k l ≡ Less → IsBeforeFields l fs → IsBeforeFields k fs
 IsBeforeFields-trans k l no_fields kl h = tt

@@ -19,14 +19,14 @@ use Rattle.std.proofs.lemmas.List.Elements.{All-contains, All-push, All-weaker, 
 use Rattle.std.proofs.lemmas.List.Quantifiers.{all_pairs_push}
 use Rattle.jtree.specs.Data.{Data}
 use Rattle.jtree.specs.Order.{tree_cmp}
-use Rattle.jtree.specs.OrderLaws.{tree_total, tree_same}
+use Rattle.jtree.specs.Internal.OrderLaws.{tree_total, tree_same}
 use Rattle.jtree.specs.View.{data_of}
 use Rattle.jtree.specs.declared.value.Tree.{Tree}
-use Rattle.crdx.specs.Sample.{Question}
-use Rattle.crdx.specs.Page.{Precedes, IsPast, IsCandidate, IsPage}
-use Rattle.crdx.specs.Values.{trees_of, AreSamples}
-use Rattle.crdx.specs.Building.{IsNext}
-use Rattle.jtree.specs.Lookups.{ordering_cases, bool_cases}
+use Rattle.crdx.specs.Samples.Sample.{Question}
+use Rattle.crdx.specs.Samples.Page.{Precedes, IsPast, IsCandidate, IsPage}
+use Rattle.crdx.specs.Internal.Values.{trees_of, AreSamples}
+use Rattle.crdx.specs.Internal.Building.{IsNext}
+use Rattle.jtree.specs.Internal.Lookups.{ordering_cases, bool_cases}
 use Rattle.crdx.proofs.PageLemmas.{not_before_itself, recursion-among, among_middle}
 use Rattle.crdx.proofs.ValueLemmas.{contains_cases, contains_none, contains_first, contains_later, contains_mapped, mapped_contains}
 

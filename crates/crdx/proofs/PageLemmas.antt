@@ -7,9 +7,9 @@ use Rattle.std.proofs.lemmas.Cmp.{tied_itself}
 use Rattle.std.proofs.lemmas.List.Elements.{recursion_from_All}
 use Rattle.jtree.specs.Data.{Data}
 use Rattle.jtree.specs.Order.{tree_cmp}
-use Rattle.crdx.specs.Sample.{Question}
-use Rattle.crdx.specs.Page.{Precedes, IsCandidate, IsPage}
-use Rattle.jtree.specs.Lookups.{bool_cases}
+use Rattle.crdx.specs.Samples.Sample.{Question}
+use Rattle.crdx.specs.Samples.Page.{Precedes, IsCandidate, IsPage}
+use Rattle.jtree.specs.Internal.Lookups.{bool_cases}
 
 -- each is before all later ones, by recursion
 abbrev Rising : List Data → Type 0

@@ -14,19 +14,19 @@ use Rattle.std.specs.declared.cmp.Ordering.TheVariants.{Less, Equal, Greater}
 use Rattle.jtree.specs.Data.{Data, Items, no_items, item, Members, no_members, member, IsObject, AreTrees}
 use Rattle.jtree.specs.Data as tree
 use Rattle.jtree.specs.Order.{text_cmp}
-use Rattle.jtree.specs.Path.{Path, name, place, member_at, item_at, under}
+use Rattle.jtree.specs.Path.{Path, name, index, member_at, item_at, under}
 use Rattle.jtree.specs.View.{data_of, items_of}
 use Rattle.jtree.specs.declared.value.Tree.{Tree}
 use Rattle.jtree.specs.declared.value.Tree.TheVariants as code
 use Rattle.jtree.specs.Kind.{is_integer, is_object}
 use Rattle.jtree.specs.PathOrder.{path_cmp}
-use Rattle.crdx.specs.Pools.{BreaksForm, no_object, other_member, no_list, no_integer, HasForm, IsFirstBreak, integers_of_items, integers_of, pools_of, most_entries}
-use Rattle.crdx.specs.Over.{Pools}
-use Rattle.crdx.specs.PoolForm.{other_item, pool_break, below_name, or_else, members_break, IsBreakFault, IsPoolFault}
-use Rattle.crdx.specs.PoolFault.{IsPoolsFault}
+use Rattle.crdx.specs.Samples.Pools.{BreaksForm, no_object, other_member, no_list, no_integer, HasForm, IsFirstBreak, integers_of_items, integers_of, pools_of, most_entries}
+use Rattle.crdx.specs.Samples.Over.{Pools}
+use Rattle.crdx.specs.Internal.PoolForm.{other_item, pool_break, below_name, or_else, members_break, IsBreakFault, IsPoolFault}
+use Rattle.crdx.specs.Samples.PoolFault.{IsPoolsFault}
 use Rattle.crdx.specs.declared.plan.fault.PFault.{PFault}
 use Rattle.crdx.specs.declared.plan.fault.PFault.TheVariants.{Form, TooLarge, NoMemory, BadLimit}
-use Rattle.jtree.specs.Lookups.{bool_cases, option_cases, same_name, own_name, member_first, member_later, before_each, before_none}
+use Rattle.jtree.specs.Internal.Lookups.{bool_cases, option_cases, same_name, own_name, member_first, member_later, before_each, before_none}
 
 -- the name of the pool of integers
 abbrev name_integers : List ℕ
@@ -111,7 +111,7 @@ not_less_end : (k : List ℕ) (p : Path) → path_cmp (name k ∷ p) (name k ∷
 not_less_end k [] less = let tied = tied_itself nat_list_cmp_total k in let contrary = rw tied at less in cc
 not_less_end k (s ∷ p) less = let tied = tied_itself nat_list_cmp_total k in let contrary = rw tied at less in cc
 
-not_less_place : (k : List ℕ) (i j : ℕ) → (j < i → ⊥) → path_cmp (name k ∷ place j ∷ []) (name k ∷ place i ∷ []) ≢ Less
+not_less_place : (k : List ℕ) (i j : ℕ) → (j < i → ⊥) → path_cmp (name k ∷ index j ∷ []) (name k ∷ index i ∷ []) ≢ Less
 not_less_place k i j h less = elim (cases_lt j i) [
   | inl below ↦ absurd (h below)
   | inr above ↦ elim (cases_lt i j) [
@@ -144,7 +144,7 @@ break_later : (k : List ℕ) (d : Data) (ms : Members) (e : Path) → IsObject (
 break_later k d ms e o (no_object _ h) = λ _. cc
 break_later k d ms e o (other_member _ l other present) = not_less_first k d ms l [] o present
 break_later k d ms e o (no_list _ v at other) = not_less_first k d ms name_integers [] o (λ none. cc)
-break_later k d ms e o (no_integer _ ds i v at item_is other) = not_less_first k d ms name_integers (place i ∷ []) o (λ none. cc)
+break_later k d ms e o (no_integer _ ds i v at item_is other) = not_less_first k d ms name_integers (index i ∷ []) o (λ none. cc)
 
 -- ---- the first break
 
@@ -165,13 +165,13 @@ no_list_first d ms o h = record {
 
 -- where the pool is a list, a break is one of its entries, or of a later member
 list_first : (ds : Items) (ms : Members) (n : ℕ) → IsObject (member name_integers (tree.list ds) ms) → IsOther ds n → (e : Path)
-    → BreaksForm (tree.object (member name_integers (tree.list ds) ms)) e → path_cmp e (name name_integers ∷ place n ∷ []) ≢ Less
+    → BreaksForm (tree.object (member name_integers (tree.list ds) ms)) e → path_cmp e (name name_integers ∷ index n ∷ []) ≢ Less
 list_first ds ms n o other e (no_object _ h) = λ _. cc
 list_first ds ms n o other e (other_member _ l differs present) = elim (bool_cases (bytes_eq l name_integers)) [
   | inl t ↦ absurd (differs (same_name l name_integers t))
   | inr f ↦ elim (option_cases (member_at l ms)) [
     | inl none ↦ absurd (present (member_later l name_integers (tree.list ds) ms f ∙ none))
-    | inr found ↦ not_less_name name_integers l [] (place n ∷ []) (before_each name_integers ms l found.0 o.1 o.2 found.1)
+    | inr found ↦ not_less_name name_integers l [] (index n ∷ []) (before_each name_integers ms l found.0 o.1 o.2 found.1)
   ]
 ]
 list_first ds ms n o other e (no_list _ v at differs) =
@@ -189,7 +189,7 @@ pool_first (tree.integer z) ms q o h = subst (λ p. IsFirstBreak (tree.object (m
 pool_first (tree.text s) ms q o h = subst (λ p. IsFirstBreak (tree.object (member name_integers (tree.text s) ms)) (name name_integers ∷ p)) (same_Some [] q h) (no_list_first (tree.text s) ms o (λ ds e. cc))
 pool_first (tree.object ns) ms q o h = subst (λ p. IsFirstBreak (tree.object (member name_integers (tree.object ns) ms)) (name name_integers ∷ p)) (same_Some [] q h) (no_list_first (tree.object ns) ms o (λ ds e. cc))
 pool_first (tree.list ds) ms q o h =
-    let n = option_map_some (λ (i : ℕ). place i ∷ []) (other_item ds) q h in
+    let n = option_map_some (λ (i : ℕ). index i ∷ []) (other_item ds) q h in
     let other = others_some ds n.0 n.1 in
     subst (λ p. IsFirstBreak (tree.object (member name_integers (tree.list ds) ms)) (name name_integers ∷ p)) n.2 (record {
       breaks = no_integer _ ds n.0 other.value (member_first name_integers (tree.list ds) ms) other.at other.other;
@@ -203,7 +203,7 @@ good_list tree.null h = cc
 good_list (tree.boolean b) h = cc
 good_list (tree.integer z) h = cc
 good_list (tree.text s) h = cc
-good_list (tree.list ds) h = (ds, refl, option_map_none (λ (i : ℕ). place i ∷ []) (other_item ds) h)
+good_list (tree.list ds) h = (ds, refl, option_map_none (λ (i : ℕ). index i ∷ []) (other_item ds) h)
 good_list (tree.object ms) h = cc
 
 -- a break behind it is one of the whole

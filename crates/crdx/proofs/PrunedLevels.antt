@@ -10,12 +10,12 @@ use Rattle.std.specs.Ordering.{ordering_reverse}
 use Rattle.jtree.specs.Data.{Data, Items, no_items, item, Members, no_members, member, IsBefore, IsObject, IsTree, AreTrees}
 use Rattle.jtree.specs.Data as tree
 use Rattle.jtree.specs.Order.{text_cmp}
-use Rattle.jtree.specs.Path.{Path, Step, name, place, member_at, item_at, part_at}
-use Rattle.crdx.specs.Node.{Node, scalar, object, Fields, declared}
-use Rattle.crdx.specs.Leads.{node_by, leads}
-use Rattle.crdx.specs.Pruned.{IsUndeclared, undeclared, IsCut, IsPruned, label, label_at}
-use Rattle.crdx.specs.ByLevel.{in_front, pruned, pruned_members}
-use Rattle.jtree.specs.Lookups.{bool_cases, option_cases, ordering_cases, same_name, member_first, member_later, before_none, IsBefore-trans}
+use Rattle.jtree.specs.Path.{Path, Step, name, index, member_at, item_at, part_at}
+use Rattle.crdx.specs.Objects.Node.{Node, scalar, object, Fields, declared}
+use Rattle.crdx.specs.Objects.Leads.{node_by, leads}
+use Rattle.crdx.specs.Objects.Pruned.{IsUndeclared, undeclared, IsCut, IsPruned, label, label_at}
+use Rattle.crdx.specs.Objects.ByLevel.{in_front, pruned, pruned_members}
+use Rattle.jtree.specs.Internal.Lookups.{bool_cases, option_cases, ordering_cases, same_name, member_first, member_later, before_none, IsBefore-trans}
 
 -- ---- what stands where after pruning level by level
 
@@ -89,7 +89,7 @@ declared_step : (fs : Fields) (ms : Members) (k : List ℕ) (M : Node) → decla
 declared_step fs ms k M is (undeclared _ _ _ none) = let e = sym is ∙ none in cc
 
 -- no item is undeclared
-place_step : (N : Node) (v : Data) (i : ℕ) → IsUndeclared N v (place i) → ⊥
+place_step : (N : Node) (v : Data) (i : ℕ) → IsUndeclared N v (index i) → ⊥
 place_step N v i u = elim u [ ]
 
 first_step : (s t : Step) (p q : Path) → ◌≡◌ {A = Path} (s ∷ p) (t ∷ q) → s ≡ t
@@ -120,10 +120,10 @@ cut_in_member fs ms k M d path (s ∷ before) step after at part is found e n p 
     }
 
 cut_place : (fs : Fields) (ms : Members) (i : ℕ) (path before : Path) (step : Step) (after : Path) (at : Node) (part : Data)
-    → place i ∷ path ≡ before ++ (step ∷ after) → leads (object fs) (tree.object ms) before ≡ Some at → IsUndeclared at part step → ⊥
-cut_place fs ms i path [] step after at part e n u = place_step at part i (subst (IsUndeclared at part) (sym (first_step (place i) step path after e)) u)
+    → index i ∷ path ≡ before ++ (step ∷ after) → leads (object fs) (tree.object ms) before ≡ Some at → IsUndeclared at part step → ⊥
+cut_place fs ms i path [] step after at part e n u = place_step at part i (subst (IsUndeclared at part) (sym (first_step (index i) step path after e)) u)
 cut_place fs ms i path (s ∷ before) step after at part e n u =
-    let n' = rw (sym (first_step (place i) s path (before ++ (step ∷ after)) e)) at n in cc
+    let n' = rw (sym (first_step (index i) s path (before ++ (step ∷ after)) e)) at n in cc
 
 no_empty : (before : Path) (step : Step) (after : Path) → ◌≡◌ {A = Path} [] (before ++ (step ∷ after)) → ⊥
 no_empty [] step after e = cc
@@ -139,7 +139,7 @@ kept_paths (object fs) (tree.boolean b) (s ∷ path) c = refl
 kept_paths (object fs) (tree.integer z) (s ∷ path) c = refl
 kept_paths (object fs) (tree.text t) (s ∷ path) c = refl
 kept_paths (object fs) (tree.list ds) (s ∷ path) c = refl
-kept_paths (object fs) (tree.object ms) (place i ∷ path) c = refl
+kept_paths (object fs) (tree.object ms) (index i ∷ path) c = refl
 kept_paths (object fs) (tree.object ms) (name k ∷ path) c = elim (option_cases (declared k fs)) [
   | inl none ↦ absurd (c (cut_here fs ms k path none))
   | inr M ↦ elim (option_cases (member_at k ms)) [
@@ -156,7 +156,7 @@ cut_paths (object fs) (tree.boolean b) (s ∷ path) c = absurd (never_cut (objec
 cut_paths (object fs) (tree.integer z) (s ∷ path) c = absurd (never_cut (object fs) (tree.integer z) (λ t. refl) (λ t u. elim u [ ]) (s ∷ path) c)
 cut_paths (object fs) (tree.text x) (s ∷ path) c = absurd (never_cut (object fs) (tree.text x) (λ t. refl) (λ t u. elim u [ ]) (s ∷ path) c)
 cut_paths (object fs) (tree.list ds) (s ∷ path) c = absurd (never_cut (object fs) (tree.list ds) (λ t. refl) (λ t u. elim u [ ]) (s ∷ path) c)
-cut_paths (object fs) (tree.object ms) (place i ∷ path) c = absurd (cut_place fs ms i path c.before c.step c.after c.at c.part c.is c.stands.node c.undeclared)
+cut_paths (object fs) (tree.object ms) (index i ∷ path) c = absurd (cut_place fs ms i path c.before c.step c.after c.at c.part c.is c.stands.node c.undeclared)
 cut_paths (object fs) (tree.object ms) (name k ∷ path) c = elim (option_cases (declared k fs)) [
   | inl none ↦ rw (pruned_absent fs ms k none) refl
   | inr M ↦ elim (option_cases (member_at k ms)) [
@@ -193,7 +193,7 @@ mutual
   same_tree (tree.boolean a) (tree.boolean b) t u h = let e = h [] in cc
   same_tree (tree.integer a) (tree.integer b) t u h = let e = h [] in cc
   same_tree (tree.text a) (tree.text b) t u h = let e = h [] in cc
-  same_tree (tree.list ds) (tree.list es) t u h = ap tree.list (same_items ds es t u (λ i path. h (place i ∷ path)))
+  same_tree (tree.list ds) (tree.list es) t u h = ap tree.list (same_items ds es t u (λ i path. h (index i ∷ path)))
   same_tree (tree.object ms) (tree.object ns) t u h = ap tree.object (same_members ms ns t u (λ k path. h (name k ∷ path)))
   same_tree v w t u h = let e = h [] in cc
 
@@ -240,7 +240,7 @@ cut_decided (object fs) (tree.boolean b) (s ∷ path) = inr (never_cut (object f
 cut_decided (object fs) (tree.integer z) (s ∷ path) = inr (never_cut (object fs) (tree.integer z) (λ t. refl) (λ t u. elim u [ ]) (s ∷ path))
 cut_decided (object fs) (tree.text x) (s ∷ path) = inr (never_cut (object fs) (tree.text x) (λ t. refl) (λ t u. elim u [ ]) (s ∷ path))
 cut_decided (object fs) (tree.list ds) (s ∷ path) = inr (never_cut (object fs) (tree.list ds) (λ t. refl) (λ t u. elim u [ ]) (s ∷ path))
-cut_decided (object fs) (tree.object ms) (place i ∷ path) = inr (λ c. cut_place fs ms i path c.before c.step c.after c.at c.part c.is c.stands.node c.undeclared)
+cut_decided (object fs) (tree.object ms) (index i ∷ path) = inr (λ c. cut_place fs ms i path c.before c.step c.after c.at c.part c.is c.stands.node c.undeclared)
 cut_decided (object fs) (tree.object ms) (name k ∷ path) = elim (option_cases (declared k fs)) [
   | inl none ↦ inl (cut_here fs ms k path none)
   | inr M ↦ elim (option_cases (member_at k ms)) [

@@ -5,11 +5,11 @@ use Rattle.std.proofs.lemmas.Option.{same_Some}
 use Rattle.std.proofs.lemmas.List.Elements.{Contains-append_left, Contains-append_right, Contains-push, Contains-push_cases, Contains-append_cases}
 use Rattle.jtree.specs.Data.{Data, Members, no_members, member, IsBefore, IsObject}
 use Rattle.jtree.specs.Nodes.{node_count, members_count}
-use Rattle.crdx.specs.Node.{Node, Fields, no_fields, field, declared, IsBeforeFields, AreOrdered}
-use Rattle.crdx.specs.Over.{Pools}
-use Rattle.crdx.specs.Fits.{Fits, MembersFit}
-use Rattle.crdx.specs.Values.{AreValuesOf, IsRowOf, AreRowsOf, IsExtendedRow, AreExtendedRows}
-use Rattle.jtree.specs.Lookups.{bool_cases, same_name, later_name, IsBefore-trans}
+use Rattle.crdx.specs.Objects.Node.{Node, Fields, no_fields, field, declared, IsBeforeFields, AreOrdered}
+use Rattle.crdx.specs.Samples.Over.{Pools}
+use Rattle.crdx.specs.Objects.Fits.{Fits, MembersFit}
+use Rattle.crdx.specs.Internal.Values.{AreValuesOf, IsRowOf, AreRowsOf, IsExtendedRow, AreExtendedRows}
+use Rattle.jtree.specs.Internal.Lookups.{bool_cases, same_name, later_name, IsBefore-trans}
 use Rattle.crdx.proofs.Names.{before_each_field, declared_first, declared_later, declared_tail}
 
 -- the one element of a list

@@ -1,9 +1,9 @@
 -- The values of the root are the samples.
 use Rattle.std.proofs.Common.{◌<◌, List, arith}
 use Rattle.jtree.specs.Data.{Data}
-use Rattle.crdx.specs.Node.{IsNode}
-use Rattle.crdx.specs.Sample.{Question}
-use Rattle.crdx.specs.Values.{AreValuesOf, AreSamples}
+use Rattle.crdx.specs.Objects.Node.{IsNode}
+use Rattle.crdx.specs.Samples.Sample.{Question}
+use Rattle.crdx.specs.Internal.Values.{AreValuesOf, AreSamples}
 use Rattle.crdx.proofs.FitsLemmas.{fits_stored, fits_over, stored_fits}
 
 pub values_are_samples : (q : Question) (vs : List Data) → IsNode q.root → q.limit < 64 → AreValuesOf q.pools q.root q.limit vs → AreSamples q vs

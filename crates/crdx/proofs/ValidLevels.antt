@@ -5,13 +5,13 @@ use Rattle.std.specs.Str.{bytes_eq}
 use Rattle.std.proofs.lemmas.Option.{option_and_then_some, same_Some, MatchOption-at_some}
 use Rattle.jtree.specs.Data.{Data, Members, no_members, member, IsObject, IsTree}
 use Rattle.jtree.specs.Data as tree
-use Rattle.jtree.specs.Path.{Path, Step, name, place, member_at, part_by, part_at}
-use Rattle.crdx.specs.Node.{boolean, integer, Node, scalar, object, Fields, declared, accepts_kind}
-use Rattle.crdx.specs.Leads.{node_by, leads}
-use Rattle.crdx.specs.Fault.{HasFault, IsValid}
-use Rattle.crdx.specs.Fault as fault
-use Rattle.crdx.specs.ByLevel.{IsValidByLevel, AreValidMembers}
-use Rattle.jtree.specs.Lookups.{bool_cases, option_cases, same_name, member_first, member_later, member_tail}
+use Rattle.jtree.specs.Path.{Path, Step, name, index, member_at, part_by, part_at}
+use Rattle.crdx.specs.Objects.Node.{boolean, integer, Node, scalar, object, Fields, declared, accepts_kind}
+use Rattle.crdx.specs.Objects.Leads.{node_by, leads}
+use Rattle.crdx.specs.Objects.Fault.{HasFault, IsValid}
+use Rattle.crdx.specs.Objects.Fault as fault
+use Rattle.crdx.specs.Objects.ByLevel.{IsValidByLevel, AreValidMembers}
+use Rattle.jtree.specs.Internal.Lookups.{bool_cases, option_cases, same_name, member_first, member_later, member_tail}
 use Rattle.crdx.proofs.FitsLemmas.{below, faultless_kind, no_null}
 
 level_member : (fs : Fields) (ms : Members) (k : List ℕ) (w : Data) (M : Node) → AreValidMembers fs ms → member_at k ms ≡ Some w → declared k fs ≡ Some M → IsValidByLevel M w
@@ -31,7 +31,7 @@ level_step (object fs) (tree.boolean b) s M w h n p = absurd h
 level_step (object fs) (tree.integer z) s M w h n p = absurd h
 level_step (object fs) (tree.text t) s M w h n p = absurd h
 level_step (object fs) (tree.list ds) s M w h n p = absurd h
-level_step (object fs) (tree.object ms) (place i) M w h n p = cc
+level_step (object fs) (tree.object ms) (index i) M w h n p = cc
 level_step (object fs) (tree.object ms) (name k) M w h n p = level_member fs ms k w M h p n
 
 level_along : (N : Node) (v : Data) (path : Path) (M : Node) (w : Data) → IsValidByLevel N v → leads N v path ≡ Some M → part_at v path ≡ Some w → IsValidByLevel M w

@@ -6,9 +6,9 @@ use Rattle.std.proofs.lemmas.List.Elements.{Contains-append_left, Contains-appen
 use Rattle.jtree.specs.Data.{Data, Members, IsTree, IsObject}
 use Rattle.jtree.specs.Data as tree
 use Rattle.jtree.specs.Nodes.{node_count}
-use Rattle.crdx.specs.Node.{Node, scalar, boolean, integer, object, Fields}
-use Rattle.crdx.specs.Over.{Pools}
-use Rattle.crdx.specs.Values.{IsValueOf, AreValuesOf, AreRowsOf}
+use Rattle.crdx.specs.Objects.Node.{Node, scalar, boolean, integer, object, Fields}
+use Rattle.crdx.specs.Samples.Over.{Pools}
+use Rattle.crdx.specs.Internal.Values.{IsValueOf, AreValuesOf, AreRowsOf}
 use Rattle.crdx.proofs.RowLemmas.{contains_one}
 
 pub contains_first : {X : Type 0} (x : X) (xs : List X) → Contains (x ∷ xs) x

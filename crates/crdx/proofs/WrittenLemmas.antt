@@ -5,7 +5,7 @@ use Rattle.std.specs.List.{slice_range}
 use Rattle.std.proofs.lemmas.List.Folds.{drop_split}
 use Rattle.jtree.specs.View.{data_of}
 use Rattle.jtree.specs.declared.value.Tree.{Tree}
-use Rattle.crdx.specs.Values.{trees_of}
+use Rattle.crdx.specs.Internal.Values.{trees_of}
 use Rattle.std.proofs.lemmas.Bool.{cases_lt}
 use Rattle.std.proofs.lemmas.Bool.Decides.{nat_tests}
 use Rattle.std.proofs.lemmas.Grind.{flat_map-append}
@@ -15,14 +15,14 @@ use Rattle.std.proofs.lemmas.Option.{slice_get_cases, slice_get-get_or}
 use Rattle.std.proofs.KnownBytes.{Appends-trans, Appends-nil}
 use Rattle.std.specs.Io.KnownBytes.{Appends}
 use Rattle.jtree.specs.Data.{Data}
-use Rattle.jtree.specs.OrderLaws.{tree_total}
-use Rattle.crdx.specs.Line.{line, lines}
-use Rattle.crdx.specs.Sink.{failures_after}
-use Rattle.crdx.specs.Block.{HasEnds, IsCountOfEnds}
-use Rattle.crdx.specs.Sample.{Question}
-use Rattle.crdx.specs.Page.{IsPage}
-use Rattle.crdx.specs.Stopped.{IsProperBeginning, IsStoppedBetween, IsStoppedWithin, Leaves}
-use Rattle.crdx.specs.Stopping.{StopsAt}
+use Rattle.jtree.specs.Internal.OrderLaws.{tree_total}
+use Rattle.crdx.specs.Output.Line.{line, lines}
+use Rattle.crdx.specs.Output.Sink.{failures_after}
+use Rattle.crdx.specs.Internal.Block.{HasEnds, IsCountOfEnds}
+use Rattle.crdx.specs.Samples.Sample.{Question}
+use Rattle.crdx.specs.Samples.Page.{IsPage}
+use Rattle.crdx.specs.Output.PartialOutput.{IsProperBeginning, IsCutBetweenLines, IsCutWithinLine, IsPartialOutput}
+use Rattle.crdx.specs.Internal.PartialLines.{ArePartialLines}
 use Rattle.crdx.specs.declared.walk.fault.WFault.{WFault}
 use Rattle.crdx.specs.declared.walk.fault.WFault.TheVariants.{NotASample, NoMemory, Write}
 use Rattle.crdx.proofs.PageLemmas.{same_items}
@@ -104,9 +104,9 @@ cut_lines items ends taken n h c lt =
     ]
 
 -- a block between the lines that are out and the rest was taken in part
-pub stopped_within : (front items rest all : List Data) (taken n at : ℕ) (old mid new : Option (List ℕ)) → all ≡ front ++ (items ++ rest) → at ≡ length front
-    → IsCut items taken n → Appends old mid (lines front) → Appends mid new (take taken (lines items)) → IsStoppedWithin all (at + n) old new
-stopped_within front items rest all taken n at old mid new is place c before after =
+pub cut_within : (front items rest all : List Data) (taken n at : ℕ) (old mid new : Option (List ℕ)) → all ≡ front ++ (items ++ rest) → at ≡ length front
+    → IsCut items taken n → Appends old mid (lines front) → Appends mid new (take taken (lines items)) → IsCutWithinLine all (at + n) old new
+cut_within front items rest all taken n at old mid new is place c before after =
     let joined = front ++ (items ++ rest) in
     let moved : get_or joined (length front + n) c.next ≡ c.next = get_or-append-add front (items ++ rest) n c.next ∙ (get_or_append_left items rest c.next n c.within ∙ c.is) in
     let within : length front + n < length joined = omega (arith, length-append front (items ++ rest), length-append items rest, c.within) in
@@ -116,27 +116,27 @@ stopped_within front items rest all taken n at old mid new is place c before aft
     let both : Appends old new (lines front ++ take taken (lines items)) = Appends-trans old mid new (lines front) (take taken (lines items)) before after in
     let text : lines front ++ take taken (lines items) ≡ lines (take (length front + n) joined) ++ c.part =
     ap (λ l. lines front ++ l) c.out ∙ (sym (append_assoc (lines front) (lines (take n items)) c.part) ∙ ap (λ l. l ++ c.part) (sym whole)) in
-    let there : IsStoppedWithin joined (length front + n) old new = record {
+    let there : IsCutWithinLine joined (length front + n) old new = record {
       next = c.next;
       is = found;
       part = c.part;
       beginning = c.beginning;
       out = subst (Appends old new) text both;
     } in
-    subst (λ us. IsStoppedWithin us (at + n) old new) (sym is) (subst (λ k. IsStoppedWithin joined (k + n) old new) (sym place) there)
+    subst (λ us. IsCutWithinLine us (at + n) old new) (sym is) (subst (λ k. IsCutWithinLine joined (k + n) old new) (sym place) there)
 
 -- before any line
-pub stopped_at_none : (items : List Data) (old : Option (List ℕ)) → IsStoppedBetween items 0 old old
-stopped_at_none items old = record { out = Appends-nil old; fewer = inl refl }
+pub cut_at_none : (items : List Data) (old : Option (List ℕ)) → IsCutBetweenLines items 0 old old
+cut_at_none items old = record { out = Appends-nil old; fewer = inl refl }
 
 -- what holds of the page's own items holds of the items of any such page
-pub leaves_from_stops : (q : Question) (after : Option Data) (total : ℕ) (items : List Data) (end : Bool) (old new : Option (List ℕ)) (before now : ℕ) (e : WFault)
-    → IsPage q after total items end → StopsAt items old new before now e → Leaves q after total old new before now e
-leaves_from_stops q after total items end old new before now NotASample p s = absurd s
-leaves_from_stops q after total items end old new before now (NoMemory n) p s =
-    λ us d r. subst (λ vs. IsStoppedBetween vs n old new) (same_items tree_total q after total items us end d p r) s
-leaves_from_stops q after total items end old new before now (Write n) p s =
-    (s.0, λ us d r. subst (λ vs. IsStoppedWithin vs n old new) (same_items tree_total q after total items us end d p r) s.1)
+pub partial_output_of_lines : (q : Question) (after : Option Data) (total : ℕ) (items : List Data) (end : Bool) (old new : Option (List ℕ)) (before now : ℕ) (e : WFault)
+    → IsPage q after total items end → ArePartialLines items old new before now e → IsPartialOutput q after total old new before now e
+partial_output_of_lines q after total items end old new before now NotASample p s = absurd s
+partial_output_of_lines q after total items end old new before now (NoMemory n) p s =
+    λ us d r. subst (λ vs. IsCutBetweenLines vs n old new) (same_items tree_total q after total items us end d p r) s
+partial_output_of_lines q after total items end old new before now (Write n) p s =
+    (s.0, λ us d r. subst (λ vs. IsCutWithinLine vs n old new) (same_items tree_total q after total items us end d p r) s.1)
 
 -- the trees before a block, in it and behind it
 pub trees_in_blocks : (ts : List Tree) (at end : ℕ) → at ≤ end → trees_of ts ≡ trees_of (take at ts) ++ (trees_of (slice_range ts at end) ++ trees_of (drop end ts))
@@ -152,23 +152,23 @@ lines_through ts at end le =
     ap (λ us. lines (trees_of us)) parts ∙ (ap lines (map-append (λ t. data_of t) (take at ts) (slice_range ts at end))
     ∙ lines-append (trees_of (take at ts)) (trees_of (slice_range ts at end)))
 
-pub stopped_between : (ts : List Tree) (at : ℕ) (old new : Option (List ℕ)) → at < length ts → Appends old new (lines (trees_of (take at ts))) → IsStoppedBetween (trees_of ts) at old new
-stopped_between ts at old new lt before = record {
+pub cut_between : (ts : List Tree) (at : ℕ) (old new : Option (List ℕ)) → at < length ts → Appends old new (lines (trees_of (take at ts))) → IsCutBetweenLines (trees_of ts) at old new
+cut_between ts at old new lt before = record {
   out = subst (λ us. Appends old new (lines us)) (sym (take-map (λ t. data_of t) at ts)) before;
   fewer = inr (omega (arith, lt, length_trees ts));
 }
 
 -- a block of trees was taken in part
-pub stopped_in_block : (ts : List Tree) (at end taken n : ℕ) (bytes ends : List ℕ) (old mid new : Option (List ℕ)) → at ≤ end → end ≤ length ts
+pub cut_in_block : (ts : List Tree) (at end taken n : ℕ) (bytes ends : List ℕ) (old mid new : Option (List ℕ)) → at ≤ end → end ≤ length ts
     → bytes ≡ lines (trees_of (slice_range ts at end)) → HasEnds (trees_of (slice_range ts at end)) ends → IsCountOfEnds ends taken n → taken < length bytes
-    → Appends old mid (lines (trees_of (take at ts))) → Appends mid new (take taken bytes) → IsStoppedWithin (trees_of ts) (at + n) old new
-stopped_in_block ts at end taken n bytes ends old mid new le within is has count lt before after =
+    → Appends old mid (lines (trees_of (take at ts))) → Appends mid new (take taken bytes) → IsCutWithinLine (trees_of ts) (at + n) old new
+cut_in_block ts at end taken n bytes ends old mid new le within is has count lt before after =
     let block = trees_of (slice_range ts at end) in
     let front = trees_of (take at ts) in
     let place : at ≡ length front = omega (arith, le, within, length_trees (take at ts), length-take at ts) in
     let low : taken < length (lines block) = subst (λ l. taken < length l) is lt in
     let part : Appends mid new (take taken (lines block)) = subst (λ l. Appends mid new (take taken l)) is after in
-    stopped_within front block (trees_of (drop end ts)) (trees_of ts) taken n at old mid new (trees_in_blocks ts at end le) place (cut_lines block ends taken n has count low) before part
+    cut_within front block (trees_of (drop end ts)) (trees_of ts) taken n at old mid new (trees_in_blocks ts at end le) place (cut_lines block ends taken n has count low) before part
 
 -- a sink that took something has not failed
 pub took_some : (E : Type 0) (old new n : ℕ) (bytes : List ℕ) → (n ≡ 0 → ⊥) → new ≡ failures_after {E = E} old (Ok n) bytes → new ≡ old

@@ -1,6 +1,6 @@
 // What the program says of schemas that break rules, row by row.
-use crate::fakes::{Limited, Shelf};
-use crate::trials::{Trial, definition, is_number, is_text, run_on, sides};
+use crate::fakes::{FailingSink, FakeInputs};
+use crate::harness::{Output, definition, is_number, is_text, run_on, sides};
 use std::alloc::{AllocError, Global};
 use std::process::Abort;
 use std::test::Fail;
@@ -18,27 +18,32 @@ fn lines_of(alloc: Global, text: &str) -> Result<String, AllocError> {
 }
 
 // The status, the lines of standard output, `/` and those of standard error.
-fn answer(alloc: Global, trial: &Trial) -> Result<String, AllocError> {
-    let output = lines_of(alloc, trial.out.text())?;
-    let errors = lines_of(alloc, trial.err.text())?;
-    let status = trial.status;
+fn answer(alloc: Global, output: &Output) -> Result<String, AllocError> {
+    let output = lines_of(alloc, output.out.text())?;
+    let errors = lines_of(alloc, output.err.text())?;
+    let status = output.status;
     format!(in alloc; "{status} {output} / {errors}")
 }
 
 // What comes of a command on a definition whose one version has this schema.
-fn try_on(alloc: Global, command: &str, schema: &str, out: Limited) -> Result<Trial, AllocError> {
+fn try_on(
+    alloc: Global,
+    command: &str,
+    schema: &str,
+    out: FailingSink,
+) -> Result<Output, AllocError> {
     let document = definition(alloc, schema)?;
-    let shelf = Shelf {
+    let fake_inputs = FakeInputs {
         alloc,
         crd: document.as_str(),
         pools: "",
     };
-    run_on(alloc, command, shelf, out)
+    run_on(alloc, command, fake_inputs, out)
 }
 
 fn said(alloc: Global, command: &str, schema: &str) -> Result<String, AllocError> {
-    let trial = try_on(alloc, command, schema, Limited::endless(alloc))?;
-    answer(alloc, &trial)
+    let output = try_on(alloc, command, schema, FailingSink::endless(alloc))?;
+    answer(alloc, &output)
 }
 
 // A schema, and what `check` says.
@@ -117,19 +122,19 @@ fn try_cut(
     room: usize,
     wanted: &str,
 ) -> Result<(), Fail> {
-    let out = Limited::new(alloc, room, usize::MAX, false);
-    let trial = try_on(alloc, "check crd.json v1", schema, out)?;
+    let out = FailingSink::new(alloc, room, usize::MAX, false);
+    let output = try_on(alloc, "check crd.json v1", schema, out)?;
     is_text(
         rt,
-        trial.err.text(),
+        output.err.text(),
         wanted,
         "standard error, with bytes",
         room,
     );
-    is_number(rt, trial.status as u64, 4, "the status, with bytes", room);
+    is_number(rt, output.status as u64, 4, "the status, with bytes", room);
     is_number(
         rt,
-        trial.out.taken.as_slice().len() as u64,
+        output.out.taken.as_slice().len() as u64,
         room as u64,
         "what was taken, with bytes",
         room,
@@ -174,12 +179,12 @@ fn try_unflushed(
     lines: &str,
     wanted: &str,
 ) -> Result<(), Fail> {
-    let mut out = Limited::endless(alloc);
+    let mut out = FailingSink::endless(alloc);
     out.flush_fails = true;
-    let trial = try_on(alloc, "check crd.json v1", schema, out)?;
-    is_text(rt, trial.out.text(), lines, "standard output", schema);
-    is_text(rt, trial.err.text(), wanted, "standard error", schema);
-    is_number(rt, trial.status as u64, 4, "the status", schema);
+    let output = try_on(alloc, "check crd.json v1", schema, out)?;
+    is_text(rt, output.out.text(), lines, "standard output", schema);
+    is_text(rt, output.err.text(), wanted, "standard error", schema);
+    is_number(rt, output.status as u64, 4, "the status", schema);
     Ok(())
 }
 

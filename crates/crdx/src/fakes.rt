@@ -1,7 +1,7 @@
 //! A sink for tests, which can fail, and documents.
 ghost use Rattle.std.specs.Prelude.{Some, ◌≡◌, ◌⊎◌, IfOk};
-ghost use Rattle.crdx.specs.InputFault.{IsReading};
-ghost use Rattle.crdx.specs.Sink.{failures_after};
+ghost use Rattle.crdx.specs.Program.InputFault.{IsReading};
+ghost use Rattle.crdx.specs.Output.Sink.{failures_after};
 
 use crate::inputs::{InFault, Inputs};
 use crate::sink::{Sink, SinkFault};
@@ -11,7 +11,7 @@ use std::io::Write;
 
 /// Takes at most `step` bytes a call, and `left` in all; then it fails, or answers 0.
 #[derive(Drop)]
-pub(crate) struct Limited {
+pub(crate) struct FailingSink {
     pub taken: Vec<u8>,
     pub left: usize,
     pub step: usize,
@@ -20,9 +20,9 @@ pub(crate) struct Limited {
     pub failures: u64,
 }
 
-impl Limited {
-    pub fn new(alloc: Global, left: usize, step: usize, answers_zero: bool) -> Limited {
-        Limited {
+impl FailingSink {
+    pub fn new(alloc: Global, left: usize, step: usize, answers_zero: bool) -> FailingSink {
+        FailingSink {
             taken: Vec::new(alloc),
             left,
             step,
@@ -33,8 +33,8 @@ impl Limited {
     }
 
     /// Takes all.
-    pub fn endless(alloc: Global) -> Limited {
-        Limited::new(alloc, usize::MAX, usize::MAX, false)
+    pub fn endless(alloc: Global) -> FailingSink {
+        FailingSink::new(alloc, usize::MAX, usize::MAX, false)
     }
 
     /// What was taken, as text.
@@ -59,7 +59,7 @@ impl Limited {
     }
 }
 
-impl Sink for Limited {
+impl Sink for FailingSink {
     ghost taken = { λ s. Some s.taken.items };
 
     ghost failures = { λ s. s.failures };
@@ -95,13 +95,13 @@ impl Sink for Limited {
 
 /// Two documents by name. Another name cannot be opened.
 #[derive(Drop)]
-pub(crate) struct Shelf<'a> {
+pub(crate) struct FakeInputs<'a> {
     pub alloc: Global,
     pub crd: &'a str,
     pub pools: &'a str,
 }
 
-impl Inputs for Shelf<'_> {
+impl Inputs for FakeInputs<'_> {
     ghost has = { λ s name read. IsReading s.crd.now read ⊎ IsReading s.pools.now read };
 
     fn tree(&mut self, name: Option<&str>) -> Result<Tree, InFault> {

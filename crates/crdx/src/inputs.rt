@@ -5,8 +5,8 @@ ghost use Rattle.jtree.specs.Data.{Data};
 ghost use Rattle.jtree.specs.Reads.{Reads};
 ghost use Rattle.jtree.specs.View.{data_of};
 ghost use Rattle.jtree.specs.declared.fault.JFault.TheVariants.{TooLong, NoMemory};
-ghost use Rattle.crdx.specs.Documents.{file_name, AreAmong};
-ghost use Rattle.crdx.specs.InputFault.{IsInputFault, IsFaultOf};
+ghost use Rattle.crdx.specs.Program.Documents.{file_name, AreAmong};
+ghost use Rattle.crdx.specs.Program.InputFault.{IsInputFault, IsFaultOf};
 ghost use Rattle.jtree.specs.declared.fault.JFault.{JFault};
 ghost use Rattle.crdx.specs.declared.inputs.InFault.TheVariants.{Failed, Document};
 

@@ -1,11 +1,14 @@
 //! Explains the schema of a Kubernetes custom resource, and lists its small objects exhaustively.
 #![tactic(auto)]
 
+pub mod arguments;
 #[cfg(test)]
 mod check_rows;
 pub mod enumerate;
 #[cfg(test)]
 mod fakes;
+#[cfg(test)]
+mod harness;
 pub mod inputs;
 #[cfg(test)]
 mod page_rows;
@@ -20,9 +23,6 @@ pub mod sink;
 pub mod stored;
 #[cfg(test)]
 mod tests;
-#[cfg(test)]
-mod trials;
 pub mod walk;
-pub mod words;
 
 pub use running::run;

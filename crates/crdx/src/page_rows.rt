@@ -1,12 +1,12 @@
 // Pages and walks of one plan, from place to place.
 use crate::enumerate::{EFault, Page, page, pages_agree};
-use crate::fakes::Limited;
+use crate::fakes::FailingSink;
+use crate::harness::{holds, is_number, is_text};
 use crate::plan::{Plan, Pools};
 use crate::rows::{TEN_LINES, document};
 use crate::stored::{
     Schema, accept, filling_by_name, fits_are_stored_over, pruning_by_level, validity_by_level,
 };
-use crate::trials::{holds, is_number, is_text};
 use crate::walk::{WFault, Walked, walk};
 use jtree::Tree;
 use schema::read_crd;
@@ -174,7 +174,7 @@ fn try_walk(
     left: u64,
 ) -> Result<(), Fail> {
     let place = Tree::from_bytes(alloc, br#"{"spec":{"b":false}}"#)?;
-    let mut sink = Limited::endless(alloc);
+    let mut sink = FailingSink::endless(alloc);
     let walked = walk(alloc, plan, Some(&place), total, &mut sink)?;
     is_number(
         rt,
@@ -213,7 +213,7 @@ fn try_walks(rt: &impl Abort, alloc: Global, plan: &Plan) -> Result<(), Fail> {
 
 fn try_refused_walk(rt: &impl Abort, alloc: Global, plan: &Plan) -> Result<(), Fail> {
     let other = Tree::from_bytes(alloc, br#"{"zzz":1}"#)?;
-    let mut sink = Limited::endless(alloc);
+    let mut sink = FailingSink::endless(alloc);
     let refused = walk(alloc, plan, Some(&other), 5, &mut sink) == Err(WFault::NotASample);
     holds(rt, refused, "the refusal", "a walk");
     is_text(rt, sink.text(), "", "the output", "a walk");

@@ -1,6 +1,6 @@
 //! What the program says of a rule that is broken.
 ghost use Rattle.std.specs.Prelude.{◌≡◌};
-ghost use Rattle.crdx.specs.Phrases.{phrase_of};
+ghost use Rattle.crdx.specs.Program.Phrases.{phrase_of};
 
 use schema::Rule;
 

@@ -1,6 +1,6 @@
-// The program over documents and streams of memory, row by row: words, documents, and what is to come of them.
-use crate::fakes::{Limited, Shelf};
-use crate::trials::{Trial, holds, is_number, is_text, run_on};
+// The program over documents and streams of memory, row by row: arguments, documents, and what is to come of them.
+use crate::fakes::{FailingSink, FakeInputs};
+use crate::harness::{Output, holds, is_number, is_text, run_on};
 use std::alloc::{AllocError, Global};
 use std::process::Abort;
 use std::test::Fail;
@@ -8,7 +8,7 @@ use std::test::Fail;
 /// Documents, a line each, behind their names.
 static DOCUMENTS: &str =
     r#"widget {"apiVersion":"apiextensions.k8s.io/v1","kind":"CustomResourceDefinition","spec":{"group":"example.org","names":{"kind":"Widget"},"versions":[{"name":"v1","schema":{"openAPIV3Schema":{"type":"object","properties":{"spec":{"type":"object","properties":{"a":{"type":"integer"},"b":{"type":"boolean"}}}}}}}]}}
-widget-in-words {"apiVersion":"apiextensions.k8s.io/v1","kind":"CustomResourceDefinition","spec":{"group":"example.org","names":{"kind":"Widget"},"versions":[{"name":"v1","schema":{"openAPIV3Schema":{"type":"object","description":"A widget.","properties":{"apiVersion":{"type":"string"},"kind":{"type":"string"},"metadata":{"type":"object"},"spec":{"type":"object","title":"What is wanted","properties":{"a":{"type":"integer","format":"int64","example":7},"b":{"type":"boolean","uniqueItems":false}}}}}}}]}}
+widget-in-arguments {"apiVersion":"apiextensions.k8s.io/v1","kind":"CustomResourceDefinition","spec":{"group":"example.org","names":{"kind":"Widget"},"versions":[{"name":"v1","schema":{"openAPIV3Schema":{"type":"object","description":"A widget.","properties":{"apiVersion":{"type":"string"},"kind":{"type":"string"},"metadata":{"type":"object"},"spec":{"type":"object","title":"What is wanted","properties":{"a":{"type":"integer","format":"int64","example":7},"b":{"type":"boolean","uniqueItems":false}}}}}}}]}}
 string-property {"apiVersion":"apiextensions.k8s.io/v1","kind":"CustomResourceDefinition","spec":{"group":"example.org","names":{"kind":"Widget"},"versions":[{"name":"v1","schema":{"openAPIV3Schema":{"type":"object","properties":{"a":{"type":"string"}}}}}]}}
 quoted-property {"apiVersion":"apiextensions.k8s.io/v1","kind":"CustomResourceDefinition","spec":{"group":"example.org","names":{"kind":"Widget"},"versions":[{"name":"v1","schema":{"openAPIV3Schema":{"type":"object","properties":{"a\"/~é":{"type":"string"}}}}}]}}
 number-required {"apiVersion":"apiextensions.k8s.io/v1","kind":"CustomResourceDefinition","spec":{"group":"example.org","names":{"kind":"Widget"},"versions":[{"name":"v1","schema":{"openAPIV3Schema":{"type":"object","properties":{"a":{"type":"string","required":[1]}}}}}]}}
@@ -27,7 +27,7 @@ pub(crate) const TEN_LINES: &str =
 /// Words behind the program's name, two documents, and what is to come of them.
 #[derive(Drop)]
 struct Row<'a> {
-    words: &'a str,
+    arguments: &'a str,
     crd: &'a str,
     pools: &'a str,
     out: &'a str,
@@ -51,7 +51,7 @@ sample crd.json v1 --pools pools.json --count 10 => widget => zero-and-one => {}
 sample crd.json v1 => widget => zero-and-one => {} | {"spec":{}} | {"spec":{"b":false}} | {"spec":{"b":true}} => crdx: end => 0
 sample crd.json v1 --pools pools.json --limit 3 => widget => repeated-and-negative => {} | {"spec":{}} | {"spec":{"b":false}} | {"spec":{"b":true}} | {"spec":{"a":-9223372036854775808}} | {"spec":{"a":-1}} | {"spec":{"a":5}} => crdx: end => 0
 sample crd.json v1 --pools pools.json --limit 4 => string-property => zero-and-one =>  => crdx: crd: S0 "/properties/a" => 3
-sample crd.json v1 --pools pools.json --limit 4 => widget-in-words => zero-and-one => {} | {"spec":{}} | {"spec":{"b":false}} | {"spec":{"b":true}} | {"spec":{"a":0}} | {"spec":{"a":1}} | {"spec":{"a":0,"b":false}} | {"spec":{"a":0,"b":true}} | {"spec":{"a":1,"b":false}} | {"spec":{"a":1,"b":true}} => crdx: end => 0
+sample crd.json v1 --pools pools.json --limit 4 => widget-in-arguments => zero-and-one => {} | {"spec":{}} | {"spec":{"b":false}} | {"spec":{"b":true}} | {"spec":{"a":0}} | {"spec":{"a":1}} | {"spec":{"a":0,"b":false}} | {"spec":{"a":0,"b":true}} | {"spec":{"a":1,"b":false}} | {"spec":{"a":1,"b":true}} => crdx: end => 0
 sample crd.json v1 => number-required => zero-and-one =>  => crdx: crd: S3 "/properties/a/required/0" => 3
 sample crd.json v1 => five-keys => zero-and-one =>  => crdx: crd: S4 "/properties/a/x-kubernetes-list-map-keys" => 3
 sample crd.json v1 => quoted-property => zero-and-one =>  => crdx: crd: S0 "/properties/a\"~1~0é" => 3
@@ -98,8 +98,8 @@ pub(crate) fn document(name: &str) -> Option<&'static str> {
 }
 
 /// The two documents of these names.
-fn shelf(alloc: Global, crd: &str, pools: &str) -> Option<Shelf<'static>> {
-    Some(Shelf {
+fn fake_inputs(alloc: Global, crd: &str, pools: &str) -> Option<FakeInputs<'static>> {
+    Some(FakeInputs {
         alloc,
         crd: document(crd)?,
         pools: document(pools)?,
@@ -107,15 +107,21 @@ fn shelf(alloc: Global, crd: &str, pools: &str) -> Option<Shelf<'static>> {
 }
 
 /// A run over the documents of these names.
-fn try_on(alloc: Global, words: &str, crd: &str, pools: &str, out: Limited) -> Result<Trial, Fail> {
-    match shelf(alloc, crd, pools) {
-        Some(shelf) => Ok(run_on(alloc, words, shelf, out)?),
+fn try_on(
+    alloc: Global,
+    arguments: &str,
+    crd: &str,
+    pools: &str,
+    out: FailingSink,
+) -> Result<Output, Fail> {
+    match fake_inputs(alloc, crd, pools) {
+        Some(fake_inputs) => Ok(run_on(alloc, arguments, fake_inputs, out)?),
         None => Err(Fail::from("no document of this name")),
     }
 }
 
-fn try_widget(alloc: Global, words: &str, out: Limited) -> Result<Trial, Fail> {
-    try_on(alloc, words, "widget", "zero-and-one", out)
+fn try_widget(alloc: Global, arguments: &str, out: FailingSink) -> Result<Output, Fail> {
+    try_on(alloc, arguments, "widget", "zero-and-one", out)
 }
 
 /// The lines that stand with bars between.
@@ -132,13 +138,13 @@ fn lines_of(alloc: Global, joined: &str) -> Result<String, AllocError> {
 }
 
 fn row_of(line: &str) -> Option<Row<'_>> {
-    let (words, rest) = line.split_once(" => ")?;
+    let (arguments, rest) = line.split_once(" => ")?;
     let (crd, rest) = rest.split_once(" => ")?;
     let (pools, rest) = rest.split_once(" => ")?;
     let (out, rest) = rest.split_once(" => ")?;
     let (err, status) = rest.split_once(" => ")?;
     Some(Row {
-        words,
+        arguments,
         crd,
         pools,
         out,
@@ -163,33 +169,39 @@ fn is_lines(
 fn is_answer(
     rt: &impl Abort,
     alloc: Global,
-    trial: &Trial,
+    output: &Output,
     row: &Row<'_>,
 ) -> Result<(), AllocError> {
     is_lines(
         rt,
         alloc,
-        trial.out.text(),
+        output.out.text(),
         row.out,
         "standard output",
-        row.words,
+        row.arguments,
     )?;
     is_lines(
         rt,
         alloc,
-        trial.err.text(),
+        output.err.text(),
         row.err,
         "standard error",
-        row.words,
+        row.arguments,
     )?;
-    is_number(rt, trial.status as u64, row.status, "the status", row.words);
+    is_number(
+        rt,
+        output.status as u64,
+        row.status,
+        "the status",
+        row.arguments,
+    );
     Ok(())
 }
 
 fn try_row(rt: &impl Abort, alloc: Global, row: &Row<'_>) -> Result<(), Fail> {
-    let out = Limited::endless(alloc);
-    let trial = try_on(alloc, row.words, row.crd, row.pools, out)?;
-    is_answer(rt, alloc, &trial, row)?;
+    let out = FailingSink::endless(alloc);
+    let output = try_on(alloc, row.arguments, row.crd, row.pools, out)?;
+    is_answer(rt, alloc, &output, row)?;
     Ok(())
 }
 
@@ -204,13 +216,13 @@ fn rows(rt: HostRuntime) -> Result<(), Fail> {
     Ok(())
 }
 
-fn try_mistake(rt: &impl Abort, alloc: Global, asked: &str) -> Result<(), Fail> {
-    let trial = try_widget(alloc, asked, Limited::endless(alloc))?;
-    is_number(rt, trial.status as u64, 2, "the status", asked);
-    is_text(rt, trial.out.text(), "", "standard output", asked);
+fn try_usage_error(rt: &impl Abort, alloc: Global, asked: &str) -> Result<(), Fail> {
+    let output = try_widget(alloc, asked, FailingSink::endless(alloc))?;
+    is_number(rt, output.status as u64, 2, "the status", asked);
+    is_text(rt, output.out.text(), "", "standard output", asked);
     holds(
         rt,
-        !trial.err.taken.is_empty(),
+        !output.err.taken.is_empty(),
         "some standard error",
         asked,
     );
@@ -218,20 +230,20 @@ fn try_mistake(rt: &impl Abort, alloc: Global, asked: &str) -> Result<(), Fail> 
 }
 
 #[test]
-fn mistakes(rt: HostRuntime) -> Result<(), Fail> {
+fn usage_errors(rt: HostRuntime) -> Result<(), Fail> {
     for asked in MISTAKES.lines() {
-        try_mistake(&rt, rt.alloc(), asked)?;
+        try_usage_error(&rt, rt.alloc(), asked)?;
     }
     Ok(())
 }
 
 fn try_help(rt: &impl Abort, alloc: Global, asked: &str) -> Result<(), Fail> {
-    let trial = try_widget(alloc, asked, Limited::endless(alloc))?;
-    is_number(rt, trial.status as u64, 0, "the status", asked);
-    is_text(rt, trial.err.text(), "", "standard error", asked);
+    let output = try_widget(alloc, asked, FailingSink::endless(alloc))?;
+    is_number(rt, output.status as u64, 0, "the status", asked);
+    is_text(rt, output.err.text(), "", "standard error", asked);
     holds(
         rt,
-        !trial.out.taken.is_empty(),
+        !output.out.taken.is_empty(),
         "some standard output",
         asked,
     );
@@ -271,40 +283,45 @@ fn is_beginning(rt: &impl Abort, taken: &[u8], room: usize) {
     );
 }
 
-fn is_ending(rt: &impl Abort, trial: &Trial, err: &str, status: u64, room: usize) {
+fn is_ending(rt: &impl Abort, output: &Output, err: &str, status: u64, room: usize) {
     is_text(
         rt,
-        trial.err.text(),
+        output.err.text(),
         err,
         "standard error, with bytes",
         room,
     );
     is_number(
         rt,
-        trial.status as u64,
+        output.status as u64,
         status,
         "the status, with bytes",
         room,
     );
 }
 
-fn is_broken(rt: &impl Abort, alloc: Global, trial: &Trial, room: usize) -> Result<(), AllocError> {
+fn is_broken(
+    rt: &impl Abort,
+    alloc: Global,
+    output: &Output,
+    room: usize,
+) -> Result<(), AllocError> {
     let lines = lines_within(room);
     if lines == 10 {
-        is_ending(rt, trial, "crdx: end\n", 0, room);
+        is_ending(rt, output, "crdx: end\n", 0, room);
     } else {
         let line = format!(in alloc; "crdx: write failed after {lines} lines\n")?;
-        is_ending(rt, trial, line.as_str(), 4, room);
+        is_ending(rt, output, line.as_str(), 4, room);
     }
     Ok(())
 }
 
 /// Standard output takes so many bytes, at most so many a call, and then fails.
 fn try_broken(rt: &impl Abort, alloc: Global, room: usize, most: usize) -> Result<(), Fail> {
-    let out = Limited::new(alloc, room, most, false);
-    let trial = try_widget(alloc, SAMPLE_OF_FOUR, out)?;
-    is_beginning(rt, trial.out.taken.as_slice(), room);
-    is_broken(rt, alloc, &trial, room)?;
+    let out = FailingSink::new(alloc, room, most, false);
+    let output = try_widget(alloc, SAMPLE_OF_FOUR, out)?;
+    is_beginning(rt, output.out.taken.as_slice(), room);
+    is_broken(rt, alloc, &output, room)?;
     Ok(())
 }
 
@@ -326,18 +343,18 @@ fn broken_writes(rt: HostRuntime) -> Result<(), Fail> {
 #[test]
 fn broken_flush(rt: HostRuntime) -> Result<(), Fail> {
     let alloc = rt.alloc();
-    let mut out = Limited::endless(alloc);
+    let mut out = FailingSink::endless(alloc);
     out.flush_fails = true;
-    let trial = try_widget(alloc, SAMPLE_OF_FOUR, out)?;
+    let output = try_widget(alloc, SAMPLE_OF_FOUR, out)?;
     let asked = "a flush that fails";
-    is_text(&rt, trial.out.text(), TEN_LINES, "standard output", asked);
+    is_text(&rt, output.out.text(), TEN_LINES, "standard output", asked);
     is_text(
         &rt,
-        trial.err.text(),
+        output.err.text(),
         "crdx: write failed after 10 lines\n",
         "standard error",
         asked,
     );
-    is_number(&rt, trial.status as u64, 4, "the status", asked);
+    is_number(&rt, output.status as u64, 4, "the status", asked);
     Ok(())
 }

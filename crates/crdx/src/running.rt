@@ -6,26 +6,26 @@ ghost use Rattle.jtree.specs.Data.{Data};
 ghost use Rattle.jtree.specs.Data as tree;
 ghost use Rattle.jtree.specs.Text.{compact};
 ghost use Rattle.jtree.specs.View.{data_of};
-ghost use Rattle.schema.specs.Breaks.{told};
-ghost use Rattle.crdx.specs.Accepted.{IsNodeAt};
-ghost use Rattle.crdx.specs.Answered.{IsAnswered, told_line, told_lines};
-ghost use Rattle.crdx.specs.Stops.{IsUnreadStop, IsSchemaStop, IsPoolsStop, IsSampleStop, IsWriteStop};
-ghost use Rattle.crdx.specs.Asked.{IsAcceptedSchema, HasAcceptedSchema, IsAsked, ArePools};
-ghost use Rattle.crdx.specs.CommandLine.{Asks};
-ghost use Rattle.crdx.specs.Documents.{AreAmong};
-ghost use Rattle.crdx.specs.Ending.{status};
-ghost use Rattle.crdx.specs.Sample.{Question};
-ghost use Rattle.crdx.specs.Walk.{WritesPage};
-ghost use Rattle.crdx.specs.declared.words.outcome.Outcome.{Outcome};
-ghost use Rattle.crdx.specs.declared.words.outcome.Outcome.TheVariants.{Check, Sample};
+ghost use Rattle.schema.specs.Rules.Breaks.{told};
+ghost use Rattle.crdx.specs.Objects.Accepted.{IsNodeAt};
+ghost use Rattle.crdx.specs.Program.RunResult.{IsRunResult, told_line, told_lines};
+ghost use Rattle.crdx.specs.Internal.Cause.{IsUnreadCause, IsSchemaCause, IsPoolsCause, IsSampleCause, IsWriteCause};
+ghost use Rattle.crdx.specs.Program.Requested.{IsAcceptedSchema, HasAcceptedSchema, IsRequested, ArePools};
+ghost use Rattle.crdx.specs.Program.CommandLine.{Asks};
+ghost use Rattle.crdx.specs.Program.Documents.{AreAmong};
+ghost use Rattle.crdx.specs.Internal.ExitStatus.{status};
+ghost use Rattle.crdx.specs.Samples.Sample.{Question};
+ghost use Rattle.crdx.specs.Output.Walk.{WritesPage};
+ghost use Rattle.crdx.specs.declared.arguments.request.Request.{Request};
+ghost use Rattle.crdx.specs.declared.arguments.request.Request.TheVariants.{Check, Sample};
 
+use crate::arguments::{CheckArguments, Request, SampleArguments, parse_arguments};
 use crate::inputs::{InFault, Inputs};
 use crate::phrases::phrase;
 use crate::plan::{PFault, Plan, Pools};
 use crate::sink::{Sink, put_all};
 use crate::stored::{Refused, Schema, accept};
 use crate::walk::{WFault, Walked, walk};
-use crate::words::{CheckWords, Outcome, SampleWords, parse_words};
 use jtree::{JFault, Text, Tree};
 use schema::{SFault, Violation, read_crd};
 use std::alloc::{AllocError, Global};
@@ -40,7 +40,7 @@ enum Input {
 
 impl fmt::Display for Input {
     ghost use Rattle.std.specs.Prelude.{Some};
-    ghost use Rattle.crdx.specs.Ending.{input_name};
+    ghost use Rattle.crdx.specs.Internal.ExitStatus.{input_name};
 
     ghost output = { λ i. Some (input_name i) };
 
@@ -54,7 +54,7 @@ impl fmt::Display for Input {
 
 /// Why a run has no answer.
 #[derive(Drop)]
-enum Stop {
+enum Cause {
     /// An input could not be opened or read.
     Unread(Input),
     /// An input is no document.
@@ -86,7 +86,7 @@ enum PlaceCode {
 
 impl fmt::Display for PlaceCode {
     ghost use Rattle.std.specs.Prelude.{Some};
-    ghost use Rattle.crdx.specs.Ending.{code_name};
+    ghost use Rattle.crdx.specs.Internal.ExitStatus.{code_name};
 
     ghost output = { λ c. Some (code_name c) };
 
@@ -100,126 +100,126 @@ impl fmt::Display for PlaceCode {
     }
 }
 
-impl From<AllocError> for Stop {
+impl From<AllocError> for Cause {
     ghost use Rattle.std.specs.Prelude.{◌≡◌};
-    ghost use Rattle.crdx.specs.declared.running.Stop.TheVariants.{NoMemory};
+    ghost use Rattle.crdx.specs.declared.running.Cause.TheVariants.{NoMemory};
 
-    ghost from_gives = { λ _ stop. stop ≡ NoMemory };
+    ghost from_gives = { λ _ cause. cause ≡ NoMemory };
 
-    fn from(_refused: AllocError) -> Stop {
-        Stop::NoMemory
+    fn from(_refused: AllocError) -> Cause {
+        Cause::NoMemory
     }
 }
 
-impl From<SFault> for Stop {
+impl From<SFault> for Cause {
     ghost use Rattle.std.specs.Prelude.{◌≡◌};
-    ghost use Rattle.crdx.specs.Ending.{stop_of_reading};
+    ghost use Rattle.crdx.specs.Internal.ExitStatus.{cause_of_reading};
 
-    ghost from_gives = { λ fault stop. stop ≡ stop_of_reading fault };
+    ghost from_gives = { λ fault cause. cause ≡ cause_of_reading fault };
 
-    fn from(fault: SFault) -> Stop {
+    fn from(fault: SFault) -> Cause {
         match fault {
             SFault::KeywordForm(pointer) => {
-                Stop::Place(Input::Crd, PlaceCode::KeywordForm, pointer)
+                Cause::Place(Input::Crd, PlaceCode::KeywordForm, pointer)
             }
-            SFault::TooLarge(pointer) => Stop::Place(Input::Crd, PlaceCode::TooLarge, pointer),
-            SFault::NoMemory => Stop::NoMemory,
-            other => Stop::Crd(other),
+            SFault::TooLarge(pointer) => Cause::Place(Input::Crd, PlaceCode::TooLarge, pointer),
+            SFault::NoMemory => Cause::NoMemory,
+            other => Cause::Crd(other),
         }
     }
 }
 
-impl From<Refused> for Stop {
+impl From<Refused> for Cause {
     ghost use Rattle.std.specs.Prelude.{◌≡◌};
-    ghost use Rattle.crdx.specs.Ending.{stop_of_refusal};
+    ghost use Rattle.crdx.specs.Internal.ExitStatus.{cause_of_refusal};
 
-    ghost from_gives = { λ fault stop. stop ≡ stop_of_refusal fault };
+    ghost from_gives = { λ fault cause. cause ≡ cause_of_refusal fault };
 
-    fn from(refused: Refused) -> Stop {
+    fn from(refused: Refused) -> Cause {
         match refused {
-            Refused::Violations(violations) => Stop::Violations(violations),
-            Refused::NotYet(pointer) => Stop::Place(Input::Crd, PlaceCode::NotYet, pointer),
-            Refused::NoMemory => Stop::NoMemory,
+            Refused::Violations(violations) => Cause::Violations(violations),
+            Refused::NotYet(pointer) => Cause::Place(Input::Crd, PlaceCode::NotYet, pointer),
+            Refused::NoMemory => Cause::NoMemory,
         }
     }
 }
 
-impl From<PFault> for Stop {
+impl From<PFault> for Cause {
     ghost use Rattle.std.specs.Prelude.{◌≡◌};
-    ghost use Rattle.crdx.specs.Ending.{stop_of_pools};
+    ghost use Rattle.crdx.specs.Internal.ExitStatus.{cause_of_pools};
 
-    ghost from_gives = { λ fault stop. stop ≡ stop_of_pools fault };
+    ghost from_gives = { λ fault cause. cause ≡ cause_of_pools fault };
 
-    fn from(fault: PFault) -> Stop {
+    fn from(fault: PFault) -> Cause {
         match fault {
-            PFault::Form(pointer) => Stop::Place(Input::Pools, PlaceCode::Form, pointer),
-            PFault::NoMemory => Stop::NoMemory,
-            other => Stop::Pools(other),
+            PFault::Form(pointer) => Cause::Place(Input::Pools, PlaceCode::Form, pointer),
+            PFault::NoMemory => Cause::NoMemory,
+            other => Cause::Pools(other),
         }
     }
 }
 
-impl From<WFault> for Stop {
+impl From<WFault> for Cause {
     ghost use Rattle.std.specs.Prelude.{◌≡◌};
-    ghost use Rattle.crdx.specs.Ending.{stop_of_walk};
+    ghost use Rattle.crdx.specs.Internal.ExitStatus.{cause_of_walk};
 
-    ghost from_gives = { λ fault stop. stop ≡ stop_of_walk fault };
+    ghost from_gives = { λ fault cause. cause ≡ cause_of_walk fault };
 
-    fn from(fault: WFault) -> Stop {
+    fn from(fault: WFault) -> Cause {
         match fault {
-            WFault::NotASample => Stop::NotASample,
-            WFault::NoMemory(_) => Stop::NoMemory,
-            WFault::Write(lines) => Stop::Write(lines),
+            WFault::NotASample => Cause::NotASample,
+            WFault::NoMemory(_) => Cause::NoMemory,
+            WFault::Write(lines) => Cause::Write(lines),
         }
     }
 }
 
 /// Runs the program: the first word is its name, and what the others ask for is written to `out`, with a line on `err`
-/// where there is more to say. It answers the exit status: 0 done, 1 the schema breaks a rule, 2 words that are refused,
+/// where there is more to say. It answers the exit status: 0 done, 1 the schema breaks a rule, 2 arguments that are refused,
 /// 3 an input that is no such document, 4 a read or a write that failed, 5 want of memory. A failure of `err` is passed
 /// over.
 pub fn run<I: Inputs, W: Sink, E: Sink>(
     alloc: Global,
-    words: &[String],
+    arguments: &[String],
     inputs: &mut I,
     out: &mut W,
     err: &mut E,
 ) -> u8
-    ensures { (outcome : Outcome) × Asks (map string_bytes words.now) outcome
-        × IsAnswered (I.has inputs.old) outcome (W.taken out.old) (W.taken out.new) (W.failures out.old) (W.failures out.new) result }
+    ensures { (request : Request) × Asks (map string_bytes arguments.now) request
+        × IsRunResult (I.has inputs.old) request (W.taken out.old) (W.taken out.new) (W.failures out.old) (W.failures out.new) result }
 {
-    match parse_words(alloc, words) {
-        Outcome::Check(words) => answer_check(alloc, &words, inputs, out, err),
-        Outcome::Sample(words) => answer_sample(alloc, &words, inputs, out, err),
-        Outcome::Help(text) => match say(out, text.as_bytes()) {
+    match parse_arguments(alloc, arguments) {
+        Request::Check(arguments) => answer_check(alloc, &arguments, inputs, out, err),
+        Request::Sample(arguments) => answer_sample(alloc, &arguments, inputs, out, err),
+        Request::Help(text) => match say(out, text.as_bytes()) {
             Ok(()) => 0,
-            Err(stop) => report(alloc, &stop, err),
+            Err(cause) => report(alloc, &cause, err),
         },
-        Outcome::Mistake(text) => {
+        Request::UsageError(text) => {
             let _ = put_all(err, text.as_bytes());
             2
         }
-        Outcome::NoMemory => report(alloc, &Stop::NoMemory, err),
+        Request::NoMemory => report(alloc, &Cause::NoMemory, err),
     }
 }
 
 fn answer_check<I: Inputs, W: Sink, E: Sink>(
     alloc: Global,
-    words: &CheckWords<'_>,
+    arguments: &CheckArguments<'_>,
     inputs: &mut I,
     out: &mut W,
     err: &mut E,
 ) -> u8
-    ensures { IsAnswered (I.has inputs.old) (Check words.now) (W.taken out.old) (W.taken out.new) (W.failures out.old) (W.failures out.new) result }
+    ensures { IsRunResult (I.has inputs.old) (Check arguments.now) (W.taken out.old) (W.taken out.new) (W.failures out.old) (W.failures out.new) result }
 {
-    let stop = match check(alloc, words, inputs, out) {
+    let cause = match check(alloc, arguments, inputs, out) {
         Ok(()) => return 0,
-        Err(stop) => stop,
+        Err(cause) => cause,
     };
-    match stop {
-        Stop::Violations(violations) => match say_violations(alloc, &violations, out) {
+    match cause {
+        Cause::Violations(violations) => match say_violations(alloc, &violations, out) {
             Ok(()) => 1,
-            Err(stop) => report(alloc, &stop, err),
+            Err(cause) => report(alloc, &cause, err),
         },
         other => report(alloc, &other, err),
     }
@@ -227,59 +227,59 @@ fn answer_check<I: Inputs, W: Sink, E: Sink>(
 
 fn answer_sample<I: Inputs, W: Sink, E: Sink>(
     alloc: Global,
-    words: &SampleWords<'_>,
+    arguments: &SampleArguments<'_>,
     inputs: &mut I,
     out: &mut W,
     err: &mut E,
 ) -> u8
-    ensures { IsAnswered (I.has inputs.old) (Sample words.now) (W.taken out.old) (W.taken out.new) (W.failures out.old) (W.failures out.new) result }
+    ensures { IsRunResult (I.has inputs.old) (Sample arguments.now) (W.taken out.old) (W.taken out.new) (W.failures out.old) (W.failures out.new) result }
 {
-    match sample(alloc, words, inputs, out) {
+    match sample(alloc, arguments, inputs, out) {
         Ok(walked) => {
             let _ = put_all(err, line_of_end(&walked));
             0
         }
-        Err(stop) => report(alloc, &stop, err),
+        Err(cause) => report(alloc, &cause, err),
     }
 }
 
 /// Says `structural` of a schema that is accepted.
 fn check<I: Inputs, W: Sink>(
     alloc: Global,
-    words: &CheckWords<'_>,
+    arguments: &CheckArguments<'_>,
     inputs: &mut I,
     out: &mut W,
-) -> Result<(), Stop>
-    ensures accepted { OnOk result (HasAcceptedSchema (I.has inputs.old) words.now.crd.now words.now.version.now) }
+) -> Result<(), Cause>
+    ensures accepted { OnOk result (HasAcceptedSchema (I.has inputs.old) arguments.now.crd.now arguments.now.version.now) }
     ensures said { OnOk result (Appends (W.taken out.old) (W.taken out.new) (codes "structural\n")) }
     ensures unfailed { OnOk result (W.failures out.new ≡ W.failures out.old) }
-    ensures stops { IfErr result (λ stop. (IsSchemaStop (I.has inputs.old) words.now.crd.now words.now.version.now stop × (out.new ≡ out.old))
-        ⊎ IsWriteStop (W.failures out.old) (W.failures out.new) stop) }
+    ensures causes { IfErr result (λ cause. (IsSchemaCause (I.has inputs.old) arguments.now.crd.now arguments.now.version.now cause × (out.new ≡ out.old))
+        ⊎ IsWriteCause (W.failures out.old) (W.failures out.new) cause) }
 {
-    let _schema = schema_of(alloc, words.crd, words.version, inputs)?;
+    let _schema = schema_of(alloc, arguments.crd, arguments.version, inputs)?;
     say(out, b"structural\n")
 }
 
 /// Lists samples. Inputs are judged in the order CustomResourceDefinition, pools, and the first refusal ends the run.
 fn sample<I: Inputs, W: Sink>(
     alloc: Global,
-    words: &SampleWords<'_>,
+    arguments: &SampleArguments<'_>,
     inputs: &mut I,
     out: &mut W,
-) -> Result<Walked, Stop>
-    ensures sampled { IfOk result (λ walked. (q : Question) × IsAsked (I.has inputs.old) words.now q
-        × WritesPage q None words.now.count walked.lines walked.end (W.taken out.old) (W.taken out.new)) }
+) -> Result<Walked, Cause>
+    ensures sampled { IfOk result (λ walked. (q : Question) × IsRequested (I.has inputs.old) arguments.now q
+        × WritesPage q None arguments.now.count walked.lines walked.end (W.taken out.old) (W.taken out.new)) }
     ensures unfailed { OnOk result (W.failures out.new ≡ W.failures out.old) }
-    ensures stops { IfErr result (λ stop. (IsSampleStop (I.has inputs.old) words.now stop × (out.new ≡ out.old))
-        ⊎ IsWriteStop (W.failures out.old) (W.failures out.new) stop) }
+    ensures causes { IfErr result (λ cause. (IsSampleCause (I.has inputs.old) arguments.now cause × (out.new ≡ out.old))
+        ⊎ IsWriteCause (W.failures out.old) (W.failures out.new) cause) }
 {
-    let schema = schema_of(alloc, words.crd, words.version, inputs)?;
-    let pools = pools_of(alloc, words.pools, inputs)?;
-    let plan = Plan::new(schema, pools, words.limit)?;
-    let walked = walk(alloc, &plan, None, words.count, out)?;
+    let schema = schema_of(alloc, arguments.crd, arguments.version, inputs)?;
+    let pools = pools_of(alloc, arguments.pools, inputs)?;
+    let plan = Plan::new(schema, pools, arguments.limit)?;
+    let walked = walk(alloc, &plan, None, arguments.count, out)?;
     match out.flush() {
         Ok(()) => Ok(walked),
-        Err(_) => Err(Stop::Write(walked.lines)),
+        Err(_) => Err(Cause::Write(walked.lines)),
     }
 }
 
@@ -288,9 +288,9 @@ fn schema_of<I: Inputs>(
     crd: &str,
     version: &str,
     inputs: &mut I,
-) -> Result<Schema, Stop>
+) -> Result<Schema, Cause>
     ensures accepted { IfOk result (λ schema. (raw : Data) × IsAcceptedSchema (I.has inputs.old) crd.now version.now raw × IsNodeAt true schema raw) }
-    ensures stops { IfErr result (IsSchemaStop (I.has inputs.old) crd.now version.now) }
+    ensures causes { IfErr result (IsSchemaCause (I.has inputs.old) crd.now version.now) }
     ensures stays { AreAmong (I.has inputs.new) (I.has inputs.old) }
 {
     let document = document(inputs, Input::Crd, crd)?;
@@ -299,9 +299,9 @@ fn schema_of<I: Inputs>(
 }
 
 /// The pools of the document of this name, and empty pools where there is no name.
-fn pools_of<I: Inputs>(alloc: Global, name: Option<&str>, inputs: &mut I) -> Result<Pools, Stop>
+fn pools_of<I: Inputs>(alloc: Global, name: Option<&str>, inputs: &mut I) -> Result<Pools, Cause>
     ensures ok { IfOk result (λ pools. ArePools (I.has inputs.old) name.entry pools) }
-    ensures stops { IfErr result (IsPoolsStop (I.has inputs.old) name.entry) }
+    ensures causes { IfErr result (IsPoolsCause (I.has inputs.old) name.entry) }
 {
     match name {
         Some(name) => Ok(Pools::read(alloc, &document(inputs, Input::Pools, name)?)?),
@@ -309,31 +309,31 @@ fn pools_of<I: Inputs>(alloc: Global, name: Option<&str>, inputs: &mut I) -> Res
     }
 }
 
-fn document<I: Inputs>(inputs: &mut I, input: Input, name: &str) -> Result<Tree, Stop>
+fn document<I: Inputs>(inputs: &mut I, input: Input, name: &str) -> Result<Tree, Cause>
     ensures ok { IfOk result (λ t. I.has inputs.old (Some name.now) (Ok (data_of t))) }
-    ensures stops { IfErr result (IsUnreadStop (I.has inputs.old) input name.now) }
+    ensures causes { IfErr result (IsUnreadCause (I.has inputs.old) input name.now) }
     ensures stays { AreAmong (I.has inputs.new) (I.has inputs.old) }
 {
     match inputs.tree(Some(name)) {
         Ok(tree) => Ok(tree),
-        Err(InFault::Failed) => Err(Stop::Unread(input)),
-        Err(InFault::Document(JFault::NoMemory)) => Err(Stop::NoMemory),
-        Err(InFault::Document(fault)) => Err(Stop::Document(input, fault)),
+        Err(InFault::Failed) => Err(Cause::Unread(input)),
+        Err(InFault::Document(JFault::NoMemory)) => Err(Cause::NoMemory),
+        Err(InFault::Document(fault)) => Err(Cause::Document(input, fault)),
     }
 }
 
 /// Writes a text that is no line of samples.
-fn say<W: Sink>(out: &mut W, text: &[u8]) -> Result<(), Stop>
+fn say<W: Sink>(out: &mut W, text: &[u8]) -> Result<(), Cause>
     ensures ok { OnOk result (Appends (W.taken out.old) (W.taken out.new) text.now) }
     ensures unfailed { OnOk result (W.failures out.new ≡ W.failures out.old) }
-    ensures err { IfErr result (IsWriteStop (W.failures out.old) (W.failures out.new)) }
+    ensures err { IfErr result (IsWriteCause (W.failures out.old) (W.failures out.new)) }
 {
     match put_all(out, text) {
         Ok(()) => match out.flush() {
             Ok(()) => Ok(()),
-            Err(_) => Err(Stop::Write(whole_lines(text))),
+            Err(_) => Err(Cause::Write(whole_lines(text))),
         },
-        Err(taken) => Err(Stop::Write(whole_lines(&text[..taken]))),
+        Err(taken) => Err(Cause::Write(whole_lines(&text[..taken]))),
     }
 }
 
@@ -342,22 +342,26 @@ fn whole_lines(text: &[u8]) -> u64 {
 }
 
 /// Writes a line for each violation: the rule, the pointer of the place as a JSON text, and what is wrong there.
-fn say_violations<W: Sink>(alloc: Global, violations: &[Violation], out: &mut W) -> Result<(), Stop>
+fn say_violations<W: Sink>(
+    alloc: Global,
+    violations: &[Violation],
+    out: &mut W,
+) -> Result<(), Cause>
     ensures ok { OnOk result (Appends (W.taken out.old) (W.taken out.new) (told_lines (map told violations.now))) }
     ensures unfailed { OnOk result (W.failures out.new ≡ W.failures out.old) }
-    ensures err { IfErr result (IsWriteStop (W.failures out.old) (W.failures out.new)) }
+    ensures err { IfErr result (IsWriteCause (W.failures out.old) (W.failures out.new)) }
 {
     let mut lines: u64 = 0;
     for violation in violations {
         let line = violation_line(alloc, violation)?;
         match put_all(out, line.as_bytes()) {
             Ok(()) => lines = lines.saturating_add(1),
-            Err(_) => return Err(Stop::Write(lines)),
+            Err(_) => return Err(Cause::Write(lines)),
         }
     }
     match out.flush() {
         Ok(()) => Ok(()),
-        Err(_) => Err(Stop::Write(lines)),
+        Err(_) => Err(Cause::Write(lines)),
     }
 }
 
@@ -370,22 +374,22 @@ fn violation_line(alloc: Global, violation: &Violation) -> Result<String, AllocE
 }
 
 /// Says on `err` why a run has no answer, and answers its status.
-fn report<E: Sink>(alloc: Global, stop: &Stop, err: &mut E) -> u8
-    ensures { (result ≡ status stop.now) ⊎ (result ≡ 5) }
+fn report<E: Sink>(alloc: Global, cause: &Cause, err: &mut E) -> u8
+    ensures { (result ≡ status cause.now) ⊎ (result ≡ 5) }
 {
-    if let Stop::Violations(violations) = stop {
+    if let Cause::Violations(violations) = cause {
         return match say_violations(alloc, violations, err) {
-            Err(Stop::NoMemory) => {
+            Err(Cause::NoMemory) => {
                 let _ = put_all(err, b"crdx: out of memory\n");
                 5
             }
             _ => 1,
         };
     }
-    match line_of(alloc, stop) {
+    match line_of(alloc, cause) {
         Ok(line) => {
             let _ = put_all(err, line.as_bytes());
-            status_of(stop)
+            status_of(cause)
         }
         Err(_) => {
             let _ = put_all(err, b"crdx: out of memory\n");
@@ -402,31 +406,31 @@ fn line_of_end(walked: &Walked) -> &'static [u8] {
     }
 }
 
-fn line_of(alloc: Global, stop: &Stop) -> Result<String, AllocError> {
-    match stop {
-        Stop::Unread(input) => format!(in alloc; "crdx: {input}: read failed\n"),
-        Stop::Document(input, fault) => format!(in alloc; "crdx: {input}: {fault}\n"),
-        Stop::Crd(fault) => format!(in alloc; "crdx: crd: {fault}\n"),
-        Stop::Pools(fault) => format!(in alloc; "crdx: pools: {fault}\n"),
-        Stop::Place(input, code, pointer) => {
+fn line_of(alloc: Global, cause: &Cause) -> Result<String, AllocError> {
+    match cause {
+        Cause::Unread(input) => format!(in alloc; "crdx: {input}: read failed\n"),
+        Cause::Document(input, fault) => format!(in alloc; "crdx: {input}: {fault}\n"),
+        Cause::Crd(fault) => format!(in alloc; "crdx: crd: {fault}\n"),
+        Cause::Pools(fault) => format!(in alloc; "crdx: pools: {fault}\n"),
+        Cause::Place(input, code, pointer) => {
             let pointer = json_text(alloc, pointer.as_str())?;
             format!(in alloc; "crdx: {input}: {code} {pointer}\n")
         }
-        Stop::Violations(_) => Ok(String::new(alloc)),
-        Stop::NotASample => format!(in alloc; "crdx: after: not a sample\n"),
-        Stop::Write(lines) => format!(in alloc; "crdx: write failed after {lines} lines\n"),
-        Stop::NoMemory => format!(in alloc; "crdx: out of memory\n"),
+        Cause::Violations(_) => Ok(String::new(alloc)),
+        Cause::NotASample => format!(in alloc; "crdx: after: not a sample\n"),
+        Cause::Write(lines) => format!(in alloc; "crdx: write failed after {lines} lines\n"),
+        Cause::NoMemory => format!(in alloc; "crdx: out of memory\n"),
     }
 }
 
-fn status_of(stop: &Stop) -> u8
-    ensures { result ≡ status stop.now }
+fn status_of(cause: &Cause) -> u8
+    ensures { result ≡ status cause.now }
 {
-    match stop {
-        Stop::NotASample | Stop::Violations(_) => 1,
-        Stop::Document(_, _) | Stop::Crd(_) | Stop::Pools(_) | Stop::Place(_, _, _) => 3,
-        Stop::Unread(_) | Stop::Write(_) => 4,
-        Stop::NoMemory => 5,
+    match cause {
+        Cause::NotASample | Cause::Violations(_) => 1,
+        Cause::Document(_, _) | Cause::Crd(_) | Cause::Pools(_) | Cause::Place(_, _, _) => 3,
+        Cause::Unread(_) | Cause::Write(_) => 4,
+        Cause::NoMemory => 5,
     }
 }
 

@@ -1,5 +1,5 @@
 // Schemas whose keywords have not their forms, or that pass a limit.
-use crate::trials::{definition, is_text, sides};
+use crate::harness::{definition, is_text, sides};
 use jtree::Tree;
 use schema::{Crd, SFault, read_crd};
 use std::alloc::{AllocError, Global};
@@ -10,10 +10,10 @@ use std::test::Fail;
 fn reading(alloc: Global, schema: &str) -> Result<String, Fail> {
     let document = definition(alloc, schema)?;
     let document = Tree::from_bytes(alloc, document.as_bytes())?;
-    Ok(outcome(alloc, read_crd(alloc, &document, "v1"))?)
+    Ok(request(alloc, read_crd(alloc, &document, "v1"))?)
 }
 
-fn outcome(alloc: Global, read: Result<Crd, SFault>) -> Result<String, AllocError> {
+fn request(alloc: Global, read: Result<Crd, SFault>) -> Result<String, AllocError> {
     match read {
         Ok(_crd) => String::from_str(alloc, "read"),
         Err(SFault::KeywordForm(pointer)) => coded(alloc, "S3 ", pointer.as_str()),

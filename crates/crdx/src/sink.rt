@@ -2,7 +2,7 @@
 
 ghost use Rattle.std.specs.Prelude.{◌≡◌, ◌<◌, ◌≤◌, ℕ, List, Option, length, take, IfOk, IfErr, OnOk};
 ghost use Rattle.std.specs.Io.KnownBytes.{WriteAppends, Appends, Keeps};
-ghost use Rattle.crdx.specs.Sink.{failures_after, one_more, HasFailed};
+ghost use Rattle.crdx.specs.Output.Sink.{failures_after, one_more, HasFailed};
 
 use std::io::Write;
 use thiserror::Error;

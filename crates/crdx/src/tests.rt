@@ -1,6 +1,6 @@
+use crate::harness::{definition, is_text, sides};
 use crate::plan::{PFault, Pools};
 use crate::stored::{Field, Fields, Node, Refused, ScalarKind, accept};
-use crate::trials::{definition, is_text, sides};
 use jtree::Tree;
 use schema::{Crd, RawSchema, read_crd};
 use std::alloc::{AllocError, Global};

@@ -1,4 +1,4 @@
-//! The program `crdx`: hands the words, the files and the standard streams to the library.
+//! The program `crdx`: hands the arguments, the files and the standard streams to the library.
 #![tactic(auto)]
 
 use crdx::inputs::Outside;
@@ -8,19 +8,19 @@ use std::rt::Env;
 use std::{env, io};
 
 fn words_of(rt: &(impl Env + AllocGlobal)) -> io::Result<Vec<String>> {
-    let words = env::args(rt)?.collect::<Vec<String>>(rt.alloc())?;
-    Ok(words)
+    let arguments = env::args(rt)?.collect::<Vec<String>>(rt.alloc())?;
+    Ok(arguments)
 }
 
 fn main(rt: HostRuntime) -> ExitCode {
     let mut out = Plain::new(rt.stdout());
     let mut err = Plain::new(rt.stderr());
     match words_of(&rt) {
-        Ok(words) => {
+        Ok(arguments) => {
             let mut inputs = Outside::new(&rt);
             let status = crdx::run(
                 rt.alloc(),
-                words.as_slice(),
+                arguments.as_slice(),
                 &mut inputs,
                 &mut out,
                 &mut err,
@@ -31,11 +31,11 @@ fn main(rt: HostRuntime) -> ExitCode {
     }
 }
 
-/// The status where the words cannot be had: 5 where memory is wanted, and 2 where they are no UTF-8.
+/// The status where the arguments cannot be had: 5 where memory is wanted, and 2 where they are no UTF-8.
 fn untold_words<E: crdx::sink::Sink>(kind: io::ErrorKind, err: &mut E) -> u8 {
     let (text, status) = match kind {
         io::ErrorKind::OutOfMemory => ("crdx: out of memory\n", 5),
-        _ => ("crdx: the words are no UTF-8\n", 2),
+        _ => ("crdx: the arguments are no UTF-8\n", 2),
     };
     let _ = put_all(err, text.as_bytes());
     status

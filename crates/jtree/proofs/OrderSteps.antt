@@ -11,7 +11,7 @@ use Rattle.std.specs.declared.cmp.Ordering.TheVariants.{Less, Equal, Greater}
 use Rattle.jtree.specs.Data.{Data, list, object, Items, item, Members, member}
 use Rattle.jtree.specs.View.{data_of, items_of, members_of}
 use Rattle.jtree.specs.Order.{text_cmp, rank_cmp, items_cmp, members_cmp, tree_cmp}
-use Rattle.jtree.specs.OrderLaws.{rank_total, items_same, members_same}
+use Rattle.jtree.specs.Internal.OrderLaws.{rank_total, items_same, members_same}
 use Rattle.jtree.specs.declared.value.Tree.{Tree}
 use Rattle.jtree.specs.declared.value.Member.{Member}
 

@@ -13,7 +13,7 @@ use Rattle.jtree.specs.Data.{Data, null, boolean, integer, text, list, object, I
 use Rattle.jtree.specs.Path.{item_at, member_at}
 use Rattle.jtree.specs.Nodes.{nodes}
 use Rattle.jtree.specs.Order.{kind, text_cmp, rank_cmp, content_cmp, items_cmp, members_cmp, tree_cmp}
-use Rattle.jtree.specs.OrderLaws.{nat_tied, rank_tied, text_total, text_same, tree_total, tree_same}
+use Rattle.jtree.specs.Internal.OrderLaws.{nat_tied, rank_tied, text_total, text_same, tree_total, tree_same}
 use Rattle.jtree.specs.Before.{AreAlike, AgreeBelow, AgreeBefore, IsBefore, fewer_nodes, earlier_kind, false_first, lesser_integer, lesser_text, ends_first, lesser_item, absent_first, lesser_member}
 
 -- ---- answers

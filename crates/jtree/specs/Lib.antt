@@ -1,16 +1,12 @@
 pub mod Data
-pub mod Code
 pub mod View
-pub mod Falls
 pub mod Path
 pub mod Kind
 pub mod Nodes
 pub mod Order
-pub mod OrderLaws
 pub mod PathOrder
-pub mod PathLaws
 pub mod Before
 pub mod Text
 pub mod Reads
 pub mod Pointer
-pub mod Lookups
+pub mod Internal

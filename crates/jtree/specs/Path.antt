@@ -7,7 +7,7 @@ use Rattle.jtree.specs.Data.{Data, null, boolean, integer, text, list, object, I
 -- to the member of a name, or to the item at a place, counted from 0
 pub data Step : Type 0 where
   name : List ℕ → Step
-  place : ℕ → Step
+  index : ℕ → Step
 
 abbrev pub Path : Type 0
 Path = List Step
@@ -29,10 +29,10 @@ part_by null s = None
 part_by (boolean b) s = None
 part_by (integer z) s = None
 part_by (text t) s = None
-part_by (list ds) (place i) = item_at i ds
+part_by (list ds) (index i) = item_at i ds
 part_by (list ds) (name k) = None
 part_by (object ms) (name k) = member_at k ms
-part_by (object ms) (place i) = None
+part_by (object ms) (index i) = None
 
 -- the part of a tree to which a path leads
 abbrev pub part_at : Data → Path → Option Data

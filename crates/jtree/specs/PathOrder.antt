@@ -6,13 +6,13 @@ use Rattle.std.specs.Cmp.Lexicographic.{slice_cmp}
 use Rattle.std.specs.declared.cmp.Ordering.{Ordering}
 use Rattle.std.specs.declared.cmp.Ordering.TheVariants.{Less, Greater}
 use Rattle.jtree.specs.Order.{text_cmp}
-use Rattle.jtree.specs.Path.{Step, name, place, Path}
+use Rattle.jtree.specs.Path.{Step, name, index, Path}
 
 abbrev pub step_cmp : Step → Step → Ordering
 step_cmp (name k) (name l) = text_cmp k l
-step_cmp (place i) (place j) = nat_cmp i j
-step_cmp (name k) (place j) = Less
-step_cmp (place i) (name l) = Greater
+step_cmp (index i) (index j) = nat_cmp i j
+step_cmp (name k) (index j) = Less
+step_cmp (index i) (name l) = Greater
 
 abbrev pub path_cmp : Path → Path → Ordering
 path_cmp = slice_cmp step_cmp

@@ -9,7 +9,7 @@ ghost use Rattle.jtree.specs.Data.{Data, IsTree};
 ghost use Rattle.jtree.specs.View.{data_of, items_of, members_of};
 ghost use Rattle.jtree.specs.Nodes.{nodes, items_count, members_count, most_nodes};
 ghost use Rattle.jtree.specs.Order.{kind, text_cmp, items_cmp, members_cmp, tree_cmp};
-ghost use Rattle.jtree.specs.OrderLaws.{text_total, tree_total};
+ghost use Rattle.jtree.specs.Internal.OrderLaws.{text_total, tree_total};
 ghost use Rattle.jtree.specs.Before.{IsBefore};
 ghost use Rattle.std.specs.declared.cmp.Ordering.TheVariants.{Less, Equal};
 

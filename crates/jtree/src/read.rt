@@ -90,7 +90,7 @@ fn read_items(alloc: Global, values: &Vec<Value>) -> Result<Items, JFault>
     let mut items = Vec::with_capacity(alloc, values.len())?;
     for value in values {
         let tree = read_tree(alloc, value)?;
-        tree.is_tree();
+        tree.reveal_invariant();
         items.push(tree)?;
     }
     Ok(Items { items })
@@ -107,7 +107,7 @@ fn read_members(alloc: Global, map: &Map<String, Value>) -> Result<Members, JFau
     for (key, value) in map.iter() {
         let name = Text::from_str(alloc, key.as_str())?;
         let tree = read_tree(alloc, value)?;
-        tree.is_tree();
+        tree.reveal_invariant();
         members.push(Member { name, tree })?;
     }
     Ok(Members { members })

@@ -50,7 +50,7 @@ impl Model for Text {
 
 impl Model for Items {
     ghost use Rattle.jtree.specs.Data.{Items as ItemsData, items_depth, AreTrees};
-    ghost use Rattle.jtree.specs.Code.{items_coded};
+    ghost use Rattle.jtree.specs.Internal.Code.{items_coded};
 
     ghost Value = { ItemsData };
 
@@ -64,14 +64,14 @@ impl Model for Items {
 
     ghost size = { items_depth };
 
-    ghost use Rattle.jtree.specs.Falls.{items_fall};
+    ghost use Rattle.jtree.specs.Internal.Measures.{items_decrease};
 
-    ghost size_decreases = { λ a h. items_fall a.items.items };
+    ghost size_decreases = { λ a h. items_decrease a.items.items };
 }
 
 impl Model for Members {
     ghost use Rattle.jtree.specs.Data.{Members as MembersData, members_depth, IsObject};
-    ghost use Rattle.jtree.specs.Code.{members_coded};
+    ghost use Rattle.jtree.specs.Internal.Code.{members_coded};
 
     ghost Value = { MembersData };
 
@@ -85,9 +85,9 @@ impl Model for Members {
 
     ghost size = { members_depth };
 
-    ghost use Rattle.jtree.specs.Falls.{members_fall};
+    ghost use Rattle.jtree.specs.Internal.Measures.{members_decrease};
 
-    ghost size_decreases = { λ a h. members_fall a.members.items };
+    ghost size_decreases = { λ a h. members_decrease a.members.items };
 }
 
 impl Tree {
@@ -95,15 +95,15 @@ impl Tree {
     ghost use Rattle.jtree.specs.View.{data_of};
 
     /// Brings to a proof that names stand in order, each once, and that integers have 64 bits. It does nothing.
-    pub fn is_tree(&self)
+    pub fn reveal_invariant(&self)
         ensures { IsTree (data_of self.now) }
     {
         match self {
             Tree::Int(n) => {
                 let _value = *n;
             }
-            Tree::List(items) => items.are_trees(),
-            Tree::Object(members) => members.is_object(),
+            Tree::List(items) => items.reveal_invariant(),
+            Tree::Object(members) => members.reveal_invariant(),
             _ => {}
         }
     }
@@ -113,7 +113,7 @@ impl Items {
     ghost use Rattle.jtree.specs.Data.{AreTrees};
 
     /// Brings to a proof that each item is a tree. It does nothing.
-    pub fn are_trees(&self)
+    pub fn reveal_invariant(&self)
         ensures { AreTrees self.now }
     {
         let _ = &self.items;
@@ -124,7 +124,7 @@ impl Members {
     ghost use Rattle.jtree.specs.Data.{IsObject};
 
     /// Brings to a proof that names stand in order, each once. It does nothing.
-    pub fn is_object(&self)
+    pub fn reveal_invariant(&self)
         ensures { IsObject self.now }
     {
         let _ = &self.members;

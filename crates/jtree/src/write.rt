@@ -34,7 +34,7 @@ impl Tree {
         ensures reads_back { OnOk result (ReadsBack (data_of self.now) (compact (data_of self.now))) }
         ensures err { IfErr result (λ e. e ≡ NoMemory) }
     {
-        self.is_tree();
+        self.reveal_invariant();
         let mut writer = Writer::new(out);
         write_tree(self, &mut writer)?;
         Ok(writer.into_inner())

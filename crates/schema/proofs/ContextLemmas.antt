@@ -6,20 +6,20 @@ use Rattle.std.proofs.lemmas.List.Elements.{filter-append}
 use Rattle.std.proofs.lemmas.Option.{same_Some}
 use Rattle.std.proofs.lemmas.Bool.Decides.{nat_tests}
 use Rattle.jtree.specs.Data.{Data, object, list, Items, Members, IsObject}
-use Rattle.jtree.specs.Path.{name, place, under, member_at, item_at, part_at}
-use Rattle.jtree.specs.Lookups.{member_first, member_tail}
+use Rattle.jtree.specs.Path.{name, index, under, member_at, item_at, part_at}
+use Rattle.jtree.specs.Internal.Lookups.{member_first, member_tail}
 use Rattle.jtree.specs.View.{data_of, items_of, members_of}
 use Rattle.jtree.specs.declared.value.Tree.{Tree}
 use Rattle.jtree.specs.declared.value.Member.{Member}
-use Rattle.schema.specs.Places.{Step, property, map_value, items, all_of, any_of, one_of, negation, Place, schema_by, schema_at, is_junctor, is_inside, core}
-use Rattle.schema.specs.Marks.{Junctor, all, any, one, branch, Part, a_schema, properties, branches, part_of}
-use Rattle.schema.specs.Rules.{At, IsPatternBranch, of_any, of_all}
-use Rattle.schema.specs.Contexts.{HasAnyPattern, HasAllPattern, is_any, is_first_of_all, outer_by, IsContext, StandsAs}
-use Rattle.schema.specs.PlaceView.{place_of}
-use Rattle.schema.specs.Visits.{IsVisit}
+use Rattle.schema.specs.Document.Places.{Step, property, map_value, items, all_of, any_of, one_of, negation, Place, schema_by, schema_at, is_junctor, is_inside, core}
+use Rattle.schema.specs.Internal.Events.{Junctor, all, any, one, branch, Part, a_schema, properties, branches, part_of}
+use Rattle.schema.specs.Rules.Broken.{At, IsPatternBranch, of_any, of_all}
+use Rattle.schema.specs.Internal.Contexts.{HasAnyPattern, HasAllPattern, is_any, is_first_of_all, outer_by, IsContext, StandsAs}
+use Rattle.schema.specs.Internal.PlaceView.{place_of}
+use Rattle.schema.specs.Internal.Subschemas.{IsSubschema}
 use Rattle.schema.specs.declared.listing.Context.{Context}
-use Rattle.schema.specs.declared.listing.Visit.{Visit}
-use Rattle.schema.proofs.MarkParts.{PartIs, is_properties, is_map_value, is_items, is_all, is_any as is_any_part, is_one, is_negation, is_none, part_is, part_join}
+use Rattle.schema.specs.declared.listing.Subschema.{Subschema}
+use Rattle.schema.proofs.EventParts.{PartIs, is_properties, is_map_value, is_items, is_all, is_any as is_any_part, is_one, is_negation, is_none, part_is, part_join}
 
 -- ---- schemas one step on
 
@@ -104,18 +104,18 @@ record IsHolder (raw : Data) (p : Place) : Type 0 where
 
 record IsLast (raw : Data) (q : Place) : Type 0 where
   above : Place
-  index : ℕ
-  is : q ≡ above ++ (any_of index ∷ [])
+  position : ℕ
+  is : q ≡ above ++ (any_of position ∷ [])
   from : AnyHere raw above ⊎ IsHolder raw above
 
 two_steps : (p : Place) (s t : Step) → (p ++ (s ∷ [])) ++ (t ∷ []) ≡ p ++ (s ∷ t ∷ [])
 two_steps p s t = append_assoc p (s ∷ []) (t ∷ [])
 
 last_of : (raw : Data) (q : Place) → IsPatternBranch raw q → IsLast raw q
-last_of raw q (of_any r p i out at) = record { above = p; index = i; is = refl; from = inl (out, at) }
+last_of raw q (of_any r p i out at) = record { above = p; position = i; is = refl; from = inl (out, at) }
 last_of raw q (of_all r p i out at) = record {
   above = p ++ (all_of 0 ∷ []);
-  index = i;
+  position = i;
   is = sym (two_steps p (all_of 0) (any_of i));
   from = inr (record { above = p; is = refl; here = (out, at) });
 }
@@ -124,11 +124,11 @@ last_of raw q (of_all r p i out at) = record {
 last_step : (raw : Data) (p : Place) (s : Step) → IsPatternBranch raw (p ++ (s ∷ [])) → ((i : ℕ) × (s ≡ any_of i)) × (AnyHere raw p ⊎ IsHolder raw p)
 last_step raw p s h =
     let l : IsLast raw (p ++ (s ∷ [])) = last_of raw (p ++ (s ∷ [])) h in
-    let ends = same_ends p l.above s (any_of l.index) l.is in
-    ((l.index, ends.1), subst (λ q. AnyHere raw q ⊎ IsHolder raw q) (sym ends.0) l.from)
+    let ends = same_ends p l.above s (any_of l.position) l.is in
+    ((l.position, ends.1), subst (λ q. AnyHere raw q ⊎ IsHolder raw q) (sym ends.0) l.from)
 
 root_last : (raw : Data) → IsPatternBranch raw [] → ⊥
-root_last raw h = let l : IsLast raw [] = last_of raw [] h in not_empty l.above (any_of l.index) l.is
+root_last raw h = let l : IsLast raw [] = last_of raw [] h in not_empty l.above (any_of l.position) l.is
 
 all_branch : (raw : Data) (p : Place) (i : ℕ) → AllHere raw p → IsPatternBranch raw (p ++ (all_of 0 ∷ any_of i ∷ []))
 all_branch raw p i h = of_all raw p i h.0 h.1
@@ -251,9 +251,9 @@ context_root ms e o = record {
   );
 }
 
-pub context_visit : (raw : Data) (p : Place) (c : Context) (v : Visit) → place_of v.place.items ≡ p → v.outer ≡ c.outer → v.in_pattern ≡ c.in_pattern
-    → IsContext raw p (object v.schema.now) c → IsVisit raw v
-context_visit raw p c v same outer in_pattern h = record {
+pub context_subschema : (raw : Data) (p : Place) (c : Context) (v : Subschema) → place_of v.place.items ≡ p → v.outer ≡ c.outer → v.in_pattern ≡ c.in_pattern
+    → IsContext raw p (object v.schema.now) c → IsSubschema raw v
+context_subschema raw p c v same outer in_pattern h = record {
   is = ap (schema_at raw) same ∙ h.is;
   outer_is = ap (option_map (λ m. object m.now)) outer ∙ (h.outer_is ∙ ap (λ q. schema_at raw (core q)) (sym same));
   pattern_is = (
@@ -267,19 +267,19 @@ context_visit raw p c v same outer in_pattern h = record {
 one_on : (d : Data) (k : List ℕ) (e : Data) → under d k ≡ Some e → part_at d (name k ∷ []) ≡ Some e
 one_on d k e h = part_join d (name k) [] e e h refl
 
-word_stands : (ms : Members) (k : List ℕ) (part : Part) (d : Data) → PartIs k part → member_at k ms ≡ Some d → StandsAs (object ms) part d
-word_stands ms k part d is_properties h = h
-word_stands ms k part d is_map_value h = one_on (object ms) k d h
-word_stands ms k part d is_items h = one_on (object ms) k d h
-word_stands ms k part d is_all h = h
-word_stands ms k part d is_any_part h = h
-word_stands ms k part d is_one h = h
-word_stands ms k part d is_negation h = one_on (object ms) k d h
-word_stands ms k part d (is_none l) h = tt
+keyword_stands : (ms : Members) (k : List ℕ) (part : Part) (d : Data) → PartIs k part → member_at k ms ≡ Some d → StandsAs (object ms) part d
+keyword_stands ms k part d is_properties h = h
+keyword_stands ms k part d is_map_value h = one_on (object ms) k d h
+keyword_stands ms k part d is_items h = one_on (object ms) k d h
+keyword_stands ms k part d is_all h = h
+keyword_stands ms k part d is_any_part h = h
+keyword_stands ms k part d is_one h = h
+keyword_stands ms k part d is_negation h = one_on (object ms) k d h
+keyword_stands ms k part d (is_none l) h = tt
 
 -- the value of a keyword
 pub part_stands : (ms : Members) (k : List ℕ) (d : Data) → member_at k ms ≡ Some d → StandsAs (object ms) (part_of k) d
-part_stands ms k d h = word_stands ms k (part_of k) d (part_is k) h
+part_stands ms k d h = keyword_stands ms k (part_of k) d (part_is k) h
 
 -- the value of a name under `properties`
 pub property_stands : (s : Data) (ps : Members) (k : List ℕ) (d : Data) → StandsAs s properties (object ps) → member_at k ps ≡ Some d → StandsAs s (a_schema (property k)) d
@@ -287,9 +287,9 @@ property_stands s ps k d found h = part_join s (name (codes "properties")) (name
 
 -- an entry of a junctor
 pub branch_stands : (s : Data) (j : Junctor) (ds : Items) (i : ℕ) (d : Data) → StandsAs s (branches j) (list ds) → item_at i ds ≡ Some d → StandsAs s (a_schema (branch j i)) d
-branch_stands s all ds i d found h = part_join s (name (codes "allOf")) (place i ∷ []) d (list ds) found (part_join (list ds) (place i) [] d d h refl)
-branch_stands s any ds i d found h = part_join s (name (codes "anyOf")) (place i ∷ []) d (list ds) found (part_join (list ds) (place i) [] d d h refl)
-branch_stands s one ds i d found h = part_join s (name (codes "oneOf")) (place i ∷ []) d (list ds) found (part_join (list ds) (place i) [] d d h refl)
+branch_stands s all ds i d found h = part_join s (name (codes "allOf")) (index i ∷ []) d (list ds) found (part_join (list ds) (index i) [] d d h refl)
+branch_stands s any ds i d found h = part_join s (name (codes "anyOf")) (index i ∷ []) d (list ds) found (part_join (list ds) (index i) [] d d h refl)
+branch_stands s one ds i d found h = part_join s (name (codes "oneOf")) (index i ∷ []) d (list ds) found (part_join (list ds) (index i) [] d d h refl)
 
 -- ---- the members and items of the code
 

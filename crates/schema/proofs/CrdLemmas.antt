@@ -2,11 +2,11 @@
 use Rattle.std.proofs.Common.{◌≡◌, ℕ, List, sym, ◌∙◌, subst}
 use Rattle.std.proofs.lemmas.Option.{same_Some}
 use Rattle.jtree.specs.Data.{Data, list, Items}
-use Rattle.schema.specs.Crd.{IsCrd, IsVersion, IsNoCrd, no_crd, LacksVersion}
-use Rattle.schema.specs.Versions.{IsHead, AreVersions, IsVersionsFault}
+use Rattle.schema.specs.Document.Crd.{IsCrd, IsVersion, IsNoCrd, no_crd, LacksVersion}
+use Rattle.schema.specs.Internal.Versions.{IsHead, AreVersions, IsVersionsFault}
 use Rattle.schema.specs.declared.fault.SFault.{SFault}
 use Rattle.schema.specs.declared.fault.SFault.TheVariants.{NotACrd, NoSuchVersion, KeywordForm, TooLarge, NoMemory}
-use Rattle.schema.specs.ReadFault.{IsDefinitionFault}
+use Rattle.schema.specs.Document.ReadFault.{IsDefinitionFault}
 
 pub crd_from : {d : Data} {group kind : List ℕ} {versions : Items} → IsHead d group kind versions → AreVersions versions → IsCrd d group kind versions
 crd_from h v = record {

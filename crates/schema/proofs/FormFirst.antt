@@ -5,12 +5,12 @@ use Rattle.std.specs.Str.{bytes_eq}
 use Rattle.std.proofs.lemmas.Option.{same_Some}
 use Rattle.std.specs.declared.cmp.Ordering.TheVariants.{Less}
 use Rattle.jtree.specs.Data.{Data, null, boolean, integer, text, list, object, Items, no_items, item, Members, no_members, member, IsTree, AreTrees, IsObject}
-use Rattle.jtree.specs.Path.{Step, name, place, Path, member_at, item_at, part_by, part_at}
+use Rattle.jtree.specs.Path.{Step, name, index, Path, member_at, item_at, part_by, part_at}
 use Rattle.jtree.specs.PathOrder.{path_cmp, IsFirst}
-use Rattle.jtree.specs.PathLaws.{not_before_root, same_step, not_before_name, not_before_place}
-use Rattle.jtree.specs.Lookups.{bool_cases, same_name, member_first, member_later, member_tail, option_cases, before_each}
-use Rattle.schema.specs.Forms.{form_below, has_form, BreaksForm}
-use Rattle.schema.specs.FormBreak.{below, or_else, parts_break, items_break, members_break, first_break}
+use Rattle.jtree.specs.Internal.PathLaws.{not_before_root, same_step, not_before_name, not_before_index}
+use Rattle.jtree.specs.Internal.Lookups.{bool_cases, same_name, member_first, member_later, member_tail, option_cases, before_each}
+use Rattle.schema.specs.Document.Forms.{form_below, has_form, BreaksForm}
+use Rattle.schema.specs.Internal.FormBreak.{below, or_else, parts_break, items_break, members_break, first_break}
 use Rattle.schema.specs.declared.forms.Form.{Form}
 
 -- the option is the first path at which something holds, or there is none
@@ -53,13 +53,13 @@ pub record MemberBreaks (f : Form) (ms : Members) (path : Path) : Type 0 where
 -- items from a place on
 pub record ItemBreaks (f : Form) (i : ℕ) (ds : Items) (path : Path) : Type 0 where
   pub offset : ℕ
-  pub index : ℕ
-  pub index_is : index ≡ i + offset
+  pub position : ℕ
+  pub index_is : position ≡ i + offset
   pub rest : Path
   pub value : Data
-  pub path_is : path ≡ place index ∷ rest
+  pub path_is : path ≡ index position ∷ rest
   pub at : item_at offset ds ≡ Some value
-  pub breaks : BreaksForm (form_below f (place index)) value rest
+  pub breaks : BreaksForm (form_below f (index position)) value rest
 
 member_up : (f : Form) (k : List ℕ) (d : Data) (ms : Members) → IsObject (member k d ms) → (p : Path) → MemberBreaks f ms p → MemberBreaks f (member k d ms) p
 member_up f k d ms o p b = record { key = b.key; rest = b.rest; value = b.value; path_is = b.path_is; at = member_tail k d ms b.key b.value o b.at; breaks = b.breaks }
@@ -104,40 +104,40 @@ member_step f k d ms None rest o none h = found_alike (MemberBreaks f ms) (Membe
 member_step f k d ms (Some p) rest o first h = member_here f k d ms p o first
 
 item_up : (f : Form) (i : ℕ) (d : Data) (ds : Items) (p : Path) → ItemBreaks f (suc i) ds p → ItemBreaks f i (item d ds) p
-item_up f i d ds p b = record { offset = suc b.offset; index = b.index; index_is = omega (arith, b.index_is); rest = b.rest; value = b.value; path_is = b.path_is; at = b.at; breaks = b.breaks }
+item_up f i d ds p b = record { offset = suc b.offset; position = b.position; index_is = omega (arith, b.index_is); rest = b.rest; value = b.value; path_is = b.path_is; at = b.at; breaks = b.breaks }
 
-item_down : (f : Form) (i : ℕ) (d : Data) (ds : Items) → ((p : Path) → BreaksForm (form_below f (place i)) d p → ⊥) → (p : Path)
-    → (offset index : ℕ) → index ≡ i + offset → (rest : Path) (value : Data) → p ≡ place index ∷ rest → item_at offset (item d ds) ≡ Some value
-    → BreaksForm (form_below f (place index)) value rest → ItemBreaks f (suc i) ds p
-item_down f i d ds none p zero index is rest value path at breaks =
-    let same : index ≡ i = omega (arith, is) in
-    let breaks' : BreaksForm (form_below f (place i)) d rest =
-    subst (λ n. BreaksForm (form_below f (place n)) d rest) same (subst (λ v. BreaksForm (form_below f (place index)) v rest) (sym (same_Some d value at)) breaks) in
+item_down : (f : Form) (i : ℕ) (d : Data) (ds : Items) → ((p : Path) → BreaksForm (form_below f (index i)) d p → ⊥) → (p : Path)
+    → (offset position : ℕ) → position ≡ i + offset → (rest : Path) (value : Data) → p ≡ index position ∷ rest → item_at offset (item d ds) ≡ Some value
+    → BreaksForm (form_below f (index position)) value rest → ItemBreaks f (suc i) ds p
+item_down f i d ds none p zero position is rest value path at breaks =
+    let same : position ≡ i = omega (arith, is) in
+    let breaks' : BreaksForm (form_below f (index i)) d rest =
+    subst (λ n. BreaksForm (form_below f (index n)) d rest) same (subst (λ v. BreaksForm (form_below f (index position)) v rest) (sym (same_Some d value at)) breaks) in
     absurd (none rest breaks')
-item_down f i d ds none p (suc j) index is rest value path at breaks =
-    record { offset = j; index = index; index_is = omega (arith, is); rest = rest; value = value; path_is = path; at = at; breaks = breaks }
+item_down f i d ds none p (suc j) position is rest value path at breaks =
+    record { offset = j; position = position; index_is = omega (arith, is); rest = rest; value = value; path_is = path; at = at; breaks = breaks }
 
-item_later : (f : Form) (i : ℕ) (d : Data) (ds : Items) (q : Path) → IsFirst (BreaksForm (form_below f (place i)) d) q → (p : Path)
-    → (offset index : ℕ) → index ≡ i + offset → (rest : Path) (value : Data) → p ≡ place index ∷ rest → item_at offset (item d ds) ≡ Some value
-    → BreaksForm (form_below f (place index)) value rest → path_cmp p (place i ∷ q) ≢ Less
-item_later f i d ds q first p zero index is rest value path at breaks =
-    let same : index ≡ i = omega (arith, is) in
-    let breaks' : BreaksForm (form_below f (place i)) d rest =
-    subst (λ n. BreaksForm (form_below f (place n)) d rest) same (subst (λ v. BreaksForm (form_below f (place index)) v rest) (sym (same_Some d value at)) breaks) in
-    let here : p ≡ place i ∷ rest = path ∙ ap (λ n. place n ∷ rest) same in
-    subst (λ x. path_cmp x (place i ∷ q) ≢ Less) (sym here) (subst (λ order. order ≢ Less) (sym (same_step (place i) rest q)) (first.none_before rest breaks'))
-item_later f i d ds q first p (suc j) index is rest value path at breaks =
-    let past : i < index = omega (arith, is) in
-    subst (λ x. path_cmp x (place i ∷ q) ≢ Less) (sym path) (not_before_place i index rest q past)
+item_later : (f : Form) (i : ℕ) (d : Data) (ds : Items) (q : Path) → IsFirst (BreaksForm (form_below f (index i)) d) q → (p : Path)
+    → (offset position : ℕ) → position ≡ i + offset → (rest : Path) (value : Data) → p ≡ index position ∷ rest → item_at offset (item d ds) ≡ Some value
+    → BreaksForm (form_below f (index position)) value rest → path_cmp p (index i ∷ q) ≢ Less
+item_later f i d ds q first p zero position is rest value path at breaks =
+    let same : position ≡ i = omega (arith, is) in
+    let breaks' : BreaksForm (form_below f (index i)) d rest =
+    subst (λ n. BreaksForm (form_below f (index n)) d rest) same (subst (λ v. BreaksForm (form_below f (index position)) v rest) (sym (same_Some d value at)) breaks) in
+    let here : p ≡ index i ∷ rest = path ∙ ap (λ n. index n ∷ rest) same in
+    subst (λ x. path_cmp x (index i ∷ q) ≢ Less) (sym here) (subst (λ order. order ≢ Less) (sym (same_step (index i) rest q)) (first.none_before rest breaks'))
+item_later f i d ds q first p (suc j) position is rest value path at breaks =
+    let past : i < position = omega (arith, is) in
+    subst (λ x. path_cmp x (index i ∷ q) ≢ Less) (sym path) (not_before_index i position rest q past)
 
 item_step : (f : Form) (i : ℕ) (d : Data) (ds : Items) (o : Option Path) (rest : Option Path)
-    → IsFound (BreaksForm (form_below f (place i)) d) o → IsFound (ItemBreaks f (suc i) ds) rest
-    → IsFound (ItemBreaks f i (item d ds)) (or_else (below (place i) o) rest)
+    → IsFound (BreaksForm (form_below f (index i)) d) o → IsFound (ItemBreaks f (suc i) ds) rest
+    → IsFound (ItemBreaks f i (item d ds)) (or_else (below (index i) o) rest)
 item_step f i d ds None rest none h = found_alike (ItemBreaks f (suc i) ds) (ItemBreaks f i (item d ds)) rest (item_up f i d ds)
-    (λ p b. item_down f i d ds none p b.offset b.index b.index_is b.rest b.value b.path_is b.at b.breaks) h
+    (λ p b. item_down f i d ds none p b.offset b.position b.index_is b.rest b.value b.path_is b.at b.breaks) h
 item_step f i d ds (Some p) rest first h = record {
-  here = record { offset = 0; index = i; index_is = omega arith; rest = p; value = d; path_is = refl; at = refl; breaks = first.here };
-  none_before = λ e b. item_later f i d ds p first e b.offset b.index b.index_is b.rest b.value b.path_is b.at b.breaks;
+  here = record { offset = 0; position = i; index_is = omega arith; rest = p; value = d; path_is = refl; at = refl; breaks = first.here };
+  none_before = λ e b. item_later f i d ds p first e b.offset b.position b.index_is b.rest b.value b.path_is b.at b.breaks;
 }
 
 -- ---- the whole
@@ -164,20 +164,20 @@ object_down f ms form [] b = absurd (root_form f (object ms) form b)
 object_down f ms form (name k ∷ p) b =
     let part = break_below f (object ms) (name k) p b in
     record { key = k; rest = p; value = part.0; path_is = refl; at = part.1; breaks = part.2 }
-object_down f ms form (place i ∷ p) b = let part = break_below f (object ms) (place i) p b in cc
+object_down f ms form (index i ∷ p) b = let part = break_below f (object ms) (index i) p b in cc
 
 list_up : (f : Form) (ds : Items) (p : Path) → ItemBreaks f 0 ds p → BreaksForm f (list ds) p
 list_up f ds p b =
-    let same : b.index ≡ b.offset = omega (arith, b.index_is) in
-    let at : item_at b.index ds ≡ Some b.value = subst (λ n. item_at n ds ≡ Some b.value) (sym same) b.at in
-    subst (BreaksForm f (list ds)) (sym b.path_is) (break_above f (list ds) (place b.index) b.rest b.value at b.breaks)
+    let same : b.position ≡ b.offset = omega (arith, b.index_is) in
+    let at : item_at b.position ds ≡ Some b.value = subst (λ n. item_at n ds ≡ Some b.value) (sym same) b.at in
+    subst (BreaksForm f (list ds)) (sym b.path_is) (break_above f (list ds) (index b.position) b.rest b.value at b.breaks)
 
 list_down : (f : Form) (ds : Items) → has_form f (list ds) ≡ true → (p : Path) → BreaksForm f (list ds) p → ItemBreaks f 0 ds p
 list_down f ds form [] b = absurd (root_form f (list ds) form b)
 list_down f ds form (name k ∷ p) b = let part = break_below f (list ds) (name k) p b in cc
-list_down f ds form (place i ∷ p) b =
-    let part = break_below f (list ds) (place i) p b in
-    record { offset = i; index = i; index_is = omega arith; rest = p; value = part.0; path_is = refl; at = part.1; breaks = part.2 }
+list_down f ds form (index i ∷ p) b =
+    let part = break_below f (list ds) (index i) p b in
+    record { offset = i; position = i; index_is = omega arith; rest = p; value = part.0; path_is = refl; at = part.1; breaks = part.2 }
 
 from_parts : (f : Form) (d : Data) → (has_form f d ≡ true → IsFound (BreaksForm f d) (parts_break f d)) → IsFound (BreaksForm f d) (first_break f d)
 from_parts f d h = elim (bool_cases (has_form f d)) [
@@ -199,8 +199,8 @@ mutual
   items_found : (f : Form) (i : ℕ) (ds : Items) → AreTrees ds → IsFound (ItemBreaks f i ds) (items_break f i ds)
   items_found f i no_items o = λ p b. cc
   items_found f i (item d ds) o =
-      item_step f i d ds (first_break (form_below f (place i)) d) (items_break f (suc i) ds)
-      (from_parts (form_below f (place i)) d (λ h. parts_found (form_below f (place i)) d o.0 h)) (items_found f (suc i) ds o.1)
+      item_step f i d ds (first_break (form_below f (index i)) d) (items_break f (suc i) ds)
+      (from_parts (form_below f (index i)) d (λ h. parts_found (form_below f (index i)) d o.0 h)) (items_found f (suc i) ds o.1)
 
   members_found : (f : Form) (ms : Members) → IsObject ms → IsFound (MemberBreaks f ms) (members_break f ms)
   members_found f no_members o = λ p b. cc

@@ -6,8 +6,8 @@ use Rattle.jtree.specs.Data.{list}
 use Rattle.jtree.specs.Path.{Path}
 use Rattle.jtree.specs.View.{items_of}
 use Rattle.jtree.specs.declared.value.Tree.{Tree}
-use Rattle.schema.specs.Forms.{is_some_list}
-use Rattle.schema.specs.FormBreak.{or_else, IsBreakFault}
+use Rattle.schema.specs.Document.Forms.{is_some_list}
+use Rattle.schema.specs.Internal.FormBreak.{or_else, IsBreakFault}
 use Rattle.schema.specs.declared.fault.SFault.{SFault}
 use Rattle.schema.specs.declared.fault.SFault.TheVariants.{NotACrd, NoSuchVersion, KeywordForm, TooLarge, NoMemory}
 

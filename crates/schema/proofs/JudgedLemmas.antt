@@ -9,20 +9,20 @@ use Rattle.std.proofs.lemmas.Grind.{flat_map-append}
 use Rattle.std.specs.declared.cmp.Ordering.TheVariants.{Less}
 use Rattle.jtree.specs.Data.{Data, object, Members, IsObject}
 use Rattle.jtree.specs.PathOrder.{path_cmp}
-use Rattle.schema.specs.Places.{Place, place_path, place_pointer, IsPlace}
-use Rattle.schema.specs.PlaceView.{place_of, visit_of}
-use Rattle.schema.specs.Marks.{Mark, visited, too_long, IsIn, Ascend, visits_of, schema_marks}
-use Rattle.schema.specs.Rules.{Broken, metadata_word, metadata_type, metadata_field}
-use Rattle.schema.specs.Breaks.{Break, number, break_cmp, Told, told, told_of, AreViolations}
-use Rattle.schema.specs.Visits.{IsVisit, AreVisits}
-use Rattle.schema.specs.Judged.{judged, pair, pairs_at, pairs_of, AreBroken, none, broken, kept, AreFound}
-use Rattle.schema.specs.declared.listing.Visit.{Visit}
+use Rattle.schema.specs.Document.Places.{Place, place_path, place_pointer, IsPlace}
+use Rattle.schema.specs.Internal.PlaceView.{place_of, subschema_of}
+use Rattle.schema.specs.Internal.Events.{Event, entered, too_long, IsIn, Ascend, subschemas_of, schema_events}
+use Rattle.schema.specs.Rules.Broken.{Broken, metadata_keyword, metadata_type, metadata_field}
+use Rattle.schema.specs.Rules.Breaks.{Break, number, break_cmp, Told, told, told_of, AreViolations}
+use Rattle.schema.specs.Internal.Subschemas.{IsSubschema, AreSubschemas}
+use Rattle.schema.specs.Internal.Judged.{judged, pair, pairs_at, pairs_of, AreBroken, none, broken, kept, AreFound}
+use Rattle.schema.specs.declared.listing.Subschema.{Subschema}
 use Rattle.schema.specs.declared.violation.Rule.{Rule}
 use Rattle.schema.specs.declared.violation.Rule.TheVariants.{V01, V02, V03, V04, V05, V06, V07, V08, V09, V10, V11, V12, V13, V14, V15, V16, V17}
 use Rattle.schema.specs.declared.violation.Violation.{Violation}
 use Rattle.schema.proofs.Rising.{Among, Rising, contains, each_of, all_pairs, among_left, among_right, among_parts, rising_join}
 use Rattle.schema.proofs.LimitLemmas.{path_total}
-use Rattle.schema.proofs.MarkLemmas.{schema_marks_are}
+use Rattle.schema.proofs.EventLemmas.{schema_events_are}
 
 -- ---- what is found
 
@@ -50,50 +50,50 @@ more_pairs : (p : Place) (rules : List Rule) (i : ℕ) (d : Rule) → i < length
     → pairs_at p (take (i + 1) rules) ≡ pairs_at p (take i rules) ++ (pair p (get_or rules i d) ∷ [])
 more_pairs p rules i d within = ap (pairs_at p) (take_more rules i d within) ∙ map-append (pair p) (take i rules) (get_or rules i d ∷ [])
 
-pub found_rule : (v : Visit) (rules : List Rule) (i : ℕ) (d : Rule) (old mid : List Violation) (w : Violation) → i < length rules
+pub found_rule : (v : Subschema) (rules : List Rule) (i : ℕ) (d : Rule) (old mid : List Violation) (w : Violation) → i < length rules
     → w.rule ≡ get_or rules i d → string_bytes w.pointer ≡ place_pointer (place_of v.place.items)
-    → ((raw : Data) → IsVisit raw v → IsTrue true ↔ Broken raw (place_of v.place.items) (get_or rules i d))
-    → AreFound (λ raw. IsVisit raw v) (pairs_at (place_of v.place.items) (take i rules)) old mid
-    → AreFound (λ raw. IsVisit raw v) (pairs_at (place_of v.place.items) (take (i + 1) rules)) old (mid ++ (w ∷ []))
+    → ((raw : Data) → IsSubschema raw v → IsTrue true ↔ Broken raw (place_of v.place.items) (get_or rules i d))
+    → AreFound (λ raw. IsSubschema raw v) (pairs_at (place_of v.place.items) (take i rules)) old mid
+    → AreFound (λ raw. IsSubschema raw v) (pairs_at (place_of v.place.items) (take (i + 1) rules)) old (mid ++ (w ∷ []))
 found_rule v rules i d old mid w within rule_is pointer_is is f =
     let p = place_of v.place.items in
     let r = get_or rules i d in
     let as_told : List ℕ → Rule → Told = λ bytes rule. record { pointer = bytes; rule = rule } in
     let tells : told w ≡ told_of (pair p r) = ap (λ bytes. as_told bytes w.rule) pointer_is ∙ ap (as_told (place_pointer p)) rule_is in
-    let one : AreFound (λ raw. IsVisit raw v) (pair p r ∷ []) mid (mid ++ (w ∷ [])) = record {
+    let one : AreFound (λ raw. IsSubschema raw v) (pair p r ∷ []) mid (mid ++ (w ∷ [])) = record {
       found = pair p r ∷ [];
       told_as = map-append told mid (w ∷ []) ∙ ap (λ t. map told mid ++ (t ∷ [])) tells;
       are = λ raw known. broken raw (pair p r) [] [] ((is raw known).0 refl) (none raw);
     } in
-    subst (λ ps. AreFound (λ raw. IsVisit raw v) ps old (mid ++ (w ∷ []))) (sym (more_pairs p rules i d within))
+    subst (λ ps. AreFound (λ raw. IsSubschema raw v) ps old (mid ++ (w ∷ []))) (sym (more_pairs p rules i d within))
     (found_join (pairs_at p (take i rules)) (pair p r ∷ []) old mid (mid ++ (w ∷ [])) (λ raw known. known) f one)
 
-pub kept_rule : (v : Visit) (rules : List Rule) (i : ℕ) (d : Rule) (old mid : List Violation) → i < length rules
-    → ((raw : Data) → IsVisit raw v → IsTrue false ↔ Broken raw (place_of v.place.items) (get_or rules i d))
-    → AreFound (λ raw. IsVisit raw v) (pairs_at (place_of v.place.items) (take i rules)) old mid
-    → AreFound (λ raw. IsVisit raw v) (pairs_at (place_of v.place.items) (take (i + 1) rules)) old mid
+pub kept_rule : (v : Subschema) (rules : List Rule) (i : ℕ) (d : Rule) (old mid : List Violation) → i < length rules
+    → ((raw : Data) → IsSubschema raw v → IsTrue false ↔ Broken raw (place_of v.place.items) (get_or rules i d))
+    → AreFound (λ raw. IsSubschema raw v) (pairs_at (place_of v.place.items) (take i rules)) old mid
+    → AreFound (λ raw. IsSubschema raw v) (pairs_at (place_of v.place.items) (take (i + 1) rules)) old mid
 kept_rule v rules i d old mid within is f =
     let p = place_of v.place.items in
     let r = get_or rules i d in
-    let one : AreFound (λ raw. IsVisit raw v) (pair p r ∷ []) mid mid = record {
+    let one : AreFound (λ raw. IsSubschema raw v) (pair p r ∷ []) mid mid = record {
       found = [];
       told_as = sym (append-nil (map told mid));
       are = λ raw known. kept raw (pair p r) [] [] (λ h. let no : false ≡ true = (is raw known).1 h in cc) (none raw);
     } in
-    subst (λ ps. AreFound (λ raw. IsVisit raw v) ps old mid) (sym (more_pairs p rules i d within))
+    subst (λ ps. AreFound (λ raw. IsSubschema raw v) ps old mid) (sym (more_pairs p rules i d within))
     (found_join (pairs_at p (take i rules)) (pair p r ∷ []) old mid mid (λ raw known. known) f one)
 
-pub found_visit : (visits : List Visit) (i : ℕ) (v : Visit) (mid new : List Violation) → i < length visits → v ≡ get_or visits i v
-    → AreFound (λ raw. IsVisit raw v) (pairs_at (place_of v.place.items) judged) mid new
-    → AreFound (λ raw. All (IsVisit raw) visits) (pairs_of (take i visits)) [] mid
-    → AreFound (λ raw. All (IsVisit raw) visits) (pairs_of (take (i + 1) visits)) [] new
-found_visit visits i v mid new within at here f =
-    let pairs = λ (w : Visit). pairs_at (place_of w.place.items) judged in
-    let more : take (i + 1) visits ≡ take i visits ++ (v ∷ []) = take_more visits i v within ∙ ap (λ w. take i visits ++ (w ∷ [])) (sym at) in
-    let split : pairs_of (take (i + 1) visits) ≡ pairs_of (take i visits) ++ pairs v =
-    ap pairs_of more ∙ flat_map-append pairs (take i visits) (v ∷ []) ∙ ap (λ ps. pairs_of (take i visits) ++ ps) (append-nil (pairs v)) in
-    subst (λ ps. AreFound (λ raw. All (IsVisit raw) visits) ps [] new) (sym split)
-    (found_join (pairs_of (take i visits)) (pairs v) [] mid new (λ raw all. subst (IsVisit raw) (sym at) (all i v within)) f here)
+pub found_subschema : (subschemas : List Subschema) (i : ℕ) (v : Subschema) (mid new : List Violation) → i < length subschemas → v ≡ get_or subschemas i v
+    → AreFound (λ raw. IsSubschema raw v) (pairs_at (place_of v.place.items) judged) mid new
+    → AreFound (λ raw. All (IsSubschema raw) subschemas) (pairs_of (take i subschemas)) [] mid
+    → AreFound (λ raw. All (IsSubschema raw) subschemas) (pairs_of (take (i + 1) subschemas)) [] new
+found_subschema subschemas i v mid new within at here f =
+    let pairs = λ (w : Subschema). pairs_at (place_of w.place.items) judged in
+    let more : take (i + 1) subschemas ≡ take i subschemas ++ (v ∷ []) = take_more subschemas i v within ∙ ap (λ w. take i subschemas ++ (w ∷ [])) (sym at) in
+    let split : pairs_of (take (i + 1) subschemas) ≡ pairs_of (take i subschemas) ++ pairs v =
+    ap pairs_of more ∙ flat_map-append pairs (take i subschemas) (v ∷ []) ∙ ap (λ ps. pairs_of (take i subschemas) ++ ps) (append-nil (pairs v)) in
+    subst (λ ps. AreFound (λ raw. All (IsSubschema raw) subschemas) ps [] new) (sym split)
+    (found_join (pairs_of (take i subschemas)) (pairs v) [] mid new (λ raw all. subst (IsSubschema raw) (sym at) (all i v within)) f here)
 
 -- ---- broken pairs
 
@@ -146,7 +146,7 @@ is_judged raw p V16 h = absurd h
 is_judged raw p V17 h = absurd h
 
 restricted_place : (raw : Data) (p : Place) → Broken raw p V04 → IsPlace raw p
-restricted_place raw p (metadata_word r at) = (at.0, at.1)
+restricted_place raw p (metadata_keyword r at) = (at.0, at.1)
 restricted_place raw p (metadata_type r at) = (at.0, at.1)
 restricted_place raw p (metadata_field r k at n g) = at
 
@@ -181,17 +181,17 @@ pairs_place p [] b a = elim a [ ]
 pairs_place p (s ∷ rules) b (inl e) = (s, inl refl, e)
 pairs_place p (s ∷ rules) b (inr a) = let f = pairs_place p rules b a in (f.0, inr f.1, f.2)
 
-among_all : (visits : List Visit) (v : Visit) (r : Rule) → Among visits v → Among judged r → Among (pairs_of visits) (pair (place_of v.place.items) r)
+among_all : (subschemas : List Subschema) (v : Subschema) (r : Rule) → Among subschemas v → Among judged r → Among (pairs_of subschemas) (pair (place_of v.place.items) r)
 among_all [] v r a j = elim a [ ]
-among_all (w ∷ visits) v r (inl e) j = among_left (pairs_at (place_of w.place.items) judged) (pairs_of visits) (pair (place_of v.place.items) r)
+among_all (w ∷ subschemas) v r (inl e) j = among_left (pairs_at (place_of w.place.items) judged) (pairs_of subschemas) (pair (place_of v.place.items) r)
     (subst (λ x. Among (pairs_at (place_of w.place.items) judged) (pair (place_of x.place.items) r)) e (among_pairs (place_of w.place.items) judged r j))
-among_all (w ∷ visits) v r (inr a) j = among_right (pairs_at (place_of w.place.items) judged) (pairs_of visits) (pair (place_of v.place.items) r) (among_all visits v r a j)
+among_all (w ∷ subschemas) v r (inr a) j = among_right (pairs_at (place_of w.place.items) judged) (pairs_of subschemas) (pair (place_of v.place.items) r) (among_all subschemas v r a j)
 
-all_place : (visits : List Visit) (b : Break) → Among (pairs_of visits) b → (v : Visit) × (r : Rule) × Among visits v × (pair (place_of v.place.items) r ≡ b)
+all_place : (subschemas : List Subschema) (b : Break) → Among (pairs_of subschemas) b → (v : Subschema) × (r : Rule) × Among subschemas v × (pair (place_of v.place.items) r ≡ b)
 all_place [] b a = elim a [ ]
-all_place (w ∷ visits) b a = elim (among_parts (pairs_at (place_of w.place.items) judged) (pairs_of visits) b a) [
+all_place (w ∷ subschemas) b a = elim (among_parts (pairs_at (place_of w.place.items) judged) (pairs_of subschemas) b a) [
   | inl l ↦ let f = pairs_place (place_of w.place.items) judged b l in (w, f.0, inl refl, f.2)
-  | inr h ↦ let f = all_place visits b h in (f.0, f.1, inr f.2, f.3)
+  | inr h ↦ let f = all_place subschemas b h in (f.0, f.1, inr f.2, f.3)
 ]
 
 abbrev IsLower : Rule → Rule → Type 0
@@ -227,83 +227,83 @@ pairs_rising p (r ∷ rules) h = (
 judged_chain : Chained judged
 judged_chain = (omega arith, (omega arith, (omega arith, (omega arith, (omega arith, (omega arith, (omega arith, (omega arith, tt))))))))
 
-abbrev pub Earlier : Visit → Visit → Type 0
+abbrev pub Earlier : Subschema → Subschema → Type 0
 Earlier v w = path_cmp (place_path (place_of v.place.items)) (place_path (place_of w.place.items)) ≡ Less
 
-place_before : (v w : Visit) (r s : Rule) → Earlier v w → IsLess (pair (place_of v.place.items) r) (pair (place_of w.place.items) s)
-place_before v w r s less = rw less refl
+index_before : (v w : Subschema) (r s : Rule) → Earlier v w → IsLess (pair (place_of v.place.items) r) (pair (place_of w.place.items) s)
+index_before v w r s less = rw less refl
 
-all_rising : (visits : List Visit) → Rising Earlier visits → Rising IsLess (pairs_of visits)
+all_rising : (subschemas : List Subschema) → Rising Earlier subschemas → Rising IsLess (pairs_of subschemas)
 all_rising [] h = tt
-all_rising (v ∷ visits) h =
+all_rising (v ∷ subschemas) h =
     let p = place_of v.place.items in
-    rising_join IsLess (pairs_at p judged) (pairs_of visits) (pairs_rising p judged judged_chain) (all_rising visits h.1) (λ b c here there.
+    rising_join IsLess (pairs_at p judged) (pairs_of subschemas) (pairs_rising p judged judged_chain) (all_rising subschemas h.1) (λ b c here there.
     let f = pairs_place p judged b here in
-    let g = all_place visits c there in
-    let less : IsLess (pair p f.0) (pair (place_of g.0.place.items) g.1) = place_before v g.0 f.0 g.1 (h.0 g.0 g.2) in
+    let g = all_place subschemas c there in
+    let less : IsLess (pair p f.0) (pair (place_of g.0.place.items) g.1) = index_before v g.0 f.0 g.1 (h.0 g.0 g.2) in
     subst (λ x. IsLess x c) f.2 (subst (λ x. IsLess (pair p f.0) x) g.3 less))
 
--- ---- the visits are the places in path order
+-- ---- the subschemas are the places in path order
 
-in_visits : (marks : List Mark) (m : Mark) → IsIn m (visits_of marks) → IsIn m marks
-in_visits [] m h = h
-in_visits (visited p s ∷ marks) m (inl e) = inl e
-in_visits (visited p s ∷ marks) m (inr h) = inr (in_visits marks m h)
-in_visits (too_long p k ∷ marks) m h = inr (in_visits marks m h)
+in_subschemas : (events : List Event) (m : Event) → IsIn m (subschemas_of events) → IsIn m events
+in_subschemas [] m h = h
+in_subschemas (entered p s ∷ events) m (inl e) = inl e
+in_subschemas (entered p s ∷ events) m (inr h) = inr (in_subschemas events m h)
+in_subschemas (too_long p k ∷ events) m h = inr (in_subschemas events m h)
 
-is_visit : (marks : List Mark) (p : Place) (s : Data) → IsIn (visited p s) marks → IsIn (visited p s) (visits_of marks)
-is_visit [] p s h = h
-is_visit (visited q t ∷ marks) p s (inl e) = inl e
-is_visit (visited q t ∷ marks) p s (inr h) = inr (is_visit marks p s h)
-is_visit (too_long q k ∷ marks) p s (inl e) = absurd (cc)
-is_visit (too_long q k ∷ marks) p s (inr h) = is_visit marks p s h
+is_subschema : (events : List Event) (p : Place) (s : Data) → IsIn (entered p s) events → IsIn (entered p s) (subschemas_of events)
+is_subschema [] p s h = h
+is_subschema (entered q t ∷ events) p s (inl e) = inl e
+is_subschema (entered q t ∷ events) p s (inr h) = inr (is_subschema events p s h)
+is_subschema (too_long q k ∷ events) p s (inl e) = absurd (cc)
+is_subschema (too_long q k ∷ events) p s (inr h) = is_subschema events p s h
 
-visits_ascend : (marks : List Mark) → Ascend marks → Ascend (visits_of marks)
-visits_ascend [] h = tt
-visits_ascend (visited p s ∷ marks) h = (λ n i. h.0 n (in_visits marks n i), visits_ascend marks h.1)
-visits_ascend (too_long p k ∷ marks) h = visits_ascend marks h.1
+subschemas_ascend : (events : List Event) → Ascend events → Ascend (subschemas_of events)
+subschemas_ascend [] h = tt
+subschemas_ascend (entered p s ∷ events) h = (λ n i. h.0 n (in_subschemas events n i), subschemas_ascend events h.1)
+subschemas_ascend (too_long p k ∷ events) h = subschemas_ascend events h.1
 
-in_map : (visits : List Visit) (v : Visit) → Among visits v → IsIn (visit_of v) (map visit_of visits)
+in_map : (subschemas : List Subschema) (v : Subschema) → Among subschemas v → IsIn (subschema_of v) (map subschema_of subschemas)
 in_map [] v a = a
-in_map (w ∷ visits) v (inl e) = inl (ap visit_of (sym e))
-in_map (w ∷ visits) v (inr a) = inr (in_map visits v a)
+in_map (w ∷ subschemas) v (inl e) = inl (ap subschema_of (sym e))
+in_map (w ∷ subschemas) v (inr a) = inr (in_map subschemas v a)
 
-from_map : (visits : List Visit) (m : Mark) → IsIn m (map visit_of visits) → (v : Visit) × Among visits v × (m ≡ visit_of v)
+from_map : (subschemas : List Subschema) (m : Event) → IsIn m (map subschema_of subschemas) → (v : Subschema) × Among subschemas v × (m ≡ subschema_of v)
 from_map [] m h = elim h [ ]
-from_map (w ∷ visits) m (inl e) = (w, inl refl, e)
-from_map (w ∷ visits) m (inr h) = let f = from_map visits m h in (f.0, inr f.1, f.2)
+from_map (w ∷ subschemas) m (inl e) = (w, inl refl, e)
+from_map (w ∷ subschemas) m (inr h) = let f = from_map subschemas m h in (f.0, inr f.1, f.2)
 
-visits_rising : (visits : List Visit) → Ascend (map visit_of visits) → Rising Earlier visits
-visits_rising [] h = tt
-visits_rising (v ∷ visits) h = (λ w a. h.0 (visit_of w) (in_map visits w a), visits_rising visits h.1)
+subschemas_rising : (subschemas : List Subschema) → Ascend (map subschema_of subschemas) → Rising Earlier subschemas
+subschemas_rising [] h = tt
+subschemas_rising (v ∷ subschemas) h = (λ w a. h.0 (subschema_of w) (in_map subschemas w a), subschemas_rising subschemas h.1)
 
--- each place is that of a visit
-pub place_visited : (ms : Members) (visits : List Visit) → IsObject ms → AreVisits ms visits → (p : Place) → IsPlace (object ms) p
-    → (v : Visit) × Among visits v × (place_of v.place.items ≡ p)
-place_visited ms visits o are p at =
-    let marks = schema_marks_are ms o in
-    let marked = is_visit (schema_marks [] ms) p at.0 ((marks.visits p at.0).0 at.1) in
-    let v = from_map visits (visited p at.0) (subst (IsIn (visited p at.0)) (sym are.whole) marked) in
+-- each place is that of a subschema
+pub place_entered : (ms : Members) (subschemas : List Subschema) → IsObject ms → AreSubschemas ms subschemas → (p : Place) → IsPlace (object ms) p
+    → (v : Subschema) × Among subschemas v × (place_of v.place.items ≡ p)
+place_entered ms subschemas o are p at =
+    let events = schema_events_are ms o in
+    let recorded = is_subschema (schema_events [] ms) p at.0 ((events.subschemas p at.0).0 at.1) in
+    let v = from_map subschemas (entered p at.0) (subst (IsIn (entered p at.0)) (sym are.whole) recorded) in
     (v.0, v.1, let e = v.2 in cc)
 
--- and the places of the visits ascend
-pub visits_earlier : (ms : Members) (visits : List Visit) → IsObject ms → AreVisits ms visits → Rising Earlier visits
-visits_earlier ms visits o are = visits_rising visits (subst Ascend (sym are.whole) (visits_ascend (schema_marks [] ms) (schema_marks_are ms o).ascending))
+-- and the places of the subschemas ascend
+pub subschemas_earlier : (ms : Members) (subschemas : List Subschema) → IsObject ms → AreSubschemas ms subschemas → Rising Earlier subschemas
+subschemas_earlier ms subschemas o are = subschemas_rising subschemas (subst Ascend (sym are.whole) (subschemas_ascend (schema_events [] ms) (schema_events_are ms o).ascending))
 
-pub violations_of : (ms : Members) (visits : List Visit) (violations : List Violation) → IsObject ms → AreVisits ms visits
-    → AreFound (λ raw. All (IsVisit raw) visits) (pairs_of visits) [] violations → AreViolations (object ms) violations
-violations_of ms visits violations o are f =
+pub violations_of : (ms : Members) (subschemas : List Subschema) (violations : List Violation) → IsObject ms → AreSubschemas ms subschemas
+    → AreFound (λ raw. All (IsSubschema raw) subschemas) (pairs_of subschemas) [] violations → AreViolations (object ms) violations
+violations_of ms subschemas violations o are f =
     let raw = object ms in
     let broken = f.are raw are.each in
-    let each = λ (b : Break) (a : Among f.found b). broken_each raw (pairs_of visits) f.found b broken a in (
+    let each = λ (b : Break) (a : Among f.found b). broken_each raw (pairs_of subschemas) f.found b broken a in (
       f.found,
       record {
         each = each_of (λ b. Broken raw b.place b.rule) f.found each;
         all = λ p r h.
-            let v = place_visited ms visits o are p (at_place raw p r h) in
-            let here : Among (pairs_of visits) (pair p r) = subst (λ q. Among (pairs_of visits) (pair q r)) v.2 (among_all visits v.0 r v.1 (is_judged raw p r h)) in
-            contains f.found (pair p r) (broken_all raw (pairs_of visits) f.found (pair p r) broken here h);
-        ascending = all_pairs IsLess f.found (broken_rising raw (pairs_of visits) f.found broken (all_rising visits (visits_earlier ms visits o are)));
+            let v = place_entered ms subschemas o are p (at_place raw p r h) in
+            let here : Among (pairs_of subschemas) (pair p r) = subst (λ q. Among (pairs_of subschemas) (pair q r)) v.2 (among_all subschemas v.0 r v.1 (is_judged raw p r h)) in
+            contains f.found (pair p r) (broken_all raw (pairs_of subschemas) f.found (pair p r) broken here h);
+        ascending = all_pairs IsLess f.found (broken_rising raw (pairs_of subschemas) f.found broken (all_rising subschemas (subschemas_earlier ms subschemas o are)));
       },
       f.told_as,
     )

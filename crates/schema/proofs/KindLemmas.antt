@@ -5,12 +5,12 @@ use Rattle.std.specs.Str.{bytes_eq}
 use Rattle.std.proofs.lemmas.Option.{same_Some}
 use Rattle.jtree.specs.Data.{Data, Members, null, boolean, integer, text, list, object}
 use Rattle.jtree.specs.Path.{under}
-use Rattle.jtree.specs.Lookups.{bool_cases, same_name}
-use Rattle.schema.specs.Raw.{HasText, HasTrue}
-use Rattle.schema.specs.Reading.{flag, is_true}
-use Rattle.schema.specs.Kinds as kinds
-use Rattle.schema.specs.Kinds.{HasNoType, IsIntOrString, IsOfKind, HasNoKind, first_int_or_string, then_free, then_integer, then_string, then_boolean, then_list, then_map, then_object}
-use Rattle.schema.specs.KindView.{kind_view, kind_by, typed_kind, named_kind, open_kind, object_kind}
+use Rattle.jtree.specs.Internal.Lookups.{bool_cases, same_name}
+use Rattle.schema.specs.Document.Raw.{HasText, HasTrue}
+use Rattle.schema.specs.Nodes.Keywords.{flag, is_true}
+use Rattle.schema.specs.Rules.Kinds as kinds
+use Rattle.schema.specs.Rules.Kinds.{HasNoType, IsIntOrString, IsOfKind, HasNoKind, first_int_or_string, then_open, then_integer, then_string, then_boolean, then_list, then_map, then_object}
+use Rattle.schema.specs.Internal.KindView.{kind_view, kind_by, typed_kind, named_kind, open_kind, object_kind}
 use Rattle.schema.specs.declared.kinds.Kind.{Kind}
 
 -- ---- a keyword that is true
@@ -56,8 +56,8 @@ no_int_or_string s single = flag_false s (codes "x-kubernetes-int-or-string") si
 
 kind_told : (s : Data) (k : kinds.Kind) → IsOfKind s k → kind_by s ≡ Some k
 kind_told s k (first_int_or_string t h) = rw h refl
-kind_told s k (then_free t single (inl none) preserves) = rw (no_int_or_string t single, none, preserves) refl
-kind_told s k (then_free t single (inr empty) preserves) = rw (no_int_or_string t single, empty, preserves) refl
+kind_told s k (then_open t single (inl none) preserves) = rw (no_int_or_string t single, none, preserves) refl
+kind_told s k (then_open t single (inr empty) preserves) = rw (no_int_or_string t single, empty, preserves) refl
 kind_told s k (then_integer t single h) = rw (no_int_or_string t single, h) refl
 kind_told s k (then_string t single h) = rw (no_int_or_string t single, h) refl
 kind_told s k (then_boolean t single h) = rw (no_int_or_string t single, h) refl
@@ -80,8 +80,8 @@ open_is s k single untyped is =
     let preserves = codes "x-kubernetes-preserve-unknown-fields" in
     elim (bool_cases (flag s preserves)) [
       | inl t ↦
-          let told : open_kind s ≡ Some kinds.free = rw t refl in
-          subst (IsOfKind s) (same_Some kinds.free k (sym told ∙ is)) (then_free s single untyped (is_true_is (under s preserves) t))
+          let told : open_kind s ≡ Some kinds.open_ = rw t refl in
+          subst (IsOfKind s) (same_Some kinds.open_ k (sym told ∙ is)) (then_open s single untyped (is_true_is (under s preserves) t))
       | inr f ↦ let none : open_kind s ≡ None = rw f refl in absurd (cc)
     ]
 

@@ -6,9 +6,9 @@ pub mod PlaceLemmas
 pub mod Rising
 pub mod LimitLemmas
 pub mod ListingLemmas
-pub mod MarkParts
-pub mod MarkVisits
-pub mod MarkLemmas
+pub mod EventParts
+pub mod EventSubschemas
+pub mod EventLemmas
 pub mod ContextLemmas
 pub mod PatternLemmas
 pub mod SchemaFaults

@@ -1,4 +1,4 @@
--- The first mark at which a limit is passed is the first place in path order that passes one.
+-- The first event at which a limit is passed is the first place in path order that passes one.
 use Rattle.std.proofs.Common.{◌≡◌, ◌≢◌, ◌⊎◌, ◌<◌, ◌≤◌, ℕ, suc, List, [], ◌∷◌, ◌++◌, length, true, false, Some, None, refl, sym, ap, ◌∙◌, subst, inl, inr, arith, append_assoc}
 use Rattle.std.specs.Prelude.{nat_lt, nat_le}
 use Rattle.std.specs.Cmp.{IsTotalOrder}
@@ -7,13 +7,13 @@ use Rattle.std.proofs.lemmas.Cmp.{nat_list_cmp_total, nat_cmp_total, lists_total
 use Rattle.std.proofs.lemmas.Bool.Decides.{nat_tests}
 use Rattle.std.specs.declared.cmp.Ordering.TheVariants.{Less, Equal}
 use Rattle.jtree.specs.Data.{Data}
-use Rattle.jtree.specs.Path.{Step, name, place, Path}
+use Rattle.jtree.specs.Path.{Step, name, index, Path}
 use Rattle.jtree.specs.PathOrder.{step_cmp, path_cmp}
-use Rattle.jtree.specs.Lookups.{bool_cases}
-use Rattle.schema.specs.Places.{Place, place_path, IsPlace}
-use Rattle.schema.specs.Limits.{most_places, most_steps, ComeBefore, PassesLimit, too_many_places, too_deep, IsWithinLimits, IsLimitFault}
-use Rattle.schema.specs.Limits as limits
-use Rattle.schema.specs.Marks.{Mark, visited, too_long, mark_path, IsIn, Ascend, AreMarksOf, limit_break}
+use Rattle.jtree.specs.Internal.Lookups.{bool_cases}
+use Rattle.schema.specs.Document.Places.{Place, place_path, IsPlace}
+use Rattle.schema.specs.Document.Limits.{most_places, most_steps, ComeBefore, PassesLimit, too_many_places, too_deep, IsWithinLimits, IsLimitFault}
+use Rattle.schema.specs.Document.Limits as limits
+use Rattle.schema.specs.Internal.Events.{Event, entered, too_long, event_path, IsIn, Ascend, AreEventsOf, limit_break}
 use Rattle.schema.proofs.FormFirst.{IsFound}
 use Rattle.schema.proofs.Rising.{Among, Rising, contained, contains, rising, all_pairs}
 
@@ -21,26 +21,26 @@ use Rattle.schema.proofs.Rising.{Among, Rising, contained, contains, rising, all
 
 step_turn : (a b : Step) → step_cmp a b ≡ ordering_reverse (step_cmp b a)
 step_turn (name k) (name l) = nat_list_cmp_total.antisymm k l
-step_turn (place i) (place j) = nat_cmp_total.antisymm i j
-step_turn (name k) (place j) = refl
-step_turn (place i) (name l) = refl
+step_turn (index i) (index j) = nat_cmp_total.antisymm i j
+step_turn (name k) (index j) = refl
+step_turn (index i) (name l) = refl
 
 step_trans : (a b c : Step) → step_cmp a b ≡ Less → step_cmp b c ≡ Less → step_cmp a c ≡ Less
 step_trans (name k) (name l) (name m) p q = nat_list_cmp_total.trans k l m p q
-step_trans (name k) (name l) (place j) p q = refl
-step_trans (name k) (place i) (name m) p q = cc
-step_trans (name k) (place i) (place j) p q = refl
-step_trans (place i) (name l) c p q = cc
-step_trans (place i) (place j) (name m) p q = cc
-step_trans (place i) (place j) (place h) p q = nat_cmp_total.trans i j h p q
+step_trans (name k) (name l) (index j) p q = refl
+step_trans (name k) (index i) (name m) p q = cc
+step_trans (name k) (index i) (index j) p q = refl
+step_trans (index i) (name l) c p q = cc
+step_trans (index i) (index j) (name m) p q = cc
+step_trans (index i) (index j) (index h) p q = nat_cmp_total.trans i j h p q
 
 step_congr : (a b c : Step) → step_cmp a b ≡ Equal → step_cmp a c ≡ step_cmp b c
 step_congr (name k) (name l) (name m) p = nat_list_cmp_total.congr k l m p
-step_congr (name k) (name l) (place j) p = refl
-step_congr (name k) (place i) c p = cc
-step_congr (place i) (name l) c p = cc
-step_congr (place i) (place j) (name m) p = refl
-step_congr (place i) (place j) (place h) p = nat_cmp_total.congr i j h p
+step_congr (name k) (name l) (index j) p = refl
+step_congr (name k) (index i) c p = cc
+step_congr (index i) (name l) c p = cc
+step_congr (index i) (index j) (name m) p = refl
+step_congr (index i) (index j) (index h) p = nat_cmp_total.congr i j h p
 
 pub step_total : IsTotalOrder step_cmp
 step_total = record { antisymm = step_turn; trans = step_trans; congr = step_congr }
@@ -89,123 +89,123 @@ same_before raw p xs ys f g = same_length xs ys (rising Before xs f.ascending) (
     (λ v a. let e = f.each v (contains xs v a) in contained ys v (g.all v e.0 e.1))
     (λ v a. let e = g.each v (contains ys v a) in contained xs v (f.all v e.0 e.1))
 
--- ---- marks
+-- ---- events
 
-in_left : (m : Mark) (xs ys : List Mark) → IsIn m xs → IsIn m (xs ++ ys)
+in_left : (m : Event) (xs ys : List Event) → IsIn m xs → IsIn m (xs ++ ys)
 in_left m [] ys e = elim e [ ]
 in_left m (x ∷ xs) ys (inl e) = inl e
 in_left m (x ∷ xs) ys (inr e) = inr (in_left m xs ys e)
 
-in_right : (m : Mark) (xs ys : List Mark) → IsIn m ys → IsIn m (xs ++ ys)
+in_right : (m : Event) (xs ys : List Event) → IsIn m ys → IsIn m (xs ++ ys)
 in_right m [] ys e = e
 in_right m (x ∷ xs) ys e = inr (in_right m xs ys e)
 
-in_parts : (m : Mark) (xs ys : List Mark) → IsIn m (xs ++ ys) → IsIn m xs ⊎ IsIn m ys
+in_parts : (m : Event) (xs ys : List Event) → IsIn m (xs ++ ys) → IsIn m xs ⊎ IsIn m ys
 in_parts m [] ys e = inr e
 in_parts m (x ∷ xs) ys (inl e) = inl (inl e)
 in_parts m (x ∷ xs) ys (inr e) = elim (in_parts m xs ys e) [ inl a ↦ inl (inr a) | inr b ↦ inr b ]
 
-ascend_left : (xs ys : List Mark) → Ascend (xs ++ ys) → Ascend xs
+ascend_left : (xs ys : List Event) → Ascend (xs ++ ys) → Ascend xs
 ascend_left [] ys h = tt
 ascend_left (x ∷ xs) ys h = (λ n e. h.0 n (in_left n xs ys e), ascend_left xs ys h.1)
 
-ascend_right : (xs ys : List Mark) → Ascend (xs ++ ys) → Ascend ys
+ascend_right : (xs ys : List Event) → Ascend (xs ++ ys) → Ascend ys
 ascend_right [] ys h = h
 ascend_right (x ∷ xs) ys h = ascend_right xs ys h.1
 
-ascend_across : (xs ys : List Mark) → Ascend (xs ++ ys) → (m n : Mark) → IsIn m xs → IsIn n ys → path_cmp (mark_path m) (mark_path n) ≡ Less
+ascend_across : (xs ys : List Event) → Ascend (xs ++ ys) → (m n : Event) → IsIn m xs → IsIn n ys → path_cmp (event_path m) (event_path n) ≡ Less
 ascend_across [] ys h m n a b = elim a [ ]
-ascend_across (x ∷ xs) ys h m n (inl e) b = subst (λ t. path_cmp (mark_path t) (mark_path n) ≡ Less) (sym e) (h.0 n (in_right n xs ys b))
+ascend_across (x ∷ xs) ys h m n (inl e) b = subst (λ t. path_cmp (event_path t) (event_path n) ≡ Less) (sym e) (h.0 n (in_right n xs ys b))
 ascend_across (x ∷ xs) ys h m n (inr a) b = ascend_across xs ys h.1 m n a b
 
--- no mark from one on is before it
-not_before_first : (m n : Mark) (ys : List Mark) → Ascend (m ∷ ys) → IsIn n (m ∷ ys) → path_cmp (mark_path n) (mark_path m) ≢ Less
-not_before_first m n ys h (inl e) less = not_before_itself (mark_path m) (subst (λ t. path_cmp (mark_path t) (mark_path m) ≡ Less) e less)
-not_before_first m n ys h (inr b) less = not_both (mark_path m) (mark_path n) (h.0 n b) less
+-- no event from one on is before it
+not_before_first : (m n : Event) (ys : List Event) → Ascend (m ∷ ys) → IsIn n (m ∷ ys) → path_cmp (event_path n) (event_path m) ≢ Less
+not_before_first m n ys h (inl e) less = not_before_itself (event_path m) (subst (λ t. path_cmp (event_path t) (event_path m) ≡ Less) e less)
+not_before_first m n ys h (inr b) less = not_both (event_path m) (event_path n) (h.0 n b) less
 
-abbrev places_of : List Mark → List Place
+abbrev places_of : List Event → List Place
 places_of [] = []
-places_of (visited p s ∷ marks) = p ∷ places_of marks
-places_of (too_long p k ∷ marks) = places_of marks
+places_of (entered p s ∷ events) = p ∷ places_of events
+places_of (too_long p k ∷ events) = places_of events
 
-marked : (marks : List Mark) (p : Place) → Among (places_of marks) p → (s : Data) × IsIn (visited p s) marks
-marked [] p a = elim a [ ]
-marked (visited q s ∷ marks) p (inl e) = (s, inl (ap (λ v. visited v s) (sym e)))
-marked (visited q s ∷ marks) p (inr a) = let r = marked marks p a in (r.0, inr r.1)
-marked (too_long q k ∷ marks) p a = let r = marked marks p a in (r.0, inr r.1)
+recorded : (events : List Event) (p : Place) → Among (places_of events) p → (s : Data) × IsIn (entered p s) events
+recorded [] p a = elim a [ ]
+recorded (entered q s ∷ events) p (inl e) = (s, inl (ap (λ v. entered v s) (sym e)))
+recorded (entered q s ∷ events) p (inr a) = let r = recorded events p a in (r.0, inr r.1)
+recorded (too_long q k ∷ events) p a = let r = recorded events p a in (r.0, inr r.1)
 
-of_mark : (marks : List Mark) (p : Place) (s : Data) → IsIn (visited p s) marks → Among (places_of marks) p
-of_mark [] p s e = elim e [ ]
-of_mark (visited q t ∷ marks) p s (inl e) = let same : q ≡ p = cc in inl same
-of_mark (visited q t ∷ marks) p s (inr e) = inr (of_mark marks p s e)
-of_mark (too_long q k ∷ marks) p s (inl e) = absurd (cc)
-of_mark (too_long q k ∷ marks) p s (inr e) = of_mark marks p s e
+of_event : (events : List Event) (p : Place) (s : Data) → IsIn (entered p s) events → Among (places_of events) p
+of_event [] p s e = elim e [ ]
+of_event (entered q t ∷ events) p s (inl e) = let same : q ≡ p = cc in inl same
+of_event (entered q t ∷ events) p s (inr e) = inr (of_event events p s e)
+of_event (too_long q k ∷ events) p s (inl e) = absurd (cc)
+of_event (too_long q k ∷ events) p s (inr e) = of_event events p s e
 
-rising_places : (marks : List Mark) → Ascend marks → Rising Before (places_of marks)
+rising_places : (events : List Event) → Ascend events → Rising Before (places_of events)
 rising_places [] h = tt
-rising_places (visited p s ∷ marks) h = (λ v a. let r = marked marks v a in h.0 (visited v r.0) r.1, rising_places marks h.1)
-rising_places (too_long p k ∷ marks) h = rising_places marks h.1
+rising_places (entered p s ∷ events) h = (λ v a. let r = recorded events v a in h.0 (entered v r.0) r.1, rising_places events h.1)
+rising_places (too_long p k ∷ events) h = rising_places events h.1
 
-more_places : (marks : List Mark) (p : Place) (s : Data) → length (places_of (marks ++ (visited p s ∷ []))) ≡ suc (length (places_of marks))
+more_places : (events : List Event) (p : Place) (s : Data) → length (places_of (events ++ (entered p s ∷ []))) ≡ suc (length (places_of events))
 more_places [] p s = refl
-more_places (visited q t ∷ marks) p s = ap suc (more_places marks p s)
-more_places (too_long q k ∷ marks) p s = more_places marks p s
+more_places (entered q t ∷ events) p s = ap suc (more_places events p s)
+more_places (too_long q k ∷ events) p s = more_places events p s
 
--- ---- limits at marks
+-- ---- limits at events
 
--- why a mark passes a limit
-abbrev Fault : Data → Mark → Type 0
-Fault raw (visited p s) = (most_steps < length p) ⊎ ((before : List Place) × ComeBefore raw p before × (length before ≡ most_places))
+-- why an event passes a limit
+abbrev Fault : Data → Event → Type 0
+Fault raw (entered p s) = (most_steps < length p) ⊎ ((before : List Place) × ComeBefore raw p before × (length before ≡ most_places))
 Fault raw (too_long p k) = Unit {0}
 
-record Fails (raw : Data) (marks : List Mark) (path : Path) : Type 0 where
-  mark : Mark
-  within : IsIn mark marks
-  at : mark_path mark ≡ path
-  fault : Fault raw mark
+record Fails (raw : Data) (events : List Event) (path : Path) : Type 0 where
+  event : Event
+  within : IsIn event events
+  at : event_path event ≡ path
+  fault : Fault raw event
 
-fault_of : (raw : Data) (marks : List Mark) (path : Path) → AreMarksOf raw marks → PassesLimit raw path → Fails raw marks path
-fault_of raw marks path are (too_many_places r at before is come count) =
-    record { mark = visited at is.0; within = (are.visits at is.0).0 is.1; at = refl; fault = inr (before, come, count) }
-fault_of raw marks path are (too_deep r at is deep) =
-    record { mark = visited at is.0; within = (are.visits at is.0).0 is.1; at = refl; fault = inl deep }
-fault_of raw marks path are (limits.too_long r at word h) =
-    record { mark = too_long at word; within = (are.words at word).0 h; at = refl; fault = tt }
+fault_of : (raw : Data) (events : List Event) (path : Path) → AreEventsOf raw events → PassesLimit raw path → Fails raw events path
+fault_of raw events path are (too_many_places r at before is come count) =
+    record { event = entered at is.0; within = (are.subschemas at is.0).0 is.1; at = refl; fault = inr (before, come, count) }
+fault_of raw events path are (too_deep r at is deep) =
+    record { event = entered at is.0; within = (are.subschemas at is.0).0 is.1; at = refl; fault = inl deep }
+fault_of raw events path are (limits.too_long r at keyword h) =
+    record { event = too_long at keyword; within = (are.keywords at keyword).0 h; at = refl; fault = tt }
 
-come_before : (raw : Data) (done rest : List Mark) (p : Place) (s : Data) → AreMarksOf raw (done ++ (visited p s ∷ rest)) → ComeBefore raw p (places_of done)
+come_before : (raw : Data) (done rest : List Event) (p : Place) (s : Data) → AreEventsOf raw (done ++ (entered p s ∷ rest)) → ComeBefore raw p (places_of done)
 come_before raw done rest p s are = record {
   each = λ q c.
-      let r = marked done q (contained (places_of done) q c) in (
-        (r.0, (are.visits q r.0).1 (in_left (visited q r.0) done (visited p s ∷ rest) r.1)),
-        ascend_across done (visited p s ∷ rest) are.ascending (visited q r.0) (visited p s) r.1 (inl refl),
+      let r = recorded done q (contained (places_of done) q c) in (
+        (r.0, (are.subschemas q r.0).1 (in_left (entered q r.0) done (entered p s ∷ rest) r.1)),
+        ascend_across done (entered p s ∷ rest) are.ascending (entered q r.0) (entered p s) r.1 (inl refl),
       );
-  ascending = all_pairs Before (places_of done) (rising_places done (ascend_left done (visited p s ∷ rest) are.ascending));
-  all = λ q is less. elim (in_parts (visited q is.0) done (visited p s ∷ rest) ((are.visits q is.0).0 is.1)) [
-    | inl a ↦ contains (places_of done) q (of_mark done q is.0 a)
-    | inr b ↦ absurd (not_before_first (visited p s) (visited q is.0) rest (ascend_right done (visited p s ∷ rest) are.ascending) b less)
+  ascending = all_pairs Before (places_of done) (rising_places done (ascend_left done (entered p s ∷ rest) are.ascending));
+  all = λ q is less. elim (in_parts (entered q is.0) done (entered p s ∷ rest) ((are.subschemas q is.0).0 is.1)) [
+    | inl a ↦ contains (places_of done) q (of_event done q is.0 a)
+    | inr b ↦ absurd (not_before_first (entered p s) (entered q is.0) rest (ascend_right done (entered p s ∷ rest) are.ascending) b less)
   ];
 }
 
-none_earlier : (raw : Data) (done rest : List Mark) (m : Mark) → AreMarksOf raw (done ++ (m ∷ rest)) → ((n : Mark) → IsIn n done → Fault raw n → ⊥)
-    → (e : Path) → PassesLimit raw e → path_cmp e (mark_path m) ≢ Less
+none_earlier : (raw : Data) (done rest : List Event) (m : Event) → AreEventsOf raw (done ++ (m ∷ rest)) → ((n : Event) → IsIn n done → Fault raw n → ⊥)
+    → (e : Path) → PassesLimit raw e → path_cmp e (event_path m) ≢ Less
 none_earlier raw done rest m are clean e h less =
     let f = fault_of raw (done ++ (m ∷ rest)) e are h in
-    elim (in_parts f.mark done (m ∷ rest) f.within) [
-      | inl a ↦ clean f.mark a f.fault
-      | inr b ↦ not_before_first m f.mark rest (ascend_right done (m ∷ rest) are.ascending) b (subst (λ x. path_cmp x (mark_path m) ≡ Less) (sym f.at) less)
+    elim (in_parts f.event done (m ∷ rest) f.within) [
+      | inl a ↦ clean f.event a f.fault
+      | inr b ↦ not_before_first m f.event rest (ascend_right done (m ∷ rest) are.ascending) b (subst (λ x. path_cmp x (event_path m) ≡ Less) (sym f.at) less)
     ]
 
-here_visited : (raw : Data) (done rest : List Mark) (p : Place) (s : Data) → AreMarksOf raw (done ++ (visited p s ∷ rest)) → IsPlace raw p
-here_visited raw done rest p s are = (s, (are.visits p s).1 (in_right (visited p s) done (visited p s ∷ rest) (inl refl)))
+here_entered : (raw : Data) (done rest : List Event) (p : Place) (s : Data) → AreEventsOf raw (done ++ (entered p s ∷ rest)) → IsPlace raw p
+here_entered raw done rest p s are = (s, (are.subschemas p s).1 (in_right (entered p s) done (entered p s ∷ rest) (inl refl)))
 
-clean_more : (raw : Data) (done rest : List Mark) (p : Place) (s : Data) → AreMarksOf raw (done ++ (visited p s ∷ rest))
-    → length (places_of done) < most_places → length p ≤ most_steps → ((n : Mark) → IsIn n done → Fault raw n → ⊥)
-    → (n : Mark) → IsIn n (done ++ (visited p s ∷ [])) → Fault raw n → ⊥
-clean_more raw done rest p s are few short clean n within fault = elim (in_parts n done (visited p s ∷ []) within) [
+clean_more : (raw : Data) (done rest : List Event) (p : Place) (s : Data) → AreEventsOf raw (done ++ (entered p s ∷ rest))
+    → length (places_of done) < most_places → length p ≤ most_steps → ((n : Event) → IsIn n done → Fault raw n → ⊥)
+    → (n : Event) → IsIn n (done ++ (entered p s ∷ [])) → Fault raw n → ⊥
+clean_more raw done rest p s are few short clean n within fault = elim (in_parts n done (entered p s ∷ []) within) [
   | inl a ↦ clean n a fault
   | inr b ↦ elim b [
     | inl e ↦
-        let here : Fault raw (visited p s) = subst (Fault raw) e fault in
+        let here : Fault raw (entered p s) = subst (Fault raw) e fault in
         elim here [
           | inl deep ↦ absurd (omega (arith, deep))
           | inr many ↦
@@ -228,47 +228,47 @@ lt_true a b e = grind (arith, nat_tests)
 lt_false : (a b : ℕ) → nat_lt a b ≡ false → b ≤ a
 lt_false a b e = grind (arith, nat_tests)
 
-walk : (raw : Data) (rest done : List Mark) (n : ℕ) → AreMarksOf raw (done ++ rest) → n ≡ length (places_of done) → n ≤ most_places
-    → ((m : Mark) → IsIn m done → Fault raw m → ⊥) → IsFound (PassesLimit raw) (limit_break n rest)
+walk : (raw : Data) (rest done : List Event) (n : ℕ) → AreEventsOf raw (done ++ rest) → n ≡ length (places_of done) → n ≤ most_places
+    → ((m : Event) → IsIn m done → Fault raw m → ⊥) → IsFound (PassesLimit raw) (limit_break n rest)
 walk raw [] done n are count few clean = λ path h.
     let f = fault_of raw (done ++ []) path are h in
-    elim (in_parts f.mark done [] f.within) [ inl a ↦ clean f.mark a f.fault | inr b ↦ b ]
+    elim (in_parts f.event done [] f.within) [ inl a ↦ clean f.event a f.fault | inr b ↦ b ]
 walk raw (too_long p k ∷ rest) done n are count few clean = record {
-  here = limits.too_long raw p k ((are.words p k).1 (in_right (too_long p k) done (too_long p k ∷ rest) (inl refl)));
+  here = limits.too_long raw p k ((are.keywords p k).1 (in_right (too_long p k) done (too_long p k ∷ rest) (inl refl)));
   none_before = none_earlier raw done rest (too_long p k) are clean;
 }
-walk raw (visited p s ∷ rest) done n are count few clean = elim (bool_cases (nat_le most_places n)) [
+walk raw (entered p s ∷ rest) done n are count few clean = elim (bool_cases (nat_le most_places n)) [
   | inl full ↦
       let past : most_places ≤ n = le_true most_places n full in
-      let first : limit_break n (visited p s ∷ rest) ≡ Some (place_path p) = rw full refl in
+      let first : limit_break n (entered p s ∷ rest) ≡ Some (place_path p) = rw full refl in
       let exact : length (places_of done) ≡ most_places = omega arith in
       subst (IsFound (PassesLimit raw)) (sym first) (record {
-        here = too_many_places raw p (places_of done) (here_visited raw done rest p s are) (come_before raw done rest p s are) exact;
-        none_before = none_earlier raw done rest (visited p s) are clean;
+        here = too_many_places raw p (places_of done) (here_entered raw done rest p s are) (come_before raw done rest p s are) exact;
+        none_before = none_earlier raw done rest (entered p s) are clean;
       })
   | inr room ↦
       let less : n < most_places = le_false most_places n room in
       elim (bool_cases (nat_lt most_steps (length p))) [
         | inl deep ↦
-            let first : limit_break n (visited p s ∷ rest) ≡ Some (place_path p) = rw (room, deep) refl in
+            let first : limit_break n (entered p s ∷ rest) ≡ Some (place_path p) = rw (room, deep) refl in
             subst (IsFound (PassesLimit raw)) (sym first) (record {
-              here = too_deep raw p (here_visited raw done rest p s are) (lt_true most_steps (length p) deep);
-              none_before = none_earlier raw done rest (visited p s) are clean;
+              here = too_deep raw p (here_entered raw done rest p s are) (lt_true most_steps (length p) deep);
+              none_before = none_earlier raw done rest (entered p s) are clean;
             })
         | inr short ↦
-            let first : limit_break n (visited p s ∷ rest) ≡ limit_break (suc n) rest = rw (room, short) refl in
-            let moved : AreMarksOf raw ((done ++ (visited p s ∷ [])) ++ rest) = subst (AreMarksOf raw) (sym (append_assoc done (visited p s ∷ []) rest)) are in
+            let first : limit_break n (entered p s ∷ rest) ≡ limit_break (suc n) rest = rw (room, short) refl in
+            let moved : AreEventsOf raw ((done ++ (entered p s ∷ [])) ++ rest) = subst (AreEventsOf raw) (sym (append_assoc done (entered p s ∷ []) rest)) are in
             let more = more_places done p s in
-            subst (IsFound (PassesLimit raw)) (sym first) (walk raw rest (done ++ (visited p s ∷ [])) (suc n) moved (omega (arith, more)) (omega arith)
+            subst (IsFound (PassesLimit raw)) (sym first) (walk raw rest (done ++ (entered p s ∷ [])) (suc n) moved (omega (arith, more)) (omega arith)
             (clean_more raw done rest p s are (omega arith) (lt_false most_steps (length p) short) clean))
       ]
 ]
 
-pub found : (raw : Data) (marks : List Mark) → AreMarksOf raw marks → IsFound (PassesLimit raw) (limit_break 0 marks)
-found raw marks are = walk raw marks [] 0 are refl (omega arith) (λ m e f. e)
+pub found : (raw : Data) (events : List Event) → AreEventsOf raw events → IsFound (PassesLimit raw) (limit_break 0 events)
+found raw events are = walk raw events [] 0 are refl (omega arith) (λ m e f. e)
 
-pub within : (raw : Data) (marks : List Mark) → AreMarksOf raw marks → limit_break 0 marks ≡ None → IsWithinLimits raw
-within raw marks are none = subst (IsFound (PassesLimit raw)) none (found raw marks are)
+pub within : (raw : Data) (events : List Event) → AreEventsOf raw events → limit_break 0 events ≡ None → IsWithinLimits raw
+within raw events are none = subst (IsFound (PassesLimit raw)) none (found raw events are)
 
-pub first_past : (raw : Data) (marks : List Mark) (path : Path) → AreMarksOf raw marks → limit_break 0 marks ≡ Some path → IsLimitFault raw path
-first_past raw marks path are some = subst (IsFound (PassesLimit raw)) some (found raw marks are)
+pub first_past : (raw : Data) (events : List Event) (path : Path) → AreEventsOf raw events → limit_break 0 events ≡ Some path → IsLimitFault raw path
+first_past raw events path are some = subst (IsFound (PassesLimit raw)) some (found raw events are)

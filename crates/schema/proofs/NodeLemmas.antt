@@ -4,30 +4,30 @@ use Rattle.std.specs.Str.{bytes_eq}
 use Rattle.std.proofs.lemmas.Option.{same_Some}
 use Rattle.jtree.specs.Data.{Data, null, boolean, integer, text, list, object, Members, no_members, member, depth, members_depth}
 use Rattle.jtree.specs.Path.{member_at, under}
-use Rattle.jtree.specs.Lookups.{bool_cases}
+use Rattle.jtree.specs.Internal.Lookups.{bool_cases}
 use Rattle.jtree.specs.View.{data_of, items_of}
 use Rattle.jtree.specs.declared.value.Tree.{Tree}
-use Rattle.schema.specs.NodeView.{conditions_of, branches_of}
-use Rattle.schema.specs.Conditions.{AreConditionsOf, AreBranchesOf}
-use Rattle.schema.specs.declared.node.Conditions.{Conditions}
+use Rattle.schema.specs.Nodes.View.{validations_of, branches_of}
+use Rattle.schema.specs.Nodes.Validations.{AreValidationsOf, AreBranchesOf}
+use Rattle.schema.specs.declared.node.Validations.{Validations}
 
-pub member_falls : (k : List ℕ) (ms : Members) (d : Data) → member_at k ms ≡ Some d → depth d ≤ members_depth ms
-member_falls k no_members d at = cc
-member_falls k (member l e ms) d at = elim (bool_cases (bytes_eq k l)) [
+pub member_decreases : (k : List ℕ) (ms : Members) (d : Data) → member_at k ms ≡ Some d → depth d ≤ members_depth ms
+member_decreases k no_members d at = cc
+member_decreases k (member l e ms) d at = elim (bool_cases (bytes_eq k l)) [
   | inl t ↦ let same : e ≡ d = same_Some e d (rw t at at) in let h = ap depth same in omega arith
-  | inr f ↦ let h = member_falls k ms d (rw f at at) in omega arith
+  | inr f ↦ let h = member_decreases k ms d (rw f at at) in omega arith
 ]
 
-pub under_falls : (d : Data) (k : List ℕ) (e : Data) → under d k ≡ Some e → suc (depth e) ≤ depth d
-under_falls null k e at = cc
-under_falls (boolean b) k e at = cc
-under_falls (integer z) k e at = cc
-under_falls (text s) k e at = cc
-under_falls (list ds) k e at = cc
-under_falls (object ms) k e at = let h = member_falls k ms e at in omega arith
+pub under_decreases : (d : Data) (k : List ℕ) (e : Data) → under d k ≡ Some e → suc (depth e) ≤ depth d
+under_decreases null k e at = cc
+under_decreases (boolean b) k e at = cc
+under_decreases (integer z) k e at = cc
+under_decreases (text s) k e at = cc
+under_decreases (list ds) k e at = cc
+under_decreases (object ms) k e at = let h = member_decreases k ms e at in omega arith
 
-pub push_branches : (cs : List Conditions) (c : Conditions) (ts : List Tree) (t : Tree) → AreBranchesOf (branches_of cs) (items_of ts)
-    → AreConditionsOf (conditions_of c) (data_of t) → AreBranchesOf (branches_of (cs ++ c ∷ [])) (items_of (ts ++ t ∷ []))
+pub push_branches : (cs : List Validations) (c : Validations) (ts : List Tree) (t : Tree) → AreBranchesOf (branches_of cs) (items_of ts)
+    → AreValidationsOf (validations_of c) (data_of t) → AreBranchesOf (branches_of (cs ++ c ∷ [])) (items_of (ts ++ t ∷ []))
 push_branches [] c [] t h new = (new, tt)
 push_branches [] c (u ∷ ts) t h new = absurd h
 push_branches (b ∷ cs) c [] t h new = absurd h

@@ -5,11 +5,11 @@ use Rattle.std.specs.Str.{bytes_eq}
 use Rattle.std.proofs.lemmas.Option.{same_Some}
 use Rattle.jtree.specs.Data.{Data, null, boolean, integer, text, list, object, Items, no_items, item, no_members, member}
 use Rattle.jtree.specs.Path.{under}
-use Rattle.jtree.specs.Lookups.{bool_cases, same_name, member_first}
+use Rattle.jtree.specs.Internal.Lookups.{bool_cases, same_name, member_first}
 use Rattle.jtree.specs.View.{data_of, items_of}
 use Rattle.jtree.specs.declared.value.Tree.{Tree}
-use Rattle.schema.specs.Limits.{size, items_len}
-use Rattle.schema.specs.Rules.{pattern, typed}
+use Rattle.schema.specs.Document.Limits.{size, items_len}
+use Rattle.schema.specs.Rules.Broken.{pattern, typed}
 use Rattle.schema.proofs.PlaceLemmas.{items_size}
 
 -- an object with one member is that member

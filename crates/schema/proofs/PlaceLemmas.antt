@@ -7,9 +7,9 @@ use Rattle.jtree.specs.Pointer.{token, pointer}
 use Rattle.jtree.specs.View.{items_of, members_of}
 use Rattle.jtree.specs.declared.value.Tree.{Tree}
 use Rattle.jtree.specs.declared.value.Member.{Member}
-use Rattle.schema.specs.Limits.{items_len, members_len}
-use Rattle.schema.specs.Places.{Step, Place, step_path, place_path}
-use Rattle.schema.specs.PlaceView.{step_of, place_of}
+use Rattle.schema.specs.Document.Limits.{items_len, members_len}
+use Rattle.schema.specs.Document.Places.{Step, Place, step_path, place_path}
+use Rattle.schema.specs.Internal.PlaceView.{step_of, place_of}
 use Rattle.schema.specs.declared.places.Step.{Step as CodeStep}
 
 pub items_size : (ts : List Tree) → length ts ≡ items_len (items_of ts)

@@ -1,4 +1,4 @@
--- What a visit shows of the rules at its place.
+-- What a subschema shows of the rules at its place.
 use Rattle.std.proofs.Common.{◌≡◌, ◌≢◌, ◌⊎◌, ℕ, List, [], ◌∷◌, ◌++◌, Bool, true, false, Some, refl, sym, ap, ◌∙◌, subst, inl, inr, zero, suc, ◌+◌, ◌<◌, ◌≤◌, length, get_or, drop, arith}
 use Rattle.std.specs.Prelude.{◌↔◌, ◌||◌, not, IsTrue, codes, map}
 use Rattle.std.specs.Str.{bytes_eq}
@@ -8,14 +8,14 @@ use Rattle.jtree.specs.View.{data_of, members_of}
 use Rattle.jtree.specs.declared.value.Member.{Member}
 use Rattle.jtree.specs.Data.{Data, object, Members, member, no_members}
 use Rattle.jtree.specs.Path.{member_at}
-use Rattle.jtree.specs.Lookups.{bool_cases, same_name, own_name, member_first, member_later}
-use Rattle.schema.specs.Raw.{Has}
-use Rattle.schema.specs.Forms.{is_among}
-use Rattle.schema.specs.Places.{Step, Place, property, map_value, items, all_of, any_of, one_of, negation, is_junctor, is_inside, schema_at}
-use Rattle.schema.specs.PlaceView.{step_of, place_of}
+use Rattle.jtree.specs.Internal.Lookups.{bool_cases, same_name, own_name, member_first, member_later}
+use Rattle.schema.specs.Document.Raw.{Has}
+use Rattle.schema.specs.Document.Texts.{is_among}
+use Rattle.schema.specs.Document.Places.{Step, Place, property, map_value, items, all_of, any_of, one_of, negation, is_junctor, is_inside, schema_at}
+use Rattle.schema.specs.Internal.PlaceView.{step_of, place_of}
 use Rattle.schema.specs.declared.places.Step.{Step as CodeStep}
-use Rattle.schema.specs.Rules.{HasOneOf, metadata_words, metadata, RestrictsMetadata, metadata_word, metadata_type, metadata_field, is_field, ends_in_field}
-use Rattle.schema.specs.RuleParts.{HasOtherWord, HasOtherType, metadata_names, IsOtherName, IsOtherField, Restricts}
+use Rattle.schema.specs.Rules.Broken.{HasOneOf, metadata_keywords, metadata, RestrictsMetadata, metadata_keyword, metadata_type, metadata_field, is_field, ends_in_field}
+use Rattle.schema.specs.Internal.RuleParts.{HasOtherKeyword, HasOtherType, metadata_names, IsOtherName, IsOtherField, Restricts}
 
 -- ---- one of several keywords
 
@@ -42,27 +42,27 @@ one_of_next w ws s none = (
   ],
 )
 
-pub words_next : {X : Type 0} (f : X → List ℕ) (xs : List X) (i : ℕ) (d : X) (s : Data) (Whole : Type 0) → i < length xs
+pub keywords_next : {X : Type 0} (f : X → List ℕ) (xs : List X) (i : ℕ) (d : X) (s : Data) (Whole : Type 0) → i < length xs
     → IsTrue false ↔ Has s (f (get_or xs i d)) → HasOneOf (map f (drop i xs)) s ↔ Whole → HasOneOf (map f (drop (i + 1) xs)) s ↔ Whole
-words_next f xs i d s Whole within none all =
+keywords_next f xs i d s Whole within none all =
     let split : map f (drop i xs) ≡ f (get_or xs i d) ∷ map f (drop (i + 1) xs) = at_drop_more (map f) xs i d within in
     let next = one_of_next (f (get_or xs i d)) (map f (drop (i + 1) xs)) s (λ h. let no : false ≡ true = none.1 h in cc) in (
       λ h. all.0 (subst (λ ws. HasOneOf ws s) (sym split) (next.0 h)),
       λ w. next.1 (subst (λ ws. HasOneOf ws s) split (all.1 w)),
     )
 
-pub words_found : {X : Type 0} (f : X → List ℕ) (xs : List X) (i : ℕ) (d : X) (s : Data) (Whole : Type 0) → i < length xs
+pub keywords_found : {X : Type 0} (f : X → List ℕ) (xs : List X) (i : ℕ) (d : X) (s : Data) (Whole : Type 0) → i < length xs
     → IsTrue true ↔ Has s (f (get_or xs i d)) → HasOneOf (map f (drop i xs)) s ↔ Whole → IsTrue true ↔ Whole
-words_found f xs i d s Whole within some all =
+keywords_found f xs i d s Whole within some all =
     let split : map f (drop i xs) ≡ f (get_or xs i d) ∷ map f (drop (i + 1) xs) = at_drop_more (map f) xs i d within in
     (λ e. all.0 (subst (λ ws. HasOneOf ws s) (sym split) (one_of_first (f (get_or xs i d)) (map f (drop (i + 1) xs)) s (some.0 refl))), λ w. refl)
 
 -- ---- a keyword that `metadata` may not have
 
-pub other_none : HasOtherWord (object no_members) → ⊥
+pub other_none : HasOtherKeyword (object no_members) → ⊥
 other_none h = h.1 refl
 
-pub other_first : (k : List ℕ) (d : Data) (ms : Members) → is_among k metadata_words ≡ false → HasOtherWord (object (member k d ms))
+pub other_first : (k : List ℕ) (d : Data) (ms : Members) → is_among k metadata_keywords ≡ false → HasOtherKeyword (object (member k d ms))
 other_first k d ms other = (k, λ none. let some : member_at k (member k d ms) ≡ Some d = member_first k d ms in cc, other)
 
 some_later : (w k : List ℕ) (d : Data) (ms : Members) → Has (object ms) w → Has (object (member k d ms)) w
@@ -71,13 +71,13 @@ some_later w k d ms h = elim (bool_cases (bytes_eq w k)) [
   | inr other ↦ λ none. h (sym (member_later w k d ms other) ∙ none)
 ]
 
-pub other_next : (k : List ℕ) (d : Data) (ms : Members) → is_among k metadata_words ≡ true → HasOtherWord (object ms) ↔ HasOtherWord (object (member k d ms))
+pub other_next : (k : List ℕ) (d : Data) (ms : Members) → is_among k metadata_keywords ≡ true → HasOtherKeyword (object ms) ↔ HasOtherKeyword (object (member k d ms))
 other_next k d ms known = (
   λ h. (h.0, some_later h.0 k d ms h.1, h.2),
   λ h. elim (bool_cases (bytes_eq h.0 k)) [
     | inl same ↦
-        let found : is_among h.0 metadata_words ≡ true = subst (λ w. is_among w metadata_words ≡ true) (sym (same_name h.0 k same)) known in
-        let not_found : is_among h.0 metadata_words ≡ false = h.2 in
+        let found : is_among h.0 metadata_keywords ≡ true = subst (λ w. is_among w metadata_keywords ≡ true) (sym (same_name h.0 k same)) known in
+        let not_found : is_among h.0 metadata_keywords ≡ false = h.2 in
         absurd (cc)
     | inr other ↦ (h.0, λ none. h.1 (member_later h.0 k d ms other ∙ none), h.2)
   ],
@@ -86,25 +86,25 @@ other_next k d ms known = (
 members_split : (xs : List Member) (i : ℕ) (m : Member) → i < length xs → m ≡ get_or xs i m → members_of (drop i xs) ≡ member m.name (data_of m.tree) (members_of (drop (i + 1) xs))
 members_split xs i m within is = at_drop_more members_of xs i m within ∙ ap (λ z. member z.name (data_of z.tree) (members_of (drop (i + 1) xs))) (sym is)
 
-pub others_next : (xs : List Member) (i : ℕ) (m : Member) (Whole : Type 0) → i < length xs → m ≡ get_or xs i m → is_among m.name metadata_words ≡ true
-    → HasOtherWord (object (members_of (drop i xs))) ↔ Whole → HasOtherWord (object (members_of (drop (i + 1) xs))) ↔ Whole
+pub others_next : (xs : List Member) (i : ℕ) (m : Member) (Whole : Type 0) → i < length xs → m ≡ get_or xs i m → is_among m.name metadata_keywords ≡ true
+    → HasOtherKeyword (object (members_of (drop i xs))) ↔ Whole → HasOtherKeyword (object (members_of (drop (i + 1) xs))) ↔ Whole
 others_next xs i m Whole within is known all =
     let split = members_split xs i m within is in
     let next = other_next m.name (data_of m.tree) (members_of (drop (i + 1) xs)) known in (
-      λ h. all.0 (subst (λ ms. HasOtherWord (object ms)) (sym split) (next.0 h)),
-      λ w. next.1 (subst (λ ms. HasOtherWord (object ms)) split (all.1 w)),
+      λ h. all.0 (subst (λ ms. HasOtherKeyword (object ms)) (sym split) (next.0 h)),
+      λ w. next.1 (subst (λ ms. HasOtherKeyword (object ms)) split (all.1 w)),
     )
 
-pub others_found : (xs : List Member) (i : ℕ) (m : Member) (Whole : Type 0) → i < length xs → m ≡ get_or xs i m → is_among m.name metadata_words ≡ false
-    → HasOtherWord (object (members_of (drop i xs))) ↔ Whole → IsTrue true ↔ Whole
+pub others_found : (xs : List Member) (i : ℕ) (m : Member) (Whole : Type 0) → i < length xs → m ≡ get_or xs i m → is_among m.name metadata_keywords ≡ false
+    → HasOtherKeyword (object (members_of (drop i xs))) ↔ Whole → IsTrue true ↔ Whole
 others_found xs i m Whole within is other all =
     let split = members_split xs i m within is in
-    (λ e. all.0 (subst (λ ms. HasOtherWord (object ms)) (sym split) (other_first m.name (data_of m.tree) (members_of (drop (i + 1) xs)) other)), λ w. refl)
+    (λ e. all.0 (subst (λ ms. HasOtherKeyword (object ms)) (sym split) (other_first m.name (data_of m.tree) (members_of (drop (i + 1) xs)) other)), λ w. refl)
 
-pub others_none : (xs : List Member) (i : ℕ) (Whole : Type 0) → length xs ≤ i → HasOtherWord (object (members_of (drop i xs))) ↔ Whole → IsTrue false ↔ Whole
+pub others_none : (xs : List Member) (i : ℕ) (Whole : Type 0) → length xs ≤ i → HasOtherKeyword (object (members_of (drop i xs))) ↔ Whole → IsTrue false ↔ Whole
 others_none xs i Whole past all =
     let none = at_drop_all members_of xs i past in
-    (λ e. absurd (cc), λ w. absurd (other_none (subst (λ ms. HasOtherWord (object ms)) none (all.1 w))))
+    (λ e. absurd (cc), λ w. absurd (other_none (subst (λ ms. HasOtherKeyword (object ms)) none (all.1 w))))
 
 -- ---- the steps of a place
 
@@ -172,14 +172,14 @@ two_steps (x ∷ y ∷ []) d e b least most first second = (
 two_steps (x ∷ y ∷ z ∷ xs) d e b least most first second = absurd (omega arith)
 
 restricts_to : (raw : Data) (p : Place) (s : Data) → schema_at raw p ≡ Some s → Restricts p s → RestrictsMetadata raw p
-restricts_to raw p s is (inl (here, inl h)) = subst (RestrictsMetadata raw) (sym here) (metadata_word raw (s, subst (λ q. schema_at raw q ≡ Some s) here is, h))
+restricts_to raw p s is (inl (here, inl h)) = subst (RestrictsMetadata raw) (sym here) (metadata_keyword raw (s, subst (λ q. schema_at raw q ≡ Some s) here is, h))
 restricts_to raw p s is (inl (here, inr h)) = subst (RestrictsMetadata raw) (sym here) (metadata_type raw (s, subst (λ q. schema_at raw q ≡ Some s) here is, h))
 restricts_to raw p s is (inr (step, here, other)) =
     let at : p ≡ metadata ++ (property other.0 ∷ []) = here ∙ ap (λ t. metadata ++ (t ∷ [])) other.1 in
     subst (RestrictsMetadata raw) (sym at) (metadata_field raw other.0 (s, subst (λ q. schema_at raw q ≡ Some s) at is) other.2 other.3)
 
 restricts_from : (raw : Data) (p : Place) (s : Data) → schema_at raw p ≡ Some s → RestrictsMetadata raw p → Restricts p s
-restricts_from raw p s is (metadata_word r at) = inl (refl, inl (subst HasOtherWord (same_Some at.0 s (sym at.1 ∙ is)) at.2))
+restricts_from raw p s is (metadata_keyword r at) = inl (refl, inl (subst HasOtherKeyword (same_Some at.0 s (sym at.1 ∙ is)) at.2))
 restricts_from raw p s is (metadata_type r at) = inl (refl, inr (subst HasOtherType (same_Some at.0 s (sym at.1 ∙ is)) at.2))
 restricts_from raw p s is (metadata_field r k at n g) = inr (property k, refl, (k, refl, n, g))
 

@@ -6,11 +6,11 @@ use Rattle.jtree.specs.View.{data_of}
 use Rattle.jtree.specs.declared.value.Tree.{Tree}
 use Rattle.jtree.specs.declared.value.Tree.TheVariants as code
 use Rattle.jtree.specs.declared.value.Members.{Members as TreeMembers}
-use Rattle.schema.specs.Forms.{has_form, BreaksForm, HasForms, IsFormFault}
-use Rattle.schema.specs.FormBreak.{first_break, IsBreakFault}
-use Rattle.schema.specs.Limits.{IsWithinLimits}
-use Rattle.schema.specs.LimitFault.{IsLimitFaultOf}
-use Rattle.schema.specs.ReadFault.{IsSchemaFault}
+use Rattle.schema.specs.Document.Forms.{has_form, BreaksForm, HasForms, IsFormFault}
+use Rattle.schema.specs.Internal.FormBreak.{first_break, IsBreakFault}
+use Rattle.schema.specs.Document.Limits.{IsWithinLimits}
+use Rattle.schema.specs.Internal.LimitFault.{IsLimitFaultOf}
+use Rattle.schema.specs.Document.ReadFault.{IsSchemaFault}
 use Rattle.schema.specs.declared.forms.Form.TheVariants.{Object}
 use Rattle.schema.specs.declared.fault.SFault.{SFault}
 use Rattle.schema.specs.declared.fault.SFault.TheVariants.{NotACrd, NoSuchVersion, KeywordForm, TooLarge, NoMemory}

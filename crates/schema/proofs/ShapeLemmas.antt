@@ -8,22 +8,22 @@ use Rattle.std.specs.declared.cmp.Ordering.TheVariants.{Less}
 use Rattle.jtree.specs.Data.{Data, Items, Members, no_members, member, IsBefore, IsObject, depth, members_depth}
 use Rattle.jtree.specs.Data as tree
 use Rattle.jtree.specs.Kind.{is_object}
-use Rattle.jtree.specs.Lookups.{bool_cases, IsBefore-trans, member_first, member_tail}
+use Rattle.jtree.specs.Internal.Lookups.{bool_cases, IsBefore-trans, member_first, member_tail}
 use Rattle.jtree.specs.Order.{text_cmp}
 use Rattle.jtree.specs.Path.{member_at, under}
 use Rattle.jtree.specs.View.{data_of, items_of, members_of}
 use Rattle.jtree.specs.declared.value.Tree.{Tree}
 use Rattle.jtree.specs.declared.value.Member.{Member}
-use Rattle.schema.specs.Forms.{is_among}
-use Rattle.schema.specs.Raw.{HasObject}
-use Rattle.schema.specs.Kinds as kinds
-use Rattle.schema.specs.Kinds.{IsOfKind, then_map}
-use Rattle.schema.specs.Places.{property, map_value, items, schema_by, schema_at, IsEnvelopeName}
-use Rattle.schema.specs.Reading.{texts_of}
-use Rattle.schema.specs.Node.{Fields, no_fields, field, IsNode, IsBeforeFields, AreOrdered}
-use Rattle.schema.specs.NodeView.{node_of, fields_of}
-use Rattle.schema.specs.Shape.{HasNoNode, IsNodeOf, AreFieldsOf, is_declared, declared_of}
-use Rattle.schema.specs.Building.{HasNodes, HaveNodes, AreNodes}
+use Rattle.schema.specs.Document.Texts.{is_among}
+use Rattle.schema.specs.Document.Raw.{HasObject}
+use Rattle.schema.specs.Rules.Kinds as kinds
+use Rattle.schema.specs.Rules.Kinds.{IsOfKind, then_map}
+use Rattle.schema.specs.Document.Places.{property, map_value, items, schema_by, schema_at, IsEnvelopeName}
+use Rattle.schema.specs.Nodes.Keywords.{texts_of}
+use Rattle.schema.specs.Nodes.Node.{Fields, no_fields, field, IsNode, IsBeforeFields, AreOrdered}
+use Rattle.schema.specs.Nodes.View.{node_of, fields_of}
+use Rattle.schema.specs.Nodes.Shape.{HasNoNode, IsNodeOf, AreFieldsOf, is_declared, declared_of}
+use Rattle.schema.specs.Internal.Building.{HasNodes, HaveNodes, AreNodes}
 use Rattle.schema.specs.declared.node.Field.{Field}
 
 -- ---- places one step below

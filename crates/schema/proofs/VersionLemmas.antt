@@ -8,9 +8,9 @@ use Rattle.jtree.specs.Data.{Data, text, no_items}
 use Rattle.jtree.specs.Path.{item_at}
 use Rattle.jtree.specs.View.{data_of, items_of}
 use Rattle.jtree.specs.declared.value.Tree.{Tree}
-use Rattle.schema.specs.Crd.{IsNamed, IsVersion}
-use Rattle.schema.specs.Versions.{AreVersions, IsSelected}
-use Rattle.jtree.specs.Lookups.{bool_cases, same_name, own_name}
+use Rattle.schema.specs.Document.Crd.{IsNamed, IsVersion}
+use Rattle.schema.specs.Internal.Versions.{AreVersions, IsSelected}
+use Rattle.jtree.specs.Internal.Lookups.{bool_cases, same_name, own_name}
 
 pub record IsIndex (xs : List Tree) (look : List ℕ → Option Data) : Type 0 where
   pub versions : AreVersions (items_of xs)

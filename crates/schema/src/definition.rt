@@ -2,10 +2,10 @@
 ghost use Rattle.std.specs.Prelude.{◌≡◌, ◌≢◌, ◌↔◌, ℕ, List, [], None, Some, option_map, codes, OnOk, IfOk, IfErr, IfSome, IsTrue};
 ghost use Rattle.jtree.specs.Data.{Data, Items as ItemsData, text as text_of};
 ghost use Rattle.jtree.specs.View.{data_of};
-ghost use Rattle.schema.specs.Crd.{IsRead, IsSchemaOf};
-ghost use Rattle.schema.specs.ReadFault.{IsSound, IsReadFault, IsDefinitionFault, IsSchemaFault};
+ghost use Rattle.schema.specs.Document.Crd.{IsRead, IsSchemaOf};
+ghost use Rattle.schema.specs.Document.ReadFault.{IsSound, IsReadFault, IsDefinitionFault, IsSchemaFault};
 ghost use Rattle.jtree.specs.Path.{under2, under3};
-ghost use Rattle.schema.specs.Versions.{HasHeader, IsHead};
+ghost use Rattle.schema.specs.Internal.Versions.{HasHeader, IsHead};
 
 use crate::fault::SFault;
 use crate::forms::{Form, check_form};
@@ -110,7 +110,7 @@ fn check_schema(alloc: Global, schema: &Tree) -> Result<(), SFault>
     ensures ok { OnOk result (IsSound (data_of schema.now)) }
     ensures err { IfErr result (IsSchemaFault (data_of schema.now)) }
 {
-    schema.is_tree();
+    schema.reveal_invariant();
     match check_form(alloc, Form::Object, schema) {
         Ok(()) => {}
         Err(fault) => return Err(fault),

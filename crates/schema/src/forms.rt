@@ -1,10 +1,11 @@
 // The form of each keyword's value, and the first value in path order that has not its form.
 ghost use Rattle.std.specs.Prelude.{◌≡◌, ◌++◌, ℕ, Option, None, OnOk, IfOk, IfErr, string_bytes};
-ghost use Rattle.jtree.specs.Path.{Path, name as name_step, place as place_step};
+ghost use Rattle.jtree.specs.Path.{Path, name as name_step, index as index_step};
 ghost use Rattle.jtree.specs.Pointer.{name_token, index_token};
 ghost use Rattle.jtree.specs.View.{data_of};
-ghost use Rattle.schema.specs.Forms.{is_among, text_words, truth_value_words, count_words, form_of as form_of_word, form_below, has_form as has_form_of, is_some_list as is_some_list_of, is_count as is_count_of};
-ghost use Rattle.schema.specs.FormBreak.{first_break, items_break, members_break, below, IsBreakFault};
+ghost use Rattle.schema.specs.Document.Texts.{is_among};
+ghost use Rattle.schema.specs.Document.Forms.{text_keywords, truth_value_keywords, count_keywords, form_of as form_of_keyword, form_below, has_form as has_form_of, is_some_list as is_some_list_of, is_count as is_count_of};
+ghost use Rattle.schema.specs.Internal.FormBreak.{first_break, items_break, members_break, below, IsBreakFault};
 
 use crate::fault::SFault;
 use jtree::{Items, JFault, Members, Tree, push_index, push_name};
@@ -30,71 +31,71 @@ pub(crate) enum Form {
     Count,
 }
 
-fn is_text_word(word: &str) -> bool
-    ensures { result ≡ is_among word.now text_words }
+fn is_text_keyword(keyword: &str) -> bool
+    ensures { result ≡ is_among keyword.now text_keywords }
 {
-    word == "type"
-        || word == "description"
-        || word == "title"
-        || word == "format"
-        || word == "x-kubernetes-list-type"
-        || word == "x-kubernetes-map-type"
+    keyword == "type"
+        || keyword == "description"
+        || keyword == "title"
+        || keyword == "format"
+        || keyword == "x-kubernetes-list-type"
+        || keyword == "x-kubernetes-map-type"
 }
 
-fn is_truth_value_word(word: &str) -> bool
-    ensures { result ≡ is_among word.now truth_value_words }
+fn is_truth_value_keyword(keyword: &str) -> bool
+    ensures { result ≡ is_among keyword.now truth_value_keywords }
 {
-    word == "nullable"
-        || word == "uniqueItems"
-        || word == "exclusiveMinimum"
-        || word == "exclusiveMaximum"
-        || word == "x-kubernetes-int-or-string"
-        || word == "x-kubernetes-preserve-unknown-fields"
+    keyword == "nullable"
+        || keyword == "uniqueItems"
+        || keyword == "exclusiveMinimum"
+        || keyword == "exclusiveMaximum"
+        || keyword == "x-kubernetes-int-or-string"
+        || keyword == "x-kubernetes-preserve-unknown-fields"
 }
 
-fn is_count_word(word: &str) -> bool
-    ensures { result ≡ is_among word.now count_words }
+fn is_count_keyword(keyword: &str) -> bool
+    ensures { result ≡ is_among keyword.now count_keywords }
 {
-    word == "minLength"
-        || word == "maxLength"
-        || word == "minItems"
-        || word == "maxItems"
-        || word == "minProperties"
-        || word == "maxProperties"
+    keyword == "minLength"
+        || keyword == "maxLength"
+        || keyword == "minItems"
+        || keyword == "maxItems"
+        || keyword == "minProperties"
+        || keyword == "maxProperties"
 }
 
 /// The form of a keyword.
-fn form_of(word: &str) -> Form
-    ensures { result ≡ form_of_word word.now }
+fn form_of(keyword: &str) -> Form
+    ensures { result ≡ form_of_keyword keyword.now }
 {
-    if is_text_word(word) {
+    if is_text_keyword(keyword) {
         return Form::Text;
     }
-    if is_truth_value_word(word) {
+    if is_truth_value_keyword(keyword) {
         return Form::TruthValue;
     }
-    if word == "properties" {
+    if keyword == "properties" {
         return Form::ObjectOfObjects;
     }
-    if word == "additionalProperties" {
+    if keyword == "additionalProperties" {
         return Form::TruthValueOrObject;
     }
-    if word == "items" || word == "not" {
+    if keyword == "items" || keyword == "not" {
         return Form::Object;
     }
-    if word == "allOf" || word == "anyOf" || word == "oneOf" {
+    if keyword == "allOf" || keyword == "anyOf" || keyword == "oneOf" {
         return Form::SomeObjects;
     }
-    if word == "required" || word == "x-kubernetes-list-map-keys" {
+    if keyword == "required" || keyword == "x-kubernetes-list-map-keys" {
         return Form::Texts;
     }
-    if word == "enum" {
+    if keyword == "enum" {
         return Form::List;
     }
-    if word == "minimum" || word == "maximum" {
+    if keyword == "minimum" || keyword == "maximum" {
         return Form::Integer;
     }
-    if is_count_word(word) {
+    if is_count_keyword(keyword) {
         return Form::Count;
     }
     Form::AnyTree
@@ -113,7 +114,7 @@ fn form_of_member(form: Form, name: &str) -> Form
 
 /// The form of each item, from the form of the list.
 fn form_of_items(form: Form) -> Form
-    ensures { (i : ℕ) → result ≡ form_below form (place_step i) }
+    ensures { (i : ℕ) → result ≡ form_below form (index_step i) }
 {
     match form {
         Form::SomeObjects => Form::Object,
@@ -217,7 +218,7 @@ fn below_name(alloc: Global, name: &str, fault: SFault) -> SFault
 }
 
 fn below_index(alloc: Global, index: usize, fault: SFault) -> SFault
-    ensures { (o : Option Path) → IsBreakFault o fault → IsBreakFault (below (place_step index) o) result }
+    ensures { (o : Option Path) → IsBreakFault o fault → IsBreakFault (below (index_step index) o) result }
 {
     match fault {
         SFault::KeywordForm(pointer) => match index_and(alloc, index as u64, pointer.as_str()) {

@@ -1,14 +1,14 @@
 // All breaks of the rules at the places of a schema.
 ghost use Rattle.std.specs.Prelude.{◌≡◌, OnOk, IfOk, IfErr};
 ghost use Rattle.jtree.specs.Data.{object, Members as MembersData, IsObject};
-ghost use Rattle.schema.specs.PlaceView.{place_of};
-ghost use Rattle.schema.specs.Visits.{IsVisit, AreVisits};
-ghost use Rattle.schema.specs.Breaks.{AreViolations};
-ghost use Rattle.schema.specs.Judged.{judged, pairs_at, AreFound};
+ghost use Rattle.schema.specs.Internal.PlaceView.{place_of};
+ghost use Rattle.schema.specs.Internal.Subschemas.{IsSubschema, AreSubschemas};
+ghost use Rattle.schema.specs.Rules.Breaks.{AreViolations};
+ghost use Rattle.schema.specs.Internal.Judged.{judged, pairs_at, AreFound};
 ghost use Rattle.schema.specs.declared.fault.SFault.TheVariants.{NoMemory};
 
 use crate::fault::SFault;
-use crate::listing::{Visit, list_places};
+use crate::listing::{Subschema, list_places};
 use crate::places::pointer_of;
 use crate::raw::RawSchema;
 use crate::rules::is_broken;
@@ -22,12 +22,11 @@ pub fn breaks(alloc: Global, raw: &RawSchema) -> Result<Vec<Violation>, SFault>
     ensures ok { IfOk result (λ found. AreViolations raw.now found.items) }
     ensures err { IfErr result (λ e. e ≡ NoMemory) }
 {
-    raw.is_sound();
     match raw.tree() {
         Tree::Object(members) => {
-            members.is_object();
+            members.reveal_invariant();
             match list_places(alloc, members) {
-                Ok(visits) => breaks_of(alloc, visits.as_slice()),
+                Ok(subschemas) => breaks_of(alloc, subschemas.as_slice()),
                 Err(fault) => Err(fault),
             }
         }
@@ -37,13 +36,13 @@ pub fn breaks(alloc: Global, raw: &RawSchema) -> Result<Vec<Violation>, SFault>
 }
 
 /// All breaks of the rules at these places, in their order and then by number.
-fn breaks_of(alloc: Global, visits: &[Visit<'_>]) -> Result<Vec<Violation>, SFault>
-    ensures ok { IfOk result (λ found. (ms : MembersData) → IsObject ms → AreVisits ms visits.now → AreViolations (object ms) found.items) }
+fn breaks_of(alloc: Global, subschemas: &[Subschema<'_>]) -> Result<Vec<Violation>, SFault>
+    ensures ok { IfOk result (λ found. (ms : MembersData) → IsObject ms → AreSubschemas ms subschemas.now → AreViolations (object ms) found.items) }
     ensures err { IfErr result (λ e. e ≡ NoMemory) }
 {
     let mut violations = Vec::new(alloc);
-    for visit in visits {
-        match judge(alloc, visit, &mut violations) {
+    for subschema in subschemas {
+        match judge(alloc, subschema, &mut violations) {
             Ok(()) => {}
             Err(fault) => return Err(fault),
         }
@@ -52,8 +51,12 @@ fn breaks_of(alloc: Global, visits: &[Visit<'_>]) -> Result<Vec<Violation>, SFau
 }
 
 /// Adds the breaks of a place.
-fn judge(alloc: Global, visit: &Visit<'_>, violations: &mut Vec<Violation>) -> Result<(), SFault>
-    ensures ok { OnOk result (AreFound (λ raw. IsVisit raw visit.now) (pairs_at (place_of visit.now.place.items) judged) violations.old.items violations.new.items) }
+fn judge(
+    alloc: Global,
+    subschema: &Subschema<'_>,
+    violations: &mut Vec<Violation>,
+) -> Result<(), SFault>
+    ensures ok { OnOk result (AreFound (λ raw. IsSubschema raw subschema.now) (pairs_at (place_of subschema.now.place.items) judged) violations.old.items violations.new.items) }
     ensures err { IfErr result (λ e. e ≡ NoMemory) }
 {
     let rules = [
@@ -67,23 +70,23 @@ fn judge(alloc: Global, visit: &Visit<'_>, violations: &mut Vec<Violation>) -> R
         Rule::V08,
         Rule::V09,
     ];
-    judge_by(alloc, visit, &rules, violations)
+    judge_by(alloc, subschema, &rules, violations)
 }
 
 /// Adds the breaks of these rules at a place.
 fn judge_by(
     alloc: Global,
-    visit: &Visit<'_>,
+    subschema: &Subschema<'_>,
     rules: &[Rule],
     violations: &mut Vec<Violation>,
 ) -> Result<(), SFault>
-    ensures ok { OnOk result (AreFound (λ raw. IsVisit raw visit.now) (pairs_at (place_of visit.now.place.items) rules.now) violations.old.items violations.new.items) }
+    ensures ok { OnOk result (AreFound (λ raw. IsSubschema raw subschema.now) (pairs_at (place_of subschema.now.place.items) rules.now) violations.old.items violations.new.items) }
     ensures err { IfErr result (λ e. e ≡ NoMemory) }
 {
     for rule in rules {
-        if is_broken(visit, *rule) {
+        if is_broken(subschema, *rule) {
             violations.push(Violation {
-                pointer: pointer_of(alloc, visit.place.as_slice())?,
+                pointer: pointer_of(alloc, subschema.place.as_slice())?,
                 rule: *rule,
             })?;
         }

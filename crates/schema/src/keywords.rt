@@ -1,36 +1,36 @@
 // What a rule reads of the keywords of a schema.
 ghost use Rattle.std.specs.Prelude.{◌≡◌, ◌↔◌, map, IsTrue};
 ghost use Rattle.jtree.specs.Data.{object};
-ghost use Rattle.schema.specs.Raw.{Has, HasTrue, HasFalse};
-ghost use Rattle.schema.specs.Kinds.{HasNoType};
-ghost use Rattle.schema.specs.Forms.{is_among};
-ghost use Rattle.schema.specs.Rules.{HasOneOf, metadata_words};
-ghost use Rattle.schema.specs.RuleParts.{HasOtherWord, HasOtherType};
+ghost use Rattle.schema.specs.Document.Raw.{Has, HasTrue, HasFalse};
+ghost use Rattle.schema.specs.Rules.Kinds.{HasNoType};
+ghost use Rattle.schema.specs.Document.Texts.{is_among};
+ghost use Rattle.schema.specs.Rules.Broken.{HasOneOf, metadata_keywords};
+ghost use Rattle.schema.specs.Internal.RuleParts.{HasOtherKeyword, HasOtherType};
 
 use jtree::{Members, Tree};
 
 /// Whether a keyword is there.
-pub(crate) fn has(schema: &Members, word: &str) -> bool
-    ensures { IsTrue result ↔ Has (object schema.now) word.now }
+pub(crate) fn has(schema: &Members, keyword: &str) -> bool
+    ensures { IsTrue result ↔ Has (object schema.now) keyword.now }
 {
-    schema.get(word).is_some()
+    schema.get(keyword).is_some()
 }
 
 /// Whether a keyword is there and is true.
-pub(crate) fn has_true(schema: &Members, word: &str) -> bool
-    ensures { IsTrue result ↔ HasTrue (object schema.now) word.now }
+pub(crate) fn has_true(schema: &Members, keyword: &str) -> bool
+    ensures { IsTrue result ↔ HasTrue (object schema.now) keyword.now }
 {
-    match schema.get(word) {
+    match schema.get(keyword) {
         Some(Tree::Bool(value)) => *value,
         _ => false,
     }
 }
 
 /// Whether a keyword is there and is false.
-pub(crate) fn has_false(schema: &Members, word: &str) -> bool
-    ensures { IsTrue result ↔ HasFalse (object schema.now) word.now }
+pub(crate) fn has_false(schema: &Members, keyword: &str) -> bool
+    ensures { IsTrue result ↔ HasFalse (object schema.now) keyword.now }
 {
-    match schema.get(word) {
+    match schema.get(keyword) {
         Some(Tree::Bool(value)) => !*value,
         _ => false,
     }
@@ -48,11 +48,11 @@ pub(crate) fn has_no_type(schema: &Members) -> bool
 }
 
 /// Whether one of these keywords is there.
-pub(crate) fn has_one_of(schema: &Members, words: &[&str]) -> bool
-    ensures { IsTrue result ↔ HasOneOf (map (λ w. w.now) words.now) (object schema.now) }
+pub(crate) fn has_one_of(schema: &Members, keywords: &[&str]) -> bool
+    ensures { IsTrue result ↔ HasOneOf (map (λ w. w.now) keywords.now) (object schema.now) }
 {
-    for word in words {
-        if has(schema, word) {
+    for keyword in keywords {
+        if has(schema, keyword) {
             return true;
         }
     }
@@ -60,21 +60,21 @@ pub(crate) fn has_one_of(schema: &Members, words: &[&str]) -> bool
 }
 
 /// Whether another keyword is there than the schema of `metadata` may have.
-pub(crate) fn has_other_word(schema: &Members) -> bool
-    ensures { IsTrue result ↔ HasOtherWord (object schema.now) }
+pub(crate) fn has_other_keyword(schema: &Members) -> bool
+    ensures { IsTrue result ↔ HasOtherKeyword (object schema.now) }
 {
     for member in &schema.members {
-        if !is_metadata_word(member.name.as_str()) {
+        if !is_metadata_keyword(member.name.as_str()) {
             return true;
         }
     }
     false
 }
 
-fn is_metadata_word(word: &str) -> bool
-    ensures { result ≡ is_among word.now metadata_words }
+fn is_metadata_keyword(keyword: &str) -> bool
+    ensures { result ≡ is_among keyword.now metadata_keywords }
 {
-    word == "type" || word == "description" || word == "properties"
+    keyword == "type" || keyword == "description" || keyword == "properties"
 }
 
 /// Whether `type` is a text, and neither empty nor `object`.

@@ -3,8 +3,8 @@ ghost use Rattle.std.specs.Prelude.{◌≡◌, None, IfSome, codes, option_map};
 ghost use Rattle.jtree.specs.Data.{object};
 ghost use Rattle.jtree.specs.Path.{under};
 ghost use Rattle.jtree.specs.View.{data_of};
-ghost use Rattle.schema.specs.Kinds.{IsOfKind, HasNoKind};
-ghost use Rattle.schema.specs.KindView.{kind_view, kind_by, open_kind as open_kind_by, named_kind as named_kind_by, object_kind as object_kind_by};
+ghost use Rattle.schema.specs.Rules.Kinds.{IsOfKind, HasNoKind};
+ghost use Rattle.schema.specs.Internal.KindView.{kind_view, kind_by, open_kind as open_kind_by, named_kind as named_kind_by, object_kind as object_kind_by};
 
 use crate::keywords::has_true;
 use crate::node::ScalarKind;

@@ -4,18 +4,18 @@ ghost use Rattle.jtree.specs.Data.{Data, object, Members as MembersData, IsObjec
 ghost use Rattle.jtree.specs.Path.{Path};
 ghost use Rattle.jtree.specs.PathOrder.{IsFirst};
 ghost use Rattle.jtree.specs.Pointer.{pointer};
-ghost use Rattle.schema.specs.Raw.{HasObject};
-ghost use Rattle.schema.specs.Kinds.{list};
-ghost use Rattle.schema.specs.KindView.{kind_view};
-ghost use Rattle.schema.specs.Places.{Place, IsEnvelope};
-ghost use Rattle.schema.specs.PlaceView.{step_of, place_of};
-ghost use Rattle.schema.specs.Visits.{IsVisit, AreVisits};
-ghost use Rattle.schema.specs.Shape.{HasNoNode, LacksNode, LacksNodeAt};
+ghost use Rattle.schema.specs.Document.Raw.{HasObject};
+ghost use Rattle.schema.specs.Rules.Kinds.{list};
+ghost use Rattle.schema.specs.Internal.KindView.{kind_view};
+ghost use Rattle.schema.specs.Document.Places.{Place, IsEnvelope};
+ghost use Rattle.schema.specs.Internal.PlaceView.{step_of, place_of};
+ghost use Rattle.schema.specs.Internal.Subschemas.{IsSubschema, AreSubschemas};
+ghost use Rattle.schema.specs.Nodes.Shape.{HasNoNode, LacksNode, LacksNodeAt};
 ghost use Rattle.schema.specs.declared.refused.Refused.TheVariants.{NoMemory};
 
 use crate::fault::SFault;
 use crate::kinds::{Kind, kind_of_members};
-use crate::listing::{Visit, list_places};
+use crate::listing::{Subschema, list_places};
 use crate::places::{Step, is_envelope_name, pointer_of};
 use crate::raw::RawSchema;
 use crate::refused::Refused;
@@ -29,12 +29,11 @@ pub(crate) fn first_without_node(alloc: Global, raw: &RawSchema) -> Result<Optio
     ensures none { result ≡ Ok None → (p : Place) → LacksNode raw.now p → ⊥ }
     ensures err { IfErr result (λ e. e ≡ NoMemory) }
 {
-    raw.is_sound();
     match raw.tree() {
         Tree::Object(members) => {
-            members.is_object();
+            members.reveal_invariant();
             match list_places(alloc, members) {
-                Ok(visits) => first_of(alloc, visits.as_slice()),
+                Ok(subschemas) => first_of(alloc, subschemas.as_slice()),
                 Err(SFault::NoMemory) => Err(Refused::NoMemory),
                 // no limit is passed
                 Err(_) => unreachable!(),
@@ -46,26 +45,26 @@ pub(crate) fn first_without_node(alloc: Global, raw: &RawSchema) -> Result<Optio
 }
 
 /// The pointer of the first of these places that lacks a node.
-fn first_of(alloc: Global, visits: &[Visit<'_>]) -> Result<Option<String>, Refused>
-    ensures some { IfOk result (λ o. IfSome o (λ s. (ms : MembersData) → IsObject ms → AreVisits ms visits.now
+fn first_of(alloc: Global, subschemas: &[Subschema<'_>]) -> Result<Option<String>, Refused>
+    ensures some { IfOk result (λ o. IfSome o (λ s. (ms : MembersData) → IsObject ms → AreSubschemas ms subschemas.now
         → (path : Path) × (string_bytes s ≡ pointer path) × IsFirst (LacksNodeAt (object ms)) path)) }
-    ensures none { result ≡ Ok None → (ms : MembersData) → IsObject ms → AreVisits ms visits.now → (p : Place) → LacksNode (object ms) p → ⊥ }
+    ensures none { result ≡ Ok None → (ms : MembersData) → IsObject ms → AreSubschemas ms subschemas.now → (p : Place) → LacksNode (object ms) p → ⊥ }
     ensures err { IfErr result (λ e. e ≡ NoMemory) }
 {
-    for visit in visits {
-        if lacks_node(visit) {
-            return Ok(Some(pointer_of(alloc, visit.place.as_slice())?));
+    for subschema in subschemas {
+        if lacks_node(subschema) {
+            return Ok(Some(pointer_of(alloc, subschema.place.as_slice())?));
         }
     }
     Ok(None)
 }
 
 /// Whether a place is in no branch and not of the envelope, and has no node.
-fn lacks_node(visit: &Visit<'_>) -> bool
-    ensures { (raw : Data) → IsVisit raw visit.now → IsTrue result ↔ LacksNode raw (place_of visit.now.place.items) }
+fn lacks_node(subschema: &Subschema<'_>) -> bool
+    ensures { (raw : Data) → IsSubschema raw subschema.now → IsTrue result ↔ LacksNode raw (place_of subschema.now.place.items) }
 {
-    let place = visit.place.as_slice();
-    !is_inside(place) && !is_envelope(place) && !has_node(visit.schema)
+    let place = subschema.place.as_slice();
+    !is_inside(place) && !is_envelope(place) && !has_node(subschema.schema)
 }
 
 /// Whether a place with this schema has a node: it is of some kind, and a list has `items`, which is an object.
@@ -89,10 +88,10 @@ fn has_items(schema: &Members, kind: Kind) -> bool
 }
 
 /// Whether a keyword is there and is an object.
-fn has_object(schema: &Members, word: &str) -> bool
-    ensures { IsTrue result ↔ HasObject (object schema.now) word.now }
+fn has_object(schema: &Members, keyword: &str) -> bool
+    ensures { IsTrue result ↔ HasObject (object schema.now) keyword.now }
 {
-    match schema.get(word) {
+    match schema.get(keyword) {
         Some(Tree::Object(_)) => true,
         _ => false,
     }

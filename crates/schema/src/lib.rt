@@ -1,7 +1,6 @@
 //! Reads a CustomResourceDefinition, and the schema of one of its versions.
 #![tactic(auto)]
 
-mod conditions;
 mod definition;
 mod fault;
 mod forms;
@@ -20,6 +19,7 @@ mod shaped;
 mod shaping;
 #[cfg(test)]
 mod tests;
+mod validations;
 mod versions;
 mod violation;
 
@@ -27,8 +27,8 @@ pub use definition::{Crd, read_crd};
 pub use fault::SFault;
 pub use judging::breaks;
 pub use node::{
-    Below, Bounds, Branches, Conditions, Field, Fields, ListNode, ListType, MapNode, MapType, Node,
-    ObjectNode, ScalarKind, ScalarNode, Sort, Tests,
+    Below, Bounds, Branches, Constraints, Field, Fields, ListNode, ListType, MapNode, MapType,
+    Node, ObjectNode, ScalarKind, ScalarNode, Sort, Validations,
 };
 pub use raw::RawSchema;
 pub use refused::Refused;

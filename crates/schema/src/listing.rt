@@ -3,16 +3,16 @@ ghost use Rattle.std.specs.Prelude.{◌≡◌, ◌↔◌, ◌++◌, suc, List, �
 ghost use Rattle.jtree.specs.Data.{Data, object, list, item, Items as ItemsData};
 ghost use Rattle.jtree.specs.Path.{member_at};
 ghost use Rattle.jtree.specs.View.{data_of};
-ghost use Rattle.schema.specs.Limits.{size as size_of, IsWithinLimits};
-ghost use Rattle.schema.specs.Marks.{Mark, visited, part_of as part_of_word, most_of as most_of_word, is_past, part_marks, member_marks, item_marks, schema_marks, visits_of, limit_break, branch as branch_of, properties as properties_part, branches};
-ghost use Rattle.schema.specs.LimitBreak.{IsLimitRefusal};
-ghost use Rattle.schema.specs.LimitFault.{IsLimitFaultOf};
-ghost use Rattle.schema.specs.Places.{Place, only_object, schema_by};
-ghost use Rattle.schema.specs.Kinds.{IsIntOrString};
-ghost use Rattle.schema.specs.Rules.{pattern, holder, typed};
-ghost use Rattle.schema.specs.Contexts.{HasAnyPattern, HasAllPattern, is_any as is_any_step, is_first_of_all as is_first_of_all_step, outer_by, IsContext, StandsAs};
-ghost use Rattle.schema.specs.Visits.{IsVisit, AreVisits};
-ghost use Rattle.schema.specs.PlaceView.{step_of, place_of, junctor_of, part_view, visit_of};
+ghost use Rattle.schema.specs.Document.Limits.{size as size_of, IsWithinLimits};
+ghost use Rattle.schema.specs.Internal.Events.{Event, entered, part_of as part_of_keyword, most_of as most_of_keyword, is_past, part_events, member_events, item_events, schema_events, subschemas_of, limit_break, branch as branch_of, properties as properties_part, branches};
+ghost use Rattle.schema.specs.Internal.LimitBreak.{IsLimitRefusal};
+ghost use Rattle.schema.specs.Internal.LimitFault.{IsLimitFaultOf};
+ghost use Rattle.schema.specs.Document.Places.{Place, only_object, schema_by};
+ghost use Rattle.schema.specs.Rules.Kinds.{IsIntOrString};
+ghost use Rattle.schema.specs.Rules.Broken.{pattern, holder, typed};
+ghost use Rattle.schema.specs.Internal.Contexts.{HasAnyPattern, HasAllPattern, is_any as is_any_step, is_first_of_all as is_first_of_all_step, outer_by, IsContext, StandsAs};
+ghost use Rattle.schema.specs.Internal.Subschemas.{IsSubschema, AreSubschemas};
+ghost use Rattle.schema.specs.Internal.PlaceView.{step_of, place_of, junctor_of, part_view, subschema_of};
 ghost use Rattle.schema.specs.declared.fault.SFault.TheVariants.{NoMemory};
 
 use crate::fault::SFault;
@@ -29,7 +29,7 @@ const MOST_STEPS: usize = 24;
 
 /// A place of a schema, and what a rule asks of it.
 #[derive(Drop)]
-pub(crate) struct Visit<'a> {
+pub(crate) struct Subschema<'a> {
     pub place: Vec<Step<'a>>,
     pub schema: &'a Members,
     /// The schema at the place without its steps into branches, where that is a place.
@@ -70,10 +70,10 @@ enum Part<'a> {
     Other,
 }
 
-fn part_of<'a>(word: &str) -> Part<'a>
-    ensures { part_view result ≡ part_of_word word.now }
+fn part_of<'a>(keyword: &str) -> Part<'a>
+    ensures { part_view result ≡ part_of_keyword keyword.now }
 {
-    match word {
+    match keyword {
         "properties" => Part::Properties,
         "additionalProperties" => Part::Schema(Step::MapValue),
         "items" => Part::Schema(Step::Items),
@@ -96,19 +96,19 @@ fn branch<'a>(junctor: Junctor, index: u64) -> Step<'a>
 }
 
 /// Whether a keyword's value has more members or entries than the keyword may have.
-fn is_too_long(word: &str, tree: &Tree) -> bool
-    ensures { result ≡ is_past (most_of_word word.now) (size_of (data_of tree.now)) }
+fn is_too_long(keyword: &str, tree: &Tree) -> bool
+    ensures { result ≡ is_past (most_of_keyword keyword.now) (size_of (data_of tree.now)) }
 {
-    match most_of(word) {
+    match most_of(keyword) {
         Some(most) => size(tree) > most,
         None => false,
     }
 }
 
-fn most_of(word: &str) -> Option<usize>
-    ensures { result ≡ most_of_word word.now }
+fn most_of(keyword: &str) -> Option<usize>
+    ensures { result ≡ most_of_keyword keyword.now }
 {
-    match word {
+    match keyword {
         "properties" | "required" => Some(32),
         "x-kubernetes-list-map-keys" => Some(4),
         "enum" => Some(64),
@@ -274,8 +274,8 @@ fn below<'a>(alloc: Global, place: &[Step<'a>], step: Step<'a>) -> Result<Vec<St
 
 /// Refuses a place behind so many others, or with so many steps, that a limit is passed.
 fn check_place(alloc: Global, place: &[Step<'_>], count: usize) -> Result<(), SFault>
-    ensures ok { OnOk result ((s : Data) (marks : List Mark) → limit_break count (visited (place_of place.now) s ∷ marks) ≡ limit_break (suc count) marks) }
-    ensures err { IfErr result (λ e. (s : Data) (marks : List Mark) → IsLimitRefusal (limit_break count (visited (place_of place.now) s ∷ marks)) e) }
+    ensures ok { OnOk result ((s : Data) (events : List Event) → limit_break count (entered (place_of place.now) s ∷ events) ≡ limit_break (suc count) events) }
+    ensures err { IfErr result (λ e. (s : Data) (events : List Event) → IsLimitRefusal (limit_break count (entered (place_of place.now) s ∷ events)) e) }
 {
     if count >= MOST_PLACES || place.len() > MOST_STEPS {
         return Err(SFault::TooLarge(pointer_of(alloc, place)?));
@@ -284,15 +284,18 @@ fn check_place(alloc: Global, place: &[Step<'_>], count: usize) -> Result<(), SF
 }
 
 /// The places of a schema in path order, each once.
-pub(crate) fn list_places<'a>(alloc: Global, schema: &'a Members) -> Result<Vec<Visit<'a>>, SFault>
-    ensures visits { IfOk result (λ v. AreVisits schema.now v.items) }
+pub(crate) fn list_places<'a>(
+    alloc: Global,
+    schema: &'a Members,
+) -> Result<Vec<Subschema<'a>>, SFault>
+    ensures subschemas { IfOk result (λ v. AreSubschemas schema.now v.items) }
     ensures within { OnOk result (IsWithinLimits (object schema.now)) }
     ensures err { IfErr result (IsLimitFaultOf (object schema.now)) }
 {
-    schema.is_object();
-    let mut visits = Vec::new(alloc);
-    match list_schema(alloc, &[], schema, root_context(schema), &mut visits) {
-        Ok(()) => Ok(visits),
+    schema.reveal_invariant();
+    let mut subschemas = Vec::new(alloc);
+    match list_schema(alloc, &[], schema, root_context(schema), &mut subschemas) {
+        Ok(()) => Ok(subschemas),
         Err(fault) => Err(fault),
     }
 }
@@ -304,47 +307,54 @@ fn list_schema<'a>(
     place: &[Step<'a>],
     members: &'a Members,
     context: Context<'a>,
-    visits: &mut Vec<Visit<'a>>,
+    subschemas: &mut Vec<Subschema<'a>>,
 ) -> Result<(), SFault>
-    ensures visits { OnOk result (map visit_of visits.new.items ≡ map visit_of visits.old.items ++ visits_of (schema_marks (place_of place.now) members.now)) }
-    ensures ok { OnOk result (limit_break (length visits.old.items) (schema_marks (place_of place.now) members.now) ≡ None) }
-    ensures err { IfErr result (IsLimitRefusal (limit_break (length visits.old.items) (schema_marks (place_of place.now) members.now))) }
-    ensures contexts { OnOk result ((raw : Data) → IsContext raw (place_of place.now) (object members.now) context.entry → All (IsVisit raw) visits.old.items → All (IsVisit raw) visits.new.items) }
+    ensures subschemas { OnOk result (map subschema_of subschemas.new.items ≡ map subschema_of subschemas.old.items ++ subschemas_of (schema_events (place_of place.now) members.now)) }
+    ensures ok { OnOk result (limit_break (length subschemas.old.items) (schema_events (place_of place.now) members.now) ≡ None) }
+    ensures err { IfErr result (IsLimitRefusal (limit_break (length subschemas.old.items) (schema_events (place_of place.now) members.now))) }
+    ensures contexts { OnOk result ((raw : Data) → IsContext raw (place_of place.now) (object members.now) context.entry → All (IsSubschema raw) subschemas.old.items → All (IsSubschema raw) subschemas.new.items) }
 {
-    match check_place(alloc, place, visits.len()) {
+    match check_place(alloc, place, subschemas.len()) {
         Ok(()) => {}
         Err(fault) => return Err(fault),
     }
-    visits.push(Visit {
+    subschemas.push(Subschema {
         place: copied(alloc, place)?,
         schema: members,
         outer: context.outer,
         in_pattern: context.in_pattern,
     })?;
-    list_words(alloc, place, members, context, visits)
+    list_keywords(alloc, place, members, context, subschemas)
 }
 
 /// Lists the places below the keywords of a place.
 #[cycle(listing)]
-fn list_words<'a>(
+fn list_keywords<'a>(
     alloc: Global,
     place: &[Step<'a>],
     members: &'a Members,
     context: Context<'a>,
-    visits: &mut Vec<Visit<'a>>,
+    subschemas: &mut Vec<Subschema<'a>>,
 ) -> Result<(), SFault>
-    ensures visits { OnOk result (map visit_of visits.new.items ≡ map visit_of visits.old.items ++ visits_of (member_marks (place_of place.now) true members.now)) }
-    ensures ok { OnOk result (limit_break (length visits.old.items) (member_marks (place_of place.now) true members.now) ≡ None) }
-    ensures err { IfErr result (IsLimitRefusal (limit_break (length visits.old.items) (member_marks (place_of place.now) true members.now))) }
-    ensures contexts { OnOk result ((raw : Data) → IsContext raw (place_of place.now) (object members.now) context.entry → All (IsVisit raw) visits.old.items → All (IsVisit raw) visits.new.items) }
+    ensures subschemas { OnOk result (map subschema_of subschemas.new.items ≡ map subschema_of subschemas.old.items ++ subschemas_of (member_events (place_of place.now) true members.now)) }
+    ensures ok { OnOk result (limit_break (length subschemas.old.items) (member_events (place_of place.now) true members.now) ≡ None) }
+    ensures err { IfErr result (IsLimitRefusal (limit_break (length subschemas.old.items) (member_events (place_of place.now) true members.now))) }
+    ensures contexts { OnOk result ((raw : Data) → IsContext raw (place_of place.now) (object members.now) context.entry → All (IsSubschema raw) subschemas.old.items → All (IsSubschema raw) subschemas.new.items) }
 {
-    members.is_object();
+    members.reveal_invariant();
     for member in &members.members {
-        let word = member.name.as_str();
-        if is_too_long(word, &member.tree) {
-            return Err(SFault::TooLarge(keyword_pointer(alloc, place, word)?));
+        let keyword = member.name.as_str();
+        if is_too_long(keyword, &member.tree) {
+            return Err(SFault::TooLarge(keyword_pointer(alloc, place, keyword)?));
         }
-        match list_part(alloc, place, context, part_of(word), &member.tree, visits) {
+        match list_part(
+            alloc,
+            place,
+            context,
+            part_of(keyword),
+            &member.tree,
+            subschemas,
+        ) {
             Ok(()) => {}
             Err(fault) => return Err(fault),
         }
@@ -359,14 +369,14 @@ fn list_properties<'a>(
     place: &[Step<'a>],
     context: Context<'a>,
     properties: &'a Members,
-    visits: &mut Vec<Visit<'a>>,
+    subschemas: &mut Vec<Subschema<'a>>,
 ) -> Result<(), SFault>
-    ensures visits { OnOk result (map visit_of visits.new.items ≡ map visit_of visits.old.items ++ visits_of (member_marks (place_of place.now) false properties.now)) }
-    ensures ok { OnOk result (limit_break (length visits.old.items) (member_marks (place_of place.now) false properties.now) ≡ None) }
-    ensures err { IfErr result (IsLimitRefusal (limit_break (length visits.old.items) (member_marks (place_of place.now) false properties.now))) }
-    ensures contexts { OnOk result ((raw s : Data) → IsContext raw (place_of place.now) s context.entry → StandsAs s (properties_part) (object properties.now) → All (IsVisit raw) visits.old.items → All (IsVisit raw) visits.new.items) }
+    ensures subschemas { OnOk result (map subschema_of subschemas.new.items ≡ map subschema_of subschemas.old.items ++ subschemas_of (member_events (place_of place.now) false properties.now)) }
+    ensures ok { OnOk result (limit_break (length subschemas.old.items) (member_events (place_of place.now) false properties.now) ≡ None) }
+    ensures err { IfErr result (IsLimitRefusal (limit_break (length subschemas.old.items) (member_events (place_of place.now) false properties.now))) }
+    ensures contexts { OnOk result ((raw s : Data) → IsContext raw (place_of place.now) s context.entry → StandsAs s (properties_part) (object properties.now) → All (IsSubschema raw) subschemas.old.items → All (IsSubschema raw) subschemas.new.items) }
 {
-    properties.is_object();
+    properties.reveal_invariant();
     for property in &properties.members {
         let step = Step::Property(property.name.as_str());
         match list_part(
@@ -375,7 +385,7 @@ fn list_properties<'a>(
             context,
             Part::Schema(step),
             &property.tree,
-            visits,
+            subschemas,
         ) {
             Ok(()) => {}
             Err(fault) => return Err(fault),
@@ -392,16 +402,16 @@ fn list_branches<'a>(
     context: Context<'a>,
     junctor: Junctor,
     items: &'a Items,
-    visits: &mut Vec<Visit<'a>>,
+    subschemas: &mut Vec<Subschema<'a>>,
 ) -> Result<(), SFault>
-    ensures visits { OnOk result (map visit_of visits.new.items ≡ map visit_of visits.old.items ++ visits_of (item_marks (place_of place.now) (junctor_of junctor) 0 items.now)) }
-    ensures ok { OnOk result (limit_break (length visits.old.items) (item_marks (place_of place.now) (junctor_of junctor) 0 items.now) ≡ None) }
-    ensures err { IfErr result (IsLimitRefusal (limit_break (length visits.old.items) (item_marks (place_of place.now) (junctor_of junctor) 0 items.now))) }
-    ensures contexts { OnOk result ((raw s : Data) → IsContext raw (place_of place.now) s context.entry → StandsAs s (branches (junctor_of junctor)) (list items.now) → All (IsVisit raw) visits.old.items → All (IsVisit raw) visits.new.items) }
+    ensures subschemas { OnOk result (map subschema_of subschemas.new.items ≡ map subschema_of subschemas.old.items ++ subschemas_of (item_events (place_of place.now) (junctor_of junctor) 0 items.now)) }
+    ensures ok { OnOk result (limit_break (length subschemas.old.items) (item_events (place_of place.now) (junctor_of junctor) 0 items.now) ≡ None) }
+    ensures err { IfErr result (IsLimitRefusal (limit_break (length subschemas.old.items) (item_events (place_of place.now) (junctor_of junctor) 0 items.now))) }
+    ensures contexts { OnOk result ((raw s : Data) → IsContext raw (place_of place.now) s context.entry → StandsAs s (branches (junctor_of junctor)) (list items.now) → All (IsSubschema raw) subschemas.old.items → All (IsSubschema raw) subschemas.new.items) }
 {
     for (i, item) in items.items.iter().enumerate() {
         let step = branch(junctor, i as u64);
-        match list_part(alloc, place, context, Part::Schema(step), item, visits) {
+        match list_part(alloc, place, context, Part::Schema(step), item, subschemas) {
             Ok(()) => {}
             Err(fault) => return Err(fault),
         }
@@ -417,28 +427,28 @@ fn list_part<'a>(
     context: Context<'a>,
     part: Part<'a>,
     tree: &'a Tree,
-    visits: &mut Vec<Visit<'a>>,
+    subschemas: &mut Vec<Subschema<'a>>,
 ) -> Result<(), SFault>
-    ensures visits { OnOk result (map visit_of visits.new.items ≡ map visit_of visits.old.items ++ visits_of (part_marks (place_of place.now) (part_view part.entry) (data_of tree.now))) }
-    ensures ok { OnOk result (limit_break (length visits.old.items) (part_marks (place_of place.now) (part_view part.entry) (data_of tree.now)) ≡ None) }
-    ensures err { IfErr result (IsLimitRefusal (limit_break (length visits.old.items) (part_marks (place_of place.now) (part_view part.entry) (data_of tree.now)))) }
-    ensures contexts { OnOk result ((raw s : Data) → IsContext raw (place_of place.now) s context.entry → StandsAs s (part_view part.entry) (data_of tree.now) → All (IsVisit raw) visits.old.items → All (IsVisit raw) visits.new.items) }
+    ensures subschemas { OnOk result (map subschema_of subschemas.new.items ≡ map subschema_of subschemas.old.items ++ subschemas_of (part_events (place_of place.now) (part_view part.entry) (data_of tree.now))) }
+    ensures ok { OnOk result (limit_break (length subschemas.old.items) (part_events (place_of place.now) (part_view part.entry) (data_of tree.now)) ≡ None) }
+    ensures err { IfErr result (IsLimitRefusal (limit_break (length subschemas.old.items) (part_events (place_of place.now) (part_view part.entry) (data_of tree.now)))) }
+    ensures contexts { OnOk result ((raw s : Data) → IsContext raw (place_of place.now) s context.entry → StandsAs s (part_view part.entry) (data_of tree.now) → All (IsSubschema raw) subschemas.old.items → All (IsSubschema raw) subschemas.new.items) }
 {
     match part {
         Part::Schema(step) => match tree {
             Tree::Object(members) => {
                 let place = below(alloc, place, step)?;
                 let context = context_below(context, step, members);
-                list_schema(alloc, place.as_slice(), members, context, visits)
+                list_schema(alloc, place.as_slice(), members, context, subschemas)
             }
             _ => Ok(()),
         },
         Part::Properties => match tree {
-            Tree::Object(members) => list_properties(alloc, place, context, members, visits),
+            Tree::Object(members) => list_properties(alloc, place, context, members, subschemas),
             _ => Ok(()),
         },
         Part::Branches(junctor) => match tree {
-            Tree::List(items) => list_branches(alloc, place, context, junctor, items, visits),
+            Tree::List(items) => list_branches(alloc, place, context, junctor, items, subschemas),
             _ => Ok(()),
         },
         Part::Other => Ok(()),

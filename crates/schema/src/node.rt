@@ -34,7 +34,7 @@ pub struct Bounds {
 
 /// What is asked of a scalar besides its kind. Lengths are counted in Unicode scalar values.
 #[derive(Drop)]
-pub struct Tests {
+pub struct Constraints {
     /// The values of `enum` as written, where it is there.
     pub choices: Option<Items>,
     pub minimum: Option<i64>,
@@ -44,11 +44,11 @@ pub struct Tests {
     pub lengths: Bounds,
 }
 
-/// The tests of a scalar node, or of a branch of a junctor, and the junctors that stand beside them.
-#[cycle(conditions)]
+/// The constraints of a scalar node, or of a branch of a junctor, and the junctors that stand beside them.
+#[cycle(validations)]
 #[derive(Drop)]
-pub struct Conditions {
-    pub tests: Tests,
+pub struct Validations {
+    pub constraints: Constraints,
     /// The branches of `allOf`, none where it is absent; and so for the next two.
     pub all_of: Branches,
     pub any_of: Branches,
@@ -58,10 +58,10 @@ pub struct Conditions {
 }
 
 /// The branches of a junctor, as written.
-#[cycle(conditions)]
+#[cycle(validations)]
 #[derive(Drop)]
 pub struct Branches {
-    pub branches: Vec<Conditions>,
+    pub branches: Vec<Validations>,
 }
 
 /// A node of an accepted schema.
@@ -88,7 +88,7 @@ pub enum Sort {
 #[derive(Drop)]
 pub struct ScalarNode {
     pub kind: ScalarKind,
-    pub conditions: Conditions,
+    pub validations: Validations,
 }
 
 #[cycle(node)]
@@ -149,33 +149,33 @@ pub struct Field {
 }
 
 impl Model for Branches {
-    ghost use Rattle.schema.specs.Node.{Branches as BranchesData, branches_depth};
-    ghost use Rattle.schema.specs.NodeCode.{branches_coded};
+    ghost use Rattle.schema.specs.Nodes.Node.{Branches as BranchesData, branches_depth};
+    ghost use Rattle.schema.specs.Internal.NodeCode.{branches_coded};
 
     ghost Value = { BranchesData };
 
     ghost coded = { branches_coded };
 
-    ghost use Rattle.schema.specs.NodeView.{branches_of};
+    ghost use Rattle.schema.specs.Nodes.View.{branches_of};
 
     ghost view = { λ a. branches_of a.branches.items };
 
     ghost size = { branches_depth };
 
-    ghost use Rattle.schema.specs.NodeFalls.{branches_fall};
+    ghost use Rattle.schema.specs.Internal.NodeMeasures.{branches_decrease};
 
-    ghost size_decreases = { λ a h. branches_fall a.branches.items };
+    ghost size_decreases = { λ a h. branches_decrease a.branches.items };
 }
 
 impl Model for Below {
-    ghost use Rattle.schema.specs.Node.{Node as NodeData, node_depth, IsNode};
-    ghost use Rattle.schema.specs.NodeCode.{node_coded};
+    ghost use Rattle.schema.specs.Nodes.Node.{Node as NodeData, node_depth, IsNode};
+    ghost use Rattle.schema.specs.Internal.NodeCode.{node_coded};
 
     ghost Value = { NodeData };
 
     ghost coded = { node_coded };
 
-    ghost use Rattle.schema.specs.NodeView.{node_of};
+    ghost use Rattle.schema.specs.Nodes.View.{node_of};
 
     ghost view = { λ a. node_of a.node.value };
 
@@ -183,20 +183,20 @@ impl Model for Below {
 
     ghost size = { node_depth };
 
-    ghost use Rattle.schema.specs.NodeFalls.{below_falls};
+    ghost use Rattle.schema.specs.Internal.NodeMeasures.{below_decreases};
 
-    ghost size_decreases = { λ a h. below_falls a.node.value };
+    ghost size_decreases = { λ a h. below_decreases a.node.value };
 }
 
 impl Model for Fields {
-    ghost use Rattle.schema.specs.Node.{Fields as FieldsData, fields_depth, AreOrdered};
-    ghost use Rattle.schema.specs.NodeCode.{fields_coded};
+    ghost use Rattle.schema.specs.Nodes.Node.{Fields as FieldsData, fields_depth, AreOrdered};
+    ghost use Rattle.schema.specs.Internal.NodeCode.{fields_coded};
 
     ghost Value = { FieldsData };
 
     ghost coded = { fields_coded };
 
-    ghost use Rattle.schema.specs.NodeView.{fields_of};
+    ghost use Rattle.schema.specs.Nodes.View.{fields_of};
 
     ghost view = { λ a. fields_of a.fields.items };
 
@@ -204,33 +204,33 @@ impl Model for Fields {
 
     ghost size = { fields_depth };
 
-    ghost use Rattle.schema.specs.NodeFalls.{fields_fall};
+    ghost use Rattle.schema.specs.Internal.NodeMeasures.{fields_decrease};
 
-    ghost size_decreases = { λ a h. fields_fall a.fields.items };
+    ghost size_decreases = { λ a h. fields_decrease a.fields.items };
 }
 
 impl Node {
-    ghost use Rattle.schema.specs.Node.{IsNode};
-    ghost use Rattle.schema.specs.NodeView.{node_of};
+    ghost use Rattle.schema.specs.Nodes.Node.{IsNode};
+    ghost use Rattle.schema.specs.Nodes.View.{node_of};
 
     /// Brings to a proof that declared names stand in order, each once. It does nothing.
-    pub fn is_node(&self)
+    pub fn reveal_invariant(&self)
         ensures { IsNode (node_of self.now) }
     {
         match &self.sort {
             Sort::Scalar(_) | Sort::Open => {}
-            Sort::Object(object) => object.fields.are_ordered(),
-            Sort::Map(map) => map.value.is_node(),
-            Sort::List(list) => list.item.is_node(),
+            Sort::Object(object) => object.fields.reveal_invariant(),
+            Sort::Map(map) => map.value.reveal_invariant(),
+            Sort::List(list) => list.item.reveal_invariant(),
         }
     }
 }
 
 impl Below {
-    ghost use Rattle.schema.specs.Node.{IsNode};
+    ghost use Rattle.schema.specs.Nodes.Node.{IsNode};
 
     /// Brings to a proof that declared names stand in order, each once. It does nothing.
-    pub fn is_node(&self)
+    pub fn reveal_invariant(&self)
         ensures { IsNode self.now }
     {
         let _ = &self.node;
@@ -238,10 +238,10 @@ impl Below {
 }
 
 impl Fields {
-    ghost use Rattle.schema.specs.Node.{AreOrdered};
+    ghost use Rattle.schema.specs.Nodes.Node.{AreOrdered};
 
     /// Brings to a proof that declared names stand in order, each once. It does nothing.
-    pub fn are_ordered(&self)
+    pub fn reveal_invariant(&self)
         ensures { AreOrdered self.now }
     {
         let _ = &self.fields;

@@ -1,10 +1,10 @@
 // The places of a schema, and their pointers.
 ghost use Rattle.std.specs.Prelude.{◌≡◌, ◌++◌, ◌∷◌, [], OnOk, IfOk, IfErr, string_bytes};
-ghost use Rattle.jtree.specs.Path.{name as name_step, place as place_step};
+ghost use Rattle.jtree.specs.Path.{name as name_step, index as index_step};
 ghost use Rattle.jtree.specs.Pointer.{pointer};
-ghost use Rattle.schema.specs.Forms.{is_among};
-ghost use Rattle.schema.specs.Places.{place_path, step_path, is_junctor as is_junctor_of, envelope_names};
-ghost use Rattle.schema.specs.PlaceView.{step_of, place_of};
+ghost use Rattle.schema.specs.Document.Texts.{is_among};
+ghost use Rattle.schema.specs.Document.Places.{place_path, step_path, is_junctor as is_junctor_of, envelope_names};
+ghost use Rattle.schema.specs.Internal.PlaceView.{step_of, place_of};
 
 use jtree::{JFault, push_index, push_name};
 use std::alloc::Global;
@@ -60,12 +60,12 @@ pub(crate) fn pointer_of(alloc: Global, place: &[Step<'_>]) -> Result<String, JF
 pub(crate) fn keyword_pointer(
     alloc: Global,
     place: &[Step<'_>],
-    word: &str,
+    keyword: &str,
 ) -> Result<String, JFault>
-    ensures { IfOk result (λ s. string_bytes s ≡ pointer (place_path (place_of place.now) ++ (name_step word.now ∷ []))) }
+    ensures { IfOk result (λ s. string_bytes s ≡ pointer (place_path (place_of place.now) ++ (name_step keyword.now ∷ []))) }
 {
     let mut text = pointer_of(alloc, place)?;
-    push_name(&mut text, word)?;
+    push_name(&mut text, keyword)?;
     Ok(text)
 }
 
@@ -86,9 +86,9 @@ fn push_step(text: &mut String, step: Step<'_>) -> Result<(), JFault>
     }
 }
 
-fn push_branch(text: &mut String, word: &str, index: u64) -> Result<(), JFault>
-    ensures { OnOk result (string_bytes text.new ≡ string_bytes text.old ++ pointer (name_step word.now ∷ place_step index ∷ [])) }
+fn push_branch(text: &mut String, keyword: &str, index: u64) -> Result<(), JFault>
+    ensures { OnOk result (string_bytes text.new ≡ string_bytes text.old ++ pointer (name_step keyword.now ∷ index_step index ∷ [])) }
 {
-    push_name(text, word)?;
+    push_name(text, keyword)?;
     push_index(text, index)
 }

@@ -10,7 +10,7 @@ pub struct RawSchema {
 
 impl Model for RawSchema {
     ghost use Rattle.jtree.specs.Data.{Data};
-    ghost use Rattle.jtree.specs.Code.{data_coded};
+    ghost use Rattle.jtree.specs.Internal.Code.{data_coded};
 
     ghost Value = { Data };
 
@@ -20,7 +20,7 @@ impl Model for RawSchema {
 
     ghost view = { λ a. data_of a.tree };
 
-    ghost use Rattle.schema.specs.ReadFault.{IsSound};
+    ghost use Rattle.schema.specs.Document.ReadFault.{IsSound};
 
     ghost invariant = { λ a. IsSound (data_of a.tree) };
 }
@@ -28,7 +28,7 @@ impl Model for RawSchema {
 impl RawSchema {
     ghost use Rattle.std.specs.Prelude.{◌≡◌};
     ghost use Rattle.jtree.specs.View.{data_of};
-    ghost use Rattle.schema.specs.ReadFault.{IsSound};
+    ghost use Rattle.schema.specs.Document.ReadFault.{IsSound};
 
     /// The raw schema that a tree is.
     pub(crate) fn new(tree: Tree) -> RawSchema
@@ -38,16 +38,10 @@ impl RawSchema {
         RawSchema { tree }
     }
 
-    /// Brings to a proof that each keyword has its form and no limit is passed. It does nothing.
-    pub fn is_sound(&self)
-        ensures { IsSound self.now }
-    {
-        let _ = &self.tree;
-    }
-
     /// The tree of the schema.
     pub fn tree(&self) -> &Tree
-        ensures { data_of result.now ≡ self.now }
+        ensures data { data_of result.now ≡ self.now }
+        ensures sound { IsSound self.now }
     {
         &self.tree
     }

@@ -1,7 +1,7 @@
 // What a keyword of a schema says.
 ghost use Rattle.std.specs.Prelude.{◌≡◌, option_map, IfOk, IfErr};
 ghost use Rattle.jtree.specs.View.{data_of};
-ghost use Rattle.schema.specs.Reading.{flag as flag_of, text_under, integer_under, count_under, list_under, texts_under, items_of, texts_of};
+ghost use Rattle.schema.specs.Nodes.Keywords.{flag as flag_of, text_under, integer_under, count_under, list_under, texts_under, items_of, texts_of};
 ghost use Rattle.schema.specs.declared.refused.Refused.TheVariants.{NoMemory};
 
 use crate::node::Bounds;
@@ -10,40 +10,40 @@ use jtree::{Items, Text, Tree};
 use std::alloc::Global;
 
 /// Whether true stands under a keyword.
-pub(crate) fn flag(schema: &Tree, word: &str) -> bool
-    ensures { result ≡ flag_of (data_of schema.now) word.now }
+pub(crate) fn flag(schema: &Tree, keyword: &str) -> bool
+    ensures { result ≡ flag_of (data_of schema.now) keyword.now }
 {
-    match schema.get(word) {
+    match schema.get(keyword) {
         Some(Tree::Bool(value)) => *value,
         _ => false,
     }
 }
 
 /// The text under a keyword.
-pub(crate) fn text<'a>(schema: &'a Tree, word: &str) -> Option<&'a str>
-    ensures { option_map (λ s. s.now) result ≡ text_under (data_of schema.now) word.now }
+pub(crate) fn text<'a>(schema: &'a Tree, keyword: &str) -> Option<&'a str>
+    ensures { option_map (λ s. s.now) result ≡ text_under (data_of schema.now) keyword.now }
 {
-    match schema.get(word) {
+    match schema.get(keyword) {
         Some(Tree::Text(text)) => Some(text.as_str()),
         _ => None,
     }
 }
 
 /// The integer under a keyword.
-pub(crate) fn integer(schema: &Tree, word: &str) -> Option<i64>
-    ensures { result ≡ integer_under (data_of schema.now) word.now }
+pub(crate) fn integer(schema: &Tree, keyword: &str) -> Option<i64>
+    ensures { result ≡ integer_under (data_of schema.now) keyword.now }
 {
-    match schema.get(word) {
+    match schema.get(keyword) {
         Some(Tree::Int(number)) => Some(*number),
         _ => None,
     }
 }
 
 /// The integer under a keyword, where it is 0 or more.
-pub(crate) fn count(schema: &Tree, word: &str) -> Option<u64>
-    ensures { result ≡ count_under (data_of schema.now) word.now }
+pub(crate) fn count(schema: &Tree, keyword: &str) -> Option<u64>
+    ensures { result ≡ count_under (data_of schema.now) keyword.now }
 {
-    match schema.get(word) {
+    match schema.get(keyword) {
         Some(Tree::Int(number)) => u64::try_from(*number).ok(),
         _ => None,
     }
@@ -61,22 +61,30 @@ pub(crate) fn bounds(schema: &Tree, least: &str, most: &str) -> Bounds
 }
 
 /// A copy of the text under a keyword. `NoMemory` where an allocation fails.
-pub(crate) fn copy_text(alloc: Global, schema: &Tree, word: &str) -> Result<Option<Text>, Refused>
-    ensures ok { IfOk result (λ t. t ≡ text_under (data_of schema.now) word.now) }
+pub(crate) fn copy_text(
+    alloc: Global,
+    schema: &Tree,
+    keyword: &str,
+) -> Result<Option<Text>, Refused>
+    ensures ok { IfOk result (λ t. t ≡ text_under (data_of schema.now) keyword.now) }
     ensures err { IfErr result (λ e. e ≡ NoMemory) }
 {
-    match schema.get(word) {
+    match schema.get(keyword) {
         Some(Tree::Text(text)) => Ok(Some(text.copy(alloc)?)),
         _ => Ok(None),
     }
 }
 
 /// A copy of the list under a keyword. `NoMemory` where an allocation fails.
-pub(crate) fn copy_list(alloc: Global, schema: &Tree, word: &str) -> Result<Option<Items>, Refused>
-    ensures ok { IfOk result (λ t. t ≡ list_under (data_of schema.now) word.now) }
+pub(crate) fn copy_list(
+    alloc: Global,
+    schema: &Tree,
+    keyword: &str,
+) -> Result<Option<Items>, Refused>
+    ensures ok { IfOk result (λ t. t ≡ list_under (data_of schema.now) keyword.now) }
     ensures err { IfErr result (λ e. e ≡ NoMemory) }
 {
-    match schema.get(word) {
+    match schema.get(keyword) {
         Some(tree) => copied_items(alloc, tree),
         None => Ok(None),
     }
@@ -94,11 +102,11 @@ fn copied_items(alloc: Global, tree: &Tree) -> Result<Option<Items>, Refused>
 }
 
 /// Copies of the texts in the list under a keyword. `NoMemory` where an allocation fails.
-pub(crate) fn copy_texts(alloc: Global, schema: &Tree, word: &str) -> Result<Vec<Text>, Refused>
-    ensures ok { IfOk result (λ v. v.items ≡ texts_under (data_of schema.now) word.now) }
+pub(crate) fn copy_texts(alloc: Global, schema: &Tree, keyword: &str) -> Result<Vec<Text>, Refused>
+    ensures ok { IfOk result (λ v. v.items ≡ texts_under (data_of schema.now) keyword.now) }
     ensures err { IfErr result (λ e. e ≡ NoMemory) }
 {
-    match schema.get(word) {
+    match schema.get(keyword) {
         Some(Tree::List(items)) => copied_texts(alloc, items),
         _ => Ok(Vec::new(alloc)),
     }

@@ -1,81 +1,83 @@
 // Which rules a place breaks.
 ghost use Rattle.std.specs.Prelude.{◌≡◌, ◌↔◌, IsTrue};
 ghost use Rattle.jtree.specs.Data.{Data, object};
-ghost use Rattle.schema.specs.Places.{property, is_inside as is_inside_of};
-ghost use Rattle.schema.specs.PlaceView.{step_of, place_of};
-ghost use Rattle.schema.specs.Rules.{Broken, metadata, is_field as is_field_of, ends_in_field as ends_in_field_of, HasOneOf, unsupported_words};
-ghost use Rattle.schema.specs.Forms.{is_among};
-ghost use Rattle.schema.specs.RuleParts.{metadata_names, IsOtherName, IsOtherField, LacksType, IsUnspecified, HasOuterWord, Restricts, HasBothTypes};
-ghost use Rattle.schema.specs.Visits.{IsVisit};
+ghost use Rattle.schema.specs.Document.Places.{property, is_inside as is_inside_of};
+ghost use Rattle.schema.specs.Internal.PlaceView.{step_of, place_of};
+ghost use Rattle.schema.specs.Rules.Broken.{Broken, metadata, is_field as is_field_of, ends_in_field as ends_in_field_of, HasOneOf, unsupported_keywords};
+ghost use Rattle.schema.specs.Document.Texts.{is_among};
+ghost use Rattle.schema.specs.Internal.RuleParts.{metadata_names, IsOtherName, IsOtherField, LacksType, IsUnspecified, HasOutsideKeyword, Restricts, HasBothTypes};
+ghost use Rattle.schema.specs.Internal.Subschemas.{IsSubschema};
 
 use crate::keywords::{
-    has, has_false, has_no_type, has_one_of, has_other_type, has_other_word, has_true,
+    has, has_false, has_no_type, has_one_of, has_other_keyword, has_other_type, has_true,
 };
-use crate::listing::Visit;
+use crate::listing::Subschema;
 use crate::places::{Step, is_junctor};
 use crate::violation::Rule;
 
 /// Whether a place breaks a rule.
-pub(crate) fn is_broken(visit: &Visit<'_>, rule: Rule) -> bool
-    ensures { (raw : Data) → IsVisit raw visit.now → IsTrue result ↔ Broken raw (place_of visit.now.place.items) rule }
+pub(crate) fn is_broken(subschema: &Subschema<'_>, rule: Rule) -> bool
+    ensures { (raw : Data) → IsSubschema raw subschema.now → IsTrue result ↔ Broken raw (place_of subschema.now.place.items) rule }
 {
     match rule {
-        Rule::V01 => lacks_type(visit),
-        Rule::V02 => is_unspecified(visit),
-        Rule::V03 => has_outer_word(visit),
-        Rule::V04 => restricts_metadata(visit),
-        Rule::V05 => has_unsupported_word(visit),
-        Rule::V06 => has_true(visit.schema, "uniqueItems"),
-        Rule::V07 => has_false(visit.schema, "additionalProperties"),
-        Rule::V08 => has(visit.schema, "properties") && has(visit.schema, "additionalProperties"),
-        Rule::V09 => has_both_types(visit),
+        Rule::V01 => lacks_type(subschema),
+        Rule::V02 => is_unspecified(subschema),
+        Rule::V03 => has_outside_keyword(subschema),
+        Rule::V04 => restricts_metadata(subschema),
+        Rule::V05 => has_unsupported_keyword(subschema),
+        Rule::V06 => has_true(subschema.schema, "uniqueItems"),
+        Rule::V07 => has_false(subschema.schema, "additionalProperties"),
+        Rule::V08 => has(subschema.schema, "properties")
+            && has(subschema.schema, "additionalProperties"),
+        Rule::V09 => has_both_types(subschema),
         _ => false,
     }
 }
 
 /// V01: an outside place has no type, and neither is int-or-string nor accepts every value.
-fn lacks_type(visit: &Visit<'_>) -> bool
-    ensures { IsTrue result ↔ LacksType (place_of visit.now.place.items) (object visit.now.schema.now) }
+fn lacks_type(subschema: &Subschema<'_>) -> bool
+    ensures { IsTrue result ↔ LacksType (place_of subschema.now.place.items) (object subschema.now.schema.now) }
 {
-    !is_inside(visit.place.as_slice())
-        && has_no_type(visit.schema)
-        && !has_true(visit.schema, "x-kubernetes-int-or-string")
-        && !has_true(visit.schema, "x-kubernetes-preserve-unknown-fields")
+    !is_inside(subschema.place.as_slice())
+        && has_no_type(subschema.schema)
+        && !has_true(subschema.schema, "x-kubernetes-int-or-string")
+        && !has_true(subschema.schema, "x-kubernetes-preserve-unknown-fields")
 }
 
 /// V02: a field or the items of a list in a branch are not specified outside of it.
-fn is_unspecified(visit: &Visit<'_>) -> bool
-    ensures { IsTrue result ↔ IsUnspecified visit.now }
+fn is_unspecified(subschema: &Subschema<'_>) -> bool
+    ensures { IsTrue result ↔ IsUnspecified subschema.now }
 {
-    let place = visit.place.as_slice();
-    is_inside(place) && ends_in_field(place) && visit.outer.is_none()
+    let place = subschema.place.as_slice();
+    is_inside(place) && ends_in_field(place) && subschema.outer.is_none()
 }
 
 /// V03: a branch has a keyword that no branch may have.
-fn has_outer_word(visit: &Visit<'_>) -> bool
-    ensures { IsTrue result ↔ HasOuterWord visit.now }
+fn has_outside_keyword(subschema: &Subschema<'_>) -> bool
+    ensures { IsTrue result ↔ HasOutsideKeyword subschema.now }
 {
-    let words = ["description", "default", "additionalProperties", "nullable"];
-    is_inside(visit.place.as_slice())
-        && (has_one_of(visit.schema, &words) || (has(visit.schema, "type") && !visit.in_pattern))
+    let keywords = ["description", "default", "additionalProperties", "nullable"];
+    is_inside(subschema.place.as_slice())
+        && (has_one_of(subschema.schema, &keywords)
+            || (has(subschema.schema, "type") && !subschema.in_pattern))
 }
 
 /// V04: `metadata` has another keyword, another type or another field than it may have.
-fn restricts_metadata(visit: &Visit<'_>) -> bool
-    ensures { IsTrue result ↔ Restricts (place_of visit.now.place.items) (object visit.now.schema.now) }
+fn restricts_metadata(subschema: &Subschema<'_>) -> bool
+    ensures { IsTrue result ↔ Restricts (place_of subschema.now.place.items) (object subschema.now.schema.now) }
 {
-    let place = visit.place.as_slice();
+    let place = subschema.place.as_slice();
     if is_metadata(place) {
-        return has_other_word(visit.schema) || has_other_type(visit.schema);
+        return has_other_keyword(subschema.schema) || has_other_type(subschema.schema);
     }
     is_other_field(place)
 }
 
 /// V05: a keyword that is not supported.
-fn has_unsupported_word(visit: &Visit<'_>) -> bool
-    ensures { IsTrue result ↔ HasOneOf unsupported_words (object visit.now.schema.now) }
+fn has_unsupported_keyword(subschema: &Subschema<'_>) -> bool
+    ensures { IsTrue result ↔ HasOneOf unsupported_keywords (object subschema.now.schema.now) }
 {
-    let words = [
+    let keywords = [
         "definitions",
         "dependencies",
         "deprecated",
@@ -87,16 +89,16 @@ fn has_unsupported_word(visit: &Visit<'_>) -> bool
         "xml",
         "$ref",
     ];
-    has_one_of(visit.schema, &words)
+    has_one_of(subschema.schema, &keywords)
 }
 
 /// V09: an outside place that is int-or-string has a type.
-fn has_both_types(visit: &Visit<'_>) -> bool
-    ensures { IsTrue result ↔ HasBothTypes (place_of visit.now.place.items) (object visit.now.schema.now) }
+fn has_both_types(subschema: &Subschema<'_>) -> bool
+    ensures { IsTrue result ↔ HasBothTypes (place_of subschema.now.place.items) (object subschema.now.schema.now) }
 {
-    !is_inside(visit.place.as_slice())
-        && has_true(visit.schema, "x-kubernetes-int-or-string")
-        && has(visit.schema, "type")
+    !is_inside(subschema.place.as_slice())
+        && has_true(subschema.schema, "x-kubernetes-int-or-string")
+        && has(subschema.schema, "type")
 }
 
 /// Whether a step of the place is into a branch.

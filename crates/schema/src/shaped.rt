@@ -8,21 +8,21 @@ pub struct Shape {
 }
 
 impl Model for Shape {
-    ghost use Rattle.schema.specs.Node.{Node as NodeData};
-    ghost use Rattle.schema.specs.NodeCode.{node_coded};
+    ghost use Rattle.schema.specs.Nodes.Node.{Node as NodeData};
+    ghost use Rattle.schema.specs.Internal.NodeCode.{node_coded};
 
     ghost Value = { NodeData };
 
     ghost coded = { node_coded };
 
-    ghost use Rattle.schema.specs.NodeView.{node_of};
+    ghost use Rattle.schema.specs.Nodes.View.{node_of};
 
     ghost view = { λ a. node_of a.root };
 }
 
 impl Shape {
     ghost use Rattle.std.specs.Prelude.{◌≡◌};
-    ghost use Rattle.schema.specs.NodeView.{node_of};
+    ghost use Rattle.schema.specs.Nodes.View.{node_of};
 
     /// The shape with this root.
     pub(crate) fn new(root: Node) -> Shape

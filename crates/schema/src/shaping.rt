@@ -3,17 +3,16 @@ ghost use Rattle.std.specs.Prelude.{◌≡◌, true, false, OnOk, IfOk, IfErr, o
 ghost use Rattle.jtree.specs.Data.{no_items, item};
 ghost use Rattle.jtree.specs.Path.{under};
 ghost use Rattle.jtree.specs.View.{data_of};
-ghost use Rattle.schema.specs.Forms.{is_among};
-ghost use Rattle.schema.specs.Kinds.{list as list_kind, map as map_kind, object as object_kind, IsOfKind};
-ghost use Rattle.schema.specs.Places.{Place};
-ghost use Rattle.schema.specs.Breaks.{IsUnbroken};
-ghost use Rattle.schema.specs.Reading.{text_under, texts_of, texts_under};
-ghost use Rattle.schema.specs.NodeView.{node_of, sort_of, object_of, map_of, list_of};
-ghost use Rattle.schema.specs.Shape.{IsNodeOf, IsSortOf, AreFieldsOf, LacksNode, IsShapeRefusal, is_declared as is_declared_of, declared_of, list_type_named, map_type_named};
-ghost use Rattle.schema.specs.Building.{HasNodes, HaveNodes, IsFieldOf};
+ghost use Rattle.schema.specs.Document.Texts.{is_among};
+ghost use Rattle.schema.specs.Rules.Kinds.{list as list_kind, map as map_kind, object as object_kind, IsOfKind};
+ghost use Rattle.schema.specs.Document.Places.{Place};
+ghost use Rattle.schema.specs.Rules.Breaks.{IsUnbroken};
+ghost use Rattle.schema.specs.Nodes.Keywords.{text_under, texts_of, texts_under};
+ghost use Rattle.schema.specs.Nodes.View.{node_of, sort_of, object_of, map_of, list_of};
+ghost use Rattle.schema.specs.Nodes.Shape.{IsNodeOf, IsSortOf, AreFieldsOf, LacksNode, IsShapeRefusal, is_declared as is_declared_of, declared_of, list_type_named, map_type_named};
+ghost use Rattle.schema.specs.Internal.Building.{HasNodes, HaveNodes, IsFieldOf};
 ghost use Rattle.schema.specs.declared.refused.Refused.TheVariants.{NoMemory};
 
-use crate::conditions::read_conditions;
 use crate::judging::breaks;
 use crate::kinds::{Kind, kind_of};
 use crate::lacking::first_without_node;
@@ -25,6 +24,7 @@ use crate::raw::RawSchema;
 use crate::reading::{bounds, copy_text, copy_texts, flag, text};
 use crate::refused::Refused;
 use crate::shaped::Shape;
+use crate::validations::read_validations;
 use jtree::{Items, Member, Members, Tree};
 use std::alloc::Global;
 
@@ -85,8 +85,8 @@ fn read_sort(alloc: Global, schema: &Tree, root: bool) -> Result<Sort, Refused>
 {
     match kind_of(schema) {
         Some(Kind::Scalar(kind)) => {
-            let conditions = read_conditions(alloc, schema)?;
-            Ok(Sort::Scalar(ScalarNode { kind, conditions }))
+            let validations = read_validations(alloc, schema)?;
+            Ok(Sort::Scalar(ScalarNode { kind, validations }))
         }
         Some(Kind::Object) => Ok(Sort::Object(read_object(alloc, schema, root)?)),
         Some(Kind::Map) => Ok(Sort::Map(read_map(alloc, schema, root)?)),
@@ -160,7 +160,7 @@ fn read_below(alloc: Global, schema: &Tree) -> Result<Below, Refused>
     ensures err { IfErr result (λ e. e ≡ NoMemory) }
 {
     let node = read_node(alloc, schema, false)?;
-    node.is_node();
+    node.reveal_invariant();
     Ok(Below {
         node: Box::new(alloc, node)?,
     })
@@ -178,14 +178,14 @@ fn read_fields(
     ensures fields { IfOk result (λ fs. AreFieldsOf fs (texts_under (data_of schema.now) (codes "required")) (declared_of root properties.now)) }
     ensures err { IfErr result (λ e. e ≡ NoMemory) }
 {
-    properties.is_object();
+    properties.reveal_invariant();
     let mut fields = Vec::new(alloc);
     for property in &properties.members {
         if !is_declared(property, root) {
             continue;
         }
         let field = read_field(alloc, schema, property)?;
-        field.node.is_node();
+        field.node.reveal_invariant();
         fields.push(field)?;
     }
     Ok(Fields { fields })

@@ -26,13 +26,13 @@ fn said(alloc: Global, schema: &str) -> Result<String, Fail> {
 }
 
 fn node_text(alloc: Global, node: &Node) -> Result<String, Fail> {
-    let mut out = String::from_str(alloc, sort_word(&node.sort))?;
+    let mut out = String::from_str(alloc, sort_keyword(&node.sort))?;
     push_flag(&mut out, node.nullable, "nullable")?;
     if let Some(description) = &node.description {
-        push_word(&mut out, "description", description.as_str())?;
+        push_keyword(&mut out, "description", description.as_str())?;
     }
     match &node.sort {
-        Sort::Scalar(scalar) => push_conditions(alloc, &mut out, &scalar.conditions)?,
+        Sort::Scalar(scalar) => push_validations(alloc, &mut out, &scalar.validations)?,
         Sort::Object(object) => push_object(alloc, &mut out, object)?,
         Sort::Map(map) => push_map(alloc, &mut out, map)?,
         Sort::List(list) => push_list(alloc, &mut out, list)?,
@@ -41,9 +41,9 @@ fn node_text(alloc: Global, node: &Node) -> Result<String, Fail> {
     Ok(out)
 }
 
-fn sort_word(sort: &Sort) -> &str {
+fn sort_keyword(sort: &Sort) -> &str {
     match sort {
-        Sort::Scalar(scalar) => kind_word(scalar.kind),
+        Sort::Scalar(scalar) => kind_keyword(scalar.kind),
         Sort::Object(_) => "object",
         Sort::Map(_) => "map",
         Sort::List(_) => "list",
@@ -51,7 +51,7 @@ fn sort_word(sort: &Sort) -> &str {
     }
 }
 
-fn kind_word<'a>(kind: ScalarKind) -> &'a str {
+fn kind_keyword<'a>(kind: ScalarKind) -> &'a str {
     match kind {
         ScalarKind::Boolean => "boolean",
         ScalarKind::Integer => "integer",
@@ -60,25 +60,25 @@ fn kind_word<'a>(kind: ScalarKind) -> &'a str {
     }
 }
 
-fn push_flag(out: &mut String, is: bool, word: &str) -> Result<(), Fail> {
+fn push_flag(out: &mut String, is: bool, keyword: &str) -> Result<(), Fail> {
     if is {
         out.push_str(" ")?;
-        out.push_str(word)?;
+        out.push_str(keyword)?;
     }
     Ok(())
 }
 
-fn push_word(out: &mut String, name: &str, word: &str) -> Result<(), Fail> {
+fn push_keyword(out: &mut String, name: &str, keyword: &str) -> Result<(), Fail> {
     out.push_str(" ")?;
     out.push_str(name)?;
     out.push_str("=")?;
-    out.push_str(word)?;
+    out.push_str(keyword)?;
     Ok(())
 }
 
 fn push_count(alloc: Global, out: &mut String, name: &str, count: Option<u64>) -> Result<(), Fail> {
     match count {
-        Some(count) => push_word(out, name, format!(in alloc; "{count}")?.as_str()),
+        Some(count) => push_keyword(out, name, format!(in alloc; "{count}")?.as_str()),
         None => Ok(()),
     }
 }
@@ -90,7 +90,7 @@ fn push_integer(
     integer: Option<i64>,
 ) -> Result<(), Fail> {
     match integer {
-        Some(integer) => push_word(out, name, format!(in alloc; "{integer}")?.as_str()),
+        Some(integer) => push_keyword(out, name, format!(in alloc; "{integer}")?.as_str()),
         None => Ok(()),
     }
 }
@@ -103,31 +103,39 @@ fn push_bounds(alloc: Global, out: &mut String, bounds: &Bounds) -> Result<(), F
 fn push_choices(alloc: Global, out: &mut String, choices: &Items) -> Result<(), Fail> {
     for choice in &choices.items {
         let text = choice.to_text(alloc)?;
-        push_word(out, "choice", text.as_str())?;
+        push_keyword(out, "choice", text.as_str())?;
     }
     Ok(())
 }
 
-fn push_conditions(alloc: Global, out: &mut String, conditions: &Conditions) -> Result<(), Fail> {
-    push_tests(alloc, out, &conditions.tests)?;
-    push_branches(alloc, out, "allOf", &conditions.all_of)?;
-    push_branches(alloc, out, "anyOf", &conditions.any_of)?;
-    push_branches(alloc, out, "oneOf", &conditions.one_of)?;
-    push_branches(alloc, out, "not", &conditions.negated)
+fn push_validations(
+    alloc: Global,
+    out: &mut String,
+    validations: &Validations,
+) -> Result<(), Fail> {
+    push_constraints(alloc, out, &validations.constraints)?;
+    push_branches(alloc, out, "allOf", &validations.all_of)?;
+    push_branches(alloc, out, "anyOf", &validations.any_of)?;
+    push_branches(alloc, out, "oneOf", &validations.one_of)?;
+    push_branches(alloc, out, "not", &validations.negated)
 }
 
-fn push_tests(alloc: Global, out: &mut String, tests: &Tests) -> Result<(), Fail> {
-    if let Some(choices) = &tests.choices {
+fn push_constraints(
+    alloc: Global,
+    out: &mut String,
+    constraints: &Constraints,
+) -> Result<(), Fail> {
+    if let Some(choices) = &constraints.choices {
         push_choices(alloc, out, choices)?;
     }
-    push_integer(alloc, out, "minimum", tests.minimum)?;
-    push_integer(alloc, out, "maximum", tests.maximum)?;
-    push_flag(out, tests.exclusive_minimum, "exclusiveMinimum")?;
-    push_flag(out, tests.exclusive_maximum, "exclusiveMaximum")?;
-    push_bounds(alloc, out, &tests.lengths)
+    push_integer(alloc, out, "minimum", constraints.minimum)?;
+    push_integer(alloc, out, "maximum", constraints.maximum)?;
+    push_flag(out, constraints.exclusive_minimum, "exclusiveMinimum")?;
+    push_flag(out, constraints.exclusive_maximum, "exclusiveMaximum")?;
+    push_bounds(alloc, out, &constraints.lengths)
 }
 
-// The tests of each branch, in parentheses.
+// The constraints of each branch, in parentheses.
 fn push_branches(
     alloc: Global,
     out: &mut String,
@@ -138,7 +146,7 @@ fn push_branches(
         out.push_str(" ")?;
         out.push_str(name)?;
         out.push_str("(")?;
-        push_tests(alloc, out, &branch.tests)?;
+        push_constraints(alloc, out, &branch.constraints)?;
         push_flag(out, !branch.negated.branches.is_empty(), "not")?;
         out.push_str(")")?;
     }
@@ -155,26 +163,26 @@ fn push_object(alloc: Global, out: &mut String, object: &ObjectNode) -> Result<(
 }
 
 fn push_field(alloc: Global, out: &mut String, field: &Field) -> Result<(), Fail> {
-    push_word(out, field.name.as_str(), sort_word(&field.node.sort))?;
+    push_keyword(out, field.name.as_str(), sort_keyword(&field.node.sort))?;
     push_flag(out, field.required, "required")?;
     match &field.default {
-        Some(default) => push_word(out, "default", default.to_text(alloc)?.as_str()),
+        Some(default) => push_keyword(out, "default", default.to_text(alloc)?.as_str()),
         None => Ok(()),
     }
 }
 
 fn push_map(alloc: Global, out: &mut String, map: &MapNode) -> Result<(), Fail> {
-    push_word(out, "of", sort_word(&map.value.node.sort))?;
+    push_keyword(out, "of", sort_keyword(&map.value.node.sort))?;
     push_flag(out, map.map_type == MapType::Atomic, "atomic")?;
     push_bounds(alloc, out, &map.bounds)
 }
 
 fn push_list(alloc: Global, out: &mut String, list: &ListNode) -> Result<(), Fail> {
-    push_word(out, "of", sort_word(&list.item.node.sort))?;
+    push_keyword(out, "of", sort_keyword(&list.item.node.sort))?;
     push_flag(out, list.list_type == ListType::Set, "set")?;
     push_flag(out, list.list_type == ListType::Map, "map")?;
     for key in &list.keys {
-        push_word(out, "key", key.as_str())?;
+        push_keyword(out, "key", key.as_str())?;
     }
     push_bounds(alloc, out, &list.bounds)
 }

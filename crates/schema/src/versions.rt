@@ -1,7 +1,7 @@
 // The versions of a CustomResourceDefinition by their names.
 ghost use Rattle.std.specs.Prelude.{◌≡◌, option_map, OnOk, IfOk, IfErr};
 ghost use Rattle.jtree.specs.View.{data_of};
-ghost use Rattle.schema.specs.Versions.{AreVersions, IsSelected, IsVersionsFault};
+ghost use Rattle.schema.specs.Internal.Versions.{AreVersions, IsSelected, IsVersionsFault};
 
 use crate::fault::SFault;
 use jtree::{Items, Tree};

@@ -33,7 +33,7 @@ pub struct Violation {
 
 impl fmt::Display for Rule {
     ghost use Rattle.std.specs.Prelude.{Some};
-    ghost use Rattle.schema.specs.Breaks.{rule_name};
+    ghost use Rattle.schema.specs.Rules.Breaks.{rule_name};
 
     ghost output = { λ r. Some (rule_name r) };
 

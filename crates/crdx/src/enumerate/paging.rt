@@ -4,11 +4,11 @@ ghost use Rattle.std.specs.Ordering.{on};
 ghost use Rattle.jtree.specs.Data.{Data};
 ghost use Rattle.jtree.specs.Order.{tree_cmp};
 ghost use Rattle.jtree.specs.View.{data_of};
-ghost use Rattle.crdx.specs.Sample.{Question, IsSample};
-ghost use Rattle.crdx.specs.Page.{IsPage};
-ghost use Rattle.crdx.specs.Handed.{handed};
-ghost use Rattle.crdx.specs.Values.{trees_of, AreSamples};
-ghost use Rattle.crdx.specs.Building.{IsNext};
+ghost use Rattle.crdx.specs.Samples.Sample.{Question, IsSample};
+ghost use Rattle.crdx.specs.Samples.Page.{IsPage};
+ghost use Rattle.crdx.specs.Samples.View.{resume_point};
+ghost use Rattle.crdx.specs.Internal.Values.{trees_of, AreSamples};
+ghost use Rattle.crdx.specs.Internal.Building.{IsNext};
 ghost use Rattle.crdx.specs.declared.enumerate.fault.EFault.TheVariants.{NotASample, NoMemory};
 
 use crate::enumerate::fault::EFault;
@@ -23,9 +23,9 @@ use std::alloc::Global;
 ///
 /// `NotASample` exactly where `after` is no sample of the plan, and `NoMemory` where an allocation fails.
 pub fn page(alloc: Global, plan: &Plan, after: Option<&Tree>, count: u32) -> Result<Page, EFault>
-    ensures page { IfOk result (λ page. IsPage plan.now (handed after.entry) count (trees_of page.items.items) page.end) }
-    ensures sample { OnOk result (IfSome (handed after.entry) (λ a. IsSample plan.now a)) }
-    ensures not_a_sample { result ≡ Err NotASample → IsSomeAnd (handed after.entry) (λ a. IsSample plan.now a → ⊥) }
+    ensures page { IfOk result (λ page. IsPage plan.now (resume_point after.entry) count (trees_of page.items.items) page.end) }
+    ensures sample { OnOk result (IfSome (resume_point after.entry) (λ a. IsSample plan.now a)) }
+    ensures not_a_sample { result ≡ Err NotASample → IsSomeAnd (resume_point after.entry) (λ a. IsSample plan.now a → ⊥) }
 {
     let mut all = samples(alloc, plan)?;
     all.sort()?;
@@ -46,7 +46,7 @@ fn is_among(trees: &[Tree], tree: &Tree) -> bool
 
 /// Whether the tree comes next behind the items, or behind `after` where there is none yet.
 fn is_next(items: &[Tree], after: Option<&Tree>, tree: &Tree) -> bool
-    ensures { IsTrue result ↔ IsNext (trees_of items.now) (handed after.entry) (data_of tree.now) }
+    ensures { IsTrue result ↔ IsNext (trees_of items.now) (resume_point after.entry) (data_of tree.now) }
 {
     match items.last() {
         Some(last) => last.cmp(tree).is_lt(),
@@ -66,7 +66,7 @@ fn first_past(
 ) -> Result<Page, EFault>
     requires { IsSorted (on data_of tree_cmp) sorted.now }
     ensures ok { IfOk result (λ page. (q : Question) → AreSamples q (trees_of sorted.now)
-        → IsPage q (handed after.entry) count (trees_of page.items.items) page.end) }
+        → IsPage q (resume_point after.entry) count (trees_of page.items.items) page.end) }
     ensures err { IfErr result (λ e. e ≡ NoMemory) }
 {
     let mut items = Vec::new(alloc);

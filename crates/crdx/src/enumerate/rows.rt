@@ -2,7 +2,7 @@
 ghost use Rattle.std.specs.Prelude.{◌≡◌, ◌<◌, ◌⊎◌, ◌↔◌, [], ◌∷◌, OnOk, IfOk, IfErr, Contains};
 ghost use Rattle.jtree.specs.Data.{member, IsBefore};
 ghost use Rattle.jtree.specs.View.{data_of};
-ghost use Rattle.crdx.specs.Values.{trees_of, IsExtendedRow, AreExtendedRows};
+ghost use Rattle.crdx.specs.Internal.Values.{trees_of, IsExtendedRow, AreExtendedRows};
 ghost use Rattle.crdx.specs.declared.enumerate.fault.EFault.TheVariants.{NoMemory};
 
 use crate::enumerate::fault::EFault;
@@ -15,7 +15,7 @@ fn with_first(alloc: Global, name: &Text, value: &Tree, row: &Members) -> Result
     ensures ok { IfOk result (λ ms. ms ≡ member name.now (data_of value.now) row.now) }
     ensures err { IfErr result (λ e. e ≡ NoMemory) }
 {
-    value.is_tree();
+    value.reveal_invariant();
     let mut members = Vec::new(alloc);
     let name = name.copy(alloc)?;
     let tree = value.copy(alloc)?;

@@ -2,9 +2,9 @@
 ghost use Rattle.std.specs.Prelude.{◌≡◌, ◌<◌, ℕ, ◌↔◌, [], ◌∷◌, true, false, map, IfOk, IfErr, Contains, All, FitsSigned};
 ghost use Rattle.std.specs.Int.{w64};
 ghost use Rattle.jtree.specs.Data.{boolean as truth_value, integer as whole_number, object as object_of};
-ghost use Rattle.crdx.specs.Node.{scalar};
-ghost use Rattle.crdx.specs.NodeView.{kind_of, node_of};
-ghost use Rattle.crdx.specs.Values.{trees_of, AreValuesOf, AreRowsOf, AreSamples};
+ghost use Rattle.crdx.specs.Objects.Node.{scalar};
+ghost use Rattle.crdx.specs.Objects.NodeView.{kind_of, node_of};
+ghost use Rattle.crdx.specs.Internal.Values.{trees_of, AreValuesOf, AreRowsOf, AreSamples};
 ghost use Rattle.crdx.specs.declared.enumerate.fault.EFault.TheVariants.{NoMemory};
 
 use crate::enumerate::fault::EFault;
@@ -107,6 +107,6 @@ pub(crate) fn samples(alloc: Global, plan: &Plan) -> Result<Vec<Tree>, EFault>
     ensures ok { IfOk result (λ vs. AreSamples plan.now (trees_of vs.items)) }
     ensures err { IfErr result (λ e. e ≡ NoMemory) }
 {
-    plan.root().is_node();
+    plan.root().reveal_invariant();
     values_of(alloc, plan.root(), plan.pools(), u64::from(plan.limit()))
 }

@@ -1,5 +1,5 @@
 use super::*;
-use crate::trials::{holds, is_text};
+use crate::harness::{holds, is_text};
 use std::process::Abort;
 use std::test::Fail;
 

@@ -16,7 +16,7 @@ pub struct Plan {
 
 impl Model for Plan {
     ghost use Rattle.std.specs.Prelude.{◌<◌, ◌≤◌};
-    ghost use Rattle.crdx.specs.Sample.{Question, question_coded};
+    ghost use Rattle.crdx.specs.Samples.Sample.{Question, question_coded};
 
     ghost Value = { Question };
 
@@ -29,7 +29,7 @@ impl Model for Plan {
 
 impl Plan {
     ghost use Rattle.std.specs.Prelude.{◌≡◌, ◌≤◌, ◌<◌, ◌⊎◌, ◌↔◌, IfOk, IfErr, OnOk, IsErr};
-    ghost use Rattle.crdx.specs.NodeView.{node_of};
+    ghost use Rattle.crdx.specs.Objects.NodeView.{node_of};
     ghost use Rattle.crdx.specs.declared.plan.fault.PFault.TheVariants.{BadLimit};
 
     /// The plan of this schema, these pools and this limit. `BadLimit` exactly where the limit is not 1 to 63.

@@ -3,9 +3,9 @@ ghost use Rattle.std.specs.Prelude.{◌≡◌, None, OnOk, IfOk, IfErr, string_b
 ghost use Rattle.jtree.specs.Data.{list as list_of};
 ghost use Rattle.jtree.specs.Pointer.{name_token};
 ghost use Rattle.jtree.specs.View.{data_of};
-ghost use Rattle.crdx.specs.Pools.{HasForm};
-ghost use Rattle.crdx.specs.PoolFault.{IsPoolsFault};
-ghost use Rattle.crdx.specs.PoolForm.{other_item, pool_break, members_break, below_name, IsBreakFault};
+ghost use Rattle.crdx.specs.Samples.Pools.{HasForm};
+ghost use Rattle.crdx.specs.Samples.PoolFault.{IsPoolsFault};
+ghost use Rattle.crdx.specs.Internal.PoolForm.{other_item, pool_break, members_break, below_name, IsBreakFault};
 ghost use Rattle.crdx.specs.declared.plan.fault.PFault.TheVariants.{NoMemory};
 
 use crate::plan::fault::PFault;
@@ -20,7 +20,7 @@ pub(crate) fn check_form(alloc: Global, document: &Tree) -> Result<(), PFault>
     ensures ok { OnOk result (HasForm (data_of document.now)) }
     ensures err { IfErr result (IsPoolsFault (data_of document.now)) }
 {
-    document.is_tree();
+    document.reveal_invariant();
     match document {
         Tree::Object(members) => check_members(alloc, members),
         _ => Err(PFault::Form(String::new(alloc))),

@@ -17,7 +17,7 @@ impl Model for Pools {
     ghost use Rattle.std.specs.Prelude.{All};
     ghost use Rattle.std.specs.Prelude.{FitsSigned};
     ghost use Rattle.std.specs.Int.{w64};
-    ghost use Rattle.crdx.specs.Over.{Pools as PoolsData};
+    ghost use Rattle.crdx.specs.Samples.Over.{Pools as PoolsData};
 
     ghost Value = { PoolsData };
 
@@ -30,8 +30,8 @@ impl Pools {
     ghost use Rattle.std.specs.Prelude.{◌≡◌, ◌≤◌, length, All, FitsSigned, IfOk, IfErr, OnOk, []};
     ghost use Rattle.std.specs.Int.{w64};
     ghost use Rattle.jtree.specs.View.{data_of};
-    ghost use Rattle.crdx.specs.Pools.{HasForm, most_entries, pools_of};
-    ghost use Rattle.crdx.specs.PoolFault.{IsPoolsFault};
+    ghost use Rattle.crdx.specs.Samples.Pools.{HasForm, most_entries, pools_of};
+    ghost use Rattle.crdx.specs.Samples.PoolFault.{IsPoolsFault};
 
     /// The pools of a document: an object whose member `integers`, if it is there, is a list of at most 64 integers of
     /// 64 bits. Entries stay as written, repeats among them, and a missing member is an empty pool.
@@ -74,9 +74,9 @@ impl Pools {
 ghost use Rattle.std.specs.Prelude.{◌≡◌, ◌++◌, None, IfOk, IfErr, OnOk};
 ghost use Rattle.jtree.specs.Data.{item as one_item, no_items};
 ghost use Rattle.jtree.specs.View.{data_of};
-ghost use Rattle.crdx.specs.Pools.{integers_of_items};
+ghost use Rattle.crdx.specs.Samples.Pools.{integers_of_items};
 ghost use Rattle.crdx.specs.declared.plan.fault.PFault.TheVariants.{NoMemory};
-ghost use Rattle.crdx.specs.PoolForm.{other_item, IsSmallPool, IsPoolFault};
+ghost use Rattle.crdx.specs.Internal.PoolForm.{other_item, IsSmallPool, IsPoolFault};
 
 fn read_integers(alloc: Global, items: &Items) -> Result<Pools, PFault>
     requires { other_item items.now ≡ None }

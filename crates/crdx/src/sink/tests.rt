@@ -1,5 +1,5 @@
 use super::*;
-use crate::trials::{holds, is_number};
+use crate::harness::{holds, is_number};
 use std::alloc::Global;
 use std::io;
 use std::process::Abort;

@@ -3,12 +3,12 @@ ghost use Rattle.std.specs.Prelude.{◌≡◌, true, false, ◌++◌, OnOk, IfOk
 ghost use Rattle.jtree.specs.Data.{member, no_members};
 ghost use Rattle.jtree.specs.Pointer.{name_token};
 ghost use Rattle.jtree.specs.View.{data_of};
-ghost use Rattle.crdx.specs.NodeView.{node_of};
-ghost use Rattle.crdx.specs.Place.{schema_at};
-ghost use Rattle.crdx.specs.Accepted.{AllKnown, IsNodeOf, IsNodeAt, AreFieldsOf, kept};
-ghost use Rattle.schema.specs.Breaks.{IsUnbroken};
-ghost use Rattle.crdx.specs.Refusal.{IsRefusal};
-ghost use Rattle.crdx.specs.Acceptance.{members_at, AreKnown, IsRefusedAt};
+ghost use Rattle.crdx.specs.Objects.NodeView.{node_of};
+ghost use Rattle.crdx.specs.Objects.Place.{schema_at};
+ghost use Rattle.crdx.specs.Objects.Accepted.{AllKnown, IsNodeOf, IsNodeAt, AreFieldsOf, kept};
+ghost use Rattle.schema.specs.Rules.Breaks.{IsUnbroken};
+ghost use Rattle.crdx.specs.Objects.Refusal.{IsRefusal};
+ghost use Rattle.crdx.specs.Internal.Acceptance.{members_at, AreKnown, IsRefusedAt};
 ghost use Rattle.schema.specs.declared.refused.Refused.TheVariants.{NoMemory};
 
 use crate::stored::accepted::Schema;
@@ -75,7 +75,7 @@ fn read_fields(alloc: Global, properties: &Members, root: bool) -> Result<Fields
     ensures known { OnOk result (AreKnown root (members_at properties.now)) }
     ensures not_yet { IfErr result (IsRefusedAt root (members_at properties.now)) }
 {
-    properties.is_object();
+    properties.reveal_invariant();
     let mut fields = Vec::new(alloc);
     for property in &properties.members {
         if is_envelope(property.name.as_str(), root) {
@@ -83,7 +83,7 @@ fn read_fields(alloc: Global, properties: &Members, root: bool) -> Result<Fields
         }
         let name = property.name.copy(alloc)?;
         let node = read_field(alloc, property.name.as_str(), &property.tree)?;
-        node.is_node();
+        node.reveal_invariant();
         fields.push(Field { name, node })?;
     }
     Ok(Fields { fields })

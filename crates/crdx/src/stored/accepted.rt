@@ -8,21 +8,21 @@ pub struct Schema {
 }
 
 impl Model for Schema {
-    ghost use Rattle.crdx.specs.Node.{Node as NodeData};
-    ghost use Rattle.crdx.specs.NodeCode.{node_coded};
+    ghost use Rattle.crdx.specs.Objects.Node.{Node as NodeData};
+    ghost use Rattle.crdx.specs.Internal.NodeCode.{node_coded};
 
     ghost Value = { NodeData };
 
     ghost coded = { node_coded };
 
-    ghost use Rattle.crdx.specs.NodeView.{node_of};
+    ghost use Rattle.crdx.specs.Objects.NodeView.{node_of};
 
     ghost view = { λ a. node_of a.root };
 }
 
 impl Schema {
     ghost use Rattle.std.specs.Prelude.{◌≡◌};
-    ghost use Rattle.crdx.specs.NodeView.{node_of};
+    ghost use Rattle.crdx.specs.Objects.NodeView.{node_of};
 
     /// The schema with this root.
     pub(crate) fn new(root: Node) -> Schema

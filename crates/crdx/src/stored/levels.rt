@@ -2,14 +2,14 @@
 ghost use Rattle.std.specs.Prelude.{◌≡◌, ◌↔◌, ℕ, List, Some, None};
 ghost use Rattle.jtree.specs.Data.{Data, Members, IsTree, IsObject};
 ghost use Rattle.jtree.specs.Path.{member_at};
-ghost use Rattle.crdx.specs.Node.{Node, Fields, declared, is_nullable, IsNode};
-ghost use Rattle.crdx.specs.Filled.{filled, filled_members, standing};
-ghost use Rattle.crdx.specs.Fault.{IsValid};
-ghost use Rattle.crdx.specs.Pruned.{IsPruned};
-ghost use Rattle.crdx.specs.Stored.{IsStored};
-ghost use Rattle.crdx.specs.Over.{Pools, IsOver};
-ghost use Rattle.crdx.specs.Fits.{Fits};
-ghost use Rattle.crdx.specs.ByLevel.{IsValidByLevel, pruned};
+ghost use Rattle.crdx.specs.Objects.Node.{Node, Fields, declared, is_nullable, IsNode};
+ghost use Rattle.crdx.specs.Objects.Filled.{filled, filled_members, standing};
+ghost use Rattle.crdx.specs.Objects.Fault.{IsValid};
+ghost use Rattle.crdx.specs.Objects.Pruned.{IsPruned};
+ghost use Rattle.crdx.specs.Objects.Stored.{IsStored};
+ghost use Rattle.crdx.specs.Samples.Over.{Pools, IsOver};
+ghost use Rattle.crdx.specs.Objects.Fits.{Fits};
+ghost use Rattle.crdx.specs.Objects.ByLevel.{IsValidByLevel, pruned};
 
 /// No place of a value has a fault exactly where the value is of a kind that its node accepts and each member under a
 /// declared name is valid by the node of the name.

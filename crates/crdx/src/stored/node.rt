@@ -32,14 +32,14 @@ pub struct Field {
 }
 
 impl Model for Fields {
-    ghost use Rattle.crdx.specs.Node.{Fields as FieldsData, fields_depth, AreOrdered};
-    ghost use Rattle.crdx.specs.NodeCode.{fields_coded};
+    ghost use Rattle.crdx.specs.Objects.Node.{Fields as FieldsData, fields_depth, AreOrdered};
+    ghost use Rattle.crdx.specs.Internal.NodeCode.{fields_coded};
 
     ghost Value = { FieldsData };
 
     ghost coded = { fields_coded };
 
-    ghost use Rattle.crdx.specs.NodeView.{fields_of};
+    ghost use Rattle.crdx.specs.Objects.NodeView.{fields_of};
 
     ghost view = { λ a. fields_of a.fields.items };
 
@@ -47,31 +47,31 @@ impl Model for Fields {
 
     ghost size = { fields_depth };
 
-    ghost use Rattle.crdx.specs.NodeFalls.{fields_fall};
+    ghost use Rattle.crdx.specs.Internal.NodeMeasures.{fields_decrease};
 
-    ghost size_decreases = { λ a h. fields_fall a.fields.items };
+    ghost size_decreases = { λ a h. fields_decrease a.fields.items };
 }
 
 impl Node {
-    ghost use Rattle.crdx.specs.Node.{IsNode};
-    ghost use Rattle.crdx.specs.NodeView.{node_of};
+    ghost use Rattle.crdx.specs.Objects.Node.{IsNode};
+    ghost use Rattle.crdx.specs.Objects.NodeView.{node_of};
 
     /// Brings to a proof that declared names stand in order, each once. It does nothing.
-    pub fn is_node(&self)
+    pub fn reveal_invariant(&self)
         ensures { IsNode (node_of self.now) }
     {
         match self {
             Node::Scalar(_) => {}
-            Node::Object(fields) => fields.are_ordered(),
+            Node::Object(fields) => fields.reveal_invariant(),
         }
     }
 }
 
 impl Fields {
-    ghost use Rattle.crdx.specs.Node.{AreOrdered};
+    ghost use Rattle.crdx.specs.Objects.Node.{AreOrdered};
 
     /// Brings to a proof that declared names stand in order, each once. It does nothing.
-    pub fn are_ordered(&self)
+    pub fn reveal_invariant(&self)
         ensures { AreOrdered self.now }
     {
         let _ = &self.fields;

@@ -2,11 +2,11 @@
 ghost use Rattle.std.specs.Prelude.{◌≡◌, ◌≢◌, ◌↔◌, ℕ, List, [], ◌∷◌, None, true, IfSome, IsTrue};
 ghost use Rattle.jtree.specs.View.{data_of};
 ghost use Rattle.jtree.specs.Path.{under};
-ghost use Rattle.schema.specs.Forms.{is_among};
-ghost use Rattle.crdx.specs.NodeView.{kind_of};
-ghost use Rattle.crdx.specs.Accepted.{HasType, AreObjects, IsEnvelope, IsKnownScalar, known_words, idle_words};
-ghost use Rattle.schema.specs.Places.{envelope_names};
-ghost use Rattle.crdx.specs.Acceptance.{HaveNames, IsShape, IsObjectShape, kind_name};
+ghost use Rattle.schema.specs.Document.Texts.{is_among};
+ghost use Rattle.crdx.specs.Objects.NodeView.{kind_of};
+ghost use Rattle.crdx.specs.Objects.Accepted.{HasType, AreObjects, IsEnvelope, IsKnownScalar, known_keywords, annotation_keywords};
+ghost use Rattle.schema.specs.Document.Places.{envelope_names};
+ghost use Rattle.crdx.specs.Internal.Acceptance.{HaveNames, IsShape, IsObjectShape, kind_name};
 
 use crate::stored::node::ScalarKind;
 use jtree::{Members, Tree};
@@ -39,7 +39,7 @@ fn known_scalar(tree: &Tree) -> Option<ScalarKind>
     ensures kind { IfSome result (λ k. HasType (data_of tree.now) (kind_name (kind_of k))) }
     ensures none { result ≡ None → IsKnownScalar (data_of tree.now) → ⊥ }
 {
-    if !has_known_words(tree, false) {
+    if !has_known_keywords(tree, false) {
         return None;
     }
     if tree.has_text("type", "boolean") {
@@ -58,7 +58,7 @@ fn object_shape(tree: &Tree) -> Shape<'_>
     if !tree.has_text("type", "object") {
         return Shape::Unknown;
     }
-    if !has_known_words(tree, true) {
+    if !has_known_keywords(tree, true) {
         return Shape::Unknown;
     }
     match tree.get("properties") {
@@ -75,8 +75,8 @@ fn object_shape(tree: &Tree) -> Shape<'_>
 }
 
 /// Whether each keyword is known at a scalar, or at an object.
-fn has_known_words(tree: &Tree, object: bool) -> bool
-    ensures { IsTrue result ↔ ((k : List ℕ) → under (data_of tree.now) k ≢ None → is_among k (known_words object) ≡ true) }
+fn has_known_keywords(tree: &Tree, object: bool) -> bool
+    ensures { IsTrue result ↔ ((k : List ℕ) → under (data_of tree.now) k ≢ None → is_among k (known_keywords object) ≡ true) }
 {
     match tree {
         Tree::Object(members) => have_known_names(members, object),
@@ -88,29 +88,29 @@ fn have_known_names(members: &Members, object: bool) -> bool
     ensures { IsTrue result ↔ HaveNames object members.now }
 {
     for member in &members.members {
-        if !is_known_word(member.name.as_str(), object) {
+        if !is_known_keyword(member.name.as_str(), object) {
             return false;
         }
     }
     true
 }
 
-fn is_known_word(word: &str, object: bool) -> bool
-    ensures { result ≡ is_among word.now (known_words object) }
+fn is_known_keyword(keyword: &str, object: bool) -> bool
+    ensures { result ≡ is_among keyword.now (known_keywords object) }
 {
-    word == "type" || object && word == "properties" || is_idle_word(word)
+    keyword == "type" || object && keyword == "properties" || is_annotation_keyword(keyword)
 }
 
 /// Whether a keyword has no effect on what an object is, where no rule is broken.
-fn is_idle_word(word: &str) -> bool
-    ensures { result ≡ is_among word.now idle_words }
+fn is_annotation_keyword(keyword: &str) -> bool
+    ensures { result ≡ is_among keyword.now annotation_keywords }
 {
-    word == "title"
-        || word == "description"
-        || word == "format"
-        || word == "example"
-        || word == "externalDocs"
-        || word == "uniqueItems"
+    keyword == "title"
+        || keyword == "description"
+        || keyword == "format"
+        || keyword == "example"
+        || keyword == "externalDocs"
+        || keyword == "uniqueItems"
 }
 
 /// Whether each member is an object.

@@ -1,8 +1,8 @@
 // Lines put together to blocks, so that one call of the sink takes many of them.
 ghost use Rattle.std.specs.Prelude.{◌≡◌, IfOk, IfErr};
-ghost use Rattle.crdx.specs.Line.{lines};
-ghost use Rattle.crdx.specs.Block.{HasEnds, IsCountOfEnds};
-ghost use Rattle.crdx.specs.Values.{trees_of};
+ghost use Rattle.crdx.specs.Output.Line.{lines};
+ghost use Rattle.crdx.specs.Internal.Block.{HasEnds, IsCountOfEnds};
+ghost use Rattle.crdx.specs.Internal.Values.{trees_of};
 ghost use Rattle.jtree.specs.declared.fault.JFault.TheVariants.{NoMemory};
 
 use jtree::{JFault, Tree};

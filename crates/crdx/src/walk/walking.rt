@@ -1,12 +1,12 @@
 ghost use Rattle.std.specs.Prelude.{◌≡◌, ◌⊎◌, Err, IfOk, IfErr, OnOk, IfSome, IsSomeAnd};
 ghost use Rattle.std.specs.Io.KnownBytes.{Appends, Keeps};
-ghost use Rattle.crdx.specs.Line.{lines};
-ghost use Rattle.crdx.specs.Values.{trees_of};
-ghost use Rattle.crdx.specs.Sample.{IsSample};
-ghost use Rattle.crdx.specs.Handed.{handed};
-ghost use Rattle.crdx.specs.Stopped.{Leaves};
-ghost use Rattle.crdx.specs.Walk.{WritesPage};
-ghost use Rattle.crdx.specs.Stopping.{StopsAt};
+ghost use Rattle.crdx.specs.Output.Line.{lines};
+ghost use Rattle.crdx.specs.Internal.Values.{trees_of};
+ghost use Rattle.crdx.specs.Samples.Sample.{IsSample};
+ghost use Rattle.crdx.specs.Samples.View.{resume_point};
+ghost use Rattle.crdx.specs.Output.PartialOutput.{IsPartialOutput};
+ghost use Rattle.crdx.specs.Output.Walk.{WritesPage};
+ghost use Rattle.crdx.specs.Internal.PartialLines.{ArePartialLines};
 ghost use Rattle.crdx.specs.declared.walk.fault.WFault.TheVariants.{NotASample, NoMemory};
 
 use crate::enumerate::{EFault, page};
@@ -41,11 +41,11 @@ pub fn walk<W: Sink>(
     total: u32,
     out: &mut W,
 ) -> Result<Walked, WFault>
-    ensures lines { IfOk result (λ walked. WritesPage plan.now (handed after.entry) total walked.lines walked.end (W.taken out.old) (W.taken out.new)) }
-    ensures sample { OnOk result (IfSome (handed after.entry) (λ a. IsSample plan.now a)) }
-    ensures refused { IsSomeAnd (handed after.entry) (λ a. IsSample plan.now a → ⊥)
+    ensures lines { IfOk result (λ walked. WritesPage plan.now (resume_point after.entry) total walked.lines walked.end (W.taken out.old) (W.taken out.new)) }
+    ensures sample { OnOk result (IfSome (resume_point after.entry) (λ a. IsSample plan.now a)) }
+    ensures refused { IsSomeAnd (resume_point after.entry) (λ a. IsSample plan.now a → ⊥)
         → ((result ≡ Err NotASample) ⊎ (result ≡ Err (NoMemory 0))) × Keeps (W.taken out.old) (W.taken out.new) }
-    ensures stopped { IfErr result (λ e. Leaves plan.now (handed after.entry) total (W.taken out.old) (W.taken out.new) (W.failures out.old) (W.failures out.new) e) }
+    ensures cut { IfErr result (λ e. IsPartialOutput plan.now (resume_point after.entry) total (W.taken out.old) (W.taken out.new) (W.failures out.old) (W.failures out.new) e) }
     ensures unfailed { OnOk result (W.failures out.new ≡ W.failures out.old) }
 {
     let page = match page(alloc, plan, after, total) {
@@ -65,7 +65,7 @@ pub fn walk<W: Sink>(
 fn write_lines<W: Sink>(alloc: Global, trees: &[Tree], out: &mut W) -> Result<(), WFault>
     ensures ok { OnOk result (Appends (W.taken out.old) (W.taken out.new) (lines (trees_of trees.now))) }
     ensures unfailed { OnOk result (W.failures out.new ≡ W.failures out.old) }
-    ensures err { IfErr result (λ e. StopsAt (trees_of trees.now) (W.taken out.old) (W.taken out.new) (W.failures out.old) (W.failures out.new) e) }
+    ensures err { IfErr result (λ e. ArePartialLines (trees_of trees.now) (W.taken out.old) (W.taken out.new) (W.failures out.old) (W.failures out.new) e) }
 {
     let mut at = 0;
     'pieces: while at < trees.len() {

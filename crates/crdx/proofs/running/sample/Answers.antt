@@ -13,7 +13,7 @@ returns-in-Ok-clause-sampled g c =
         raw = accepted.0;
         accepted = accepted.1;
         root = rw c.in_ok-plan.ensures.ok accepted.2;
-        pools = rw c.in_ok-plan.ensures.ok (pools_before _ _ c.args.words.now.pools c.in_ok-pools.pools c.in_ok-schema.ensures.stays c.in_ok-pools.ensures.ok);
+        pools = rw c.in_ok-plan.ensures.ok (pools_before _ _ c.args.arguments.now.pools c.in_ok-pools.pools c.in_ok-schema.ensures.stays c.in_ok-pools.ensures.ok);
         limit = rw c.in_ok-plan.ensures.ok refl;
       },
       record {

@@ -1,7 +1,7 @@
 use Rattle.std.proofs.Common.{◌≡◌, map, take}
 use Rattle.std.specs.Io.KnownBytes.{Appends}
-use Rattle.schema.specs.Breaks.{told}
-use Rattle.crdx.specs.Answered.{told_lines}
+use Rattle.schema.specs.Rules.Breaks.{told}
+use Rattle.crdx.specs.Program.RunResult.{told_lines}
 use Rattle.crdx.proofs.running.say_violations.Given as goal
 
 abbrev pub invariant-loop-violation : goal.invariant-loop-violation

@@ -1,8 +1,8 @@
 use Rattle.std.proofs.Common.{◌≡◌, ◌++◌, refl, string_bytes, ◌∙◌}
 use Rattle.std.specs.Prelude.{codes}
 use Rattle.std.proofs.lemmas.Result.{IfOk-weaker}
-use Rattle.schema.specs.Breaks.{told, rule_name}
-use Rattle.crdx.specs.Answered.{told_line}
+use Rattle.schema.specs.Rules.Breaks.{told, rule_name}
+use Rattle.crdx.specs.Program.RunResult.{told_line}
 use Rattle.crdx.proofs.running.violation_line.Goals as goal
 
 pub returns : goal.returns

@@ -1,6 +1,6 @@
 use super::*;
-use crate::fakes::Limited;
-use crate::trials::{holds, is_number, is_text};
+use crate::fakes::FailingSink;
+use crate::harness::{holds, is_number, is_text};
 use std::alloc::AllocError;
 use std::process::Abort;
 use std::test::Fail;
@@ -43,13 +43,13 @@ fn is_whole(rt: &impl Abort, failures: u64, lines: usize, left: usize) {
     is_number(rt, failures, 0, "the failures", left);
 }
 
-fn is_stopped(rt: &impl Abort, failures: u64, fault: WFault, whole: u64, left: usize) {
+fn is_cut(rt: &impl Abort, failures: u64, fault: WFault, whole: u64, left: usize) {
     holds(rt, fault == WFault::Write(whole), "the count", left);
     is_number(rt, failures, 1, "the failures", left);
 }
 
 // Exactly the first `left` bytes are out, and as many whole lines are counted as end among them.
-fn try_limit(rt: &impl Abort, alloc: Global, trees: &[Tree], lines: &[u8], mut sink: Limited) {
+fn try_limit(rt: &impl Abort, alloc: Global, trees: &[Tree], lines: &[u8], mut sink: FailingSink) {
     let left = sink.left;
     let wrote = write_lines(alloc, trees, &mut sink);
     is_beginning(rt, sink.taken.as_slice(), lines, left);
@@ -57,7 +57,7 @@ fn try_limit(rt: &impl Abort, alloc: Global, trees: &[Tree], lines: &[u8], mut s
         Ok(()) => is_whole(rt, sink.failures, lines.len(), left),
         Err(fault) => {
             let whole = count_lines(sink.taken.as_slice());
-            is_stopped(rt, sink.failures, fault, whole, left);
+            is_cut(rt, sink.failures, fault, whole, left);
         }
     }
 }
@@ -70,7 +70,7 @@ fn failing_sinks(rt: HostRuntime) -> Result<(), Fail> {
     let lines = some_lines(alloc)?;
     for left in 0..lines.len() {
         for (step, answers_zero) in [(4096, false), (50, true), (1, true)] {
-            let sink = Limited::new(alloc, left, step, answers_zero);
+            let sink = FailingSink::new(alloc, left, step, answers_zero);
             try_limit(&rt, alloc, &trees, lines.as_bytes(), sink);
         }
     }
@@ -83,7 +83,7 @@ fn all_lines(rt: HostRuntime) -> Result<(), Fail> {
     let trees = some_trees(alloc)?;
     let lines = some_lines(alloc)?;
     for step in [1, 50, 4096] {
-        let sink = Limited::new(alloc, lines.len(), step, false);
+        let sink = FailingSink::new(alloc, lines.len(), step, false);
         try_limit(&rt, alloc, &trees, lines.as_bytes(), sink);
     }
     Ok(())

@@ -1,4 +1,4 @@
-use Rattle.jtree.specs.OrderLaws.{tree_total, tree_same}
+use Rattle.jtree.specs.Internal.OrderLaws.{tree_total, tree_same}
 use Rattle.jtree.proofs.OrderWords.{tree_tied}
 use Rattle.jtree.proofs.order.order_is_total.Goals as goal
 

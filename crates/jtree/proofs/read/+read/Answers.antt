@@ -22,7 +22,7 @@ read_items-loop-value-preserved t c =
     let one : take (l.value-index + 1) vs ≡ take l.value-index vs ++ v ∷ [] = take_more vs l.value-index v c.loop-value-test.true ∙ ap (λ w. take l.value-index vs ++ w ∷ []) (sym c.value-item.is) in
     record {
       read = rw (one, c.in_ok-push.ensures.items) (one_more_item (take l.value-index vs) v l.items.items c.in_ok-tree.tree l.invariant.read c.in_ok-tree.ensures.ok);
-      trees = rw c.in_ok-push.ensures.items (AreTrees-push l.items.items c.in_ok-tree.tree l.invariant.trees c.is_tree.ensures);
+      trees = rw c.in_ok-push.ensures.items (AreTrees-push l.items.items c.in_ok-tree.tree l.invariant.trees c.reveal_invariant.ensures);
     }
 
 pub read_members-returns-in_err-tree-clause-not_an_integer : goal.read_members-returns-in_err-tree-clause-not_an_integer
@@ -47,7 +47,7 @@ read_members-loop-key-preserved t c =
       done = done ++ e ∷ [];
       entries = all ∙ sym (append_assoc done (e ∷ []) left);
       read = rw c.in_ok-push.ensures.items (one_more_member done e l.members.items _ l.invariant.read c.in_ok-tree.ensures.ok (c.in_ok-name.ensures.ok ∙ c.as_str.ensures.value));
-      trees = rw c.in_ok-push.ensures.items (HaveTrees-push l.members.items _ l.invariant.trees c.is_tree.ensures);
+      trees = rw c.in_ok-push.ensures.items (HaveTrees-push l.members.items _ l.invariant.trees c.reveal_invariant.ensures);
     }
 
 pub read_members-invariant_of-result : goal.read_members-invariant_of-result

@@ -1,16 +1,16 @@
 use Rattle.std.proofs.Common.{sym, subst}
 use Rattle.jtree.specs.View.{data_of}
-use Rattle.schema.specs.Limits.{IsWithinLimits}
-use Rattle.schema.specs.LimitFault.{IsLimitFaultOf}
+use Rattle.schema.specs.Document.Limits.{IsWithinLimits}
+use Rattle.schema.specs.Internal.LimitFault.{IsLimitFaultOf}
 use Rattle.schema.proofs.SchemaFaults.{all_forms, form_fault, limit_fault}
 use Rattle.schema.proofs.definition.check_schema.Goals as goal
 
 pub returns-in-Err-clause-err : goal.returns-in-Err-clause-err
-returns-in-Err-clause-err c = form_fault (data_of c.args.schema.now) c.in-Err.fault c.is_tree.ensures c.in-Err.ensures.err
+returns-in-Err-clause-err c = form_fault (data_of c.args.schema.now) c.in-Err.fault c.reveal_invariant.ensures c.in-Err.ensures.err
 
 pub returns-in-Ok-list_places-clause-ok : goal.returns-in-Ok-list_places-clause-ok
 returns-in-Ok-list_places-clause-ok c = record {
-  forms = all_forms (data_of c.args.schema.now) c.is_tree.ensures c.in-Ok.ensures.ok;
+  forms = all_forms (data_of c.args.schema.now) c.reveal_invariant.ensures c.in-Ok.ensures.ok;
   limits = subst (λ t. IsWithinLimits (data_of t)) (sym c.in-Object.is) c.in-Ok-list_places.ensures.within;
 }
 
@@ -18,4 +18,4 @@ pub returns-in-Err-list_places-clause-err : goal.returns-in-Err-list_places-clau
 returns-in-Err-list_places-clause-err c =
     let raw = data_of c.args.schema.now in
     let e = c.in-Err-list_places.fault in
-    limit_fault raw e (all_forms raw c.is_tree.ensures c.in-Ok.ensures.ok) (subst (λ t. IsLimitFaultOf (data_of t) e) (sym c.in-Object.is) c.in-Err-list_places.ensures.err)
+    limit_fault raw e (all_forms raw c.reveal_invariant.ensures c.in-Ok.ensures.ok) (subst (λ t. IsLimitFaultOf (data_of t) e) (sym c.in-Object.is) c.in-Err-list_places.ensures.err)

@@ -1,8 +1,8 @@
 use Rattle.std.proofs.Common.{refl, subst}
 use Rattle.std.specs.Prelude.{option_map}
 use Rattle.jtree.specs.View.{data_of}
-use Rattle.schema.specs.Versions.{IsSelected}
-use Rattle.schema.specs.Crd.{no_schema}
+use Rattle.schema.specs.Internal.Versions.{IsSelected}
+use Rattle.schema.specs.Document.Crd.{no_schema}
 use Rattle.schema.proofs.CrdLemmas.{crd_from, no_head, versions_fault, lacks}
 use Rattle.schema.proofs.definition.find_definition.Goals as goal
 

@@ -1,9 +1,9 @@
 use Rattle.std.proofs.Common.{◌≡◌, ◌<◌, ◌+◌, suc, ◌∷◌, length, drop, ap, sym, ◌∙◌, subst, arith}
 use Rattle.std.proofs.lemmas.List.{drop_more}
-use Rattle.jtree.specs.Path.{name, place}
+use Rattle.jtree.specs.Path.{name, index}
 use Rattle.jtree.specs.View.{data_of, items_of, members_of}
-use Rattle.schema.specs.FormBreak.{first_break, items_break, members_break, below, IsBreakFault}
-use Rattle.schema.specs.Forms.{form_below}
+use Rattle.schema.specs.Internal.FormBreak.{first_break, items_break, members_break, below, IsBreakFault}
+use Rattle.schema.specs.Document.Forms.{form_below}
 use Rattle.schema.proofs.FormLemmas.{first_fault}
 use Rattle.schema.proofs.forms.+forms.Goals as goal
 
@@ -16,7 +16,7 @@ check_items-returns-in-Err-clause-err t c =
     let e = c.below_index.result in
     let within : i < length xs = omega arith in
     let rest = items_break form (suc i) (items_of (drop (i + 1) xs)) in
-    let here = c.below_index.ensures (first_break (form_below form (place i)) (data_of x)) (subst (λ f. IsBreakFault (first_break f (data_of x)) c.in-Err.fault) (c.form_of_items-item_form.ensures i) c.in-Err.ensures.err) in
+    let here = c.below_index.ensures (first_break (form_below form (index i)) (data_of x)) (subst (λ f. IsBreakFault (first_break f (data_of x)) c.in-Err.fault) (c.form_of_items-item_form.ensures i) c.in-Err.ensures.err) in
     let split : drop i xs ≡ x ∷ drop (i + 1) xs = drop_more xs i x within ∙ ap (λ y. y ∷ drop (i + 1) xs) (sym c.item-item.is) in
     let whole : items_of xs ≡ c.args.items.now = ap items_of c.deref-item-items.ensures.value ∙ c.items.view_is in
     subst (λ o. IsBreakFault o e) (ap (λ ys. items_break form i (items_of ys)) (sym split) ∙ c.loop-i.invariant ∙ ap (items_break form 0) whole)

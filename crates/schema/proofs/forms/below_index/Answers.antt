@@ -1,11 +1,11 @@
 use Rattle.std.proofs.Common.{◌∷◌, ◌++◌, ap, ◌∙◌, subst}
-use Rattle.jtree.specs.Path.{place}
+use Rattle.jtree.specs.Path.{index}
 use Rattle.jtree.specs.Pointer.{index_token}
-use Rattle.schema.specs.FormBreak.{below, IsBreakFault}
+use Rattle.schema.specs.Internal.FormBreak.{below, IsBreakFault}
 use Rattle.schema.proofs.forms.below_index.Goals as goal
 
 pub returns-in-Ok : goal.returns-in-Ok
 returns-in-Ok c = λ o h.
     let i = c.args.index in
     let f = subst (IsBreakFault o) c.in-KeywordForm.is h in
-    (place i ∷ f.0, c.in-Ok.ensures ∙ ap (λ xs. index_token i ++ xs) (c.as_str.ensures.value ∙ f.1), ap (below (place i)) f.2)
+    (index i ∷ f.0, c.in-Ok.ensures ∙ ap (λ xs. index_token i ++ xs) (c.as_str.ensures.value ∙ f.1), ap (below (index i)) f.2)

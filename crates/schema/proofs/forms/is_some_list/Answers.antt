@@ -2,7 +2,7 @@ use Rattle.std.proofs.Common.{ap, sym, ◌∙◌}
 use Rattle.std.specs.Prelude.{not}
 use Rattle.jtree.specs.Data.{list}
 use Rattle.jtree.specs.View.{data_of, items_of}
-use Rattle.schema.specs.Forms.{is_some_list}
+use Rattle.schema.specs.Document.Forms.{is_some_list}
 use Rattle.schema.proofs.FormLemmas.{some_items}
 use Rattle.schema.proofs.forms.is_some_list.Goals as goal
 

@@ -1,8 +1,8 @@
 use Rattle.std.proofs.Common.{◌<◌, ◌+◌, length, take, get_or, refl, ap, sym, ◌∙◌, subst, arith}
-use Rattle.schema.specs.Places.{place_pointer}
-use Rattle.schema.specs.PlaceView.{place_of}
-use Rattle.schema.specs.Visits.{IsVisit}
-use Rattle.schema.specs.Judged.{pairs_at, AreFound}
+use Rattle.schema.specs.Document.Places.{place_pointer}
+use Rattle.schema.specs.Internal.PlaceView.{place_of}
+use Rattle.schema.specs.Internal.Subschemas.{IsSubschema}
+use Rattle.schema.specs.Internal.Judged.{pairs_at, AreFound}
 use Rattle.schema.specs.declared.violation.Rule.TheVariants.{V01}
 use Rattle.schema.proofs.JudgedLemmas.{found_none, found_rule, kept_rule}
 use Rattle.schema.proofs.judging.judge_by.Goals as goal
@@ -13,7 +13,7 @@ loop-rule-init c = found_none c.args.violations.now.items
 
 pub loop-rule-preserved : goal.loop-rule-preserved
 loop-rule-preserved c =
-    let v = c.args.visit.now in
+    let v = c.args.subschema.now in
     let rules = c.args.rules.now in
     let i = c.loop-rule.rule-index in
     let old = c.args.violations.now.items in
@@ -25,8 +25,8 @@ loop-rule-preserved c =
           let r = get_or rules i V01 in
           let pointer = w.in_ok-pointer_of.ensures ∙ ap (λ steps. place_pointer (place_of steps)) w.as_slice.ensures.value in
           let more = found_rule v rules i V01 old mid (record { pointer = w.in_ok-pointer_of.field-0; rule = r }) within refl pointer w.if-is_broken.ensures c.loop-rule.invariant in
-          subst (λ vs. AreFound (λ raw. IsVisit raw v) after old vs.items) (sym w.violations-is)
-          (subst (λ vs. AreFound (λ raw. IsVisit raw v) after old vs) (sym w.in_ok-push.ensures.items) more)
+          subst (λ vs. AreFound (λ raw. IsSubschema raw v) after old vs.items) (sym w.violations-is)
+          (subst (λ vs. AreFound (λ raw. IsSubschema raw v) after old vs) (sym w.in_ok-push.ensures.items) more)
       | else-is_broken w ↦
-          subst (λ vs. AreFound (λ raw. IsVisit raw v) after old vs.items) (sym w.violations-is) (kept_rule v rules i V01 old mid within w.if-is_broken.ensures c.loop-rule.invariant)
+          subst (λ vs. AreFound (λ raw. IsSubschema raw v) after old vs.items) (sym w.violations-is) (kept_rule v rules i V01 old mid within w.if-is_broken.ensures c.loop-rule.invariant)
     ]

@@ -1,8 +1,8 @@
 use Rattle.std.proofs.Common.{sym, subst}
 use Rattle.std.specs.Prelude.{IfSome}
 use Rattle.jtree.specs.View.{data_of}
-use Rattle.schema.specs.Kinds.{IsOfKind, HasNoKind}
-use Rattle.schema.specs.KindView.{kind_view}
+use Rattle.schema.specs.Rules.Kinds.{IsOfKind, HasNoKind}
+use Rattle.schema.specs.Internal.KindView.{kind_view}
 use Rattle.schema.proofs.KindLemmas.{kind_found, none_found}
 use Rattle.schema.proofs.kinds.kind_of.Goals as goal
 

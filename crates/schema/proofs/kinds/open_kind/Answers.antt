@@ -1,7 +1,7 @@
 use Rattle.std.proofs.Common.{◌≡◌, false, refl}
 use Rattle.std.specs.Prelude.{codes}
 use Rattle.jtree.specs.Data.{object}
-use Rattle.schema.specs.Reading.{flag}
+use Rattle.schema.specs.Nodes.Keywords.{flag}
 use Rattle.schema.proofs.KindLemmas.{flag_is}
 use Rattle.schema.proofs.kinds.open_kind.Goals as goal
 

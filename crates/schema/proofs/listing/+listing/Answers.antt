@@ -5,15 +5,15 @@ use Rattle.std.proofs.lemmas.List.{drop_more, length-append}
 use Rattle.std.proofs.lemmas.Result.{on_ok_weaker}
 use Rattle.jtree.specs.Data.{list, object, IsObject}
 use Rattle.jtree.specs.View.{data_of, items_of, members_of}
-use Rattle.schema.specs.Limits.{size}
-use Rattle.schema.specs.Contexts.{StandsAs}
-use Rattle.schema.specs.Visits.{IsVisit}
-use Rattle.schema.specs.Marks.{properties, branches, most_of, is_past, a_schema, part_of, branch, word_mark, part_marks, member_marks, item_marks, schema_marks, visits_of, limit_break}
-use Rattle.schema.specs.Places.{property}
-use Rattle.schema.specs.PlaceView.{step_of, place_of, junctor_of, part_view, visit_of}
-use Rattle.schema.specs.LimitBreak.{IsLimitRefusal}
-use Rattle.schema.proofs.ListingLemmas.{HasGrown, grown_visits, grown_limit, refusal_stays, short_word}
-use Rattle.schema.proofs.ContextLemmas.{context_visit, part_stands, property_stands, branch_stands, member_stands, item_stands}
+use Rattle.schema.specs.Document.Limits.{size}
+use Rattle.schema.specs.Internal.Contexts.{StandsAs}
+use Rattle.schema.specs.Internal.Subschemas.{IsSubschema}
+use Rattle.schema.specs.Internal.Events.{properties, branches, most_of, is_past, a_schema, part_of, branch, keyword_event, part_events, member_events, item_events, schema_events, subschemas_of, limit_break}
+use Rattle.schema.specs.Document.Places.{property}
+use Rattle.schema.specs.Internal.PlaceView.{step_of, place_of, junctor_of, part_view, subschema_of}
+use Rattle.schema.specs.Internal.LimitBreak.{IsLimitRefusal}
+use Rattle.schema.proofs.ListingLemmas.{HasGrown, grown_subschemas, grown_limit, refusal_stays, short_keyword}
+use Rattle.schema.proofs.ContextLemmas.{context_subschema, part_stands, property_stands, branch_stands, member_stands, item_stands}
 use Rattle.schema.proofs.listing.+listing.Goals as goal
 
 pub list_branches-loop-i-preserved : goal.list_branches-loop-i-preserved
@@ -23,23 +23,23 @@ list_branches-loop-i-preserved t c =
     let x = c.item-item.result in
     let P = place_of c.args.place.now in
     let j = junctor_of c.args.junctor in
-    let old = c.loop-i.visits.items in
-    let new = c.list_part.new.visits.items in
+    let old = c.loop-i.subschemas.items in
+    let new = c.list_part.new.subschemas.items in
     let within : i < length xs = omega arith in
     let split : drop i xs ≡ x ∷ drop (i + 1) xs = drop_more xs i x within ∙ ap (λ y. y ∷ drop (i + 1) xs) (sym c.item-item.is) in
-    let here = part_marks P (a_schema (branch j i)) (data_of x) in
-    let rest = item_marks P j (i + 1) (items_of (drop (i + 1) xs)) in
+    let here = part_events P (a_schema (branch j i)) (data_of x) in
+    let rest = item_events P j (i + 1) (items_of (drop (i + 1) xs)) in
     let next : suc i ≡ i + 1 = omega arith in
-    let marks : item_marks P j i (items_of (drop i xs)) ≡ here ++ rest =
-    ap (λ ys. item_marks P j i (items_of ys)) split ∙ ap (λ n. here ++ item_marks P j n (items_of (drop (i + 1) xs))) next in
+    let events : item_events P j i (items_of (drop i xs)) ≡ here ++ rest =
+    ap (λ ys. item_events P j i (items_of ys)) split ∙ ap (λ n. here ++ item_events P j n (items_of (drop (i + 1) xs))) next in
     let step = c.branch-step.ensures in
     let grown : HasGrown old new here = record {
-      visits = c.in-Ok.ensures.visits ∙ ap (λ s. map visit_of old ++ visits_of (part_marks P (a_schema s) (data_of x))) step;
-      limit = ap (λ s. limit_break (length old) (part_marks P (a_schema s) (data_of x))) (sym step) ∙ c.in-Ok.ensures.ok;
+      subschemas = c.in-Ok.ensures.subschemas ∙ ap (λ s. map subschema_of old ++ subschemas_of (part_events P (a_schema s) (data_of x))) step;
+      limit = ap (λ s. limit_break (length old) (part_events P (a_schema s) (data_of x))) (sym step) ∙ c.in-Ok.ensures.ok;
     } in
     record {
-      visits = grown_visits old new here rest grown ∙ ap (λ ms. map visit_of old ++ visits_of ms) (sym marks) ∙ c.loop-i.invariant.visits;
-      limit = grown_limit old new here rest grown ∙ ap (limit_break (length old)) (sym marks) ∙ c.loop-i.invariant.limit;
+      subschemas = grown_subschemas old new here rest grown ∙ ap (λ ms. map subschema_of old ++ subschemas_of ms) (sym events) ∙ c.loop-i.invariant.subschemas;
+      limit = grown_limit old new here rest grown ∙ ap (limit_break (length old)) (sym events) ∙ c.loop-i.invariant.limit;
       contexts = λ raw s h stands all.
           let item = item_stands xs (drop (i + 1) xs) i x split in
           let here : StandsAs s (a_schema (step_of c.branch-step.result)) (data_of x) = subst (λ r. StandsAs s (a_schema r) (data_of x)) (sym step) (branch_stands s j (items_of xs) i (data_of x) stands item) in
@@ -53,16 +53,16 @@ list_branches-returns-in-Err-clause-err t c =
     let x = c.item-item.result in
     let P = place_of c.args.place.now in
     let j = junctor_of c.args.junctor in
-    let old = c.loop-i.visits.items in
+    let old = c.loop-i.subschemas.items in
     let e = c.in-Err.fault in
     let within : i < length xs = omega arith in
     let split : drop i xs ≡ x ∷ drop (i + 1) xs = drop_more xs i x within ∙ ap (λ y. y ∷ drop (i + 1) xs) (sym c.item-item.is) in
-    let here = part_marks P (a_schema (branch j i)) (data_of x) in
-    let rest = item_marks P j (suc i) (items_of (drop (i + 1) xs)) in
-    let refused = subst (λ s. IsLimitRefusal (limit_break (length old) (part_marks P (a_schema s) (data_of x))) e) c.branch-step.ensures c.in-Err.ensures.err in
+    let here = part_events P (a_schema (branch j i)) (data_of x) in
+    let rest = item_events P j (suc i) (items_of (drop (i + 1) xs)) in
+    let refused = subst (λ s. IsLimitRefusal (limit_break (length old) (part_events P (a_schema s) (data_of x))) e) c.branch-step.ensures c.in-Err.ensures.err in
     let whole : items_of xs ≡ c.args.items.now = ap items_of c.deref-item-items.ensures.value ∙ c.items.view_is in
     subst (λ o. IsLimitRefusal o e)
-    (ap (λ ys. limit_break (length old) (item_marks P j i (items_of ys))) (sym split) ∙ c.loop-i.invariant.limit ∙ ap (λ ds. limit_break (length c.args.visits.now.items) (item_marks P j 0 ds)) whole)
+    (ap (λ ys. limit_break (length old) (item_events P j i (items_of ys))) (sym split) ∙ c.loop-i.invariant.limit ∙ ap (λ ds. limit_break (length c.args.subschemas.now.items) (item_events P j 0 ds)) whole)
     (refusal_stays (length old) here rest e refused)
 
 pub list_properties-loop-property-preserved : goal.list_properties-loop-property-preserved
@@ -71,24 +71,24 @@ list_properties-loop-property-preserved t c =
     let i = c.loop-property.property-index in
     let m = c.property-item.result in
     let P = place_of c.args.place.now in
-    let old = c.loop-property.visits.items in
-    let new = c.list_part.new.visits.items in
+    let old = c.loop-property.subschemas.items in
+    let new = c.list_part.new.subschemas.items in
     let within : i < length xs = omega arith in
     let split : drop i xs ≡ m ∷ drop (i + 1) xs = drop_more xs i m within ∙ ap (λ y. y ∷ drop (i + 1) xs) (sym c.property-item.is) in
-    let here = part_marks P (a_schema (property m.name)) (data_of m.tree) in
-    let rest = member_marks P false (members_of (drop (i + 1) xs)) in
-    let marks : member_marks P false (members_of (drop i xs)) ≡ here ++ rest = ap (λ ys. member_marks P false (members_of ys)) split in
+    let here = part_events P (a_schema (property m.name)) (data_of m.tree) in
+    let rest = member_events P false (members_of (drop (i + 1) xs)) in
+    let events : member_events P false (members_of (drop i xs)) ≡ here ++ rest = ap (λ ys. member_events P false (members_of ys)) split in
     let named = c.as_str.ensures in
     let whole : members_of xs ≡ c.args.properties.now = ap members_of c.deref-property-items.ensures.value ∙ c.properties.view_is in
     let grown : HasGrown old new here = record {
-      visits = c.in-Ok.ensures.visits ∙ ap (λ k. map visit_of old ++ visits_of (part_marks P (a_schema (property k)) (data_of m.tree))) named;
-      limit = ap (λ k. limit_break (length old) (part_marks P (a_schema (property k)) (data_of m.tree))) (sym named) ∙ c.in-Ok.ensures.ok;
+      subschemas = c.in-Ok.ensures.subschemas ∙ ap (λ k. map subschema_of old ++ subschemas_of (part_events P (a_schema (property k)) (data_of m.tree))) named;
+      limit = ap (λ k. limit_break (length old) (part_events P (a_schema (property k)) (data_of m.tree))) (sym named) ∙ c.in-Ok.ensures.ok;
     } in
     record {
-      visits = grown_visits old new here rest grown ∙ ap (λ ms. map visit_of old ++ visits_of ms) (sym marks) ∙ c.loop-property.invariant.visits;
-      limit = grown_limit old new here rest grown ∙ ap (limit_break (length old)) (sym marks) ∙ c.loop-property.invariant.limit;
+      subschemas = grown_subschemas old new here rest grown ∙ ap (λ ms. map subschema_of old ++ subschemas_of ms) (sym events) ∙ c.loop-property.invariant.subschemas;
+      limit = grown_limit old new here rest grown ∙ ap (limit_break (length old)) (sym events) ∙ c.loop-property.invariant.limit;
       contexts = λ raw s h stands all.
-          let member = member_stands xs (drop (i + 1) xs) i m (subst IsObject (sym whole) c.is_object.ensures) split in
+          let member = member_stands xs (drop (i + 1) xs) i m (subst IsObject (sym whole) c.reveal_invariant.ensures) split in
           let here : StandsAs s (a_schema (property c.as_str.result.now)) (data_of m.tree) =
           subst (λ k. StandsAs s (a_schema (property k)) (data_of m.tree)) (sym named) (property_stands s (members_of xs) m.name (data_of m.tree) stands member) in
           c.in-Ok.ensures.contexts raw s h here (c.loop-property.invariant.contexts raw s h stands all);
@@ -100,99 +100,99 @@ list_properties-returns-in-Err-clause-err t c =
     let i = c.loop-property.property-index in
     let m = c.property-item.result in
     let P = place_of c.args.place.now in
-    let old = c.loop-property.visits.items in
+    let old = c.loop-property.subschemas.items in
     let e = c.in-Err.fault in
     let within : i < length xs = omega arith in
     let split : drop i xs ≡ m ∷ drop (i + 1) xs = drop_more xs i m within ∙ ap (λ y. y ∷ drop (i + 1) xs) (sym c.property-item.is) in
-    let here = part_marks P (a_schema (property m.name)) (data_of m.tree) in
-    let rest = member_marks P false (members_of (drop (i + 1) xs)) in
-    let refused = subst (λ k. IsLimitRefusal (limit_break (length old) (part_marks P (a_schema (property k)) (data_of m.tree))) e) c.as_str.ensures c.in-Err.ensures.err in
+    let here = part_events P (a_schema (property m.name)) (data_of m.tree) in
+    let rest = member_events P false (members_of (drop (i + 1) xs)) in
+    let refused = subst (λ k. IsLimitRefusal (limit_break (length old) (part_events P (a_schema (property k)) (data_of m.tree))) e) c.as_str.ensures c.in-Err.ensures.err in
     let whole : members_of xs ≡ c.args.properties.now = ap members_of c.deref-property-items.ensures.value ∙ c.properties.view_is in
     subst (λ o. IsLimitRefusal o e)
-    (ap (λ ys. limit_break (length old) (member_marks P false (members_of ys))) (sym split) ∙ c.loop-property.invariant.limit ∙ ap (λ ms. limit_break (length c.args.visits.now.items) (member_marks P false ms)) whole)
+    (ap (λ ys. limit_break (length old) (member_events P false (members_of ys))) (sym split) ∙ c.loop-property.invariant.limit ∙ ap (λ ms. limit_break (length c.args.subschemas.now.items) (member_events P false ms)) whole)
     (refusal_stays (length old) here rest e refused)
 
 pub list_schema-returns-in-Err-clause-err : goal.list_schema-returns-in-Err-clause-err
 list_schema-returns-in-Err-clause-err t c =
     let P = place_of c.args.place.now in
     let ms = c.args.members.now in
-    let same : c.len.result ≡ length c.args.visits.now.items = omega arith in
-    subst (λ n. IsLimitRefusal (limit_break n (schema_marks P ms)) c.in-Err.fault) same (c.in-Err.ensures.err (object ms) (member_marks P true ms))
+    let same : c.len.result ≡ length c.args.subschemas.now.items = omega arith in
+    subst (λ n. IsLimitRefusal (limit_break n (schema_events P ms)) c.in-Err.fault) same (c.in-Err.ensures.err (object ms) (member_events P true ms))
 
 pub list_schema-returns-clause-ok : goal.list_schema-returns-clause-ok
 list_schema-returns-clause-ok t c =
     let P = place_of c.args.place.now in
     let ms = c.args.members.now in
-    let marks = member_marks P true ms in
-    let r = c.list_words.result in
-    let same : c.len.result ≡ length c.args.visits.now.items = omega arith in
+    let events = member_events P true ms in
+    let r = c.list_keywords.result in
+    let same : c.len.result ≡ length c.args.subschemas.now.items = omega arith in
     let pushed = simp length-append at (ap length c.in_ok-push.ensures.items) in
     let count : suc c.len.result ≡ length c.push.new.self.items = omega (arith, pushed) in
-    on_ok_weaker r (λ e. ap (λ n. limit_break n (schema_marks P ms)) (sym same) ∙ c.in-Ok.ensures.ok (object ms) marks ∙ ap (λ n. limit_break n marks) count ∙ e) c.list_words.ensures.ok
+    on_ok_weaker r (λ e. ap (λ n. limit_break n (schema_events P ms)) (sym same) ∙ c.in-Ok.ensures.ok (object ms) events ∙ ap (λ n. limit_break n events) count ∙ e) c.list_keywords.ensures.ok
 
 pub list_schema-returns-clause-err : goal.list_schema-returns-clause-err
 list_schema-returns-clause-err t c =
     let P = place_of c.args.place.now in
     let ms = c.args.members.now in
-    let marks = member_marks P true ms in
-    let r = c.list_words.result in
-    let same : c.len.result ≡ length c.args.visits.now.items = omega arith in
+    let events = member_events P true ms in
+    let r = c.list_keywords.result in
+    let same : c.len.result ≡ length c.args.subschemas.now.items = omega arith in
     let pushed = simp length-append at (ap length c.in_ok-push.ensures.items) in
     let count : suc c.len.result ≡ length c.push.new.self.items = omega (arith, pushed) in
-    let along : limit_break (length c.push.new.self.items) marks ≡ limit_break (length c.args.visits.now.items) (schema_marks P ms) =
-    ap (λ n. limit_break n marks) (sym count) ∙ sym (c.in-Ok.ensures.ok (object ms) marks) ∙ ap (λ n. limit_break n (schema_marks P ms)) same in
-    subst (λ o. IfErr r (IsLimitRefusal o)) along c.list_words.ensures.err
+    let along : limit_break (length c.push.new.self.items) events ≡ limit_break (length c.args.subschemas.now.items) (schema_events P ms) =
+    ap (λ n. limit_break n events) (sym count) ∙ sym (c.in-Ok.ensures.ok (object ms) events) ∙ ap (λ n. limit_break n (schema_events P ms)) same in
+    subst (λ o. IfErr r (IsLimitRefusal o)) along c.list_keywords.ensures.err
 
-pub list_words-returns-in-Err-clause-err : goal.list_words-returns-in-Err-clause-err
-list_words-returns-in-Err-clause-err t c =
+pub list_keywords-returns-in-Err-clause-err : goal.list_keywords-returns-in-Err-clause-err
+list_keywords-returns-in-Err-clause-err t c =
     let xs = c.deref-member-items.result.now in
     let i = c.loop-member.member-index in
     let m = c.member-item.result in
     let d = data_of m.tree in
     let P = place_of c.args.place.now in
-    let old = c.loop-member.visits.items in
+    let old = c.loop-member.subschemas.items in
     let e = c.in-Err.fault in
     let within : i < length xs = omega arith in
     let split : drop i xs ≡ m ∷ drop (i + 1) xs = drop_more xs i m within ∙ ap (λ y. y ∷ drop (i + 1) xs) (sym c.member-item.is) in
-    let named = c.as_str-word.ensures in
-    let here = part_marks P (part_of m.name) d in
-    let rest = member_marks P true (members_of (drop (i + 1) xs)) in
+    let named = c.as_str-keyword.ensures in
+    let here = part_events P (part_of m.name) d in
+    let rest = member_events P true (members_of (drop (i + 1) xs)) in
     let part : part_view c.part_of.result ≡ part_of m.name = c.part_of.ensures ∙ ap part_of named in
-    let short : word_mark P m.name d ≡ [] = short_word P m.name d (ap (λ k. is_past (most_of k) (size d)) (sym named) ∙ sym c.if-is_too_long.ensures) in
-    let marks : member_marks P true (members_of (drop i xs)) ≡ here ++ rest = ap (λ ys. member_marks P true (members_of ys)) split ∙ ap (λ ws. ws ++ (here ++ rest)) short in
-    let refused = subst (λ p. IsLimitRefusal (limit_break (length old) (part_marks P p d)) e) part c.in-Err.ensures.err in
+    let short : keyword_event P m.name d ≡ [] = short_keyword P m.name d (ap (λ k. is_past (most_of k) (size d)) (sym named) ∙ sym c.if-is_too_long.ensures) in
+    let events : member_events P true (members_of (drop i xs)) ≡ here ++ rest = ap (λ ys. member_events P true (members_of ys)) split ∙ ap (λ ws. ws ++ (here ++ rest)) short in
+    let refused = subst (λ p. IsLimitRefusal (limit_break (length old) (part_events P p d)) e) part c.in-Err.ensures.err in
     let whole : members_of xs ≡ c.args.members.now = ap members_of c.deref-member-items.ensures.value ∙ c.members.view_is in
     subst (λ o. IsLimitRefusal o e)
-    (ap (limit_break (length old)) (sym marks) ∙ c.loop-member.invariant.limit ∙ ap (λ ms. limit_break (length c.args.visits.now.items) (member_marks P true ms)) whole)
+    (ap (limit_break (length old)) (sym events) ∙ c.loop-member.invariant.limit ∙ ap (λ ms. limit_break (length c.args.subschemas.now.items) (member_events P true ms)) whole)
     (refusal_stays (length old) here rest e refused)
 
-pub list_words-loop-member-preserved : goal.list_words-loop-member-preserved
-list_words-loop-member-preserved t c =
+pub list_keywords-loop-member-preserved : goal.list_keywords-loop-member-preserved
+list_keywords-loop-member-preserved t c =
     let xs = c.deref-member-items.result.now in
     let i = c.loop-member.member-index in
     let m = c.member-item.result in
     let d = data_of m.tree in
     let P = place_of c.args.place.now in
-    let old = c.loop-member.visits.items in
-    let new = c.list_part.new.visits.items in
+    let old = c.loop-member.subschemas.items in
+    let new = c.list_part.new.subschemas.items in
     let within : i < length xs = omega arith in
     let split : drop i xs ≡ m ∷ drop (i + 1) xs = drop_more xs i m within ∙ ap (λ y. y ∷ drop (i + 1) xs) (sym c.member-item.is) in
-    let named = c.as_str-word.ensures in
-    let here = part_marks P (part_of m.name) d in
-    let rest = member_marks P true (members_of (drop (i + 1) xs)) in
+    let named = c.as_str-keyword.ensures in
+    let here = part_events P (part_of m.name) d in
+    let rest = member_events P true (members_of (drop (i + 1) xs)) in
     let part : part_view c.part_of.result ≡ part_of m.name = c.part_of.ensures ∙ ap part_of named in
-    let short : word_mark P m.name d ≡ [] = short_word P m.name d (ap (λ k. is_past (most_of k) (size d)) (sym named) ∙ sym c.if-is_too_long.ensures) in
-    let marks : member_marks P true (members_of (drop i xs)) ≡ here ++ rest = ap (λ ys. member_marks P true (members_of ys)) split ∙ ap (λ ws. ws ++ (here ++ rest)) short in
+    let short : keyword_event P m.name d ≡ [] = short_keyword P m.name d (ap (λ k. is_past (most_of k) (size d)) (sym named) ∙ sym c.if-is_too_long.ensures) in
+    let events : member_events P true (members_of (drop i xs)) ≡ here ++ rest = ap (λ ys. member_events P true (members_of ys)) split ∙ ap (λ ws. ws ++ (here ++ rest)) short in
     let whole : members_of xs ≡ c.args.members.now = ap members_of c.deref-member-items.ensures.value ∙ c.members.view_is in
     let grown : HasGrown old new here = record {
-      visits = c.in-Ok.ensures.visits ∙ ap (λ p. map visit_of old ++ visits_of (part_marks P p d)) part;
-      limit = ap (λ p. limit_break (length old) (part_marks P p d)) (sym part) ∙ c.in-Ok.ensures.ok;
+      subschemas = c.in-Ok.ensures.subschemas ∙ ap (λ p. map subschema_of old ++ subschemas_of (part_events P p d)) part;
+      limit = ap (λ p. limit_break (length old) (part_events P p d)) (sym part) ∙ c.in-Ok.ensures.ok;
     } in
     record {
-      visits = grown_visits old new here rest grown ∙ ap (λ ms. map visit_of old ++ visits_of ms) (sym marks) ∙ c.loop-member.invariant.visits;
-      limit = grown_limit old new here rest grown ∙ ap (limit_break (length old)) (sym marks) ∙ c.loop-member.invariant.limit;
+      subschemas = grown_subschemas old new here rest grown ∙ ap (λ ms. map subschema_of old ++ subschemas_of ms) (sym events) ∙ c.loop-member.invariant.subschemas;
+      limit = grown_limit old new here rest grown ∙ ap (limit_break (length old)) (sym events) ∙ c.loop-member.invariant.limit;
       contexts = λ raw h all.
-          let member = member_stands xs (drop (i + 1) xs) i m (subst IsObject (sym whole) c.is_object.ensures) split in
+          let member = member_stands xs (drop (i + 1) xs) i m (subst IsObject (sym whole) c.reveal_invariant.ensures) split in
           let here : StandsAs (object (members_of xs)) (part_view c.part_of.result) d = subst (λ p. StandsAs (object (members_of xs)) p d) (sym part) (part_stands (members_of xs) m.name d member) in
           c.in-Ok.ensures.contexts raw (object (members_of xs)) h here (c.loop-member.invariant.contexts raw h all);
     }
@@ -224,6 +224,6 @@ list_schema-returns-clause-contexts t c =
     let P = place_of c.args.place.now in
     let steps = c.in_ok-copied.field-0 in
     let same : place_of steps.items ≡ P = c.in_ok-copied.ensures.ok in
-    on_ok_weaker c.list_words.result
-    (λ e raw h all. e raw h (subst (All (IsVisit raw)) (sym c.in_ok-push.ensures.items) (All-append (IsVisit raw) c.args.visits.now.items _ all (All-cons (IsVisit raw) _ [] (context_visit raw P c.args.context _ same refl refl h) (All-nil (IsVisit raw))))))
-    c.list_words.ensures.contexts
+    on_ok_weaker c.list_keywords.result
+    (λ e raw h all. e raw h (subst (All (IsSubschema raw)) (sym c.in_ok-push.ensures.items) (All-append (IsSubschema raw) c.args.subschemas.now.items _ all (All-cons (IsSubschema raw) _ [] (context_subschema raw P c.args.context _ same refl refl h) (All-nil (IsSubschema raw))))))
+    c.list_keywords.ensures.contexts

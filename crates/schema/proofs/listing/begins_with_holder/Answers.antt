@@ -1,7 +1,7 @@
 use Rattle.std.proofs.Common.{◌≡◌, sym, ap, ◌∙◌}
 use Rattle.jtree.specs.Data.{list, item}
 use Rattle.jtree.specs.View.{data_of, items_of}
-use Rattle.schema.specs.Rules.{holder}
+use Rattle.schema.specs.Rules.Broken.{holder}
 use Rattle.schema.proofs.PatternLemmas.{first_item}
 use Rattle.schema.proofs.listing.begins_with_holder.Goals as goal
 

@@ -2,7 +2,7 @@ use Rattle.std.proofs.Common.{Some, sym, ap, ◌∙◌}
 use Rattle.std.specs.Prelude.{codes}
 use Rattle.std.proofs.lemmas.Option.{same_Some}
 use Rattle.jtree.specs.View.{data_of}
-use Rattle.schema.specs.Rules.{pattern}
+use Rattle.schema.specs.Rules.Broken.{pattern}
 use Rattle.schema.proofs.PatternLemmas.{single, single_under}
 use Rattle.schema.proofs.listing.is_holder.Goals as goal
 

@@ -1,8 +1,8 @@
 use Rattle.std.proofs.Common.{◌≡◌, take}
 use Rattle.std.specs.Prelude.{string_bytes}
 use Rattle.jtree.specs.Pointer.{pointer}
-use Rattle.schema.specs.Places.{place_path}
-use Rattle.schema.specs.PlaceView.{place_of}
+use Rattle.schema.specs.Document.Places.{place_path}
+use Rattle.schema.specs.Internal.PlaceView.{place_of}
 use Rattle.schema.proofs.places.pointer_of.Given as goal
 
 -- the text is the pointer of the steps so far

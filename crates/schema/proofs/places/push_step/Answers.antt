@@ -3,8 +3,8 @@ use Rattle.std.specs.Prelude.{string_bytes, codes}
 use Rattle.std.proofs.lemmas.List.{append-nil, append_assoc}
 use Rattle.std.proofs.lemmas.Result.{on_ok_weaker}
 use Rattle.jtree.specs.Pointer.{name_token, pointer}
-use Rattle.schema.specs.Places.{step_path}
-use Rattle.schema.specs.PlaceView.{step_of}
+use Rattle.schema.specs.Document.Places.{step_path}
+use Rattle.schema.specs.Internal.PlaceView.{step_of}
 use Rattle.schema.proofs.places.push_step.Goals as goal
 
 pub returns-in_ok-push_name-in-Property : goal.returns-in_ok-push_name-in-Property

@@ -1,6 +1,6 @@
 use Rattle.std.proofs.Common.{◌≡◌, ◌-◌, ◌<◌, suc, length, ap, sym, ◌∙◌, arith}
-use Rattle.schema.specs.PlaceView.{step_of}
-use Rattle.schema.specs.Rules.{is_field}
+use Rattle.schema.specs.Internal.PlaceView.{step_of}
+use Rattle.schema.specs.Rules.Broken.{is_field}
 use Rattle.schema.proofs.RuleLemmas.{ends_at}
 use Rattle.schema.proofs.rules.ends_in_field.Goals as goal
 

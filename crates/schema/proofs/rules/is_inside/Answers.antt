@@ -1,7 +1,7 @@
 use Rattle.std.proofs.Common.{◌<◌, ◌+◌, length, drop, sym, ◌∙◌, arith}
 use Rattle.std.proofs.lemmas.List.{at_drop_more}
-use Rattle.schema.specs.Places.{is_inside}
-use Rattle.schema.specs.PlaceView.{place_of}
+use Rattle.schema.specs.Document.Places.{is_inside}
+use Rattle.schema.specs.Internal.PlaceView.{place_of}
 use Rattle.schema.proofs.RuleLemmas.{inside_next, inside_here}
 use Rattle.schema.proofs.rules.is_inside.Goals as goal
 

@@ -1,6 +1,6 @@
 use Rattle.std.proofs.Common.{◌≡◌, drop}
-use Rattle.schema.specs.Places.{is_inside}
-use Rattle.schema.specs.PlaceView.{place_of}
+use Rattle.schema.specs.Document.Places.{is_inside}
+use Rattle.schema.specs.Internal.PlaceView.{place_of}
 use Rattle.schema.proofs.rules.is_inside.Given as goal
 
 -- the place is inside exactly where what is left of it is

@@ -1,7 +1,7 @@
 use Rattle.std.proofs.Common.{sym, subst}
 use Rattle.std.specs.Prelude.{◌↔◌, not, IsTrue}
-use Rattle.schema.specs.PlaceView.{step_of}
-use Rattle.schema.specs.RuleParts.{IsOtherName}
+use Rattle.schema.specs.Internal.PlaceView.{step_of}
+use Rattle.schema.specs.Internal.RuleParts.{IsOtherName}
 use Rattle.schema.proofs.RuleLemmas.{other_name}
 use Rattle.schema.proofs.rules.is_other_name.Goals as goal
 

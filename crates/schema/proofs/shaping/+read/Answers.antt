@@ -4,11 +4,11 @@ use Rattle.std.specs.Prelude.{codes}
 use Rattle.jtree.specs.Data.{object, IsObject}
 use Rattle.jtree.specs.Path.{member_at, under}
 use Rattle.jtree.specs.View.{data_of, members_of}
-use Rattle.schema.specs.Reading.{texts_under}
-use Rattle.schema.specs.NodeView.{fields_of}
-use Rattle.schema.specs.Shape.{AreFieldsOf, declared_of}
+use Rattle.schema.specs.Nodes.Keywords.{texts_under}
+use Rattle.schema.specs.Nodes.View.{fields_of}
+use Rattle.schema.specs.Nodes.Shape.{AreFieldsOf, declared_of}
 use Rattle.schema.proofs.ShapeLemmas.{has_node, member_named, list_has_items, list_nodes, map_has_values, map_nodes, property_nodes, declared_dropped, push_field, declared_object, push_nodes, fields_ordered}
-use Rattle.schema.proofs.NodeLemmas.{under_falls, member_falls}
+use Rattle.schema.proofs.NodeLemmas.{under_decreases, member_decreases}
 use Rattle.schema.proofs.shaping.+read.Goals as goal
 
 pub read_field-read_node-requires : goal.read_field-read_node-requires
@@ -27,8 +27,8 @@ read_fields-read_field-requires t c =
     let ms = c.args.properties.now in
     let whole : members_of xs ≡ ms = ap members_of c.deref-property-items.ensures.value ∙ c.properties.view_is in
     let named : member_at m.name ms ≡ Some (data_of m.tree) =
-    subst (λ ns. member_at m.name ns ≡ Some (data_of m.tree)) whole (member_named xs c.loop-property.property-index m (omega arith) c.property-item.is (subst IsObject (sym whole) c.is_object.ensures)) in
-    let below = member_falls m.name ms (data_of m.tree) named in
+    subst (λ ns. member_at m.name ns ≡ Some (data_of m.tree)) whole (member_named xs c.loop-property.property-index m (omega arith) c.property-item.is (subst IsObject (sym whole) c.reveal_invariant.ensures)) in
+    let below = member_decreases m.name ms (data_of m.tree) named in
     (omega (arith, below, c.decreases), c.requires m.name (data_of m.tree) named (sym c.if-not-is_declared.ensures))
 
 pub read_fields-loop-property-preserved-then-not-is_declared : goal.read_fields-loop-property-preserved-then-not-is_declared
@@ -59,7 +59,7 @@ read_fields-loop-property-preserved t c =
     let is = c.in_ok-field.ensures.field in
     record {
       fields = rw (pushed, more) (push_field root old f names (take i xs) m (sym c.if-not-is_declared.ensures) c.loop-property.invariant.fields is.name is.node is.required is.default);
-      nodes = rw pushed (push_nodes old f c.loop-property.invariant.nodes c.is_node.ensures);
+      nodes = rw pushed (push_nodes old f c.loop-property.invariant.nodes c.reveal_invariant-in-loop-property.ensures);
     }
 
 pub read_object-read_fields-requires : goal.read_object-read_fields-requires
@@ -67,7 +67,7 @@ read_object-read_fields-requires t c =
     let s = data_of c.args.schema.now in
     let ms = c.in-Some-Object.properties in
     let at : under s (codes "properties") ≡ Some (object ms) = sym c.in-Some-Object.ensures ∙ ap (λ x. Some (data_of x)) c.in-Some-Object.field-0-is in
-    let below = under_falls s (codes "properties") (object ms) at in
+    let below = under_decreases s (codes "properties") (object ms) at in
     (omega (arith, below, c.decreases), property_nodes c.args.root s ms c.requires.nodes at)
 
 pub read_fields-invariant_of-result : goal.read_fields-invariant_of-result
@@ -79,7 +79,7 @@ read_fields-invariant_of-result t c =
     let whole : members_of (take i xs) ≡ c.args.properties.now = ap members_of all ∙ ap members_of c.deref-property-items.ensures.value ∙ c.properties.view_is in
     fields_ordered (fields_of c.loop-property.fields.items) (texts_under (data_of c.args.schema.now) (codes "required")) (declared_of root (members_of (take i xs)))
     c.loop-property.invariant.fields c.loop-property.invariant.nodes
-    (declared_object root (members_of (take i xs)) (subst IsObject (sym whole) c.is_object.ensures))
+    (declared_object root (members_of (take i xs)) (subst IsObject (sym whole) c.reveal_invariant.ensures))
 
 pub read_fields-returns-clause-fields : goal.read_fields-returns-clause-fields
 read_fields-returns-clause-fields t c =
@@ -94,7 +94,7 @@ pub read_list-read_below-requires : goal.read_list-read_below-requires
 read_list-read_below-requires t c =
     let s = data_of c.args.schema.now in
     let d = data_of c.in-Some.below.now in
-    let below = under_falls s (codes "items") d (sym c.in-Some.ensures) in
+    let below = under_decreases s (codes "items") d (sym c.in-Some.ensures) in
     (omega (arith, below, c.decreases), list_nodes c.args.root s d c.requires.nodes c.requires.kind (sym c.in-Some.ensures))
 
 pub read_list-unreachable-requires : goal.read_list-unreachable-requires
@@ -104,7 +104,7 @@ pub read_map-read_below-requires : goal.read_map-read_below-requires
 read_map-read_below-requires t c =
     let s = data_of c.args.schema.now in
     let d = data_of c.in-Some.below.now in
-    let below = under_falls s (codes "additionalProperties") d (sym c.in-Some.ensures) in
+    let below = under_decreases s (codes "additionalProperties") d (sym c.in-Some.ensures) in
     (omega (arith, below, c.decreases), map_nodes c.args.root s d c.requires.nodes c.requires.kind (sym c.in-Some.ensures))
 
 pub read_map-unreachable-requires : goal.read_map-unreachable-requires

@@ -2,10 +2,10 @@ use Rattle.std.proofs.Common.{◌+◌, ◌*◌, take}
 use Rattle.std.specs.Prelude.{codes}
 use Rattle.jtree.specs.Data.{depth, members_depth}
 use Rattle.jtree.specs.View.{data_of, members_of}
-use Rattle.schema.specs.Reading.{texts_under}
-use Rattle.schema.specs.NodeView.{fields_of}
-use Rattle.schema.specs.Shape.{AreFieldsOf, declared_of}
-use Rattle.schema.specs.Building.{AreNodes}
+use Rattle.schema.specs.Nodes.Keywords.{texts_under}
+use Rattle.schema.specs.Nodes.View.{fields_of}
+use Rattle.schema.specs.Nodes.Shape.{AreFieldsOf, declared_of}
+use Rattle.schema.specs.Internal.Building.{AreNodes}
 use Rattle.schema.proofs.shaping.+read.Given as goal
 
 abbrev pub decreases-read_node : goal.decreases-read_node

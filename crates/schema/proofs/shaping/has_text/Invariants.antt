@@ -1,7 +1,7 @@
 use Rattle.std.proofs.Common.{◌≡◌, drop}
 use Rattle.jtree.specs.View.{items_of}
-use Rattle.schema.specs.Forms.{is_among}
-use Rattle.schema.specs.Reading.{texts_of}
+use Rattle.schema.specs.Document.Texts.{is_among}
+use Rattle.schema.specs.Nodes.Keywords.{texts_of}
 use Rattle.schema.proofs.shaping.has_text.Given as goal
 
 -- the text is among those that are left exactly where it is among all

@@ -1,9 +1,9 @@
 use Rattle.std.proofs.Common.{true, refl, sym, ap, ◌∙◌, subst}
 use Rattle.std.specs.Prelude.{Ok}
-use Rattle.schema.specs.Building.{HasNodes}
+use Rattle.schema.specs.Internal.Building.{HasNodes}
 use Rattle.schema.proofs.shaping.shape.Goals as goal
 
 -- no place lacks a node
 pub read_node-requires : goal.read_node-requires
 read_node-requires c =
-    subst (HasNodes true) (sym c.tree.ensures) (λ p outside other at. c.first_without_node.ensures.none (c.in-Ok-None.is ∙ ap Ok c.in-Ok-None.field-0-is) p (outside, other refl, at))
+    subst (HasNodes true) (sym c.tree.ensures.data) (λ p outside other at. c.first_without_node.ensures.none (c.in-Ok-None.is ∙ ap Ok c.in-Ok-None.field-0-is) p (outside, other refl, at))

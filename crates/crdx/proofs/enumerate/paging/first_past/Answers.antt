@@ -1,9 +1,9 @@
 use Rattle.std.proofs.Common.{◌≡◌, ◌+◌, ◌<◌, [], ◌∷◌, ◌++◌, length, take, drop, ap, sym, ◌∙◌, subst, arith}
 use Rattle.std.proofs.lemmas.List.{take_all, map-append}
 use Rattle.jtree.specs.View.{data_of}
-use Rattle.crdx.specs.Handed.{handed}
-use Rattle.crdx.specs.Values.{trees_of, AreSamples}
-use Rattle.crdx.specs.Building.{IsNext}
+use Rattle.crdx.specs.Samples.View.{resume_point}
+use Rattle.crdx.specs.Internal.Values.{trees_of, AreSamples}
+use Rattle.crdx.specs.Internal.Building.{IsNext}
 use Rattle.crdx.proofs.PageBuild.{IsSoFar, InOrder, in_order, in_order_before, push_next, skip_listed, page_to_end, page_full, trees_around, trees_so_far, length_trees}
 use Rattle.crdx.proofs.enumerate.paging.first_past.Goals as goal
 use Rattle.crdx.proofs.enumerate.paging.first_past.Goals.{then-is_next+else-len-count+in_ok-copy+in_ok-push, else-is_next}
@@ -13,7 +13,7 @@ loop-tree-preserved c =
     let ts = c.args.sorted.now in
     let i = c.loop-tree.tree-index in
     let t = c.tree-item.result in
-    let after = handed c.args.after in
+    let after = resume_point c.args.after in
     let front = trees_of (take i ts) in
     let v = data_of t in
     let old = c.loop-tree.items.items in
@@ -40,7 +40,7 @@ returns-then-len-count-clause-ok c = λ q are.
     let ts = c.args.sorted.now in
     let i = c.loop-tree.tree-index in
     let t = c.tree-item.result in
-    let after = handed c.args.after in
+    let after = resume_point c.args.after in
     let front = trees_of (take i ts) in
     let v = data_of t in
     let rest = trees_of (drop (i + 1) ts) in
@@ -54,7 +54,7 @@ returns-then-len-count-clause-ok c = λ q are.
 pub returns-clause-ok : goal.returns-clause-ok
 returns-clause-ok c = λ q are.
     let ts = c.args.sorted.now in
-    let after = handed c.args.after in
+    let after = resume_point c.args.after in
     let items = trees_of c.loop-tree.items.items in
     let all : take c.loop-tree.tree-index ts ≡ ts = take_all c.loop-tree.tree-index ts (omega arith) in
     page_to_end q after c.args.count (trees_of ts) items are (subst (λ us. IsSoFar after c.args.count (trees_of us) items) all c.loop-tree.invariant)

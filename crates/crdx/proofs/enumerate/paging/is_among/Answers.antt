@@ -1,5 +1,5 @@
 use Rattle.std.proofs.Common.{sym, ◌∙◌, inl, inr}
-use Rattle.jtree.specs.Lookups.{bool_cases}
+use Rattle.jtree.specs.Internal.Lookups.{bool_cases}
 use Rattle.crdx.proofs.PageBuild.{found_tree, absent_tree}
 use Rattle.crdx.proofs.enumerate.paging.is_among.Goals as goal
 

@@ -1,4 +1,4 @@
-use Rattle.jtree.specs.OrderLaws.{tree_total}
+use Rattle.jtree.specs.Internal.OrderLaws.{tree_total}
 use Rattle.crdx.proofs.PageLemmas.{same_items, same_end}
 use Rattle.crdx.proofs.enumerate.paging.pages_agree.Goals as goal
 

@@ -1,7 +1,7 @@
 use Rattle.std.proofs.Common.{◌⊎◌, ◌↔◌, ◌∷◌, [], Contains, take}
 use Rattle.jtree.specs.Data.{Members}
 use Rattle.jtree.specs.View.{data_of}
-use Rattle.crdx.specs.Values.{IsExtendedRow}
+use Rattle.crdx.specs.Internal.Values.{IsExtendedRow}
 use Rattle.crdx.proofs.enumerate.rows.extend_by.Given as goal
 
 -- the rows so far are extended

@@ -1,6 +1,6 @@
 use Rattle.std.proofs.Common.{drop}
-use Rattle.crdx.specs.NodeView.{fields_of}
-use Rattle.crdx.specs.Values.{AreRowsOf}
+use Rattle.crdx.specs.Objects.NodeView.{fields_of}
+use Rattle.crdx.specs.Internal.Values.{AreRowsOf}
 use Rattle.crdx.proofs.enumerate.values.+values.Given as goal
 
 -- the rows of the fields from the place on

@@ -1,7 +1,7 @@
 use Rattle.std.proofs.Common.{sym, subst}
 use Rattle.std.proofs.lemmas.Result.{IfOk-weaker}
-use Rattle.crdx.specs.Node.{scalar, boolean, integer}
-use Rattle.crdx.specs.Values.{AreValuesOf}
+use Rattle.crdx.specs.Objects.Node.{scalar, boolean, integer}
+use Rattle.crdx.specs.Internal.Values.{AreValuesOf}
 use Rattle.crdx.proofs.ValueLemmas.{boolean_values, integer_values}
 use Rattle.crdx.proofs.enumerate.values.scalars.Goals as goal
 

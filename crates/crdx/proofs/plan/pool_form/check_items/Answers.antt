@@ -1,9 +1,9 @@
 use Rattle.std.proofs.Common.{[], ◌∷◌, ◌++◌, ap, sym, ◌∙◌}
 use Rattle.std.proofs.lemmas.List.{append-nil}
 use Rattle.std.specs.Prelude.{option_map}
-use Rattle.jtree.specs.Path.{name, place}
+use Rattle.jtree.specs.Path.{name, index}
 use Rattle.jtree.specs.Pointer.{name_token, index_token}
-use Rattle.crdx.specs.PoolForm.{below_name}
+use Rattle.crdx.specs.Internal.PoolForm.{below_name}
 use Rattle.crdx.proofs.plan.pool_form.check_items.Goals as goal
 
 pub returns-in_ok-push_index-in-Some-clause-err : goal.returns-in_ok-push_index-in-Some-clause-err
@@ -12,7 +12,7 @@ returns-in_ok-push_index-in-Some-clause-err c =
     let i = c.in-Some.i in
     let pushed = c.in_ok-push_index-in-Some.ensures.ok in
     let named = c.in_ok-pointer-in-Some.ensures.ok in (
-      name k ∷ place i ∷ [],
+      name k ∷ index i ∷ [],
       pushed ∙ ap (λ xs. xs ++ index_token i) named ∙ ap (λ xs. name_token k ++ xs) (sym (append-nil (index_token i))),
-      ap (λ o. below_name k (option_map (λ j. place j ∷ []) o)) (sym c.in-Some.ensures),
+      ap (λ o. below_name k (option_map (λ j. index j ∷ []) o)) (sym c.in-Some.ensures),
     )

@@ -1,6 +1,6 @@
 use Rattle.std.proofs.Common.{◌≡◌, drop}
 use Rattle.jtree.specs.View.{members_of}
-use Rattle.crdx.specs.PoolForm.{members_break}
+use Rattle.crdx.specs.Internal.PoolForm.{members_break}
 use Rattle.crdx.proofs.plan.pool_form.check_members.Given as goal
 
 abbrev pub invariant-loop-member : goal.invariant-loop-member

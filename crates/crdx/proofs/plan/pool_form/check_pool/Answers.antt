@@ -2,7 +2,7 @@ use Rattle.std.proofs.Common.{[], ◌∷◌, ap, sym, ◌∙◌}
 use Rattle.std.proofs.lemmas.List.{append-nil}
 use Rattle.jtree.specs.Path.{name}
 use Rattle.jtree.specs.Pointer.{name_token}
-use Rattle.crdx.specs.PoolForm.{below_name}
+use Rattle.crdx.specs.Internal.PoolForm.{below_name}
 use Rattle.crdx.proofs.PoolLemmas.{no_list_break}
 use Rattle.crdx.proofs.plan.pool_form.check_pool.Goals as goal
 

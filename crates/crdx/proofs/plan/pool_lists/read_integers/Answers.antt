@@ -4,8 +4,8 @@ use Rattle.std.specs.Int.{w64}
 use Rattle.std.proofs.lemmas.List.{take_more, take_all}
 use Rattle.jtree.specs.Data.{item, no_items, AreTrees}
 use Rattle.jtree.specs.View.{data_of, items_of}
-use Rattle.crdx.specs.Pools.{integers_of_items}
-use Rattle.crdx.specs.PoolForm.{other_item}
+use Rattle.crdx.specs.Samples.Pools.{integers_of_items}
+use Rattle.crdx.specs.Internal.PoolForm.{other_item}
 use Rattle.crdx.proofs.PoolLemmas.{integers_append, integers_length, integers_fit}
 use Rattle.crdx.proofs.plan.pool_lists.read_integers.Goals as goal
 

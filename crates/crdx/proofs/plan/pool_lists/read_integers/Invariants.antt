@@ -1,6 +1,6 @@
 use Rattle.std.proofs.Common.{◌≡◌, take}
 use Rattle.jtree.specs.View.{items_of}
-use Rattle.crdx.specs.Pools.{integers_of_items}
+use Rattle.crdx.specs.Samples.Pools.{integers_of_items}
 use Rattle.crdx.proofs.plan.pool_lists.read_integers.Given as goal
 
 abbrev pub invariant-loop-item : goal.invariant-loop-item

@@ -5,17 +5,17 @@ use Rattle.jtree.specs.Data.{IsObject, member, no_members}
 use Rattle.jtree.specs.View.{data_of, members_of}
 use Rattle.jtree.specs.Pointer.{name_token}
 use Rattle.std.specs.Prelude.{codes}
-use Rattle.crdx.specs.NodeView.{node_of, fields_of}
+use Rattle.crdx.specs.Objects.NodeView.{node_of, fields_of}
 use Rattle.crdx.specs.declared.stored.node.Field.{Field}
-use Rattle.crdx.specs.Place.{schema_at}
-use Rattle.crdx.specs.Accepted.{IsEnvelope, AreFieldsOf, kept}
-use Rattle.crdx.specs.Acceptance.{IsRefusedAt, members_at, AreKnown}
-use Rattle.crdx.proofs.AcceptanceLemmas.{one_known, one_first, one_known_at, envelope_known, refused_at, node_below, kept_dropped, kept_object, push_known, some_first, members_split, empty_known, object_known, object_first, scalar_known, root_unknown, properties_fall, push_fields, push_nodes, fields_ordered, refused_along}
+use Rattle.crdx.specs.Objects.Place.{schema_at}
+use Rattle.crdx.specs.Objects.Accepted.{IsEnvelope, AreFieldsOf, kept}
+use Rattle.crdx.specs.Internal.Acceptance.{IsRefusedAt, members_at, AreKnown}
+use Rattle.crdx.proofs.AcceptanceLemmas.{one_known, one_first, one_known_at, envelope_known, refused_at, node_below, kept_dropped, kept_object, push_known, some_first, members_split, empty_known, object_known, object_first, scalar_known, root_unknown, properties_decrease, push_fields, push_nodes, fields_ordered, refused_along}
 use Rattle.crdx.proofs.stored.acceptance.+read.Goals as goal
 
 pub read_node-read_fields-requires : goal.read_node-read_fields-requires
 read_node-read_fields-requires t c =
-    let below = properties_fall (data_of c.args.tree.now) c.in-Object.properties.now c.in-Object.ensures.1 in
+    let below = properties_decrease (data_of c.args.tree.now) c.in-Object.properties.now c.in-Object.ensures.1 in
     (omega (arith, below, c.decreases), tt)
 
 pub read_node-returns-in-Scalar-clause-known : goal.read_node-returns-in-Scalar-clause-known
@@ -64,7 +64,7 @@ read_fields-returns-in_err-node-clause-not_yet t c =
     let within : i < length xs = omega arith in
     let whole : members_of xs ≡ c.args.properties.now = ap members_of c.deref-property-items.ensures.value ∙ c.properties.view_is in
     let split : c.args.properties.now ≡ members_of (take i xs ++ m ∷ drop (i + 1) xs) = sym whole ∙ ap members_of (members_split xs i m within c.property-item.is) in
-    let o : IsObject (members_of (take i xs ++ m ∷ drop (i + 1) xs)) = subst IsObject split c.is_object.ensures in
+    let o : IsObject (members_of (take i xs ++ m ∷ drop (i + 1) xs)) = subst IsObject split c.reveal_invariant.ensures in
     let other : IsEnvelope root (m.name ∷ []) → ⊥ = λ e. let contrary = c.if-is_envelope.ensures.1 (subst (λ n. IsEnvelope root (n ∷ [])) (sym c.as_str.ensures) e) in cc in
     let one : IsRefusedAt root (members_at (member m.name d no_members)) e =
     refused_at root m.name d e other (subst (λ n. IsRefusedAt false (members_at (member n d no_members)) e) c.as_str-in-loop-property.ensures c.in_err-node.ensures.not_yet) in
@@ -106,7 +106,7 @@ read_fields-loop-property-preserved t c =
     one_known_at root m.name (data_of m.tree) (subst (λ n. AreKnown false (members_at (member n (data_of m.tree) no_members))) c.as_str-in-loop-property.ensures c.in_ok-node.ensures.known) in
     record {
       fields = rw (pushed, more) (push_fields root old f (take i xs) m other c.loop-property.invariant.fields named c.in_ok-node.ensures.node);
-      nodes = rw pushed (push_nodes old f c.loop-property.invariant.nodes c.is_node.ensures);
+      nodes = rw pushed (push_nodes old f c.loop-property.invariant.nodes c.reveal_invariant-in-loop-property.ensures);
       known = subst (λ ms. AreKnown root (members_at ms)) (sym more) (push_known root (take i xs) m c.loop-property.invariant.known one);
     }
 
@@ -117,4 +117,4 @@ read_fields-invariant_of-result t c =
     let whole : members_of (take c.loop-property.property-index xs) ≡ c.args.properties.now =
     ap members_of all ∙ ap members_of c.deref-property-items.ensures.value ∙ c.properties.view_is in
     fields_ordered (fields_of c.loop-property.fields.items) (kept c.args.root (members_of (take c.loop-property.property-index xs))) c.loop-property.invariant.fields c.loop-property.invariant.nodes
-    (kept_object c.args.root (members_of (take c.loop-property.property-index xs)) (subst IsObject (sym whole) c.is_object.ensures))
+    (kept_object c.args.root (members_of (take c.loop-property.property-index xs)) (subst IsObject (sym whole) c.reveal_invariant.ensures))

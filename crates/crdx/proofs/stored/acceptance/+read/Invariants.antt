@@ -1,9 +1,9 @@
 use Rattle.std.proofs.Common.{◌+◌, ◌*◌, take}
 use Rattle.jtree.specs.Data.{depth, members_depth}
 use Rattle.jtree.specs.View.{data_of, members_of}
-use Rattle.crdx.specs.NodeView.{fields_of}
-use Rattle.crdx.specs.Accepted.{AreFieldsOf, kept}
-use Rattle.crdx.specs.Acceptance.{members_at, AreKnown, AreNodes}
+use Rattle.crdx.specs.Objects.NodeView.{fields_of}
+use Rattle.crdx.specs.Objects.Accepted.{AreFieldsOf, kept}
+use Rattle.crdx.specs.Internal.Acceptance.{members_at, AreKnown, AreNodes}
 use Rattle.crdx.proofs.stored.acceptance.+read.Given as goal
 
 abbrev pub decreases-read_node : goal.decreases-read_node

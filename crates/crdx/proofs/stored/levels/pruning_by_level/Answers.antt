@@ -1,5 +1,5 @@
 use Rattle.std.proofs.Common.{sym, subst}
-use Rattle.crdx.specs.Pruned.{IsPruned}
+use Rattle.crdx.specs.Objects.Pruned.{IsPruned}
 use Rattle.crdx.proofs.PrunedLevels.{pruned_is, pruned_only}
 use Rattle.crdx.proofs.stored.levels.pruning_by_level.Goals as goal
 

@@ -1,6 +1,6 @@
 use Rattle.std.proofs.Common.{◌↔◌, drop}
 use Rattle.jtree.specs.View.{members_of}
-use Rattle.crdx.specs.Accepted.{AreObjects}
+use Rattle.crdx.specs.Objects.Accepted.{AreObjects}
 use Rattle.crdx.proofs.stored.shape.are_objects.Given as goal
 
 abbrev pub invariant-loop-member : goal.invariant-loop-member

@@ -1,6 +1,6 @@
 use Rattle.std.proofs.Common.{◌↔◌, drop}
 use Rattle.jtree.specs.View.{members_of}
-use Rattle.crdx.specs.Acceptance.{HaveNames}
+use Rattle.crdx.specs.Internal.Acceptance.{HaveNames}
 use Rattle.crdx.proofs.stored.shape.have_known_names.Given as goal
 
 abbrev pub invariant-loop-member : goal.invariant-loop-member

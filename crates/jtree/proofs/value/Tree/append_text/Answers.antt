@@ -31,7 +31,7 @@ returns-clause-reads_back c = λ shallow short.
     let text = printed d _ _ c.in_ok-write_tree.ensures.ok c.new-writer.ensures.tokens in
     let utf8 : IsUtf8 (compact d) = subst IsUtf8 text c.into_inner.ensures.utf8 in
     let same = printed_tokens d _ _ c.in_ok-write_tree.ensures.ok c.new-writer.ensures.tokens c.into_inner.ensures.reads_back in
-    (short, json_of d, (utf8, read_back d (compact d) c.is_tree.ensures shallow same), tree_of-json_of d c.is_tree.ensures)
+    (short, json_of d, (utf8, read_back d (compact d) c.reveal_invariant.ensures shallow same), tree_of-json_of d c.reveal_invariant.ensures)
 
 pub returns-clause-utf8 : goal.returns-clause-utf8
 returns-clause-utf8 c =

@@ -1,0 +1,10 @@
+pub mod NodeCode
+pub mod NodeMeasures
+pub mod Acceptance
+pub mod PoolForm
+pub mod Values
+pub mod Building
+pub mod Block
+pub mod PartialLines
+pub mod Cause
+pub mod ExitStatus

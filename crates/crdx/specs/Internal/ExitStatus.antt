@@ -1,0 +1,63 @@
+-- How a run of the program ends without an answer: what each refusal becomes, its status, and the names of inputs and codes
+-- in its line (this project's own).
+use Rattle.std.specs.Prelude.{ℕ, List, codes}
+use Rattle.crdx.specs.declared.running.Input.{Input}
+use Rattle.crdx.specs.declared.running.Input.TheVariants as input
+use Rattle.crdx.specs.declared.running.PlaceCode.{PlaceCode}
+use Rattle.crdx.specs.declared.running.PlaceCode.TheVariants as code
+use Rattle.crdx.specs.declared.running.Cause.{Cause}
+use Rattle.crdx.specs.declared.running.Cause.TheVariants as cause
+use Rattle.schema.specs.declared.fault.SFault.{SFault}
+use Rattle.schema.specs.declared.fault.SFault.TheVariants as s
+use Rattle.schema.specs.declared.refused.Refused.{Refused}
+use Rattle.schema.specs.declared.refused.Refused.TheVariants as refused
+use Rattle.crdx.specs.declared.plan.fault.PFault.{PFault}
+use Rattle.crdx.specs.declared.plan.fault.PFault.TheVariants as p
+use Rattle.crdx.specs.declared.walk.fault.WFault.{WFault}
+use Rattle.crdx.specs.declared.walk.fault.WFault.TheVariants as w
+
+abbrev pub input_name : Input → List ℕ
+input_name input.Crd = codes "crd"
+input_name input.Pools = codes "pools"
+
+abbrev pub code_name : PlaceCode → List ℕ
+code_name code.NotYet = codes "S0"
+code_name code.KeywordForm = codes "S3"
+code_name code.TooLarge = codes "S4"
+code_name code.Form = codes "P1"
+
+-- want of memory is no fault of a document
+abbrev pub cause_of_reading : SFault → Cause
+cause_of_reading s.NotACrd = cause.Crd s.NotACrd
+cause_of_reading s.NoSuchVersion = cause.Crd s.NoSuchVersion
+cause_of_reading (s.KeywordForm pointer) = cause.Place input.Crd code.KeywordForm pointer
+cause_of_reading (s.TooLarge pointer) = cause.Place input.Crd code.TooLarge pointer
+cause_of_reading s.NoMemory = cause.NoMemory
+
+abbrev pub cause_of_refusal : Refused → Cause
+cause_of_refusal (refused.Violations violations) = cause.Violations violations
+cause_of_refusal (refused.NotYet pointer) = cause.Place input.Crd code.NotYet pointer
+cause_of_refusal refused.NoMemory = cause.NoMemory
+
+abbrev pub cause_of_pools : PFault → Cause
+cause_of_pools (p.Form pointer) = cause.Place input.Pools code.Form pointer
+cause_of_pools p.TooLarge = cause.Pools p.TooLarge
+cause_of_pools p.NoMemory = cause.NoMemory
+cause_of_pools p.BadLimit = cause.Pools p.BadLimit
+
+abbrev pub cause_of_walk : WFault → Cause
+cause_of_walk w.NotASample = cause.NotASample
+cause_of_walk (w.NoMemory n) = cause.NoMemory
+cause_of_walk (w.Write n) = cause.Write n
+
+-- 1 the answer is no, 3 an input is no such document, 4 a read or a write failed, 5 want of memory
+abbrev pub status : Cause → ℕ
+status (cause.Unread i) = 4
+status (cause.Document i fault) = 3
+status (cause.Crd fault) = 3
+status (cause.Pools fault) = 3
+status (cause.Place i c pointer) = 3
+status cause.NotASample = 1
+status (cause.Violations violations) = 1
+status (cause.Write n) = 4
+status cause.NoMemory = 5

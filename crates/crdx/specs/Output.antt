@@ -1,0 +1,4 @@
+pub mod Line
+pub mod Sink
+pub mod Walk
+pub mod PartialOutput

@@ -1,0 +1,34 @@
+-- What is out where the writing of lines stops early (this project's own).
+use Rattle.std.specs.Prelude.{◌≡◌, ◌⊎◌, ◌<◌, ◌++◌, ℕ, List, length, take, Bool, Option, Some, IsSomeAnd, slice_get}
+use Rattle.std.specs.Io.KnownBytes.{Appends, Keeps}
+use Rattle.jtree.specs.Data.{Data}
+use Rattle.crdx.specs.Samples.Sample.{Question, IsSample}
+use Rattle.crdx.specs.Samples.Page.{IsPage}
+use Rattle.crdx.specs.Output.Line.{line, lines}
+use Rattle.crdx.specs.Output.Sink.{HasFailed}
+use Rattle.crdx.specs.declared.walk.fault.WFault.{WFault}
+use Rattle.crdx.specs.declared.walk.fault.WFault.TheVariants.{NotASample, NoMemory, Write}
+
+-- a beginning, perhaps empty, that is not the whole
+abbrev pub IsProperBeginning : List ℕ → List ℕ → Type 0
+IsProperBeginning part whole = (n : ℕ) × (n < length whole) × (part ≡ take n whole)
+
+-- the lines of the first n items are out, and nothing else; not all of them, unless there are none yet
+pub record IsCutBetweenLines (items : List Data) (n : ℕ) (old new : Option (List ℕ)) : Type 0 where
+  pub out : Appends old new (lines (take n items))
+  pub fewer : (n ≡ 0) ⊎ (n < length items)
+
+-- the lines of the first n items are out, and of the next one a beginning
+pub record IsCutWithinLine (items : List Data) (n : ℕ) (old new : Option (List ℕ)) : Type 0 where
+  pub next : Data
+  pub is : slice_get items n ≡ Some next
+  pub part : List ℕ
+  pub beginning : IsProperBeginning part (line next)
+  pub out : Appends old new (lines (take n items) ++ part)
+
+-- what a walk past this place leaves behind where it fails: what the sink held and holds, and its failures then and now
+abbrev pub IsPartialOutput : Question → Option Data → ℕ → Option (List ℕ) → Option (List ℕ) → ℕ → ℕ → WFault → Type 0
+IsPartialOutput q after total old new before now NotASample = IsSomeAnd after (λ a. IsSample q a → ⊥) × Keeps old new
+IsPartialOutput q after total old new before now (NoMemory n) = (items : List Data) (end : Bool) → IsPage q after total items end → IsCutBetweenLines items n old new
+IsPartialOutput q after total old new before now (Write n) = HasFailed before now
+    × ((items : List Data) (end : Bool) → IsPage q after total items end → IsCutWithinLine items n old new)

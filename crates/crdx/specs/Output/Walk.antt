@@ -1,0 +1,14 @@
+-- What a walk writes: the page past a place, a line for each sample (this project's own).
+use Rattle.std.specs.Prelude.{◌≡◌, ℕ, List, length, Bool, Option}
+use Rattle.std.specs.Io.KnownBytes.{Appends}
+use Rattle.jtree.specs.Data.{Data}
+use Rattle.crdx.specs.Samples.Sample.{Question}
+use Rattle.crdx.specs.Samples.Page.{IsPage}
+use Rattle.crdx.specs.Output.Line.{lines}
+
+-- exactly the lines of the page are written, `count` of them, and the end is the page's
+pub record WritesPage (q : Question) (after : Option Data) (total : ℕ) (count : ℕ) (end : Bool) (old new : Option (List ℕ)) : Type 0 where
+  pub items : List Data
+  pub page : IsPage q after total items end
+  pub counted : count ≡ length items
+  pub written : Appends old new (lines items)

@@ -1,0 +1,96 @@
+-- The command line as `clap` reads it, and what its arguments ask for (this project's own).
+use Rattle.std.specs.Prelude.{◌≡◌, ◌≢◌, ◌⊎◌, ◌≤◌, ℕ, List, [], ◌∷◌, true, Option, Some, pos, option_map, unwrap_or, codes}
+use Rattle.std.specs.Str.Parse.{IsNumeral, digits_value, without_leading_plus}
+use Rattle.clap.specs.Walk.{Row, Rule, Text, first_of, one_of}
+use Rattle.clap.specs.Simple.{App, new_app, new_rule, with_rule, with_subcommand, on_top, subcommand_of}
+use Rattle.clap.specs.Faults.{fault_of}
+use Rattle.clap.specs.Kinds.{Kinds, IsAmong}
+use Rattle.clap.specs.declared.builder.value_parser.ValueParser.TheVariants.{Signed}
+use Rattle.clap.specs.declared.error.kind.ErrorKind.{ErrorKind}
+use Rattle.clap.specs.declared.error.kind.ErrorKind.TheVariants.{DisplayHelp, DisplayVersion, OutOfMemory}
+use Rattle.crdx.specs.declared.arguments.request.CheckArguments.{CheckArguments}
+use Rattle.crdx.specs.declared.arguments.request.SampleArguments.{SampleArguments}
+use Rattle.crdx.specs.declared.arguments.request.Request.{Request}
+use Rattle.crdx.specs.declared.arguments.request.Request.TheVariants.{Check, Sample, Help, UsageError, NoMemory}
+
+-- a word that has to be there
+abbrev pub required_rule : Text → Rule
+required_rule id = record (new_rule id) { required = true }
+
+-- an option `--id VALUE`
+abbrev pub option_rule : Text → Rule
+option_rule id = record (new_rule id) { long = Some id; value_names = 1 }
+
+-- an option for a number from 1 to the greatest, which has this value where it is left out
+abbrev pub number_rule : Text → ℕ → Text → Rule
+number_rule id most usual = record (option_rule id) { parser = Some (Signed (pos 1) (pos most)); defaults = usual ∷ [] }
+
+abbrev pub check_app : App
+check_app = with_rule (with_rule (new_app (codes "check")) (required_rule (codes "CRD"))) (required_rule (codes "VERSION"))
+
+abbrev pub sample_app : App
+sample_app = with_rule (with_rule (with_rule (with_rule (with_rule (new_app (codes "sample")) (required_rule (codes "CRD"))) (required_rule (codes "VERSION")))
+    (option_rule (codes "pools"))) (number_rule (codes "limit") 63 (codes "8"))) (number_rule (codes "count") 10000 (codes "100"))
+
+abbrev pub crdx_app : App
+crdx_app = with_subcommand (with_subcommand (on_top (λ s. record s { subcommand_required = true }) (new_app (codes "crdx"))) check_app.top) sample_app.top
+
+-- what `clap` refuses of the arguments after the program's name, and the command that they name with what stands for each of its arguments
+unfoldable pub faults : List Text → Kinds
+faults arguments = fault_of crdx_app arguments
+
+unfoldable pub entered : List Text → Option (Text × List Row)
+entered arguments = subcommand_of crdx_app arguments
+
+-- the value of a word that has to be there
+abbrev pub value_of : Text → List Row → Text
+value_of id rows = unwrap_or (first_of id rows) []
+
+abbrev pub decimal_value : Text → ℕ
+decimal_value t = digits_value 10 (without_leading_plus t)
+
+-- n is the number that the value of an option is, where that is one from 1 to the greatest
+abbrev pub IsNumberOf : Text → ℕ → List Row → ℕ → Type 0
+IsNumberOf id most rows n = (t : Text) → one_of id rows ≡ Some t → IsNumeral 10 (without_leading_plus t) → 1 ≤ decimal_value t → decimal_value t ≤ most → n ≡ decimal_value t
+
+abbrev pub AreCheckArguments : List Row → CheckArguments → Type 0
+AreCheckArguments rows arguments = (arguments.crd.now ≡ value_of (codes "CRD") rows) × (arguments.version.now ≡ value_of (codes "VERSION") rows)
+
+abbrev pub AreSampleArguments : List Row → SampleArguments → Type 0
+AreSampleArguments rows arguments = (arguments.crd.now ≡ value_of (codes "CRD") rows) × (arguments.version.now ≡ value_of (codes "VERSION") rows)
+    × (option_map (λ s. s.now) arguments.pools ≡ first_of (codes "pools") rows)
+    × IsNumberOf (codes "limit") 63 rows arguments.limit × IsNumberOf (codes "count") 10000 rows arguments.count
+
+-- what a command that was named asks for
+abbrev pub IsCommand : Option (Text × List Row) → Request → Type 0
+IsCommand named (Check arguments) = (rows : List Row) × (named ≡ Some (codes "check", rows)) × AreCheckArguments rows arguments
+IsCommand named (Sample arguments) = (rows : List Row) × (named ≡ Some (codes "sample", rows)) × AreSampleArguments rows arguments
+IsCommand named (Help text) = ⊥
+IsCommand named (UsageError text) = (rows : List Row) → (named ≢ Some (codes "check", rows)) × (named ≢ Some (codes "sample", rows))
+IsCommand named NoMemory = Unit {0}
+
+abbrev pub IsHelp : ErrorKind → Type 0
+IsHelp k = (k ≡ DisplayHelp) ⊎ (k ≡ DisplayVersion)
+
+-- what becomes of a refusal by `clap`
+abbrev pub IsRequestOf : ErrorKind → Request → Type 0
+IsRequestOf k (Check arguments) = ⊥
+IsRequestOf k (Sample arguments) = ⊥
+IsRequestOf k (Help text) = IsHelp k
+IsRequestOf k (UsageError text) = (k ≢ OutOfMemory) × (IsHelp k → ⊥)
+IsRequestOf k NoMemory = Unit {0}
+
+abbrev pub IsUsageErrorOrMemory : Request → Type 0
+IsUsageErrorOrMemory (Check arguments) = ⊥
+IsUsageErrorOrMemory (Sample arguments) = ⊥
+IsUsageErrorOrMemory (Help text) = ⊥
+IsUsageErrorOrMemory (UsageError text) = Unit {0}
+IsUsageErrorOrMemory NoMemory = Unit {0}
+
+-- what the arguments ask for; a want of memory says nothing of them
+abbrev pub Asks : List Text → Request → Type 0
+Asks arguments (Check w) = (faults arguments ≡ []) × IsCommand (entered arguments) (Check w)
+Asks arguments (Sample w) = (faults arguments ≡ []) × IsCommand (entered arguments) (Sample w)
+Asks arguments (Help text) = (k : ErrorKind) × IsAmong k (faults arguments) × IsHelp k
+Asks arguments (UsageError text) = ((k : ErrorKind) × IsAmong k (faults arguments) × (IsHelp k → ⊥)) ⊎ ((faults arguments ≡ []) × IsCommand (entered arguments) (UsageError text))
+Asks arguments NoMemory = Unit {0}

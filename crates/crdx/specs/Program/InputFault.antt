@@ -1,0 +1,34 @@
+-- Why an input gives no document, and what bytes are read as (this project's own).
+use Rattle.std.specs.Prelude.{◌<◌, ℕ, List, length, Option, Result, Ok, Err}
+use Rattle.jtree.specs.Data.{Data}
+use Rattle.jtree.specs.Reads.{Reads, IsNoJson, HasOtherNumber, most_bytes}
+use Rattle.jtree.specs.declared.fault.JFault.{JFault}
+use Rattle.jtree.specs.declared.fault.JFault.TheVariants.{NotAnInteger, NoMemory, NotJson, TooLong}
+use Rattle.crdx.specs.Program.Documents.{Documents}
+use Rattle.crdx.specs.declared.inputs.InFault.{InFault}
+use Rattle.crdx.specs.declared.inputs.InFault.TheVariants.{Failed, Document}
+
+-- why bytes are no document; a want of memory says nothing of them
+abbrev pub IsNoDocument : List ℕ → JFault → Type 0
+IsNoDocument bytes NotAnInteger = HasOtherNumber bytes
+IsNoDocument bytes NotJson = IsNoJson bytes
+IsNoDocument bytes TooLong = most_bytes < length bytes
+IsNoDocument bytes NoMemory = Unit {0}
+
+-- the document that the bytes are, or why they are none
+abbrev pub IsReading : List ℕ → Result Data JFault → Type 0
+IsReading bytes (Ok document) = Reads bytes document
+IsReading bytes (Err fault) = IsNoDocument bytes fault
+
+-- why a reading of the bytes failed; a read that fails says nothing of them
+abbrev pub IsFaultOf : List ℕ → InFault → Type 0
+IsFaultOf bytes Failed = Unit {0}
+IsFaultOf bytes (Document fault) = IsNoDocument bytes fault
+
+-- what stands under the name is no document; where it could not be read or memory is wanting, nothing is said of it
+abbrev pub IsInputFault : Documents → Option (List ℕ) → InFault → Type 0
+IsInputFault has name Failed = Unit {0}
+IsInputFault has name (Document NotAnInteger) = has name (Err NotAnInteger)
+IsInputFault has name (Document NotJson) = has name (Err NotJson)
+IsInputFault has name (Document TooLong) = has name (Err TooLong)
+IsInputFault has name (Document NoMemory) = Unit {0}

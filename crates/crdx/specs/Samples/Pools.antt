@@ -1,0 +1,51 @@
+-- The pools document: an object whose member `integers` is a list of at most 64 integers (this project's own).
+use Rattle.std.specs.Prelude.{◌≡◌, ◌≢◌, ℕ, ℤ, List, [], ◌∷◌, false, Option, Some, None, codes}
+use Rattle.std.specs.declared.cmp.Ordering.TheVariants.{Less}
+use Rattle.jtree.specs.Data.{Data, Items, no_items, item}
+use Rattle.jtree.specs.Data as tree
+use Rattle.jtree.specs.Path.{name, index, Path, item_at, under}
+use Rattle.jtree.specs.PathOrder.{path_cmp}
+use Rattle.jtree.specs.Kind.{is_object, is_integer}
+use Rattle.crdx.specs.Samples.Over.{Pools}
+
+abbrev pub most_entries : ℕ
+most_entries = 64
+
+-- what stands at the path has not the form that it has to have there
+pub data BreaksForm : Data → Path → Type 0 where
+  no_object : (d : Data) → is_object d ≡ false → BreaksForm d []
+  other_member : (d : Data) (k : List ℕ) → k ≢ codes "integers" → under d k ≢ None → BreaksForm d (name k ∷ [])
+  no_list : (d v : Data) → under d (codes "integers") ≡ Some v → ((ds : Items) → v ≢ tree.list ds) → BreaksForm d (name (codes "integers") ∷ [])
+  no_integer : (d : Data) (ds : Items) (i : ℕ) (v : Data) → under d (codes "integers") ≡ Some (tree.list ds) → item_at i ds ≡ Some v → is_integer v ≡ false
+      → BreaksForm d (name (codes "integers") ∷ index i ∷ [])
+
+abbrev pub HasForm : Data → Type 0
+HasForm d = (path : Path) → BreaksForm d path → ⊥
+
+-- the first in path order
+pub record IsFirstBreak (d : Data) (path : Path) : Type 0 where
+  pub breaks : BreaksForm d path
+  pub first : (earlier : Path) → BreaksForm d earlier → path_cmp earlier path ≢ Less
+
+-- a missing member is an empty pool
+abbrev pub integers_of_items : Items → List ℤ
+integers_of_items no_items = []
+integers_of_items (item tree.null ds) = integers_of_items ds
+integers_of_items (item (tree.boolean b) ds) = integers_of_items ds
+integers_of_items (item (tree.integer z) ds) = z ∷ integers_of_items ds
+integers_of_items (item (tree.text s) ds) = integers_of_items ds
+integers_of_items (item (tree.list es) ds) = integers_of_items ds
+integers_of_items (item (tree.object ms) ds) = integers_of_items ds
+
+abbrev pub integers_of : Option Data → List ℤ
+integers_of None = []
+integers_of (Some tree.null) = []
+integers_of (Some (tree.boolean b)) = []
+integers_of (Some (tree.integer z)) = []
+integers_of (Some (tree.text s)) = []
+integers_of (Some (tree.list ds)) = integers_of_items ds
+integers_of (Some (tree.object ms)) = []
+
+-- the pools of a document that has the form; entries are as written, repeats among them
+abbrev pub pools_of : Data → Pools
+pools_of d = record { integers = integers_of (under d (codes "integers")) }

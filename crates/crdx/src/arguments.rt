@@ -1,0 +1,10 @@
+//! The arguments of the command line.
+
+mod parsing;
+mod request;
+
+pub use parsing::{MOST_COUNT, MOST_LIMIT, parse_arguments};
+pub use request::{CheckArguments, Request, SampleArguments};
+
+#[cfg(test)]
+mod tests;

@@ -1,0 +1,185 @@
+// Reads the arguments by `clap`.
+ghost use Rattle.std.specs.Prelude.{◌≡◌, ◌≤◌, false, map, IfOk, string_bytes, codes};
+ghost use Rattle.clap.specs.Words.{found_of};
+ghost use Rattle.clap.specs.Kinds.{FailsBy};
+ghost use Rattle.clap.specs.Values.{kind_of};
+ghost use Rattle.clap.specs.Walk.{rule_of, rows_of};
+ghost use Rattle.clap.specs.Simple.{app_of, subcommand_rows_of};
+ghost use Rattle.clap.specs.declared.builder.command.Command.TheViews.{out-Command};
+ghost use Rattle.crdx.specs.Program.CommandLine.{required_rule, option_rule, number_rule, check_app, sample_app, faults, entered, IsCommand, AreSampleArguments, Asks, IsRequestOf, IsUsageErrorOrMemory, IsNumberOf};
+
+use crate::arguments::request::{CheckArguments, Request, SampleArguments};
+use clap::error::ErrorKind;
+use clap::{Arg, ArgMatches, Command, Error};
+use std::alloc::{AllocError, Global};
+
+/// The greatest node limit that may be asked for.
+pub const MOST_LIMIT: u32 = 63;
+
+/// The greatest number of samples that may be asked for.
+pub const MOST_COUNT: u32 = 10_000;
+
+const USUAL_LIMIT: u32 = 8;
+
+const USUAL_COUNT: u32 = 100;
+
+/// What the arguments ask for; the first of them is the program's name, which the usage lines repeat.
+pub fn parse_arguments<'a>(alloc: Global, arguments: &'a [String]) -> Request<'a>
+    ensures { Asks (map string_bytes arguments.entry.now) result }
+{
+    match matches_of(alloc, arguments) {
+        Ok(matches) => request_of_command(alloc, &matches),
+        Err(error) => request_of(alloc, &error),
+    }
+}
+
+fn request_of_command<'a>(alloc: Global, matches: &ArgMatches<'a>) -> Request<'a>
+    ensures { IsCommand (subcommand_rows_of matches.now) result }
+{
+    if let Some(check) = matches.subcommand_matches("check") {
+        return Request::Check(CheckArguments {
+            crd: check.get_str("CRD").unwrap_or(""),
+            version: check.get_str("VERSION").unwrap_or(""),
+        });
+    }
+    match matches.subcommand_matches("sample") {
+        Some(sample) => Request::Sample(sample_arguments(sample)),
+        None => usage_error(alloc, "error: no command\n"),
+    }
+}
+
+fn matches_of<'a>(alloc: Global, arguments: &'a [String]) -> Result<ArgMatches<'a>, Error>
+    ensures command { IfOk result (λ m. subcommand_rows_of m ≡ entered (map string_bytes arguments.entry.now)) }
+    ensures kinds { FailsBy (faults (map string_bytes arguments.entry.now)) result }
+{
+    let command = Command::new(alloc, "crdx")
+        .about(
+            "Explains the schema of a Kubernetes custom resource and lists its small objects exhaustively.",
+        )
+        .subcommand_required(true)
+        .subcommand(check_command(alloc)?)?
+        .subcommand(sample_command(alloc)?)?;
+    command.try_get_matches_from(arguments)
+}
+
+/// The arguments that `check` takes.
+fn check_command<'a>(alloc: Global) -> Result<Command<'a>, AllocError>
+    ensures app { IfOk result (λ c. app_of c ≡ check_app) }
+    ensures local { IfOk result (λ c. (out-Command c).has_globals ≡ false) }
+{
+    Command::new(alloc, "check")
+        .about("Says whether a schema is structural, or each rule that it breaks and where")
+        .arg(crd_argument(alloc))?
+        .arg(version_argument(alloc))
+}
+
+fn crd_argument<'a>(alloc: Global) -> Arg<'a>
+    ensures rule { rule_of result ≡ required_rule (codes "CRD") }
+    ensures local { result.global ≡ false }
+{
+    Arg::new(alloc, "CRD")
+        .required(true)
+        .help("The file of the CustomResourceDefinition")
+}
+
+fn version_argument<'a>(alloc: Global) -> Arg<'a>
+    ensures rule { rule_of result ≡ required_rule (codes "VERSION") }
+    ensures local { result.global ≡ false }
+{
+    Arg::new(alloc, "VERSION")
+        .required(true)
+        .help("The version whose schema is asked for")
+}
+
+/// The arguments that `sample` takes.
+fn sample_command<'a>(alloc: Global) -> Result<Command<'a>, AllocError>
+    ensures app { IfOk result (λ c. app_of c ≡ sample_app) }
+    ensures local { IfOk result (λ c. (out-Command c).has_globals ≡ false) }
+{
+    Command::new(alloc, "sample")
+        .about("Lists samples, a line for each")
+        .arg(crd_argument(alloc))?
+        .arg(version_argument(alloc))?
+        .arg(pools_option(alloc))?
+        .arg(limit_option(alloc))?
+        .arg(count_option(alloc))
+}
+
+fn pools_option<'a>(alloc: Global) -> Arg<'a>
+    ensures rule { rule_of result ≡ option_rule (codes "pools") }
+    ensures local { result.global ≡ false }
+{
+    Arg::new(alloc, "pools")
+        .long("pools")
+        .value_name("FILE")
+        .help("The file of the pools of values")
+}
+
+fn limit_option<'a>(alloc: Global) -> Arg<'a>
+    ensures rule { rule_of result ≡ number_rule (codes "limit") 63 (codes "8") }
+    ensures local { result.global ≡ false }
+{
+    Arg::new(alloc, "limit")
+        .long("limit")
+        .value_name("N")
+        .help("The most nodes that a sample may have")
+        .value_parser(clap::value_parser!(u32).range(1..=63))
+        .default_value("8")
+}
+
+fn count_option<'a>(alloc: Global) -> Arg<'a>
+    ensures rule { rule_of result ≡ number_rule (codes "count") 10000 (codes "100") }
+    ensures local { result.global ≡ false }
+{
+    Arg::new(alloc, "count")
+        .long("count")
+        .value_name("N")
+        .help("The most samples that are listed")
+        .value_parser(clap::value_parser!(u32).range(1..=10_000))
+        .default_value("100")
+}
+
+fn sample_arguments<'a>(matches: &ArgMatches<'a>) -> SampleArguments<'a>
+    ensures { AreSampleArguments (rows_of (found_of matches.now)) result }
+{
+    SampleArguments {
+        crd: matches.get_str("CRD").unwrap_or(""),
+        version: matches.get_str("VERSION").unwrap_or(""),
+        pools: matches.get_str("pools"),
+        limit: number_of(matches, "limit", USUAL_LIMIT, MOST_LIMIT),
+        count: number_of(matches, "count", USUAL_COUNT, MOST_COUNT),
+    }
+}
+
+/// The number of an option, which the parse has seen to be 1 to `last`.
+fn number_of(matches: &ArgMatches<'_>, name: &str, usual: u32, last: u32) -> u32
+    requires { 1 ≤ last }
+    ensures least { 1 ≤ result }
+    ensures most { result ≤ last }
+    ensures number { IsNumberOf name.now last (rows_of (found_of matches.now)) result }
+{
+    matches.get_one::<u32>(name).unwrap_or(usual).clamp(1, last)
+}
+
+/// The text of a parse that failed, or the help that was asked for.
+fn request_of<'a>(alloc: Global, error: &Error) -> Request<'a>
+    ensures { IsRequestOf (kind_of error.now) result }
+{
+    if error.kind() == ErrorKind::OutOfMemory {
+        return Request::NoMemory;
+    }
+    match error.to_string(alloc) {
+        Ok(text) if error.use_stderr() => Request::UsageError(text),
+        Ok(text) => Request::Help(text),
+        Err(_) => Request::NoMemory,
+    }
+}
+
+fn usage_error<'a>(alloc: Global, text: &str) -> Request<'a>
+    ensures { IsUsageErrorOrMemory result }
+{
+    match String::from_str(alloc, text) {
+        Ok(text) => Request::UsageError(text),
+        Err(_) => Request::NoMemory,
+    }
+}

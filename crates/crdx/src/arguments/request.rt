@@ -1,0 +1,45 @@
+// What the arguments of the command line can ask for.
+ghost use Rattle.std.specs.Prelude.{◌≤◌};
+
+/// The arguments of `sample`.
+#[derive(Drop)]
+pub struct SampleArguments<'a> {
+    /// The file of the CustomResourceDefinition.
+    pub crd: &'a str,
+    /// The version whose schema is asked for.
+    pub version: &'a str,
+    /// The file of the pools, where one is named.
+    pub pools: Option<&'a str>,
+    /// The node limit, 1 to 63.
+    pub limit: u32,
+    /// How many samples are asked for, 1 to 10,000.
+    pub count: u32,
+    ghost limit_least: { 1 ≤ limit },
+    ghost limit_most: { limit ≤ 63 },
+    ghost count_least: { 1 ≤ count },
+    ghost count_most: { count ≤ 10000 },
+}
+
+/// The arguments of `check`.
+#[derive(Drop)]
+pub struct CheckArguments<'a> {
+    /// The file of the CustomResourceDefinition.
+    pub crd: &'a str,
+    /// The version whose schema is asked for.
+    pub version: &'a str,
+}
+
+/// What the arguments ask for.
+#[derive(Drop)]
+pub enum Request<'a> {
+    /// To judge a schema.
+    Check(CheckArguments<'a>),
+    /// To list samples.
+    Sample(SampleArguments<'a>),
+    /// To print this help on standard output, with status 0.
+    Help(String),
+    /// Nothing that there is: this text goes to standard error, with status 2.
+    UsageError(String),
+    /// An allocation failed, which is status 5.
+    NoMemory,
+}

@@ -1,0 +1,5 @@
+pub mod Code
+pub mod Measures
+pub mod OrderLaws
+pub mod Lookups
+pub mod PathLaws

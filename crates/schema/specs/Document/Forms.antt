@@ -1,0 +1,104 @@
+-- The JSON form of each keyword's value (OpenAPI 3.0, Schema Object; apiextensions.k8s.io/v1, JSONSchemaProps). A member of
+-- any other name may hold any tree.
+use Rattle.std.specs.Prelude.{◌≡◌, ℕ, pos, List, [], ◌∷◌, Bool, true, false, Some, if◌then◌else◌, int_le, ◌||◌, codes}
+use Rattle.std.specs.Str.{bytes_eq}
+use Rattle.jtree.specs.Data.{Data, Items, no_items, item}
+use Rattle.jtree.specs.Data as tree
+use Rattle.jtree.specs.Kind.{is_boolean, is_integer, is_text, is_list, is_object}
+use Rattle.jtree.specs.Path.{Step, name, index, Path, part_at}
+use Rattle.jtree.specs.PathOrder.{IsFirst}
+use Rattle.schema.specs.Document.Texts.{is_among}
+use Rattle.schema.specs.declared.forms.Form.{Form}
+use Rattle.schema.specs.declared.forms.Form.TheVariants.{AnyTree, Text, TruthValue, ObjectOfObjects, TruthValueOrObject, Object, SomeObjects, Texts, List as ListForm, Integer, Count}
+
+abbrev pub text_keywords : List (List ℕ)
+text_keywords = codes "type" ∷ codes "description" ∷ codes "title" ∷ codes "format" ∷ codes "x-kubernetes-list-type" ∷ codes "x-kubernetes-map-type" ∷ []
+
+abbrev pub truth_value_keywords : List (List ℕ)
+truth_value_keywords = codes "nullable" ∷ codes "uniqueItems" ∷ codes "exclusiveMinimum" ∷ codes "exclusiveMaximum"
+    ∷ codes "x-kubernetes-int-or-string" ∷ codes "x-kubernetes-preserve-unknown-fields" ∷ []
+
+abbrev pub object_keywords : List (List ℕ)
+object_keywords = codes "items" ∷ codes "not" ∷ []
+
+abbrev pub some_objects_keywords : List (List ℕ)
+some_objects_keywords = codes "allOf" ∷ codes "anyOf" ∷ codes "oneOf" ∷ []
+
+abbrev pub texts_keywords : List (List ℕ)
+texts_keywords = codes "required" ∷ codes "x-kubernetes-list-map-keys" ∷ []
+
+abbrev pub integer_keywords : List (List ℕ)
+integer_keywords = codes "minimum" ∷ codes "maximum" ∷ []
+
+abbrev pub count_keywords : List (List ℕ)
+count_keywords = codes "minLength" ∷ codes "maxLength" ∷ codes "minItems" ∷ codes "maxItems" ∷ codes "minProperties" ∷ codes "maxProperties" ∷ []
+
+-- the form of a keyword
+abbrev pub form_of : List ℕ → Form
+form_of k =
+    if is_among k text_keywords then Text else
+    if is_among k truth_value_keywords then TruthValue else
+    if bytes_eq k (codes "properties") then ObjectOfObjects else
+    if bytes_eq k (codes "additionalProperties") then TruthValueOrObject else
+    if is_among k object_keywords then Object else
+    if is_among k some_objects_keywords then SomeObjects else
+    if is_among k texts_keywords then Texts else
+    if bytes_eq k (codes "enum") then ListForm else
+    if is_among k integer_keywords then Integer else
+    if is_among k count_keywords then Count else AnyTree
+
+-- the form of what a step leads to, from a value that has to have a form: an object is a schema, with its keywords
+abbrev pub form_below : Form → Step → Form
+form_below Object (name k) = form_of k
+form_below TruthValueOrObject (name k) = form_of k
+form_below ObjectOfObjects (name k) = Object
+form_below SomeObjects (index i) = Object
+form_below Texts (index i) = Text
+form_below f s = AnyTree
+
+abbrev pub form_at : Form → Path → Form
+form_at f [] = f
+form_at f (s ∷ path) = form_at (form_below f s) path
+
+abbrev pub is_some_list : Data → Bool
+is_some_list tree.null = false
+is_some_list (tree.boolean b) = false
+is_some_list (tree.integer z) = false
+is_some_list (tree.text s) = false
+is_some_list (tree.list no_items) = false
+is_some_list (tree.list (item d ds)) = true
+is_some_list (tree.object ms) = false
+
+abbrev pub is_count : Data → Bool
+is_count tree.null = false
+is_count (tree.boolean b) = false
+is_count (tree.integer z) = int_le (pos 0) z
+is_count (tree.text s) = false
+is_count (tree.list ds) = false
+is_count (tree.object ms) = false
+
+-- the value itself has the form, whatever its parts are
+abbrev pub has_form : Form → Data → Bool
+has_form AnyTree d = true
+has_form Text d = is_text d
+has_form TruthValue d = is_boolean d
+has_form ObjectOfObjects d = is_object d
+has_form TruthValueOrObject d = is_boolean d || is_object d
+has_form Object d = is_object d
+has_form SomeObjects d = is_some_list d
+has_form Texts d = is_list d
+has_form ListForm d = is_list d
+has_form Integer d = is_integer d
+has_form Count d = is_count d
+
+-- what stands at the path, in a value that has to have a form, has not the form that it has to have there
+abbrev pub BreaksForm : Form → Data → Path → Type 0
+BreaksForm f d path = (v : Data) × (part_at d path ≡ Some v) × (has_form (form_at f path) v ≡ false)
+
+-- each keyword of each place of a schema has its form, inside branches and outside
+abbrev pub HasForms : Data → Type 0
+HasForms raw = (path : Path) → BreaksForm Object raw path → ⊥
+
+-- the first value in path order that has not its form
+abbrev pub IsFormFault : Data → Path → Type 0
+IsFormFault raw path = IsFirst (BreaksForm Object raw) path

@@ -1,0 +1,14 @@
+pub mod Versions
+pub mod FormBreak
+pub mod Events
+pub mod PlaceView
+pub mod LimitBreak
+pub mod LimitFault
+pub mod Subschemas
+pub mod Contexts
+pub mod RuleParts
+pub mod Judged
+pub mod KindView
+pub mod Building
+pub mod NodeCode
+pub mod NodeMeasures

@@ -1,0 +1,33 @@
+-- For private contracts: what is known of the schemas from which nodes are made.
+use Rattle.std.specs.Prelude.{◌≡◌, ℕ, List, Bool, true, false, Some, option_map, codes}
+use Rattle.jtree.specs.Data.{Data, Members}
+use Rattle.jtree.specs.Path.{member_at, under}
+use Rattle.jtree.specs.View.{data_of}
+use Rattle.jtree.specs.declared.value.Member.{Member}
+use Rattle.schema.specs.Document.Texts.{is_among}
+use Rattle.schema.specs.Document.Places.{Place, is_inside, IsEnvelope}
+use Rattle.schema.specs.Rules.Broken.{At}
+use Rattle.schema.specs.Nodes.Keywords.{texts_under}
+use Rattle.schema.specs.Nodes.Node.{Fields, no_fields, field, IsNode}
+use Rattle.schema.specs.Nodes.View.{node_of}
+use Rattle.schema.specs.Nodes.Shape.{HasNoNode, IsNodeOf, is_declared}
+use Rattle.schema.specs.declared.node.Field.{Field}
+
+-- no place that has to have a node is without one
+abbrev pub HasNodes : Bool → Data → Type 0
+HasNodes root s = (p : Place) → is_inside p ≡ false → (root ≡ true → IsEnvelope p → ⊥) → At s p HasNoNode → ⊥
+
+abbrev pub HaveNodes : Bool → Members → Type 0
+HaveNodes root ms = (k : List ℕ) (d : Data) → member_at k ms ≡ Some d → is_declared root k d ≡ true → HasNodes false d
+
+-- the field is that of a property of the schema
+pub record IsFieldOf (f : Field) (schema : Data) (property : Member) : Type 0 where
+  pub name : f.name ≡ property.name
+  pub node : IsNodeOf false (node_of f.node) (data_of property.tree)
+  pub required : f.required ≡ is_among property.name (texts_under schema (codes "required"))
+  pub default : option_map data_of f.default ≡ under (data_of property.tree) (codes "default")
+
+-- each node has its fields in order
+abbrev pub AreNodes : Fields → Type 0
+AreNodes no_fields = Unit {0}
+AreNodes (field k N required default fs) = IsNode N × AreNodes fs

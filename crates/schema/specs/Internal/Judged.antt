@@ -1,0 +1,36 @@
+-- For private contracts: pairs of a place and a rule, which of them are broken, and that these are told.
+use Rattle.std.specs.Prelude.{◌≡◌, List, [], ◌∷◌, ◌++◌, map, flat_map}
+use Rattle.jtree.specs.Data.{Data}
+use Rattle.schema.specs.Document.Places.{Place}
+use Rattle.schema.specs.Internal.PlaceView.{place_of}
+use Rattle.schema.specs.Rules.Broken.{Broken}
+use Rattle.schema.specs.Rules.Breaks.{Break, told, told_of}
+use Rattle.schema.specs.declared.listing.Subschema.{Subschema}
+use Rattle.schema.specs.declared.violation.Rule.{Rule}
+use Rattle.schema.specs.declared.violation.Rule.TheVariants.{V01, V02, V03, V04, V05, V06, V07, V08, V09}
+use Rattle.schema.specs.declared.violation.Violation.{Violation}
+
+-- the rules that are judged, in order
+abbrev pub judged : List Rule
+judged = V01 ∷ V02 ∷ V03 ∷ V04 ∷ V05 ∷ V06 ∷ V07 ∷ V08 ∷ V09 ∷ []
+
+abbrev pub pair : Place → Rule → Break
+pair p r = record { place = p; rule = r }
+
+abbrev pub pairs_at : Place → List Rule → List Break
+pairs_at p rules = map (pair p) rules
+
+abbrev pub pairs_of : List Subschema → List Break
+pairs_of subschemas = flat_map (λ v. pairs_at (place_of v.place.items) judged) subschemas
+
+-- the pairs that are broken, in their order
+pub data AreBroken : Data → List Break → List Break → Type 0 where
+  none : (raw : Data) → AreBroken raw [] []
+  broken : (raw : Data) (b : Break) (pairs breaks : List Break) → Broken raw b.place b.rule → AreBroken raw pairs breaks → AreBroken raw (b ∷ pairs) (b ∷ breaks)
+  kept : (raw : Data) (b : Break) (pairs breaks : List Break) → (Broken raw b.place b.rule → ⊥) → AreBroken raw pairs breaks → AreBroken raw (b ∷ pairs) breaks
+
+-- behind the old violations the new ones tell which pairs are broken, in any schema of which this is known
+pub record AreFound (Known : Data → Type 0) (pairs : List Break) (old new : List Violation) : Type 0 where
+  pub found : List Break
+  pub told_as : map told new ≡ map told old ++ map told_of found
+  pub are : (raw : Data) → Known raw → AreBroken raw pairs found

@@ -1,0 +1,5 @@
+pub mod Node
+pub mod View
+pub mod Keywords
+pub mod Validations
+pub mod Shape

@@ -1,0 +1,89 @@
+// What is asked of a scalar besides its kind.
+ghost use Rattle.std.specs.Prelude.{◌≡◌, codes, IfOk, IfErr};
+ghost use Rattle.jtree.specs.Path.{under};
+ghost use Rattle.jtree.specs.View.{data_of};
+ghost use Rattle.schema.specs.Nodes.Validations.{AreConstraintsOf, AreValidationsOf, AreBranchesOf, one_item};
+ghost use Rattle.schema.specs.Nodes.View.{validations_of};
+ghost use Rattle.schema.specs.Nodes.Keywords.{items_under};
+ghost use Rattle.schema.specs.declared.refused.Refused.TheVariants.{NoMemory};
+
+use crate::node::{Branches, Constraints, Validations};
+use crate::reading::{bounds, copy_list, flag, integer};
+use crate::refused::Refused;
+use jtree::{Items, Tree};
+use std::alloc::Global;
+
+/// The validations of a schema, as its keywords stand there. `NoMemory` where an allocation fails.
+#[cycle(validations)]
+pub(crate) fn read_validations(alloc: Global, schema: &Tree) -> Result<Validations, Refused>
+    ensures ok { IfOk result (λ c. AreValidationsOf (validations_of c) (data_of schema.now)) }
+    ensures err { IfErr result (λ e. e ≡ NoMemory) }
+{
+    let constraints = read_constraints(alloc, schema)?;
+    let all_of = read_junctor(alloc, schema, "allOf")?;
+    let any_of = read_junctor(alloc, schema, "anyOf")?;
+    let one_of = read_junctor(alloc, schema, "oneOf")?;
+    let negated = read_negated(alloc, schema)?;
+    Ok(Validations {
+        constraints,
+        all_of,
+        any_of,
+        one_of,
+        negated,
+    })
+}
+
+/// The constraints of a schema. `NoMemory` where an allocation fails.
+fn read_constraints(alloc: Global, schema: &Tree) -> Result<Constraints, Refused>
+    ensures ok { IfOk result (λ t. AreConstraintsOf t (data_of schema.now)) }
+    ensures err { IfErr result (λ e. e ≡ NoMemory) }
+{
+    Ok(Constraints {
+        choices: copy_list(alloc, schema, "enum")?,
+        minimum: integer(schema, "minimum"),
+        maximum: integer(schema, "maximum"),
+        exclusive_minimum: flag(schema, "exclusiveMinimum"),
+        exclusive_maximum: flag(schema, "exclusiveMaximum"),
+        lengths: bounds(schema, "minLength", "maxLength"),
+    })
+}
+
+/// The branches in the list under a keyword. `NoMemory` where an allocation fails.
+#[cycle(validations)]
+fn read_junctor(alloc: Global, schema: &Tree, keyword: &str) -> Result<Branches, Refused>
+    ensures ok { IfOk result (λ b. AreBranchesOf b (items_under (data_of schema.now) keyword.now)) }
+    ensures err { IfErr result (λ e. e ≡ NoMemory) }
+{
+    match schema.get(keyword) {
+        Some(Tree::List(items)) => read_branches(alloc, items),
+        _ => Ok(Branches {
+            branches: Vec::new(alloc),
+        }),
+    }
+}
+
+/// A branch for each schema of a list. `NoMemory` where an allocation fails.
+#[cycle(validations)]
+fn read_branches(alloc: Global, items: &Items) -> Result<Branches, Refused>
+    ensures ok { IfOk result (λ b. AreBranchesOf b items.now) }
+    ensures err { IfErr result (λ e. e ≡ NoMemory) }
+{
+    let mut branches = Vec::with_capacity(alloc, items.items.len())?;
+    for item in &items.items {
+        branches.push(read_validations(alloc, item)?)?;
+    }
+    Ok(Branches { branches })
+}
+
+/// The branch of `not`, where it is there. `NoMemory` where an allocation fails.
+#[cycle(validations)]
+fn read_negated(alloc: Global, schema: &Tree) -> Result<Branches, Refused>
+    ensures ok { IfOk result (λ b. AreBranchesOf b (one_item (under (data_of schema.now) (codes "not")))) }
+    ensures err { IfErr result (λ e. e ≡ NoMemory) }
+{
+    let mut branches = Vec::new(alloc);
+    if let Some(negated) = schema.get("not") {
+        branches.push(read_validations(alloc, negated)?)?;
+    }
+    Ok(Branches { branches })
+}
