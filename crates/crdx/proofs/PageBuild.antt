@@ -24,7 +24,8 @@ use Rattle.jtree.specs.View.{data_of}
 use Rattle.jtree.specs.declared.value.Tree.{Tree}
 use Rattle.crdx.specs.Samples.Sample.{Question}
 use Rattle.crdx.specs.Samples.Page.{Precedes, IsPast, IsCandidate, IsPage}
-use Rattle.crdx.specs.Internal.Values.{trees_of, AreSamples}
+use Rattle.crdx.specs.Samples.View.{trees_of}
+use Rattle.crdx.specs.Internal.Values.{AreSamples}
 use Rattle.crdx.specs.Internal.Building.{IsNext}
 use Rattle.jtree.specs.Internal.Lookups.{ordering_cases, bool_cases}
 use Rattle.crdx.proofs.PageLemmas.{not_before_itself, recursion-among, among_middle}

@@ -1,171 +1,193 @@
--- How the stops of a run and its status go together with what is asked of the documents at hand.
-use Rattle.std.proofs.Common.{◌≡◌, ◌≢◌, ◌⊎◌, ℕ, List, [], ◌∷◌, Option, Some, None, Bor, Ok, Vec, Global, refl, subst, inl, inr, arith, map, string_bytes}
-use Rattle.std.specs.Io.KnownBytes.{Keeps}
+-- How the causes of a run and its status go together with what is asked of the documents at hand.
+use Rattle.std.proofs.Common.{◌≡◌, ◌≢◌, ◌⊎◌, ℕ, List, [], ◌∷◌, Option, Some, None, Bor, Ok, Err, Vec, Global, refl, sym, subst, inl, inr, take, map, string_bytes, IsSomeAnd, Bool, ◌∙◌, append-nil, arith}
+use Rattle.std.specs.Io.KnownBytes.{Appends, Keeps}
 use Rattle.jtree.specs.Data.{Data}
-use Rattle.schema.specs.Rules.Breaks.{Break, told, told_of}
+use Rattle.jtree.specs.Internal.OrderLaws.{tree_total}
+use Rattle.schema.specs.Rules.Breaks.{Break, told, told_of, AreViolations}
 use Rattle.schema.specs.Document.ReadFault.{IsReadFault}
 use Rattle.schema.specs.declared.fault.SFault.{SFault}
 use Rattle.schema.specs.declared.fault.SFault.TheVariants as s
 use Rattle.schema.specs.declared.refused.Refused.{Refused}
-use Rattle.schema.specs.declared.refused.Refused.TheVariants as refused
+use Rattle.schema.specs.declared.refused.Refused.TheVariants as refusal
 use Rattle.schema.specs.declared.violation.Violation.{Violation}
-use Rattle.crdx.specs.Program.RunResult.{IsRunResult, IsInputRefused, SaysBreaks}
-use Rattle.crdx.specs.Output.Sink.{HasFailed}
-use Rattle.crdx.specs.Program.Requested.{ArePools, ArePoolsRefused, IsRequestedSchema, IsCrdRefused}
+use Rattle.crdx.specs.Program.RunResult.{IsRunResult, answered, refused, unread_input, unwritten, no_memory, IsInputRefused, IsAnswer, violations, no_samples, HasBreaks, IsCutByMemory, IsCutByWrite, told_lines}
+use Rattle.crdx.specs.Output.Line.{lines}
+use Rattle.crdx.specs.Output.PartialOutput.{IsPartialOutput, IsCutByFailure, IsCutWithinLine}
+use Rattle.crdx.specs.Output.Walk.{WritesPage}
+use Rattle.crdx.specs.Program.Requested.{ArePools, IsRequested, IsRequestedSchema, HasAcceptedSchema, IsCrdRefused}
 use Rattle.crdx.specs.Program.Documents.{Documents, AreAmong}
-use Rattle.crdx.specs.Internal.ExitStatus.{status, cause_of_reading, cause_of_refusal}
+use Rattle.crdx.specs.Internal.ExitStatus.{status, cause_of_reading, cause_of_refusal, cause_of_walk, IsGiven}
+use Rattle.crdx.specs.Internal.Cause.{IsSchemaCause, IsPoolsCause, IsInputCause, IsSampleCause, IsWalkCause}
 use Rattle.crdx.specs.Samples.Over.{Pools}
+use Rattle.crdx.specs.Samples.Page.{IsPage}
+use Rattle.crdx.specs.Samples.Sample.{Question}
 use Rattle.crdx.specs.Objects.Refusal.{IsRefusal}
-use Rattle.crdx.specs.Internal.Cause.{IsSchemaCause, IsPoolsCause, IsSampleCause, IsWriteCause}
 use Rattle.crdx.specs.declared.plan.fault.PFault.TheVariants.{Form}
-use Rattle.crdx.specs.declared.running.Input.TheVariants as input
-use Rattle.crdx.specs.declared.running.PlaceCode.TheVariants as code
-use Rattle.crdx.specs.declared.running.Cause.{Cause}
-use Rattle.crdx.specs.declared.running.Cause.TheVariants.{Unread, Document, Crd, Pools as PoolsCause, Place, Violations, NotASample, Write, NoMemory}
+use Rattle.crdx.specs.declared.running.causes.Input.TheVariants as input
+use Rattle.crdx.specs.declared.running.causes.PlaceCode.TheVariants as code
+use Rattle.crdx.specs.declared.running.causes.Cause.{Cause}
+use Rattle.crdx.specs.declared.running.causes.Cause.TheVariants.{Unread, Document, Crd, Pools as PoolsCause, Place, Violations, NotASample, Write, NoMemory}
+use Rattle.crdx.specs.declared.running.checking.Answer.{Answer}
 use Rattle.crdx.specs.declared.arguments.request.CheckArguments.{CheckArguments}
 use Rattle.crdx.specs.declared.arguments.request.SampleArguments.{SampleArguments}
 use Rattle.crdx.specs.declared.arguments.request.Request.{Request}
-use Rattle.crdx.specs.declared.arguments.request.Request.TheVariants.{Check, Sample}
+use Rattle.crdx.specs.declared.arguments.request.Request.TheVariants.{Check, Sample, Help, UsageError, NoMemory as NoRequest}
+use Rattle.crdx.specs.declared.walk.fault.WFault.{WFault}
+use Rattle.crdx.specs.declared.walk.fault.WFault.TheVariants as w
+use Rattle.crdx.specs.Output.Sink.{HasFailed, one_more}
+use Rattle.std.proofs.lemmas.Bool.Decides.{nat_tests}
+use Rattle.crdx.proofs.PageLemmas.{same_items}
 
 -- pools of documents that were at hand before
 pub pools_before : (first second : Documents) (name : Option (Bor (List ℕ))) (P : Pools) → AreAmong first second → ArePools first name P → ArePools second name P
 pools_before first second None P among is = is
 pools_before first second (Some name) P among is = (is.0, among (Some name.now) (Ok is.0) is.1, is.2, is.3)
 
-pub cause_of_fault : (has : Documents) (crd version : List ℕ) (d : Data) (fault : SFault) → has (Some crd) (Ok d) → IsReadFault d version fault → IsSchemaCause has crd version (cause_of_reading fault)
-cause_of_fault has crd version d s.NotACrd at is = (d, at, λ e. cc, is)
-cause_of_fault has crd version d s.NoSuchVersion at is = (d, at, λ e. cc, is)
-cause_of_fault has crd version d (s.KeywordForm p) at is = (d, at, λ e. cc, is)
-cause_of_fault has crd version d (s.TooLarge p) at is = (d, at, λ e. cc, is)
-cause_of_fault has crd version d s.NoMemory at is = tt
+module _ (has : Documents) (unread read : ℕ) (crd version : List ℕ) where
+  pub cause_of_fault : (d : Data) (fault : SFault) → has (Some crd) (Ok d) → IsReadFault d version fault → IsSchemaCause has unread read crd version (cause_of_reading fault)
+  cause_of_fault d s.NotACrd at is = (d, at, λ e. cc, is)
+  cause_of_fault d s.NoSuchVersion at is = (d, at, λ e. cc, is)
+  cause_of_fault d (s.KeywordForm p) at is = (d, at, λ e. cc, is)
+  cause_of_fault d (s.TooLarge p) at is = (d, at, λ e. cc, is)
+  cause_of_fault d s.NoMemory at is = tt
 
-pub cause_of_refused : (has : Documents) (crd version : List ℕ) (raw : Data) (r : Refused) → IsRequestedSchema has crd version raw → IsRefusal raw r → IsSchemaCause has crd version (cause_of_refusal r)
-cause_of_refused has crd version raw (refused.Violations vs) asked is = (raw, asked, is.0, is.1)
-cause_of_refused has crd version raw (refused.NotYet p) asked is = (raw, asked, is.0, is.1)
-cause_of_refused has crd version raw refused.NoMemory asked is = tt
+  pub cause_of_refused : (raw : Data) (r : Refused) → IsRequestedSchema has crd version raw → IsRefusal raw r → IsSchemaCause has unread read crd version (cause_of_refusal r)
+  cause_of_refused raw (refusal.Violations vs) asked is = (raw, asked, is.0, is.1)
+  cause_of_refused raw (refusal.NotYet p) asked is = (raw, asked, is.0, is.1)
+  cause_of_refused raw refusal.NoMemory asked is = tt
 
-module _ (has : Documents) (request : Request) (old new : Option (List ℕ)) (before now : ℕ) where
-  answered_4 : Keeps old new ⊎ HasFailed before now → IsRunResult has request old new before now 4
-  answered_4 failed = record {
-    done = λ e. absurd (omega (arith, e));
-    broken = λ e. absurd (omega (arith, e));
-    usage_error = λ e. absurd (omega (arith, e));
-    refused = λ e. absurd (omega (arith, e));
-    failed = λ _. failed;
-    ranged = omega arith;
-  }
+  -- why a request that names the schema has no answer, where violations are told apart
+  input_of_schema : (request : Request) (cause : Cause) → (IsCrdRefused has crd version → IsInputRefused has request)
+      → ((vs : Vec Violation Global) → cause ≡ Violations vs → IsSchemaCause has unread read crd version (Violations vs) → IsAnswer has request 1 [])
+      → IsSchemaCause has unread read crd version cause → IsInputCause has unread read request cause
+  input_of_schema request (Unread i) refuse answer why = why.1
+  input_of_schema request (Document i fault) refuse answer why = refuse (inl (fault, why.1, why.2))
+  input_of_schema request (Crd fault) refuse answer why = refuse (inr (inl (fault, why)))
+  input_of_schema request (PoolsCause fault) refuse answer why = absurd why
+  input_of_schema request (Place input.Crd code.NotYet p) refuse answer why = refuse (inr (inr (string_bytes p, why)))
+  input_of_schema request (Place input.Crd code.KeywordForm p) refuse answer why = refuse (inr (inl (s.KeywordForm p, why)))
+  input_of_schema request (Place input.Crd code.TooLarge p) refuse answer why = refuse (inr (inl (s.TooLarge p, why)))
+  input_of_schema request (Place input.Crd code.Form p) refuse answer why = absurd why
+  input_of_schema request (Place input.Pools c p) refuse answer why = absurd why
+  input_of_schema request (Violations vs) refuse answer why = answer vs refl why
+  input_of_schema request NotASample refuse answer why = absurd why
+  input_of_schema request (Write n) refuse answer why = absurd why
+  input_of_schema request NoMemory refuse answer why = tt
 
-  answered_5 : IsRunResult has request old new before now 5
-  answered_5 = record {
-    done = λ e. absurd (omega (arith, e));
-    broken = λ e. absurd (omega (arith, e));
-    usage_error = λ e. absurd (omega (arith, e));
-    refused = λ e. absurd (omega (arith, e));
-    failed = λ e. absurd (omega (arith, e));
-    ranged = omega arith;
-  }
+  some_break : (vs : List Violation) (breaks : List Break) → map told vs ≡ map told_of breaks → vs ≢ [] → breaks ≢ []
+  some_break [] breaks same some none = some refl
+  some_break (v ∷ vs) [] same some none = cc
+  some_break (v ∷ vs) (b ∷ breaks) same some none = cc
 
-  answered_3 : IsInputRefused has request → Keeps old new → IsRunResult has request old new before now 3
-  answered_3 why keeps = record {
-    done = λ e. absurd (omega (arith, e));
-    broken = λ e. absurd (omega (arith, e));
-    usage_error = λ e. absurd (omega (arith, e));
-    refused = λ _. (why, keeps);
-    failed = λ e. absurd (omega (arith, e));
-    ranged = omega arith;
-  }
+  -- the breaks that violations tell
+  pub broken : (vs : Vec Violation Global) → IsSchemaCause has unread read crd version (Violations vs) → (breaks : List Break) × (map told vs.items ≡ map told_of breaks) × HasBreaks has crd version breaks
+  broken vs why = (why.2.0, why.2.2, (why.0, why.1, why.2.1, some_break vs.items why.2.0 why.2.2 why.3))
 
-  answered_1 : SaysBreaks has request old new → IsRunResult has request old new before now 1
-  answered_1 is = record {
-    done = λ e. absurd (omega (arith, e));
-    broken = λ _. is;
-    usage_error = λ e. absurd (omega (arith, e));
-    refused = λ e. absurd (omega (arith, e));
-    failed = λ e. absurd (omega (arith, e));
-    ranged = omega arith;
-  }
+pub check_input : (has : Documents) (unread read : ℕ) (arguments : CheckArguments) (cause : Cause) → ((vs : Vec Violation Global) → cause ≡ Violations vs → ⊥)
+    → IsSchemaCause has unread read arguments.crd.now arguments.version.now cause → IsInputCause has unread read (Check arguments) cause
+check_input has unread read arguments cause none why =
+    input_of_schema has unread read arguments.crd.now arguments.version.now (Check arguments) cause (λ r. r) (λ vs e is. absurd (none vs e)) why
 
-  -- an input is refused, and nothing was written
-  result_of_input : (cause : Cause) (answer : ℕ) → (status cause ≡ 3 → IsInputRefused has request) → ((vs : Vec Violation Global) → cause ≡ Violations vs → SaysBreaks has request old new)
-      → cause ≢ NotASample → Keeps old new → (answer ≡ status cause) ⊎ (answer ≡ 5) → IsRunResult has request old new before now answer
-  result_of_input cause answer refused violated sampled keeps (inr e) = rw e answered_5
-  result_of_input (Unread i) answer refused violated sampled keeps (inl e) = rw e (answered_4 (inl keeps))
-  result_of_input (Document i fault) answer refused violated sampled keeps (inl e) = rw e (answered_3 (refused refl) keeps)
-  result_of_input (Crd fault) answer refused violated sampled keeps (inl e) = rw e (answered_3 (refused refl) keeps)
-  result_of_input (PoolsCause fault) answer refused violated sampled keeps (inl e) = rw e (answered_3 (refused refl) keeps)
-  result_of_input (Place i c p) answer refused violated sampled keeps (inl e) = rw e (answered_3 (refused refl) keeps)
-  result_of_input (Violations vs) answer refused violated sampled keeps (inl e) = rw e (answered_1 (violated vs refl))
-  result_of_input NotASample answer refused violated sampled keeps (inl e) = absurd (sampled refl)
-  result_of_input (Write lines) answer refused violated sampled keeps (inl e) = rw e (answered_4 (inl keeps))
-  result_of_input NoMemory answer refused violated sampled keeps (inl e) = rw e answered_5
+pub sample_input : (has : Documents) (unread read : ℕ) (arguments : SampleArguments) (cause : Cause)
+    → IsSchemaCause has unread read arguments.crd.now arguments.version.now cause → IsInputCause has unread read (Sample arguments) cause
+sample_input has unread read arguments cause why =
+    let crd = arguments.crd.now in
+    let version = arguments.version.now in
+    input_of_schema has unread read crd version (Sample arguments) cause (λ r. inl r)
+    (λ vs e is. let found = broken has unread read crd version vs is in no_samples arguments found.0 found.2) why
 
-  pub result_of_write : (cause : Cause) (answer : ℕ) → IsWriteCause before now cause → (answer ≡ status cause) ⊎ (answer ≡ 5) → IsRunResult has request old new before now answer
-  result_of_write (Write lines) answer is (inl e) = rw e (answered_4 (inr is))
-  result_of_write NoMemory answer is (inl e) = rw e answered_5
-  result_of_write cause answer is (inr e) = rw e answered_5
-  result_of_write (Unread i) answer is (inl e) = absurd is
-  result_of_write (Document i fault) answer is (inl e) = absurd is
-  result_of_write (Crd fault) answer is (inl e) = absurd is
-  result_of_write (PoolsCause fault) answer is (inl e) = absurd is
-  result_of_write (Place i c p) answer is (inl e) = absurd is
-  result_of_write (Violations vs) answer is (inl e) = absurd is
-  result_of_write NotASample answer is (inl e) = absurd is
+among_some : (first second : Documents) (name : Option (Bor (List ℕ))) (r : Bor (List ℕ) → Type 0) (q : Bor (List ℕ) → Type 0) → ((n : Bor (List ℕ)) → r n → q n) → IsSomeAnd name r → IsSomeAnd name q
+among_some first second None r q f is = is
+among_some first second (Some n) r q f is = f n is
 
-some_break : (vs : List Violation) (breaks : List Break) → map told vs ≡ map told_of breaks → vs ≢ [] → breaks ≢ []
-some_break [] breaks same some none = some refl
-some_break (v ∷ vs) [] same some none = cc
-some_break (v ∷ vs) (b ∷ breaks) same some none = cc
+-- the pools are read of documents that were at hand before, where the schema is accepted
+pub pools_input : (has later : Documents) (unread read : ℕ) (arguments : SampleArguments) (cause : Cause) → AreAmong later has → HasAcceptedSchema has arguments.crd.now arguments.version.now
+    → IsPoolsCause later unread read arguments.pools cause → IsInputCause has unread read (Sample arguments) cause
+pools_input has later unread read arguments (Unread i) among accepted why = why.1
+pools_input has later unread read arguments (Document i fault) among accepted why =
+    inr (accepted, inl (fault, why.1, among_some later has arguments.pools _ _ (λ n is. among (Some n.now) (Err fault) is) why.2))
+pools_input has later unread read arguments (Crd fault) among accepted why = absurd why
+pools_input has later unread read arguments (PoolsCause fault) among accepted why =
+    inr (accepted, inr (fault, among_some later has arguments.pools _ _ (λ n is. (is.0, among (Some n.now) (Ok is.0) is.1, is.2, is.3)) why))
+pools_input has later unread read arguments (Place input.Crd c p) among accepted why = absurd why
+pools_input has later unread read arguments (Place input.Pools code.NotYet p) among accepted why = absurd why
+pools_input has later unread read arguments (Place input.Pools code.KeywordForm p) among accepted why = absurd why
+pools_input has later unread read arguments (Place input.Pools code.TooLarge p) among accepted why = absurd why
+pools_input has later unread read arguments (Place input.Pools code.Form p) among accepted why =
+    inr (accepted, inr (Form p, among_some later has arguments.pools _ _ (λ n is. (is.0, among (Some n.now) (Ok is.0) is.1, is.2, is.3)) why))
+pools_input has later unread read arguments (Violations vs) among accepted why = absurd why
+pools_input has later unread read arguments NotASample among accepted why = absurd why
+pools_input has later unread read arguments (Write n) among accepted why = absurd why
+pools_input has later unread read arguments NoMemory among accepted why = tt
 
-crd_refused : (has : Documents) (crd version : List ℕ) (cause : Cause) → IsSchemaCause has crd version cause → status cause ≡ 3 → IsCrdRefused has crd version
-crd_refused has crd version (Document i fault) why is = inl (fault, why.1, why.2)
-crd_refused has crd version (Crd fault) why is = inr (inl (fault, why))
-crd_refused has crd version (Place input.Crd code.NotYet p) why is = inr (inr (string_bytes p, why))
-crd_refused has crd version (Place input.Crd code.KeywordForm p) why is = inr (inl (s.KeywordForm p, why))
-crd_refused has crd version (Place input.Crd code.TooLarge p) why is = inr (inl (s.TooLarge p, why))
-crd_refused has crd version (Place input.Crd code.Form p) why is = absurd why
-crd_refused has crd version (Place input.Pools c p) why is = absurd why
-crd_refused has crd version (PoolsCause fault) why is = absurd why
-crd_refused has crd version (Unread i) why is = absurd (omega (arith, is))
-crd_refused has crd version (Violations vs) why is = absurd (omega (arith, is))
-crd_refused has crd version NotASample why is = absurd why
-crd_refused has crd version (Write lines) why is = absurd why
-crd_refused has crd version NoMemory why is = absurd (omega (arith, is))
+Appends-nothing : (old new : Option (List ℕ)) → Keeps old new → Appends old new []
+Appends-nothing None new keeps = tt
+Appends-nothing (Some x) None keeps = absurd keeps
+Appends-nothing (Some x) (Some y) keeps = keeps ∙ sym (append-nil x)
 
-pools_refused : (has : Documents) (pools : Option (Bor (List ℕ))) (cause : Cause) → IsPoolsCause has pools cause → status cause ≡ 3 → ArePoolsRefused has pools
-pools_refused has pools (Document i fault) why is = inl (fault, why.1, why.2)
-pools_refused has pools (PoolsCause fault) why is = inr (fault, why)
-pools_refused has pools (Place input.Pools code.Form p) why is = inr (Form p, why)
-pools_refused has pools (Place input.Pools code.NotYet p) why is = absurd why
-pools_refused has pools (Place input.Pools code.KeywordForm p) why is = absurd why
-pools_refused has pools (Place input.Pools code.TooLarge p) why is = absurd why
-pools_refused has pools (Place input.Crd c p) why is = absurd why
-pools_refused has pools (Crd fault) why is = absurd why
-pools_refused has pools (Unread i) why is = absurd (omega (arith, is))
-pools_refused has pools (Violations vs) why is = absurd why
-pools_refused has pools NotASample why is = absurd why
-pools_refused has pools (Write lines) why is = absurd why
-pools_refused has pools NoMemory why is = absurd (omega (arith, is))
+module _ (has : Documents) (unread read : ℕ) (request : Request) (old new : Option (List ℕ)) (before now : ℕ) where
+  kept : Keeps old new → (r : Request) → IsCutByMemory has r old new
+  kept keeps (Check a) = keeps
+  kept keeps (Sample a) = inl keeps
+  kept keeps (Help said) = keeps
+  kept keeps (UsageError said) = keeps
+  kept keeps NoRequest = keeps
 
-sample_refused : (has : Documents) (arguments : SampleArguments) (cause : Cause) → IsSampleCause has arguments cause → status cause ≡ 3 → IsInputRefused has (Sample arguments)
-sample_refused has arguments cause (inl why) is = inl (crd_refused has arguments.crd.now arguments.version.now cause why is)
-sample_refused has arguments cause (inr why) is = inr (why.0, pools_refused has arguments.pools cause why.1 is)
+  -- memory was wanting, and nothing is out
+  pub result_of_nothing : (answer : ℕ) → Keeps old new → now ≡ before → answer ≡ 5 → IsRunResult has unread read request old new before now answer
+  result_of_nothing answer keeps same e = rw e (no_memory (kept keeps request) same)
 
-module _ (has : Documents) (old new : Option (List ℕ)) (before now : ℕ) (keeps : Keeps old new) where
-  pub result_of_check : (arguments : CheckArguments) (cause : Cause) (answer : ℕ) → ((vs : Vec Violation Global) → cause ≡ Violations vs → ⊥)
-      → IsSchemaCause has arguments.crd.now arguments.version.now cause → (answer ≡ status cause) ⊎ (answer ≡ 5) → IsRunResult has (Check arguments) old new before now answer
-  result_of_check arguments cause answer not why is =
-      result_of_input has (Check arguments) old new before now cause answer (crd_refused has arguments.crd.now arguments.version.now cause why) (λ vs e. absurd (not vs e))
-      (λ e. subst (λ s. IsSchemaCause has arguments.crd.now arguments.version.now s) e why) keeps is
+  -- an input is refused or could not be read, and nothing is out
+  pub result_of_input : (cause : Cause) (answer : ℕ) → IsInputCause has unread read request cause → Keeps old new → now ≡ before → (answer ≡ status cause) ⊎ (answer ≡ 5)
+      → IsRunResult has unread read request old new before now answer
+  result_of_input cause answer why keeps same (inr e) = result_of_nothing answer keeps same e
+  result_of_input (Unread i) answer why keeps same (inl e) = rw e (unread_input why keeps same)
+  result_of_input (Document i fault) answer why keeps same (inl e) = rw e (refused why keeps same)
+  result_of_input (Crd fault) answer why keeps same (inl e) = rw e (refused why keeps same)
+  result_of_input (PoolsCause fault) answer why keeps same (inl e) = rw e (refused why keeps same)
+  result_of_input (Place i c p) answer why keeps same (inl e) = rw e (refused why keeps same)
+  result_of_input (Violations vs) answer why keeps same (inl e) = rw e (answered 1 [] why (Appends-nothing old new keeps) same)
+  result_of_input NotASample answer why keeps same (inl e) = absurd why
+  result_of_input (Write n) answer why keeps same (inl e) = absurd why
+  result_of_input NoMemory answer why keeps same (inl e) = result_of_nothing answer keeps same e
 
-  broken_sample : (arguments : SampleArguments) (vs : Vec Violation Global) → IsSampleCause has arguments (Violations vs) → SaysBreaks has (Sample arguments) old new
-  broken_sample arguments vs (inl why) = (why.0, why.1, why.2.0, why.2.1, some_break vs.items why.2.0 why.2.2 why.3, keeps)
-  broken_sample arguments vs (inr why) = absurd why.1
+  -- an answer was given, or standard output failed behind a beginning of it
+  pub result_of_given : (answer : Answer) (code : ℕ) → IsAnswer has request answer.status (string_bytes answer.text)
+      → ((n : ℕ) → Appends old new (take n (string_bytes answer.text)) → IsCutByWrite has request old new) → IsGiven answer old new before now code
+      → IsRunResult has unread read request old new before now code
+  result_of_given answer code is cut (inl given) = rw given.0 (answered answer.status (string_bytes answer.text) is given.1 given.2)
+  result_of_given answer code is cut (inr failed) = unwritten code failed.0 failed.1 (cut failed.2.0 failed.2.1)
 
-  no_sample : (arguments : SampleArguments) → IsSampleCause has arguments NotASample → ⊥
-  no_sample arguments (inl why) = why
-  no_sample arguments (inr why) = why.1
+-- why a walk stopped, as the cause that its fault becomes
+pub walk_cause : (q : Question) (count : ℕ) (old new : Option (List ℕ)) (before now : ℕ) (fault : WFault) → IsPartialOutput q None count old new before now fault → IsWalkCause q count old new before now (cause_of_walk fault)
+walk_cause q count old new before now w.NotASample is = absurd is.0
+walk_cause q count old new before now (w.NoMemory n) is = (is.0, (n, is.1))
+walk_cause q count old new before now (w.Write n) is = (is.0, λ items end page. inl (n, is.1 items end page))
 
-  pub result_of_sample : (arguments : SampleArguments) (cause : Cause) (answer : ℕ) → IsSampleCause has arguments cause → (answer ≡ status cause) ⊎ (answer ≡ 5) → IsRunResult has (Sample arguments) old new before now answer
-  result_of_sample arguments cause answer why is =
-      result_of_input has (Sample arguments) old new before now cause answer (sample_refused has arguments cause why)
-      (λ vs e. broken_sample arguments vs (subst (λ s. IsSampleCause has arguments s) e why)) (λ e. no_sample arguments (subst (λ s. IsSampleCause has arguments s) e why)) keeps is
+-- all lines were taken, and the flush behind them failed
+pub flush_cause : (q : Question) (count lines_out n : ℕ) (end : Bool) (old new : Option (List ℕ)) (before now : ℕ) → WritesPage q None count lines_out end old new → HasFailed before now
+    → IsWalkCause q count old new before now (Write n)
+flush_cause q count lines_out n end old new before now wrote failed =
+    (failed, λ items end' page. inr (subst (λ us. Appends old new (lines us)) (same_items tree_total q None count wrote.items items end end' wrote.page page) wrote.written))
+
+module _ (has : Documents) (unread read : ℕ) (arguments : SampleArguments) (old new : Option (List ℕ)) (before now : ℕ) where
+  result_of_walk : (q : Question) (cause : Cause) (answer : ℕ) → IsRequested has arguments q → IsWalkCause q arguments.count old new before now cause → (answer ≡ status cause) ⊎ (answer ≡ 5)
+      → IsRunResult has unread read (Sample arguments) old new before now answer
+  result_of_walk q (Write n) answer asked why is = unwritten answer is why.0 (q, asked, why.1)
+  result_of_walk q NoMemory answer asked why (inl e) = rw e (no_memory (inr (q, asked, why.1.0, why.1.1)) why.0)
+  result_of_walk q NoMemory answer asked why (inr e) = rw e (no_memory (inr (q, asked, why.1.0, why.1.1)) why.0)
+  result_of_walk q (Unread i) answer asked why is = absurd why
+  result_of_walk q (Document i fault) answer asked why is = absurd why
+  result_of_walk q (Crd fault) answer asked why is = absurd why
+  result_of_walk q (PoolsCause fault) answer asked why is = absurd why
+  result_of_walk q (Place i c p) answer asked why is = absurd why
+  result_of_walk q (Violations vs) answer asked why is = absurd why
+  result_of_walk q NotASample answer asked why is = absurd why
+
+  pub result_of_sample : (cause : Cause) (answer : ℕ) → IsSampleCause has unread read arguments old new before now cause → (answer ≡ status cause) ⊎ (answer ≡ 5)
+      → IsRunResult has unread read (Sample arguments) old new before now answer
+  result_of_sample cause answer (inl why) is = result_of_input has unread read (Sample arguments) old new before now cause answer why.0 why.1 why.2 is
+  result_of_sample cause answer (inr why) is = result_of_walk why.0 cause answer why.1 why.2 is
+
+pub failed_once : (before now : ℕ) → now ≡ one_more before → HasFailed before now
+failed_once before now is = grind (arith, nat_tests)

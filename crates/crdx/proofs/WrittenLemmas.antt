@@ -5,7 +5,7 @@ use Rattle.std.specs.List.{slice_range}
 use Rattle.std.proofs.lemmas.List.Folds.{drop_split}
 use Rattle.jtree.specs.View.{data_of}
 use Rattle.jtree.specs.declared.value.Tree.{Tree}
-use Rattle.crdx.specs.Internal.Values.{trees_of}
+use Rattle.crdx.specs.Samples.View.{trees_of}
 use Rattle.std.proofs.lemmas.Bool.{cases_lt}
 use Rattle.std.proofs.lemmas.Bool.Decides.{nat_tests}
 use Rattle.std.proofs.lemmas.Grind.{flat_map-append}
@@ -134,7 +134,7 @@ pub partial_output_of_lines : (q : Question) (after : Option Data) (total : ℕ)
     → IsPage q after total items end → ArePartialLines items old new before now e → IsPartialOutput q after total old new before now e
 partial_output_of_lines q after total items end old new before now NotASample p s = absurd s
 partial_output_of_lines q after total items end old new before now (NoMemory n) p s =
-    λ us d r. subst (λ vs. IsCutBetweenLines vs n old new) (same_items tree_total q after total items us end d p r) s
+    (s.0, λ us d r. subst (λ vs. IsCutBetweenLines vs n old new) (same_items tree_total q after total items us end d p r) s.1)
 partial_output_of_lines q after total items end old new before now (Write n) p s =
     (s.0, λ us d r. subst (λ vs. IsCutWithinLine vs n old new) (same_items tree_total q after total items us end d p r) s.1)
 

@@ -5,6 +5,6 @@ pub mod PoolForm
 pub mod Values
 pub mod Building
 pub mod Block
-pub mod PartialLines
 pub mod Cause
 pub mod ExitStatus
+pub mod PartialLines

@@ -6,7 +6,7 @@ ghost use Rattle.jtree.specs.Reads.{Reads};
 ghost use Rattle.jtree.specs.View.{data_of};
 ghost use Rattle.jtree.specs.declared.fault.JFault.TheVariants.{TooLong, NoMemory};
 ghost use Rattle.crdx.specs.Program.Documents.{file_name, AreAmong};
-ghost use Rattle.crdx.specs.Program.InputFault.{IsInputFault, IsFaultOf};
+ghost use Rattle.crdx.specs.Program.InputFault.{IsInputFault, IsFaultOf, failures_after_read};
 ghost use Rattle.jtree.specs.declared.fault.JFault.{JFault};
 ghost use Rattle.crdx.specs.declared.inputs.InFault.TheVariants.{Failed, Document};
 
@@ -33,33 +33,35 @@ pub trait Inputs {
     // What stands under the name of a file, or is the standard input where there is no name: a document, or why there is none.
     ghost has: { Self → Option (List ℕ) → Result Data JFault → Type 0 };
 
+    // How often a document could not be opened or read, up to the greatest count.
+    ghost failures: { Self → ℕ };
+
     /// The document of the file of this name, or of the standard input where there is no name.
     ///
     /// `Failed` where it cannot be opened or read, and `Document` where it is no document, or where memory is wanted.
     fn tree(&mut self, name: Option<&str>) -> Result<Tree, InFault>
         ensures document { IfOk result (λ t. has self.old (file_name name.entry) (Ok (data_of t))) }
         ensures refused { IfErr result (IsInputFault (has self.old) (file_name name.entry)) }
-        ensures stays { AreAmong (has self.new) (has self.old) };
+        ensures stays { AreAmong (has self.new) (has self.old) }
+        ensures counts { failures self.new ≡ failures_after_read (failures self.old) result };
 }
 
 /// The files and the standard input of a runtime.
 #[derive(Drop)]
 pub struct Outside<'a, R> {
     rt: &'a R,
+    failures: u64,
 }
 
 impl<'a, R> Outside<'a, R> {
     /// The files and the standard input of this runtime.
     pub fn new(rt: &'a R) -> Outside<'a, R> {
-        Outside { rt }
+        Outside { rt, failures: 0 }
     }
 }
 
-impl<R: Files + Input + AllocGlobal> Inputs for Outside<'_, R> {
-    // Nothing is known of files.
-    ghost has = { λ _ _ _. Unit {0} };
-
-    fn tree(&mut self, name: Option<&str>) -> Result<Tree, InFault> {
+impl<R: Files + Input + AllocGlobal> Outside<'_, R> {
+    fn read(&self, name: Option<&str>) -> Result<Tree, InFault> {
         let alloc = self.rt.alloc();
         match name {
             Some(name) => match fs::open(self.rt, name) {
@@ -67,6 +69,24 @@ impl<R: Files + Input + AllocGlobal> Inputs for Outside<'_, R> {
                 Err(error) => Err(fault_of(error.kind())),
             },
             None => read_document(alloc, &mut self.rt.reader()),
+        }
+    }
+}
+
+impl<R: Files + Input + AllocGlobal> Inputs for Outside<'_, R> {
+    // Nothing is known of files.
+    ghost has = { λ _ _ _. Unit {0} };
+
+    ghost failures = { λ s. s.failures };
+
+    fn tree(&mut self, name: Option<&str>) -> Result<Tree, InFault> {
+        match self.read(name) {
+            Ok(tree) => Ok(tree),
+            Err(InFault::Failed) => {
+                self.failures = self.failures.saturating_add(1);
+                Err(InFault::Failed)
+            }
+            Err(fault) => Err(fault),
         }
     }
 }

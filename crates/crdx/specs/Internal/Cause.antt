@@ -1,77 +1,73 @@
--- Why a run has no answer, said of the documents at hand (this project's own).
-use Rattle.std.specs.Prelude.{◌≡◌, ◌≢◌, ◌⊎◌, ℕ, List, [], Option, Some, IsSomeAnd, Err, string_bytes}
+-- Why a run has no answer, said of the documents at hand; the counts are those of the reads that failed, before and now.
+use Rattle.std.specs.Prelude.{◌≡◌, ◌≢◌, ◌⊎◌, ℕ, List, [], Bool, Option, Some, None, IsSomeAnd, Err, string_bytes}
 use Rattle.std.specs.Borrow.{Bor}
+use Rattle.std.specs.Io.KnownBytes.{Appends, Keeps}
 use Rattle.jtree.specs.Data.{Data}
 use Rattle.jtree.specs.declared.fault.JFault.TheVariants as j
 use Rattle.schema.specs.Rules.Breaks.{AreViolations}
 use Rattle.schema.specs.declared.fault.SFault.TheVariants as s
-use Rattle.crdx.specs.Program.Requested.{IsRequestedSchema, HasAcceptedSchema, HasReadFault, HasUnknownPlace, HasPoolsFault}
-use Rattle.crdx.specs.Program.Documents.{Documents}
+use Rattle.crdx.specs.Output.PartialOutput.{IsCutBetweenLines, IsCutByFailure}
 use Rattle.crdx.specs.Output.Sink.{HasFailed}
+use Rattle.crdx.specs.Program.Documents.{Documents}
+use Rattle.crdx.specs.Program.Requested.{IsRequestedSchema, HasReadFault, HasUnknownPlace, HasPoolsFault, IsRequested}
+use Rattle.crdx.specs.Program.RunResult.{IsAnswer, IsInputRefused}
+use Rattle.crdx.specs.Samples.Page.{IsPage}
+use Rattle.crdx.specs.Samples.Sample.{Question}
+use Rattle.crdx.specs.declared.arguments.request.Request.{Request}
+use Rattle.crdx.specs.declared.arguments.request.Request.TheVariants.{Sample}
 use Rattle.crdx.specs.declared.arguments.request.SampleArguments.{SampleArguments}
 use Rattle.crdx.specs.declared.plan.fault.PFault.TheVariants.{Form}
-use Rattle.crdx.specs.declared.running.Input.{Input}
-use Rattle.crdx.specs.declared.running.Input.TheVariants as input
-use Rattle.crdx.specs.declared.running.PlaceCode.TheVariants as code
-use Rattle.crdx.specs.declared.running.Cause.{Cause}
-use Rattle.crdx.specs.declared.running.Cause.TheVariants.{Unread, Document, Crd, Pools, Place, Violations, NotASample, Write, NoMemory}
+use Rattle.crdx.specs.declared.running.causes.Input.{Input}
+use Rattle.crdx.specs.declared.running.causes.Input.TheVariants as input
+use Rattle.crdx.specs.declared.running.causes.PlaceCode.TheVariants as code
+use Rattle.crdx.specs.declared.running.causes.Cause.{Cause}
+use Rattle.crdx.specs.declared.running.causes.Cause.TheVariants.{Unread, Document, Crd, Pools, Place, Violations, NotASample, Write, NoMemory}
 
 -- why an input gives no document
-abbrev pub IsUnreadCause : Documents → Input → List ℕ → Cause → Type 0
-IsUnreadCause has input name (Unread i) = i ≡ input
-IsUnreadCause has input name (Document i fault) = (i ≡ input) × (fault ≢ j.NoMemory) × has (Some name) (Err fault)
-IsUnreadCause has input name NoMemory = Unit {0}
-IsUnreadCause has input name (Crd fault) = ⊥
-IsUnreadCause has input name (Pools fault) = ⊥
-IsUnreadCause has input name (Place i code pointer) = ⊥
-IsUnreadCause has input name (Violations vs) = ⊥
-IsUnreadCause has input name NotASample = ⊥
-IsUnreadCause has input name (Write lines) = ⊥
+abbrev pub IsUnreadCause : Documents → ℕ → ℕ → Input → List ℕ → Cause → Type 0
+IsUnreadCause has before now input name (Unread i) = (i ≡ input) × HasFailed before now
+IsUnreadCause has before now input name (Document i fault) = (i ≡ input) × (fault ≢ j.NoMemory) × has (Some name) (Err fault)
+IsUnreadCause has before now input name NoMemory = Unit {0}
+IsUnreadCause has before now input name _ = ⊥
 
 -- why there is no accepted schema
-abbrev pub IsSchemaCause : Documents → List ℕ → List ℕ → Cause → Type 0
-IsSchemaCause has crd version (Unread i) = i ≡ input.Crd
-IsSchemaCause has crd version (Document i fault) = (i ≡ input.Crd) × (fault ≢ j.NoMemory) × has (Some crd) (Err fault)
-IsSchemaCause has crd version (Crd fault) = HasReadFault has crd version fault
-IsSchemaCause has crd version (Pools fault) = ⊥
-IsSchemaCause has crd version (Place input.Crd code.NotYet p) = HasUnknownPlace has crd version (string_bytes p)
-IsSchemaCause has crd version (Place input.Crd code.KeywordForm p) = HasReadFault has crd version (s.KeywordForm p)
-IsSchemaCause has crd version (Place input.Crd code.TooLarge p) = HasReadFault has crd version (s.TooLarge p)
-IsSchemaCause has crd version (Place input.Crd code.Form p) = ⊥
-IsSchemaCause has crd version (Place input.Pools c p) = ⊥
-IsSchemaCause has crd version (Violations vs) = (raw : Data) × IsRequestedSchema has crd version raw × AreViolations raw vs.items × (vs.items ≢ [])
-IsSchemaCause has crd version NotASample = ⊥
-IsSchemaCause has crd version (Write lines) = ⊥
-IsSchemaCause has crd version NoMemory = Unit {0}
+abbrev pub IsSchemaCause : Documents → ℕ → ℕ → List ℕ → List ℕ → Cause → Type 0
+IsSchemaCause has before now crd version (Unread i) = (i ≡ input.Crd) × HasFailed before now
+IsSchemaCause has before now crd version (Document i fault) = (i ≡ input.Crd) × (fault ≢ j.NoMemory) × has (Some crd) (Err fault)
+IsSchemaCause has before now crd version (Crd fault) = HasReadFault has crd version fault
+IsSchemaCause has before now crd version (Place input.Crd code.NotYet p) = HasUnknownPlace has crd version (string_bytes p)
+IsSchemaCause has before now crd version (Place input.Crd code.KeywordForm p) = HasReadFault has crd version (s.KeywordForm p)
+IsSchemaCause has before now crd version (Place input.Crd code.TooLarge p) = HasReadFault has crd version (s.TooLarge p)
+IsSchemaCause has before now crd version (Violations vs) = (raw : Data) × IsRequestedSchema has crd version raw × AreViolations raw vs.items × (vs.items ≢ [])
+IsSchemaCause has before now crd version NoMemory = Unit {0}
+IsSchemaCause has before now crd version _ = ⊥
 
 -- why there are no pools
-abbrev pub IsPoolsCause : Documents → Option (Bor (List ℕ)) → Cause → Type 0
-IsPoolsCause has pools (Unread i) = i ≡ input.Pools
-IsPoolsCause has pools (Document i fault) = (i ≡ input.Pools) × (fault ≢ j.NoMemory) × IsSomeAnd pools (λ name. has (Some name.now) (Err fault))
-IsPoolsCause has pools (Crd fault) = ⊥
-IsPoolsCause has pools (Pools fault) = HasPoolsFault has pools fault
-IsPoolsCause has pools (Place input.Crd c p) = ⊥
-IsPoolsCause has pools (Place input.Pools code.NotYet p) = ⊥
-IsPoolsCause has pools (Place input.Pools code.KeywordForm p) = ⊥
-IsPoolsCause has pools (Place input.Pools code.TooLarge p) = ⊥
-IsPoolsCause has pools (Place input.Pools code.Form p) = HasPoolsFault has pools (Form p)
-IsPoolsCause has pools (Violations vs) = ⊥
-IsPoolsCause has pools NotASample = ⊥
-IsPoolsCause has pools (Write lines) = ⊥
-IsPoolsCause has pools NoMemory = Unit {0}
+abbrev pub IsPoolsCause : Documents → ℕ → ℕ → Option (Bor (List ℕ)) → Cause → Type 0
+IsPoolsCause has before now pools (Unread i) = (i ≡ input.Pools) × HasFailed before now
+IsPoolsCause has before now pools (Document i fault) = (i ≡ input.Pools) × (fault ≢ j.NoMemory) × IsSomeAnd pools (λ name. has (Some name.now) (Err fault))
+IsPoolsCause has before now pools (Pools fault) = HasPoolsFault has pools fault
+IsPoolsCause has before now pools (Place input.Pools code.Form p) = HasPoolsFault has pools (Form p)
+IsPoolsCause has before now pools NoMemory = Unit {0}
+IsPoolsCause has before now pools _ = ⊥
 
--- why a text or lines are not out
-abbrev pub IsWriteCause : ℕ → ℕ → Cause → Type 0
-IsWriteCause before now (Write lines) = HasFailed before now
-IsWriteCause before now NoMemory = Unit {0}
-IsWriteCause before now (Unread i) = ⊥
-IsWriteCause before now (Document i fault) = ⊥
-IsWriteCause before now (Crd fault) = ⊥
-IsWriteCause before now (Pools fault) = ⊥
-IsWriteCause before now (Place i c p) = ⊥
-IsWriteCause before now (Violations vs) = ⊥
-IsWriteCause before now NotASample = ⊥
+-- why a request has no answer before anything is written, or why it is answered with 1 and nothing on standard output
+abbrev pub IsInputCause : Documents → ℕ → ℕ → Request → Cause → Type 0
+IsInputCause has before now request (Unread i) = HasFailed before now
+IsInputCause has before now request (Violations vs) = IsAnswer has request 1 []
+IsInputCause has before now request NotASample = ⊥
+IsInputCause has before now request (Write n) = ⊥
+IsInputCause has before now request NoMemory = Unit {0}
+IsInputCause has before now request _ = IsInputRefused has request
 
--- why arguments of `sample` have no answer before anything is written; the pools are read where the schema is accepted
-abbrev pub IsSampleCause : Documents → SampleArguments → Cause → Type 0
-IsSampleCause has arguments cause = IsSchemaCause has arguments.crd.now arguments.version.now cause ⊎ (HasAcceptedSchema has arguments.crd.now arguments.version.now × IsPoolsCause has arguments.pools cause)
+-- why a walk over the samples of a question stopped, by what is out and by the failures of standard output
+abbrev pub IsWalkCause : Question → ℕ → Option (List ℕ) → Option (List ℕ) → ℕ → ℕ → Cause → Type 0
+IsWalkCause q count old new before now (Write n) = HasFailed before now × ((items : List Data) (end : Bool) → IsPage q None count items end → IsCutByFailure items old new)
+IsWalkCause q count old new before now NoMemory = (now ≡ before) × ((n : ℕ) × ((items : List Data) (end : Bool) → IsPage q None count items end → IsCutBetweenLines items n old new))
+IsWalkCause q count old new before now _ = ⊥
+
+-- why `sample` has no answer
+abbrev pub IsSampleCause : Documents → ℕ → ℕ → SampleArguments → Option (List ℕ) → Option (List ℕ) → ℕ → ℕ → Cause → Type 0
+IsSampleCause has unread read arguments old new before now cause =
+    (IsInputCause has unread read (Sample arguments) cause × Keeps old new × (now ≡ before))
+    ⊎ ((q : Question) × IsRequested has arguments q × IsWalkCause q arguments.count old new before now cause)

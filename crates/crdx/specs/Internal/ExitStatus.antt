@@ -1,12 +1,15 @@
 -- How a run of the program ends without an answer: what each refusal becomes, its status, and the names of inputs and codes
 -- in its line (this project's own).
-use Rattle.std.specs.Prelude.{ℕ, List, codes}
-use Rattle.crdx.specs.declared.running.Input.{Input}
-use Rattle.crdx.specs.declared.running.Input.TheVariants as input
-use Rattle.crdx.specs.declared.running.PlaceCode.{PlaceCode}
-use Rattle.crdx.specs.declared.running.PlaceCode.TheVariants as code
-use Rattle.crdx.specs.declared.running.Cause.{Cause}
-use Rattle.crdx.specs.declared.running.Cause.TheVariants as cause
+use Rattle.std.specs.Prelude.{◌≡◌, ◌⊎◌, ℕ, List, take, Option, string_bytes, codes}
+use Rattle.std.specs.Io.KnownBytes.{Appends}
+use Rattle.crdx.specs.Output.Sink.{HasFailed}
+use Rattle.crdx.specs.declared.running.checking.Answer.{Answer}
+use Rattle.crdx.specs.declared.running.causes.Input.{Input}
+use Rattle.crdx.specs.declared.running.causes.Input.TheVariants as input
+use Rattle.crdx.specs.declared.running.causes.PlaceCode.{PlaceCode}
+use Rattle.crdx.specs.declared.running.causes.PlaceCode.TheVariants as code
+use Rattle.crdx.specs.declared.running.causes.Cause.{Cause}
+use Rattle.crdx.specs.declared.running.causes.Cause.TheVariants as cause
 use Rattle.schema.specs.declared.fault.SFault.{SFault}
 use Rattle.schema.specs.declared.fault.SFault.TheVariants as s
 use Rattle.schema.specs.declared.refused.Refused.{Refused}
@@ -61,3 +64,9 @@ status cause.NotASample = 1
 status (cause.Violations violations) = 1
 status (cause.Write n) = 4
 status cause.NoMemory = 5
+
+-- what comes of an answer: all of it is out, or standard output failed behind a beginning of it
+abbrev pub IsGiven : Answer → Option (List ℕ) → Option (List ℕ) → ℕ → ℕ → ℕ → Type 0
+IsGiven answer old new before now code =
+    ((code ≡ answer.status) × Appends old new (string_bytes answer.text) × (now ≡ before))
+    ⊎ (((code ≡ 4) ⊎ (code ≡ 5)) × HasFailed before now × ((n : ℕ) × Appends old new (take n (string_bytes answer.text))))

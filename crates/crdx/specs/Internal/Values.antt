@@ -1,16 +1,11 @@
 -- For private contracts: all values that fit a node within a limit, and all rows of members that fit some fields.
-use Rattle.std.specs.Prelude.{◌≡◌, ◌≤◌, ◌+◌, ◌↔◌, ℕ, List, map, Contains}
+use Rattle.std.specs.Prelude.{◌≡◌, ◌≤◌, ◌+◌, ◌↔◌, ℕ, List, Contains}
 use Rattle.jtree.specs.Data.{Data, Members, member, IsTree, IsObject}
 use Rattle.jtree.specs.Nodes.{node_count, members_count}
-use Rattle.jtree.specs.View.{data_of}
-use Rattle.jtree.specs.declared.value.Tree.{Tree}
 use Rattle.crdx.specs.Objects.Node.{Node, Fields}
 use Rattle.crdx.specs.Samples.Over.{Pools}
 use Rattle.crdx.specs.Objects.Fits.{Fits, MembersFit}
 use Rattle.crdx.specs.Samples.Sample.{Question, IsSample}
-
-abbrev pub trees_of : List Tree → List Data
-trees_of ts = map (λ t. data_of t) ts
 
 pub record IsValueOf (P : Pools) (N : Node) (limit : ℕ) (v : Data) : Type 0 where
   pub tree : IsTree v

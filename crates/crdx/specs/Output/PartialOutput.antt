@@ -26,9 +26,14 @@ pub record IsCutWithinLine (items : List Data) (n : ℕ) (old new : Option (List
   pub beginning : IsProperBeginning part (line next)
   pub out : Appends old new (lines (take n items) ++ part)
 
+-- standard output failed within a line, or behind the last one
+abbrev pub IsCutByFailure : List Data → Option (List ℕ) → Option (List ℕ) → Type 0
+IsCutByFailure items old new = ((n : ℕ) × IsCutWithinLine items n old new) ⊎ Appends old new (lines items)
+
 -- what a walk past this place leaves behind where it fails: what the sink held and holds, and its failures then and now
 abbrev pub IsPartialOutput : Question → Option Data → ℕ → Option (List ℕ) → Option (List ℕ) → ℕ → ℕ → WFault → Type 0
-IsPartialOutput q after total old new before now NotASample = IsSomeAnd after (λ a. IsSample q a → ⊥) × Keeps old new
-IsPartialOutput q after total old new before now (NoMemory n) = (items : List Data) (end : Bool) → IsPage q after total items end → IsCutBetweenLines items n old new
+IsPartialOutput q after total old new before now NotASample = IsSomeAnd after (λ a. IsSample q a → ⊥) × Keeps old new × (now ≡ before)
+IsPartialOutput q after total old new before now (NoMemory n) = (now ≡ before)
+    × ((items : List Data) (end : Bool) → IsPage q after total items end → IsCutBetweenLines items n old new)
 IsPartialOutput q after total old new before now (Write n) = HasFailed before now
     × ((items : List Data) (end : Bool) → IsPage q after total items end → IsCutWithinLine items n old new)

@@ -4,6 +4,7 @@ use Rattle.jtree.specs.Data.{Data}
 use Rattle.jtree.specs.Reads.{Reads, IsNoJson, HasOtherNumber, most_bytes}
 use Rattle.jtree.specs.declared.fault.JFault.{JFault}
 use Rattle.jtree.specs.declared.fault.JFault.TheVariants.{NotAnInteger, NoMemory, NotJson, TooLong}
+use Rattle.crdx.specs.Output.Sink.{one_more}
 use Rattle.crdx.specs.Program.Documents.{Documents}
 use Rattle.crdx.specs.declared.inputs.InFault.{InFault}
 use Rattle.crdx.specs.declared.inputs.InFault.TheVariants.{Failed, Document}
@@ -32,3 +33,8 @@ IsInputFault has name (Document NotAnInteger) = has name (Err NotAnInteger)
 IsInputFault has name (Document NotJson) = has name (Err NotJson)
 IsInputFault has name (Document TooLong) = has name (Err TooLong)
 IsInputFault has name (Document NoMemory) = Unit {0}
+
+-- a document that could not be opened or read is one failure
+abbrev pub failures_after_read : {T : Type 0} → ℕ → Result T InFault → ℕ
+failures_after_read old (Err Failed) = one_more old
+failures_after_read old _ = old

@@ -1,17 +1,22 @@
--- What a run leaves on standard output, by the status that it answers (this project's own).
-use Rattle.std.specs.Prelude.{◌≡◌, ◌≢◌, ◌⊎◌, ◌≤◌, ℕ, List, [], ◌++◌, Bool, Option, None, map, flat_map, string_bytes, codes}
+-- What a run answers: its exit status, and what it leaves on standard output (this project's own).
+use Rattle.std.specs.Prelude.{◌≡◌, ◌≢◌, ◌⊎◌, ℕ, List, [], ◌++◌, take, Bool, Option, None, String, map, flat_map, string_bytes, codes}
+use Rattle.std.specs.Global.{Global}
 use Rattle.std.specs.Io.KnownBytes.{Appends, Keeps}
 use Rattle.jtree.specs.Data.{Data, text}
 use Rattle.jtree.specs.Text.{compact}
 use Rattle.schema.specs.Rules.Breaks.{Break, AreBreaks, Told, told_of, rule_name}
-use Rattle.crdx.specs.Program.Requested.{IsRequestedSchema, HasAcceptedSchema, IsCrdRefused, IsRequested, ArePoolsRefused}
+use Rattle.crdx.specs.Output.Line.{lines}
+use Rattle.crdx.specs.Output.PartialOutput.{IsCutBetweenLines, IsCutByFailure}
+use Rattle.crdx.specs.Output.Sink.{HasFailed}
 use Rattle.crdx.specs.Program.Documents.{Documents}
 use Rattle.crdx.specs.Program.Phrases.{phrase_of}
+use Rattle.crdx.specs.Program.Requested.{IsRequestedSchema, HasAcceptedSchema, IsCrdRefused, IsRequested, ArePoolsRefused}
+use Rattle.crdx.specs.Samples.Page.{IsPage}
 use Rattle.crdx.specs.Samples.Sample.{Question}
-use Rattle.crdx.specs.Output.Sink.{HasFailed}
-use Rattle.crdx.specs.Output.Walk.{WritesPage}
+use Rattle.crdx.specs.declared.arguments.request.CheckArguments.{CheckArguments}
+use Rattle.crdx.specs.declared.arguments.request.SampleArguments.{SampleArguments}
 use Rattle.crdx.specs.declared.arguments.request.Request.{Request}
-use Rattle.crdx.specs.declared.arguments.request.Request.TheVariants.{Check, Sample, Help, UsageError, NoMemory}
+use Rattle.crdx.specs.declared.arguments.request.Request.TheVariants.{Check, Sample, Help, UsageError}
 
 -- the line of a violation: the rule, the pointer of the place as a JSON text, and what is wrong there
 abbrev pub told_line : Told → List ℕ
@@ -20,44 +25,46 @@ told_line t = rule_name t.rule ++ (codes " " ++ (compact (text t.pointer) ++ (co
 abbrev pub told_lines : List Told → List ℕ
 told_lines ts = flat_map told_line ts
 
--- the request is carried out, and the whole answer is out
-abbrev pub IsDone : Documents → Request → Option (List ℕ) → Option (List ℕ) → Type 0
-IsDone has (Check arguments) old new = HasAcceptedSchema has arguments.crd.now arguments.version.now × Appends old new (codes "structural\n")
-IsDone has (Sample arguments) old new = (q : Question) × IsRequested has arguments q × (count : ℕ) × (end : Bool) × WritesPage q None arguments.count count end old new
-IsDone has (Help help) old new = Appends old new (string_bytes help)
-IsDone has (UsageError said) old new = ⊥
-IsDone has NoMemory old new = ⊥
+-- these are all breaks of the schema that is asked for, and there are some
+abbrev pub HasBreaks : Documents → List ℕ → List ℕ → List Break → Type 0
+HasBreaks has crd version breaks = (raw : Data) × IsRequestedSchema has crd version raw × AreBreaks raw breaks × (breaks ≢ [])
 
--- the schema breaks a rule: under `check` the lines of all that is broken are out
-abbrev pub SaysBreaks : Documents → Request → Option (List ℕ) → Option (List ℕ) → Type 0
-SaysBreaks has (Check arguments) old new = (raw : Data) × IsRequestedSchema has arguments.crd.now arguments.version.now raw
-    × (breaks : List Break) × AreBreaks raw breaks × (breaks ≢ []) × Appends old new (told_lines (map told_of breaks))
-SaysBreaks has (Sample arguments) old new = (raw : Data) × IsRequestedSchema has arguments.crd.now arguments.version.now raw
-    × (breaks : List Break) × AreBreaks raw breaks × (breaks ≢ []) × Keeps old new
-SaysBreaks has (Help help) old new = ⊥
-SaysBreaks has (UsageError said) old new = ⊥
-SaysBreaks has NoMemory old new = ⊥
-
-abbrev pub IsUsageError : Request → Type 0
-IsUsageError (Check arguments) = ⊥
-IsUsageError (Sample arguments) = ⊥
-IsUsageError (Help help) = ⊥
-IsUsageError (UsageError said) = Unit {0}
-IsUsageError NoMemory = ⊥
+-- the answer to a request: the exit status, and the whole text on standard output
+pub data IsAnswer (has : Documents) : Request → ℕ → List ℕ → Type 0 where
+  structural : (arguments : CheckArguments) → HasAcceptedSchema has arguments.crd.now arguments.version.now → IsAnswer has (Check arguments) 0 (codes "structural\n")
+  violations : (arguments : CheckArguments) (breaks : List Break) → HasBreaks has arguments.crd.now arguments.version.now breaks
+      → IsAnswer has (Check arguments) 1 (told_lines (map told_of breaks))
+  samples : (arguments : SampleArguments) (q : Question) (items : List Data) (end : Bool) → IsRequested has arguments q → IsPage q None arguments.count items end
+      → IsAnswer has (Sample arguments) 0 (lines items)
+  -- the violations are on standard error
+  no_samples : (arguments : SampleArguments) (breaks : List Break) → HasBreaks has arguments.crd.now arguments.version.now breaks → IsAnswer has (Sample arguments) 1 []
+  help : (said : String Global) → IsAnswer has (Help said) 0 (string_bytes said)
+  usage_error : (said : String Global) → IsAnswer has (UsageError said) 2 []
 
 -- an input of the request is refused; pools only where the schema is accepted
 abbrev pub IsInputRefused : Documents → Request → Type 0
 IsInputRefused has (Check arguments) = IsCrdRefused has arguments.crd.now arguments.version.now
 IsInputRefused has (Sample arguments) = IsCrdRefused has arguments.crd.now arguments.version.now ⊎ (HasAcceptedSchema has arguments.crd.now arguments.version.now × ArePoolsRefused has arguments.pools)
-IsInputRefused has (Help help) = ⊥
-IsInputRefused has (UsageError said) = ⊥
-IsInputRefused has NoMemory = ⊥
+IsInputRefused has _ = ⊥
 
--- 0 done, 1 the schema breaks a rule, 2 the arguments are refused, 3 an input is refused, 4 a read or a write failed; 5 is for want of memory
-pub record IsRunResult (has : Documents) (request : Request) (old new : Option (List ℕ)) (before now : ℕ) (status : ℕ) : Type 0 where
-  pub done : status ≡ 0 → IsDone has request old new × (now ≡ before)
-  pub broken : status ≡ 1 → SaysBreaks has request old new
-  pub usage_error : status ≡ 2 → IsUsageError request × Keeps old new
-  pub refused : status ≡ 3 → IsInputRefused has request × Keeps old new
-  pub failed : status ≡ 4 → Keeps old new ⊎ HasFailed before now
-  pub ranged : status ≤ 5
+-- what is out where standard output failed: a beginning of the answer, as a walk leaves it
+abbrev pub IsCutByWrite : Documents → Request → Option (List ℕ) → Option (List ℕ) → Type 0
+IsCutByWrite has (Sample arguments) old new =
+    (q : Question) × IsRequested has arguments q × ((items : List Data) (end : Bool) → IsPage q None arguments.count items end → IsCutByFailure items old new)
+IsCutByWrite has request old new = (status : ℕ) × (answer : List ℕ) × IsAnswer has request status answer × (n : ℕ) × Appends old new (take n answer)
+
+-- what is out where memory was wanting: nothing, or whole lines of samples, as a walk leaves them
+abbrev pub IsCutByMemory : Documents → Request → Option (List ℕ) → Option (List ℕ) → Type 0
+IsCutByMemory has (Sample arguments) old new = Keeps old new
+    ⊎ ((q : Question) × IsRequested has arguments q × (n : ℕ) × ((items : List Data) (end : Bool) → IsPage q None arguments.count items end → IsCutBetweenLines items n old new))
+IsCutByMemory has request old new = Keeps old new
+
+-- The exit status of a run, with what standard output held and holds, and how often reads of inputs and standard output
+-- had failed before it and have failed now: 3 an input is refused, 4 a read or a write failed, 5 memory was wanting, if
+-- only for the line that says of a failed write.
+pub data IsRunResult (has : Documents) (unread read : ℕ) (request : Request) (old new : Option (List ℕ)) (before now : ℕ) : ℕ → Type 0 where
+  answered : (status : ℕ) (answer : List ℕ) → IsAnswer has request status answer → Appends old new answer → now ≡ before → IsRunResult has unread read request old new before now status
+  refused : IsInputRefused has request → Keeps old new → now ≡ before → IsRunResult has unread read request old new before now 3
+  unread_input : HasFailed unread read → Keeps old new → now ≡ before → IsRunResult has unread read request old new before now 4
+  unwritten : (status : ℕ) → (status ≡ 4) ⊎ (status ≡ 5) → HasFailed before now → IsCutByWrite has request old new → IsRunResult has unread read request old new before now status
+  no_memory : IsCutByMemory has request old new → now ≡ before → IsRunResult has unread read request old new before now 5

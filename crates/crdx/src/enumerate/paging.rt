@@ -7,7 +7,8 @@ ghost use Rattle.jtree.specs.View.{data_of};
 ghost use Rattle.crdx.specs.Samples.Sample.{Question, IsSample};
 ghost use Rattle.crdx.specs.Samples.Page.{IsPage};
 ghost use Rattle.crdx.specs.Samples.View.{resume_point};
-ghost use Rattle.crdx.specs.Internal.Values.{trees_of, AreSamples};
+ghost use Rattle.crdx.specs.Samples.View.{trees_of};
+ghost use Rattle.crdx.specs.Internal.Values.{AreSamples};
 ghost use Rattle.crdx.specs.Internal.Building.{IsNext};
 ghost use Rattle.crdx.specs.declared.enumerate.fault.EFault.TheVariants.{NotASample, NoMemory};
 

@@ -2,7 +2,8 @@
 ghost use Rattle.std.specs.Prelude.{◌≡◌, ◌<◌, ◌⊎◌, ◌↔◌, [], ◌∷◌, OnOk, IfOk, IfErr, Contains};
 ghost use Rattle.jtree.specs.Data.{member, IsBefore};
 ghost use Rattle.jtree.specs.View.{data_of};
-ghost use Rattle.crdx.specs.Internal.Values.{trees_of, IsExtendedRow, AreExtendedRows};
+ghost use Rattle.crdx.specs.Samples.View.{trees_of};
+ghost use Rattle.crdx.specs.Internal.Values.{IsExtendedRow, AreExtendedRows};
 ghost use Rattle.crdx.specs.declared.enumerate.fault.EFault.TheVariants.{NoMemory};
 
 use crate::enumerate::fault::EFault;

@@ -4,7 +4,8 @@ ghost use Rattle.std.specs.Int.{w64};
 ghost use Rattle.jtree.specs.Data.{boolean as truth_value, integer as whole_number, object as object_of};
 ghost use Rattle.crdx.specs.Objects.Node.{scalar};
 ghost use Rattle.crdx.specs.Objects.NodeView.{kind_of, node_of};
-ghost use Rattle.crdx.specs.Internal.Values.{trees_of, AreValuesOf, AreRowsOf, AreSamples};
+ghost use Rattle.crdx.specs.Samples.View.{trees_of};
+ghost use Rattle.crdx.specs.Internal.Values.{AreValuesOf, AreRowsOf, AreSamples};
 ghost use Rattle.crdx.specs.declared.enumerate.fault.EFault.TheVariants.{NoMemory};
 
 use crate::enumerate::fault::EFault;

@@ -2,7 +2,7 @@
 ghost use Rattle.std.specs.Prelude.{◌≡◌, IfOk, IfErr};
 ghost use Rattle.crdx.specs.Output.Line.{lines};
 ghost use Rattle.crdx.specs.Internal.Block.{HasEnds, IsCountOfEnds};
-ghost use Rattle.crdx.specs.Internal.Values.{trees_of};
+ghost use Rattle.crdx.specs.Samples.View.{trees_of};
 ghost use Rattle.jtree.specs.declared.fault.JFault.TheVariants.{NoMemory};
 
 use jtree::{JFault, Tree};

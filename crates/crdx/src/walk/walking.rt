@@ -1,7 +1,7 @@
 ghost use Rattle.std.specs.Prelude.{◌≡◌, ◌⊎◌, Err, IfOk, IfErr, OnOk, IfSome, IsSomeAnd};
 ghost use Rattle.std.specs.Io.KnownBytes.{Appends, Keeps};
 ghost use Rattle.crdx.specs.Output.Line.{lines};
-ghost use Rattle.crdx.specs.Internal.Values.{trees_of};
+ghost use Rattle.crdx.specs.Samples.View.{trees_of};
 ghost use Rattle.crdx.specs.Samples.Sample.{IsSample};
 ghost use Rattle.crdx.specs.Samples.View.{resume_point};
 ghost use Rattle.crdx.specs.Output.PartialOutput.{IsPartialOutput};

@@ -1,19 +1,14 @@
-use Rattle.std.proofs.Common.{sym, subst, inl, inr}
+use Rattle.std.proofs.Common.{refl}
 use Rattle.std.proofs.KnownBytes.{Keeps-refl}
-use Rattle.crdx.specs.Program.RunResult.{IsRunResult}
 use Rattle.crdx.specs.declared.arguments.request.Request.TheVariants.{Check}
-use Rattle.crdx.proofs.RunLemmas.{result_of_check, result_of_write}
+use Rattle.crdx.proofs.RunLemmas.{result_of_given, result_of_input}
 use Rattle.crdx.proofs.running.answer_check.Goals as goal
 
-pub returns : goal.returns
-returns g c =
-    let has = g.I.Inputs.has c.args.inputs.now in
-    let taken = g.W.Sink.taken in
-    let failures = g.W.Sink.failures in
-    let out = c.args.out.now in
-    elim c.in-Err.ensures.causes [
-      | inl why ↦
-          subst (λ new. IsRunResult has (Check c.args.arguments.now) (taken out) (taken new) (failures out) (failures new) c.report-in_default.result) (sym why.1)
-          (result_of_check has (taken out) (taken out) (failures out) (failures out) (Keeps-refl (taken out)) c.args.arguments.now c.in-Err.cause c.report-in_default.result c.in_default.not-Violations why.0 c.report-in_default.ensures)
-      | inr why ↦ result_of_write has (Check c.args.arguments.now) _ _ _ _ c.in-Err.cause c.report-in_default.result why c.report-in_default.ensures
-    ]
+pub returns-in-Ok : goal.returns-in-Ok
+returns-in-Ok g c =
+    let answer = c.in-Ok.answer in
+    result_of_given _ _ _ (Check c.args.arguments.now) _ _ _ _ answer c.give.result c.in-Ok.ensures.answer (λ n out. (answer.status, _, c.in-Ok.ensures.answer, n, out)) c.give.ensures
+
+pub returns-in-Err : goal.returns-in-Err
+returns-in-Err g c =
+    result_of_input _ _ _ (Check c.args.arguments.now) _ _ _ _ c.in-Err.cause c.report.result c.in-Err.ensures.cause (Keeps-refl (g.W.Sink.taken c.args.out.now)) refl c.report.ensures

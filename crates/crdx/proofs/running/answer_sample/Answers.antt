@@ -1,19 +1,13 @@
-use Rattle.std.proofs.Common.{sym, subst, inl, inr}
-use Rattle.std.proofs.KnownBytes.{Keeps-refl}
-use Rattle.crdx.specs.Program.RunResult.{IsRunResult}
-use Rattle.crdx.specs.declared.arguments.request.Request.TheVariants.{Sample}
-use Rattle.crdx.proofs.RunLemmas.{result_of_sample, result_of_write}
+use Rattle.crdx.specs.Output.Line.{lines}
+use Rattle.crdx.specs.Program.RunResult.{answered, samples}
+use Rattle.crdx.proofs.RunLemmas.{result_of_sample}
 use Rattle.crdx.proofs.running.answer_sample.Goals as goal
 
+pub returns-in-Ok : goal.returns-in-Ok
+returns-in-Ok g c =
+    let sampled = c.in-Ok.ensures.sampled in
+    let wrote = sampled.2 in
+    answered 0 (lines wrote.items) (samples c.args.arguments.now sampled.0 wrote.items c.in-Ok.walked.end sampled.1 wrote.page) wrote.written c.in-Ok.ensures.unfailed
+
 pub returns-in-Err : goal.returns-in-Err
-returns-in-Err g c =
-    let has = g.I.Inputs.has c.args.inputs.now in
-    let taken = g.W.Sink.taken in
-    let failures = g.W.Sink.failures in
-    let out = c.args.out.now in
-    elim c.in-Err.ensures.causes [
-      | inl why ↦
-          subst (λ new. IsRunResult has (Sample c.args.arguments.now) (taken out) (taken new) (failures out) (failures new) c.report.result) (sym why.1)
-          (result_of_sample has (taken out) (taken out) (failures out) (failures out) (Keeps-refl (taken out)) c.args.arguments.now c.in-Err.cause c.report.result why.0 c.report.ensures)
-      | inr why ↦ result_of_write has (Sample c.args.arguments.now) _ _ _ _ c.in-Err.cause c.report.result why c.report.ensures
-    ]
+returns-in-Err g c = result_of_sample _ _ _ c.args.arguments.now _ _ _ _ c.in-Err.cause c.report.result c.in-Err.ensures.cause c.report.ensures

@@ -2,7 +2,8 @@ use Rattle.std.proofs.Common.{◌≡◌, ◌+◌, ◌<◌, [], ◌∷◌, ◌++�
 use Rattle.std.proofs.lemmas.List.{take_all, map-append}
 use Rattle.jtree.specs.View.{data_of}
 use Rattle.crdx.specs.Samples.View.{resume_point}
-use Rattle.crdx.specs.Internal.Values.{trees_of, AreSamples}
+use Rattle.crdx.specs.Samples.View.{trees_of}
+use Rattle.crdx.specs.Internal.Values.{AreSamples}
 use Rattle.crdx.specs.Internal.Building.{IsNext}
 use Rattle.crdx.proofs.PageBuild.{IsSoFar, InOrder, in_order, in_order_before, push_next, skip_listed, page_to_end, page_full, trees_around, trees_so_far, length_trees}
 use Rattle.crdx.proofs.enumerate.paging.first_past.Goals as goal

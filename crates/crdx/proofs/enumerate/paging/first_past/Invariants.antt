@@ -1,6 +1,6 @@
 use Rattle.std.proofs.Common.{take}
 use Rattle.crdx.specs.Samples.View.{resume_point}
-use Rattle.crdx.specs.Internal.Values.{trees_of}
+use Rattle.crdx.specs.Samples.View.{trees_of}
 use Rattle.crdx.proofs.PageBuild.{IsSoFar}
 use Rattle.crdx.proofs.enumerate.paging.first_past.Given as goal
 

@@ -5,7 +5,8 @@ use Rattle.jtree.specs.View.{data_of}
 use Rattle.crdx.specs.Samples.View.{resume_point}
 use Rattle.crdx.specs.Samples.Sample.{IsSample}
 use Rattle.crdx.specs.Samples.Page.{IsPage}
-use Rattle.crdx.specs.Internal.Values.{trees_of, AreSamples}
+use Rattle.crdx.specs.Samples.View.{trees_of}
+use Rattle.crdx.specs.Internal.Values.{AreSamples}
 use Rattle.crdx.proofs.PageBuild.{sorted_samples, on_ok_always}
 use Rattle.crdx.proofs.enumerate.paging.page.Goals as goal
 use Rattle.crdx.proofs.enumerate.paging.page.Goals.{in-Some+else-not-is_among, in_default}

@@ -1,5 +1,6 @@
 use Rattle.std.proofs.Common.{take}
-use Rattle.crdx.specs.Internal.Values.{trees_of, AreExtendedRows}
+use Rattle.crdx.specs.Samples.View.{trees_of}
+use Rattle.crdx.specs.Internal.Values.{AreExtendedRows}
 use Rattle.crdx.proofs.enumerate.rows.extended_rows.Given as goal
 
 -- the rows are extended by the values so far

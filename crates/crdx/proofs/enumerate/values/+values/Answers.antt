@@ -3,7 +3,8 @@ use Rattle.std.proofs.lemmas.Result.{IfOk-weaker}
 use Rattle.crdx.specs.Objects.Node.{scalar, object, AreOrdered}
 use Rattle.jtree.specs.Data as tree
 use Rattle.crdx.specs.Objects.NodeView.{node_of, kind_of, fields_of}
-use Rattle.crdx.specs.Internal.Values.{AreValuesOf, trees_of}
+use Rattle.crdx.specs.Samples.View.{trees_of}
+use Rattle.crdx.specs.Internal.Values.{AreValuesOf}
 use Rattle.crdx.proofs.FieldLemmas.{dropped_ordered, dropped_field}
 use Rattle.crdx.proofs.RowLemmas.{row_after, one_field_more}
 use Rattle.crdx.proofs.ValueLemmas.{object_values}

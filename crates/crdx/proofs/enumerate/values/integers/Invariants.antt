@@ -1,6 +1,6 @@
 use Rattle.std.proofs.Common.{◌≡◌, map, take}
 use Rattle.jtree.specs.Data.{integer}
-use Rattle.crdx.specs.Internal.Values.{trees_of}
+use Rattle.crdx.specs.Samples.View.{trees_of}
 use Rattle.crdx.proofs.enumerate.values.integers.Given as goal
 
 abbrev pub invariant-loop-integer : goal.invariant-loop-integer

@@ -2,7 +2,7 @@ use Rattle.std.proofs.Common.{◌≡◌, [], ◌∷◌, ◌++◌, map, ap, ◌�
 use Rattle.std.proofs.lemmas.List.{map-append}
 use Rattle.jtree.specs.Data.{object}
 use Rattle.jtree.specs.View.{data_of}
-use Rattle.crdx.specs.Internal.Values.{trees_of}
+use Rattle.crdx.specs.Samples.View.{trees_of}
 use Rattle.crdx.proofs.ValueLemmas.{moved, none_left, contains_none}
 use Rattle.crdx.proofs.enumerate.values.objects.Goals as goal
 

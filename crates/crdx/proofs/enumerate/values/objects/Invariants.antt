@@ -1,6 +1,6 @@
 use Rattle.std.proofs.Common.{◌⊎◌, ◌↔◌, map, Contains, vec_len}
 use Rattle.jtree.specs.Data.{Data, object}
-use Rattle.crdx.specs.Internal.Values.{trees_of}
+use Rattle.crdx.specs.Samples.View.{trees_of}
 use Rattle.crdx.proofs.enumerate.values.objects.Given as goal
 
 -- a row is an object among the values, or is left

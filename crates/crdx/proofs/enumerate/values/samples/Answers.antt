@@ -1,7 +1,8 @@
 use Rattle.std.proofs.Common.{◌≡◌, ◌<◌, ◌∙◌, subst, arith}
 use Rattle.std.proofs.lemmas.Result.{IfOk-weaker}
 use Rattle.crdx.specs.Objects.Node.{IsNode}
-use Rattle.crdx.specs.Internal.Values.{AreSamples, trees_of}
+use Rattle.crdx.specs.Samples.View.{trees_of}
+use Rattle.crdx.specs.Internal.Values.{AreSamples}
 use Rattle.crdx.proofs.SampleLemmas.{values_are_samples}
 use Rattle.crdx.proofs.enumerate.values.samples.Goals as goal
 

@@ -1,7 +1,7 @@
 use Rattle.std.proofs.Common.{◌≡◌, take}
 use Rattle.crdx.specs.Internal.Block.{HasEnds}
 use Rattle.crdx.specs.Output.Line.{lines}
-use Rattle.crdx.specs.Internal.Values.{trees_of}
+use Rattle.crdx.specs.Samples.View.{trees_of}
 use Rattle.crdx.proofs.walk.blocks.block_of.Given as goal
 
 abbrev pub invariant-loop-tree : goal.invariant-loop-tree

@@ -1,6 +1,6 @@
 use Rattle.std.proofs.lemmas.Result.{err_from_is_err_and}
 use Rattle.crdx.specs.Samples.View.{resume_point}
-use Rattle.crdx.specs.Internal.Values.{trees_of}
+use Rattle.crdx.specs.Samples.View.{trees_of}
 use Rattle.crdx.proofs.WrittenLemmas.{partial_output_of_lines}
 use Rattle.crdx.proofs.walk.walking.walk.Goals as goal
 

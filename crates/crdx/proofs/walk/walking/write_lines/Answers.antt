@@ -7,7 +7,7 @@ use Rattle.crdx.proofs.walk.walking.write_lines.Goals as goal
 
 pub returns-in-Err-clause-err : goal.returns-in-Err-clause-err
 returns-in-Err-clause-err g c =
-    cut_between c.args.trees.now c.pieces.at _ _ c.pieces-test.true c.pieces.invariant.out
+    (c.pieces.invariant.failures, cut_between c.args.trees.now c.pieces.at _ _ c.pieces-test.true c.pieces.invariant.out)
 
 pub returns-in-Err-put_all-clause-err : goal.returns-in-Err-put_all-clause-err
 returns-in-Err-put_all-clause-err g c =

@@ -1,7 +1,7 @@
 use Rattle.std.proofs.Common.{◌≡◌, ◌≤◌, ◌-◌, length, take}
 use Rattle.std.specs.Io.KnownBytes.{Appends}
 use Rattle.crdx.specs.Output.Line.{lines}
-use Rattle.crdx.specs.Internal.Values.{trees_of}
+use Rattle.crdx.specs.Samples.View.{trees_of}
 use Rattle.crdx.proofs.walk.walking.write_lines.Given as goal
 
 abbrev pub invariant-pieces : goal.invariant-pieces

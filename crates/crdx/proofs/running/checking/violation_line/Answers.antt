@@ -3,7 +3,7 @@ use Rattle.std.specs.Prelude.{codes}
 use Rattle.std.proofs.lemmas.Result.{IfOk-weaker}
 use Rattle.schema.specs.Rules.Breaks.{told, rule_name}
 use Rattle.crdx.specs.Program.RunResult.{told_line}
-use Rattle.crdx.proofs.running.violation_line.Goals as goal
+use Rattle.crdx.proofs.running.checking.violation_line.Goals as goal
 
 pub returns : goal.returns
 returns c =

@@ -1,0 +1,168 @@
+// Why a run has no answer.
+ghost use Rattle.std.specs.Prelude.{◌≡◌};
+ghost use Rattle.crdx.specs.Internal.ExitStatus.{status};
+
+use crate::plan::PFault;
+use crate::stored::Refused;
+use crate::walk::WFault;
+use jtree::JFault;
+use schema::{SFault, Violation};
+use std::alloc::AllocError;
+use std::fmt;
+
+/// An input of the program.
+#[derive(Clone, Copy, Drop)]
+pub(crate) enum Input {
+    Crd,
+    Pools,
+}
+
+impl fmt::Display for Input {
+    ghost use Rattle.std.specs.Prelude.{Some};
+    ghost use Rattle.crdx.specs.Internal.ExitStatus.{input_name};
+
+    ghost output = { λ i. Some (input_name i) };
+
+    fn fmt<W: fmt::Write>(&self, f: &mut fmt::Formatter<W>) -> fmt::Result {
+        match self {
+            Input::Crd => write!(f, "crd"),
+            Input::Pools => write!(f, "pools"),
+        }
+    }
+}
+
+/// The code of a refusal that names a place.
+#[derive(Clone, Copy, Drop)]
+pub(crate) enum PlaceCode {
+    NotYet,
+    KeywordForm,
+    TooLarge,
+    Form,
+}
+
+impl fmt::Display for PlaceCode {
+    ghost use Rattle.std.specs.Prelude.{Some};
+    ghost use Rattle.crdx.specs.Internal.ExitStatus.{code_name};
+
+    ghost output = { λ c. Some (code_name c) };
+
+    fn fmt<W: fmt::Write>(&self, f: &mut fmt::Formatter<W>) -> fmt::Result {
+        match self {
+            PlaceCode::NotYet => write!(f, "S0"),
+            PlaceCode::KeywordForm => write!(f, "S3"),
+            PlaceCode::TooLarge => write!(f, "S4"),
+            PlaceCode::Form => write!(f, "P1"),
+        }
+    }
+}
+
+/// Why a run has no answer.
+#[derive(Drop)]
+pub(crate) enum Cause {
+    /// An input could not be opened or read.
+    Unread(Input),
+    /// An input is no document.
+    Document(Input, JFault),
+    /// The CustomResourceDefinition has no such version or schema.
+    Crd(SFault),
+    /// The pools or the limit are refused.
+    Pools(PFault),
+    /// An input is refused at a pointer, with this code.
+    Place(Input, PlaceCode, String),
+    /// The schema breaks rules.
+    Violations(Vec<Violation>),
+    /// The object to go on from is no sample.
+    NotASample,
+    /// Standard output took so many whole lines, and then failed.
+    Write(u64),
+    /// An allocation failed.
+    NoMemory,
+}
+
+impl Cause {
+    /// The exit status: 1 the answer is no, 3 an input is refused, 4 a read or a write failed, 5 want of memory.
+    pub fn status(&self) -> u8
+        ensures { result ≡ status self.now }
+    {
+        match self {
+            Cause::NotASample | Cause::Violations(_) => 1,
+            Cause::Document(_, _) | Cause::Crd(_) | Cause::Pools(_) | Cause::Place(_, _, _) => 3,
+            Cause::Unread(_) | Cause::Write(_) => 4,
+            Cause::NoMemory => 5,
+        }
+    }
+}
+
+impl From<AllocError> for Cause {
+    ghost use Rattle.std.specs.Prelude.{◌≡◌};
+    ghost use Rattle.crdx.specs.declared.running.causes.Cause.TheVariants.{NoMemory};
+
+    ghost from_gives = { λ _ cause. cause ≡ NoMemory };
+
+    fn from(_refused: AllocError) -> Cause {
+        Cause::NoMemory
+    }
+}
+
+impl From<SFault> for Cause {
+    ghost use Rattle.std.specs.Prelude.{◌≡◌};
+    ghost use Rattle.crdx.specs.Internal.ExitStatus.{cause_of_reading};
+
+    ghost from_gives = { λ fault cause. cause ≡ cause_of_reading fault };
+
+    fn from(fault: SFault) -> Cause {
+        match fault {
+            SFault::KeywordForm(pointer) => {
+                Cause::Place(Input::Crd, PlaceCode::KeywordForm, pointer)
+            }
+            SFault::TooLarge(pointer) => Cause::Place(Input::Crd, PlaceCode::TooLarge, pointer),
+            SFault::NoMemory => Cause::NoMemory,
+            other => Cause::Crd(other),
+        }
+    }
+}
+
+impl From<Refused> for Cause {
+    ghost use Rattle.std.specs.Prelude.{◌≡◌};
+    ghost use Rattle.crdx.specs.Internal.ExitStatus.{cause_of_refusal};
+
+    ghost from_gives = { λ fault cause. cause ≡ cause_of_refusal fault };
+
+    fn from(refused: Refused) -> Cause {
+        match refused {
+            Refused::Violations(violations) => Cause::Violations(violations),
+            Refused::NotYet(pointer) => Cause::Place(Input::Crd, PlaceCode::NotYet, pointer),
+            Refused::NoMemory => Cause::NoMemory,
+        }
+    }
+}
+
+impl From<PFault> for Cause {
+    ghost use Rattle.std.specs.Prelude.{◌≡◌};
+    ghost use Rattle.crdx.specs.Internal.ExitStatus.{cause_of_pools};
+
+    ghost from_gives = { λ fault cause. cause ≡ cause_of_pools fault };
+
+    fn from(fault: PFault) -> Cause {
+        match fault {
+            PFault::Form(pointer) => Cause::Place(Input::Pools, PlaceCode::Form, pointer),
+            PFault::NoMemory => Cause::NoMemory,
+            other => Cause::Pools(other),
+        }
+    }
+}
+
+impl From<WFault> for Cause {
+    ghost use Rattle.std.specs.Prelude.{◌≡◌};
+    ghost use Rattle.crdx.specs.Internal.ExitStatus.{cause_of_walk};
+
+    ghost from_gives = { λ fault cause. cause ≡ cause_of_walk fault };
+
+    fn from(fault: WFault) -> Cause {
+        match fault {
+            WFault::NotASample => Cause::NotASample,
+            WFault::NoMemory(_) => Cause::NoMemory,
+            WFault::Write(lines) => Cause::Write(lines),
+        }
+    }
+}

@@ -1,0 +1,62 @@
+// The schema and the pools that a request names.
+ghost use Rattle.std.specs.Prelude.{◌≡◌, true, Some, Ok, IfOk, IfErr, OnOk};
+ghost use Rattle.jtree.specs.Data.{Data};
+ghost use Rattle.jtree.specs.View.{data_of};
+ghost use Rattle.crdx.specs.Objects.Accepted.{IsNodeAt};
+ghost use Rattle.crdx.specs.Internal.Cause.{IsUnreadCause, IsSchemaCause, IsPoolsCause};
+ghost use Rattle.crdx.specs.Program.Requested.{IsAcceptedSchema, ArePools};
+ghost use Rattle.crdx.specs.Program.Documents.{AreAmong};
+
+use crate::inputs::{InFault, Inputs};
+use crate::plan::Pools;
+use crate::running::causes::{Cause, Input};
+use crate::stored::{Schema, accept};
+use jtree::{JFault, Tree};
+use schema::read_crd;
+use std::alloc::Global;
+
+/// The schema of a version of the CustomResourceDefinition of this name.
+pub(crate) fn schema_of<I: Inputs>(
+    alloc: Global,
+    crd: &str,
+    version: &str,
+    inputs: &mut I,
+) -> Result<Schema, Cause>
+    ensures accepted { IfOk result (λ schema. (raw : Data) × IsAcceptedSchema (I.has inputs.old) crd.now version.now raw × IsNodeAt true schema raw) }
+    ensures cause { IfErr result (IsSchemaCause (I.has inputs.old) (I.failures inputs.old) (I.failures inputs.new) crd.now version.now) }
+    ensures stays { AreAmong (I.has inputs.new) (I.has inputs.old) }
+    ensures unfailed { OnOk result (I.failures inputs.new ≡ I.failures inputs.old) }
+{
+    let document = document(inputs, Input::Crd, crd)?;
+    let crd = read_crd(alloc, &document, version)?;
+    Ok(accept(alloc, crd.raw)?)
+}
+
+/// The pools of the document of this name, and empty pools where there is no name.
+pub(crate) fn pools_of<I: Inputs>(
+    alloc: Global,
+    name: Option<&str>,
+    inputs: &mut I,
+) -> Result<Pools, Cause>
+    ensures ok { IfOk result (λ pools. ArePools (I.has inputs.old) name.entry pools) }
+    ensures cause { IfErr result (IsPoolsCause (I.has inputs.old) (I.failures inputs.old) (I.failures inputs.new) name.entry) }
+{
+    match name {
+        Some(name) => Ok(Pools::read(alloc, &document(inputs, Input::Pools, name)?)?),
+        None => Ok(Pools::new(alloc)),
+    }
+}
+
+fn document<I: Inputs>(inputs: &mut I, input: Input, name: &str) -> Result<Tree, Cause>
+    ensures ok { IfOk result (λ t. I.has inputs.old (Some name.now) (Ok (data_of t))) }
+    ensures cause { IfErr result (IsUnreadCause (I.has inputs.old) (I.failures inputs.old) (I.failures inputs.new) input name.now) }
+    ensures stays { AreAmong (I.has inputs.new) (I.has inputs.old) }
+    ensures unfailed { OnOk result (I.failures inputs.new ≡ I.failures inputs.old) }
+{
+    match inputs.tree(Some(name)) {
+        Ok(tree) => Ok(tree),
+        Err(InFault::Failed) => Err(Cause::Unread(input)),
+        Err(InFault::Document(JFault::NoMemory)) => Err(Cause::NoMemory),
+        Err(InFault::Document(fault)) => Err(Cause::Document(input, fault)),
+    }
+}

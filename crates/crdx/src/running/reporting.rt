@@ -1,0 +1,72 @@
+// What is said on the standard streams, and the exit status.
+ghost use Rattle.std.specs.Prelude.{◌≡◌, ◌⊎◌};
+ghost use Rattle.crdx.specs.Internal.ExitStatus.{status, IsGiven};
+
+use crate::running::causes::Cause;
+use crate::running::checking::{Answer, json_text, violation_lines};
+use crate::sink::{Sink, put_all};
+use crate::walk::Walked;
+use std::alloc::{AllocError, Global};
+
+/// Writes an answer and answers its status; where standard output fails, the status of that.
+pub(crate) fn give<W: Sink, E: Sink>(alloc: Global, answer: &Answer, out: &mut W, err: &mut E) -> u8
+    ensures { IsGiven answer.now (W.taken out.old) (W.taken out.new) (W.failures out.old) (W.failures out.new) result }
+{
+    let text = answer.text.as_bytes();
+    let taken = match put_all(out, text) {
+        Ok(()) => match out.flush() {
+            Ok(()) => return answer.status,
+            Err(_) => text.len(),
+        },
+        Err(taken) => taken,
+    };
+    report(alloc, &Cause::Write(newlines(&text[..taken])), err)
+}
+
+fn newlines(text: &[u8]) -> u64 {
+    text.iter().filter(|byte| **byte == b'\n').count() as u64
+}
+
+/// Says on `err` why a run has no answer, and answers its status, or 5 where memory is wanting for that.
+pub(crate) fn report<E: Sink>(alloc: Global, cause: &Cause, err: &mut E) -> u8
+    ensures { (result ≡ status cause.now) ⊎ (result ≡ 5) }
+{
+    match line_of(alloc, cause) {
+        Ok(line) => {
+            let _ = put_all(err, line.as_bytes());
+            cause.status()
+        }
+        Err(_) => {
+            let _ = put_all(err, b"crdx: out of memory\n");
+            5
+        }
+    }
+}
+
+/// Says on `err` whether more samples are left.
+pub(crate) fn say_end<E: Sink>(walked: &Walked, err: &mut E) {
+    let line: &[u8] = if walked.end {
+        b"crdx: end\n"
+    } else {
+        b"crdx: more\n"
+    };
+    let _ = put_all(err, line);
+}
+
+/// The line, or the lines, of a cause.
+fn line_of(alloc: Global, cause: &Cause) -> Result<String, AllocError> {
+    match cause {
+        Cause::Unread(input) => format!(in alloc; "crdx: {input}: read failed\n"),
+        Cause::Document(input, fault) => format!(in alloc; "crdx: {input}: {fault}\n"),
+        Cause::Crd(fault) => format!(in alloc; "crdx: crd: {fault}\n"),
+        Cause::Pools(fault) => format!(in alloc; "crdx: pools: {fault}\n"),
+        Cause::Place(input, code, pointer) => {
+            let pointer = json_text(alloc, pointer.as_str())?;
+            format!(in alloc; "crdx: {input}: {code} {pointer}\n")
+        }
+        Cause::Violations(violations) => violation_lines(alloc, violations),
+        Cause::NotASample => format!(in alloc; "crdx: after: not a sample\n"),
+        Cause::Write(lines) => format!(in alloc; "crdx: write failed after {lines} lines\n"),
+        Cause::NoMemory => format!(in alloc; "crdx: out of memory\n"),
+    }
+}
