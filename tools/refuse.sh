@@ -1,0 +1,99 @@
+#!/usr/bin/env bash
+# Runs the program again and again with one of its requests for memory refused: the first, the second, and so on until a run meets no refusal.
+# Each run has to give the row's own answer, or to end for want of memory as docs/MEANING.md says: status 5, `crdx: out of memory`, and
+# on standard output nothing, or whole lines with which the row's own output begins.
+# Usage: tools/refuse.sh [PROGRAM], by default the program that `rt ci` leaves.
+set -euo pipefail
+program=${1:+$(realpath -- "$1")}
+cd "$(dirname "$0")/.."
+program=${program:-crates/crdx_cli/out/crdx_cli}
+
+stop() {
+    echo "refuse.sh: $1" >&2
+    exit 1
+}
+
+[ -x "$program" ] || stop "there is no program $program: ./crdx --help builds it"
+compiler=$(command -v gcc || command -v cc) || stop 'there is no C compiler: neither gcc nor cc is on the path'
+folder=$(mktemp -d)
+trap 'rm -rf "$folder"' EXIT
+"$compiler" -O1 -Wall -Wextra -shared -fPIC -o "$folder/refuse.so" tools/refuse.c || stop 'tools/refuse.c does not compile'
+
+echo 'crdx: out of memory' >"$folder/no-memory"
+counts=()
+failures=0
+
+# row NAME PARTIAL STATUS OUT ERR WORD..
+#   PARTIAL: what may be on standard output at status 5: `nothing`, or `lines`, with which OUT begins
+#   STATUS, OUT, ERR: the row's own answer, the last two as files
+#   WORD..: the words behind the program's name
+row() {
+    local name=$1 partial=$2 status=$3 out=$4 err=$5 ended request
+    shift 5
+    for ((request = 1; ; request++)); do
+        : >"$folder/refused"
+        ended=0
+        (
+            # a run that does not end is stopped, and none leaves a core file
+            ulimit -t 10 -c 0
+            export LD_PRELOAD=$folder/refuse.so REFUSE_REQUEST=$request REFUSE_REPORT=$folder/refused
+            exec "$program" "$@"
+        ) </dev/null >"$folder/out" 2>"$folder/err" || ended=$?
+        if ! is_own && ! { [ -s "$folder/refused" ] && is_want; }; then
+            echo "refuse.sh: $name: $(refusal): status $ended, $(told out output), $(told err error)" >&2
+            failures=$((failures + 1))
+        fi
+        [ -s "$folder/refused" ] || break
+    done
+    counts+=("$name: $((request - 1)) requests refused in turn")
+    [ "$request" -gt 1 ] || stop "$name: no request was refused: is $program linked to the C library at run time?"
+}
+
+# what a row asks of each run, over its variables
+
+is_own() {
+    [ "$ended" -eq "$status" ] && cmp -s "$folder/out" "$out" && cmp -s "$folder/err" "$err"
+}
+
+is_want() {
+    [ "$ended" -eq 5 ] && cmp -s "$folder/err" "$folder/no-memory" || return 1
+    case $partial in
+        nothing) [ ! -s "$folder/out" ] ;;
+        lines) [ ! -s "$folder/out" ] || { cmp -s -n "$(stat -c %s "$folder/out")" "$folder/out" "$out" && [ -z "$(tail -c 1 "$folder/out")" ]; } ;;
+    esac
+}
+
+refusal() {
+    if [ -s "$folder/refused" ]; then
+        echo "request $request ($(cat "$folder/refused")) refused"
+    else
+        echo 'no request refused'
+    fi
+}
+
+told() {
+    printf '%s bytes on standard %s' "$(stat -c %s "$folder/$1")" "$2"
+    [ ! -s "$folder/$1" ] || printf ' (%s)' "$(head -n 1 "$folder/$1" | head -c 80)"
+}
+
+# the rows, behind the files that they name
+
+echo 'crdx: end' >"$folder/end"
+echo 'structural' >"$folder/structural"
+cat >"$folder/broken.json" <<'JSON'
+{"apiVersion":"apiextensions.k8s.io/v1","kind":"CustomResourceDefinition","spec":{"group":"example.org","names":{"kind":"Widget"},
+"versions":[{"name":"v1","schema":{"openAPIV3Schema":{"type":"object","properties":{"a":{},"b":{"type":"string","uniqueItems":true}}}}}]}}
+JSON
+cat >"$folder/broken" <<'LINES'
+V01 "/properties/a" missing type
+V06 "/properties/b" uniqueItems is true
+LINES
+widget=examples/widget
+
+row 'sample of the widget' lines 0 $widget/samples-of-4-nodes.txt "$folder/end" \
+    sample $widget/crd.json v1 --pools $widget/pools.json --limit 4
+row 'check of two violations' nothing 1 "$folder/broken" /dev/null check "$folder/broken.json" v1
+row 'check of the widget' nothing 0 "$folder/structural" /dev/null check $widget/crd.json v1
+
+printf '%s\n' "${counts[@]}"
+[ "$failures" -eq 0 ] || stop "$failures runs gave another answer"
