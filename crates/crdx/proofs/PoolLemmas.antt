@@ -19,8 +19,9 @@ use Rattle.jtree.specs.View.{data_of, items_of}
 use Rattle.jtree.specs.declared.value.Tree.{Tree}
 use Rattle.jtree.specs.declared.value.Tree.TheVariants as code
 use Rattle.jtree.specs.Kind.{is_integer, is_object}
-use Rattle.jtree.specs.PathOrder.{path_cmp}
-use Rattle.crdx.specs.Samples.Pools.{BreaksForm, no_object, other_member, no_list, no_integer, HasForm, IsFirstBreak, integers_of_items, integers_of, pools_of, most_entries}
+use Rattle.jtree.specs.PathOrder.{path_cmp, IsFirst}
+use Rattle.jtree.specs.Internal.PathLaws.{not_before_root}
+use Rattle.crdx.specs.Samples.Pools.{BreaksForm, no_object, other_member, no_list, no_integer, HasForm, integers_of_items, integers_of, pools_of, most_entries}
 use Rattle.crdx.specs.Samples.Over.{Pools}
 use Rattle.crdx.specs.Internal.PoolForm.{other_item, pool_break, below_name, or_else, members_break, IsBreakFault, IsPoolFault}
 use Rattle.crdx.specs.Samples.PoolFault.{IsPoolsFault}
@@ -111,8 +112,8 @@ not_less_end : (k : List ℕ) (p : Path) → path_cmp (name k ∷ p) (name k ∷
 not_less_end k [] less = let tied = tied_itself nat_list_cmp_total k in let contrary = rw tied at less in cc
 not_less_end k (s ∷ p) less = let tied = tied_itself nat_list_cmp_total k in let contrary = rw tied at less in cc
 
-not_less_place : (k : List ℕ) (i j : ℕ) → (j < i → ⊥) → path_cmp (name k ∷ index j ∷ []) (name k ∷ index i ∷ []) ≢ Less
-not_less_place k i j h less = elim (cases_lt j i) [
+not_less_index : (k : List ℕ) (i j : ℕ) → (j < i → ⊥) → path_cmp (name k ∷ index j ∷ []) (name k ∷ index i ∷ []) ≢ Less
+not_less_index k i j h less = elim (cases_lt j i) [
   | inl below ↦ absurd (h below)
   | inr above ↦ elim (cases_lt i j) [
     | inl past ↦
@@ -149,18 +150,18 @@ break_later k d ms e o (no_integer _ ds i v at item_is other) = not_less_first k
 -- ---- the first break
 
 pub other_first : (k : List ℕ) (d : Data) (ms : Members) → IsObject (member k d ms) → bytes_eq k name_integers ≡ false
-    → IsFirstBreak (tree.object (member k d ms)) (name k ∷ [])
+    → IsFirst (BreaksForm (tree.object (member k d ms))) (name k ∷ [])
 other_first k d ms o f = record {
-  breaks = other_member _ k (λ same. let own = own_name name_integers in let t : bytes_eq k name_integers ≡ true = subst (λ n. bytes_eq n name_integers ≡ true) (sym same) own in cc)
+  here = other_member _ k (λ same. let own = own_name name_integers in let t : bytes_eq k name_integers ≡ true = subst (λ n. bytes_eq n name_integers ≡ true) (sym same) own in cc)
       (λ none. let some = member_first k d ms in cc);
-  first = λ e b. break_later k d ms e o b;
+  none_before = λ e b. break_later k d ms e o b;
 }
 
 no_list_first : (d : Data) (ms : Members) → IsObject (member name_integers d ms) → ((ds : Items) → d ≢ tree.list ds)
-    → IsFirstBreak (tree.object (member name_integers d ms)) (name name_integers ∷ [])
+    → IsFirst (BreaksForm (tree.object (member name_integers d ms))) (name name_integers ∷ [])
 no_list_first d ms o h = record {
-  breaks = no_list _ d (member_first name_integers d ms) h;
-  first = λ e b. break_later name_integers d ms e o b;
+  here = no_list _ d (member_first name_integers d ms) h;
+  none_before = λ e b. break_later name_integers d ms e o b;
 }
 
 -- where the pool is a list, a break is one of its entries, or of a later member
@@ -179,21 +180,21 @@ list_first ds ms n o other e (no_list _ v at differs) =
 list_first ds ms n o other e (no_integer _ es j v at item_is differs) =
     let same : tree.list ds ≡ tree.list es = same_Some _ _ (sym (member_first name_integers (tree.list ds) ms) ∙ at) in
     let items : ds ≡ es = cc in
-    not_less_place name_integers n j (λ below. let whole = other.first j v below (subst (λ x. item_at j x ≡ Some v) (sym items) item_is) in cc)
+    not_less_index name_integers n j (λ below. let whole = other.first j v below (subst (λ x. item_at j x ≡ Some v) (sym items) item_is) in cc)
 
 pool_first : (d : Data) (ms : Members) (q : Path) → IsObject (member name_integers d ms) → pool_break d ≡ Some q
-    → IsFirstBreak (tree.object (member name_integers d ms)) (name name_integers ∷ q)
-pool_first tree.null ms q o h = subst (λ p. IsFirstBreak (tree.object (member name_integers tree.null ms)) (name name_integers ∷ p)) (same_Some [] q h) (no_list_first tree.null ms o (λ ds e. cc))
-pool_first (tree.boolean b) ms q o h = subst (λ p. IsFirstBreak (tree.object (member name_integers (tree.boolean b) ms)) (name name_integers ∷ p)) (same_Some [] q h) (no_list_first (tree.boolean b) ms o (λ ds e. cc))
-pool_first (tree.integer z) ms q o h = subst (λ p. IsFirstBreak (tree.object (member name_integers (tree.integer z) ms)) (name name_integers ∷ p)) (same_Some [] q h) (no_list_first (tree.integer z) ms o (λ ds e. cc))
-pool_first (tree.text s) ms q o h = subst (λ p. IsFirstBreak (tree.object (member name_integers (tree.text s) ms)) (name name_integers ∷ p)) (same_Some [] q h) (no_list_first (tree.text s) ms o (λ ds e. cc))
-pool_first (tree.object ns) ms q o h = subst (λ p. IsFirstBreak (tree.object (member name_integers (tree.object ns) ms)) (name name_integers ∷ p)) (same_Some [] q h) (no_list_first (tree.object ns) ms o (λ ds e. cc))
+    → IsFirst (BreaksForm (tree.object (member name_integers d ms))) (name name_integers ∷ q)
+pool_first tree.null ms q o h = subst (λ p. IsFirst (BreaksForm (tree.object (member name_integers tree.null ms))) (name name_integers ∷ p)) (same_Some [] q h) (no_list_first tree.null ms o (λ ds e. cc))
+pool_first (tree.boolean b) ms q o h = subst (λ p. IsFirst (BreaksForm (tree.object (member name_integers (tree.boolean b) ms))) (name name_integers ∷ p)) (same_Some [] q h) (no_list_first (tree.boolean b) ms o (λ ds e. cc))
+pool_first (tree.integer z) ms q o h = subst (λ p. IsFirst (BreaksForm (tree.object (member name_integers (tree.integer z) ms))) (name name_integers ∷ p)) (same_Some [] q h) (no_list_first (tree.integer z) ms o (λ ds e. cc))
+pool_first (tree.text s) ms q o h = subst (λ p. IsFirst (BreaksForm (tree.object (member name_integers (tree.text s) ms))) (name name_integers ∷ p)) (same_Some [] q h) (no_list_first (tree.text s) ms o (λ ds e. cc))
+pool_first (tree.object ns) ms q o h = subst (λ p. IsFirst (BreaksForm (tree.object (member name_integers (tree.object ns) ms))) (name name_integers ∷ p)) (same_Some [] q h) (no_list_first (tree.object ns) ms o (λ ds e. cc))
 pool_first (tree.list ds) ms q o h =
     let n = option_map_some (λ (i : ℕ). index i ∷ []) (other_item ds) q h in
     let other = others_some ds n.0 n.1 in
-    subst (λ p. IsFirstBreak (tree.object (member name_integers (tree.list ds) ms)) (name name_integers ∷ p)) n.2 (record {
-      breaks = no_integer _ ds n.0 other.value (member_first name_integers (tree.list ds) ms) other.at other.other;
-      first = list_first ds ms n.0 o other;
+    subst (λ p. IsFirst (BreaksForm (tree.object (member name_integers (tree.list ds) ms))) (name name_integers ∷ p)) n.2 (record {
+      here = no_integer _ ds n.0 other.value (member_first name_integers (tree.list ds) ms) other.at other.other;
+      none_before = list_first ds ms n.0 o other;
     })
 
 -- ---- behind a pool that has the form
@@ -235,10 +236,10 @@ lowered d ms e o good (no_integer _ es i v at item_is other) =
     cc
 
 good_first : (d : Data) (ms : Members) (path : Path) → IsObject (member name_integers d ms) → pool_break d ≡ None
-    → IsFirstBreak (tree.object ms) path → IsFirstBreak (tree.object (member name_integers d ms)) path
+    → IsFirst (BreaksForm (tree.object ms)) path → IsFirst (BreaksForm (tree.object (member name_integers d ms))) path
 good_first d ms path o good h = record {
-  breaks = raised d ms path o h.breaks;
-  first = λ e b. h.first e (lowered d ms e o good b);
+  here = raised d ms path o h.here;
+  none_before = λ e b. h.none_before e (lowered d ms e o good b);
 }
 
 or_else_none : (o p : Option Path) → or_else o p ≡ None → (o ≡ None) × (p ≡ None)
@@ -265,7 +266,7 @@ or_else_some : (o p : Option Path) (x : Path) → or_else o p ≡ Some x → (o 
 or_else_some None p x h = inr (refl, h)
 or_else_some (Some y) p x h = inl h
 
-pub members_first : (ms : Members) (path : Path) → IsObject ms → members_break ms ≡ Some path → IsFirstBreak (tree.object ms) path
+pub members_first : (ms : Members) (path : Path) → IsObject ms → members_break ms ≡ Some path → IsFirst (BreaksForm (tree.object ms)) path
 members_first no_members path o h = cc
 members_first (member k d ms) path o h = elim (bool_cases (bytes_eq k name_integers)) [
   | inl t ↦
@@ -274,13 +275,13 @@ members_first (member k d ms) path o h = elim (bool_cases (bytes_eq k name_integ
       elim (or_else_some (below_name k (pool_break d)) (members_break ms) path (rw t at h)) [
         | inl here ↦
             let q = option_map_some (λ (p : Path). name k ∷ p) (pool_break d) path here in
-            subst (λ p. IsFirstBreak (tree.object (member k d ms)) p) q.2
-            (subst (λ n. IsFirstBreak (tree.object (member n d ms)) (name n ∷ q.0)) (sym same) (pool_first d ms q.0 o' q.1))
+            subst (λ p. IsFirst (BreaksForm (tree.object (member k d ms))) p) q.2
+            (subst (λ n. IsFirst (BreaksForm (tree.object (member n d ms))) (name n ∷ q.0)) (sym same) (pool_first d ms q.0 o' q.1))
         | inr later ↦
             let good : pool_break d ≡ None = option_map_none (λ (p : Path). name k ∷ p) (pool_break d) later.0 in
-            subst (λ n. IsFirstBreak (tree.object (member n d ms)) path) (sym same) (good_first d ms path o' good (members_first ms path o.2 later.1))
+            subst (λ n. IsFirst (BreaksForm (tree.object (member n d ms))) path) (sym same) (good_first d ms path o' good (members_first ms path o.2 later.1))
       ]
-  | inr f ↦ subst (λ p. IsFirstBreak (tree.object (member k d ms)) p) (same_Some (name k ∷ []) path (rw f at h)) (other_first k d ms o f)
+  | inr f ↦ subst (λ p. IsFirst (BreaksForm (tree.object (member k d ms))) p) (same_Some (name k ∷ []) path (rw f at h)) (other_first k d ms o f)
 ]
 
 -- ---- the pool of a list
@@ -328,12 +329,8 @@ members_fault ms o TooLarge h = absurd h
 members_fault ms o NoMemory h = tt
 members_fault ms o BadLimit h = absurd h
 
-not_less_root : (e : Path) → path_cmp e [] ≢ Less
-not_less_root [] less = cc
-not_less_root (s ∷ e) less = cc
-
-pub root_first : (d : Data) → is_object d ≡ false → IsFirstBreak d []
-root_first d h = record { breaks = no_object d h; first = λ e b. not_less_root e }
+pub root_first : (d : Data) → is_object d ≡ false → IsFirst (BreaksForm d) []
+root_first d h = record { here = no_object d h; none_before = λ e b. not_before_root e }
 
 pub other_tree : (t : Tree) → ((ms : Members) → t ≡ code.Object ms → ⊥) → is_object (data_of t) ≡ false
 other_tree code.Null h = refl

@@ -1,3 +1,4 @@
+-- What private contracts alone cite: codes, measures, and what a loop knows.
 pub mod NodeCode
 pub mod NodeMeasures
 pub mod Acceptance
@@ -5,6 +6,6 @@ pub mod PoolForm
 pub mod Values
 pub mod Building
 pub mod Block
+pub mod PartialLines
 pub mod Cause
 pub mod ExitStatus
-pub mod PartialLines

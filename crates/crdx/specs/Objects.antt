@@ -1,3 +1,4 @@
+-- Accepted schemas of this stage, and what their objects are: valid, pruned, filled, stored.
 pub mod Node
 pub mod NodeView
 pub mod Place

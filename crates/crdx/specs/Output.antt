@@ -1,3 +1,4 @@
+-- What is written, and what is out where writing fails.
 pub mod Line
 pub mod Sink
 pub mod Walk

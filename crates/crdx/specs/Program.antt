@@ -1,6 +1,7 @@
-pub mod Phrases
+-- The command line, the documents at hand, and what a run answers.
 pub mod CommandLine
 pub mod Documents
 pub mod InputFault
+pub mod Phrases
 pub mod Requested
 pub mod RunResult

@@ -1,6 +1,7 @@
+-- Pools, samples and pages.
 pub mod Over
 pub mod Pools
 pub mod PoolFault
 pub mod Sample
-pub mod View
 pub mod Page
+pub mod View

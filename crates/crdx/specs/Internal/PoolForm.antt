@@ -9,7 +9,7 @@ use Rattle.jtree.specs.Kind.{is_integer}
 use Rattle.crdx.specs.Samples.Pools.{integers_of_items, most_entries}
 use Rattle.crdx.specs.Samples.Over.{Pools}
 use Rattle.crdx.specs.declared.plan.fault.PFault.{PFault}
-use Rattle.crdx.specs.declared.plan.fault.PFault.TheVariants.{Form, TooLarge, NoMemory, BadLimit}
+use Rattle.crdx.specs.declared.plan.fault.PFault.TheVariants.{Form, TooLarge, NoMemory}
 
 -- the place of the first item that is no integer
 abbrev pub other_item : Items → Option ℕ
@@ -18,12 +18,8 @@ other_item (item d ds) = if is_integer d then option_map suc (other_item ds) els
 
 -- the first break below the name of a pool
 abbrev pub pool_break : Data → Option Path
-pool_break tree.null = Some []
-pool_break (tree.boolean b) = Some []
-pool_break (tree.integer z) = Some []
-pool_break (tree.text s) = Some []
 pool_break (tree.list ds) = option_map (λ i. index i ∷ []) (other_item ds)
-pool_break (tree.object ms) = Some []
+pool_break _ = Some []
 
 abbrev pub below_name : List ℕ → Option Path → Option Path
 below_name k o = option_map (λ path. name k ∷ path) o
@@ -41,9 +37,8 @@ members_break (member k d ms) =
 -- the fault names this path, or memory is wanting
 abbrev pub IsBreakFault : Option Path → PFault → Type 0
 IsBreakFault o (Form p) = (path : Path) × (string_bytes p ≡ pointer path) × (o ≡ Some path)
-IsBreakFault o TooLarge = ⊥
 IsBreakFault o NoMemory = Unit {0}
-IsBreakFault o BadLimit = ⊥
+IsBreakFault o _ = ⊥
 
 -- the pool of these items, all of them integers
 abbrev pub IsSmallPool : Items → Pools → Type 0
@@ -51,7 +46,6 @@ IsSmallPool ds p = (p ≡ record { integers = integers_of_items ds }) × (length
 
 -- the items are too many, or memory is wanting
 abbrev pub IsPoolFault : Items → PFault → Type 0
-IsPoolFault ds (Form p) = ⊥
 IsPoolFault ds TooLarge = most_entries < length (integers_of_items ds)
 IsPoolFault ds NoMemory = Unit {0}
-IsPoolFault ds BadLimit = ⊥
+IsPoolFault ds _ = ⊥

@@ -67,13 +67,8 @@ abbrev pub IsUnknownAt : Bool → Data → List ℕ → Type 0
 IsUnknownAt root raw pointer = (place : Place) × (pointer ≡ place_pointer place) × IsFirstUnknown root raw place
 
 abbrev pub properties_of : Option Data → Members
-properties_of None = no_members
-properties_of (Some tree.null) = no_members
-properties_of (Some (tree.boolean b)) = no_members
-properties_of (Some (tree.integer z)) = no_members
-properties_of (Some (tree.text s)) = no_members
-properties_of (Some (tree.list ds)) = no_members
 properties_of (Some (tree.object ms)) = ms
+properties_of _ = no_members
 
 -- N is the node of a raw schema: of its type, with a field for each property
 abbrev mutual
@@ -84,9 +79,8 @@ abbrev mutual
 
   pub AreFieldsOf : Fields → Members → Type 0
   AreFieldsOf no_fields no_members = Unit {0}
-  AreFieldsOf no_fields (member l d ms) = ⊥
-  AreFieldsOf (field k N fs) no_members = ⊥
   AreFieldsOf (field k N fs) (member l d ms) = (k ≡ l) × IsNodeOf N d × AreFieldsOf fs ms
+  AreFieldsOf _ _ = ⊥
 
 -- the members without those of the envelope, at the root
 abbrev pub kept : Bool → Members → Members

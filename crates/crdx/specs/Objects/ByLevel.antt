@@ -10,11 +10,7 @@ abbrev mutual
   pub IsValidByLevel : Node → Data → Type 0
   IsValidByLevel (scalar kind) v = accepts_kind (scalar kind) v ≡ true
   IsValidByLevel (object fs) (tree.object ms) = AreValidMembers fs ms
-  IsValidByLevel (object fs) tree.null = ⊥
-  IsValidByLevel (object fs) (tree.boolean b) = ⊥
-  IsValidByLevel (object fs) (tree.integer z) = ⊥
-  IsValidByLevel (object fs) (tree.text s) = ⊥
-  IsValidByLevel (object fs) (tree.list ds) = ⊥
+  IsValidByLevel (object fs) _ = ⊥
 
   pub AreValidMembers : Fields → Members → Type 0
   AreValidMembers fs no_members = Unit {0}
@@ -28,13 +24,8 @@ in_front k (Some d) ms = member k d ms
 -- undeclared members go, and the others are pruned by their nodes
 abbrev mutual
   pub pruned : Node → Data → Data
-  pruned (scalar kind) v = v
   pruned (object fs) (tree.object ms) = tree.object (pruned_members fs ms)
-  pruned (object fs) tree.null = tree.null
-  pruned (object fs) (tree.boolean b) = tree.boolean b
-  pruned (object fs) (tree.integer z) = tree.integer z
-  pruned (object fs) (tree.text s) = tree.text s
-  pruned (object fs) (tree.list ds) = tree.list ds
+  pruned N v = v
 
   pub pruned_members : Fields → Members → Members
   pruned_members fs no_members = no_members

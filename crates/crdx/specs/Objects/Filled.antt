@@ -27,21 +27,12 @@ replaced k (Some d) ms = with_member k d ms
 abbrev pub standing : Bool → (Data → Data) → Option Data → Option Data
 standing nullable fill None = None
 standing nullable fill (Some tree.null) = if nullable then Some tree.null else None
-standing nullable fill (Some (tree.boolean b)) = Some (fill (tree.boolean b))
-standing nullable fill (Some (tree.integer z)) = Some (fill (tree.integer z))
-standing nullable fill (Some (tree.text s)) = Some (fill (tree.text s))
-standing nullable fill (Some (tree.list ds)) = Some (fill (tree.list ds))
-standing nullable fill (Some (tree.object ms)) = Some (fill (tree.object ms))
+standing nullable fill (Some d) = Some (fill d)
 
 abbrev mutual
   pub filled : Node → Data → Data
-  filled (scalar kind) v = v
-  filled (object fs) tree.null = tree.null
-  filled (object fs) (tree.boolean b) = tree.boolean b
-  filled (object fs) (tree.integer z) = tree.integer z
-  filled (object fs) (tree.text s) = tree.text s
-  filled (object fs) (tree.list ds) = tree.list ds
   filled (object fs) (tree.object ms) = tree.object (filled_members fs ms)
+  filled N v = v
 
   -- under each declared name what is to stand there; undeclared members stay
   pub filled_members : Fields → Members → Members

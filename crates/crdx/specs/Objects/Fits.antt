@@ -8,27 +8,14 @@ use Rattle.crdx.specs.Samples.Over.{Pools}
 
 abbrev pub ScalarFits : Pools → ScalarKind → Data → Type 0
 ScalarFits P boolean (tree.boolean b) = Unit {0}
-ScalarFits P boolean tree.null = ⊥
-ScalarFits P boolean (tree.integer z) = ⊥
-ScalarFits P boolean (tree.text s) = ⊥
-ScalarFits P boolean (tree.list ds) = ⊥
-ScalarFits P boolean (tree.object ms) = ⊥
 ScalarFits P integer (tree.integer z) = Contains P.integers z
-ScalarFits P integer tree.null = ⊥
-ScalarFits P integer (tree.boolean b) = ⊥
-ScalarFits P integer (tree.text s) = ⊥
-ScalarFits P integer (tree.list ds) = ⊥
-ScalarFits P integer (tree.object ms) = ⊥
+ScalarFits P kind _ = ⊥
 
 abbrev mutual
   pub Fits : Pools → Node → Data → Type 0
   Fits P (scalar kind) v = ScalarFits P kind v
   Fits P (object fs) (tree.object ms) = MembersFit P fs ms
-  Fits P (object fs) tree.null = ⊥
-  Fits P (object fs) (tree.boolean b) = ⊥
-  Fits P (object fs) (tree.integer z) = ⊥
-  Fits P (object fs) (tree.text s) = ⊥
-  Fits P (object fs) (tree.list ds) = ⊥
+  Fits P (object fs) _ = ⊥
 
   -- each member's name is declared, and the member fits its node
   pub MembersFit : Pools → Fields → Members → Type 0

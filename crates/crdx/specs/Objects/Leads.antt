@@ -3,18 +3,13 @@
 use Rattle.std.specs.Prelude.{◌≡◌, [], ◌∷◌, Option, Some, None, option_and_then}
 use Rattle.jtree.specs.Data.{Data}
 use Rattle.jtree.specs.Data as tree
-use Rattle.jtree.specs.Path.{Step, name, index, Path, part_by, part_at}
+use Rattle.jtree.specs.Path.{Step, name, Path, part_by, part_at}
 use Rattle.crdx.specs.Objects.Node.{Node, scalar, object, Fields, declared}
 
 -- One step from a node with its value: a declared name leads from an object at an object node, and nothing else leads on.
 abbrev pub field_by : Fields → Data → Step → Option Node
 field_by fs (tree.object ms) (name k) = declared k fs
-field_by fs (tree.object ms) (index i) = None
-field_by fs tree.null s = None
-field_by fs (tree.boolean b) s = None
-field_by fs (tree.integer z) s = None
-field_by fs (tree.text t) s = None
-field_by fs (tree.list ds) s = None
+field_by fs v s = None
 
 abbrev pub node_by : Node → Data → Step → Option Node
 node_by (scalar kind) v s = None

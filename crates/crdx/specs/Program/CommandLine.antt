@@ -74,18 +74,15 @@ IsHelp k = (k ≡ DisplayHelp) ⊎ (k ≡ DisplayVersion)
 
 -- what becomes of a refusal by `clap`
 abbrev pub IsRequestOf : ErrorKind → Request → Type 0
-IsRequestOf k (Check arguments) = ⊥
-IsRequestOf k (Sample arguments) = ⊥
 IsRequestOf k (Help text) = IsHelp k
 IsRequestOf k (UsageError text) = (k ≢ OutOfMemory) × (IsHelp k → ⊥)
 IsRequestOf k NoMemory = Unit {0}
+IsRequestOf k _ = ⊥
 
 abbrev pub IsUsageErrorOrMemory : Request → Type 0
-IsUsageErrorOrMemory (Check arguments) = ⊥
-IsUsageErrorOrMemory (Sample arguments) = ⊥
-IsUsageErrorOrMemory (Help text) = ⊥
 IsUsageErrorOrMemory (UsageError text) = Unit {0}
 IsUsageErrorOrMemory NoMemory = Unit {0}
+IsUsageErrorOrMemory _ = ⊥
 
 -- what the arguments ask for; a want of memory says nothing of them
 abbrev pub Asks : List Text → Request → Type 0

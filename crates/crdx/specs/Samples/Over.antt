@@ -15,18 +15,12 @@ abbrev pub IsFromPools : Pools → Node → Data → Type 0
 IsFromPools P M tree.null = is_nullable M ≡ true
 IsFromPools P M (tree.boolean b) = Unit {0}
 IsFromPools P M (tree.integer z) = Contains P.integers z
-IsFromPools P M (tree.text s) = ⊥
-IsFromPools P M (tree.list ds) = ⊥
-IsFromPools P M (tree.object ms) = ⊥
+IsFromPools P M _ = ⊥
 
 -- At an object: each of its names is declared.
 abbrev pub HasDeclaredNames : Fields → Data → Type 0
 HasDeclaredNames fs (tree.object ms) = (k : List ℕ) → declared k fs ≡ None → member_at k ms ≡ None
-HasDeclaredNames fs tree.null = Unit {0}
-HasDeclaredNames fs (tree.boolean b) = Unit {0}
-HasDeclaredNames fs (tree.integer z) = Unit {0}
-HasDeclaredNames fs (tree.text s) = Unit {0}
-HasDeclaredNames fs (tree.list ds) = Unit {0}
+HasDeclaredNames fs _ = Unit {0}
 
 -- a part is over the pools, its own parts aside
 abbrev pub IsOverHere : Pools → Node → Data → Type 0

@@ -22,29 +22,15 @@ pub data BreaksForm : Data → Path → Type 0 where
 abbrev pub HasForm : Data → Type 0
 HasForm d = (path : Path) → BreaksForm d path → ⊥
 
--- the first in path order
-pub record IsFirstBreak (d : Data) (path : Path) : Type 0 where
-  pub breaks : BreaksForm d path
-  pub first : (earlier : Path) → BreaksForm d earlier → path_cmp earlier path ≢ Less
-
 -- a missing member is an empty pool
 abbrev pub integers_of_items : Items → List ℤ
 integers_of_items no_items = []
-integers_of_items (item tree.null ds) = integers_of_items ds
-integers_of_items (item (tree.boolean b) ds) = integers_of_items ds
 integers_of_items (item (tree.integer z) ds) = z ∷ integers_of_items ds
-integers_of_items (item (tree.text s) ds) = integers_of_items ds
-integers_of_items (item (tree.list es) ds) = integers_of_items ds
-integers_of_items (item (tree.object ms) ds) = integers_of_items ds
+integers_of_items (item _ ds) = integers_of_items ds
 
 abbrev pub integers_of : Option Data → List ℤ
-integers_of None = []
-integers_of (Some tree.null) = []
-integers_of (Some (tree.boolean b)) = []
-integers_of (Some (tree.integer z)) = []
-integers_of (Some (tree.text s)) = []
 integers_of (Some (tree.list ds)) = integers_of_items ds
-integers_of (Some (tree.object ms)) = []
+integers_of _ = []
 
 -- the pools of a document that has the form; entries are as written, repeats among them
 abbrev pub pools_of : Data → Pools
