@@ -17,7 +17,7 @@ use Rattle.serde_json.specs.Read.{number_of, of_json, of_items, of_members, read
 use Rattle.serde_json.specs.Written.{number_text, outline, items_outline, members_outline}
 use Rattle.serde_json.proofs.Numbers.{number_of-decimal, number_of-negative}
 use Rattle.json.proofs.Printed.Trees.{value-json_tokens}
-use Rattle.jtree.specs.Data.{Data, null, boolean, integer, text, list, object, Items, no_items, item, Members, no_members, member, IsTree, AreTrees, IsBefore, IsObject, depth, items_depth, members_depth}
+use Rattle.jtree.specs.Data.{Data, null, boolean, integer, text, list, object, Items, no_items, item, Members, no_members, member, IsTree, AreTrees, IsNameBefore, AreMembers, depth, items_depth, members_depth}
 use Rattle.jtree.specs.Order.{text_cmp}
 use Rattle.jtree.specs.Reads.{tree_of, items_tree, members_tree}
 use Rattle.jtree.specs.Text.{json_of, items_json, members_json}
@@ -47,7 +47,7 @@ mutual
   items_tree-json no_items t = refl
   items_tree-json (item d ds) t = rw (tree_of-json_of d t.0, items_tree-json ds t.1) refl
 
-  members_tree-json : (ms : Members) → IsObject ms → members_tree (members_json ms) ≡ Some ms
+  members_tree-json : (ms : Members) → AreMembers ms → members_tree (members_json ms) ≡ Some ms
   members_tree-json no_members t = refl
   members_tree-json (member k d ms) t = rw (tree_of-json_of d t.0, members_tree-json ms t.2) refl
 
@@ -90,7 +90,7 @@ abbrev IsFirstName : List ℕ → Members → Type 0
 IsFirstName k no_members = ⊥
 IsFirstName k (member l d ms) = k ≡ l
 
-next_below : (front : json.Members) (k : List ℕ) (d : json.Data) (ms : Members) → AreBelow front k → IsBefore k ms → (l : List ℕ) → IsFirstName l ms → AreBelow (behind front (json.member k d json.no_members)) l
+next_below : (front : json.Members) (k : List ℕ) (d : json.Data) (ms : Members) → AreBelow front k → IsNameBefore k ms → (l : List ℕ) → IsFirstName l ms → AreBelow (behind front (json.member k d json.no_members)) l
 next_below front k d no_members here before l first = absurd first
 next_below front k d (member m e ms) here before l first =
     let kl : text_cmp k l ≡ Less = subst (λ n. text_cmp k n ≡ Less) (sym first) before in
@@ -110,7 +110,7 @@ mutual
   of_items-outline (item d ds) t = rw (of_json-outline d t.0, of_items-outline ds t.1) refl
 
   -- the members go in one behind another
-  of_members-outline : (front : json.Members) (ms : Members) → ((k : List ℕ) → IsFirstName k ms → AreBelow front k) → IsObject ms → of_members (members_outline (members_json ms)) front ≡ Some (behind front (members_json ms))
+  of_members-outline : (front : json.Members) (ms : Members) → ((k : List ℕ) → IsFirstName k ms → AreBelow front k) → AreMembers ms → of_members (members_outline (members_json ms)) front ≡ Some (behind front (members_json ms))
   of_members-outline front no_members h t = ap Some (sym (behind-none front))
   of_members-outline front (member k d ms) h t =
       let here = h k refl in

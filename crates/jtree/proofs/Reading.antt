@@ -7,7 +7,7 @@ use Rattle.std.specs.Map.{keys_of}
 use Rattle.serde_json.specs.View.{view, items_view, members_view}
 use Rattle.serde_json.specs.declared.value.Value.{Value}
 use Rattle.serde_json.proofs.Views.{Entry}
-use Rattle.jtree.specs.Data.{Data, Items, no_items, item, Members, no_members, member, IsTree, AreTrees, IsBefore, IsObject}
+use Rattle.jtree.specs.Data.{Data, Items, no_items, item, Members, no_members, member, IsTree, AreTrees, IsNameBefore, AreMembers}
 use Rattle.jtree.specs.Reads.{tree_of, items_tree, members_tree}
 use Rattle.jtree.specs.View.{data_of, items_of, members_of}
 use Rattle.jtree.specs.declared.value.Tree.{Tree}
@@ -106,14 +106,14 @@ joined_parts k None rest ms h = cc
 joined_parts k (Some d) None ms h = cc
 joined_parts k (Some d) (Some ns) ms h = (d, ns, refl, cc)
 
-before_names : (k : List ℕ) (es : List Entry) (ms : Members) → members_tree (members_view es) ≡ Some ms → AllByRecursion (λ y. slice_cmp nat_cmp k (string_bytes y) ≡ Less) (keys_of es) → IsBefore k ms
+before_names : (k : List ℕ) (es : List Entry) (ms : Members) → members_tree (members_view es) ≡ Some ms → AllByRecursion (λ y. slice_cmp nat_cmp k (string_bytes y) ≡ Less) (keys_of es) → IsNameBefore k ms
 before_names k [] ms h above = let e : ms ≡ no_members = cc in rw e tt
 before_names k (e ∷ es) ms h above = let p = joined_parts (string_bytes e.0) (tree_of (view e.1)) (members_tree (members_view es)) ms h in rw p.3 above.0
 
-pub IsObject-sorted : (es : List Entry) (ms : Members) → members_tree (members_view es) ≡ Some ms → IsStrictlySortedBy string_cmp (keys_of es) → HaveTrees ms → IsObject ms
+pub AreMembers-sorted : (es : List Entry) (ms : Members) → members_tree (members_view es) ≡ Some ms → IsStrictlySortedBy string_cmp (keys_of es) → HaveTrees ms → AreMembers ms
 unfolding IsStrictlySortedBy
-IsObject-sorted [] ms h sorted trees = let e : ms ≡ no_members = cc in rw e tt
-IsObject-sorted (e ∷ es) ms h sorted trees =
+AreMembers-sorted [] ms h sorted trees = let e : ms ≡ no_members = cc in rw e tt
+AreMembers-sorted (e ∷ es) ms h sorted trees =
     let p = joined_parts (string_bytes e.0) (tree_of (view e.1)) (members_tree (members_view es)) ms h in
     let had = rw p.3 at trees in
-    rw p.3 (had.0, before_names (string_bytes e.0) es p.1 p.2 sorted.0, IsObject-sorted es p.1 p.2 sorted.1 had.1)
+    rw p.3 (had.0, before_names (string_bytes e.0) es p.1 p.2 sorted.0, AreMembers-sorted es p.1 p.2 sorted.1 had.1)
