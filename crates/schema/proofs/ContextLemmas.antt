@@ -5,7 +5,7 @@ use Rattle.std.proofs.lemmas.List.{append-nil}
 use Rattle.std.proofs.lemmas.List.Elements.{filter-append}
 use Rattle.std.proofs.lemmas.Option.{same_Some}
 use Rattle.std.proofs.lemmas.Bool.Decides.{nat_tests}
-use Rattle.jtree.specs.Data.{Data, object, list, Items, Members, IsObject}
+use Rattle.jtree.specs.Data.{Data, object, list, Items, Members, AreMembers}
 use Rattle.jtree.specs.Path.{name, index, under, member_at, item_at, part_at}
 use Rattle.jtree.specs.Internal.Lookups.{member_first, member_tail}
 use Rattle.jtree.specs.View.{data_of, items_of, members_of}
@@ -293,7 +293,7 @@ branch_stands s one ds i d found h = part_join s (name (codes "oneOf")) (index i
 
 -- ---- the members and items of the code
 
-pub member_stands : (xs ys : List Member) (i : ℕ) (m : Member) → IsObject (members_of xs) → drop i xs ≡ m ∷ ys → member_at m.name (members_of xs) ≡ Some (data_of m.tree)
+pub member_stands : (xs ys : List Member) (i : ℕ) (m : Member) → AreMembers (members_of xs) → drop i xs ≡ m ∷ ys → member_at m.name (members_of xs) ≡ Some (data_of m.tree)
 member_stands [] ys zero m o h = cc
 member_stands [] ys (suc i) m o h = cc
 member_stands (x ∷ xs) ys zero m o h =

@@ -3,7 +3,7 @@ use Rattle.std.proofs.Common.{◌≡◌, ◌⊎◌, ℕ, zero, suc, ◌+◌, Lis
 use Rattle.std.specs.Prelude.{if◌then◌else◌, option_and_then, codes}
 use Rattle.std.specs.Str.{bytes_eq}
 use Rattle.std.proofs.lemmas.Option.{same_Some, option_and_then_some}
-use Rattle.jtree.specs.Data.{Data, null, boolean, integer, text, list, object, Items, no_items, item, Members, no_members, member, IsTree, IsObject}
+use Rattle.jtree.specs.Data.{Data, null, boolean, integer, text, list, object, Items, no_items, item, Members, no_members, member, IsTree, AreMembers}
 use Rattle.jtree.specs.Path.{Path, name, index, member_at, item_at, part_by, part_at}
 use Rattle.jtree.specs.Path as tree
 use Rattle.jtree.specs.Internal.Lookups.{bool_cases, same_name, member_first, member_later, member_tail}
@@ -117,7 +117,7 @@ schema_down p s (object ms) m h = (ms, refl, h)
 pub schema_up : (p : Place) (s : Step) (d : Data) (ns : Members) (m : Event) → d ≡ object ns → IsIn m (schema_events (p ++ (s ∷ [])) ns) → IsIn m (part_events p (a_schema s) d)
 schema_up p s d ns m is h = subst (λ x. IsIn m (part_events p (a_schema s) x)) (sym is) h
 
-pub names_down : (p : Place) (ms : Members) (m : Event) → IsObject ms → IsIn m (member_events p false ms)
+pub names_down : (p : Place) (ms : Members) (m : Event) → AreMembers ms → IsIn m (member_events p false ms)
     → (l : List ℕ) × (ns : Members) × (member_at l ms ≡ Some (object ns)) × IsIn m (schema_events (p ++ (property l ∷ [])) ns)
 names_down p no_members m o h = elim h [ ]
 names_down p (member k d ms) m o h = elim (in_append m (part_events p (a_schema (property k)) d) (member_events p false ms) h) [
@@ -236,7 +236,7 @@ pub record KeyEvent (p : Place) (ms : Members) (m : Event) : Type 0 where
   pub at : member_at key ms ≡ Some value
   pub here : IsIn m (keyword_event p key value) ⊎ IsIn m (part_events p (part_of key) value)
 
-pub members_down : (p : Place) (ms : Members) (m : Event) → IsObject ms → IsIn m (member_events p true ms) → KeyEvent p ms m
+pub members_down : (p : Place) (ms : Members) (m : Event) → AreMembers ms → IsIn m (member_events p true ms) → KeyEvent p ms m
 members_down p no_members m o h = elim h [ ]
 members_down p (member k d ms) m o h = elim (in_append m (keyword_event p k d) (part_events p (part_of k) d ++ member_events p true ms) h) [
   | inl keyword ↦ record { key = k; value = d; at = member_first k d ms; here = inl keyword }

@@ -5,7 +5,7 @@ use Rattle.std.specs.Str.{bytes_eq}
 use Rattle.std.proofs.lemmas.Bool.{lt-ltb, ltb-true}
 use Rattle.std.proofs.lemmas.List.{append-nil}
 use Rattle.std.proofs.lemmas.Option.{same_Some, option_and_then_some}
-use Rattle.jtree.specs.Data.{Data, null, boolean, integer, text, list, object, Items, no_items, item, Members, no_members, member, IsTree, AreTrees, IsObject}
+use Rattle.jtree.specs.Data.{Data, null, boolean, integer, text, list, object, Items, no_items, item, Members, no_members, member, IsTree, AreTrees, AreMembers}
 use Rattle.jtree.specs.Path.{Path, name, index, member_at, item_at, part_by, part_at, under}
 use Rattle.jtree.specs.Path as tree
 use Rattle.jtree.specs.Internal.Lookups.{bool_cases, same_name, member_later}
@@ -61,7 +61,7 @@ keyword_up p k d most has past =
 
 -- ---- trees, and induction along the steps of schemas
 
-pub member_tree : (ms : Members) (k : List ℕ) (w : Data) → IsObject ms → member_at k ms ≡ Some w → IsTree w
+pub member_tree : (ms : Members) (k : List ℕ) (w : Data) → AreMembers ms → member_at k ms ≡ Some w → IsTree w
 member_tree no_members k w sorted e = cc
 member_tree (member l d ms) k w sorted e = elim (bool_cases (bytes_eq k l)) [
   | inl t ↦ subst IsTree (same_Some d w (rw t at e)) sorted.0
@@ -87,7 +87,7 @@ pub part_tree : (path : Path) (d e : Data) → IsTree d → part_at d path ≡ S
 part_tree [] d e o h = subst IsTree (same_Some d e h) o
 part_tree (s ∷ path) d e o h = let first = part_first d s path e h in part_tree path first.0 e (by_tree d s first.0 o first.1) first.2
 
-step_object : (ms : Members) (s : Step) (ns : Members) → IsObject ms → schema_by (object ms) s ≡ Some (object ns) → IsObject ns
+step_object : (ms : Members) (s : Step) (ns : Members) → AreMembers ms → schema_by (object ms) s ≡ Some (object ns) → AreMembers ns
 step_object ms s ns o h =
     let b = part_from_step ms s (object ns) h in
     let value : IsTree b.value = member_tree ms b.key b.value o b.at in
@@ -187,7 +187,7 @@ pub record StepOn (p : Place) (ms : Members) (m : Event) : Type 0 where
   pub leads : schema_by (object ms) step ≡ Some (object below)
   pub within : IsIn m (schema_events (p ++ (step ∷ [])) below)
 
-pub steps_down : (p : Place) (ms : Members) (m : Event) → IsObject ms → IsIn m (member_events p true ms) → KeywordHere p ms m ⊎ StepOn p ms m
+pub steps_down : (p : Place) (ms : Members) (m : Event) → AreMembers ms → IsIn m (member_events p true ms) → KeywordHere p ms m ⊎ StepOn p ms m
 steps_down p ms m o h =
     let found : KeyEvent p ms m = members_down p ms m o h in
     elim found.here [
@@ -218,7 +218,7 @@ here_keyword p ms m w =
     )
 
 abbrev pub HasEvents : Members → Type 0
-HasEvents ms = IsObject ms → (p : Place) (m : Event) → IsIn m (schema_events p ms) → EventOf (object ms) p m
+HasEvents ms = AreMembers ms → (p : Place) (m : Event) → IsIn m (schema_events p ms) → EventOf (object ms) p m
 
 events_step : Steps HasEvents
 events_step ms below o p m h = elim h [
@@ -229,7 +229,7 @@ events_step ms below o p m h = elim h [
   ]
 ]
 
-pub event_of : (ms : Members) → IsObject ms → (p : Place) (m : Event) → IsIn m (schema_events p ms) → EventOf (object ms) p m
+pub event_of : (ms : Members) → AreMembers ms → (p : Place) (m : Event) → IsIn m (schema_events p ms) → EventOf (object ms) p m
 event_of ms = schema_induction HasEvents events_step ms
 
 -- ---- each place and each keyword is an event
@@ -266,8 +266,8 @@ keyword_recorded ms r k long =
     let at : member_at k on.below ≡ Some long.value = subst (λ d. under d k ≡ Some long.value) on.is long.stands in
     on.each (too_long r k) (inr (members_up r on.below (too_long r k) k long.value at (inl (keyword_up r k long.value long.most long.limit long.past))))
 
-pub entered_schema : (ms : Members) → IsObject ms → (p : Place) (s : Data) → IsIn (entered p s) (schema_events [] ms) → schema_at (object ms) p ≡ Some s
+pub entered_schema : (ms : Members) → AreMembers ms → (p : Place) (s : Data) → IsIn (entered p s) (schema_events [] ms) → schema_at (object ms) p ≡ Some s
 entered_schema ms o p s h = let found = event_of ms o [] (entered p s) h in subst (λ q. schema_at (object ms) q ≡ Some s) (sym found.1) found.2
 
-pub recorded_keyword : (ms : Members) → IsObject ms → (p : Place) (k : List ℕ) → IsIn (too_long p k) (schema_events [] ms) → IsTooLong (object ms) p k
+pub recorded_keyword : (ms : Members) → AreMembers ms → (p : Place) (k : List ℕ) → IsIn (too_long p k) (schema_events [] ms) → IsTooLong (object ms) p k
 recorded_keyword ms o p k h = let found = event_of ms o [] (too_long p k) h in subst (λ q. IsTooLong (object ms) q k) (sym found.1) found.2

@@ -11,6 +11,7 @@ use crate::fault::SFault;
 use crate::forms::{Form, check_form};
 use crate::listing::list_places;
 use crate::raw::RawSchema;
+use crate::reading::copy_tree;
 use crate::versions::select;
 use jtree::{Items, Text, Tree};
 use std::alloc::Global;
@@ -73,7 +74,7 @@ pub fn read_crd(alloc: Global, document: &Tree, version: &str) -> Result<Crd, SF
         group: Text::from_str(alloc, definition.group)?,
         kind: Text::from_str(alloc, definition.kind)?,
         version: Text::from_str(alloc, version)?,
-        raw: RawSchema::new(definition.schema.copy(alloc)?),
+        raw: RawSchema::new(copy_tree(alloc, definition.schema)?),
     })
 }
 

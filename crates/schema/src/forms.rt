@@ -8,8 +8,9 @@ ghost use Rattle.schema.specs.Document.Forms.{text_keywords, truth_value_keyword
 ghost use Rattle.schema.specs.Internal.FormBreak.{first_break, items_break, members_break, below, IsBreakFault};
 
 use crate::fault::SFault;
-use jtree::{Items, JFault, Members, Tree, push_index, push_name};
-use std::alloc::Global;
+use crate::places::{push_index, push_name};
+use jtree::{Items, Members, Tree};
+use std::alloc::{AllocError, Global};
 
 /// The form of a JSON value.
 #[derive(Clone, Copy, Drop)]
@@ -211,7 +212,7 @@ fn below_name(alloc: Global, name: &str, fault: SFault) -> SFault
     match fault {
         SFault::KeywordForm(pointer) => match name_and(alloc, name, pointer.as_str()) {
             Ok(pointer) => SFault::KeywordForm(pointer),
-            Err(_refused) => SFault::NoMemory,
+            Err(_) => SFault::NoMemory,
         },
         other => other,
     }
@@ -223,13 +224,13 @@ fn below_index(alloc: Global, index: usize, fault: SFault) -> SFault
     match fault {
         SFault::KeywordForm(pointer) => match index_and(alloc, index as u64, pointer.as_str()) {
             Ok(pointer) => SFault::KeywordForm(pointer),
-            Err(_refused) => SFault::NoMemory,
+            Err(_) => SFault::NoMemory,
         },
         other => other,
     }
 }
 
-fn name_and(alloc: Global, name: &str, pointer: &str) -> Result<String, JFault>
+fn name_and(alloc: Global, name: &str, pointer: &str) -> Result<String, AllocError>
     ensures { IfOk result (λ s. string_bytes s ≡ name_token name.now ++ pointer.now) }
 {
     let mut joined = String::new(alloc);
@@ -238,7 +239,7 @@ fn name_and(alloc: Global, name: &str, pointer: &str) -> Result<String, JFault>
     Ok(joined)
 }
 
-fn index_and(alloc: Global, index: u64, pointer: &str) -> Result<String, JFault>
+fn index_and(alloc: Global, index: u64, pointer: &str) -> Result<String, AllocError>
     ensures { IfOk result (λ s. string_bytes s ≡ index_token index ++ pointer.now) }
 {
     let mut joined = String::new(alloc);

@@ -13,13 +13,12 @@ ghost use Rattle.schema.specs.Rules.Broken.{pattern, holder, typed};
 ghost use Rattle.schema.specs.Internal.Contexts.{HasAnyPattern, HasAllPattern, is_any as is_any_step, is_first_of_all as is_first_of_all_step, outer_by, IsContext, StandsAs};
 ghost use Rattle.schema.specs.Internal.Subschemas.{IsSubschema, AreSubschemas};
 ghost use Rattle.schema.specs.Internal.PlaceView.{step_of, place_of, junctor_of, part_view, subschema_of};
-ghost use Rattle.schema.specs.declared.fault.SFault.TheVariants.{NoMemory};
 
 use crate::fault::SFault;
 use crate::keywords::has_true;
 use crate::places::{Step, is_junctor, keyword_pointer, pointer_of};
 use jtree::{Items, Members, Tree};
-use std::alloc::Global;
+use std::alloc::{AllocError, Global};
 
 /// The most places of a schema, branches of junctors among them.
 const MOST_PLACES: usize = 512;
@@ -262,9 +261,8 @@ fn object_under<'a>(schema: &'a Members, name: &str) -> Option<&'a Members>
     }
 }
 
-fn below<'a>(alloc: Global, place: &[Step<'a>], step: Step<'a>) -> Result<Vec<Step<'a>>, SFault>
-    ensures ok { IfOk result (λ v. place_of v.items ≡ place_of place.now ++ (step_of step.entry ∷ [])) }
-    ensures err { IfErr result (λ e. e ≡ NoMemory) }
+fn below<'a>(alloc: Global, place: &[Step<'a>], step: Step<'a>) -> Result<Vec<Step<'a>>, AllocError>
+    ensures { IfOk result (λ v. place_of v.items ≡ place_of place.now ++ (step_of step.entry ∷ [])) }
 {
     let mut below = Vec::with_capacity(alloc, place.len() + 1)?;
     below.extend_from_slice(place)?;
@@ -455,9 +453,8 @@ fn list_part<'a>(
     }
 }
 
-fn copied<'a>(alloc: Global, place: &[Step<'a>]) -> Result<Vec<Step<'a>>, SFault>
-    ensures ok { IfOk result (λ v. place_of v.items ≡ place_of place.now) }
-    ensures err { IfErr result (λ e. e ≡ NoMemory) }
+fn copied<'a>(alloc: Global, place: &[Step<'a>]) -> Result<Vec<Step<'a>>, AllocError>
+    ensures { IfOk result (λ v. place_of v.items ≡ place_of place.now) }
 {
     let mut steps = Vec::with_capacity(alloc, place.len())?;
     steps.extend_from_slice(place)?;

@@ -1,13 +1,12 @@
 // The places of a schema, and their pointers.
 ghost use Rattle.std.specs.Prelude.{◌≡◌, ◌++◌, ◌∷◌, [], OnOk, IfOk, IfErr, string_bytes};
 ghost use Rattle.jtree.specs.Path.{name as name_step, index as index_step};
-ghost use Rattle.jtree.specs.Pointer.{pointer};
+ghost use Rattle.jtree.specs.Pointer.{pointer, name_token, index_token};
 ghost use Rattle.schema.specs.Document.Texts.{is_among};
 ghost use Rattle.schema.specs.Document.Places.{place_path, step_path, is_junctor as is_junctor_of, envelope_names};
 ghost use Rattle.schema.specs.Internal.PlaceView.{step_of, place_of};
 
-use jtree::{JFault, push_index, push_name};
-use std::alloc::Global;
+use std::alloc::{AllocError, Global};
 
 /// A step from a place of a schema to a place below it.
 #[derive(Clone, Copy, Drop)]
@@ -46,7 +45,7 @@ pub(crate) fn is_envelope_name(name: &str) -> bool
 }
 
 /// The pointer of a place (RFC 6901), counted from the root of the schema.
-pub(crate) fn pointer_of(alloc: Global, place: &[Step<'_>]) -> Result<String, JFault>
+pub(crate) fn pointer_of(alloc: Global, place: &[Step<'_>]) -> Result<String, AllocError>
     ensures { IfOk result (λ s. string_bytes s ≡ pointer (place_path (place_of place.now))) }
 {
     let mut text = String::new(alloc);
@@ -61,7 +60,7 @@ pub(crate) fn keyword_pointer(
     alloc: Global,
     place: &[Step<'_>],
     keyword: &str,
-) -> Result<String, JFault>
+) -> Result<String, AllocError>
     ensures { IfOk result (λ s. string_bytes s ≡ pointer (place_path (place_of place.now) ++ (name_step keyword.now ∷ []))) }
 {
     let mut text = pointer_of(alloc, place)?;
@@ -69,7 +68,7 @@ pub(crate) fn keyword_pointer(
     Ok(text)
 }
 
-fn push_step(text: &mut String, step: Step<'_>) -> Result<(), JFault>
+fn push_step(text: &mut String, step: Step<'_>) -> Result<(), AllocError>
     ensures { OnOk result (string_bytes text.new ≡ string_bytes text.old ++ pointer (step_path (step_of step.entry))) }
 {
     match step {
@@ -86,9 +85,23 @@ fn push_step(text: &mut String, step: Step<'_>) -> Result<(), JFault>
     }
 }
 
-fn push_branch(text: &mut String, keyword: &str, index: u64) -> Result<(), JFault>
+fn push_branch(text: &mut String, keyword: &str, index: u64) -> Result<(), AllocError>
     ensures { OnOk result (string_bytes text.new ≡ string_bytes text.old ++ pointer (name_step keyword.now ∷ index_step index ∷ [])) }
 {
     push_name(text, keyword)?;
     push_index(text, index)
+}
+
+/// As `jtree::push_name`, which fails for memory alone.
+pub(crate) fn push_name(text: &mut String, name: &str) -> Result<(), AllocError>
+    ensures { OnOk result (string_bytes text.new ≡ string_bytes text.old ++ name_token name.now) }
+{
+    jtree::push_name(text, name).map_err(|_| AllocError)
+}
+
+/// As `jtree::push_index`, which fails for memory alone.
+pub(crate) fn push_index(text: &mut String, index: u64) -> Result<(), AllocError>
+    ensures { OnOk result (string_bytes text.new ≡ string_bytes text.old ++ index_token index) }
+{
+    jtree::push_index(text, index).map_err(|_| AllocError)
 }
