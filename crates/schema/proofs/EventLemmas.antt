@@ -12,10 +12,10 @@ use Rattle.jtree.specs.PathOrder.{path_cmp}
 use Rattle.jtree.specs.Internal.PathLaws.{same_step}
 use Rattle.jtree.specs.Internal.Lookups.{before_each}
 use Rattle.schema.specs.Document.Places.{Step, property, Place, step_path, place_path}
-use Rattle.schema.specs.Document.Limits.{size}
-use Rattle.schema.specs.Internal.Events.{Event, entered, too_long, event_path, Junctor, all, any, one, branch, Part, a_schema, properties, branches, no_schema, part_of, most_of, is_past, keyword_event, part_events, member_events, item_events, schema_events, IsIn, Ascend, AreEventsOf}
+use Rattle.schema.specs.Document.Limits.{size, most_of}
+use Rattle.schema.specs.Internal.Events.{Event, entered, too_long, event_path, Junctor, all, any, one, branch, Part, a_schema, properties, branches, no_schema, part_of, is_past, keyword_event, part_events, member_events, item_events, schema_events, IsIn, Ascend, AreEventsOf}
 use Rattle.schema.proofs.EventParts.{in_append, PartIs, is_properties, is_map_value, is_items, is_all, is_any, is_one, is_negation, is_none, part_is, Leads, to_property, lead_path, schema_down, names_down, items_down, PartEvent, part_down, KeyEvent, members_down}
-use Rattle.schema.proofs.EventSubschemas.{keyword_down, member_tree, item_tree, part_tree, EventOf, event_of, entered_schema, schema_entered, recorded_keyword, keyword_recorded}
+use Rattle.schema.proofs.EventPlaces.{keyword_down, member_tree, item_tree, part_tree, EventOf, event_of, entered_schema, schema_entered, recorded_keyword, keyword_recorded}
 
 -- ---- paths
 
@@ -179,30 +179,10 @@ keys_ascend p k d ms o here later =
 
 mutual
   part_ascend : (p : Place) (part : Part) (d : Data) → IsTree d → Ascend (part_events p part d)
-  part_ascend p (a_schema s) null o = tt
-  part_ascend p (a_schema s) (boolean b) o = tt
-  part_ascend p (a_schema s) (integer z) o = tt
-  part_ascend p (a_schema s) (text t) o = tt
-  part_ascend p (a_schema s) (list ds) o = tt
   part_ascend p (a_schema s) (object ms) o = (λ n h. schema_first (p ++ (s ∷ [])) ms n o h, member_ascend (p ++ (s ∷ [])) true ms o)
-  part_ascend p properties null o = tt
-  part_ascend p properties (boolean b) o = tt
-  part_ascend p properties (integer z) o = tt
-  part_ascend p properties (text t) o = tt
-  part_ascend p properties (list ds) o = tt
   part_ascend p properties (object ms) o = member_ascend p false ms o
-  part_ascend p (branches j) null o = tt
-  part_ascend p (branches j) (boolean b) o = tt
-  part_ascend p (branches j) (integer z) o = tt
-  part_ascend p (branches j) (text t) o = tt
   part_ascend p (branches j) (list ds) o = item_ascend p j 0 ds o
-  part_ascend p (branches j) (object ms) o = tt
-  part_ascend p no_schema null o = tt
-  part_ascend p no_schema (boolean b) o = tt
-  part_ascend p no_schema (integer z) o = tt
-  part_ascend p no_schema (text t) o = tt
-  part_ascend p no_schema (list ds) o = tt
-  part_ascend p no_schema (object ms) o = tt
+  part_ascend _ _ _ _ = tt
 
   member_ascend : (p : Place) (b : Bool) (ms : Members) → AreMembers ms → Ascend (member_events p b ms)
   member_ascend p true no_members o = tt

@@ -9,9 +9,8 @@ use Rattle.jtree.specs.Path.{Step, name, index, Path, member_at, item_at, part_b
 use Rattle.jtree.specs.PathOrder.{path_cmp, IsFirst}
 use Rattle.jtree.specs.Internal.PathLaws.{not_before_root, same_step, not_before_name, not_before_index}
 use Rattle.jtree.specs.Internal.Lookups.{bool_cases, same_name, member_first, member_later, member_tail, option_cases, before_each}
-use Rattle.schema.specs.Document.Forms.{form_below, has_form, BreaksForm}
+use Rattle.schema.specs.Document.Forms.{Form, form_below, has_form, BreaksForm}
 use Rattle.schema.specs.Internal.FormBreak.{below, or_else, parts_break, items_break, members_break, first_break}
-use Rattle.schema.specs.declared.forms.Form.{Form}
 
 -- the option is the first path at which something holds, or there is none
 abbrev pub IsFound : (Path → Type 0) → Option Path → Type 0
@@ -189,12 +188,9 @@ from_parts f d h = elim (bool_cases (has_form f d)) [
 
 mutual
   parts_found : (f : Form) (d : Data) → IsTree d → has_form f d ≡ true → IsFound (BreaksForm f d) (parts_break f d)
-  parts_found f null o form = no_parts f null (λ s. refl) form
-  parts_found f (boolean b) o form = no_parts f (boolean b) (λ s. refl) form
-  parts_found f (integer z) o form = no_parts f (integer z) (λ s. refl) form
-  parts_found f (text s) o form = no_parts f (text s) (λ s. refl) form
   parts_found f (list ds) o form = found_alike (ItemBreaks f 0 ds) (BreaksForm f (list ds)) (items_break f 0 ds) (list_up f ds) (list_down f ds form) (items_found f 0 ds o)
   parts_found f (object ms) o form = found_alike (MemberBreaks f ms) (BreaksForm f (object ms)) (members_break f ms) (object_up f ms) (object_down f ms form) (members_found f ms o)
+  parts_found f d o form = no_parts f d (λ s. refl) form
 
   items_found : (f : Form) (i : ℕ) (ds : Items) → AreTrees ds → IsFound (ItemBreaks f i ds) (items_break f i ds)
   items_found f i no_items o = λ p b. cc

@@ -14,8 +14,8 @@ use Rattle.schema.specs.Document.Texts.{is_among}
 use Rattle.schema.specs.Document.Places.{Step, Place, property, map_value, items, all_of, any_of, one_of, negation, is_junctor, is_inside, schema_at}
 use Rattle.schema.specs.Internal.PlaceView.{step_of, place_of}
 use Rattle.schema.specs.declared.places.Step.{Step as CodeStep}
-use Rattle.schema.specs.Rules.Broken.{HasOneOf, metadata_keywords, metadata, RestrictsMetadata, metadata_keyword, metadata_type, metadata_field, is_field, ends_in_field}
-use Rattle.schema.specs.Internal.RuleParts.{HasOtherKeyword, HasOtherType, metadata_names, IsOtherName, IsOtherField, Restricts}
+use Rattle.schema.specs.Rules.Broken.{HasOneOf, metadata_keywords, metadata, RestrictsMetadata, metadata_keyword, metadata_type, metadata_field, is_field, ends_in_field, HasOtherKeyword, HasOtherType}
+use Rattle.schema.specs.Internal.RuleParts.{metadata_names, IsOtherName, IsOtherField, Restricts}
 
 -- ---- one of several keywords
 
@@ -109,22 +109,10 @@ others_none xs i Whole past all =
 -- ---- the steps of a place
 
 pub inside_next : (s : Step) (p : Place) → is_junctor s ≡ false → is_inside (s ∷ p) ≡ is_inside p
-inside_next (property k) p h = refl
-inside_next map_value p h = refl
-inside_next items p h = refl
-inside_next (all_of i) p h = cc
-inside_next (any_of i) p h = cc
-inside_next (one_of i) p h = cc
-inside_next negation p h = cc
+inside_next s p h = rw h refl
 
 pub inside_here : (s : Step) (p : Place) → is_junctor s ≡ true → is_inside (s ∷ p) ≡ true
-inside_here (property k) p h = cc
-inside_here map_value p h = cc
-inside_here items p h = cc
-inside_here (all_of i) p h = refl
-inside_here (any_of i) p h = refl
-inside_here (one_of i) p h = refl
-inside_here negation p h = refl
+inside_here s p h = rw h refl
 
 pub ends_at : (xs : List CodeStep) (k : ℕ) (d : CodeStep) → suc k ≡ length xs → ends_in_field (place_of xs) ≡ is_field (step_of (get_or xs k d))
 ends_at [] k d h = absurd (omega arith)

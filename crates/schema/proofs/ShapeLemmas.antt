@@ -49,12 +49,8 @@ pub list_has_items : (root : Bool) (s : Data) → HasNodes root s → IsOfKind s
 list_has_items root s h kind none = has_node root s h (inr (kind, λ o. let some = o.1 in cc))
 
 pub list_nodes : (root : Bool) (s d : Data) → HasNodes root s → IsOfKind s kinds.list → under s (codes "items") ≡ Some d → HasNodes false d
-list_nodes root s tree.null h kind at = absurd (has_node root s h (inr (kind, λ o. let some = o.1 in cc)))
-list_nodes root s (tree.boolean b) h kind at = absurd (has_node root s h (inr (kind, λ o. let some = o.1 in cc)))
-list_nodes root s (tree.integer z) h kind at = absurd (has_node root s h (inr (kind, λ o. let some = o.1 in cc)))
-list_nodes root s (tree.text t) h kind at = absurd (has_node root s h (inr (kind, λ o. let some = o.1 in cc)))
-list_nodes root s (tree.list ds) h kind at = absurd (has_node root s h (inr (kind, λ o. let some = o.1 in cc)))
 list_nodes root s (tree.object ms) h kind at = list_below root s (tree.object ms) h (rw at refl)
+list_nodes root s _ h kind at = absurd (has_node root s h (inr (kind, λ o. let some = o.1 in cc)))
 
 -- ---- the values of a map
 
@@ -73,12 +69,8 @@ map_nodes root s d h kind at =
 -- ---- the properties of an object
 
 declared_is_object : (root : Bool) (k : List ℕ) (d : Data) → is_declared root k d ≡ true → (ms : Members) × (d ≡ tree.object ms)
-declared_is_object root k tree.null is = cc
-declared_is_object root k (tree.boolean b) is = cc
-declared_is_object root k (tree.integer z) is = cc
-declared_is_object root k (tree.text t) is = cc
-declared_is_object root k (tree.list ds) is = cc
 declared_is_object root k (tree.object ms) is = (ms, refl)
+declared_is_object root k _ is = cc
 
 declared_is_other : (root : Bool) (k : List ℕ) (d : Data) → is_declared root k d ≡ true → root ≡ true → IsEnvelopeName k → ⊥
 declared_is_other false k d is at e = cc
@@ -180,15 +172,11 @@ member_named xs i m within is o =
     subst (λ zs. member_at m.name (members_of zs) ≡ Some (data_of m.tree)) (sym split) (item_named (take i xs) m (drop (i + 1) xs) (subst (λ zs. AreMembers (members_of zs)) split o))
 
 texts_split : (x : Data) (k : List ℕ) (ds : Items) → is_among k (texts_of (tree.item x ds)) ≡ (is_among k (texts_of (tree.item x tree.no_items)) || is_among k (texts_of ds))
-texts_split tree.null k ds = refl
-texts_split (tree.boolean b) k ds = refl
-texts_split (tree.integer z) k ds = refl
 texts_split (tree.text t) k ds = elim (bool_cases (bytes_eq k t)) [
   | inl same ↦ rw same refl
   | inr f ↦ rw f refl
 ]
-texts_split (tree.list es) k ds = refl
-texts_split (tree.object ms) k ds = refl
+texts_split _ k ds = refl
 
 pub texts_next : (xs : List Tree) (i : ℕ) (t : Tree) (k : List ℕ) → i < length xs → t ≡ get_or xs i t
     → is_among k (texts_of (items_of (drop i xs))) ≡ (is_among k (texts_of (tree.item (data_of t) tree.no_items)) || is_among k (texts_of (items_of (drop (i + 1) xs))))

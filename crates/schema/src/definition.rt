@@ -2,10 +2,10 @@
 ghost use Rattle.std.specs.Prelude.{◌≡◌, ◌≢◌, ◌↔◌, ℕ, List, [], None, Some, option_map, codes, OnOk, IfOk, IfErr, IfSome, IsTrue};
 ghost use Rattle.jtree.specs.Data.{Data, Items as ItemsData, text as text_of};
 ghost use Rattle.jtree.specs.View.{data_of};
-ghost use Rattle.schema.specs.Document.Crd.{IsRead, IsSchemaOf};
-ghost use Rattle.schema.specs.Document.ReadFault.{IsSound, IsReadFault, IsDefinitionFault, IsSchemaFault};
+ghost use Rattle.schema.specs.Document.Crd.{IsRead, IsSchemaOf, HasHeader, IsHead};
+ghost use Rattle.schema.specs.Internal.Faults.{IsDefinitionFault};
+ghost use Rattle.schema.specs.Document.ReadFault.{IsSound, IsReadFault, IsSchemaFault};
 ghost use Rattle.jtree.specs.Path.{under2, under3};
-ghost use Rattle.schema.specs.Internal.Versions.{HasHeader, IsHead};
 
 use crate::fault::SFault;
 use crate::forms::{Form, check_form};

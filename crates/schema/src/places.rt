@@ -2,8 +2,7 @@
 ghost use Rattle.std.specs.Prelude.{◌≡◌, ◌++◌, ◌∷◌, [], OnOk, IfOk, IfErr, string_bytes};
 ghost use Rattle.jtree.specs.Path.{name as name_step, index as index_step};
 ghost use Rattle.jtree.specs.Pointer.{pointer, name_token, index_token};
-ghost use Rattle.schema.specs.Document.Texts.{is_among};
-ghost use Rattle.schema.specs.Document.Places.{place_path, step_path, is_junctor as is_junctor_of, envelope_names};
+ghost use Rattle.schema.specs.Document.Places.{place_path, step_path, is_junctor as is_junctor_of, is_envelope_name as is_envelope_name_of};
 ghost use Rattle.schema.specs.Internal.PlaceView.{step_of, place_of};
 
 use std::alloc::{AllocError, Global};
@@ -17,11 +16,11 @@ pub(crate) enum Step<'a> {
     MapValue,
     /// To `items`.
     Items,
-    /// To the entry of `allOf` at this place, counted from 0.
+    /// To the entry of `allOf` at this index, counted from 0.
     AllOf(u64),
-    /// To the entry of `anyOf` at this place.
+    /// To the entry of `anyOf` at this index.
     AnyOf(u64),
-    /// To the entry of `oneOf` at this place.
+    /// To the entry of `oneOf` at this index.
     OneOf(u64),
     /// To `not`.
     Not,
@@ -39,7 +38,7 @@ pub(crate) fn is_junctor(step: Step<'_>) -> bool
 
 /// Whether a property of the root is of the envelope of a resource.
 pub(crate) fn is_envelope_name(name: &str) -> bool
-    ensures { result ≡ is_among name.now envelope_names }
+    ensures { result ≡ is_envelope_name_of name.now }
 {
     name == "apiVersion" || name == "kind" || name == "metadata"
 }

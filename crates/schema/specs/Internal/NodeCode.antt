@@ -102,8 +102,7 @@ mutual
   pub branches_inj : (x y : Branches) → branches_code x ≡ branches_code y → x ≡ y
   branches_inj no_branches no_branches p = refl
   branches_inj (branch c cs) (branch d ds) p = λ i. branch (validations_inj c d (ap head p) i) (branches_inj cs ds (ap tail p) i)
-  branches_inj no_branches (branch d ds) p = cc
-  branches_inj (branch c cs) no_branches p = cc
+  branches_inj cs ds p = cc
 
 abbrev pub validations_coded : Coded Validations
 validations_coded = record { code = validations_code; inj = validations_inj }
@@ -160,8 +159,7 @@ mutual
   fields_inj (field k M r d fs) (field l N q e gs) p = λ i.
       field (coded_bytes.inj k l (ap head p) i) (node_inj M N (ap (λ v. head (tail v)) p) i) (coded_bool.inj r q (ap (λ v. head (tail (tail v))) p) i)
       (default_coded.inj d e (ap (λ v. head (tail (tail (tail v)))) p) i) (fields_inj fs gs (ap (λ v. tail (tail (tail (tail v)))) p) i)
-  fields_inj no_fields (field l N q e gs) p = cc
-  fields_inj (field k M r d fs) no_fields p = cc
+  fields_inj fs gs p = cc
 
 abbrev pub node_coded : Coded Node
 node_coded = record { code = node_code; inj = node_inj }

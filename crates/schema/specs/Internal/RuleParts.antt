@@ -6,16 +6,8 @@ use Rattle.schema.specs.Document.Texts.{is_among}
 use Rattle.schema.specs.Document.Places.{Step, Place, property, is_inside}
 use Rattle.schema.specs.Rules.Kinds.{HasNoType, IsIntOrString, Preserves}
 use Rattle.schema.specs.Internal.PlaceView.{place_of}
-use Rattle.schema.specs.Rules.Broken.{HasOneOf, outside_keywords, metadata_keywords, metadata, ends_in_field}
+use Rattle.schema.specs.Rules.Broken.{HasOneOf, HasOtherKeyword, HasOtherType, outside_keywords, metadata_keywords, metadata, ends_in_field}
 use Rattle.schema.specs.declared.listing.Subschema.{Subschema}
-
--- a keyword that the schema of `metadata` may not have
-abbrev pub HasOtherKeyword : Data → Type 0
-HasOtherKeyword s = (w : List ℕ) × Has s w × (is_among w metadata_keywords ≡ false)
-
--- a type that the schema of `metadata` may not have
-abbrev pub HasOtherType : Data → Type 0
-HasOtherType s = (t : List ℕ) × HasText s (codes "type") t × t ≢ [] × t ≢ codes "object"
 
 -- the fields of `metadata` that may be restricted
 abbrev pub metadata_names : List (List ℕ)

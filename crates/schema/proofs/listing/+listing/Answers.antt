@@ -5,13 +5,13 @@ use Rattle.std.proofs.lemmas.List.{drop_more, length-append}
 use Rattle.std.proofs.lemmas.Result.{on_ok_weaker}
 use Rattle.jtree.specs.Data.{list, object, AreMembers}
 use Rattle.jtree.specs.View.{data_of, items_of, members_of}
-use Rattle.schema.specs.Document.Limits.{size}
+use Rattle.schema.specs.Document.Limits.{size, most_of}
 use Rattle.schema.specs.Internal.Contexts.{StandsAs}
 use Rattle.schema.specs.Internal.Subschemas.{IsSubschema}
-use Rattle.schema.specs.Internal.Events.{properties, branches, most_of, is_past, a_schema, part_of, branch, keyword_event, part_events, member_events, item_events, schema_events, subschemas_of, limit_break}
+use Rattle.schema.specs.Internal.Events.{properties, branches, is_past, a_schema, part_of, branch, keyword_event, part_events, member_events, item_events, schema_events, subschemas_of, limit_break}
 use Rattle.schema.specs.Document.Places.{property}
 use Rattle.schema.specs.Internal.PlaceView.{step_of, place_of, junctor_of, part_view, subschema_of}
-use Rattle.schema.specs.Internal.LimitBreak.{IsLimitRefusal}
+use Rattle.schema.specs.Internal.Faults.{IsLimitRefusal}
 use Rattle.schema.proofs.ListingLemmas.{HasGrown, grown_subschemas, grown_limit, refusal_stays, short_keyword}
 use Rattle.schema.proofs.ContextLemmas.{context_subschema, part_stands, property_stands, branch_stands, member_stands, item_stands}
 use Rattle.schema.proofs.listing.+listing.Goals as goal
