@@ -25,18 +25,15 @@ then_less Greater b p = cc
 
 less_then : (a b : Ordering) → a ≡ Less → ordering_then a b ≡ Less
 less_then Less b p = refl
-less_then Equal b p = cc
-less_then Greater b p = cc
+less_then _ b p = cc
 
 equal_then : (a b : Ordering) → a ≡ Equal → b ≡ Less → ordering_then a b ≡ Less
-equal_then Less b p q = cc
 equal_then Equal b p q = q
-equal_then Greater b p q = cc
+equal_then _ b p q = cc
 
 equal_equal : (a b : Ordering) → a ≡ Equal → b ≡ Equal → ordering_then a b ≡ Equal
-equal_equal Less b p q = cc
 equal_equal Equal b p q = q
-equal_equal Greater b p q = cc
+equal_equal _ b p q = cc
 
 nat_equal : (x y : ℕ) → x ≡ y → nat_cmp x y ≡ Equal
 nat_equal x y p = sym (nat_cmp_is x y Equal p)

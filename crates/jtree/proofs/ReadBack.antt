@@ -36,12 +36,10 @@ integer_reads (negsuc n) fits = refl
 
 mutual
   pub tree_of-json_of : (d : Data) → IsTree d → tree_of (json_of d) ≡ Some d
-  tree_of-json_of null t = refl
-  tree_of-json_of (boolean b) t = refl
   tree_of-json_of (integer z) t = ap (option_map integer) (integer_reads z t)
-  tree_of-json_of (text s) t = refl
   tree_of-json_of (list ds) t = ap (option_map list) (items_tree-json ds t)
   tree_of-json_of (object ms) t = ap (option_map object) (members_tree-json ms t)
+  tree_of-json_of _ t = refl
 
   items_tree-json : (ds : Items) → AreTrees ds → items_tree (items_json ds) ≡ Some ds
   items_tree-json no_items t = refl
@@ -98,12 +96,10 @@ next_below front k d (member m e ms) here before l first =
 
 mutual
   of_json-outline : (d : Data) → IsTree d → of_json (outline (json_of d)) ≡ Some (json_of d)
-  of_json-outline null t = refl
-  of_json-outline (boolean b) t = refl
   of_json-outline (integer z) t = ap (option_map json.number) (number_reads z t)
-  of_json-outline (text s) t = refl
   of_json-outline (list ds) t = ap (option_map json.array) (of_items-outline ds t)
   of_json-outline (object ms) t = ap (option_map json.object) (of_members-outline json.no_members ms (λ k first. tt) t)
+  of_json-outline _ t = refl
 
   of_items-outline : (ds : Items) → AreTrees ds → of_items (items_outline (items_json ds)) ≡ Some (items_json ds)
   of_items-outline no_items t = refl
@@ -122,12 +118,9 @@ mutual
 
 mutual
   outline_depth : (d : Data) → token_tree.depth (outline (json_of d)) ≤ depth d
-  outline_depth null = omega arith
-  outline_depth (boolean b) = omega arith
-  outline_depth (integer z) = omega arith
-  outline_depth (text s) = omega arith
   outline_depth (list ds) = omega (arith, items_outline_depth ds)
   outline_depth (object ms) = omega (arith, members_outline_depth ms)
+  outline_depth _ = omega arith
 
   items_outline_depth : (ds : Items) → token_tree.items_depth (items_outline (items_json ds)) ≤ items_depth ds
   items_outline_depth no_items = omega arith
