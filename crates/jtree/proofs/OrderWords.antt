@@ -189,7 +189,6 @@ one_member k l d e ms ns g p q w =
 
 mutual
   content_words : (u v : Data) → IsTree u → IsTree v → AreAlike u v → content_cmp u v ≡ Less → IsBefore u v
-  content_words null null h g s p = cc
   content_words (boolean false) (boolean false) h g s p = cc
   content_words (boolean false) (boolean true) h g s p = false_first
   content_words (boolean true) (boolean false) h g s p = cc

@@ -36,14 +36,12 @@ and_member no_members l e = member l e no_members
 and_member (member k d ms) l e = member k d (and_member ms l e)
 
 joined_items-and : (o : Option Data) (rest : Option Items) (e : Data) → joined_items o (option_map (λ ds. and_item ds e) rest) ≡ option_map (λ ds. and_item ds e) (joined_items o rest)
-joined_items-and None rest e = refl
-joined_items-and (Some d) None e = refl
 joined_items-and (Some d) (Some ds) e = refl
+joined_items-and _ _ e = refl
 
 joined_members-and : (k : List ℕ) (o : Option Data) (rest : Option Members) (l : List ℕ) (e : Data) → joined_members k o (option_map (λ ms. and_member ms l e) rest) ≡ option_map (λ ms. and_member ms l e) (joined_members k o rest)
-joined_members-and k None rest l e = refl
-joined_members-and k (Some d) None l e = refl
 joined_members-and k (Some d) (Some ms) l e = refl
+joined_members-and k _ _ l e = refl
 
 items_read : (vs : List Value) (v : Value) (e : Data) → tree_of (view v) ≡ Some e → items_tree (items_view (vs ++ v ∷ [])) ≡ option_map (λ ds. and_item ds e) (items_tree (items_view vs))
 items_read [] v e h = rw h

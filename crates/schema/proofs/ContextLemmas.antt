@@ -241,14 +241,11 @@ one_on : (d : Data) (k : List ℕ) (e : Data) → under d k ≡ Some e → part_
 one_on d k e h = part_join d (name k) [] e e h refl
 
 keyword_stands : (ms : Members) (k : List ℕ) (part : Part) (d : Data) → PartIs k part → member_at k ms ≡ Some d → StandsAs (object ms) part d
-keyword_stands ms k part d is_properties h = h
 keyword_stands ms k part d is_map_value h = one_on (object ms) k d h
 keyword_stands ms k part d is_items h = one_on (object ms) k d h
-keyword_stands ms k part d is_all h = h
-keyword_stands ms k part d is_any_part h = h
-keyword_stands ms k part d is_one h = h
 keyword_stands ms k part d is_negation h = one_on (object ms) k d h
 keyword_stands ms k part d (is_none l) h = tt
+keyword_stands ms k part d _ h = h
 
 -- the value of a keyword
 pub part_stands : (ms : Members) (k : List ℕ) (d : Data) → member_at k ms ≡ Some d → StandsAs (object ms) (part_of k) d

@@ -99,13 +99,8 @@ keyword_first p k part d m n is_properties o h i =
     let path : event_path n ≡ place_path p ++ (name keyword ∷ (name rest.0 ∷ found.2)) = found.4 ∙ ap (λ x. place_path p ++ (name keyword ∷ (x ++ found.2))) rest.1 in
     behind_both (place_path p) (name keyword ∷ []) (name keyword ∷ (name rest.0 ∷ found.2)) (event_path m) (event_path n)
     (ap event_path (keyword_down p keyword d m h).0) path (same_step (name keyword) [] (name rest.0 ∷ found.2))
-keyword_first p k part d m n is_map_value o h i = elim h [ ]
-keyword_first p k part d m n is_items o h i = elim h [ ]
-keyword_first p k part d m n is_all o h i = elim h [ ]
-keyword_first p k part d m n is_any o h i = elim h [ ]
-keyword_first p k part d m n is_one o h i = elim h [ ]
-keyword_first p k part d m n is_negation o h i = elim h [ ]
 keyword_first p k part d m n (is_none l) o h i = let found = key_parts p k no_schema d n (is_none k) o i in absurd (nothing_leads found.0 found.1 found.3)
+keyword_first p k part d m n _ o h i = elim h [ ]
 
 -- the events of a keyword come before those of later keywords
 key_first : (p : Place) (k : List ℕ) (d : Data) (ms : Members) (m n : Event) → AreMembers (member k d ms)

@@ -29,9 +29,7 @@ kind_from (suc (suc (suc n))) = kind.IntOrString
 
 pub kind_back : (k : ScalarKind) → kind_from (kind_number k) ≡ k
 kind_back kind.Boolean = refl
-kind_back kind.Integer = refl
-kind_back kind.String = refl
-kind_back kind.IntOrString = refl
+kind_back _ = refl
 
 abbrev pub kind_coded : Coded ScalarKind
 kind_coded = code_by ℕ coded_ℕ kind_number kind_from kind_back
@@ -48,8 +46,7 @@ list_type_from (suc (suc n)) = list_type.Map
 
 pub list_type_back : (t : ListType) → list_type_from (list_type_number t) ≡ t
 list_type_back list_type.Atomic = refl
-list_type_back list_type.Set = refl
-list_type_back list_type.Map = refl
+list_type_back _ = refl
 
 abbrev pub list_type_coded : Coded ListType
 list_type_coded = code_by ℕ coded_ℕ list_type_number list_type_from list_type_back
