@@ -18,7 +18,7 @@ use Rattle.schema.specs.Internal.Subschemas.{IsSubschema, AreSubschemas}
 use Rattle.schema.specs.Internal.Judged.{judged, pair, pairs_at, pairs_of, AreBroken, none, broken, kept, AreFound}
 use Rattle.schema.specs.declared.listing.Subschema.{Subschema}
 use Rattle.schema.specs.declared.violation.Rule.{Rule}
-use Rattle.schema.specs.declared.violation.Rule.TheVariants.{V01, V02, V03, V04, V05, V06, V07, V08, V09, V10, V11, V12, V13, V14, V15, V16, V17}
+use Rattle.schema.specs.declared.violation.Rule.TheVariants.{V01, V02, V03, V04, V05, V06, V07, V08, V09}
 use Rattle.schema.specs.declared.violation.Violation.{Violation}
 use Rattle.schema.proofs.Rising.{Among, Rising, contains, each_of, all_pairs, among_left, among_right, among_parts, rising_join}
 use Rattle.schema.proofs.LimitLemmas.{path_total}
@@ -136,19 +136,12 @@ is_judged raw p V06 h = inr (inr (inr (inr (inr (inl refl)))))
 is_judged raw p V07 h = inr (inr (inr (inr (inr (inr (inl refl))))))
 is_judged raw p V08 h = inr (inr (inr (inr (inr (inr (inr (inl refl)))))))
 is_judged raw p V09 h = inr (inr (inr (inr (inr (inr (inr (inr (inl refl))))))))
-is_judged raw p V10 h = absurd h
-is_judged raw p V11 h = absurd h
-is_judged raw p V12 h = absurd h
-is_judged raw p V13 h = absurd h
-is_judged raw p V14 h = absurd h
-is_judged raw p V15 h = absurd h
-is_judged raw p V16 h = absurd h
-is_judged raw p V17 h = absurd h
+is_judged raw p _ h = absurd h
 
 restricted_place : (raw : Data) (p : Place) → Broken raw p V04 → IsPlace raw p
 restricted_place raw p (metadata_keyword r at) = (at.0, at.1)
 restricted_place raw p (metadata_type r at) = (at.0, at.1)
-restricted_place raw p (metadata_field r k at n g) = at
+restricted_place raw p (metadata_field r k at n) = at
 
 at_place : (raw : Data) (p : Place) (r : Rule) → Broken raw p r → IsPlace raw p
 at_place raw p V01 h = (h.1.0, h.1.1)
@@ -160,14 +153,7 @@ at_place raw p V06 h = (h.0, h.1)
 at_place raw p V07 h = (h.0, h.1)
 at_place raw p V08 h = (h.0, h.1)
 at_place raw p V09 h = (h.1.0, h.1.1)
-at_place raw p V10 h = absurd h
-at_place raw p V11 h = absurd h
-at_place raw p V12 h = absurd h
-at_place raw p V13 h = absurd h
-at_place raw p V14 h = absurd h
-at_place raw p V15 h = absurd h
-at_place raw p V16 h = absurd h
-at_place raw p V17 h = absurd h
+at_place raw p _ h = absurd h
 
 -- ---- the pairs of the places are in order, and all are there
 

@@ -81,16 +81,28 @@ HasOtherKeyword s = (w : List ℕ) × Has s w × (is_among w metadata_keywords �
 abbrev pub HasOtherType : Data → Type 0
 HasOtherType s = (t : List ℕ) × HasText s (codes "type") t × t ≢ [] × t ≢ codes "object"
 
+-- the fields of `metadata` that may be restricted
+abbrev pub metadata_names : List (List ℕ)
+metadata_names = codes "name" ∷ codes "generateName" ∷ []
+
 -- `metadata` has another keyword, another type than `object`, or another field than `name` and `generateName`
 pub data RestrictsMetadata : Data → Place → Type 0 where
   metadata_keyword : (raw : Data) → At raw metadata HasOtherKeyword → RestrictsMetadata raw metadata
   metadata_type : (raw : Data) → At raw metadata HasOtherType → RestrictsMetadata raw metadata
-  metadata_field : (raw : Data) (k : List ℕ) → IsPlace raw (metadata ++ (property k ∷ [])) → k ≢ codes "name" → k ≢ codes "generateName"
+  metadata_field : (raw : Data) (k : List ℕ) → IsPlace raw (metadata ++ (property k ∷ [])) → is_among k metadata_names ≡ false
       → RestrictsMetadata raw (metadata ++ (property k ∷ []))
+
+-- neither a type, nor int-or-string, nor open
+abbrev pub LacksType : Data → Type 0
+LacksType s = HasNoType s × (IsIntOrString s → ⊥) × (Preserves s → ⊥)
+
+-- int-or-string with a type
+abbrev pub HasBothTypes : Data → Type 0
+HasBothTypes s = IsIntOrString s × Has s (codes "type")
 
 abbrev pub Broken : Data → Place → Rule → Type 0
 -- missing type
-Broken raw p V01 = (is_inside p ≡ false) × At raw p (λ s. HasNoType s × (IsIntOrString s → ⊥) × (Preserves s → ⊥))
+Broken raw p V01 = (is_inside p ≡ false) × At raw p LacksType
 -- not specified outside the junctor
 Broken raw p V02 = (is_inside p ≡ true) × IsPlace raw p × (ends_in_field p ≡ true) × (IsPlace raw (core p) → ⊥)
 -- keyword not allowed in a junctor; `type` in the branches of the int-or-string pattern is excepted
@@ -106,6 +118,6 @@ Broken raw p V07 = At raw p (λ s. HasFalse s (codes "additionalProperties"))
 -- properties with additionalProperties
 Broken raw p V08 = At raw p (λ s. Has s (codes "properties") × Has s (codes "additionalProperties"))
 -- int-or-string with a type
-Broken raw p V09 = (is_inside p ≡ false) × At raw p (λ s. IsIntOrString s × Has s (codes "type"))
+Broken raw p V09 = (is_inside p ≡ false) × At raw p HasBothTypes
 -- the rules that are not judged yet
 Broken raw p _ = ⊥
