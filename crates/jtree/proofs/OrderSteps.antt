@@ -16,9 +16,8 @@ use Rattle.jtree.specs.declared.value.Tree.{Tree}
 use Rattle.jtree.specs.declared.value.Member.{Member}
 
 pub then_assoc : (a b c : Ordering) → ordering_then (ordering_then a b) c ≡ ordering_then a (ordering_then b c)
-then_assoc Less b c = refl
 then_assoc Equal b c = refl
-then_assoc Greater b c = refl
+then_assoc _ b c = refl
 
 -- ---- the next part
 
@@ -73,19 +72,16 @@ members_end xs ys i p = members_ended (drop i xs) (drop i ys) i (length xs) (len
 -- ---- whether all is the same
 
 pub then_false : (a b : Ordering) → false ≡ is_eq b → false ≡ is_eq (ordering_then a b)
-then_false Less b h = refl
 then_false Equal b h = h
-then_false Greater b h = refl
+then_false _ b h = refl
 
 pub then_first : (a b : Ordering) → false ≡ is_eq a → false ≡ is_eq (ordering_then a b)
-then_first Less b h = refl
 then_first Equal b h = cc
-then_first Greater b h = refl
+then_first _ b h = refl
 
 pub then_tied : (a b : Ordering) → true ≡ is_eq a → is_eq (ordering_then a b) ≡ is_eq b
-then_tied Less b h = cc
 then_tied Equal b h = refl
-then_tied Greater b h = cc
+then_tied _ b h = cc
 
 pub unlike_items : (xs ys : List Tree) → (length xs ≡ length ys → ⊥) → false ≡ is_eq (items_cmp (items_of xs) (items_of ys))
 unlike_items [] [] h = absurd (h refl)
@@ -105,13 +101,9 @@ unlike_members (x ∷ xs) (y ∷ ys) h =
 
 -- counts of nodes and kinds tie where the contents do
 whole : (r o : Ordering) → (o ≡ Equal → r ≡ Equal) → is_eq o ≡ is_eq (ordering_then r o)
-whole Less Less h = refl
 whole Less Equal h = absurd (let e : Less ≡ Equal = h refl in cc)
-whole Less Greater h = refl
-whole Equal o h = refl
-whole Greater Less h = refl
 whole Greater Equal h = absurd (let e : Greater ≡ Equal = h refl in cc)
-whole Greater Greater h = refl
+whole _ _ h = refl
 
 rank_itself : (u v : Data) → u ≡ v → rank_cmp u v ≡ Equal
 rank_itself u v e = ap (λ w. rank_cmp u w) (sym e) ∙ tied_itself rank_total u

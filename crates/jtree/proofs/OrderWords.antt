@@ -9,7 +9,7 @@ use Rattle.std.proofs.lemmas.Cmp.{ranked, int_ranked, tied_itself}
 use Rattle.std.specs.Ordering.{is_eq, nat_cmp, ordering_then, ordering_reverse}
 use Rattle.std.specs.declared.cmp.Ordering.{Ordering}
 use Rattle.std.specs.declared.cmp.Ordering.TheVariants.{Less, Equal, Greater}
-use Rattle.jtree.specs.Data.{Data, null, boolean, integer, text, list, object, Items, no_items, item, Members, no_members, member, IsTree, AreTrees, IsObject, IsBefore as IsBeforeNames}
+use Rattle.jtree.specs.Data.{Data, null, boolean, integer, text, list, object, Items, no_items, item, Members, no_members, member, IsTree, AreTrees, AreMembers, IsNameBefore}
 use Rattle.jtree.specs.Path.{item_at, member_at}
 use Rattle.jtree.specs.Nodes.{nodes}
 use Rattle.jtree.specs.Order.{kind, text_cmp, rank_cmp, content_cmp, items_cmp, members_cmp, tree_cmp}
@@ -25,18 +25,15 @@ then_less Greater b p = cc
 
 less_then : (a b : Ordering) → a ≡ Less → ordering_then a b ≡ Less
 less_then Less b p = refl
-less_then Equal b p = cc
-less_then Greater b p = cc
+less_then _ b p = cc
 
 equal_then : (a b : Ordering) → a ≡ Equal → b ≡ Less → ordering_then a b ≡ Less
-equal_then Less b p q = cc
 equal_then Equal b p q = q
-equal_then Greater b p q = cc
+equal_then _ b p q = cc
 
 equal_equal : (a b : Ordering) → a ≡ Equal → b ≡ Equal → ordering_then a b ≡ Equal
-equal_equal Less b p q = cc
 equal_equal Equal b p q = q
-equal_equal Greater b p q = cc
+equal_equal _ b p q = cc
 
 nat_equal : (x y : ℕ) → x ≡ y → nat_cmp x y ≡ Equal
 nat_equal x y p = sym (nat_cmp_is x y Equal p)
@@ -76,17 +73,17 @@ at_same k d ms = rw (bytes_itself k)
 at_other : (k l : List ℕ) (d : Data) (ms : Members) → bytes_eq k l ≡ false → member_at k (member l d ms) ≡ member_at k ms
 at_other k l d ms p = rw p
 
-before_below : (k l : List ℕ) (ms : Members) → text_cmp k l ≡ Less → IsBeforeNames l ms → IsBeforeNames k ms
+before_below : (k l : List ℕ) (ms : Members) → text_cmp k l ≡ Less → IsNameBefore l ms → IsNameBefore k ms
 before_below k l no_members p b = tt
 before_below k l (member m d ms) p b = text_total.trans k l m p b
 
 -- a name that comes before all names stands for nothing
-below_all : (k : List ℕ) (ms : Members) → IsObject ms → IsBeforeNames k ms → member_at k ms ≡ None
+below_all : (k : List ℕ) (ms : Members) → AreMembers ms → IsNameBefore k ms → member_at k ms ≡ None
 below_all k no_members h b = refl
 below_all k (member l d ms) h b = at_other k l d ms (less_other k l b) ∙ below_all k ms h.2 (before_below k l ms b h.1)
 
 -- what stands in an object stands after each name that comes before all names
-above : (l k : List ℕ) (ms : Members) → IsObject ms → IsBeforeNames l ms → (member_at k ms ≡ None → ⊥) → text_cmp l k ≡ Less
+above : (l k : List ℕ) (ms : Members) → AreMembers ms → IsNameBefore l ms → (member_at k ms ≡ None → ⊥) → text_cmp l k ≡ Less
 above l k no_members h b s = absurd (s refl)
 above l k (member m d ms) h b s = elim (case_name k m) [
   | inl e ↦ ap (λ w. text_cmp l w) e ∙ b
@@ -95,7 +92,7 @@ above l k (member m d ms) h b s = elim (case_name k m) [
 
 -- ---- from the comparison to the words
 
--- at one place of two lists, or at one name of two objects, the first has nothing or a lesser tree
+-- at one index of two lists, or at one name of two objects, the first has nothing or a lesser tree
 abbrev AtBefore : Option Data → Option Data → Type 0
 AtBefore None None = ⊥
 AtBefore None (Some e) = Unit {0}
@@ -142,7 +139,7 @@ present_right (Some d) None h p = h
 present_right (Some d) (Some e) h p = cc
 
 -- the second has a name that the first has not
-name_first : (k l : List ℕ) (d e : Data) (ms ns : Members) → IsObject (member k d ms) → IsObject (member l e ns) → text_cmp l k ≡ Less
+name_first : (k l : List ℕ) (d e : Data) (ms ns : Members) → AreMembers (member k d ms) → AreMembers (member l e ns) → text_cmp l k ≡ Less
     → MembersBefore (member k d ms) (member l e ns)
 name_first k l d e ms ns h g p = (
   l,
@@ -150,7 +147,7 @@ name_first k l d e ms ns h g p = (
   absent_at (member_at l (member k d ms)) (member_at l (member l e ns)) e (below_all l (member k d ms) h p) (at_same l e ns),
 )
 
-tree_first : (k : List ℕ) (d e : Data) (ms ns : Members) → IsObject (member k d ms) → IsObject (member k e ns) → IsBefore d e
+tree_first : (k : List ℕ) (d e : Data) (ms ns : Members) → AreMembers (member k d ms) → AreMembers (member k e ns) → IsBefore d e
     → MembersBefore (member k d ms) (member k e ns)
 tree_first k d e ms ns h g p = (
   k,
@@ -158,7 +155,7 @@ tree_first k d e ms ns h g p = (
   present_at (member_at k (member k d ms)) (member_at k (member k e ns)) d e (at_same k d ms) (at_same k e ns) p,
 )
 
-members_more : (k : List ℕ) (d : Data) (ms ns : Members) → IsObject (member k d ns) → MembersBefore ms ns
+members_more : (k : List ℕ) (d : Data) (ms ns : Members) → AreMembers (member k d ns) → MembersBefore ms ns
     → MembersBefore (member k d ms) (member k d ns)
 members_more k d ms ns g w =
     let f : bytes_eq w.0 k ≡ false = greater_other k w.0
@@ -184,15 +181,14 @@ tree_words_by u v h p = elim (then_less (rank_cmp u v) (content_cmp u v) p) [
 one_name : (P : List ℕ → Type 0) (k l : List ℕ) → l ≡ k → P k → P l
 one_name P k l p h = subst P (sym p) h
 
-one_member : (k l : List ℕ) (d e : Data) (ms ns : Members) → IsObject (member l e ns) → l ≡ k → d ≡ e → MembersBefore ms ns
+one_member : (k l : List ℕ) (d e : Data) (ms ns : Members) → AreMembers (member l e ns) → l ≡ k → d ≡ e → MembersBefore ms ns
     → MembersBefore (member k d ms) (member l e ns)
 one_member k l d e ms ns g p q w =
     let r : member k d ns ≡ member l e ns = λ i. member (sym p i) (q i) ns in
-    subst (λ z. MembersBefore (member k d ms) z) r (members_more k d ms ns (subst IsObject (sym r) g) w)
+    subst (λ z. MembersBefore (member k d ms) z) r (members_more k d ms ns (subst AreMembers (sym r) g) w)
 
 mutual
   content_words : (u v : Data) → IsTree u → IsTree v → AreAlike u v → content_cmp u v ≡ Less → IsBefore u v
-  content_words null null h g s p = cc
   content_words (boolean false) (boolean false) h g s p = cc
   content_words (boolean false) (boolean true) h g s p = false_first
   content_words (boolean true) (boolean false) h g s p = cc
@@ -216,7 +212,7 @@ mutual
     | inr q ↦ items_more d e ds es (tree_same d e q.0) (items_words ds es h.1 g.1 q.1)
   ]
 
-  members_words : (ms ns : Members) → IsObject ms → IsObject ns → members_cmp ms ns ≡ Less → MembersBefore ms ns
+  members_words : (ms ns : Members) → AreMembers ms → AreMembers ns → members_cmp ms ns ≡ Less → MembersBefore ms ns
   members_words no_members no_members h g p = cc
   members_words no_members (member l e ns) h g p =
       (l, λ x b. sym (below_all x (member l e ns) g b), absent_at None (member_at l (member l e ns)) e refl (at_same l e ns))
@@ -225,7 +221,7 @@ mutual
     | inl q ↦ name_first k l d e ms ns h g q
     | inr q ↦ elim (then_less (tree_cmp d e) (members_cmp ms ns) q.1) [
       | inl r ↦ one_name (λ z. MembersBefore (member k d ms) (member z e ns)) k l (text_same l k q.0)
-          (tree_first k d e ms ns h (subst (λ z. IsObject (member z e ns)) (text_same l k q.0) g) (tree_words_by d e (content_words d e h.0 g.0) r))
+          (tree_first k d e ms ns h (subst (λ z. AreMembers (member z e ns)) (text_same l k q.0) g) (tree_words_by d e (content_words d e h.0 g.0) r))
       | inr r ↦ one_member k l d e ms ns g (text_same l k q.0) (tree_same d e r.0) (members_words ms ns h.2 g.2 r.1)
     ]
   ]
@@ -274,7 +270,7 @@ items_less (suc i) (item d ds) (item e es) g h = equal_then (tree_cmp d e) (item
     (tree_tied d e (some_same d e (g 0 (omega arith)))) (items_less i ds es (λ j l. g (suc j) (omega arith)) h)
 
 -- what agrees with the first member agrees without it
-agree_rest : (k l : List ℕ) (d e : Data) (ms ns : Members) → IsObject (member l d ms) → IsObject (member l e ns)
+agree_rest : (k l : List ℕ) (d e : Data) (ms ns : Members) → AreMembers (member l d ms) → AreMembers (member l e ns)
     → AgreeBefore k (member l d ms) (member l e ns) → AgreeBefore k ms ns
 agree_rest k l d e ms ns h g a x b = elim (case_name x l) [
   | inl p ↦ subst (λ z. member_at z ms ≡ member_at z ns) (sym p) (below_all l ms h.2 h.1 ∙ sym (below_all l ns g.2 g.1))
@@ -282,7 +278,7 @@ agree_rest k l d e ms ns h g a x b = elim (case_name x l) [
 ]
 
 -- two objects with one least name
-one_name_less : (k l : List ℕ) (d e : Data) (ms ns : Members) → IsObject (member l d ms) → IsObject (member l e ns)
+one_name_less : (k l : List ℕ) (d e : Data) (ms ns : Members) → AreMembers (member l d ms) → AreMembers (member l e ns)
     → AgreeBefore k (member l d ms) (member l e ns) → AtLess (member_at k (member l d ms)) (member_at k (member l e ns))
     → (AgreeBefore k ms ns → AtLess (member_at k ms) (member_at k ns) → members_cmp ms ns ≡ Less)
     → ordering_then (tree_cmp d e) (members_cmp ms ns) ≡ Less
@@ -302,14 +298,14 @@ one_name_less k l d e ms ns h g a b rest = elim (case_name k l) [
 ]
 
 -- a name that the second lacks comes before no place where the first is less
-missing_name : (k l m : List ℕ) (d e : Data) (ms ns : Members) → IsObject (member m e ns) → text_cmp l m ≡ Less
+missing_name : (k l m : List ℕ) (d e : Data) (ms ns : Members) → AreMembers (member m e ns) → text_cmp l m ≡ Less
     → AgreeBefore k (member l d ms) (member m e ns) → AtLess (member_at k (member l d ms)) (member_at k (member m e ns)) → ⊥
 missing_name k l m d e ms ns g p a b =
     let low : text_cmp l k ≡ Less = above l k (member m e ns) g p (less_right (member_at k (member l d ms)) (member_at k (member m e ns)) b) in
     let q : Some d ≡ None = sym (at_same l d ms) ∙ a l low ∙ below_all l (member m e ns) g p in
     cc
 
-members_less : (k : List ℕ) (ms ns : Members) → IsObject ms → IsObject ns → AgreeBefore k ms ns → AtLess (member_at k ms) (member_at k ns)
+members_less : (k : List ℕ) (ms ns : Members) → AreMembers ms → AreMembers ns → AgreeBefore k ms ns → AtLess (member_at k ms) (member_at k ns)
     → members_cmp ms ns ≡ Less
 members_less k no_members no_members h g a b = absurd b
 members_less k no_members (member m e ns) h g a b = refl
@@ -319,7 +315,7 @@ members_less k (member l d ms) (member m e ns) h g a b = elim (three_ways m l) [
   | inr q ↦ elim q [
     | inl p ↦ equal_then (text_cmp m l) (ordering_then (tree_cmp d e) (members_cmp ms ns))
         (ap (λ w. text_cmp m w) (sym p) ∙ tied_itself text_total m)
-        (one_name_less k l d e ms ns h (subst (λ z. IsObject (member z e ns)) p g)
+        (one_name_less k l d e ms ns h (subst (λ z. AreMembers (member z e ns)) p g)
         (subst (λ z. AgreeBefore k (member l d ms) (member z e ns)) p a)
         (subst (λ z. AtLess (member_at k (member l d ms)) (member_at k (member z e ns))) p b)
         (members_less k ms ns h.2 g.2))
@@ -339,7 +335,7 @@ item_is_tree i no_items d h p = cc
 item_is_tree zero (item e es) d h p = subst IsTree (some_same e d p) h.0
 item_is_tree (suc i) (item e es) d h p = item_is_tree i es d h.1 p
 
-member_is_tree : (k : List ℕ) (ms : Members) (d : Data) → IsObject ms → member_at k ms ≡ Some d → IsTree d
+member_is_tree : (k : List ℕ) (ms : Members) (d : Data) → AreMembers ms → member_at k ms ≡ Some d → IsTree d
 member_is_tree k no_members d h p = cc
 member_is_tree k (member l e ms) d h p = elim (case_name k l) [
   | inl q ↦ subst IsTree (some_same e d (sym (at_same l e ms) ∙ subst (λ z. member_at z (member l e ms) ≡ Some d) q p)) h.0

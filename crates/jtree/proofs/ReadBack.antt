@@ -17,7 +17,7 @@ use Rattle.serde_json.specs.Read.{number_of, of_json, of_items, of_members, read
 use Rattle.serde_json.specs.Written.{number_text, outline, items_outline, members_outline}
 use Rattle.serde_json.proofs.Numbers.{number_of-decimal, number_of-negative}
 use Rattle.json.proofs.Printed.Trees.{value-json_tokens}
-use Rattle.jtree.specs.Data.{Data, null, boolean, integer, text, list, object, Items, no_items, item, Members, no_members, member, IsTree, AreTrees, IsBefore, IsObject, depth, items_depth, members_depth}
+use Rattle.jtree.specs.Data.{Data, null, boolean, integer, text, list, object, Items, no_items, item, Members, no_members, member, IsTree, AreTrees, IsNameBefore, AreMembers, depth, items_depth, members_depth}
 use Rattle.jtree.specs.Order.{text_cmp}
 use Rattle.jtree.specs.Reads.{tree_of, items_tree, members_tree}
 use Rattle.jtree.specs.Text.{json_of, items_json, members_json}
@@ -36,18 +36,16 @@ integer_reads (negsuc n) fits = refl
 
 mutual
   pub tree_of-json_of : (d : Data) → IsTree d → tree_of (json_of d) ≡ Some d
-  tree_of-json_of null t = refl
-  tree_of-json_of (boolean b) t = refl
   tree_of-json_of (integer z) t = ap (option_map integer) (integer_reads z t)
-  tree_of-json_of (text s) t = refl
   tree_of-json_of (list ds) t = ap (option_map list) (items_tree-json ds t)
   tree_of-json_of (object ms) t = ap (option_map object) (members_tree-json ms t)
+  tree_of-json_of _ t = refl
 
   items_tree-json : (ds : Items) → AreTrees ds → items_tree (items_json ds) ≡ Some ds
   items_tree-json no_items t = refl
   items_tree-json (item d ds) t = rw (tree_of-json_of d t.0, items_tree-json ds t.1) refl
 
-  members_tree-json : (ms : Members) → IsObject ms → members_tree (members_json ms) ≡ Some ms
+  members_tree-json : (ms : Members) → AreMembers ms → members_tree (members_json ms) ≡ Some ms
   members_tree-json no_members t = refl
   members_tree-json (member k d ms) t = rw (tree_of-json_of d t.0, members_tree-json ms t.2) refl
 
@@ -90,7 +88,7 @@ abbrev IsFirstName : List ℕ → Members → Type 0
 IsFirstName k no_members = ⊥
 IsFirstName k (member l d ms) = k ≡ l
 
-next_below : (front : json.Members) (k : List ℕ) (d : json.Data) (ms : Members) → AreBelow front k → IsBefore k ms → (l : List ℕ) → IsFirstName l ms → AreBelow (behind front (json.member k d json.no_members)) l
+next_below : (front : json.Members) (k : List ℕ) (d : json.Data) (ms : Members) → AreBelow front k → IsNameBefore k ms → (l : List ℕ) → IsFirstName l ms → AreBelow (behind front (json.member k d json.no_members)) l
 next_below front k d no_members here before l first = absurd first
 next_below front k d (member m e ms) here before l first =
     let kl : text_cmp k l ≡ Less = subst (λ n. text_cmp k n ≡ Less) (sym first) before in
@@ -98,19 +96,17 @@ next_below front k d (member m e ms) here before l first =
 
 mutual
   of_json-outline : (d : Data) → IsTree d → of_json (outline (json_of d)) ≡ Some (json_of d)
-  of_json-outline null t = refl
-  of_json-outline (boolean b) t = refl
   of_json-outline (integer z) t = ap (option_map json.number) (number_reads z t)
-  of_json-outline (text s) t = refl
   of_json-outline (list ds) t = ap (option_map json.array) (of_items-outline ds t)
   of_json-outline (object ms) t = ap (option_map json.object) (of_members-outline json.no_members ms (λ k first. tt) t)
+  of_json-outline _ t = refl
 
   of_items-outline : (ds : Items) → AreTrees ds → of_items (items_outline (items_json ds)) ≡ Some (items_json ds)
   of_items-outline no_items t = refl
   of_items-outline (item d ds) t = rw (of_json-outline d t.0, of_items-outline ds t.1) refl
 
   -- the members go in one behind another
-  of_members-outline : (front : json.Members) (ms : Members) → ((k : List ℕ) → IsFirstName k ms → AreBelow front k) → IsObject ms → of_members (members_outline (members_json ms)) front ≡ Some (behind front (members_json ms))
+  of_members-outline : (front : json.Members) (ms : Members) → ((k : List ℕ) → IsFirstName k ms → AreBelow front k) → AreMembers ms → of_members (members_outline (members_json ms)) front ≡ Some (behind front (members_json ms))
   of_members-outline front no_members h t = ap Some (sym (behind-none front))
   of_members-outline front (member k d ms) h t =
       let here = h k refl in
@@ -122,12 +118,9 @@ mutual
 
 mutual
   outline_depth : (d : Data) → token_tree.depth (outline (json_of d)) ≤ depth d
-  outline_depth null = omega arith
-  outline_depth (boolean b) = omega arith
-  outline_depth (integer z) = omega arith
-  outline_depth (text s) = omega arith
   outline_depth (list ds) = omega (arith, items_outline_depth ds)
   outline_depth (object ms) = omega (arith, members_outline_depth ms)
+  outline_depth _ = omega arith
 
   items_outline_depth : (ds : Items) → token_tree.items_depth (items_outline (items_json ds)) ≤ items_depth ds
   items_outline_depth no_items = omega arith

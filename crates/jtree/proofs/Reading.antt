@@ -7,7 +7,7 @@ use Rattle.std.specs.Map.{keys_of}
 use Rattle.serde_json.specs.View.{view, items_view, members_view}
 use Rattle.serde_json.specs.declared.value.Value.{Value}
 use Rattle.serde_json.proofs.Views.{Entry}
-use Rattle.jtree.specs.Data.{Data, Items, no_items, item, Members, no_members, member, IsTree, AreTrees, IsBefore, IsObject}
+use Rattle.jtree.specs.Data.{Data, Items, no_items, item, Members, no_members, member, IsTree, AreTrees, IsNameBefore, AreMembers}
 use Rattle.jtree.specs.Reads.{tree_of, items_tree, members_tree}
 use Rattle.jtree.specs.View.{data_of, items_of, members_of}
 use Rattle.jtree.specs.declared.value.Tree.{Tree}
@@ -36,14 +36,12 @@ and_member no_members l e = member l e no_members
 and_member (member k d ms) l e = member k d (and_member ms l e)
 
 joined_items-and : (o : Option Data) (rest : Option Items) (e : Data) → joined_items o (option_map (λ ds. and_item ds e) rest) ≡ option_map (λ ds. and_item ds e) (joined_items o rest)
-joined_items-and None rest e = refl
-joined_items-and (Some d) None e = refl
 joined_items-and (Some d) (Some ds) e = refl
+joined_items-and _ _ e = refl
 
 joined_members-and : (k : List ℕ) (o : Option Data) (rest : Option Members) (l : List ℕ) (e : Data) → joined_members k o (option_map (λ ms. and_member ms l e) rest) ≡ option_map (λ ms. and_member ms l e) (joined_members k o rest)
-joined_members-and k None rest l e = refl
-joined_members-and k (Some d) None l e = refl
 joined_members-and k (Some d) (Some ms) l e = refl
+joined_members-and k _ _ l e = refl
 
 items_read : (vs : List Value) (v : Value) (e : Data) → tree_of (view v) ≡ Some e → items_tree (items_view (vs ++ v ∷ [])) ≡ option_map (λ ds. and_item ds e) (items_tree (items_view vs))
 items_read [] v e h = rw h
@@ -106,14 +104,14 @@ joined_parts k None rest ms h = cc
 joined_parts k (Some d) None ms h = cc
 joined_parts k (Some d) (Some ns) ms h = (d, ns, refl, cc)
 
-before_names : (k : List ℕ) (es : List Entry) (ms : Members) → members_tree (members_view es) ≡ Some ms → AllByRecursion (λ y. slice_cmp nat_cmp k (string_bytes y) ≡ Less) (keys_of es) → IsBefore k ms
+before_names : (k : List ℕ) (es : List Entry) (ms : Members) → members_tree (members_view es) ≡ Some ms → AllByRecursion (λ y. slice_cmp nat_cmp k (string_bytes y) ≡ Less) (keys_of es) → IsNameBefore k ms
 before_names k [] ms h above = let e : ms ≡ no_members = cc in rw e tt
 before_names k (e ∷ es) ms h above = let p = joined_parts (string_bytes e.0) (tree_of (view e.1)) (members_tree (members_view es)) ms h in rw p.3 above.0
 
-pub IsObject-sorted : (es : List Entry) (ms : Members) → members_tree (members_view es) ≡ Some ms → IsStrictlySortedBy string_cmp (keys_of es) → HaveTrees ms → IsObject ms
+pub AreMembers-sorted : (es : List Entry) (ms : Members) → members_tree (members_view es) ≡ Some ms → IsStrictlySortedBy string_cmp (keys_of es) → HaveTrees ms → AreMembers ms
 unfolding IsStrictlySortedBy
-IsObject-sorted [] ms h sorted trees = let e : ms ≡ no_members = cc in rw e tt
-IsObject-sorted (e ∷ es) ms h sorted trees =
+AreMembers-sorted [] ms h sorted trees = let e : ms ≡ no_members = cc in rw e tt
+AreMembers-sorted (e ∷ es) ms h sorted trees =
     let p = joined_parts (string_bytes e.0) (tree_of (view e.1)) (members_tree (members_view es)) ms h in
     let had = rw p.3 at trees in
-    rw p.3 (had.0, before_names (string_bytes e.0) es p.1 p.2 sorted.0, IsObject-sorted es p.1 p.2 sorted.1 had.1)
+    rw p.3 (had.0, before_names (string_bytes e.0) es p.1 p.2 sorted.0, AreMembers-sorted es p.1 p.2 sorted.1 had.1)

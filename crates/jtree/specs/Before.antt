@@ -10,7 +10,7 @@ use Rattle.jtree.specs.Order.{kind, text_cmp}
 abbrev pub AreAlike : Data → Data → Type 0
 AreAlike u v = (nodes u ≡ nodes v) × (kind u ≡ kind v)
 
--- lists agree at each place below i
+-- lists agree at each index below i
 abbrev pub AgreeBelow : ℕ → Items → Items → Type 0
 AgreeBelow i ds es = (j : ℕ) → j < i → item_at j ds ≡ item_at j es
 
@@ -19,7 +19,7 @@ abbrev pub AgreeBefore : List ℕ → Members → Members → Type 0
 AgreeBefore k ms ns = (l : List ℕ) → text_cmp l k ≡ Less → member_at l ms ≡ member_at l ns
 
 -- The first test that tells two trees apart decides: fewer nodes; then the kind; then within the kind. Lists are decided
--- at the first place where they differ, and one that ends there comes first; objects at the least name where they differ,
+-- at the first index where they differ, and one that ends there comes first; objects at the least name where they differ,
 -- and one without that name comes first.
 pub data IsBefore : Data → Data → Type 0 where
   fewer_nodes : (u v : Data) → nodes u < nodes v → IsBefore u v

@@ -24,38 +24,33 @@ mutual
     member : List ℕ → Data → Members → Members
 
 -- the name comes before all names of the members, by bytes
-abbrev pub IsBefore : List ℕ → Members → Type 0
-IsBefore name no_members = Unit {0}
-IsBefore name (member k d ms) = slice_cmp nat_cmp name k ≡ Less
+abbrev pub IsNameBefore : List ℕ → Members → Type 0
+IsNameBefore name no_members = Unit {0}
+IsNameBefore name (member k d ms) = slice_cmp nat_cmp name k ≡ Less
 
 -- An object is a finite map from texts to trees: its members stand in the order of their names, and no name stands twice.
 -- Integers are those of 64 bits.
 abbrev mutual
   pub IsTree : Data → Type 0
-  IsTree null = Unit {0}
-  IsTree (boolean b) = Unit {0}
   IsTree (integer z) = FitsSigned w64 z
-  IsTree (text s) = Unit {0}
   IsTree (list ds) = AreTrees ds
-  IsTree (object ms) = IsObject ms
+  IsTree (object ms) = AreMembers ms
+  IsTree _ = Unit {0}
 
   pub AreTrees : Items → Type 0
   AreTrees no_items = Unit {0}
   AreTrees (item d ds) = IsTree d × AreTrees ds
 
-  pub IsObject : Members → Type 0
-  IsObject no_members = Unit {0}
-  IsObject (member k d ms) = IsTree d × IsBefore k ms × IsObject ms
+  pub AreMembers : Members → Type 0
+  AreMembers no_members = Unit {0}
+  AreMembers (member k d ms) = IsTree d × IsNameBefore k ms × AreMembers ms
 
 -- how deep lists and objects nest
 abbrev mutual
   pub depth : Data → ℕ
-  depth null = 0
-  depth (boolean b) = 0
-  depth (integer z) = 0
-  depth (text s) = 0
   depth (list ds) = suc (items_depth ds)
   depth (object ms) = suc (members_depth ms)
+  depth _ = 0
 
   pub items_depth : Items → ℕ
   items_depth no_items = 0

@@ -1,5 +1,6 @@
-pub mod Code
-pub mod Measures
-pub mod OrderLaws
+-- What proofs need: the laws of lookups and of the orders, and what the code's types need as data.
 pub mod Lookups
 pub mod PathLaws
+pub mod OrderLaws
+pub mod Code
+pub mod Measures

@@ -1,10 +1,10 @@
--- The parts of a tree: a path is a list of names and places, and the empty path leads to the tree itself
+-- The parts of a tree: a path is a list of names and indexes, and the empty path leads to the tree itself
 -- (JSON, RFC 8259).
 use Rattle.std.specs.Prelude.{ℕ, zero, suc, List, [], ◌∷◌, Option, Some, None, option_and_then, if◌then◌else◌}
 use Rattle.std.specs.Str.{bytes_eq}
-use Rattle.jtree.specs.Data.{Data, null, boolean, integer, text, list, object, Items, no_items, item, Members, no_members, member}
+use Rattle.jtree.specs.Data.{Data, list, object, Items, no_items, item, Members, no_members, member}
 
--- to the member of a name, or to the item at a place, counted from 0
+-- to the member of a name, or to the item at an index, counted from 0
 pub data Step : Type 0 where
   name : List ℕ → Step
   index : ℕ → Step
@@ -17,22 +17,17 @@ abbrev pub member_at : List ℕ → Members → Option Data
 member_at k no_members = None
 member_at k (member l d ms) = if bytes_eq k l then Some d else member_at k ms
 
--- what stands at a place
+-- what stands at an index
 abbrev pub item_at : ℕ → Items → Option Data
 item_at i no_items = None
 item_at zero (item d ds) = Some d
 item_at (suc i) (item d ds) = item_at i ds
 
--- names lead into objects alone, and places into lists alone
+-- names lead into objects alone, and indexes into lists alone
 abbrev pub part_by : Data → Step → Option Data
-part_by null s = None
-part_by (boolean b) s = None
-part_by (integer z) s = None
-part_by (text t) s = None
 part_by (list ds) (index i) = item_at i ds
-part_by (list ds) (name k) = None
 part_by (object ms) (name k) = member_at k ms
-part_by (object ms) (index i) = None
+part_by _ _ = None
 
 -- the part of a tree to which a path leads
 abbrev pub part_at : Data → Path → Option Data

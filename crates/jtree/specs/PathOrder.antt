@@ -1,4 +1,4 @@
--- Path order: paths compare as lists of names and places, names by bytes, places by number, and a beginning comes before
+-- Path order: paths compare as lists of names and indexes, names by bytes, indexes by number, and a beginning comes before
 -- what goes on (this project's own). So `/a/b` comes before `/a-b`.
 use Rattle.std.specs.Prelude.{◌≢◌}
 use Rattle.std.specs.Ordering.{nat_cmp}

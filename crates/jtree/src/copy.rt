@@ -3,13 +3,12 @@ ghost use Rattle.jtree.specs.declared.fault.JFault.TheVariants.{NoMemory};
 
 use crate::fault::JFault;
 use crate::value::{Items, Member, Members, Text, Tree};
-use std::alloc::Global;
+use std::alloc::{AllocError, Global};
 
 impl Text {
-    /// A text with these bytes. `NoMemory` where an allocation fails.
-    pub fn from_str(alloc: Global, text: &str) -> Result<Text, JFault>
-        ensures ok { IfOk result (λ t. t ≡ text.now) }
-        ensures err { IfErr result (λ e. e ≡ NoMemory) }
+    /// A text with these bytes.
+    pub fn from_str(alloc: Global, text: &str) -> Result<Text, AllocError>
+        ensures { IfOk result (λ t. t ≡ text.now) }
     {
         Ok(Text {
             text: String::from_str(alloc, text)?,
@@ -23,10 +22,9 @@ impl Text {
         self.text.as_str()
     }
 
-    /// An equal text. `NoMemory` where an allocation fails.
-    pub fn copy(&self, alloc: Global) -> Result<Text, JFault>
-        ensures ok { IfOk result (λ t. t ≡ self.now) }
-        ensures err { IfErr result (λ e. e ≡ NoMemory) }
+    /// An equal text.
+    pub fn copy(&self, alloc: Global) -> Result<Text, AllocError>
+        ensures { IfOk result (λ t. t ≡ self.now) }
     {
         Text::from_str(alloc, self.as_str())
     }
@@ -38,14 +36,13 @@ impl Tree {
         ensures ok { IfOk result (λ t. t ≡ self.now) }
         ensures err { IfErr result (λ e. e ≡ NoMemory) }
     {
-        copy_tree(self, alloc)
+        Ok(copy_tree(self, alloc)?)
     }
 }
 
 #[cycle(copy)]
-fn copy_tree(tree: &Tree, alloc: Global) -> Result<Tree, JFault>
-    ensures ok { IfOk result (λ t. t ≡ tree.now) }
-    ensures err { IfErr result (λ e. e ≡ NoMemory) }
+fn copy_tree(tree: &Tree, alloc: Global) -> Result<Tree, AllocError>
+    ensures { IfOk result (λ t. t ≡ tree.now) }
 {
     match tree {
         Tree::Null => Ok(Tree::Null),
@@ -58,9 +55,8 @@ fn copy_tree(tree: &Tree, alloc: Global) -> Result<Tree, JFault>
 }
 
 #[cycle(copy)]
-fn copy_items(items: &Items, alloc: Global) -> Result<Items, JFault>
-    ensures ok { IfOk result (λ t. t ≡ items.now) }
-    ensures err { IfErr result (λ e. e ≡ NoMemory) }
+fn copy_items(items: &Items, alloc: Global) -> Result<Items, AllocError>
+    ensures { IfOk result (λ t. t ≡ items.now) }
 {
     let mut copies = Vec::with_capacity(alloc, items.items.len())?;
     for item in &items.items {
@@ -70,9 +66,8 @@ fn copy_items(items: &Items, alloc: Global) -> Result<Items, JFault>
 }
 
 #[cycle(copy)]
-fn copy_members(members: &Members, alloc: Global) -> Result<Members, JFault>
-    ensures ok { IfOk result (λ t. t ≡ members.now) }
-    ensures err { IfErr result (λ e. e ≡ NoMemory) }
+fn copy_members(members: &Members, alloc: Global) -> Result<Members, AllocError>
+    ensures { IfOk result (λ t. t ≡ members.now) }
 {
     let mut copies = Vec::with_capacity(alloc, members.members.len())?;
     for member in &members.members {

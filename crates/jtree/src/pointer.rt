@@ -6,7 +6,7 @@ ghost use Rattle.jtree.specs.declared.fault.JFault.TheVariants.{NoMemory};
 
 use crate::fault::JFault;
 use itoa::Buffer;
-use std::alloc::Global;
+use std::alloc::{AllocError, Global};
 
 /// Appends the token of a member's name to a pointer (RFC 6901): `/` and the name, where `~` is written `~0` and `/` is
 /// written `~1`. `NoMemory` where an allocation fails, and the text is then as it was.
@@ -20,7 +20,7 @@ pub fn push_name(text: &mut String, name: &str) -> Result<(), JFault>
     Ok(())
 }
 
-/// Appends the token of a list's place, counted from 0, to a pointer (RFC 6901): `/` and the index in decimal.
+/// Appends the token of an index, counted from 0, to a pointer (RFC 6901): `/` and the index in decimal.
 /// `NoMemory` where an allocation fails, and the text is then as it was.
 pub fn push_index(text: &mut String, index: u64) -> Result<(), JFault>
     ensures ok { OnOk result (string_bytes text.new ≡ string_bytes text.old ++ index_token index) }
@@ -35,9 +35,8 @@ pub fn push_index(text: &mut String, index: u64) -> Result<(), JFault>
     Ok(())
 }
 
-fn name_text(alloc: Global, name: &str) -> Result<String, JFault>
-    ensures ok { IfOk result (λ s. string_bytes s ≡ name_token name.now) }
-    ensures err { IfErr result (λ e. e ≡ NoMemory) }
+fn name_text(alloc: Global, name: &str) -> Result<String, AllocError>
+    ensures { IfOk result (λ s. string_bytes s ≡ name_token name.now) }
 {
     let mut token = String::with_capacity(alloc, name.len().saturating_add(1))?;
     token.push('/')?;
@@ -47,10 +46,9 @@ fn name_text(alloc: Global, name: &str) -> Result<String, JFault>
     Ok(token)
 }
 
-fn push_letter(token: &mut String, letter: char) -> Result<(), JFault>
-    ensures ok { OnOk result (string_bytes token.new
+fn push_letter(token: &mut String, letter: char) -> Result<(), AllocError>
+    ensures { OnOk result (string_bytes token.new
         ≡ string_bytes token.old ++ flat_map escaped (encode_utf8 letter)) }
-    ensures err { IfErr result (λ e. e ≡ NoMemory) }
 {
     match letter {
         '~' => token.push_str("~0")?,

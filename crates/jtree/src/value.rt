@@ -70,7 +70,7 @@ impl Model for Items {
 }
 
 impl Model for Members {
-    ghost use Rattle.jtree.specs.Data.{Members as MembersData, members_depth, IsObject};
+    ghost use Rattle.jtree.specs.Data.{Members as MembersData, members_depth, AreMembers};
     ghost use Rattle.jtree.specs.Internal.Code.{members_coded};
 
     ghost Value = { MembersData };
@@ -81,7 +81,7 @@ impl Model for Members {
 
     ghost view = { λ a. members_of a.members.items };
 
-    ghost invariant = { λ a. IsObject (members_of a.members.items) };
+    ghost invariant = { λ a. AreMembers (members_of a.members.items) };
 
     ghost size = { members_depth };
 
@@ -121,11 +121,11 @@ impl Items {
 }
 
 impl Members {
-    ghost use Rattle.jtree.specs.Data.{IsObject};
+    ghost use Rattle.jtree.specs.Data.{AreMembers};
 
     /// Brings to a proof that names stand in order, each once. It does nothing.
     pub fn reveal_invariant(&self)
-        ensures { IsObject self.now }
+        ensures { AreMembers self.now }
     {
         let _ = &self.members;
     }

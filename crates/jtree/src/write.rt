@@ -10,7 +10,7 @@ ghost use Rattle.jtree.specs.declared.fault.JFault.TheVariants.{NoMemory};
 use crate::fault::JFault;
 use crate::value::{Items, Members, Tree};
 use json::Writer;
-use std::alloc::Global;
+use std::alloc::{AllocError, Global};
 
 impl Tree {
     /// The compact JSON text (RFC 8259): no white space, members by the bytes of their names, integers in decimal, and
@@ -26,13 +26,11 @@ impl Tree {
         Ok(String::from_utf8(text).unwrap())
     }
 
-    /// What `out` holds, and behind it the text that `to_text` gives. `NoMemory` where an allocation fails, and `out`
-    /// is then dropped.
-    pub fn append_text(&self, out: Vec<u8>) -> Result<Vec<u8>, JFault>
+    /// What `out` holds, and behind it the text that `to_text` gives. Where an allocation fails, `out` is dropped.
+    pub fn append_text(&self, out: Vec<u8>) -> Result<Vec<u8>, AllocError>
         ensures ok { IfOk result (λ v. v.items ≡ out.items ++ compact (data_of self.now)) }
         ensures utf8 { OnOk result (IsUtf8 (compact (data_of self.now))) }
         ensures reads_back { OnOk result (ReadsBack (data_of self.now) (compact (data_of self.now))) }
-        ensures err { IfErr result (λ e. e ≡ NoMemory) }
     {
         self.reveal_invariant();
         let mut writer = Writer::new(out);
@@ -42,11 +40,10 @@ impl Tree {
 }
 
 #[cycle(write)]
-fn write_tree(tree: &Tree, out: &mut Writer) -> Result<(), JFault>
+fn write_tree(tree: &Tree, out: &mut Writer) -> Result<(), AllocError>
     ensures ok { OnOk result
         (out.new.tokens ≡ out.old.tokens ++ json_tokens (outline (json_of (data_of tree.now)))) }
     ensures before { out.new.before ≡ out.old.before }
-    ensures err { IfErr result (λ e. e ≡ NoMemory) }
 {
     match tree {
         Tree::Null => out.null()?,
@@ -66,11 +63,10 @@ fn write_tree(tree: &Tree, out: &mut Writer) -> Result<(), JFault>
 }
 
 #[cycle(write)]
-fn write_items(items: &Items, out: &mut Writer) -> Result<(), JFault>
+fn write_items(items: &Items, out: &mut Writer) -> Result<(), AllocError>
     ensures ok { OnOk result
         (out.new.tokens ≡ out.old.tokens ++ items_tokens (items_outline (items_json items.now))) }
     ensures before { out.new.before ≡ out.old.before }
-    ensures err { IfErr result (λ e. e ≡ NoMemory) }
 {
     for item in &items.items {
         write_tree(item, out)?;
@@ -80,12 +76,11 @@ fn write_items(items: &Items, out: &mut Writer) -> Result<(), JFault>
 }
 
 #[cycle(write)]
-fn write_members(members: &Members, out: &mut Writer) -> Result<(), JFault>
+fn write_members(members: &Members, out: &mut Writer) -> Result<(), AllocError>
     ensures ok { OnOk result
         (out.new.tokens
         ≡ out.old.tokens ++ members_tokens (members_outline (members_json members.now))) }
     ensures before { out.new.before ≡ out.old.before }
-    ensures err { IfErr result (λ e. e ≡ NoMemory) }
 {
     for member in &members.members {
         out.key(member.name.as_str())?;

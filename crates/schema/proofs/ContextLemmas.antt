@@ -5,7 +5,7 @@ use Rattle.std.proofs.lemmas.List.{append-nil}
 use Rattle.std.proofs.lemmas.List.Elements.{filter-append}
 use Rattle.std.proofs.lemmas.Option.{same_Some}
 use Rattle.std.proofs.lemmas.Bool.Decides.{nat_tests}
-use Rattle.jtree.specs.Data.{Data, object, list, Items, Members, IsObject}
+use Rattle.jtree.specs.Data.{Data, object, list, Items, Members, AreMembers}
 use Rattle.jtree.specs.Path.{name, index, under, member_at, item_at, part_at}
 use Rattle.jtree.specs.Internal.Lookups.{member_first, member_tail}
 use Rattle.jtree.specs.View.{data_of, items_of, members_of}
@@ -13,8 +13,8 @@ use Rattle.jtree.specs.declared.value.Tree.{Tree}
 use Rattle.jtree.specs.declared.value.Member.{Member}
 use Rattle.schema.specs.Document.Places.{Step, property, map_value, items, all_of, any_of, one_of, negation, Place, schema_by, schema_at, is_junctor, is_inside, core}
 use Rattle.schema.specs.Internal.Events.{Junctor, all, any, one, branch, Part, a_schema, properties, branches, part_of}
-use Rattle.schema.specs.Rules.Broken.{At, IsPatternBranch, of_any, of_all}
-use Rattle.schema.specs.Internal.Contexts.{HasAnyPattern, HasAllPattern, is_any, is_first_of_all, outer_by, IsContext, StandsAs}
+use Rattle.schema.specs.Rules.Broken.{At, IsPatternBranch, of_any, of_all, HasAnyPattern, HasAllPattern}
+use Rattle.schema.specs.Internal.Contexts.{is_any, is_first_of_all, outer_by, IsContext, StandsAs}
 use Rattle.schema.specs.Internal.PlaceView.{place_of}
 use Rattle.schema.specs.Internal.Subschemas.{IsSubschema}
 use Rattle.schema.specs.declared.listing.Context.{Context}
@@ -48,29 +48,12 @@ pub outer_more : (raw : Data) (p : Place) (s : Step) → outer_by (schema_at raw
 outer_more raw p (property k) = plain_core raw p (property k) refl
 outer_more raw p map_value = plain_core raw p map_value refl
 outer_more raw p items = plain_core raw p items refl
-outer_more raw p (all_of i) = branch_core raw p (all_of i) refl
-outer_more raw p (any_of i) = branch_core raw p (any_of i) refl
-outer_more raw p (one_of i) = branch_core raw p (one_of i) refl
-outer_more raw p negation = branch_core raw p negation refl
-
-last_inside : (s : Step) → is_inside (s ∷ []) ≡ is_junctor s
-last_inside (property k) = refl
-last_inside map_value = refl
-last_inside items = refl
-last_inside (all_of i) = refl
-last_inside (any_of i) = refl
-last_inside (one_of i) = refl
-last_inside negation = refl
+outer_more raw p step = branch_core raw p step refl
 
 pub inside_more : (p : Place) (s : Step) → is_inside (p ++ (s ∷ [])) ≡ (is_inside p || is_junctor s)
-inside_more [] s = last_inside s
-inside_more (property k ∷ p) s = inside_more p s
-inside_more (map_value ∷ p) s = inside_more p s
-inside_more (items ∷ p) s = inside_more p s
-inside_more (all_of i ∷ p) s = refl
-inside_more (any_of i ∷ p) s = refl
-inside_more (one_of i ∷ p) s = refl
-inside_more (negation ∷ p) s = refl
+inside_more [] s = elim (is_junctor s) as (λ b. (b || false) ≡ b) [ true ↦ refl | false ↦ refl ]
+inside_more (r ∷ p) s =
+    elim (is_junctor r) as (λ b. (b || is_inside (p ++ (s ∷ []))) ≡ ((b || is_inside p) || is_junctor s)) [ true ↦ refl | false ↦ inside_more p s ]
 
 -- ---- last steps
 
@@ -168,24 +151,14 @@ pub record IsOneOn (c : Context) (step : Step) (ms : Members) (e : Context) : Ty
 
 in_pattern_more : (raw s : Data) (p : Place) (step : Step) (c : Context) → IsContext raw p s c → IsTrue (is_any step && c.any_are) ↔ IsPatternBranch raw (p ++ (step ∷ []))
 in_pattern_more raw s p (any_of i) c h = h.any_is i
-in_pattern_more raw s p (property k) c h = (λ t. cc, λ b. let last = last_step raw p (property k) b in let e = last.0.1 in cc)
-in_pattern_more raw s p map_value c h = (λ t. cc, λ b. let last = last_step raw p map_value b in let e = last.0.1 in cc)
-in_pattern_more raw s p items c h = (λ t. cc, λ b. let last = last_step raw p items b in let e = last.0.1 in cc)
-in_pattern_more raw s p (all_of i) c h = (λ t. cc, λ b. let last = last_step raw p (all_of i) b in let e = last.0.1 in cc)
-in_pattern_more raw s p (one_of i) c h = (λ t. cc, λ b. let last = last_step raw p (one_of i) b in let e = last.0.1 in cc)
-in_pattern_more raw s p negation c h = (λ t. cc, λ b. let last = last_step raw p negation b in let e = last.0.1 in cc)
+in_pattern_more raw s p step c h = (λ t. cc, λ b. let last = last_step raw p step b in let e = last.0.1 in cc)
 
 no_index : (i : ℕ) → nat_eq i 0 ≡ true → i ≡ 0
 no_index i h = grind (arith, nat_tests)
 
 first_of_all : (s : Step) → is_first_of_all s ≡ true → s ≡ all_of 0
-first_of_all (property k) h = cc
-first_of_all map_value h = cc
-first_of_all items h = cc
 first_of_all (all_of i) h = ap all_of (no_index i h)
-first_of_all (any_of i) h = cc
-first_of_all (one_of i) h = cc
-first_of_all negation h = cc
+first_of_all _ h = cc
 
 is_there : (raw : Data) (p : Place) (s : Data) (c : Context) (step : Step) (ms : Members) (e : Context) → IsContext raw p s c → IsOneOn c step ms e → e.is_inside ≡ is_inside (p ++ (step ∷ []))
 is_there raw p s c step ms e h o = o.inside ∙ (ap (λ b. b || is_junctor step) h.inside_is ∙ sym (inside_more p step))
@@ -268,14 +241,11 @@ one_on : (d : Data) (k : List ℕ) (e : Data) → under d k ≡ Some e → part_
 one_on d k e h = part_join d (name k) [] e e h refl
 
 keyword_stands : (ms : Members) (k : List ℕ) (part : Part) (d : Data) → PartIs k part → member_at k ms ≡ Some d → StandsAs (object ms) part d
-keyword_stands ms k part d is_properties h = h
 keyword_stands ms k part d is_map_value h = one_on (object ms) k d h
 keyword_stands ms k part d is_items h = one_on (object ms) k d h
-keyword_stands ms k part d is_all h = h
-keyword_stands ms k part d is_any_part h = h
-keyword_stands ms k part d is_one h = h
 keyword_stands ms k part d is_negation h = one_on (object ms) k d h
 keyword_stands ms k part d (is_none l) h = tt
+keyword_stands ms k part d _ h = h
 
 -- the value of a keyword
 pub part_stands : (ms : Members) (k : List ℕ) (d : Data) → member_at k ms ≡ Some d → StandsAs (object ms) (part_of k) d
@@ -293,7 +263,7 @@ branch_stands s one ds i d found h = part_join s (name (codes "oneOf")) (index i
 
 -- ---- the members and items of the code
 
-pub member_stands : (xs ys : List Member) (i : ℕ) (m : Member) → IsObject (members_of xs) → drop i xs ≡ m ∷ ys → member_at m.name (members_of xs) ≡ Some (data_of m.tree)
+pub member_stands : (xs ys : List Member) (i : ℕ) (m : Member) → AreMembers (members_of xs) → drop i xs ≡ m ∷ ys → member_at m.name (members_of xs) ≡ Some (data_of m.tree)
 member_stands [] ys zero m o h = cc
 member_stands [] ys (suc i) m o h = cc
 member_stands (x ∷ xs) ys zero m o h =

@@ -5,17 +5,17 @@ use Rattle.std.specs.Cmp.{nat_cmp_is}
 use Rattle.std.specs.Ordering.{nat_cmp}
 use Rattle.std.specs.declared.cmp.Ordering.TheVariants.{Less}
 use Rattle.std.proofs.lemmas.List.{append-nil}
-use Rattle.jtree.specs.Data.{Data, null, boolean, integer, text, list, object, Items, no_items, item, Members, no_members, member, IsTree, AreTrees, IsObject}
+use Rattle.jtree.specs.Data.{Data, null, boolean, integer, text, list, object, Items, no_items, item, Members, no_members, member, IsTree, AreTrees, AreMembers}
 use Rattle.jtree.specs.Order.{text_cmp}
 use Rattle.jtree.specs.Path.{Path, name, index, member_at}
 use Rattle.jtree.specs.PathOrder.{path_cmp}
 use Rattle.jtree.specs.Internal.PathLaws.{same_step}
 use Rattle.jtree.specs.Internal.Lookups.{before_each}
 use Rattle.schema.specs.Document.Places.{Step, property, Place, step_path, place_path}
-use Rattle.schema.specs.Document.Limits.{size}
-use Rattle.schema.specs.Internal.Events.{Event, entered, too_long, event_path, Junctor, all, any, one, branch, Part, a_schema, properties, branches, no_schema, part_of, most_of, is_past, keyword_event, part_events, member_events, item_events, schema_events, IsIn, Ascend, AreEventsOf}
+use Rattle.schema.specs.Document.Limits.{size, most_of}
+use Rattle.schema.specs.Internal.Events.{Event, entered, too_long, event_path, Junctor, all, any, one, branch, Part, a_schema, properties, branches, no_schema, part_of, is_past, keyword_event, part_events, member_events, item_events, schema_events, IsIn, Ascend, AreEventsOf}
 use Rattle.schema.proofs.EventParts.{in_append, PartIs, is_properties, is_map_value, is_items, is_all, is_any, is_one, is_negation, is_none, part_is, Leads, to_property, lead_path, schema_down, names_down, items_down, PartEvent, part_down, KeyEvent, members_down}
-use Rattle.schema.proofs.EventSubschemas.{keyword_down, member_tree, item_tree, part_tree, EventOf, event_of, entered_schema, schema_entered, recorded_keyword, keyword_recorded}
+use Rattle.schema.proofs.EventPlaces.{keyword_down, member_tree, item_tree, part_tree, EventOf, event_of, entered_schema, schema_entered, recorded_keyword, keyword_recorded}
 
 -- ---- paths
 
@@ -54,7 +54,7 @@ goes_of raw p (entered q s) h = (place_path h.0, place_goes p h.0 q h.1)
 goes_of raw p (too_long q k) h =
     (place_path h.0 ++ (name k ∷ []), ap (λ x. x ++ (name k ∷ [])) (place_goes p h.0 q h.1) ∙ append_assoc (place_path p) (place_path h.0) (name k ∷ []))
 
-schema_goes : (p : Place) (s : Step) (ns : Members) (m : Event) → IsObject ns → IsIn m (schema_events (p ++ (s ∷ [])) ns) → (q : Path) × (event_path m ≡ place_path p ++ (step_path s ++ q))
+schema_goes : (p : Place) (s : Step) (ns : Members) (m : Event) → AreMembers ns → IsIn m (schema_events (p ++ (s ∷ [])) ns) → (q : Path) × (event_path m ≡ place_path p ++ (step_path s ++ q))
 schema_goes p s ns m o h =
     let goes = goes_of (object ns) (p ++ (s ∷ [])) m (event_of ns o (p ++ (s ∷ [])) m h) in
     let one : place_path (p ++ (s ∷ [])) ≡ place_path p ++ step_path s = place_goes p (s ∷ []) (p ++ (s ∷ [])) refl ∙ ap (λ x. place_path p ++ x) (append-nil (step_path s)) in
@@ -76,7 +76,7 @@ key_path p k d m o h = elim h [
   | inr part ↦ let found = key_parts p k (part_of k) d m (part_is k) o part in (found.1 ++ found.2, found.4)
 ]
 
-keys_path : (p : Place) (ms : Members) (m : Event) → IsObject ms → IsIn m (member_events p true ms)
+keys_path : (p : Place) (ms : Members) (m : Event) → AreMembers ms → IsIn m (member_events p true ms)
     → (k : List ℕ) × (d : Data) × (q : Path) × (member_at k ms ≡ Some d) × (event_path m ≡ place_path p ++ (name k ∷ q))
 keys_path p ms m o h =
     let found : KeyEvent p ms m = members_down p ms m o h in
@@ -99,16 +99,11 @@ keyword_first p k part d m n is_properties o h i =
     let path : event_path n ≡ place_path p ++ (name keyword ∷ (name rest.0 ∷ found.2)) = found.4 ∙ ap (λ x. place_path p ++ (name keyword ∷ (x ++ found.2))) rest.1 in
     behind_both (place_path p) (name keyword ∷ []) (name keyword ∷ (name rest.0 ∷ found.2)) (event_path m) (event_path n)
     (ap event_path (keyword_down p keyword d m h).0) path (same_step (name keyword) [] (name rest.0 ∷ found.2))
-keyword_first p k part d m n is_map_value o h i = elim h [ ]
-keyword_first p k part d m n is_items o h i = elim h [ ]
-keyword_first p k part d m n is_all o h i = elim h [ ]
-keyword_first p k part d m n is_any o h i = elim h [ ]
-keyword_first p k part d m n is_one o h i = elim h [ ]
-keyword_first p k part d m n is_negation o h i = elim h [ ]
 keyword_first p k part d m n (is_none l) o h i = let found = key_parts p k no_schema d n (is_none k) o i in absurd (nothing_leads found.0 found.1 found.3)
+keyword_first p k part d m n _ o h i = elim h [ ]
 
 -- the events of a keyword come before those of later keywords
-key_first : (p : Place) (k : List ℕ) (d : Data) (ms : Members) (m n : Event) → IsObject (member k d ms)
+key_first : (p : Place) (k : List ℕ) (d : Data) (ms : Members) (m n : Event) → AreMembers (member k d ms)
     → IsIn m (keyword_event p k d) ⊎ IsIn m (part_events p (part_of k) d) → IsIn n (member_events p true ms) → path_cmp (event_path m) (event_path n) ≡ Less
 key_first p k d ms m n o h i =
     let here = key_path p k d m o.0 h in
@@ -121,13 +116,13 @@ key_first p k d ms m n o h i =
 value_path : (p : Place) (s : Step) (d : Data) (m : Event) → IsTree d → IsIn m (part_events p (a_schema s) d) → (q : Path) × (event_path m ≡ place_path p ++ (step_path s ++ q))
 value_path p s d m o h = let found = schema_down p s d m h in schema_goes p s found.0 m (subst IsTree found.1 o) found.2
 
-property_first : (p : Place) (k : List ℕ) (d : Data) (ms : Members) (m n : Event) → IsObject (member k d ms)
+property_first : (p : Place) (k : List ℕ) (d : Data) (ms : Members) (m n : Event) → AreMembers (member k d ms)
     → IsIn m (part_events p (a_schema (property k)) d) → IsIn n (member_events p false ms) → path_cmp (event_path m) (event_path n) ≡ Less
 property_first p k d ms m n o h i =
     let keyword = name (codes "properties") in
     let here = value_path p (property k) d m o.0 h in
     let later = names_down p ms n o.2 i in
-    let below : IsObject later.1 = member_tree ms later.0 (object later.1) o.2 later.2 in
+    let below : AreMembers later.1 = member_tree ms later.0 (object later.1) o.2 later.2 in
     let there = schema_goes p (property later.0) later.1 n below later.3 in
     behind_both (place_path p) (keyword ∷ (name k ∷ here.0)) (keyword ∷ (name later.0 ∷ there.0)) (event_path m) (event_path n) here.1 there.1
     (same_step keyword (name k ∷ here.0) (name later.0 ∷ there.0) ∙ name_before k later.0 here.0 there.0 (before_each k ms later.0 (object later.1) o.1 o.2 later.2))
@@ -142,14 +137,14 @@ branch_first : (p : Place) (j : Junctor) (i : ℕ) (d : Data) (ds : Items) (m n 
 branch_first p j i d ds m n o h l =
     let here = value_path p (branch j i) d m o.0 h in
     let later = items_down p j (suc i) ds n l in
-    let below : IsObject later.1 = item_tree later.0 ds (object later.1) o.1 later.2 in
+    let below : AreMembers later.1 = item_tree later.0 ds (object later.1) o.1 later.2 in
     let there = schema_goes p (branch j (suc i + later.0)) later.1 n below later.3 in
     let before : i < suc i + later.0 = omega arith in
     behind_both (place_path p) (step_path (branch j i) ++ here.0) (step_path (branch j (suc i + later.0)) ++ there.0) (event_path m) (event_path n) here.1 there.1
     (branch_before j i (suc i + later.0) here.0 there.0 before)
 
 -- a schema comes before what stands in it
-schema_first : (p : Place) (ms : Members) (m : Event) → IsObject ms → IsIn m (member_events p true ms) → path_cmp (place_path p) (event_path m) ≡ Less
+schema_first : (p : Place) (ms : Members) (m : Event) → AreMembers ms → IsIn m (member_events p true ms) → path_cmp (place_path p) (event_path m) ≡ Less
 schema_first p ms m o h = let found = keys_path p ms m o h in beginning_first (place_path p) found.2 (event_path m) found.0 found.4
 
 -- ---- the order of all
@@ -168,7 +163,7 @@ keyword_ascend : (p : Place) (k : List ℕ) (b : Bool) → Ascend (if b then too
 keyword_ascend p k true = (λ n h. elim h [ ], tt)
 keyword_ascend p k false = tt
 
-keys_ascend : (p : Place) (k : List ℕ) (d : Data) (ms : Members) → IsObject (member k d ms) → Ascend (part_events p (part_of k) d) → Ascend (member_events p true ms) → Ascend (member_events p true (member k d ms))
+keys_ascend : (p : Place) (k : List ℕ) (d : Data) (ms : Members) → AreMembers (member k d ms) → Ascend (part_events p (part_of k) d) → Ascend (member_events p true ms) → Ascend (member_events p true (member k d ms))
 keys_ascend p k d ms o here later =
     ascend_append (keyword_event p k d) (part_events p (part_of k) d ++ member_events p true ms) (keyword_ascend p k (is_past (most_of k) (size d)))
     (ascend_append (part_events p (part_of k) d) (member_events p true ms) here later (λ m n h i. key_first p k d ms m n o (inr h) i))
@@ -179,32 +174,12 @@ keys_ascend p k d ms o here later =
 
 mutual
   part_ascend : (p : Place) (part : Part) (d : Data) → IsTree d → Ascend (part_events p part d)
-  part_ascend p (a_schema s) null o = tt
-  part_ascend p (a_schema s) (boolean b) o = tt
-  part_ascend p (a_schema s) (integer z) o = tt
-  part_ascend p (a_schema s) (text t) o = tt
-  part_ascend p (a_schema s) (list ds) o = tt
   part_ascend p (a_schema s) (object ms) o = (λ n h. schema_first (p ++ (s ∷ [])) ms n o h, member_ascend (p ++ (s ∷ [])) true ms o)
-  part_ascend p properties null o = tt
-  part_ascend p properties (boolean b) o = tt
-  part_ascend p properties (integer z) o = tt
-  part_ascend p properties (text t) o = tt
-  part_ascend p properties (list ds) o = tt
   part_ascend p properties (object ms) o = member_ascend p false ms o
-  part_ascend p (branches j) null o = tt
-  part_ascend p (branches j) (boolean b) o = tt
-  part_ascend p (branches j) (integer z) o = tt
-  part_ascend p (branches j) (text t) o = tt
   part_ascend p (branches j) (list ds) o = item_ascend p j 0 ds o
-  part_ascend p (branches j) (object ms) o = tt
-  part_ascend p no_schema null o = tt
-  part_ascend p no_schema (boolean b) o = tt
-  part_ascend p no_schema (integer z) o = tt
-  part_ascend p no_schema (text t) o = tt
-  part_ascend p no_schema (list ds) o = tt
-  part_ascend p no_schema (object ms) o = tt
+  part_ascend _ _ _ _ = tt
 
-  member_ascend : (p : Place) (b : Bool) (ms : Members) → IsObject ms → Ascend (member_events p b ms)
+  member_ascend : (p : Place) (b : Bool) (ms : Members) → AreMembers ms → Ascend (member_events p b ms)
   member_ascend p true no_members o = tt
   member_ascend p true (member k d ms) o = keys_ascend p k d ms o (part_ascend p (part_of k) d o.0) (member_ascend p true ms o.2)
   member_ascend p false no_members o = tt
@@ -218,7 +193,7 @@ mutual
       ascend_append (part_events p (a_schema (branch j i)) d) (item_events p j (suc i) ds) (part_ascend p (a_schema (branch j i)) d o.0) (item_ascend p j (suc i) ds o.1)
       (λ m n h l. branch_first p j i d ds m n o h l)
 
-pub schema_events_are : (ms : Members) → IsObject ms → AreEventsOf (object ms) (schema_events [] ms)
+pub schema_events_are : (ms : Members) → AreMembers ms → AreEventsOf (object ms) (schema_events [] ms)
 schema_events_are ms o = record {
   ascending = (λ n h. schema_first [] ms n o h, member_ascend [] true ms o);
   subschemas = λ p s. (schema_entered ms p s, entered_schema ms o p s);

@@ -3,7 +3,7 @@ use Rattle.std.proofs.Common.{◌≡◌, ◌⊎◌, ℕ, zero, suc, ◌+◌, Lis
 use Rattle.std.specs.Prelude.{if◌then◌else◌, option_and_then, codes}
 use Rattle.std.specs.Str.{bytes_eq}
 use Rattle.std.proofs.lemmas.Option.{same_Some, option_and_then_some}
-use Rattle.jtree.specs.Data.{Data, null, boolean, integer, text, list, object, Items, no_items, item, Members, no_members, member, IsTree, IsObject}
+use Rattle.jtree.specs.Data.{Data, null, boolean, integer, text, list, object, Items, no_items, item, Members, no_members, member, IsTree, AreMembers}
 use Rattle.jtree.specs.Path.{Path, name, index, member_at, item_at, part_by, part_at}
 use Rattle.jtree.specs.Path as tree
 use Rattle.jtree.specs.Internal.Lookups.{bool_cases, same_name, member_first, member_later, member_tail}
@@ -88,12 +88,8 @@ step_lead negation = (codes "not", [], refl, itself negation)
 
 -- an object that is left
 pub object_only : (d e : Data) → only_object d ≡ Some e → (ms : Members) × (d ≡ object ms) × (e ≡ object ms)
-object_only null e h = cc
-object_only (boolean b) e h = cc
-object_only (integer z) e h = cc
-object_only (text t) e h = cc
-object_only (list ds) e h = cc
 object_only (object ms) e h = (ms, refl, sym (same_Some (object ms) e h))
+object_only _ e h = cc
 
 pub part_first : (d : Data) (s : tree.Step) (path : Path) (e : Data) → part_at d (s ∷ path) ≡ Some e → (f : Data) × (part_by d s ≡ Some f) × (part_at f path ≡ Some e)
 part_first d s path e h = option_and_then_some (λ x. part_at x path) (part_by d s) e h (λ f found rest. (f, found, rest))
@@ -107,17 +103,13 @@ part_one d s e h = let first = part_first d s [] e h in first.1 ∙ first.2
 -- ---- the events of a value, down to the schema that has them
 
 pub schema_down : (p : Place) (s : Step) (d : Data) (m : Event) → IsIn m (part_events p (a_schema s) d) → (ns : Members) × (d ≡ object ns) × IsIn m (schema_events (p ++ (s ∷ [])) ns)
-schema_down p s null m h = elim h [ ]
-schema_down p s (boolean b) m h = elim h [ ]
-schema_down p s (integer z) m h = elim h [ ]
-schema_down p s (text t) m h = elim h [ ]
-schema_down p s (list ds) m h = elim h [ ]
 schema_down p s (object ms) m h = (ms, refl, h)
+schema_down p s _ m h = elim h [ ]
 
 pub schema_up : (p : Place) (s : Step) (d : Data) (ns : Members) (m : Event) → d ≡ object ns → IsIn m (schema_events (p ++ (s ∷ [])) ns) → IsIn m (part_events p (a_schema s) d)
 schema_up p s d ns m is h = subst (λ x. IsIn m (part_events p (a_schema s) x)) (sym is) h
 
-pub names_down : (p : Place) (ms : Members) (m : Event) → IsObject ms → IsIn m (member_events p false ms)
+pub names_down : (p : Place) (ms : Members) (m : Event) → AreMembers ms → IsIn m (member_events p false ms)
     → (l : List ℕ) × (ns : Members) × (member_at l ms ≡ Some (object ns)) × IsIn m (schema_events (p ++ (property l ∷ [])) ns)
 names_down p no_members m o h = elim h [ ]
 names_down p (member k d ms) m o h = elim (in_append m (part_events p (a_schema (property k)) d) (member_events p false ms) h) [
@@ -173,18 +165,9 @@ pub part_down : (p : Place) (part : Part) (d : Data) (m : Event) → IsTree d �
 part_down p (a_schema s) d m o h =
     let found = schema_down p s d m h in
     record { step = s; rest = []; leads = itself s; below = found.0; at = ap Some found.1; within = found.2 }
-part_down p properties null m o h = elim h [ ]
-part_down p properties (boolean b) m o h = elim h [ ]
-part_down p properties (integer z) m o h = elim h [ ]
-part_down p properties (text t) m o h = elim h [ ]
-part_down p properties (list ds) m o h = elim h [ ]
 part_down p properties (object ms) m o h =
     let found = names_down p ms m o h in
     record { step = property found.0; rest = name found.0 ∷ []; leads = to_property found.0; below = found.1; at = part_join (object ms) (name found.0) [] (object found.1) (object found.1) found.2 refl; within = found.3 }
-part_down p (branches j) null m o h = elim h [ ]
-part_down p (branches j) (boolean b) m o h = elim h [ ]
-part_down p (branches j) (integer z) m o h = elim h [ ]
-part_down p (branches j) (text t) m o h = elim h [ ]
 part_down p (branches j) (list ds) m o h =
     let found = items_down p j 0 ds m h in
     let same : 0 + found.0 ≡ found.0 = omega arith in
@@ -196,31 +179,17 @@ part_down p (branches j) (list ds) m o h =
       at = part_join (list ds) (index found.0) [] (object found.1) (object found.1) found.2 refl;
       within = subst (λ n. IsIn m (schema_events (p ++ (branch j n ∷ [])) found.1)) same found.3;
     }
-part_down p (branches j) (object ms) m o h = elim h [ ]
-part_down p no_schema null m o h = elim h [ ]
-part_down p no_schema (boolean b) m o h = elim h [ ]
-part_down p no_schema (integer z) m o h = elim h [ ]
-part_down p no_schema (text t) m o h = elim h [ ]
-part_down p no_schema (list ds) m o h = elim h [ ]
-part_down p no_schema (object ms) m o h = elim h [ ]
+part_down p _ _ m o h = elim h [ ]
 
 property_up : (p : Place) (k : List ℕ) (d : Data) (ns : Members) (m : Event) → part_by d (name k) ≡ Some (object ns) → IsIn m (schema_events (p ++ (property k ∷ [])) ns) → IsIn m (part_events p properties d)
-property_up p k null ns m at h = cc
-property_up p k (boolean b) ns m at h = cc
-property_up p k (integer z) ns m at h = cc
-property_up p k (text t) ns m at h = cc
-property_up p k (list ds) ns m at h = cc
 property_up p k (object ms) ns m at h = names_up p ms m k ns at h
+property_up p k _ ns m at h = cc
 
 branch_up : (p : Place) (j : Junctor) (i : ℕ) (d : Data) (ns : Members) (m : Event) → part_by d (index i) ≡ Some (object ns) → IsIn m (schema_events (p ++ (branch j i ∷ [])) ns) → IsIn m (part_events p (branches j) d)
-branch_up p j i null ns m at h = cc
-branch_up p j i (boolean b) ns m at h = cc
-branch_up p j i (integer z) ns m at h = cc
-branch_up p j i (text t) ns m at h = cc
 branch_up p j i (list ds) ns m at h =
     let same : i ≡ 0 + i = omega arith in
     items_up p j 0 ds m i ns at (subst (λ n. IsIn m (schema_events (p ++ (branch j n ∷ [])) ns)) same h)
-branch_up p j i (object ms) ns m at h = cc
+branch_up p j i _ ns m at h = cc
 
 pub part_up : (p : Place) (part : Part) (s : Step) (t : Path) (d : Data) (ns : Members) (m : Event) → Leads part s t → part_at d t ≡ Some (object ns) → IsIn m (schema_events (p ++ (s ∷ [])) ns)
     → IsIn m (part_events p part d)
@@ -236,7 +205,7 @@ pub record KeyEvent (p : Place) (ms : Members) (m : Event) : Type 0 where
   pub at : member_at key ms ≡ Some value
   pub here : IsIn m (keyword_event p key value) ⊎ IsIn m (part_events p (part_of key) value)
 
-pub members_down : (p : Place) (ms : Members) (m : Event) → IsObject ms → IsIn m (member_events p true ms) → KeyEvent p ms m
+pub members_down : (p : Place) (ms : Members) (m : Event) → AreMembers ms → IsIn m (member_events p true ms) → KeyEvent p ms m
 members_down p no_members m o h = elim h [ ]
 members_down p (member k d ms) m o h = elim (in_append m (keyword_event p k d) (part_events p (part_of k) d ++ member_events p true ms) h) [
   | inl keyword ↦ record { key = k; value = d; at = member_first k d ms; here = inl keyword }

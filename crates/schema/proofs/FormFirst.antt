@@ -4,14 +4,13 @@ use Rattle.std.specs.Prelude.{option_and_then}
 use Rattle.std.specs.Str.{bytes_eq}
 use Rattle.std.proofs.lemmas.Option.{same_Some}
 use Rattle.std.specs.declared.cmp.Ordering.TheVariants.{Less}
-use Rattle.jtree.specs.Data.{Data, null, boolean, integer, text, list, object, Items, no_items, item, Members, no_members, member, IsTree, AreTrees, IsObject}
+use Rattle.jtree.specs.Data.{Data, null, boolean, integer, text, list, object, Items, no_items, item, Members, no_members, member, IsTree, AreTrees, AreMembers}
 use Rattle.jtree.specs.Path.{Step, name, index, Path, member_at, item_at, part_by, part_at}
 use Rattle.jtree.specs.PathOrder.{path_cmp, IsFirst}
 use Rattle.jtree.specs.Internal.PathLaws.{not_before_root, same_step, not_before_name, not_before_index}
 use Rattle.jtree.specs.Internal.Lookups.{bool_cases, same_name, member_first, member_later, member_tail, option_cases, before_each}
-use Rattle.schema.specs.Document.Forms.{form_below, has_form, BreaksForm}
+use Rattle.schema.specs.Document.Forms.{Form, form_below, has_form, BreaksForm}
 use Rattle.schema.specs.Internal.FormBreak.{below, or_else, parts_break, items_break, members_break, first_break}
-use Rattle.schema.specs.declared.forms.Form.{Form}
 
 -- the option is the first path at which something holds, or there is none
 abbrev pub IsFound : (Path → Type 0) → Option Path → Type 0
@@ -61,7 +60,7 @@ pub record ItemBreaks (f : Form) (i : ℕ) (ds : Items) (path : Path) : Type 0 w
   pub at : item_at offset ds ≡ Some value
   pub breaks : BreaksForm (form_below f (index position)) value rest
 
-member_up : (f : Form) (k : List ℕ) (d : Data) (ms : Members) → IsObject (member k d ms) → (p : Path) → MemberBreaks f ms p → MemberBreaks f (member k d ms) p
+member_up : (f : Form) (k : List ℕ) (d : Data) (ms : Members) → AreMembers (member k d ms) → (p : Path) → MemberBreaks f ms p → MemberBreaks f (member k d ms) p
 member_up f k d ms o p b = record { key = b.key; rest = b.rest; value = b.value; path_is = b.path_is; at = member_tail k d ms b.key b.value o b.at; breaks = b.breaks }
 
 member_down : (f : Form) (k : List ℕ) (d : Data) (ms : Members) → ((p : Path) → BreaksForm (form_below f (name k)) d p → ⊥)
@@ -77,7 +76,7 @@ member_down f k d ms none p b = elim (bool_cases (bytes_eq b.key k)) [
   | inr other ↦ record { key = b.key; rest = b.rest; value = b.value; path_is = b.path_is; at = sym (member_later b.key k d ms other) ∙ b.at; breaks = b.breaks }
 ]
 
-member_here : (f : Form) (k : List ℕ) (d : Data) (ms : Members) (p : Path) → IsObject (member k d ms) → IsFirst (BreaksForm (form_below f (name k)) d) p
+member_here : (f : Form) (k : List ℕ) (d : Data) (ms : Members) (p : Path) → AreMembers (member k d ms) → IsFirst (BreaksForm (form_below f (name k)) d) p
     → IsFirst (MemberBreaks f (member k d ms)) (name k ∷ p)
 member_here f k d ms p o first = record {
   here = record { key = k; rest = p; value = d; path_is = refl; at = member_first k d ms; breaks = first.here };
@@ -97,7 +96,7 @@ member_here f k d ms p o first = record {
   ];
 }
 
-member_step : (f : Form) (k : List ℕ) (d : Data) (ms : Members) (o : Option Path) (rest : Option Path) → IsObject (member k d ms)
+member_step : (f : Form) (k : List ℕ) (d : Data) (ms : Members) (o : Option Path) (rest : Option Path) → AreMembers (member k d ms)
     → IsFound (BreaksForm (form_below f (name k)) d) o → IsFound (MemberBreaks f ms) rest
     → IsFound (MemberBreaks f (member k d ms)) (or_else (below (name k) o) rest)
 member_step f k d ms None rest o none h = found_alike (MemberBreaks f ms) (MemberBreaks f (member k d ms)) rest (member_up f k d ms o) (member_down f k d ms none) h
@@ -189,12 +188,9 @@ from_parts f d h = elim (bool_cases (has_form f d)) [
 
 mutual
   parts_found : (f : Form) (d : Data) → IsTree d → has_form f d ≡ true → IsFound (BreaksForm f d) (parts_break f d)
-  parts_found f null o form = no_parts f null (λ s. refl) form
-  parts_found f (boolean b) o form = no_parts f (boolean b) (λ s. refl) form
-  parts_found f (integer z) o form = no_parts f (integer z) (λ s. refl) form
-  parts_found f (text s) o form = no_parts f (text s) (λ s. refl) form
   parts_found f (list ds) o form = found_alike (ItemBreaks f 0 ds) (BreaksForm f (list ds)) (items_break f 0 ds) (list_up f ds) (list_down f ds form) (items_found f 0 ds o)
   parts_found f (object ms) o form = found_alike (MemberBreaks f ms) (BreaksForm f (object ms)) (members_break f ms) (object_up f ms) (object_down f ms form) (members_found f ms o)
+  parts_found f d o form = no_parts f d (λ s. refl) form
 
   items_found : (f : Form) (i : ℕ) (ds : Items) → AreTrees ds → IsFound (ItemBreaks f i ds) (items_break f i ds)
   items_found f i no_items o = λ p b. cc
@@ -202,7 +198,7 @@ mutual
       item_step f i d ds (first_break (form_below f (index i)) d) (items_break f (suc i) ds)
       (from_parts (form_below f (index i)) d (λ h. parts_found (form_below f (index i)) d o.0 h)) (items_found f (suc i) ds o.1)
 
-  members_found : (f : Form) (ms : Members) → IsObject ms → IsFound (MemberBreaks f ms) (members_break f ms)
+  members_found : (f : Form) (ms : Members) → AreMembers ms → IsFound (MemberBreaks f ms) (members_break f ms)
   members_found f no_members o = λ p b. cc
   members_found f (member k d ms) o =
       member_step f k d ms (first_break (form_below f (name k)) d) (members_break f ms) o

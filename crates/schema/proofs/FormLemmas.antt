@@ -7,7 +7,8 @@ use Rattle.jtree.specs.Path.{Path}
 use Rattle.jtree.specs.View.{items_of}
 use Rattle.jtree.specs.declared.value.Tree.{Tree}
 use Rattle.schema.specs.Document.Forms.{is_some_list}
-use Rattle.schema.specs.Internal.FormBreak.{or_else, IsBreakFault}
+use Rattle.schema.specs.Internal.Faults.{IsBreakFault}
+use Rattle.schema.specs.Internal.FormBreak.{or_else}
 use Rattle.schema.specs.declared.fault.SFault.{SFault}
 use Rattle.schema.specs.declared.fault.SFault.TheVariants.{NotACrd, NoSuchVersion, KeywordForm, TooLarge, NoMemory}
 
@@ -21,8 +22,6 @@ or_else_some (Some x) p path h = h
 
 -- a fault of the first is one of the two
 pub first_fault : (o p : Option Path) (e : SFault) → IsBreakFault o e → IsBreakFault (or_else o p) e
-first_fault o p NotACrd h = h
-first_fault o p NoSuchVersion h = h
 first_fault o p (KeywordForm s) h = (h.0, h.1, or_else_some o p h.0 h.2)
-first_fault o p (TooLarge s) h = h
 first_fault o p NoMemory h = h
+first_fault o p _ h = absurd h

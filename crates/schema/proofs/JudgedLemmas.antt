@@ -7,7 +7,7 @@ use Rattle.std.proofs.lemmas.Cmp.{tied_itself}
 use Rattle.std.proofs.lemmas.List.{append_assoc, append-nil, map-append, take_more}
 use Rattle.std.proofs.lemmas.Grind.{flat_map-append}
 use Rattle.std.specs.declared.cmp.Ordering.TheVariants.{Less}
-use Rattle.jtree.specs.Data.{Data, object, Members, IsObject}
+use Rattle.jtree.specs.Data.{Data, object, Members, AreMembers}
 use Rattle.jtree.specs.PathOrder.{path_cmp}
 use Rattle.schema.specs.Document.Places.{Place, place_path, place_pointer, IsPlace}
 use Rattle.schema.specs.Internal.PlaceView.{place_of, subschema_of}
@@ -18,7 +18,7 @@ use Rattle.schema.specs.Internal.Subschemas.{IsSubschema, AreSubschemas}
 use Rattle.schema.specs.Internal.Judged.{judged, pair, pairs_at, pairs_of, AreBroken, none, broken, kept, AreFound}
 use Rattle.schema.specs.declared.listing.Subschema.{Subschema}
 use Rattle.schema.specs.declared.violation.Rule.{Rule}
-use Rattle.schema.specs.declared.violation.Rule.TheVariants.{V01, V02, V03, V04, V05, V06, V07, V08, V09, V10, V11, V12, V13, V14, V15, V16, V17}
+use Rattle.schema.specs.declared.violation.Rule.TheVariants.{V01, V02, V03, V04, V05, V06, V07, V08, V09}
 use Rattle.schema.specs.declared.violation.Violation.{Violation}
 use Rattle.schema.proofs.Rising.{Among, Rising, contains, each_of, all_pairs, among_left, among_right, among_parts, rising_join}
 use Rattle.schema.proofs.LimitLemmas.{path_total}
@@ -136,19 +136,12 @@ is_judged raw p V06 h = inr (inr (inr (inr (inr (inl refl)))))
 is_judged raw p V07 h = inr (inr (inr (inr (inr (inr (inl refl))))))
 is_judged raw p V08 h = inr (inr (inr (inr (inr (inr (inr (inl refl)))))))
 is_judged raw p V09 h = inr (inr (inr (inr (inr (inr (inr (inr (inl refl))))))))
-is_judged raw p V10 h = absurd h
-is_judged raw p V11 h = absurd h
-is_judged raw p V12 h = absurd h
-is_judged raw p V13 h = absurd h
-is_judged raw p V14 h = absurd h
-is_judged raw p V15 h = absurd h
-is_judged raw p V16 h = absurd h
-is_judged raw p V17 h = absurd h
+is_judged raw p _ h = absurd h
 
 restricted_place : (raw : Data) (p : Place) → Broken raw p V04 → IsPlace raw p
 restricted_place raw p (metadata_keyword r at) = (at.0, at.1)
 restricted_place raw p (metadata_type r at) = (at.0, at.1)
-restricted_place raw p (metadata_field r k at n g) = at
+restricted_place raw p (metadata_field r k at n) = at
 
 at_place : (raw : Data) (p : Place) (r : Rule) → Broken raw p r → IsPlace raw p
 at_place raw p V01 h = (h.1.0, h.1.1)
@@ -160,14 +153,7 @@ at_place raw p V06 h = (h.0, h.1)
 at_place raw p V07 h = (h.0, h.1)
 at_place raw p V08 h = (h.0, h.1)
 at_place raw p V09 h = (h.1.0, h.1.1)
-at_place raw p V10 h = absurd h
-at_place raw p V11 h = absurd h
-at_place raw p V12 h = absurd h
-at_place raw p V13 h = absurd h
-at_place raw p V14 h = absurd h
-at_place raw p V15 h = absurd h
-at_place raw p V16 h = absurd h
-at_place raw p V17 h = absurd h
+at_place raw p _ h = absurd h
 
 -- ---- the pairs of the places are in order, and all are there
 
@@ -278,7 +264,7 @@ subschemas_rising [] h = tt
 subschemas_rising (v ∷ subschemas) h = (λ w a. h.0 (subschema_of w) (in_map subschemas w a), subschemas_rising subschemas h.1)
 
 -- each place is that of a subschema
-pub place_entered : (ms : Members) (subschemas : List Subschema) → IsObject ms → AreSubschemas ms subschemas → (p : Place) → IsPlace (object ms) p
+pub place_entered : (ms : Members) (subschemas : List Subschema) → AreMembers ms → AreSubschemas ms subschemas → (p : Place) → IsPlace (object ms) p
     → (v : Subschema) × Among subschemas v × (place_of v.place.items ≡ p)
 place_entered ms subschemas o are p at =
     let events = schema_events_are ms o in
@@ -287,10 +273,10 @@ place_entered ms subschemas o are p at =
     (v.0, v.1, let e = v.2 in cc)
 
 -- and the places of the subschemas ascend
-pub subschemas_earlier : (ms : Members) (subschemas : List Subschema) → IsObject ms → AreSubschemas ms subschemas → Rising Earlier subschemas
+pub subschemas_earlier : (ms : Members) (subschemas : List Subschema) → AreMembers ms → AreSubschemas ms subschemas → Rising Earlier subschemas
 subschemas_earlier ms subschemas o are = subschemas_rising subschemas (subst Ascend (sym are.whole) (subschemas_ascend (schema_events [] ms) (schema_events_are ms o).ascending))
 
-pub violations_of : (ms : Members) (subschemas : List Subschema) (violations : List Violation) → IsObject ms → AreSubschemas ms subschemas
+pub violations_of : (ms : Members) (subschemas : List Subschema) (violations : List Violation) → AreMembers ms → AreSubschemas ms subschemas
     → AreFound (λ raw. All (IsSubschema raw) subschemas) (pairs_of subschemas) [] violations → AreViolations (object ms) violations
 violations_of ms subschemas violations o are f =
     let raw = object ms in

@@ -16,13 +16,8 @@ use Rattle.schema.specs.declared.kinds.Kind.{Kind}
 -- ---- a keyword that is true
 
 is_true_is : (o : Option Data) → is_true o ≡ true → o ≡ Some (boolean true)
-is_true_is None h = cc
-is_true_is (Some null) h = cc
 is_true_is (Some (boolean b)) h = ap (λ x. Some (boolean x)) h
-is_true_is (Some (integer z)) h = cc
-is_true_is (Some (text t)) h = cc
-is_true_is (Some (list ds)) h = cc
-is_true_is (Some (object ms)) h = cc
+is_true_is _ h = cc
 
 flag_true : (s : Data) (k : List ℕ) → HasTrue s k → flag s k ≡ true
 flag_true s k h = ap is_true h
@@ -43,13 +38,8 @@ flag_is s k false h = flag_false s k (λ t. let no : false ≡ true = h.1 t in c
 -- ---- each kind is told
 
 other_object : (o : Option Data) → ((ms : Members) → o ≡ Some (object ms) → ⊥) → object_kind o ≡ kinds.object
-other_object None h = refl
-other_object (Some null) h = refl
-other_object (Some (boolean b)) h = refl
-other_object (Some (integer z)) h = refl
-other_object (Some (text t)) h = refl
-other_object (Some (list ds)) h = refl
 other_object (Some (object ms)) h = absurd (h ms refl)
+other_object _ h = refl
 
 no_int_or_string : (s : Data) → (IsIntOrString s → ⊥) → flag s (codes "x-kubernetes-int-or-string") ≡ false
 no_int_or_string s single = flag_false s (codes "x-kubernetes-int-or-string") single
@@ -87,13 +77,8 @@ open_is s k single untyped is =
 
 object_is : (s : Data) (o : Option Data) → under s (codes "additionalProperties") ≡ o → (IsIntOrString s → ⊥) → HasText s (codes "type") (codes "object")
     → IsOfKind s (object_kind o)
-object_is s None at single h = then_object s single h (λ m. let is = m.1 in cc)
-object_is s (Some null) at single h = then_object s single h (λ m. let is = m.1 in cc)
-object_is s (Some (boolean b)) at single h = then_object s single h (λ m. let is = m.1 in cc)
-object_is s (Some (integer z)) at single h = then_object s single h (λ m. let is = m.1 in cc)
-object_is s (Some (text t)) at single h = then_object s single h (λ m. let is = m.1 in cc)
-object_is s (Some (list ds)) at single h = then_object s single h (λ m. let is = m.1 in cc)
 object_is s (Some (object ms)) at single h = then_map s single h (ms, at)
+object_is s _ at single h = then_object s single h (λ m. let is = m.1 in cc)
 
 -- one of several texts, in order
 either : {X : Type 0} (t u : List ℕ) (x y z : Option X) (P : Type 0) → (if bytes_eq t u then x else y) ≡ z → (t ≡ u → x ≡ z → P) → (y ≡ z → P) → P
@@ -117,12 +102,8 @@ named_is s t k single typed is =
 
 typed_is : (s : Data) (o : Option Data) (k : kinds.Kind) → under s (codes "type") ≡ o → (IsIntOrString s → ⊥) → typed_kind s o ≡ Some k → IsOfKind s k
 typed_is s None k at single is = open_is s k single (inl at) is
-typed_is s (Some null) k at single is = absurd (cc)
-typed_is s (Some (boolean b)) k at single is = absurd (cc)
-typed_is s (Some (integer z)) k at single is = absurd (cc)
 typed_is s (Some (text t)) k at single is = named_is s t k single at is
-typed_is s (Some (list ds)) k at single is = absurd (cc)
-typed_is s (Some (object ms)) k at single is = absurd (cc)
+typed_is s _ k at single is = absurd (cc)
 
 pub kind_is : (s : Data) (k : kinds.Kind) → kind_by s ≡ Some k → IsOfKind s k
 kind_is s k is =

@@ -5,7 +5,7 @@ use Rattle.std.proofs.Math.Nat.{eq-or-lt_of_le}
 use Rattle.std.proofs.lemmas.Bool.{cases_lt}
 use Rattle.std.proofs.lemmas.List.{get_or_default}
 use Rattle.std.specs.declared.cmp.Ordering.TheVariants.{Less}
-use Rattle.jtree.specs.Data.{Data, object, Members, IsObject}
+use Rattle.jtree.specs.Data.{Data, object, Members, AreMembers}
 use Rattle.jtree.specs.PathOrder.{path_cmp, IsFirst}
 use Rattle.schema.specs.Document.Raw.{HasObject}
 use Rattle.schema.specs.Rules.Kinds.{IsOfKind, list}
@@ -58,7 +58,7 @@ none_more raw subschemas i v within is before here = λ k d less lacks.
       | inr earlier ↦ before k d earlier lacks
     ]
 
-subschema_at : (ms : Members) (subschemas : List Subschema) → IsObject ms → AreSubschemas ms subschemas → (p : Place) → LacksNode (object ms) p
+subschema_at : (ms : Members) (subschemas : List Subschema) → AreMembers ms → AreSubschemas ms subschemas → (p : Place) → LacksNode (object ms) p
     → (v : Subschema) × (k : ℕ) × (k < length subschemas) × (place_of (get_or subschemas k v).place.items ≡ p)
 subschema_at ms subschemas o are p lacks =
     let at = lacks.2 in
@@ -66,7 +66,7 @@ subschema_at ms subschemas o are p lacks =
     let found = index_of subschemas v.0 v.0 v.1 in
     (v.0, found.0, found.1, ap (λ w. place_of w.place.items) found.2 ∙ v.2)
 
-pub first_lacking : (ms : Members) (subschemas : List Subschema) (i : ℕ) (v : Subschema) → IsObject ms → AreSubschemas ms subschemas → i < length subschemas → v ≡ get_or subschemas i v
+pub first_lacking : (ms : Members) (subschemas : List Subschema) (i : ℕ) (v : Subschema) → AreMembers ms → AreSubschemas ms subschemas → i < length subschemas → v ≡ get_or subschemas i v
     → NoneLack (object ms) subschemas i → LacksNode (object ms) (place_of v.place.items) → IsFirst (LacksNodeAt (object ms)) (place_path (place_of v.place.items))
 first_lacking ms subschemas i v o are within is before lacks =
     let raw = object ms in
@@ -93,7 +93,7 @@ first_lacking ms subschemas i v o are within is before lacks =
           ];
     }
 
-pub none_lacks : (ms : Members) (subschemas : List Subschema) (i : ℕ) → IsObject ms → AreSubschemas ms subschemas → length subschemas ≤ i → NoneLack (object ms) subschemas i
+pub none_lacks : (ms : Members) (subschemas : List Subschema) (i : ℕ) → AreMembers ms → AreSubschemas ms subschemas → length subschemas ≤ i → NoneLack (object ms) subschemas i
     → (p : Place) → LacksNode (object ms) p → ⊥
 none_lacks ms subschemas i o are past before p lacks =
     let at = subschema_at ms subschemas o are p lacks in

@@ -7,7 +7,7 @@ pub mod Rising
 pub mod LimitLemmas
 pub mod ListingLemmas
 pub mod EventParts
-pub mod EventSubschemas
+pub mod EventPlaces
 pub mod EventLemmas
 pub mod ContextLemmas
 pub mod PatternLemmas

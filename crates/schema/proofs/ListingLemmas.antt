@@ -6,10 +6,9 @@ use Rattle.jtree.specs.Data.{Data}
 use Rattle.jtree.specs.Path.{Path}
 use Rattle.jtree.specs.Internal.Lookups.{bool_cases}
 use Rattle.schema.specs.Document.Places.{Place}
-use Rattle.schema.specs.Document.Limits.{most_places, most_steps, size}
-use Rattle.schema.specs.Internal.Events.{Event, entered, too_long, subschemas_of, limit_break, keyword_event, most_of, is_past, AreEventsOf}
-use Rattle.schema.specs.Internal.LimitBreak.{IsLimitRefusal}
-use Rattle.schema.specs.Internal.LimitFault.{IsLimitFaultOf}
+use Rattle.schema.specs.Document.Limits.{most_places, most_steps, size, most_of}
+use Rattle.schema.specs.Internal.Events.{Event, entered, too_long, subschemas_of, limit_break, keyword_event, is_past, AreEventsOf}
+use Rattle.schema.specs.Internal.Faults.{IsLimitRefusal, IsLimitFaultOf}
 use Rattle.schema.proofs.LimitLemmas.{first_past}
 use Rattle.schema.specs.Internal.PlaceView.{subschema_of}
 use Rattle.schema.specs.declared.fault.SFault.{SFault}
@@ -49,11 +48,9 @@ limit_stays n (entered p s ∷ xs) ys path h = elim (bool_cases (nat_le most_pla
 ]
 
 pub refusal_stays : (n : ℕ) (xs ys : List Event) (e : SFault) → IsLimitRefusal (limit_break n xs) e → IsLimitRefusal (limit_break n (xs ++ ys)) e
-refusal_stays n xs ys NotACrd h = h
-refusal_stays n xs ys NoSuchVersion h = h
-refusal_stays n xs ys (KeywordForm p) h = h
 refusal_stays n xs ys (TooLarge p) h = (h.0, h.1, limit_stays n xs ys h.0 h.2)
 refusal_stays n xs ys NoMemory h = h
+refusal_stays n xs ys _ h = absurd h
 
 -- the list has grown by the places among the events
 pub record HasGrown (old new : List Subschema) (events : List Event) : Type 0 where
@@ -84,8 +81,6 @@ long_keyword p k d h = rw h refl
 
 -- the fault of a whole schema
 pub refusal_names : (raw : Data) (events : List Event) → AreEventsOf raw events → (e : SFault) → IsLimitRefusal (limit_break 0 events) e → IsLimitFaultOf raw e
-refusal_names raw events are NotACrd h = h
-refusal_names raw events are NoSuchVersion h = h
-refusal_names raw events are (KeywordForm p) h = h
 refusal_names raw events are (TooLarge p) h = (h.0, h.1, first_past raw events h.0 are h.2)
 refusal_names raw events are NoMemory h = h
+refusal_names raw events are _ h = absurd h

@@ -19,12 +19,8 @@ member_decreases k (member l e ms) d at = elim (bool_cases (bytes_eq k l)) [
 ]
 
 pub under_decreases : (d : Data) (k : List ℕ) (e : Data) → under d k ≡ Some e → suc (depth e) ≤ depth d
-under_decreases null k e at = cc
-under_decreases (boolean b) k e at = cc
-under_decreases (integer z) k e at = cc
-under_decreases (text s) k e at = cc
-under_decreases (list ds) k e at = cc
 under_decreases (object ms) k e at = let h = member_decreases k ms e at in omega arith
+under_decreases _ k e at = cc
 
 pub push_branches : (cs : List Validations) (c : Validations) (ts : List Tree) (t : Tree) → AreBranchesOf (branches_of cs) (items_of ts)
     → AreValidationsOf (validations_of c) (data_of t) → AreBranchesOf (branches_of (cs ++ c ∷ [])) (items_of (ts ++ t ∷ []))

@@ -14,12 +14,6 @@ use Rattle.schema.proofs.PlaceLemmas.{items_size}
 
 -- an object with one member is that member
 pub single : (d : Data) (k : List ℕ) (e : Data) → size d ≡ 1 → under d k ≡ Some e → d ≡ object (member k e no_members)
-single null k e one h = cc
-single (boolean b) k e one h = cc
-single (integer z) k e one h = cc
-single (text t) k e one h = cc
-single (list ds) k e one h = cc
-single (object no_members) k e one h = cc
 single (object (member l x no_members)) k e one h = elim (bool_cases (bytes_eq k l)) [
   | inl t ↦
       let is : x ≡ e = same_Some x e (rw t at h) in
@@ -28,6 +22,7 @@ single (object (member l x no_members)) k e one h = elim (bool_cases (bytes_eq k
   | inr f ↦ let none = rw f at h in cc
 ]
 single (object (member l x (member m y ms))) k e one h = absurd (omega (arith, one))
+single _ k e one h = cc
 
 pub single_under : (d : Data) (k : List ℕ) (e : Data) → d ≡ object (member k e no_members) → under d k ≡ Some e
 single_under d k e h = subst (λ x. under x k ≡ Some e) (sym h) (member_first k e no_members)

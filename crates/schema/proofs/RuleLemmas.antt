@@ -14,8 +14,8 @@ use Rattle.schema.specs.Document.Texts.{is_among}
 use Rattle.schema.specs.Document.Places.{Step, Place, property, map_value, items, all_of, any_of, one_of, negation, is_junctor, is_inside, schema_at}
 use Rattle.schema.specs.Internal.PlaceView.{step_of, place_of}
 use Rattle.schema.specs.declared.places.Step.{Step as CodeStep}
-use Rattle.schema.specs.Rules.Broken.{HasOneOf, metadata_keywords, metadata, RestrictsMetadata, metadata_keyword, metadata_type, metadata_field, is_field, ends_in_field}
-use Rattle.schema.specs.Internal.RuleParts.{HasOtherKeyword, HasOtherType, metadata_names, IsOtherName, IsOtherField, Restricts}
+use Rattle.schema.specs.Rules.Broken.{metadata_names, HasOneOf, metadata_keywords, metadata, RestrictsMetadata, metadata_keyword, metadata_type, metadata_field, is_field, ends_in_field, HasOtherKeyword, HasOtherType}
+use Rattle.schema.specs.Internal.RuleParts.{IsOtherName, IsOtherField, Restricts}
 
 -- ---- one of several keywords
 
@@ -109,22 +109,10 @@ others_none xs i Whole past all =
 -- ---- the steps of a place
 
 pub inside_next : (s : Step) (p : Place) → is_junctor s ≡ false → is_inside (s ∷ p) ≡ is_inside p
-inside_next (property k) p h = refl
-inside_next map_value p h = refl
-inside_next items p h = refl
-inside_next (all_of i) p h = cc
-inside_next (any_of i) p h = cc
-inside_next (one_of i) p h = cc
-inside_next negation p h = cc
+inside_next s p h = rw h refl
 
 pub inside_here : (s : Step) (p : Place) → is_junctor s ≡ true → is_inside (s ∷ p) ≡ true
-inside_here (property k) p h = cc
-inside_here map_value p h = cc
-inside_here items p h = cc
-inside_here (all_of i) p h = refl
-inside_here (any_of i) p h = refl
-inside_here (one_of i) p h = refl
-inside_here negation p h = refl
+inside_here s p h = rw h refl
 
 pub ends_at : (xs : List CodeStep) (k : ℕ) (d : CodeStep) → suc k ≡ length xs → ends_in_field (place_of xs) ≡ is_field (step_of (get_or xs k d))
 ends_at [] k d h = absurd (omega arith)
@@ -133,31 +121,16 @@ ends_at (x ∷ []) (suc k) d h = absurd (omega arith)
 ends_at (x ∷ y ∷ xs) zero d h = absurd (omega arith)
 ends_at (x ∷ y ∷ xs) (suc k) d h = ends_at (y ∷ xs) k d (omega arith)
 
-differ : (k l : List ℕ) → bytes_eq k l ≡ false → k ≢ l
-differ k l f same = let t : bytes_eq k l ≡ true = subst (λ m. bytes_eq k m ≡ true) same (own_name k) in cc
-
-no_name : (a b : Bool) → (a || (b || false)) ≡ false → (a ≡ false) × (b ≡ false)
-no_name true b h = absurd (cc)
-no_name false true h = absurd (cc)
-no_name false false h = (refl, refl)
-
 pub other_name : (k : List ℕ) (b : Bool) → b ≡ is_among k metadata_names → IsTrue (not b) ↔ IsOtherName (property k)
 other_name k true is = (
   λ no. absurd (cc),
   λ o.
-      let same : o.0 ≡ k = let e = o.1 in cc in
-      absurd (elim (or_cases (bytes_eq k (codes "name")) (bytes_eq k (codes "generateName") || false) (sym is)) [
-        | inl a ↦ o.2 (same ∙ same_name k (codes "name") a)
-        | inr b ↦ elim (or_cases (bytes_eq k (codes "generateName")) false b) [
-          | inl c ↦ o.3 (same ∙ same_name k (codes "generateName") c)
-          | inr d ↦ cc
-        ]
-      ]),
+      let same : k ≡ o.0 = let e = o.1 in cc in
+      let among : is_among o.0 metadata_names ≡ true = subst (λ l. is_among l metadata_names ≡ true) same (sym is) in
+      let other = o.2 in
+      absurd (cc),
 )
-other_name k false is = (
-  λ e. let no = no_name (bytes_eq k (codes "name")) (bytes_eq k (codes "generateName")) (sym is) in (k, refl, differ k (codes "name") no.0, differ k (codes "generateName") no.1),
-  λ o. refl,
-)
+other_name k false is = (λ e. (k, refl, sym is), λ o. refl)
 
 -- ---- the places of `metadata`
 
@@ -176,12 +149,12 @@ restricts_to raw p s is (inl (here, inl h)) = subst (RestrictsMetadata raw) (sym
 restricts_to raw p s is (inl (here, inr h)) = subst (RestrictsMetadata raw) (sym here) (metadata_type raw (s, subst (λ q. schema_at raw q ≡ Some s) here is, h))
 restricts_to raw p s is (inr (step, here, other)) =
     let at : p ≡ metadata ++ (property other.0 ∷ []) = here ∙ ap (λ t. metadata ++ (t ∷ [])) other.1 in
-    subst (RestrictsMetadata raw) (sym at) (metadata_field raw other.0 (s, subst (λ q. schema_at raw q ≡ Some s) at is) other.2 other.3)
+    subst (RestrictsMetadata raw) (sym at) (metadata_field raw other.0 (s, subst (λ q. schema_at raw q ≡ Some s) at is) other.2)
 
 restricts_from : (raw : Data) (p : Place) (s : Data) → schema_at raw p ≡ Some s → RestrictsMetadata raw p → Restricts p s
 restricts_from raw p s is (metadata_keyword r at) = inl (refl, inl (subst HasOtherKeyword (same_Some at.0 s (sym at.1 ∙ is)) at.2))
 restricts_from raw p s is (metadata_type r at) = inl (refl, inr (subst HasOtherType (same_Some at.0 s (sym at.1 ∙ is)) at.2))
-restricts_from raw p s is (metadata_field r k at n g) = inr (property k, refl, (k, refl, n, g))
+restricts_from raw p s is (metadata_field r k at n) = inr (property k, refl, (k, refl, n))
 
 pub restricts : (raw : Data) (p : Place) (s : Data) (b : Bool) → schema_at raw p ≡ Some s → IsTrue b ↔ Restricts p s → IsTrue b ↔ RestrictsMetadata raw p
 restricts raw p s b is h = (λ t. restricts_to raw p s is (h.0 t), λ r. h.1 (restricts_from raw p s is r))

@@ -5,10 +5,10 @@ use Rattle.std.specs.Str.{bytes_eq}
 use Rattle.std.proofs.lemmas.Option.{same_Some}
 use Rattle.std.proofs.lemmas.List.{take-append-drop, drop_more}
 use Rattle.std.specs.declared.cmp.Ordering.TheVariants.{Less}
-use Rattle.jtree.specs.Data.{Data, Items, Members, no_members, member, IsBefore, IsObject, depth, members_depth}
+use Rattle.jtree.specs.Data.{Data, Items, Members, no_members, member, IsNameBefore, AreMembers, depth, members_depth}
 use Rattle.jtree.specs.Data as tree
 use Rattle.jtree.specs.Kind.{is_object}
-use Rattle.jtree.specs.Internal.Lookups.{bool_cases, IsBefore-trans, member_first, member_tail}
+use Rattle.jtree.specs.Internal.Lookups.{bool_cases, IsNameBefore-trans, member_first, member_tail}
 use Rattle.jtree.specs.Order.{text_cmp}
 use Rattle.jtree.specs.Path.{member_at, under}
 use Rattle.jtree.specs.View.{data_of, items_of, members_of}
@@ -49,12 +49,8 @@ pub list_has_items : (root : Bool) (s : Data) → HasNodes root s → IsOfKind s
 list_has_items root s h kind none = has_node root s h (inr (kind, λ o. let some = o.1 in cc))
 
 pub list_nodes : (root : Bool) (s d : Data) → HasNodes root s → IsOfKind s kinds.list → under s (codes "items") ≡ Some d → HasNodes false d
-list_nodes root s tree.null h kind at = absurd (has_node root s h (inr (kind, λ o. let some = o.1 in cc)))
-list_nodes root s (tree.boolean b) h kind at = absurd (has_node root s h (inr (kind, λ o. let some = o.1 in cc)))
-list_nodes root s (tree.integer z) h kind at = absurd (has_node root s h (inr (kind, λ o. let some = o.1 in cc)))
-list_nodes root s (tree.text t) h kind at = absurd (has_node root s h (inr (kind, λ o. let some = o.1 in cc)))
-list_nodes root s (tree.list ds) h kind at = absurd (has_node root s h (inr (kind, λ o. let some = o.1 in cc)))
 list_nodes root s (tree.object ms) h kind at = list_below root s (tree.object ms) h (rw at refl)
+list_nodes root s _ h kind at = absurd (has_node root s h (inr (kind, λ o. let some = o.1 in cc)))
 
 -- ---- the values of a map
 
@@ -73,12 +69,8 @@ map_nodes root s d h kind at =
 -- ---- the properties of an object
 
 declared_is_object : (root : Bool) (k : List ℕ) (d : Data) → is_declared root k d ≡ true → (ms : Members) × (d ≡ tree.object ms)
-declared_is_object root k tree.null is = cc
-declared_is_object root k (tree.boolean b) is = cc
-declared_is_object root k (tree.integer z) is = cc
-declared_is_object root k (tree.text t) is = cc
-declared_is_object root k (tree.list ds) is = cc
 declared_is_object root k (tree.object ms) is = (ms, refl)
+declared_is_object root k _ is = cc
 
 declared_is_other : (root : Bool) (k : List ℕ) (d : Data) → is_declared root k d ≡ true → root ≡ true → IsEnvelopeName k → ⊥
 declared_is_other false k d is at e = cc
@@ -137,14 +129,14 @@ push_field root fs f names xs m is h name node required default =
     subst (AreFieldsOf (fields_of (fs ++ f ∷ [])) names) (sym (declared_ended root xs m is))
     (end_fields fs f names (declared_of root (members_of xs)) m.name (data_of m.tree) h name node required default)
 
-declared_before : (root : Bool) (k : List ℕ) (ms : Members) → IsBefore k ms → IsObject ms → IsBefore k (declared_of root ms)
+declared_before : (root : Bool) (k : List ℕ) (ms : Members) → IsNameBefore k ms → AreMembers ms → IsNameBefore k (declared_of root ms)
 declared_before root k no_members before o = tt
 declared_before root k (member l d ms) before o = elim (bool_cases (is_declared root l d)) [
   | inl t ↦ rw t before
-  | inr f ↦ rw f (declared_before root k ms (IsBefore-trans k l ms before o.1) o.2)
+  | inr f ↦ rw f (declared_before root k ms (IsNameBefore-trans k l ms before o.1) o.2)
 ]
 
-pub declared_object : (root : Bool) (ms : Members) → IsObject ms → IsObject (declared_of root ms)
+pub declared_object : (root : Bool) (ms : Members) → AreMembers ms → AreMembers (declared_of root ms)
 declared_object root no_members o = tt
 declared_object root (member k d ms) o = elim (bool_cases (is_declared root k d)) [
   | inl t ↦ rw t (o.0, declared_before root k ms o.1 o.2, declared_object root ms o.2)
@@ -155,13 +147,13 @@ pub push_nodes : (fs : List Field) (f : Field) → AreNodes (fields_of fs) → I
 push_nodes [] f h node = (node, tt)
 push_nodes (g ∷ fs) f h node = (h.0, push_nodes fs f h.1 node)
 
-fields_before : (k l : List ℕ) (fs : Fields) (names : List (List ℕ)) (ms : Members) → k ≡ l → AreFieldsOf fs names ms → IsBefore l ms → IsBeforeFields k fs
+fields_before : (k l : List ℕ) (fs : Fields) (names : List (List ℕ)) (ms : Members) → k ≡ l → AreFieldsOf fs names ms → IsNameBefore l ms → IsBeforeFields k fs
 fields_before k l no_fields names no_members same h before = tt
 fields_before k l no_fields names (member m d ms) same h before = absurd h
 fields_before k l (field n N r e fs) names no_members same h before = absurd h
 fields_before k l (field n N r e fs) names (member m d ms) same h before = subst (λ x. text_cmp x n ≡ Less) (sym same) (subst (λ x. text_cmp l x ≡ Less) (sym h.0) before)
 
-pub fields_ordered : (fs : Fields) (names : List (List ℕ)) (ms : Members) → AreFieldsOf fs names ms → AreNodes fs → IsObject ms → AreOrdered fs
+pub fields_ordered : (fs : Fields) (names : List (List ℕ)) (ms : Members) → AreFieldsOf fs names ms → AreNodes fs → AreMembers ms → AreOrdered fs
 fields_ordered no_fields names no_members h nodes o = tt
 fields_ordered no_fields names (member l d ms) h nodes o = absurd h
 fields_ordered (field k N r e fs) names no_members h nodes o = absurd h
@@ -169,26 +161,22 @@ fields_ordered (field k N r e fs) names (member l d ms) h nodes o = (nodes.0, fi
 
 -- ---- members and texts by their places
 
-item_named : (xs : List Member) (m : Member) (ys : List Member) → IsObject (members_of (xs ++ m ∷ ys)) → member_at m.name (members_of (xs ++ m ∷ ys)) ≡ Some (data_of m.tree)
+item_named : (xs : List Member) (m : Member) (ys : List Member) → AreMembers (members_of (xs ++ m ∷ ys)) → member_at m.name (members_of (xs ++ m ∷ ys)) ≡ Some (data_of m.tree)
 item_named [] m ys o = member_first m.name (data_of m.tree) (members_of ys)
 item_named (x ∷ xs) m ys o = member_tail x.name (data_of x.tree) (members_of (xs ++ m ∷ ys)) m.name (data_of m.tree) o (item_named xs m ys o.2)
 
-pub member_named : (xs : List Member) (i : ℕ) (m : Member) → i < length xs → m ≡ get_or xs i m → IsObject (members_of xs)
+pub member_named : (xs : List Member) (i : ℕ) (m : Member) → i < length xs → m ≡ get_or xs i m → AreMembers (members_of xs)
     → member_at m.name (members_of xs) ≡ Some (data_of m.tree)
 member_named xs i m within is o =
     let split : xs ≡ take i xs ++ m ∷ drop (i + 1) xs = sym (take-append-drop i xs) ∙ ap (λ ys. take i xs ++ ys) (drop_more xs i m within ∙ ap (λ x. x ∷ drop (i + 1) xs) (sym is)) in
-    subst (λ zs. member_at m.name (members_of zs) ≡ Some (data_of m.tree)) (sym split) (item_named (take i xs) m (drop (i + 1) xs) (subst (λ zs. IsObject (members_of zs)) split o))
+    subst (λ zs. member_at m.name (members_of zs) ≡ Some (data_of m.tree)) (sym split) (item_named (take i xs) m (drop (i + 1) xs) (subst (λ zs. AreMembers (members_of zs)) split o))
 
 texts_split : (x : Data) (k : List ℕ) (ds : Items) → is_among k (texts_of (tree.item x ds)) ≡ (is_among k (texts_of (tree.item x tree.no_items)) || is_among k (texts_of ds))
-texts_split tree.null k ds = refl
-texts_split (tree.boolean b) k ds = refl
-texts_split (tree.integer z) k ds = refl
 texts_split (tree.text t) k ds = elim (bool_cases (bytes_eq k t)) [
   | inl same ↦ rw same refl
   | inr f ↦ rw f refl
 ]
-texts_split (tree.list es) k ds = refl
-texts_split (tree.object ms) k ds = refl
+texts_split _ k ds = refl
 
 pub texts_next : (xs : List Tree) (i : ℕ) (t : Tree) (k : List ℕ) → i < length xs → t ≡ get_or xs i t
     → is_among k (texts_of (items_of (drop i xs))) ≡ (is_among k (texts_of (tree.item (data_of t) tree.no_items)) || is_among k (texts_of (items_of (drop (i + 1) xs))))

@@ -8,8 +8,8 @@ use Rattle.jtree.specs.Data.{Data, text, no_items}
 use Rattle.jtree.specs.Path.{item_at}
 use Rattle.jtree.specs.View.{data_of, items_of}
 use Rattle.jtree.specs.declared.value.Tree.{Tree}
-use Rattle.schema.specs.Document.Crd.{IsNamed, IsVersion}
-use Rattle.schema.specs.Internal.Versions.{AreVersions, IsSelected}
+use Rattle.schema.specs.Document.Crd.{IsNamed, IsVersion, AreVersions}
+use Rattle.schema.specs.Internal.Versions.{IsSelected}
 use Rattle.jtree.specs.Internal.Lookups.{bool_cases, same_name, own_name}
 
 pub record IsIndex (xs : List Tree) (look : List ℕ → Option Data) : Type 0 where
@@ -119,7 +119,7 @@ pub selected : (xs : List Tree) (look : List ℕ → Option Data) (s : List ℕ)
 selected xs look s None h e = h.none s e
 selected xs look s (Some v) h e = h.some s v e
 
--- the items up to a place, the one there, and the others
+-- the items below an index, the one there, and the others
 pub split_at : (xs : List Tree) (i : ℕ) (t : Tree) → i < length xs → t ≡ get_or xs i t → xs ≡ take i xs ++ t ∷ drop (i + 1) xs
 split_at xs i t within is = sym (take-append-drop i xs) ∙ ap (λ ys. take i xs ++ ys) (drop_more xs i t within ∙ ap (λ x. x ∷ drop (i + 1) xs) (sym is))
 

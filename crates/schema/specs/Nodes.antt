@@ -1,5 +1,6 @@
+-- The nodes of a schema that breaks no rule.
 pub mod Node
-pub mod View
 pub mod Keywords
 pub mod Validations
 pub mod Shape
+pub mod View

@@ -2,15 +2,16 @@
 ghost use Rattle.std.specs.Prelude.{◌≡◌, ◌≢◌, ◌↔◌, ℕ, List, [], None, Some, option_map, codes, OnOk, IfOk, IfErr, IfSome, IsTrue};
 ghost use Rattle.jtree.specs.Data.{Data, Items as ItemsData, text as text_of};
 ghost use Rattle.jtree.specs.View.{data_of};
-ghost use Rattle.schema.specs.Document.Crd.{IsRead, IsSchemaOf};
-ghost use Rattle.schema.specs.Document.ReadFault.{IsSound, IsReadFault, IsDefinitionFault, IsSchemaFault};
+ghost use Rattle.schema.specs.Document.Crd.{IsRead, IsSchemaOf, HasHeader, IsHead};
+ghost use Rattle.schema.specs.Internal.Faults.{IsDefinitionFault};
+ghost use Rattle.schema.specs.Document.ReadFault.{IsSound, IsReadFault, IsSchemaFault};
 ghost use Rattle.jtree.specs.Path.{under2, under3};
-ghost use Rattle.schema.specs.Internal.Versions.{HasHeader, IsHead};
 
 use crate::fault::SFault;
 use crate::forms::{Form, check_form};
 use crate::listing::list_places;
 use crate::raw::RawSchema;
+use crate::reading::copy_tree;
 use crate::versions::select;
 use jtree::{Items, Text, Tree};
 use std::alloc::Global;
@@ -73,7 +74,7 @@ pub fn read_crd(alloc: Global, document: &Tree, version: &str) -> Result<Crd, SF
         group: Text::from_str(alloc, definition.group)?,
         kind: Text::from_str(alloc, definition.kind)?,
         version: Text::from_str(alloc, version)?,
-        raw: RawSchema::new(definition.schema.copy(alloc)?),
+        raw: RawSchema::new(copy_tree(alloc, definition.schema)?),
     })
 }
 

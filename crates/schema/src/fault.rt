@@ -1,7 +1,6 @@
 ghost use Rattle.std.specs.Prelude.{◌≡◌};
 ghost use Rattle.schema.specs.declared.fault.SFault.TheVariants.{NoMemory};
 
-use jtree::JFault;
 use std::alloc::{AllocError, AllocFailed};
 use thiserror::Error;
 
@@ -26,15 +25,6 @@ pub enum SFault {
     /// An allocation failed.
     #[error("S5")]
     NoMemory,
-}
-
-// A copy of a part fails for memory alone.
-impl From<JFault> for SFault {
-    ghost from_gives = { λ _ e. e ≡ NoMemory };
-
-    fn from(_refused: JFault) -> SFault {
-        SFault::NoMemory
-    }
 }
 
 impl From<AllocError> for SFault {

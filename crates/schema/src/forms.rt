@@ -5,11 +5,13 @@ ghost use Rattle.jtree.specs.Pointer.{name_token, index_token};
 ghost use Rattle.jtree.specs.View.{data_of};
 ghost use Rattle.schema.specs.Document.Texts.{is_among};
 ghost use Rattle.schema.specs.Document.Forms.{text_keywords, truth_value_keywords, count_keywords, form_of as form_of_keyword, form_below, has_form as has_form_of, is_some_list as is_some_list_of, is_count as is_count_of};
-ghost use Rattle.schema.specs.Internal.FormBreak.{first_break, items_break, members_break, below, IsBreakFault};
+ghost use Rattle.schema.specs.Internal.Faults.{IsBreakFault};
+ghost use Rattle.schema.specs.Internal.FormBreak.{form_view, first_break, items_break, members_break, below};
 
 use crate::fault::SFault;
-use jtree::{Items, JFault, Members, Tree, push_index, push_name};
-use std::alloc::Global;
+use crate::places::{push_index, push_name};
+use jtree::{Items, Members, Tree};
+use std::alloc::{AllocError, Global};
 
 /// The form of a JSON value.
 #[derive(Clone, Copy, Drop)]
@@ -66,7 +68,7 @@ fn is_count_keyword(keyword: &str) -> bool
 
 /// The form of a keyword.
 fn form_of(keyword: &str) -> Form
-    ensures { result ≡ form_of_keyword keyword.now }
+    ensures { form_view result ≡ form_of_keyword keyword.now }
 {
     if is_text_keyword(keyword) {
         return Form::Text;
@@ -103,7 +105,7 @@ fn form_of(keyword: &str) -> Form
 
 /// The form of a member, from the form of its object.
 fn form_of_member(form: Form, name: &str) -> Form
-    ensures { result ≡ form_below form (name_step name.now) }
+    ensures { form_view result ≡ form_below (form_view form) (name_step name.now) }
 {
     match form {
         Form::Object | Form::TruthValueOrObject => form_of(name),
@@ -114,7 +116,7 @@ fn form_of_member(form: Form, name: &str) -> Form
 
 /// The form of each item, from the form of the list.
 fn form_of_items(form: Form) -> Form
-    ensures { (i : ℕ) → result ≡ form_below form (index_step i) }
+    ensures { (i : ℕ) → form_view result ≡ form_below (form_view form) (index_step i) }
 {
     match form {
         Form::SomeObjects => Form::Object,
@@ -125,7 +127,7 @@ fn form_of_items(form: Form) -> Form
 
 /// Whether a value has a form, whatever its parts are.
 fn has_form(form: Form, tree: &Tree) -> bool
-    ensures { result ≡ has_form_of form (data_of tree.now) }
+    ensures { result ≡ has_form_of (form_view form) (data_of tree.now) }
 {
     match form {
         Form::AnyTree => true,
@@ -161,8 +163,8 @@ fn is_count(tree: &Tree) -> bool
 /// Answers `KeywordForm` with the pointer, counted from the value, of the first part in path order that has not its form.
 #[cycle(forms)]
 pub(crate) fn check_form(alloc: Global, form: Form, tree: &Tree) -> Result<(), SFault>
-    ensures ok { OnOk result (first_break form (data_of tree.now) ≡ None) }
-    ensures err { IfErr result (IsBreakFault (first_break form (data_of tree.now))) }
+    ensures ok { OnOk result (first_break (form_view form) (data_of tree.now) ≡ None) }
+    ensures err { IfErr result (IsBreakFault (first_break (form_view form) (data_of tree.now))) }
 {
     if !has_form(form, tree) {
         return Err(SFault::KeywordForm(String::new(alloc)));
@@ -176,8 +178,8 @@ pub(crate) fn check_form(alloc: Global, form: Form, tree: &Tree) -> Result<(), S
 
 #[cycle(forms)]
 fn check_items(alloc: Global, form: Form, items: &Items) -> Result<(), SFault>
-    ensures ok { OnOk result (items_break form 0 items.now ≡ None) }
-    ensures err { IfErr result (IsBreakFault (items_break form 0 items.now)) }
+    ensures ok { OnOk result (items_break (form_view form) 0 items.now ≡ None) }
+    ensures err { IfErr result (IsBreakFault (items_break (form_view form) 0 items.now)) }
 {
     let item_form = form_of_items(form);
     for (i, item) in items.items.iter().enumerate() {
@@ -191,8 +193,8 @@ fn check_items(alloc: Global, form: Form, items: &Items) -> Result<(), SFault>
 
 #[cycle(forms)]
 fn check_members(alloc: Global, form: Form, members: &Members) -> Result<(), SFault>
-    ensures ok { OnOk result (members_break form members.now ≡ None) }
-    ensures err { IfErr result (IsBreakFault (members_break form members.now)) }
+    ensures ok { OnOk result (members_break (form_view form) members.now ≡ None) }
+    ensures err { IfErr result (IsBreakFault (members_break (form_view form) members.now)) }
 {
     for member in &members.members {
         let name = member.name.as_str();
@@ -211,7 +213,7 @@ fn below_name(alloc: Global, name: &str, fault: SFault) -> SFault
     match fault {
         SFault::KeywordForm(pointer) => match name_and(alloc, name, pointer.as_str()) {
             Ok(pointer) => SFault::KeywordForm(pointer),
-            Err(_refused) => SFault::NoMemory,
+            Err(_) => SFault::NoMemory,
         },
         other => other,
     }
@@ -223,13 +225,13 @@ fn below_index(alloc: Global, index: usize, fault: SFault) -> SFault
     match fault {
         SFault::KeywordForm(pointer) => match index_and(alloc, index as u64, pointer.as_str()) {
             Ok(pointer) => SFault::KeywordForm(pointer),
-            Err(_refused) => SFault::NoMemory,
+            Err(_) => SFault::NoMemory,
         },
         other => other,
     }
 }
 
-fn name_and(alloc: Global, name: &str, pointer: &str) -> Result<String, JFault>
+fn name_and(alloc: Global, name: &str, pointer: &str) -> Result<String, AllocError>
     ensures { IfOk result (λ s. string_bytes s ≡ name_token name.now ++ pointer.now) }
 {
     let mut joined = String::new(alloc);
@@ -238,7 +240,7 @@ fn name_and(alloc: Global, name: &str, pointer: &str) -> Result<String, JFault>
     Ok(joined)
 }
 
-fn index_and(alloc: Global, index: u64, pointer: &str) -> Result<String, JFault>
+fn index_and(alloc: Global, index: u64, pointer: &str) -> Result<String, AllocError>
     ensures { IfOk result (λ s. string_bytes s ≡ index_token index ++ pointer.now) }
 {
     let mut joined = String::new(alloc);

@@ -1,6 +1,6 @@
 // All breaks of the rules at the places of a schema.
 ghost use Rattle.std.specs.Prelude.{◌≡◌, OnOk, IfOk, IfErr};
-ghost use Rattle.jtree.specs.Data.{object, Members as MembersData, IsObject};
+ghost use Rattle.jtree.specs.Data.{object, Members as MembersData, AreMembers};
 ghost use Rattle.schema.specs.Internal.PlaceView.{place_of};
 ghost use Rattle.schema.specs.Internal.Subschemas.{IsSubschema, AreSubschemas};
 ghost use Rattle.schema.specs.Rules.Breaks.{AreViolations};
@@ -14,7 +14,7 @@ use crate::raw::RawSchema;
 use crate::rules::is_broken;
 use crate::violation::{Rule, Violation};
 use jtree::Tree;
-use std::alloc::Global;
+use std::alloc::{AllocError, Global};
 
 /// All breaks of the rules V01 to V09 (apiextensions.k8s.io/v1, "specifying a structural schema"), each once, in path order
 /// of the places and then by the number of the rule. `NoMemory` where an allocation fails. Each place is looked at once.
@@ -26,7 +26,7 @@ pub fn breaks(alloc: Global, raw: &RawSchema) -> Result<Vec<Violation>, SFault>
         Tree::Object(members) => {
             members.reveal_invariant();
             match list_places(alloc, members) {
-                Ok(subschemas) => breaks_of(alloc, subschemas.as_slice()),
+                Ok(subschemas) => Ok(breaks_of(alloc, subschemas.as_slice())?),
                 Err(fault) => Err(fault),
             }
         }
@@ -36,16 +36,12 @@ pub fn breaks(alloc: Global, raw: &RawSchema) -> Result<Vec<Violation>, SFault>
 }
 
 /// All breaks of the rules at these places, in their order and then by number.
-fn breaks_of(alloc: Global, subschemas: &[Subschema<'_>]) -> Result<Vec<Violation>, SFault>
-    ensures ok { IfOk result (λ found. (ms : MembersData) → IsObject ms → AreSubschemas ms subschemas.now → AreViolations (object ms) found.items) }
-    ensures err { IfErr result (λ e. e ≡ NoMemory) }
+fn breaks_of(alloc: Global, subschemas: &[Subschema<'_>]) -> Result<Vec<Violation>, AllocError>
+    ensures { IfOk result (λ found. (ms : MembersData) → AreMembers ms → AreSubschemas ms subschemas.now → AreViolations (object ms) found.items) }
 {
     let mut violations = Vec::new(alloc);
     for subschema in subschemas {
-        match judge(alloc, subschema, &mut violations) {
-            Ok(()) => {}
-            Err(fault) => return Err(fault),
-        }
+        judge(alloc, subschema, &mut violations)?;
     }
     Ok(violations)
 }
@@ -55,9 +51,8 @@ fn judge(
     alloc: Global,
     subschema: &Subschema<'_>,
     violations: &mut Vec<Violation>,
-) -> Result<(), SFault>
-    ensures ok { OnOk result (AreFound (λ raw. IsSubschema raw subschema.now) (pairs_at (place_of subschema.now.place.items) judged) violations.old.items violations.new.items) }
-    ensures err { IfErr result (λ e. e ≡ NoMemory) }
+) -> Result<(), AllocError>
+    ensures { OnOk result (AreFound (λ raw. IsSubschema raw subschema.now) (pairs_at (place_of subschema.now.place.items) judged) violations.old.items violations.new.items) }
 {
     let rules = [
         Rule::V01,
@@ -79,9 +74,8 @@ fn judge_by(
     subschema: &Subschema<'_>,
     rules: &[Rule],
     violations: &mut Vec<Violation>,
-) -> Result<(), SFault>
-    ensures ok { OnOk result (AreFound (λ raw. IsSubschema raw subschema.now) (pairs_at (place_of subschema.now.place.items) rules.now) violations.old.items violations.new.items) }
-    ensures err { IfErr result (λ e. e ≡ NoMemory) }
+) -> Result<(), AllocError>
+    ensures { OnOk result (AreFound (λ raw. IsSubschema raw subschema.now) (pairs_at (place_of subschema.now.place.items) rules.now) violations.old.items violations.new.items) }
 {
     for rule in rules {
         if is_broken(subschema, *rule) {

@@ -4,8 +4,7 @@ ghost use Rattle.jtree.specs.Data.{object};
 ghost use Rattle.schema.specs.Document.Raw.{Has, HasTrue, HasFalse};
 ghost use Rattle.schema.specs.Rules.Kinds.{HasNoType};
 ghost use Rattle.schema.specs.Document.Texts.{is_among};
-ghost use Rattle.schema.specs.Rules.Broken.{HasOneOf, metadata_keywords};
-ghost use Rattle.schema.specs.Internal.RuleParts.{HasOtherKeyword, HasOtherType};
+ghost use Rattle.schema.specs.Rules.Broken.{HasOneOf, metadata_keywords, HasOtherKeyword, HasOtherType};
 
 use jtree::{Members, Tree};
 

@@ -1,6 +1,6 @@
 // Which places of a schema have no node.
-ghost use Rattle.std.specs.Prelude.{◌≡◌, ◌↔◌, [], ◌∷◌, Ok, None, false, IfOk, IfErr, IfSome, IsTrue, string_bytes, codes};
-ghost use Rattle.jtree.specs.Data.{Data, object, Members as MembersData, IsObject};
+ghost use Rattle.std.specs.Prelude.{◌≡◌, ◌↔◌, [], ◌∷◌, Ok, None, false, IfOk, IfSome, IsTrue, string_bytes, codes};
+ghost use Rattle.jtree.specs.Data.{Data, object, Members as MembersData, AreMembers};
 ghost use Rattle.jtree.specs.Path.{Path};
 ghost use Rattle.jtree.specs.PathOrder.{IsFirst};
 ghost use Rattle.jtree.specs.Pointer.{pointer};
@@ -11,30 +11,27 @@ ghost use Rattle.schema.specs.Document.Places.{Place, IsEnvelope};
 ghost use Rattle.schema.specs.Internal.PlaceView.{step_of, place_of};
 ghost use Rattle.schema.specs.Internal.Subschemas.{IsSubschema, AreSubschemas};
 ghost use Rattle.schema.specs.Nodes.Shape.{HasNoNode, LacksNode, LacksNodeAt};
-ghost use Rattle.schema.specs.declared.refused.Refused.TheVariants.{NoMemory};
 
 use crate::fault::SFault;
 use crate::kinds::{Kind, kind_of_members};
 use crate::listing::{Subschema, list_places};
 use crate::places::{Step, is_envelope_name, pointer_of};
 use crate::raw::RawSchema;
-use crate::refused::Refused;
 use crate::rules::is_inside;
 use jtree::{Members, Tree};
-use std::alloc::Global;
+use std::alloc::{AllocError, Global};
 
 /// The pointer (RFC 6901) of the first place in path order that is in no branch and not of the envelope, and has no node.
-pub(crate) fn first_without_node(alloc: Global, raw: &RawSchema) -> Result<Option<String>, Refused>
+pub(crate) fn first_without_node(alloc: Global, raw: &RawSchema) -> Result<Option<String>, AllocError>
     ensures some { IfOk result (λ o. IfSome o (λ s. (path : Path) × (string_bytes s ≡ pointer path) × IsFirst (LacksNodeAt raw.now) path)) }
     ensures none { result ≡ Ok None → (p : Place) → LacksNode raw.now p → ⊥ }
-    ensures err { IfErr result (λ e. e ≡ NoMemory) }
 {
     match raw.tree() {
         Tree::Object(members) => {
             members.reveal_invariant();
             match list_places(alloc, members) {
                 Ok(subschemas) => first_of(alloc, subschemas.as_slice()),
-                Err(SFault::NoMemory) => Err(Refused::NoMemory),
+                Err(SFault::NoMemory) => Err(AllocError),
                 // no limit is passed
                 Err(_) => unreachable!(),
             }
@@ -45,11 +42,10 @@ pub(crate) fn first_without_node(alloc: Global, raw: &RawSchema) -> Result<Optio
 }
 
 /// The pointer of the first of these places that lacks a node.
-fn first_of(alloc: Global, subschemas: &[Subschema<'_>]) -> Result<Option<String>, Refused>
-    ensures some { IfOk result (λ o. IfSome o (λ s. (ms : MembersData) → IsObject ms → AreSubschemas ms subschemas.now
+fn first_of(alloc: Global, subschemas: &[Subschema<'_>]) -> Result<Option<String>, AllocError>
+    ensures some { IfOk result (λ o. IfSome o (λ s. (ms : MembersData) → AreMembers ms → AreSubschemas ms subschemas.now
         → (path : Path) × (string_bytes s ≡ pointer path) × IsFirst (LacksNodeAt (object ms)) path)) }
-    ensures none { result ≡ Ok None → (ms : MembersData) → IsObject ms → AreSubschemas ms subschemas.now → (p : Place) → LacksNode (object ms) p → ⊥ }
-    ensures err { IfErr result (λ e. e ≡ NoMemory) }
+    ensures none { result ≡ Ok None → (ms : MembersData) → AreMembers ms → AreSubschemas ms subschemas.now → (p : Place) → LacksNode (object ms) p → ⊥ }
 {
     for subschema in subschemas {
         if lacks_node(subschema) {

@@ -1,25 +1,23 @@
-// The places of a schema in path order, each visited once, as far as no limit is passed.
+// The places of a schema in path order, each once, as far as no limit is passed.
 ghost use Rattle.std.specs.Prelude.{◌≡◌, ◌↔◌, ◌++◌, suc, List, ◌∷◌, [], Some, None, true, false, map, length, option_map, option_and_then, All, OnOk, IfOk, IfErr, IsTrue};
 ghost use Rattle.jtree.specs.Data.{Data, object, list, item, Items as ItemsData};
 ghost use Rattle.jtree.specs.Path.{member_at};
 ghost use Rattle.jtree.specs.View.{data_of};
-ghost use Rattle.schema.specs.Document.Limits.{size as size_of, IsWithinLimits};
-ghost use Rattle.schema.specs.Internal.Events.{Event, entered, part_of as part_of_keyword, most_of as most_of_keyword, is_past, part_events, member_events, item_events, schema_events, subschemas_of, limit_break, branch as branch_of, properties as properties_part, branches};
-ghost use Rattle.schema.specs.Internal.LimitBreak.{IsLimitRefusal};
-ghost use Rattle.schema.specs.Internal.LimitFault.{IsLimitFaultOf};
+ghost use Rattle.schema.specs.Document.Limits.{size as size_of, IsWithinLimits, most_of as most_of_keyword};
+ghost use Rattle.schema.specs.Internal.Events.{Event, entered, part_of as part_of_keyword, is_past, part_events, member_events, item_events, schema_events, subschemas_of, limit_break, branch as branch_of, properties as properties_part, branches};
+ghost use Rattle.schema.specs.Internal.Faults.{IsLimitRefusal, IsLimitFaultOf};
 ghost use Rattle.schema.specs.Document.Places.{Place, only_object, schema_by};
 ghost use Rattle.schema.specs.Rules.Kinds.{IsIntOrString};
-ghost use Rattle.schema.specs.Rules.Broken.{pattern, holder, typed};
-ghost use Rattle.schema.specs.Internal.Contexts.{HasAnyPattern, HasAllPattern, is_any as is_any_step, is_first_of_all as is_first_of_all_step, outer_by, IsContext, StandsAs};
+ghost use Rattle.schema.specs.Rules.Broken.{pattern, holder, typed, HasAnyPattern, HasAllPattern};
+ghost use Rattle.schema.specs.Internal.Contexts.{is_any as is_any_step, is_first_of_all as is_first_of_all_step, outer_by, IsContext, StandsAs};
 ghost use Rattle.schema.specs.Internal.Subschemas.{IsSubschema, AreSubschemas};
 ghost use Rattle.schema.specs.Internal.PlaceView.{step_of, place_of, junctor_of, part_view, subschema_of};
-ghost use Rattle.schema.specs.declared.fault.SFault.TheVariants.{NoMemory};
 
 use crate::fault::SFault;
 use crate::keywords::has_true;
 use crate::places::{Step, is_junctor, keyword_pointer, pointer_of};
 use jtree::{Items, Members, Tree};
-use std::alloc::Global;
+use std::alloc::{AllocError, Global};
 
 /// The most places of a schema, branches of junctors among them.
 const MOST_PLACES: usize = 512;
@@ -262,9 +260,8 @@ fn object_under<'a>(schema: &'a Members, name: &str) -> Option<&'a Members>
     }
 }
 
-fn below<'a>(alloc: Global, place: &[Step<'a>], step: Step<'a>) -> Result<Vec<Step<'a>>, SFault>
-    ensures ok { IfOk result (λ v. place_of v.items ≡ place_of place.now ++ (step_of step.entry ∷ [])) }
-    ensures err { IfErr result (λ e. e ≡ NoMemory) }
+fn below<'a>(alloc: Global, place: &[Step<'a>], step: Step<'a>) -> Result<Vec<Step<'a>>, AllocError>
+    ensures { IfOk result (λ v. place_of v.items ≡ place_of place.now ++ (step_of step.entry ∷ [])) }
 {
     let mut below = Vec::with_capacity(alloc, place.len() + 1)?;
     below.extend_from_slice(place)?;
@@ -455,9 +452,8 @@ fn list_part<'a>(
     }
 }
 
-fn copied<'a>(alloc: Global, place: &[Step<'a>]) -> Result<Vec<Step<'a>>, SFault>
-    ensures ok { IfOk result (λ v. place_of v.items ≡ place_of place.now) }
-    ensures err { IfErr result (λ e. e ≡ NoMemory) }
+fn copied<'a>(alloc: Global, place: &[Step<'a>]) -> Result<Vec<Step<'a>>, AllocError>
+    ensures { IfOk result (λ v. place_of v.items ≡ place_of place.now) }
 {
     let mut steps = Vec::with_capacity(alloc, place.len())?;
     steps.extend_from_slice(place)?;

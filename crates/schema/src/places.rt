@@ -1,13 +1,11 @@
 // The places of a schema, and their pointers.
 ghost use Rattle.std.specs.Prelude.{◌≡◌, ◌++◌, ◌∷◌, [], OnOk, IfOk, IfErr, string_bytes};
 ghost use Rattle.jtree.specs.Path.{name as name_step, index as index_step};
-ghost use Rattle.jtree.specs.Pointer.{pointer};
-ghost use Rattle.schema.specs.Document.Texts.{is_among};
-ghost use Rattle.schema.specs.Document.Places.{place_path, step_path, is_junctor as is_junctor_of, envelope_names};
+ghost use Rattle.jtree.specs.Pointer.{pointer, name_token, index_token};
+ghost use Rattle.schema.specs.Document.Places.{place_path, step_path, is_junctor as is_junctor_of, is_envelope_name as is_envelope_name_of};
 ghost use Rattle.schema.specs.Internal.PlaceView.{step_of, place_of};
 
-use jtree::{JFault, push_index, push_name};
-use std::alloc::Global;
+use std::alloc::{AllocError, Global};
 
 /// A step from a place of a schema to a place below it.
 #[derive(Clone, Copy, Drop)]
@@ -18,11 +16,11 @@ pub(crate) enum Step<'a> {
     MapValue,
     /// To `items`.
     Items,
-    /// To the entry of `allOf` at this place, counted from 0.
+    /// To the entry of `allOf` at this index, counted from 0.
     AllOf(u64),
-    /// To the entry of `anyOf` at this place.
+    /// To the entry of `anyOf` at this index.
     AnyOf(u64),
-    /// To the entry of `oneOf` at this place.
+    /// To the entry of `oneOf` at this index.
     OneOf(u64),
     /// To `not`.
     Not,
@@ -40,13 +38,13 @@ pub(crate) fn is_junctor(step: Step<'_>) -> bool
 
 /// Whether a property of the root is of the envelope of a resource.
 pub(crate) fn is_envelope_name(name: &str) -> bool
-    ensures { result ≡ is_among name.now envelope_names }
+    ensures { result ≡ is_envelope_name_of name.now }
 {
     name == "apiVersion" || name == "kind" || name == "metadata"
 }
 
 /// The pointer of a place (RFC 6901), counted from the root of the schema.
-pub(crate) fn pointer_of(alloc: Global, place: &[Step<'_>]) -> Result<String, JFault>
+pub(crate) fn pointer_of(alloc: Global, place: &[Step<'_>]) -> Result<String, AllocError>
     ensures { IfOk result (λ s. string_bytes s ≡ pointer (place_path (place_of place.now))) }
 {
     let mut text = String::new(alloc);
@@ -61,7 +59,7 @@ pub(crate) fn keyword_pointer(
     alloc: Global,
     place: &[Step<'_>],
     keyword: &str,
-) -> Result<String, JFault>
+) -> Result<String, AllocError>
     ensures { IfOk result (λ s. string_bytes s ≡ pointer (place_path (place_of place.now) ++ (name_step keyword.now ∷ []))) }
 {
     let mut text = pointer_of(alloc, place)?;
@@ -69,7 +67,7 @@ pub(crate) fn keyword_pointer(
     Ok(text)
 }
 
-fn push_step(text: &mut String, step: Step<'_>) -> Result<(), JFault>
+fn push_step(text: &mut String, step: Step<'_>) -> Result<(), AllocError>
     ensures { OnOk result (string_bytes text.new ≡ string_bytes text.old ++ pointer (step_path (step_of step.entry))) }
 {
     match step {
@@ -86,9 +84,23 @@ fn push_step(text: &mut String, step: Step<'_>) -> Result<(), JFault>
     }
 }
 
-fn push_branch(text: &mut String, keyword: &str, index: u64) -> Result<(), JFault>
+fn push_branch(text: &mut String, keyword: &str, index: u64) -> Result<(), AllocError>
     ensures { OnOk result (string_bytes text.new ≡ string_bytes text.old ++ pointer (name_step keyword.now ∷ index_step index ∷ [])) }
 {
     push_name(text, keyword)?;
     push_index(text, index)
+}
+
+/// As `jtree::push_name`, which fails for memory alone.
+pub(crate) fn push_name(text: &mut String, name: &str) -> Result<(), AllocError>
+    ensures { OnOk result (string_bytes text.new ≡ string_bytes text.old ++ name_token name.now) }
+{
+    jtree::push_name(text, name).map_err(|_| AllocError)
+}
+
+/// As `jtree::push_index`, which fails for memory alone.
+pub(crate) fn push_index(text: &mut String, index: u64) -> Result<(), AllocError>
+    ensures { OnOk result (string_bytes text.new ≡ string_bytes text.old ++ index_token index) }
+{
+    jtree::push_index(text, index).map_err(|_| AllocError)
 }

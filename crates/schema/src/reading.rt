@@ -1,13 +1,11 @@
 // What a keyword of a schema says.
-ghost use Rattle.std.specs.Prelude.{◌≡◌, option_map, IfOk, IfErr};
+ghost use Rattle.std.specs.Prelude.{◌≡◌, option_map, IfOk};
 ghost use Rattle.jtree.specs.View.{data_of};
 ghost use Rattle.schema.specs.Nodes.Keywords.{flag as flag_of, text_under, integer_under, count_under, list_under, texts_under, items_of, texts_of};
-ghost use Rattle.schema.specs.declared.refused.Refused.TheVariants.{NoMemory};
 
 use crate::node::Bounds;
-use crate::refused::Refused;
 use jtree::{Items, Text, Tree};
-use std::alloc::Global;
+use std::alloc::{AllocError, Global};
 
 /// Whether true stands under a keyword.
 pub(crate) fn flag(schema: &Tree, keyword: &str) -> bool
@@ -60,14 +58,20 @@ pub(crate) fn bounds(schema: &Tree, least: &str, most: &str) -> Bounds
     }
 }
 
-/// A copy of the text under a keyword. `NoMemory` where an allocation fails.
+/// As `Tree::copy`, which fails for memory alone.
+pub(crate) fn copy_tree(alloc: Global, tree: &Tree) -> Result<Tree, AllocError>
+    ensures { IfOk result (λ t. t ≡ tree.now) }
+{
+    tree.copy(alloc).map_err(|_| AllocError)
+}
+
+/// A copy of the text under a keyword.
 pub(crate) fn copy_text(
     alloc: Global,
     schema: &Tree,
     keyword: &str,
-) -> Result<Option<Text>, Refused>
-    ensures ok { IfOk result (λ t. t ≡ text_under (data_of schema.now) keyword.now) }
-    ensures err { IfErr result (λ e. e ≡ NoMemory) }
+) -> Result<Option<Text>, AllocError>
+    ensures { IfOk result (λ t. t ≡ text_under (data_of schema.now) keyword.now) }
 {
     match schema.get(keyword) {
         Some(Tree::Text(text)) => Ok(Some(text.copy(alloc)?)),
@@ -75,14 +79,13 @@ pub(crate) fn copy_text(
     }
 }
 
-/// A copy of the list under a keyword. `NoMemory` where an allocation fails.
+/// A copy of the list under a keyword.
 pub(crate) fn copy_list(
     alloc: Global,
     schema: &Tree,
     keyword: &str,
-) -> Result<Option<Items>, Refused>
-    ensures ok { IfOk result (λ t. t ≡ list_under (data_of schema.now) keyword.now) }
-    ensures err { IfErr result (λ e. e ≡ NoMemory) }
+) -> Result<Option<Items>, AllocError>
+    ensures { IfOk result (λ t. t ≡ list_under (data_of schema.now) keyword.now) }
 {
     match schema.get(keyword) {
         Some(tree) => copied_items(alloc, tree),
@@ -90,21 +93,19 @@ pub(crate) fn copy_list(
     }
 }
 
-/// A copy of a list, and `None` for what is no list. `NoMemory` where an allocation fails.
-fn copied_items(alloc: Global, tree: &Tree) -> Result<Option<Items>, Refused>
-    ensures ok { IfOk result (λ t. t ≡ items_of (data_of tree.now)) }
-    ensures err { IfErr result (λ e. e ≡ NoMemory) }
+/// A copy of a list, and `None` for what is no list.
+fn copied_items(alloc: Global, tree: &Tree) -> Result<Option<Items>, AllocError>
+    ensures { IfOk result (λ t. t ≡ items_of (data_of tree.now)) }
 {
-    match tree.copy(alloc)? {
+    match copy_tree(alloc, tree)? {
         Tree::List(items) => Ok(Some(items)),
         _ => Ok(None),
     }
 }
 
-/// Copies of the texts in the list under a keyword. `NoMemory` where an allocation fails.
-pub(crate) fn copy_texts(alloc: Global, schema: &Tree, keyword: &str) -> Result<Vec<Text>, Refused>
-    ensures ok { IfOk result (λ v. v.items ≡ texts_under (data_of schema.now) keyword.now) }
-    ensures err { IfErr result (λ e. e ≡ NoMemory) }
+/// Copies of the texts in the list under a keyword.
+pub(crate) fn copy_texts(alloc: Global, schema: &Tree, keyword: &str) -> Result<Vec<Text>, AllocError>
+    ensures { IfOk result (λ v. v.items ≡ texts_under (data_of schema.now) keyword.now) }
 {
     match schema.get(keyword) {
         Some(Tree::List(items)) => copied_texts(alloc, items),
@@ -112,10 +113,9 @@ pub(crate) fn copy_texts(alloc: Global, schema: &Tree, keyword: &str) -> Result<
     }
 }
 
-/// Copies of the texts in a list. `NoMemory` where an allocation fails.
-fn copied_texts(alloc: Global, items: &Items) -> Result<Vec<Text>, Refused>
-    ensures ok { IfOk result (λ v. v.items ≡ texts_of items.now) }
-    ensures err { IfErr result (λ e. e ≡ NoMemory) }
+/// Copies of the texts in a list.
+fn copied_texts(alloc: Global, items: &Items) -> Result<Vec<Text>, AllocError>
+    ensures { IfOk result (λ v. v.items ≡ texts_of items.now) }
 {
     let mut texts = Vec::new(alloc);
     for item in &items.items {

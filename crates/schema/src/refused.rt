@@ -2,7 +2,6 @@ ghost use Rattle.std.specs.Prelude.{◌≡◌};
 ghost use Rattle.schema.specs.declared.refused.Refused.TheVariants.{NoMemory};
 
 use crate::violation::Violation;
-use jtree::JFault;
 use std::alloc::{AllocError, AllocFailed};
 use thiserror::Error;
 
@@ -18,15 +17,6 @@ pub enum Refused {
     /// An allocation failed.
     #[error("S5")]
     NoMemory,
-}
-
-// A pointer is written, or memory is wanting.
-impl From<JFault> for Refused {
-    ghost from_gives = { λ _ e. e ≡ NoMemory };
-
-    fn from(_refused: JFault) -> Refused {
-        Refused::NoMemory
-    }
 }
 
 impl From<AllocError> for Refused {

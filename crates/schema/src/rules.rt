@@ -1,11 +1,11 @@
 // Which rules a place breaks.
-ghost use Rattle.std.specs.Prelude.{◌≡◌, ◌↔◌, IsTrue};
+ghost use Rattle.std.specs.Prelude.{◌≡◌, ◌↔◌, false, IsTrue};
 ghost use Rattle.jtree.specs.Data.{Data, object};
 ghost use Rattle.schema.specs.Document.Places.{property, is_inside as is_inside_of};
 ghost use Rattle.schema.specs.Internal.PlaceView.{step_of, place_of};
-ghost use Rattle.schema.specs.Rules.Broken.{Broken, metadata, is_field as is_field_of, ends_in_field as ends_in_field_of, HasOneOf, unsupported_keywords};
+ghost use Rattle.schema.specs.Rules.Broken.{Broken, metadata, is_field as is_field_of, ends_in_field as ends_in_field_of, HasOneOf, unsupported_keywords, metadata_names, LacksType, HasBothTypes};
 ghost use Rattle.schema.specs.Document.Texts.{is_among};
-ghost use Rattle.schema.specs.Internal.RuleParts.{metadata_names, IsOtherName, IsOtherField, LacksType, IsUnspecified, HasOutsideKeyword, Restricts, HasBothTypes};
+ghost use Rattle.schema.specs.Internal.RuleParts.{IsOtherName, IsOtherField, IsUnspecified, HasOutsideKeyword, Restricts};
 ghost use Rattle.schema.specs.Internal.Subschemas.{IsSubschema};
 
 use crate::keywords::{
@@ -36,7 +36,7 @@ pub(crate) fn is_broken(subschema: &Subschema<'_>, rule: Rule) -> bool
 
 /// V01: an outside place has no type, and neither is int-or-string nor accepts every value.
 fn lacks_type(subschema: &Subschema<'_>) -> bool
-    ensures { IsTrue result ↔ LacksType (place_of subschema.now.place.items) (object subschema.now.schema.now) }
+    ensures { IsTrue result ↔ ((is_inside_of (place_of subschema.now.place.items) ≡ false) × LacksType (object subschema.now.schema.now)) }
 {
     !is_inside(subschema.place.as_slice())
         && has_no_type(subschema.schema)
@@ -94,7 +94,7 @@ fn has_unsupported_keyword(subschema: &Subschema<'_>) -> bool
 
 /// V09: an outside place that is int-or-string has a type.
 fn has_both_types(subschema: &Subschema<'_>) -> bool
-    ensures { IsTrue result ↔ HasBothTypes (place_of subschema.now.place.items) (object subschema.now.schema.now) }
+    ensures { IsTrue result ↔ ((is_inside_of (place_of subschema.now.place.items) ≡ false) × HasBothTypes (object subschema.now.schema.now)) }
 {
     !is_inside(subschema.place.as_slice())
         && has_true(subschema.schema, "x-kubernetes-int-or-string")

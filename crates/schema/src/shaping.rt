@@ -11,7 +11,6 @@ ghost use Rattle.schema.specs.Nodes.Keywords.{text_under, texts_of, texts_under}
 ghost use Rattle.schema.specs.Nodes.View.{node_of, sort_of, object_of, map_of, list_of};
 ghost use Rattle.schema.specs.Nodes.Shape.{IsNodeOf, IsSortOf, AreFieldsOf, LacksNode, IsShapeRefusal, is_declared as is_declared_of, declared_of, list_type_named, map_type_named};
 ghost use Rattle.schema.specs.Internal.Building.{HasNodes, HaveNodes, IsFieldOf};
-ghost use Rattle.schema.specs.declared.refused.Refused.TheVariants.{NoMemory};
 
 use crate::judging::breaks;
 use crate::kinds::{Kind, kind_of};
@@ -21,12 +20,12 @@ use crate::node::{
 };
 use crate::places::is_envelope_name;
 use crate::raw::RawSchema;
-use crate::reading::{bounds, copy_text, copy_texts, flag, text};
+use crate::reading::{bounds, copy_text, copy_texts, copy_tree, flag, text};
 use crate::refused::Refused;
 use crate::shaped::Shape;
 use crate::validations::read_validations;
 use jtree::{Items, Member, Members, Tree};
-use std::alloc::Global;
+use std::alloc::{AllocError, Global};
 
 /// The nodes of a schema that breaks none of the rules V01 to V09 (apiextensions.k8s.io/v1, "specifying a structural
 /// schema"): one for each place that is in no branch of a junctor and not of the envelope, of its kind and with its
@@ -49,23 +48,17 @@ pub fn shape(alloc: Global, raw: &RawSchema) -> Result<Shape, Refused>
     if !violations.as_slice().is_empty() {
         return Err(Refused::Violations(violations));
     }
-    match first_without_node(alloc, raw) {
-        Ok(None) => {}
-        Ok(Some(pointer)) => return Err(Refused::NotYet(pointer)),
-        Err(refused) => return Err(refused),
+    if let Some(pointer) = first_without_node(alloc, raw)? {
+        return Err(Refused::NotYet(pointer));
     }
-    match read_node(alloc, raw.tree(), true) {
-        Ok(root) => Ok(Shape::new(root)),
-        Err(refused) => Err(refused),
-    }
+    Ok(Shape::new(read_node(alloc, raw.tree(), true)?))
 }
 
 /// The node of a schema, at the root of the whole or below it.
 #[cycle(read)]
-fn read_node(alloc: Global, schema: &Tree, root: bool) -> Result<Node, Refused>
+fn read_node(alloc: Global, schema: &Tree, root: bool) -> Result<Node, AllocError>
     requires { HasNodes root (data_of schema.now) }
-    ensures node { IfOk result (λ n. IsNodeOf root (node_of n) (data_of schema.now)) }
-    ensures err { IfErr result (λ e. e ≡ NoMemory) }
+    ensures { IfOk result (λ n. IsNodeOf root (node_of n) (data_of schema.now)) }
 {
     let sort = read_sort(alloc, schema, root)?;
     let description = copy_text(alloc, schema, "description")?;
@@ -78,10 +71,9 @@ fn read_node(alloc: Global, schema: &Tree, root: bool) -> Result<Node, Refused>
 
 /// What the node of a schema accepts besides null.
 #[cycle(read)]
-fn read_sort(alloc: Global, schema: &Tree, root: bool) -> Result<Sort, Refused>
+fn read_sort(alloc: Global, schema: &Tree, root: bool) -> Result<Sort, AllocError>
     requires { HasNodes root (data_of schema.now) }
-    ensures sort { IfOk result (λ s. IsSortOf root (sort_of s) (data_of schema.now)) }
-    ensures err { IfErr result (λ e. e ≡ NoMemory) }
+    ensures { IfOk result (λ s. IsSortOf root (sort_of s) (data_of schema.now)) }
 {
     match kind_of(schema) {
         Some(Kind::Scalar(kind)) => {
@@ -97,11 +89,10 @@ fn read_sort(alloc: Global, schema: &Tree, root: bool) -> Result<Sort, Refused>
 }
 
 #[cycle(read)]
-fn read_object(alloc: Global, schema: &Tree, root: bool) -> Result<ObjectNode, Refused>
+fn read_object(alloc: Global, schema: &Tree, root: bool) -> Result<ObjectNode, AllocError>
     requires nodes { HasNodes root (data_of schema.now) }
     requires kind { IsOfKind (data_of schema.now) object_kind }
-    ensures node { IfOk result (λ n. IsSortOf root (object_of n) (data_of schema.now)) }
-    ensures err { IfErr result (λ e. e ≡ NoMemory) }
+    ensures { IfOk result (λ n. IsSortOf root (object_of n) (data_of schema.now)) }
 {
     let fields = match schema.get("properties") {
         Some(Tree::Object(properties)) => read_fields(alloc, schema, properties, root)?,
@@ -118,11 +109,10 @@ fn read_object(alloc: Global, schema: &Tree, root: bool) -> Result<ObjectNode, R
 }
 
 #[cycle(read)]
-fn read_map(alloc: Global, schema: &Tree, root: bool) -> Result<MapNode, Refused>
+fn read_map(alloc: Global, schema: &Tree, root: bool) -> Result<MapNode, AllocError>
     requires nodes { HasNodes root (data_of schema.now) }
     requires kind { IsOfKind (data_of schema.now) map_kind }
-    ensures node { IfOk result (λ n. IsSortOf root (map_of n) (data_of schema.now)) }
-    ensures err { IfErr result (λ e. e ≡ NoMemory) }
+    ensures { IfOk result (λ n. IsSortOf root (map_of n) (data_of schema.now)) }
 {
     match schema.get("additionalProperties") {
         Some(below) => Ok(MapNode {
@@ -135,11 +125,10 @@ fn read_map(alloc: Global, schema: &Tree, root: bool) -> Result<MapNode, Refused
 }
 
 #[cycle(read)]
-fn read_list(alloc: Global, schema: &Tree, root: bool) -> Result<ListNode, Refused>
+fn read_list(alloc: Global, schema: &Tree, root: bool) -> Result<ListNode, AllocError>
     requires nodes { HasNodes root (data_of schema.now) }
     requires kind { IsOfKind (data_of schema.now) list_kind }
-    ensures node { IfOk result (λ n. IsSortOf root (list_of n) (data_of schema.now)) }
-    ensures err { IfErr result (λ e. e ≡ NoMemory) }
+    ensures { IfOk result (λ n. IsSortOf root (list_of n) (data_of schema.now)) }
 {
     match schema.get("items") {
         Some(below) => Ok(ListNode {
@@ -154,10 +143,9 @@ fn read_list(alloc: Global, schema: &Tree, root: bool) -> Result<ListNode, Refus
 
 /// The node of the items of a list, or of the values of a map.
 #[cycle(read)]
-fn read_below(alloc: Global, schema: &Tree) -> Result<Below, Refused>
+fn read_below(alloc: Global, schema: &Tree) -> Result<Below, AllocError>
     requires { HasNodes false (data_of schema.now) }
-    ensures node { IfOk result (λ b. IsNodeOf false b (data_of schema.now)) }
-    ensures err { IfErr result (λ e. e ≡ NoMemory) }
+    ensures { IfOk result (λ b. IsNodeOf false b (data_of schema.now)) }
 {
     let node = read_node(alloc, schema, false)?;
     node.reveal_invariant();
@@ -173,10 +161,9 @@ fn read_fields(
     schema: &Tree,
     properties: &Members,
     root: bool,
-) -> Result<Fields, Refused>
+) -> Result<Fields, AllocError>
     requires { HaveNodes root properties.now }
-    ensures fields { IfOk result (λ fs. AreFieldsOf fs (texts_under (data_of schema.now) (codes "required")) (declared_of root properties.now)) }
-    ensures err { IfErr result (λ e. e ≡ NoMemory) }
+    ensures { IfOk result (λ fs. AreFieldsOf fs (texts_under (data_of schema.now) (codes "required")) (declared_of root properties.now)) }
 {
     properties.reveal_invariant();
     let mut fields = Vec::new(alloc);
@@ -193,10 +180,9 @@ fn read_fields(
 
 /// The field of a property.
 #[cycle(read)]
-fn read_field(alloc: Global, schema: &Tree, property: &Member) -> Result<Field, Refused>
+fn read_field(alloc: Global, schema: &Tree, property: &Member) -> Result<Field, AllocError>
     requires { HasNodes false (data_of property.now.tree) }
-    ensures field { IfOk result (λ f. IsFieldOf f (data_of schema.now) property.now) }
-    ensures err { IfErr result (λ e. e ≡ NoMemory) }
+    ensures { IfOk result (λ f. IsFieldOf f (data_of schema.now) property.now) }
 {
     let name = property.name.copy(alloc)?;
     let node = read_node(alloc, &property.tree, false)?;
@@ -251,12 +237,11 @@ fn is_text(tree: &Tree, name: &str) -> bool
 }
 
 /// An equal default of a property, where it has one.
-fn copy_default(alloc: Global, property: &Tree) -> Result<Option<Tree>, Refused>
-    ensures ok { IfOk result (λ o. option_map data_of o ≡ under (data_of property.now) (codes "default")) }
-    ensures err { IfErr result (λ e. e ≡ NoMemory) }
+fn copy_default(alloc: Global, property: &Tree) -> Result<Option<Tree>, AllocError>
+    ensures { IfOk result (λ o. option_map data_of o ≡ under (data_of property.now) (codes "default")) }
 {
     match property.get("default") {
-        Some(tree) => Ok(Some(tree.copy(alloc)?)),
+        Some(tree) => Ok(Some(copy_tree(alloc, tree)?)),
         None => Ok(None),
     }
 }

@@ -1,23 +1,20 @@
 // What is asked of a scalar besides its kind.
-ghost use Rattle.std.specs.Prelude.{◌≡◌, codes, IfOk, IfErr};
+ghost use Rattle.std.specs.Prelude.{◌≡◌, codes, IfOk};
 ghost use Rattle.jtree.specs.Path.{under};
 ghost use Rattle.jtree.specs.View.{data_of};
 ghost use Rattle.schema.specs.Nodes.Validations.{AreConstraintsOf, AreValidationsOf, AreBranchesOf, one_item};
 ghost use Rattle.schema.specs.Nodes.View.{validations_of};
 ghost use Rattle.schema.specs.Nodes.Keywords.{items_under};
-ghost use Rattle.schema.specs.declared.refused.Refused.TheVariants.{NoMemory};
 
 use crate::node::{Branches, Constraints, Validations};
 use crate::reading::{bounds, copy_list, flag, integer};
-use crate::refused::Refused;
 use jtree::{Items, Tree};
-use std::alloc::Global;
+use std::alloc::{AllocError, Global};
 
-/// The validations of a schema, as its keywords stand there. `NoMemory` where an allocation fails.
+/// The validations of a schema, as its keywords stand there.
 #[cycle(validations)]
-pub(crate) fn read_validations(alloc: Global, schema: &Tree) -> Result<Validations, Refused>
-    ensures ok { IfOk result (λ c. AreValidationsOf (validations_of c) (data_of schema.now)) }
-    ensures err { IfErr result (λ e. e ≡ NoMemory) }
+pub(crate) fn read_validations(alloc: Global, schema: &Tree) -> Result<Validations, AllocError>
+    ensures { IfOk result (λ c. AreValidationsOf (validations_of c) (data_of schema.now)) }
 {
     let constraints = read_constraints(alloc, schema)?;
     let all_of = read_junctor(alloc, schema, "allOf")?;
@@ -33,10 +30,9 @@ pub(crate) fn read_validations(alloc: Global, schema: &Tree) -> Result<Validatio
     })
 }
 
-/// The constraints of a schema. `NoMemory` where an allocation fails.
-fn read_constraints(alloc: Global, schema: &Tree) -> Result<Constraints, Refused>
-    ensures ok { IfOk result (λ t. AreConstraintsOf t (data_of schema.now)) }
-    ensures err { IfErr result (λ e. e ≡ NoMemory) }
+/// The constraints of a schema.
+fn read_constraints(alloc: Global, schema: &Tree) -> Result<Constraints, AllocError>
+    ensures { IfOk result (λ t. AreConstraintsOf t (data_of schema.now)) }
 {
     Ok(Constraints {
         choices: copy_list(alloc, schema, "enum")?,
@@ -48,11 +44,10 @@ fn read_constraints(alloc: Global, schema: &Tree) -> Result<Constraints, Refused
     })
 }
 
-/// The branches in the list under a keyword. `NoMemory` where an allocation fails.
+/// The branches in the list under a keyword.
 #[cycle(validations)]
-fn read_junctor(alloc: Global, schema: &Tree, keyword: &str) -> Result<Branches, Refused>
-    ensures ok { IfOk result (λ b. AreBranchesOf b (items_under (data_of schema.now) keyword.now)) }
-    ensures err { IfErr result (λ e. e ≡ NoMemory) }
+fn read_junctor(alloc: Global, schema: &Tree, keyword: &str) -> Result<Branches, AllocError>
+    ensures { IfOk result (λ b. AreBranchesOf b (items_under (data_of schema.now) keyword.now)) }
 {
     match schema.get(keyword) {
         Some(Tree::List(items)) => read_branches(alloc, items),
@@ -62,11 +57,10 @@ fn read_junctor(alloc: Global, schema: &Tree, keyword: &str) -> Result<Branches,
     }
 }
 
-/// A branch for each schema of a list. `NoMemory` where an allocation fails.
+/// A branch for each schema of a list.
 #[cycle(validations)]
-fn read_branches(alloc: Global, items: &Items) -> Result<Branches, Refused>
-    ensures ok { IfOk result (λ b. AreBranchesOf b items.now) }
-    ensures err { IfErr result (λ e. e ≡ NoMemory) }
+fn read_branches(alloc: Global, items: &Items) -> Result<Branches, AllocError>
+    ensures { IfOk result (λ b. AreBranchesOf b items.now) }
 {
     let mut branches = Vec::with_capacity(alloc, items.items.len())?;
     for item in &items.items {
@@ -75,11 +69,10 @@ fn read_branches(alloc: Global, items: &Items) -> Result<Branches, Refused>
     Ok(Branches { branches })
 }
 
-/// The branch of `not`, where it is there. `NoMemory` where an allocation fails.
+/// The branch of `not`, where it is there.
 #[cycle(validations)]
-fn read_negated(alloc: Global, schema: &Tree) -> Result<Branches, Refused>
-    ensures ok { IfOk result (λ b. AreBranchesOf b (one_item (under (data_of schema.now) (codes "not")))) }
-    ensures err { IfErr result (λ e. e ≡ NoMemory) }
+fn read_negated(alloc: Global, schema: &Tree) -> Result<Branches, AllocError>
+    ensures { IfOk result (λ b. AreBranchesOf b (one_item (under (data_of schema.now) (codes "not")))) }
 {
     let mut branches = Vec::new(alloc);
     if let Some(negated) = schema.get("not") {

@@ -1,7 +1,9 @@
 // The versions of a CustomResourceDefinition by their names.
 ghost use Rattle.std.specs.Prelude.{◌≡◌, option_map, OnOk, IfOk, IfErr};
 ghost use Rattle.jtree.specs.View.{data_of};
-ghost use Rattle.schema.specs.Internal.Versions.{AreVersions, IsSelected, IsVersionsFault};
+ghost use Rattle.schema.specs.Internal.Faults.{IsVersionsFault};
+ghost use Rattle.schema.specs.Document.Crd.{AreVersions};
+ghost use Rattle.schema.specs.Internal.Versions.{IsSelected};
 
 use crate::fault::SFault;
 use jtree::{Items, Tree};

@@ -6,14 +6,12 @@ use Rattle.jtree.specs.Data.{Data, null, boolean, integer, text, list, object, I
 use base.Stored.{Gv, gnil, gnum, gcons}
 
 abbrev pub head : Gv → Gv
-head gnil = gnil
-head (gnum n) = gnil
 head (gcons a b) = a
+head _ = gnil
 
 abbrev pub tail : Gv → Gv
-tail gnil = gnil
-tail (gnum n) = gnil
 tail (gcons a b) = b
+tail _ = gnil
 
 abbrev pub coded_bytes : Coded (List ℕ)
 coded_bytes = coded_list coded_ℕ

@@ -6,7 +6,7 @@ use Rattle.std.specs.declared.cmp.Ordering.{Ordering}
 use Rattle.std.proofs.lemmas.Slice.Eq.{bytes_eq-Decides}
 use Rattle.std.proofs.lemmas.Cmp.{nat_list_cmp_total, tied_itself}
 use Rattle.std.proofs.lemmas.Option.{option_and_then_some, same_Some}
-use Rattle.jtree.specs.Data.{Data, Members, no_members, member, IsBefore, IsObject}
+use Rattle.jtree.specs.Data.{Data, Members, no_members, member, IsNameBefore, AreMembers}
 use Rattle.jtree.specs.Path.{Path, member_at, part_by, part_at}
 use Rattle.jtree.specs.Order.{text_cmp}
 
@@ -58,27 +58,27 @@ member_first k d ms = rw own_name refl
 pub member_later : (k l : List ℕ) (d : Data) (ms : Members) → bytes_eq k l ≡ false → member_at k (member l d ms) ≡ member_at k ms
 member_later k l d ms other = rw other refl
 
-pub IsBefore-trans : (k l : List ℕ) (ms : Members) → text_cmp k l ≡ Less → IsBefore l ms → IsBefore k ms
-IsBefore-trans k l no_members kl h = tt
-IsBefore-trans k l (member m d ms) kl h = nat_list_cmp_total.trans k l m kl h
+pub IsNameBefore-trans : (k l : List ℕ) (ms : Members) → text_cmp k l ≡ Less → IsNameBefore l ms → IsNameBefore k ms
+IsNameBefore-trans k l no_members kl h = tt
+IsNameBefore-trans k l (member m d ms) kl h = nat_list_cmp_total.trans k l m kl h
 
 -- a name before all members is before each of them
-pub before_each : (k : List ℕ) (ms : Members) (l : List ℕ) (d : Data) → IsBefore k ms → IsObject ms → member_at l ms ≡ Some d → text_cmp k l ≡ Less
+pub before_each : (k : List ℕ) (ms : Members) (l : List ℕ) (d : Data) → IsNameBefore k ms → AreMembers ms → member_at l ms ≡ Some d → text_cmp k l ≡ Less
 before_each k no_members l d before object found = cc
 before_each k (member m e ms) l d before object found = elim (bool_cases (bytes_eq l m)) [
   | inl t ↦ subst (λ n. text_cmp k n ≡ Less) (sym (same_name l m t)) before
-  | inr f ↦ before_each k ms l d (IsBefore-trans k m ms before object.1) object.2 (sym (member_later l m e ms f) ∙ found)
+  | inr f ↦ before_each k ms l d (IsNameBefore-trans k m ms before object.1) object.2 (sym (member_later l m e ms f) ∙ found)
 ]
 
 -- and is no name of them
-pub before_none : (k : List ℕ) (ms : Members) → IsBefore k ms → IsObject ms → member_at k ms ≡ None
+pub before_none : (k : List ℕ) (ms : Members) → IsNameBefore k ms → AreMembers ms → member_at k ms ≡ None
 before_none k ms before object = elim (option_cases (member_at k ms)) [
   | inl none ↦ none
   | inr found ↦ absurd (not_itself k k refl (before_each k ms k found.0 before object found.1))
 ]
 
 -- what stands under a name further on stands under it in the whole
-pub member_tail : (l : List ℕ) (e : Data) (ms : Members) (k : List ℕ) (d : Data) → IsObject (member l e ms) → member_at k ms ≡ Some d → member_at k (member l e ms) ≡ Some d
+pub member_tail : (l : List ℕ) (e : Data) (ms : Members) (k : List ℕ) (d : Data) → AreMembers (member l e ms) → member_at k ms ≡ Some d → member_at k (member l e ms) ≡ Some d
 member_tail l e ms k d object found = member_later k l e ms (later_name k l (before_each l ms k d object.1 object.2 found)) ∙ found
 
 -- the part at a path joined of two

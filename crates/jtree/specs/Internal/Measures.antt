@@ -10,12 +10,8 @@ use Rattle.jtree.specs.declared.value.Items.TheDeep.{deep-Tree, deep-Member}
 use denote.Param.Weighed.{most}
 
 tree_decreases : (t : Tree) → deep-Tree t ≤ depth (data_of t)
-tree_decreases tree.Null = omega arith
-tree_decreases (tree.Bool b) = omega arith
-tree_decreases (tree.Int z) = omega arith
-tree_decreases (tree.Text s) = omega arith
 tree_decreases (tree.List ds) = omega arith
-tree_decreases (tree.Object ms) = omega arith
+tree_decreases _ = omega arith
 
 pub items_decrease : (ts : List Tree) → max (most (λ t. deep-Tree t) ts) 0 ≤ items_depth (items_of ts)
 items_decrease [] = omega arith

@@ -35,33 +35,26 @@ name_total = back_total text_total
 
 pub text_same : (a b : List ℕ) → text_cmp a b ≡ Equal → a ≡ b
 text_same [] [] p = refl
-text_same [] (y ∷ ys) p = cc
-text_same (x ∷ xs) [] p = cc
 text_same (x ∷ xs) (y ∷ ys) p =
     let h = then_equal (nat_cmp x y) (text_cmp xs ys) p in
     let e : x ≡ y = nat_tied x y h.0 in
     let r : xs ≡ ys = text_same xs ys h.1 in
     cc
+text_same _ _ p = cc
 
 bool_same : (a b : Bool) → bool_cmp a b ≡ Equal → a ≡ b
 bool_same true true p = refl
-bool_same true false p = cc
-bool_same false true p = cc
 bool_same false false p = refl
+bool_same _ _ p = cc
 
 -- ---- turned round
 
 then_turn : (a b c d : Ordering) → a ≡ ordering_reverse c → (a ≡ Equal → b ≡ ordering_reverse d)
     → ordering_then a b ≡ ordering_reverse (ordering_then c d)
-then_turn Less b Less d p q = cc
-then_turn Less b Equal d p q = cc
 then_turn Less b Greater d p q = refl
-then_turn Equal b Less d p q = cc
 then_turn Equal b Equal d p q = q refl
-then_turn Equal b Greater d p q = cc
 then_turn Greater b Less d p q = refl
-then_turn Greater b Equal d p q = cc
-then_turn Greater b Greater d p q = cc
+then_turn _ b _ d p q = cc
 
 ranked_turn : (u v : Data) → (kind u ≡ kind v → content_cmp u v ≡ ordering_reverse (content_cmp v u))
     → tree_cmp u v ≡ ordering_reverse (tree_cmp v u)
@@ -213,18 +206,15 @@ mutual
 
   pub items_same : (ds es : Items) → items_cmp ds es ≡ Equal → ds ≡ es
   items_same no_items no_items p = refl
-  items_same no_items (item e es) p = cc
-  items_same (item d ds) no_items p = cc
   items_same (item d ds) (item e es) p =
       let h = then_equal (tree_cmp d e) (items_cmp ds es) p in
       let q : d ≡ e = ranked_same d e (content_same d e) h.0 in
       let r : ds ≡ es = items_same ds es h.1 in
       λ i. item (q i) (r i)
+  items_same _ _ p = cc
 
   pub members_same : (ms ns : Members) → members_cmp ms ns ≡ Equal → ms ≡ ns
   members_same no_members no_members p = refl
-  members_same no_members (member l e ns) p = cc
-  members_same (member k d ms) no_members p = cc
   members_same (member k d ms) (member l e ns) p =
       let h = then_equal (text_cmp l k) (ordering_then (tree_cmp d e) (members_cmp ms ns)) p in
       let j = then_equal (tree_cmp d e) (members_cmp ms ns) h.1 in
@@ -232,6 +222,7 @@ mutual
       let q : d ≡ e = ranked_same d e (content_same d e) j.0 in
       let r : ms ≡ ns = members_same ms ns j.1 in
       λ i. member (sym o i) (q i) (r i)
+  members_same _ _ p = cc
 
 pub tree_same : (u v : Data) → tree_cmp u v ≡ Equal → u ≡ v
 tree_same u v = ranked_same u v (content_same u v)

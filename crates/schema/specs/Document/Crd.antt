@@ -8,18 +8,29 @@ use Rattle.schema.specs.Document.Raw.{IsObject}
 abbrev pub IsNamed : Data → List ℕ → Type 0
 IsNamed version s = under version (codes "name") ≡ Some (text s)
 
--- the document is a CustomResourceDefinition with this group, this kind and these versions
-pub record IsCrd (d : Data) (group kind : List ℕ) (versions : Items) : Type 0 where
-  pub api_version : under d (codes "apiVersion") ≡ Some (text (codes "apiextensions.k8s.io/v1"))
-  pub document_kind : under d (codes "kind") ≡ Some (text (codes "CustomResourceDefinition"))
+-- the document says that it is a CustomResourceDefinition
+abbrev pub HasHeader : Data → Type 0
+HasHeader d = (under d (codes "apiVersion") ≡ Some (text (codes "apiextensions.k8s.io/v1")))
+    × (under d (codes "kind") ≡ Some (text (codes "CustomResourceDefinition")))
+
+-- a CustomResourceDefinition but for what its versions are
+pub record IsHead (d : Data) (group kind : List ℕ) (versions : Items) : Type 0 where
+  pub header : HasHeader d
   pub group_is : under2 d (codes "spec") (codes "group") ≡ Some (text group)
   pub group_given : group ≢ []
   pub kind_is : under3 d (codes "spec") (codes "names") (codes "kind") ≡ Some (text kind)
   pub kind_given : kind ≢ []
   pub versions_are : under2 d (codes "spec") (codes "versions") ≡ Some (list versions)
-  -- each version is an object with a text `name`, and no name stands twice
+
+-- each version is an object with a text `name`, and no name stands twice
+pub record AreVersions (versions : Items) : Type 0 where
   pub named : (i : ℕ) (v : Data) → item_at i versions ≡ Some v → (s : List ℕ) × IsNamed v s
   pub distinct : (i j : ℕ) (v w : Data) (s : List ℕ) → item_at i versions ≡ Some v → item_at j versions ≡ Some w → IsNamed v s → IsNamed w s → i ≡ j
+
+-- the document is a CustomResourceDefinition with this group, this kind and these versions
+pub record IsCrd (d : Data) (group kind : List ℕ) (versions : Items) : Type 0 where
+  pub head : IsHead d group kind versions
+  pub versions_are : AreVersions versions
 
 -- v is the version of this name
 abbrev pub IsVersion : Items → List ℕ → Data → Type 0

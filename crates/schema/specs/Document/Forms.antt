@@ -2,14 +2,29 @@
 -- any other name may hold any tree.
 use Rattle.std.specs.Prelude.{◌≡◌, ℕ, pos, List, [], ◌∷◌, Bool, true, false, Some, if◌then◌else◌, int_le, ◌||◌, codes}
 use Rattle.std.specs.Str.{bytes_eq}
-use Rattle.jtree.specs.Data.{Data, Items, no_items, item}
+use Rattle.jtree.specs.Data.{Data, item}
 use Rattle.jtree.specs.Data as tree
 use Rattle.jtree.specs.Kind.{is_boolean, is_integer, is_text, is_list, is_object}
 use Rattle.jtree.specs.Path.{Step, name, index, Path, part_at}
 use Rattle.jtree.specs.PathOrder.{IsFirst}
 use Rattle.schema.specs.Document.Texts.{is_among}
-use Rattle.schema.specs.declared.forms.Form.{Form}
-use Rattle.schema.specs.declared.forms.Form.TheVariants.{AnyTree, Text, TruthValue, ObjectOfObjects, TruthValueOrObject, Object, SomeObjects, Texts, List as ListForm, Integer, Count}
+
+pub data Form : Type 0 where
+  any_tree : Form
+  text : Form
+  truth_value : Form
+  -- an object, each of whose members is an object
+  object_of_objects : Form
+  truth_value_or_object : Form
+  object : Form
+  -- a list of at least one object, with nothing else in it
+  some_objects : Form
+  -- a list of texts
+  texts : Form
+  list : Form
+  integer : Form
+  -- an integer, 0 or more
+  count : Form
 
 abbrev pub text_keywords : List (List ℕ)
 text_keywords = codes "type" ∷ codes "description" ∷ codes "title" ∷ codes "format" ∷ codes "x-kubernetes-list-type" ∷ codes "x-kubernetes-map-type" ∷ []
@@ -36,60 +51,51 @@ count_keywords = codes "minLength" ∷ codes "maxLength" ∷ codes "minItems" �
 -- the form of a keyword
 abbrev pub form_of : List ℕ → Form
 form_of k =
-    if is_among k text_keywords then Text else
-    if is_among k truth_value_keywords then TruthValue else
-    if bytes_eq k (codes "properties") then ObjectOfObjects else
-    if bytes_eq k (codes "additionalProperties") then TruthValueOrObject else
-    if is_among k object_keywords then Object else
-    if is_among k some_objects_keywords then SomeObjects else
-    if is_among k texts_keywords then Texts else
-    if bytes_eq k (codes "enum") then ListForm else
-    if is_among k integer_keywords then Integer else
-    if is_among k count_keywords then Count else AnyTree
+    if is_among k text_keywords then text else
+    if is_among k truth_value_keywords then truth_value else
+    if bytes_eq k (codes "properties") then object_of_objects else
+    if bytes_eq k (codes "additionalProperties") then truth_value_or_object else
+    if is_among k object_keywords then object else
+    if is_among k some_objects_keywords then some_objects else
+    if is_among k texts_keywords then texts else
+    if bytes_eq k (codes "enum") then list else
+    if is_among k integer_keywords then integer else
+    if is_among k count_keywords then count else any_tree
 
 -- the form of what a step leads to, from a value that has to have a form: an object is a schema, with its keywords
 abbrev pub form_below : Form → Step → Form
-form_below Object (name k) = form_of k
-form_below TruthValueOrObject (name k) = form_of k
-form_below ObjectOfObjects (name k) = Object
-form_below SomeObjects (index i) = Object
-form_below Texts (index i) = Text
-form_below f s = AnyTree
+form_below object (name k) = form_of k
+form_below truth_value_or_object (name k) = form_of k
+form_below object_of_objects (name k) = object
+form_below some_objects (index i) = object
+form_below texts (index i) = text
+form_below f s = any_tree
 
 abbrev pub form_at : Form → Path → Form
 form_at f [] = f
 form_at f (s ∷ path) = form_at (form_below f s) path
 
 abbrev pub is_some_list : Data → Bool
-is_some_list tree.null = false
-is_some_list (tree.boolean b) = false
-is_some_list (tree.integer z) = false
-is_some_list (tree.text s) = false
-is_some_list (tree.list no_items) = false
 is_some_list (tree.list (item d ds)) = true
-is_some_list (tree.object ms) = false
+is_some_list _ = false
 
 abbrev pub is_count : Data → Bool
-is_count tree.null = false
-is_count (tree.boolean b) = false
 is_count (tree.integer z) = int_le (pos 0) z
-is_count (tree.text s) = false
-is_count (tree.list ds) = false
-is_count (tree.object ms) = false
+is_count _ = false
 
 -- the value itself has the form, whatever its parts are
 abbrev pub has_form : Form → Data → Bool
-has_form AnyTree d = true
-has_form Text d = is_text d
-has_form TruthValue d = is_boolean d
-has_form ObjectOfObjects d = is_object d
-has_form TruthValueOrObject d = is_boolean d || is_object d
-has_form Object d = is_object d
-has_form SomeObjects d = is_some_list d
-has_form Texts d = is_list d
-has_form ListForm d = is_list d
-has_form Integer d = is_integer d
-has_form Count d = is_count d
+has_form any_tree d = true
+has_form text d = is_text d
+has_form truth_value d = is_boolean d
+has_form object_of_objects d = is_object d
+has_form truth_value_or_object d = is_boolean d || is_object d
+has_form object d = is_object d
+has_form some_objects d = is_some_list d
+has_form texts d = is_list d
+has_form list d = is_list d
+has_form integer d = is_integer d
+has_form count d = is_count d
 
 -- what stands at the path, in a value that has to have a form, has not the form that it has to have there
 abbrev pub BreaksForm : Form → Data → Path → Type 0
@@ -97,8 +103,8 @@ BreaksForm f d path = (v : Data) × (part_at d path ≡ Some v) × (has_form (fo
 
 -- each keyword of each place of a schema has its form, inside branches and outside
 abbrev pub HasForms : Data → Type 0
-HasForms raw = (path : Path) → BreaksForm Object raw path → ⊥
+HasForms raw = (path : Path) → BreaksForm object raw path → ⊥
 
 -- the first value in path order that has not its form
 abbrev pub IsFormFault : Data → Path → Type 0
-IsFormFault raw path = IsFirst (BreaksForm Object raw) path
+IsFormFault raw path = IsFirst (BreaksForm object raw) path

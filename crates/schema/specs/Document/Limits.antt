@@ -1,6 +1,7 @@
 -- The limits of a schema (this project's own): 512 places, branches of junctors among them; 24 steps of a place; 32 members
 -- of `properties`, 32 entries of `required`, 4 of `x-kubernetes-list-map-keys`, 64 of `enum`. Entries count as written.
-use Rattle.std.specs.Prelude.{◌≡◌, ◌<◌, ℕ, suc, List, [], ◌∷◌, ◌++◌, length, Some, codes, AllPairs, Contains}
+use Rattle.std.specs.Prelude.{◌≡◌, ◌<◌, ℕ, suc, List, [], ◌∷◌, ◌++◌, length, Option, Some, None, if◌then◌else◌, codes, AllPairs, Contains}
+use Rattle.std.specs.Str.{bytes_eq}
 use Rattle.std.specs.declared.cmp.Ordering.TheVariants.{Less}
 use Rattle.jtree.specs.Data.{Data, Items, no_items, item, Members, no_members, member}
 use Rattle.jtree.specs.Data as tree
@@ -24,19 +25,17 @@ members_len (member k d ms) = suc (members_len ms)
 
 -- how many members or entries a value has
 abbrev pub size : Data → ℕ
-size tree.null = 0
-size (tree.boolean b) = 0
-size (tree.integer z) = 0
-size (tree.text s) = 0
 size (tree.list ds) = items_len ds
 size (tree.object ms) = members_len ms
+size _ = 0
 
--- the most members or entries of a keyword's value
-pub data HasMost : List ℕ → ℕ → Type 0 where
-  properties_most : HasMost (codes "properties") 32
-  required_most : HasMost (codes "required") 32
-  list_map_keys_most : HasMost (codes "x-kubernetes-list-map-keys") 4
-  enum_most : HasMost (codes "enum") 64
+-- the most members or entries of a keyword's value, where there is a limit
+abbrev pub most_of : List ℕ → Option ℕ
+most_of k =
+    if bytes_eq k (codes "properties") then Some 32 else
+    if bytes_eq k (codes "required") then Some 32 else
+    if bytes_eq k (codes "x-kubernetes-list-map-keys") then Some 4 else
+    if bytes_eq k (codes "enum") then Some 64 else None
 
 -- a keyword of a place has too many members or entries
 pub record IsTooLong (raw : Data) (at : Place) (keyword : List ℕ) : Type 0 where
@@ -45,7 +44,7 @@ pub record IsTooLong (raw : Data) (at : Place) (keyword : List ℕ) : Type 0 whe
   pub value : Data
   pub stands : under schema keyword ≡ Some value
   pub most : ℕ
-  pub limit : HasMost keyword most
+  pub limit : most_of keyword ≡ Some most
   pub past : most < size value
 
 -- the places, in path order, that come before one

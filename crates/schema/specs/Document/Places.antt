@@ -1,7 +1,7 @@
 -- The places of a schema: the schema itself, and what a step from a place leads to, where that is an object. A place is a
 -- list of steps; its pointer begins at `openAPIV3Schema`, whose own pointer is the empty text (RFC 6901).
-use Rattle.std.specs.Prelude.{◌≡◌, ℕ, List, [], ◌∷◌, Bool, true, false, Option, Some, None, option_and_then, flat_map, filter, not, codes}
-use Rattle.jtree.specs.Data.{Data, null, boolean, integer, text, list, object}
+use Rattle.std.specs.Prelude.{◌≡◌, ℕ, List, [], ◌∷◌, Bool, true, false, Option, Some, None, option_and_then, flat_map, filter, not, ◌||◌, codes}
+use Rattle.jtree.specs.Data.{Data, object}
 use Rattle.jtree.specs.Path.{Path, name, index, part_at}
 use Rattle.jtree.specs.Pointer.{pointer}
 use Rattle.schema.specs.Document.Texts.{is_among}
@@ -13,7 +13,7 @@ pub data Step : Type 0 where
   map_value : Step
   -- to `items`
   items : Step
-  -- to the entry at this place of `allOf`, `anyOf` or `oneOf`, and to `not`
+  -- to the entry at this index of `allOf`, `anyOf` or `oneOf`, and to `not`
   all_of : ℕ → Step
   any_of : ℕ → Step
   one_of : ℕ → Step
@@ -40,12 +40,8 @@ place_pointer p = pointer (place_path p)
 
 -- a value that is an object, and nothing for another value
 abbrev pub only_object : Data → Option Data
-only_object null = None
-only_object (boolean b) = None
-only_object (integer z) = None
-only_object (text s) = None
-only_object (list ds) = None
 only_object (object ms) = Some (object ms)
+only_object _ = None
 
 -- what a step leads to
 abbrev pub schema_by : Data → Step → Option Data
@@ -64,21 +60,12 @@ abbrev pub is_junctor : Step → Bool
 is_junctor (property k) = false
 is_junctor map_value = false
 is_junctor items = false
-is_junctor (all_of i) = true
-is_junctor (any_of i) = true
-is_junctor (one_of i) = true
-is_junctor negation = true
+is_junctor _ = true
 
 -- a place is inside where one of its steps is into a branch, else outside
 abbrev pub is_inside : Place → Bool
 is_inside [] = false
-is_inside (property k ∷ p) = is_inside p
-is_inside (map_value ∷ p) = is_inside p
-is_inside (items ∷ p) = is_inside p
-is_inside (all_of i ∷ p) = true
-is_inside (any_of i ∷ p) = true
-is_inside (one_of i ∷ p) = true
-is_inside (negation ∷ p) = true
+is_inside (s ∷ p) = is_junctor s || is_inside p
 
 -- the steps that are into no branch
 abbrev pub core : Place → Place
@@ -88,15 +75,12 @@ core p = filter (λ s. not (is_junctor s)) p
 abbrev pub envelope_names : List (List ℕ)
 envelope_names = codes "apiVersion" ∷ codes "kind" ∷ codes "metadata" ∷ []
 
+abbrev pub is_envelope_name : List ℕ → Bool
+is_envelope_name k = is_among k envelope_names
+
 abbrev pub IsEnvelopeName : List ℕ → Type 0
-IsEnvelopeName k = is_among k envelope_names ≡ true
+IsEnvelopeName k = is_envelope_name k ≡ true
 
 abbrev pub IsEnvelope : Place → Type 0
-IsEnvelope [] = ⊥
 IsEnvelope (property k ∷ p) = IsEnvelopeName k
-IsEnvelope (map_value ∷ p) = ⊥
-IsEnvelope (items ∷ p) = ⊥
-IsEnvelope (all_of i ∷ p) = ⊥
-IsEnvelope (any_of i ∷ p) = ⊥
-IsEnvelope (one_of i ∷ p) = ⊥
-IsEnvelope (negation ∷ p) = ⊥
+IsEnvelope _ = ⊥

@@ -16,19 +16,10 @@ pub record IsSound (raw : Data) : Type 0 where
 
 -- the first value that has not its form, or, where each has it, the first place or keyword at which a limit is passed
 abbrev pub IsSchemaFault : Data → SFault → Type 0
-IsSchemaFault raw NotACrd = ⊥
-IsSchemaFault raw NoSuchVersion = ⊥
 IsSchemaFault raw (KeywordForm p) = (path : Path) × (string_bytes p ≡ pointer path) × IsFormFault raw path
 IsSchemaFault raw (TooLarge p) = HasForms raw × (path : Path) × (string_bytes p ≡ pointer path) × IsLimitFault raw path
 IsSchemaFault raw NoMemory = Unit {0}
-
--- the document is no definition with this version, or memory is wanting
-abbrev pub IsDefinitionFault : Data → List ℕ → SFault → Type 0
-IsDefinitionFault d version NotACrd = IsNoCrd d version
-IsDefinitionFault d version NoSuchVersion = LacksVersion d version
-IsDefinitionFault d version (KeywordForm p) = ⊥
-IsDefinitionFault d version (TooLarge p) = ⊥
-IsDefinitionFault d version NoMemory = Unit {0}
+IsSchemaFault _ _ = ⊥
 
 -- the document has this schema for the version
 abbrev pub HasSchema : Data → List ℕ → Data → Type 0
@@ -38,6 +29,5 @@ HasSchema d version raw = (group kind : List ℕ) × IsRead d version group kind
 abbrev pub IsReadFault : Data → List ℕ → SFault → Type 0
 IsReadFault d version NotACrd = IsNoCrd d version
 IsReadFault d version NoSuchVersion = LacksVersion d version
-IsReadFault d version (KeywordForm p) = (raw : Data) × HasSchema d version raw × IsSchemaFault raw (KeywordForm p)
-IsReadFault d version (TooLarge p) = (raw : Data) × HasSchema d version raw × IsSchemaFault raw (TooLarge p)
 IsReadFault d version NoMemory = Unit {0}
+IsReadFault d version fault = (raw : Data) × HasSchema d version raw × IsSchemaFault raw fault

@@ -2,37 +2,20 @@
 use Rattle.std.specs.Prelude.{◌≡◌, ◌↔◌, ℕ, List, [], ◌∷◌, ◌++◌, Bool, true, false, Option, Some, option_map, option_and_then, if◌then◌else◌, IsTrue, nat_eq, codes}
 use Rattle.jtree.specs.Data.{Data, object}
 use Rattle.jtree.specs.Path.{under, part_at}
-use Rattle.schema.specs.Document.Places.{Step, property, map_value, items, all_of, any_of, one_of, negation, Place, step_path, schema_by, schema_at, is_junctor, is_inside, core}
+use Rattle.schema.specs.Document.Places.{Step, all_of, any_of, Place, step_path, schema_by, schema_at, is_junctor, is_inside, core}
 use Rattle.schema.specs.Internal.Events.{Junctor, all, any, one, Part, a_schema, properties, branches, no_schema}
 use Rattle.schema.specs.Rules.Kinds.{IsIntOrString}
 use Rattle.schema.specs.Rules.Broken.{pattern, BeginsWithHolder, IsPatternBranch}
 use Rattle.schema.specs.declared.listing.Context.{Context}
 
--- the branches of the `anyOf`, or of the `anyOf` in the first entry of the `allOf`, are the int-or-string pattern
-abbrev pub HasAnyPattern : Data → Type 0
-HasAnyPattern s = IsIntOrString s × (under s (codes "anyOf") ≡ Some pattern)
-
-abbrev pub HasAllPattern : Data → Type 0
-HasAllPattern s = IsIntOrString s × BeginsWithHolder s
-
 -- steps into an `anyOf`, and into the first entry of an `allOf`
 abbrev pub is_any : Step → Bool
-is_any (property k) = false
-is_any map_value = false
-is_any items = false
-is_any (all_of i) = false
 is_any (any_of i) = true
-is_any (one_of i) = false
-is_any negation = false
+is_any _ = false
 
 abbrev pub is_first_of_all : Step → Bool
-is_first_of_all (property k) = false
-is_first_of_all map_value = false
-is_first_of_all items = false
 is_first_of_all (all_of i) = nat_eq i 0
-is_first_of_all (any_of i) = false
-is_first_of_all (one_of i) = false
-is_first_of_all negation = false
+is_first_of_all _ = false
 
 -- the schema at the core of a place, one step on
 abbrev pub outer_by : Option Data → Step → Option Data

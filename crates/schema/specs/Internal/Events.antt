@@ -2,11 +2,11 @@
 use Rattle.std.specs.Prelude.{◌≡◌, ◌⊎◌, ◌↔◌, ℕ, suc, List, [], ◌∷◌, ◌++◌, length, Bool, true, false, Option, Some, None, if◌then◌else◌, nat_lt, nat_le, codes}
 use Rattle.std.specs.Str.{bytes_eq}
 use Rattle.std.specs.declared.cmp.Ordering.TheVariants.{Less}
-use Rattle.jtree.specs.Data.{Data, null, boolean, integer, text, list, object, Items, no_items, item, Members, no_members, member}
+use Rattle.jtree.specs.Data.{Data, list, object, Items, no_items, item, Members, no_members, member}
 use Rattle.jtree.specs.Path.{Path, name}
 use Rattle.jtree.specs.PathOrder.{path_cmp}
 use Rattle.schema.specs.Document.Places.{Step, property, map_value, items, all_of, any_of, one_of, negation, Place, place_path, schema_at}
-use Rattle.schema.specs.Document.Limits.{most_places, most_steps, size, IsTooLong}
+use Rattle.schema.specs.Document.Limits.{most_places, most_steps, most_of, size, IsTooLong}
 
 pub data Event : Type 0 where
   -- the schema at a place
@@ -46,14 +46,6 @@ part_of k =
     if bytes_eq k (codes "oneOf") then branches one else
     if bytes_eq k (codes "not") then a_schema negation else no_schema
 
--- the most members or entries of a keyword's value, where there is a limit
-abbrev pub most_of : List ℕ → Option ℕ
-most_of k =
-    if bytes_eq k (codes "properties") then Some 32 else
-    if bytes_eq k (codes "required") then Some 32 else
-    if bytes_eq k (codes "x-kubernetes-list-map-keys") then Some 4 else
-    if bytes_eq k (codes "enum") then Some 64 else None
-
 abbrev pub is_past : Option ℕ → ℕ → Bool
 is_past None n = false
 is_past (Some most) n = nat_lt most n
@@ -66,30 +58,10 @@ keyword_event p k d = if is_past (most_of k) (size d) then too_long p k ∷ [] e
 -- keywords) or of `properties` (their names); in the entries of a junctor from an index on.
 abbrev mutual
   pub part_events : Place → Part → Data → List Event
-  part_events p (a_schema s) null = []
-  part_events p (a_schema s) (boolean b) = []
-  part_events p (a_schema s) (integer z) = []
-  part_events p (a_schema s) (text t) = []
-  part_events p (a_schema s) (list ds) = []
   part_events p (a_schema s) (object ms) = entered (p ++ (s ∷ [])) (object ms) ∷ member_events (p ++ (s ∷ [])) true ms
-  part_events p properties null = []
-  part_events p properties (boolean b) = []
-  part_events p properties (integer z) = []
-  part_events p properties (text t) = []
-  part_events p properties (list ds) = []
   part_events p properties (object ms) = member_events p false ms
-  part_events p (branches j) null = []
-  part_events p (branches j) (boolean b) = []
-  part_events p (branches j) (integer z) = []
-  part_events p (branches j) (text t) = []
   part_events p (branches j) (list ds) = item_events p j 0 ds
-  part_events p (branches j) (object ms) = []
-  part_events p no_schema null = []
-  part_events p no_schema (boolean b) = []
-  part_events p no_schema (integer z) = []
-  part_events p no_schema (text t) = []
-  part_events p no_schema (list ds) = []
-  part_events p no_schema (object ms) = []
+  part_events _ _ _ = []
 
   -- with true the members are keywords, with false they are names under `properties`
   pub member_events : Place → Bool → Members → List Event

@@ -1,13 +1,25 @@
 -- For private contracts: the first break of a form, found member by member and item by item.
-use Rattle.std.specs.Prelude.{◌≡◌, ℕ, suc, [], ◌∷◌, Option, Some, None, option_map, if◌then◌else◌, string_bytes}
+use Rattle.std.specs.Prelude.{◌≡◌, ℕ, suc, [], ◌∷◌, Option, Some, None, option_map, if◌then◌else◌}
 use Rattle.jtree.specs.Data.{Data, Items, no_items, item, Members, no_members, member}
 use Rattle.jtree.specs.Data as tree
 use Rattle.jtree.specs.Path.{Step, name, index, Path}
-use Rattle.jtree.specs.Pointer.{pointer}
-use Rattle.schema.specs.Document.Forms.{form_below, has_form}
-use Rattle.schema.specs.declared.forms.Form.{Form}
-use Rattle.schema.specs.declared.fault.SFault.{SFault}
-use Rattle.schema.specs.declared.fault.SFault.TheVariants.{NotACrd, NoSuchVersion, KeywordForm, TooLarge, NoMemory}
+use Rattle.schema.specs.Document.Forms.{Form, any_tree, text, truth_value, object_of_objects, truth_value_or_object, object, some_objects, texts, list, integer, count, form_below, has_form}
+use Rattle.schema.specs.declared.forms.Form.{Form as CodeForm}
+use Rattle.schema.specs.declared.forms.Form.TheVariants as code
+
+-- what a form of the code stands for
+abbrev pub form_view : CodeForm → Form
+form_view code.AnyTree = any_tree
+form_view code.Text = text
+form_view code.TruthValue = truth_value
+form_view code.ObjectOfObjects = object_of_objects
+form_view code.TruthValueOrObject = truth_value_or_object
+form_view code.Object = object
+form_view code.SomeObjects = some_objects
+form_view code.Texts = texts
+form_view code.List = list
+form_view code.Integer = integer
+form_view code.Count = count
 
 abbrev pub below : Step → Option Path → Option Path
 below s o = option_map (λ path. s ∷ path) o
@@ -18,12 +30,9 @@ or_else (Some path) o = Some path
 
 abbrev mutual
   pub parts_break : Form → Data → Option Path
-  parts_break f tree.null = None
-  parts_break f (tree.boolean b) = None
-  parts_break f (tree.integer z) = None
-  parts_break f (tree.text s) = None
   parts_break f (tree.list ds) = items_break f 0 ds
   parts_break f (tree.object ms) = members_break f ms
+  parts_break _ _ = None
 
   pub items_break : Form → ℕ → Items → Option Path
   items_break f i no_items = None
@@ -37,11 +46,3 @@ abbrev mutual
 
 abbrev pub first_break : Form → Data → Option Path
 first_break f d = if has_form f d then parts_break f d else Some []
-
--- the fault names this path, or memory is wanting
-abbrev pub IsBreakFault : Option Path → SFault → Type 0
-IsBreakFault o NotACrd = ⊥
-IsBreakFault o NoSuchVersion = ⊥
-IsBreakFault o (KeywordForm p) = (path : Path) × (string_bytes p ≡ pointer path) × (o ≡ Some path)
-IsBreakFault o (TooLarge p) = ⊥
-IsBreakFault o NoMemory = Unit {0}

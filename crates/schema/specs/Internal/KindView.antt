@@ -1,7 +1,7 @@
 -- For private contracts: which kind the kinds of the code stand for, and the kind that the keywords of a schema tell.
 use Rattle.std.specs.Prelude.{ℕ, List, [], Option, Some, None, if◌then◌else◌, codes}
 use Rattle.std.specs.Str.{bytes_eq}
-use Rattle.jtree.specs.Data.{Data, null, boolean, integer, text, list, object}
+use Rattle.jtree.specs.Data.{Data, text}
 use Rattle.jtree.specs.Kind.{is_object}
 use Rattle.jtree.specs.Path.{under}
 use Rattle.schema.specs.Nodes.Keywords.{flag}
@@ -38,12 +38,8 @@ named_kind s t =
 -- by `type`
 abbrev pub typed_kind : Data → Option Data → Option kinds.Kind
 typed_kind s None = open_kind s
-typed_kind s (Some null) = None
-typed_kind s (Some (boolean b)) = None
-typed_kind s (Some (integer z)) = None
 typed_kind s (Some (text t)) = named_kind s t
-typed_kind s (Some (list ds)) = None
-typed_kind s (Some (object ms)) = None
+typed_kind _ _ = None
 
 abbrev pub kind_by : Data → Option kinds.Kind
 kind_by s = if flag s (codes "x-kubernetes-int-or-string") then Some kinds.int_or_string else typed_kind s (under s (codes "type"))

@@ -29,9 +29,7 @@ kind_from (suc (suc (suc n))) = kind.IntOrString
 
 pub kind_back : (k : ScalarKind) → kind_from (kind_number k) ≡ k
 kind_back kind.Boolean = refl
-kind_back kind.Integer = refl
-kind_back kind.String = refl
-kind_back kind.IntOrString = refl
+kind_back _ = refl
 
 abbrev pub kind_coded : Coded ScalarKind
 kind_coded = code_by ℕ coded_ℕ kind_number kind_from kind_back
@@ -48,8 +46,7 @@ list_type_from (suc (suc n)) = list_type.Map
 
 pub list_type_back : (t : ListType) → list_type_from (list_type_number t) ≡ t
 list_type_back list_type.Atomic = refl
-list_type_back list_type.Set = refl
-list_type_back list_type.Map = refl
+list_type_back _ = refl
 
 abbrev pub list_type_coded : Coded ListType
 list_type_coded = code_by ℕ coded_ℕ list_type_number list_type_from list_type_back
@@ -102,8 +99,7 @@ mutual
   pub branches_inj : (x y : Branches) → branches_code x ≡ branches_code y → x ≡ y
   branches_inj no_branches no_branches p = refl
   branches_inj (branch c cs) (branch d ds) p = λ i. branch (validations_inj c d (ap head p) i) (branches_inj cs ds (ap tail p) i)
-  branches_inj no_branches (branch d ds) p = cc
-  branches_inj (branch c cs) no_branches p = cc
+  branches_inj cs ds p = cc
 
 abbrev pub validations_coded : Coded Validations
 validations_coded = record { code = validations_code; inj = validations_inj }
@@ -160,8 +156,7 @@ mutual
   fields_inj (field k M r d fs) (field l N q e gs) p = λ i.
       field (coded_bytes.inj k l (ap head p) i) (node_inj M N (ap (λ v. head (tail v)) p) i) (coded_bool.inj r q (ap (λ v. head (tail (tail v))) p) i)
       (default_coded.inj d e (ap (λ v. head (tail (tail (tail v)))) p) i) (fields_inj fs gs (ap (λ v. tail (tail (tail (tail v)))) p) i)
-  fields_inj no_fields (field l N q e gs) p = cc
-  fields_inj (field k M r d fs) no_fields p = cc
+  fields_inj fs gs p = cc
 
 abbrev pub node_coded : Coded Node
 node_coded = record { code = node_code; inj = node_inj }

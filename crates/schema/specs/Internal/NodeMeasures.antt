@@ -17,11 +17,8 @@ branches_decrease [] = omega arith
 branches_decrease (c ∷ cs) = omega (arith, branches_decrease cs)
 
 sort_decreases : (S : Sort) → deep-Sort S ≤ sort_depth (sort_of S)
-sort_decreases (sort.Scalar n) = omega arith
-sort_decreases (sort.Object n) = omega arith
-sort_decreases (sort.Map n) = omega arith
-sort_decreases (sort.List n) = omega arith
 sort_decreases sort.Open = omega arith
+sort_decreases _ = omega arith
 
 pub below_decreases : (N : Node) → max (max (deep-Sort N.sort) 0) 0 ≤ node_depth (node_of N)
 below_decreases N = omega (arith, sort_decreases N.sort)

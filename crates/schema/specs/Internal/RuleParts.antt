@@ -6,31 +6,16 @@ use Rattle.schema.specs.Document.Texts.{is_among}
 use Rattle.schema.specs.Document.Places.{Step, Place, property, is_inside}
 use Rattle.schema.specs.Rules.Kinds.{HasNoType, IsIntOrString, Preserves}
 use Rattle.schema.specs.Internal.PlaceView.{place_of}
-use Rattle.schema.specs.Rules.Broken.{HasOneOf, outside_keywords, metadata_keywords, metadata, ends_in_field}
+use Rattle.schema.specs.Rules.Broken.{HasOneOf, HasOtherKeyword, HasOtherType, outside_keywords, metadata_names, metadata, ends_in_field}
 use Rattle.schema.specs.declared.listing.Subschema.{Subschema}
-
--- a keyword that the schema of `metadata` may not have
-abbrev pub HasOtherKeyword : Data → Type 0
-HasOtherKeyword s = (w : List ℕ) × Has s w × (is_among w metadata_keywords ≡ false)
-
--- a type that the schema of `metadata` may not have
-abbrev pub HasOtherType : Data → Type 0
-HasOtherType s = (t : List ℕ) × HasText s (codes "type") t × t ≢ [] × t ≢ codes "object"
-
--- the fields of `metadata` that may be restricted
-abbrev pub metadata_names : List (List ℕ)
-metadata_names = codes "name" ∷ codes "generateName" ∷ []
 
 -- the step is to a property, and its name neither `name` nor `generateName`
 abbrev pub IsOtherName : Step → Type 0
-IsOtherName s = (k : List ℕ) × (s ≡ property k) × k ≢ codes "name" × k ≢ codes "generateName"
+IsOtherName s = (k : List ℕ) × (s ≡ property k) × (is_among k metadata_names ≡ false)
 
 -- the place is a field of `metadata`, and neither `name` nor `generateName`
 abbrev pub IsOtherField : Place → Type 0
 IsOtherField p = (s : Step) × (p ≡ metadata ++ (s ∷ [])) × IsOtherName s
-
-abbrev pub LacksType : Place → Data → Type 0
-LacksType p s = (is_inside p ≡ false) × HasNoType s × (IsIntOrString s → ⊥) × (Preserves s → ⊥)
 
 abbrev pub IsUnspecified : Subschema → Type 0
 IsUnspecified v = (is_inside (place_of v.place.items) ≡ true) × (ends_in_field (place_of v.place.items) ≡ true) × (v.outer ≡ None)
@@ -42,6 +27,3 @@ HasOutsideKeyword v =
 
 abbrev pub Restricts : Place → Data → Type 0
 Restricts p s = ((p ≡ metadata) × (HasOtherKeyword s ⊎ HasOtherType s)) ⊎ IsOtherField p
-
-abbrev pub HasBothTypes : Place → Data → Type 0
-HasBothTypes p s = (is_inside p ≡ false) × IsIntOrString s × Has s (codes "type")

@@ -9,7 +9,7 @@ use Rattle.jtree.specs.PathOrder.{IsFirst}
 use Rattle.jtree.specs.Pointer.{pointer}
 use Rattle.schema.specs.Document.Raw.{HasObject}
 use Rattle.schema.specs.Document.Texts.{is_among}
-use Rattle.schema.specs.Document.Places.{Place, place_path, is_inside, envelope_names, IsEnvelope}
+use Rattle.schema.specs.Document.Places.{Place, place_path, is_inside, is_envelope_name, IsEnvelope}
 use Rattle.schema.specs.Rules.Kinds as kinds
 use Rattle.schema.specs.Rules.Kinds.{Kind, IsOfKind, HasNoKind}
 use Rattle.schema.specs.Rules.Broken.{At}
@@ -48,7 +48,7 @@ AreBoundsOf b s least most = (b.least ≡ count_under s least) × (b.most ≡ co
 
 -- a property has a field where it is a schema, and at the root where it is not of the envelope
 abbrev pub is_declared : Bool → List ℕ → Data → Bool
-is_declared root k d = is_object d && not (root && is_among k envelope_names)
+is_declared root k d = is_object d && not (root && is_envelope_name k)
 
 abbrev pub declared_of : Bool → Members → Members
 declared_of root no_members = no_members
@@ -77,10 +77,9 @@ abbrev mutual
   -- a field for each property, with its node, and whether it is required, and its default
   pub AreFieldsOf : Fields → List (List ℕ) → Members → Type 0
   AreFieldsOf no_fields names no_members = Unit {0}
-  AreFieldsOf no_fields names (member l d ms) = ⊥
-  AreFieldsOf (field k N required default fs) names no_members = ⊥
   AreFieldsOf (field k N required default fs) names (member l d ms) =
       (k ≡ l) × IsNodeOf false N d × (required ≡ is_among l names) × (default ≡ under d (codes "default")) × AreFieldsOf fs names ms
+  AreFieldsOf _ _ _ = ⊥
 
 -- a schema of no kind, or a list without `items`; both are for rules that are not judged yet
 abbrev pub HasNoNode : Data → Type 0

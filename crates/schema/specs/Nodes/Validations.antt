@@ -31,6 +31,5 @@ abbrev mutual
   -- one for each schema in the list, in its order
   pub AreBranchesOf : Branches → Items → Type 0
   AreBranchesOf no_branches no_items = Unit {0}
-  AreBranchesOf no_branches (item d ds) = ⊥
-  AreBranchesOf (branch c cs) no_items = ⊥
   AreBranchesOf (branch c cs) (item d ds) = AreValidationsOf c d × AreBranchesOf cs ds
+  AreBranchesOf _ _ = ⊥

@@ -4,7 +4,7 @@ use Rattle.jtree.specs.Data.{Data}
 use Rattle.jtree.specs.Path.{under}
 use Rattle.schema.specs.Document.Raw.{HasText, HasTrue, HasObject}
 
--- `free` is the kind of an open place, which accepts every value
+-- `open_` is the kind of a place that accepts every value
 pub data Kind : Type 0 where
   int_or_string : Kind
   open_ : Kind

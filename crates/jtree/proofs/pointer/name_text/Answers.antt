@@ -13,5 +13,5 @@ loop-letter-preserved c =
     record {
       done = done ++ one;
       name = l.invariant.name ∙ ap (λ xs. done ++ xs) c.in-Some.ensures.steps.0 ∙ sym (append_assoc done one (chars_rest c.next.new.self));
-      token = c.in_ok-push_letter.ensures.ok ∙ ap (λ xs. xs ++ flat_map escaped one) l.invariant.token ∙ ap (λ xs. 47 ∷ xs) (sym (flat_map-append escaped done one));
+      token = c.in_ok-push_letter.ensures ∙ ap (λ xs. xs ++ flat_map escaped one) l.invariant.token ∙ ap (λ xs. 47 ∷ xs) (sym (flat_map-append escaped done one));
     }

@@ -2,8 +2,8 @@ use Rattle.std.proofs.Common.{◌≢◌, ◌++◌, string_bytes, sym, ap, ◌∙
 use Rattle.jtree.proofs.Escapes.{escaped_other}
 use Rattle.jtree.proofs.pointer.push_letter.Goals as goal
 
-pub returns-in_ok-push-in_default-clause-ok : goal.returns-in_ok-push-in_default-clause-ok
-returns-in_ok-push-in_default-clause-ok c =
+pub returns-in_ok-push-in_default : goal.returns-in_ok-push-in_default
+returns-in_ok-push-in_default c =
     let bytes = c.in_ok-push-in_default.ensures.bytes in
     let tilde : c.args.letter ≢ 126 = λ e. omega arith in
     let slash : c.args.letter ≢ 47 = λ e. omega arith in

@@ -2,7 +2,7 @@ use Rattle.std.proofs.Common.{◌≡◌, ◌+◌, [], ◌∷◌, ◌++◌, take,
 use Rattle.std.proofs.lemmas.List.{take_more}
 use Rattle.std.proofs.lemmas.Result.{err_from_is_err_and}
 use Rattle.serde_json.proofs.Views.{Entry}
-use Rattle.jtree.proofs.Reading.{one_more_item, one_more_member, AreTrees-push, HaveTrees-push, no_items_tree, no_members_tree, IsObject-sorted}
+use Rattle.jtree.proofs.Reading.{one_more_item, one_more_member, AreTrees-push, HaveTrees-push, no_items_tree, no_members_tree, AreMembers-sorted}
 use Rattle.jtree.specs.declared.fault.JFault.TheVariants.{NotAnInteger}
 use Rattle.jtree.proofs.read.+read.Goals as goal
 
@@ -46,7 +46,7 @@ read_members-loop-key-preserved t c =
     record {
       done = done ++ e ∷ [];
       entries = all ∙ sym (append_assoc done (e ∷ []) left);
-      read = rw c.in_ok-push.ensures.items (one_more_member done e l.members.items _ l.invariant.read c.in_ok-tree.ensures.ok (c.in_ok-name.ensures.ok ∙ c.as_str.ensures.value));
+      read = rw c.in_ok-push.ensures.items (one_more_member done e l.members.items _ l.invariant.read c.in_ok-tree.ensures.ok (c.in_ok-name.ensures ∙ c.as_str.ensures.value));
       trees = rw c.in_ok-push.ensures.items (HaveTrees-push l.members.items _ l.invariant.trees c.reveal_invariant.ensures);
     }
 
@@ -55,4 +55,4 @@ read_members-invariant_of-result t c =
     let l = c.loop-key in
     let done = l.invariant.done in
     let all : c.args.map.now.entries ≡ done = l.invariant.entries ∙ ap (λ es. done ++ es) c.in-None.ensures.steps.0 ∙ append-nil done in
-    IsObject-sorted done _ l.invariant.read (rw (← all) c.iter-key-items.ensures.ordered) l.invariant.trees
+    AreMembers-sorted done _ l.invariant.read (rw (← all) c.iter-key-items.ensures.ordered) l.invariant.trees

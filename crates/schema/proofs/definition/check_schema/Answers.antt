@@ -1,7 +1,7 @@
 use Rattle.std.proofs.Common.{sym, subst}
 use Rattle.jtree.specs.View.{data_of}
 use Rattle.schema.specs.Document.Limits.{IsWithinLimits}
-use Rattle.schema.specs.Internal.LimitFault.{IsLimitFaultOf}
+use Rattle.schema.specs.Internal.Faults.{IsLimitFaultOf}
 use Rattle.schema.proofs.SchemaFaults.{all_forms, form_fault, limit_fault}
 use Rattle.schema.proofs.definition.check_schema.Goals as goal
 

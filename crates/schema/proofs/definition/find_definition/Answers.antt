@@ -3,7 +3,7 @@ use Rattle.std.specs.Prelude.{option_map}
 use Rattle.jtree.specs.View.{data_of}
 use Rattle.schema.specs.Internal.Versions.{IsSelected}
 use Rattle.schema.specs.Document.Crd.{no_schema}
-use Rattle.schema.proofs.CrdLemmas.{crd_from, no_head, versions_fault, lacks}
+use Rattle.schema.proofs.CrdLemmas.{no_head, versions_fault, lacks}
 use Rattle.schema.proofs.definition.find_definition.Goals as goal
 
 pub returns-in_default-clause-err : goal.returns-in_default-clause-err
@@ -23,4 +23,4 @@ returns-in_default-schema_of-clause-err c =
     let head = c.in-Some.head in
     let found = subst (λ o. IsSelected head.versions.now c.args.version.now (option_map (λ t. data_of t.now) o)) c.in-Some-selected.is c.in-Ok.ensures.selected in
     no_schema (data_of c.args.document.now) c.args.version.now head.group.now head.kind.now head.versions.now (data_of c.in-Some-selected.selected.now)
-    (crd_from c.in-Some.ensures.some c.in-Ok.ensures.versions) found (c.in_default-schema_of.ensures.none refl)
+    (record { head = c.in-Some.ensures.some; versions_are = c.in-Ok.ensures.versions }) found (c.in_default-schema_of.ensures.none refl)

@@ -1,15 +1,30 @@
-use Rattle.std.proofs.Common.{◌≡◌, ◌<◌, ◌+◌, suc, ◌∷◌, length, drop, ap, sym, ◌∙◌, subst, arith}
+use Rattle.std.proofs.Common.{◌≡◌, ◌<◌, ◌+◌, suc, ◌∷◌, length, drop, None, ap, sym, ◌∙◌, subst, arith}
 use Rattle.std.proofs.lemmas.List.{drop_more}
 use Rattle.jtree.specs.Path.{name, index}
 use Rattle.jtree.specs.View.{data_of, items_of, members_of}
-use Rattle.schema.specs.Internal.FormBreak.{first_break, items_break, members_break, below, IsBreakFault}
+use Rattle.schema.specs.Internal.Faults.{IsBreakFault}
+use Rattle.schema.specs.Internal.FormBreak.{form_view, first_break, items_break, members_break, below, or_else}
 use Rattle.schema.specs.Document.Forms.{form_below}
 use Rattle.schema.proofs.FormLemmas.{first_fault}
 use Rattle.schema.proofs.forms.+forms.Goals as goal
 
+pub check_items-loop-i-preserved : goal.check_items-loop-i-preserved
+check_items-loop-i-preserved t c =
+    let form = form_view c.args.form in
+    let xs = c.deref-item-items.result.now in
+    let i = c.loop-i.i in
+    let x = c.item-item.result in
+    let within : i < length xs = omega arith in
+    let next : i + 1 ≡ suc i = omega arith in
+    let rest = items_of (drop (i + 1) xs) in
+    let none : first_break (form_below form (index i)) (data_of x) ≡ None = subst (λ f. first_break f (data_of x) ≡ None) (c.form_of_items-item_form.ensures i) c.in-Ok.ensures.ok in
+    let split : drop i xs ≡ x ∷ drop (i + 1) xs = drop_more xs i x within ∙ ap (λ y. y ∷ drop (i + 1) xs) (sym c.item-item.is) in
+    ap (λ k. items_break form k rest) next ∙ sym (ap (λ ys. items_break form i (items_of ys)) split ∙ ap (λ o. or_else (below (index i) o) (items_break form (suc i) rest)) none)
+    ∙ c.loop-i.invariant
+
 pub check_items-returns-in-Err-clause-err : goal.check_items-returns-in-Err-clause-err
 check_items-returns-in-Err-clause-err t c =
-    let form = c.args.form in
+    let form = form_view c.args.form in
     let xs = c.deref-item-items.result.now in
     let i = c.loop-i.i in
     let x = c.item-item.result in
@@ -24,7 +39,7 @@ check_items-returns-in-Err-clause-err t c =
 
 pub check_members-returns-in-Err-clause-err : goal.check_members-returns-in-Err-clause-err
 check_members-returns-in-Err-clause-err t c =
-    let form = c.args.form in
+    let form = form_view c.args.form in
     let xs = c.deref-member-items.result.now in
     let i = c.loop-member.member-index in
     let m = c.member-item.result in

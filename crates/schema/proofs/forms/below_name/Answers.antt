@@ -1,7 +1,8 @@
 use Rattle.std.proofs.Common.{◌∷◌, ◌++◌, ap, ◌∙◌, subst}
 use Rattle.jtree.specs.Path.{name}
 use Rattle.jtree.specs.Pointer.{name_token}
-use Rattle.schema.specs.Internal.FormBreak.{below, IsBreakFault}
+use Rattle.schema.specs.Internal.Faults.{IsBreakFault}
+use Rattle.schema.specs.Internal.FormBreak.{below}
 use Rattle.schema.proofs.forms.below_name.Goals as goal
 
 pub returns-in-Ok : goal.returns-in-Ok

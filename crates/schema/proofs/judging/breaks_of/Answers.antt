@@ -14,10 +14,10 @@ loop-subschema-preserved c =
     let subschemas = c.args.subschemas.now in
     let i = c.loop-subschema.subschema-index in
     let within : i < length subschemas = omega arith in
-    found_subschema subschemas i c.subschema-item.result c.loop-subschema.violations.items c.judge.new.violations.items within c.subschema-item.is c.in-Ok.ensures.ok c.loop-subschema.invariant
+    found_subschema subschemas i c.subschema-item.result c.loop-subschema.violations.items c.judge.new.violations.items within c.subschema-item.is c.in_ok-judge.ensures c.loop-subschema.invariant
 
-pub returns-clause-ok : goal.returns-clause-ok
-returns-clause-ok c =
+pub returns : goal.returns
+returns c =
     let subschemas = c.args.subschemas.now in
     let all : take c.loop-subschema.subschema-index subschemas ≡ subschemas = take_all c.loop-subschema.subschema-index subschemas (omega arith) in
     λ ms o are. violations_of ms subschemas c.loop-subschema.violations.items o are

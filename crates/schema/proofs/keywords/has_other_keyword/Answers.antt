@@ -2,8 +2,7 @@ use Rattle.std.proofs.Common.{◌≡◌, ◌<◌, length, true, false, ap, sym, 
 use Rattle.jtree.specs.Data.{object}
 use Rattle.jtree.specs.View.{members_of}
 use Rattle.schema.specs.Document.Texts.{is_among}
-use Rattle.schema.specs.Rules.Broken.{metadata_keywords}
-use Rattle.schema.specs.Internal.RuleParts.{HasOtherKeyword}
+use Rattle.schema.specs.Rules.Broken.{metadata_keywords, HasOtherKeyword}
 use Rattle.schema.proofs.RuleLemmas.{others_next, others_found, others_none}
 use Rattle.schema.proofs.keywords.has_other_keyword.Goals as goal
 

@@ -3,15 +3,15 @@ use Rattle.std.specs.Prelude.{map, All}
 use Rattle.std.proofs.lemmas.List.Elements.{All-append, All-cons, All-nil}
 use Rattle.std.proofs.lemmas.List.{drop_more, length-append}
 use Rattle.std.proofs.lemmas.Result.{on_ok_weaker}
-use Rattle.jtree.specs.Data.{list, object, IsObject}
+use Rattle.jtree.specs.Data.{list, object, AreMembers}
 use Rattle.jtree.specs.View.{data_of, items_of, members_of}
-use Rattle.schema.specs.Document.Limits.{size}
+use Rattle.schema.specs.Document.Limits.{size, most_of}
 use Rattle.schema.specs.Internal.Contexts.{StandsAs}
 use Rattle.schema.specs.Internal.Subschemas.{IsSubschema}
-use Rattle.schema.specs.Internal.Events.{properties, branches, most_of, is_past, a_schema, part_of, branch, keyword_event, part_events, member_events, item_events, schema_events, subschemas_of, limit_break}
+use Rattle.schema.specs.Internal.Events.{properties, branches, is_past, a_schema, part_of, branch, keyword_event, part_events, member_events, item_events, schema_events, subschemas_of, limit_break}
 use Rattle.schema.specs.Document.Places.{property}
 use Rattle.schema.specs.Internal.PlaceView.{step_of, place_of, junctor_of, part_view, subschema_of}
-use Rattle.schema.specs.Internal.LimitBreak.{IsLimitRefusal}
+use Rattle.schema.specs.Internal.Faults.{IsLimitRefusal}
 use Rattle.schema.proofs.ListingLemmas.{HasGrown, grown_subschemas, grown_limit, refusal_stays, short_keyword}
 use Rattle.schema.proofs.ContextLemmas.{context_subschema, part_stands, property_stands, branch_stands, member_stands, item_stands}
 use Rattle.schema.proofs.listing.+listing.Goals as goal
@@ -88,7 +88,7 @@ list_properties-loop-property-preserved t c =
       subschemas = grown_subschemas old new here rest grown ∙ ap (λ ms. map subschema_of old ++ subschemas_of ms) (sym events) ∙ c.loop-property.invariant.subschemas;
       limit = grown_limit old new here rest grown ∙ ap (limit_break (length old)) (sym events) ∙ c.loop-property.invariant.limit;
       contexts = λ raw s h stands all.
-          let member = member_stands xs (drop (i + 1) xs) i m (subst IsObject (sym whole) c.reveal_invariant.ensures) split in
+          let member = member_stands xs (drop (i + 1) xs) i m (subst AreMembers (sym whole) c.reveal_invariant.ensures) split in
           let here : StandsAs s (a_schema (property c.as_str.result.now)) (data_of m.tree) =
           subst (λ k. StandsAs s (a_schema (property k)) (data_of m.tree)) (sym named) (property_stands s (members_of xs) m.name (data_of m.tree) stands member) in
           c.in-Ok.ensures.contexts raw s h here (c.loop-property.invariant.contexts raw s h stands all);
@@ -192,7 +192,7 @@ list_keywords-loop-member-preserved t c =
       subschemas = grown_subschemas old new here rest grown ∙ ap (λ ms. map subschema_of old ++ subschemas_of ms) (sym events) ∙ c.loop-member.invariant.subschemas;
       limit = grown_limit old new here rest grown ∙ ap (limit_break (length old)) (sym events) ∙ c.loop-member.invariant.limit;
       contexts = λ raw h all.
-          let member = member_stands xs (drop (i + 1) xs) i m (subst IsObject (sym whole) c.reveal_invariant.ensures) split in
+          let member = member_stands xs (drop (i + 1) xs) i m (subst AreMembers (sym whole) c.reveal_invariant.ensures) split in
           let here : StandsAs (object (members_of xs)) (part_view c.part_of.result) d = subst (λ p. StandsAs (object (members_of xs)) p d) (sym part) (part_stands (members_of xs) m.name d member) in
           c.in-Ok.ensures.contexts raw (object (members_of xs)) h here (c.loop-member.invariant.contexts raw h all);
     }
@@ -223,7 +223,7 @@ pub list_schema-returns-clause-contexts : goal.list_schema-returns-clause-contex
 list_schema-returns-clause-contexts t c =
     let P = place_of c.args.place.now in
     let steps = c.in_ok-copied.field-0 in
-    let same : place_of steps.items ≡ P = c.in_ok-copied.ensures.ok in
+    let same : place_of steps.items ≡ P = c.in_ok-copied.ensures in
     on_ok_weaker c.list_keywords.result
     (λ e raw h all. e raw h (subst (All (IsSubschema raw)) (sym c.in_ok-push.ensures.items) (All-append (IsSubschema raw) c.args.subschemas.now.items _ all (All-cons (IsSubschema raw) _ [] (context_subschema raw P c.args.context _ same refl refl h) (All-nil (IsSubschema raw))))))
     c.list_keywords.ensures.contexts

@@ -5,7 +5,7 @@ use Rattle.jtree.specs.Data.{object}
 use Rattle.schema.specs.Internal.PlaceView.{subschema_of}
 use Rattle.schema.specs.Internal.Subschemas.{IsSubschema}
 use Rattle.schema.specs.Internal.Events.{schema_events, subschemas_of, limit_break}
-use Rattle.schema.specs.Internal.LimitBreak.{IsLimitRefusal}
+use Rattle.schema.specs.Internal.Faults.{IsLimitRefusal}
 use Rattle.schema.proofs.EventLemmas.{schema_events_are}
 use Rattle.schema.proofs.LimitLemmas.{within}
 use Rattle.schema.proofs.ListingLemmas.{refusal_names}

@@ -15,8 +15,8 @@ returns-in_ok-push_name-in-Property c =
     let P = name_token (codes "properties") in
     let T = name_token c.in-Property.name.now in
     subst (λ s. OnOk r (new ≡ old ++ pointer (step_path (step_of s)))) (sym c.in-Property.is)
-    (on_ok_weaker r (λ e. e ∙ ap (λ x. x ++ T) c.in_ok-push_name-in-Property.ensures.ok ∙ append_assoc old P T ∙ ap (λ x. old ++ (P ++ x)) (sym (append-nil T)))
-    c.push_name-in-Property.ensures.ok)
+    (on_ok_weaker r (λ e. e ∙ ap (λ x. x ++ T) c.in_ok-push_name-in-Property.ensures ∙ append_assoc old P T ∙ ap (λ x. old ++ (P ++ x)) (sym (append-nil T)))
+    c.push_name-in-Property.ensures)
 
 pub returns-in-MapValue : goal.returns-in-MapValue
 returns-in-MapValue c =
@@ -25,4 +25,4 @@ returns-in-MapValue c =
     let new = string_bytes c.push_name-in-MapValue.new.text in
     let T = name_token (codes "additionalProperties") in
     subst (λ s. OnOk r (new ≡ old ++ pointer (step_path (step_of s)))) (sym c.in-MapValue.is)
-    (on_ok_weaker r (λ e. e ∙ ap (λ x. old ++ x) (sym (append-nil T))) c.push_name-in-MapValue.ensures.ok)
+    (on_ok_weaker r (λ e. e ∙ ap (λ x. old ++ x) (sym (append-nil T))) c.push_name-in-MapValue.ensures)

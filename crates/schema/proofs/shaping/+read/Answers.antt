@@ -1,7 +1,7 @@
 use Rattle.std.proofs.Common.{◌≡◌, ◌+◌, [], ◌∷◌, ◌++◌, take, Some, refl, inl, ap, sym, ◌∙◌, subst, arith}
 use Rattle.std.proofs.lemmas.List.{take_more, take_all}
 use Rattle.std.specs.Prelude.{codes}
-use Rattle.jtree.specs.Data.{object, IsObject}
+use Rattle.jtree.specs.Data.{object, AreMembers}
 use Rattle.jtree.specs.Path.{member_at, under}
 use Rattle.jtree.specs.View.{data_of, members_of}
 use Rattle.schema.specs.Nodes.Keywords.{texts_under}
@@ -27,7 +27,7 @@ read_fields-read_field-requires t c =
     let ms = c.args.properties.now in
     let whole : members_of xs ≡ ms = ap members_of c.deref-property-items.ensures.value ∙ c.properties.view_is in
     let named : member_at m.name ms ≡ Some (data_of m.tree) =
-    subst (λ ns. member_at m.name ns ≡ Some (data_of m.tree)) whole (member_named xs c.loop-property.property-index m (omega arith) c.property-item.is (subst IsObject (sym whole) c.reveal_invariant.ensures)) in
+    subst (λ ns. member_at m.name ns ≡ Some (data_of m.tree)) whole (member_named xs c.loop-property.property-index m (omega arith) c.property-item.is (subst AreMembers (sym whole) c.reveal_invariant.ensures)) in
     let below = member_decreases m.name ms (data_of m.tree) named in
     (omega (arith, below, c.decreases), c.requires m.name (data_of m.tree) named (sym c.if-not-is_declared.ensures))
 
@@ -56,7 +56,7 @@ read_fields-loop-property-preserved t c =
     let old = c.loop-property.fields.items in
     let more : members_of (take (i + 1) xs) ≡ members_of (take i xs ++ m ∷ []) = ap members_of (take_more xs i m (omega arith) ∙ ap (λ x. take i xs ++ x ∷ []) (sym c.property-item.is)) in
     let pushed : c.push.new.self.items ≡ old ++ f ∷ [] = c.in_ok-push.ensures.items in
-    let is = c.in_ok-field.ensures.field in
+    let is = c.in_ok-field.ensures in
     record {
       fields = rw (pushed, more) (push_field root old f names (take i xs) m (sym c.if-not-is_declared.ensures) c.loop-property.invariant.fields is.name is.node is.required is.default);
       nodes = rw pushed (push_nodes old f c.loop-property.invariant.nodes c.reveal_invariant-in-loop-property.ensures);
@@ -79,10 +79,10 @@ read_fields-invariant_of-result t c =
     let whole : members_of (take i xs) ≡ c.args.properties.now = ap members_of all ∙ ap members_of c.deref-property-items.ensures.value ∙ c.properties.view_is in
     fields_ordered (fields_of c.loop-property.fields.items) (texts_under (data_of c.args.schema.now) (codes "required")) (declared_of root (members_of (take i xs)))
     c.loop-property.invariant.fields c.loop-property.invariant.nodes
-    (declared_object root (members_of (take i xs)) (subst IsObject (sym whole) c.reveal_invariant.ensures))
+    (declared_object root (members_of (take i xs)) (subst AreMembers (sym whole) c.reveal_invariant.ensures))
 
-pub read_fields-returns-clause-fields : goal.read_fields-returns-clause-fields
-read_fields-returns-clause-fields t c =
+pub read_fields-returns : goal.read_fields-returns
+read_fields-returns t c =
     let root = c.args.root in
     let xs = c.deref-property-items.result.now in
     let i = c.loop-property.property-index in

@@ -3,7 +3,8 @@ use Rattle.std.specs.Prelude.{option_map}
 use Rattle.std.proofs.lemmas.List.{take_more, take_all}
 use Rattle.std.proofs.lemmas.Map.Text.{btree_map_updates_str}
 use Rattle.jtree.specs.View.{data_of, items_of}
-use Rattle.schema.specs.Internal.Versions.{AreVersions, IsSelected}
+use Rattle.schema.specs.Document.Crd.{AreVersions}
+use Rattle.schema.specs.Internal.Versions.{IsSelected}
 use Rattle.schema.proofs.VersionLemmas.{split_at, unnamed, repeated, index_push, selected, some_value, no_value, map_cond, index_same}
 use Rattle.schema.proofs.versions.select.Goals as goal
 

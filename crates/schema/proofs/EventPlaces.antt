@@ -1,67 +1,42 @@
 -- The events of a schema are its places and its keywords that are too long.
 use Rattle.std.proofs.Common.{◌≡◌, ◌⊎◌, ◌<◌, ℕ, zero, suc, List, [], ◌∷◌, ◌++◌, true, Option, Some, None, refl, sym, ap, ◌∙◌, subst, inl, inr, append_assoc}
-use Rattle.std.specs.Prelude.{if◌then◌else◌, codes}
 use Rattle.std.specs.Str.{bytes_eq}
 use Rattle.std.proofs.lemmas.Bool.{lt-ltb, ltb-true}
 use Rattle.std.proofs.lemmas.List.{append-nil}
 use Rattle.std.proofs.lemmas.Option.{same_Some, option_and_then_some}
-use Rattle.jtree.specs.Data.{Data, null, boolean, integer, text, list, object, Items, no_items, item, Members, no_members, member, IsTree, AreTrees, IsObject}
+use Rattle.jtree.specs.Data.{Data, null, boolean, integer, text, list, object, Items, no_items, item, Members, no_members, member, IsTree, AreTrees, AreMembers}
 use Rattle.jtree.specs.Path.{Path, name, index, member_at, item_at, part_by, part_at, under}
 use Rattle.jtree.specs.Path as tree
 use Rattle.jtree.specs.Internal.Lookups.{bool_cases, same_name, member_later}
 use Rattle.schema.specs.Document.Places.{Step, Place, schema_by, schema_at}
-use Rattle.schema.specs.Document.Limits.{size, HasMost, properties_most, required_most, list_map_keys_most, enum_most, IsTooLong}
-use Rattle.schema.specs.Internal.Events.{Event, entered, too_long, most_of, is_past, part_of, keyword_event, member_events, schema_events, IsIn}
+use Rattle.schema.specs.Document.Limits.{size, most_of, IsTooLong}
+use Rattle.schema.specs.Internal.Events.{Event, entered, too_long, is_past, part_of, keyword_event, member_events, schema_events, IsIn}
 use Rattle.schema.proofs.EventParts.{part_first, part_down, KeyEvent, members_down, members_up, step_from_part, part_from_step, step_up}
 
 -- ---- the limits of keywords
 
-pub data MostIs : List ℕ → Option ℕ → Type 0 where
-  some_most : (k : List ℕ) (n : ℕ) → HasMost k n → MostIs k (Some n)
-  no_most : (k : List ℕ) → MostIs k None
+past_down : (o : Option ℕ) (n : ℕ) → is_past o n ≡ true → (most : ℕ) × (o ≡ Some most) × (most < n)
+past_down None n past = cc
+past_down (Some most) n past = (most, refl, ltb-true most n past)
 
-either_most : (k keyword : List ℕ) (n : ℕ) (o : Option ℕ) → HasMost keyword n → MostIs k o → MostIs k (if bytes_eq k keyword then Some n else o)
-either_most k keyword n o here other = elim (bool_cases (bytes_eq k keyword)) [
-  | inl t ↦ rw t (some_most k n (subst (λ x. HasMost x n) (sym (same_name k keyword t)) here))
-  | inr f ↦ rw f other
-]
-
-most_is : (k : List ℕ) → MostIs k (most_of k)
-most_is k =
-    either_most k (codes "properties") 32 _ properties_most
-    (either_most k (codes "required") 32 _ required_most
-    (either_most k (codes "x-kubernetes-list-map-keys") 4 _ list_map_keys_most
-    (either_most k (codes "enum") 64 _ enum_most (no_most k))))
-
-past_down : (k : List ℕ) (o : Option ℕ) (n : ℕ) → MostIs k o → is_past o n ≡ true → (most : ℕ) × HasMost k most × (most < n)
-past_down k o n (some_most l most has) past = (most, has, ltb-true most n past)
-past_down k o n (no_most l) past = cc
-
-pub keyword_down : (p : Place) (k : List ℕ) (d : Data) (m : Event) → IsIn m (keyword_event p k d) → (m ≡ too_long p k) × ((most : ℕ) × HasMost k most × (most < size d))
+pub keyword_down : (p : Place) (k : List ℕ) (d : Data) (m : Event) → IsIn m (keyword_event p k d) → (m ≡ too_long p k) × ((most : ℕ) × (most_of k ≡ Some most) × (most < size d))
 keyword_down p k d m h = elim (bool_cases (is_past (most_of k) (size d))) [
   | inl t ↦ let h' : (m ≡ too_long p k) ⊎ ⊥ = rw t at h in elim h' [
-    | inl e ↦ (e, past_down k (most_of k) (size d) (most_is k) t)
+    | inl e ↦ (e, past_down (most_of k) (size d) t)
     | inr none ↦ elim none [ ]
   ]
   | inr f ↦ let h' : ⊥ = rw f at h in elim h' [ ]
 ]
 
-has_most : (k : List ℕ) (most : ℕ) → HasMost k most → most_of k ≡ Some most
-has_most k most properties_most = refl
-has_most k most required_most = refl
-has_most k most list_map_keys_most = refl
-has_most k most enum_most = refl
-
-pub keyword_up : (p : Place) (k : List ℕ) (d : Data) (most : ℕ) → HasMost k most → most < size d → IsIn (too_long p k) (keyword_event p k d)
-keyword_up p k d most has past =
-    let limit = has_most k most has in
+pub keyword_up : (p : Place) (k : List ℕ) (d : Data) (most : ℕ) → most_of k ≡ Some most → most < size d → IsIn (too_long p k) (keyword_event p k d)
+keyword_up p k d most limit past =
     let tested = lt-ltb most (size d) past in
     let is : is_past (most_of k) (size d) ≡ true = rw limit tested in
     rw is (inl refl)
 
 -- ---- trees, and induction along the steps of schemas
 
-pub member_tree : (ms : Members) (k : List ℕ) (w : Data) → IsObject ms → member_at k ms ≡ Some w → IsTree w
+pub member_tree : (ms : Members) (k : List ℕ) (w : Data) → AreMembers ms → member_at k ms ≡ Some w → IsTree w
 member_tree no_members k w sorted e = cc
 member_tree (member l d ms) k w sorted e = elim (bool_cases (bytes_eq k l)) [
   | inl t ↦ subst IsTree (same_Some d w (rw t at e)) sorted.0
@@ -74,20 +49,15 @@ item_tree zero (item x ds) d h e = subst IsTree (same_Some x d e) h.0
 item_tree (suc i) (item x ds) d h e = item_tree i ds d h.1 e
 
 by_tree : (d : Data) (s : tree.Step) (e : Data) → IsTree d → part_by d s ≡ Some e → IsTree e
-by_tree null s e o h = cc
-by_tree (boolean b) s e o h = cc
-by_tree (integer z) s e o h = cc
-by_tree (text t) s e o h = cc
 by_tree (list ds) (index i) e o h = item_tree i ds e o h
-by_tree (list ds) (name k) e o h = cc
 by_tree (object ms) (name k) e o h = member_tree ms k e o h
-by_tree (object ms) (index i) e o h = cc
+by_tree _ _ e o h = cc
 
 pub part_tree : (path : Path) (d e : Data) → IsTree d → part_at d path ≡ Some e → IsTree e
 part_tree [] d e o h = subst IsTree (same_Some d e h) o
 part_tree (s ∷ path) d e o h = let first = part_first d s path e h in part_tree path first.0 e (by_tree d s first.0 o first.1) first.2
 
-step_object : (ms : Members) (s : Step) (ns : Members) → IsObject ms → schema_by (object ms) s ≡ Some (object ns) → IsObject ns
+step_object : (ms : Members) (s : Step) (ns : Members) → AreMembers ms → schema_by (object ms) s ≡ Some (object ns) → AreMembers ns
 step_object ms s ns o h =
     let b = part_from_step ms s (object ns) h in
     let value : IsTree b.value = member_tree ms b.key b.value o b.at in
@@ -111,12 +81,9 @@ item_first P d ds here each (suc i) e h = each i e h
 
 mutual
   tree_induction : (P : Data → Type 0) → ((d : Data) → AllParts P d → P d) → (d : Data) → P d
-  tree_induction P step null = step null (λ s e h. cc)
-  tree_induction P step (boolean b) = step (boolean b) (λ s e h. cc)
-  tree_induction P step (integer z) = step (integer z) (λ s e h. cc)
-  tree_induction P step (text t) = step (text t) (λ s e h. cc)
   tree_induction P step (list ds) = step (list ds) (list_parts P ds (items_induction P step ds))
   tree_induction P step (object ms) = step (object ms) (object_parts P ms (members_induction P step ms))
+  tree_induction P step d = step d (λ s e h. cc)
 
   items_induction : (P : Data → Type 0) → ((d : Data) → AllParts P d → P d) → (ds : Items) → (i : ℕ) (e : Data) → item_at i ds ≡ Some e → P e
   items_induction P step no_items = λ i e h. cc
@@ -187,7 +154,7 @@ pub record StepOn (p : Place) (ms : Members) (m : Event) : Type 0 where
   pub leads : schema_by (object ms) step ≡ Some (object below)
   pub within : IsIn m (schema_events (p ++ (step ∷ [])) below)
 
-pub steps_down : (p : Place) (ms : Members) (m : Event) → IsObject ms → IsIn m (member_events p true ms) → KeywordHere p ms m ⊎ StepOn p ms m
+pub steps_down : (p : Place) (ms : Members) (m : Event) → AreMembers ms → IsIn m (member_events p true ms) → KeywordHere p ms m ⊎ StepOn p ms m
 steps_down p ms m o h =
     let found : KeyEvent p ms m = members_down p ms m o h in
     elim found.here [
@@ -218,7 +185,7 @@ here_keyword p ms m w =
     )
 
 abbrev pub HasEvents : Members → Type 0
-HasEvents ms = IsObject ms → (p : Place) (m : Event) → IsIn m (schema_events p ms) → EventOf (object ms) p m
+HasEvents ms = AreMembers ms → (p : Place) (m : Event) → IsIn m (schema_events p ms) → EventOf (object ms) p m
 
 events_step : Steps HasEvents
 events_step ms below o p m h = elim h [
@@ -229,7 +196,7 @@ events_step ms below o p m h = elim h [
   ]
 ]
 
-pub event_of : (ms : Members) → IsObject ms → (p : Place) (m : Event) → IsIn m (schema_events p ms) → EventOf (object ms) p m
+pub event_of : (ms : Members) → AreMembers ms → (p : Place) (m : Event) → IsIn m (schema_events p ms) → EventOf (object ms) p m
 event_of ms = schema_induction HasEvents events_step ms
 
 -- ---- each place and each keyword is an event
@@ -266,8 +233,8 @@ keyword_recorded ms r k long =
     let at : member_at k on.below ≡ Some long.value = subst (λ d. under d k ≡ Some long.value) on.is long.stands in
     on.each (too_long r k) (inr (members_up r on.below (too_long r k) k long.value at (inl (keyword_up r k long.value long.most long.limit long.past))))
 
-pub entered_schema : (ms : Members) → IsObject ms → (p : Place) (s : Data) → IsIn (entered p s) (schema_events [] ms) → schema_at (object ms) p ≡ Some s
+pub entered_schema : (ms : Members) → AreMembers ms → (p : Place) (s : Data) → IsIn (entered p s) (schema_events [] ms) → schema_at (object ms) p ≡ Some s
 entered_schema ms o p s h = let found = event_of ms o [] (entered p s) h in subst (λ q. schema_at (object ms) q ≡ Some s) (sym found.1) found.2
 
-pub recorded_keyword : (ms : Members) → IsObject ms → (p : Place) (k : List ℕ) → IsIn (too_long p k) (schema_events [] ms) → IsTooLong (object ms) p k
+pub recorded_keyword : (ms : Members) → AreMembers ms → (p : Place) (k : List ℕ) → IsIn (too_long p k) (schema_events [] ms) → IsTooLong (object ms) p k
 recorded_keyword ms o p k h = let found = event_of ms o [] (too_long p k) h in subst (λ q. IsTooLong (object ms) q k) (sym found.1) found.2
