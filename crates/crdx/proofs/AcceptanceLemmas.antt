@@ -6,7 +6,7 @@ use Rattle.std.proofs.lemmas.Option.{same_Some, option_and_then_some}
 use Rattle.std.proofs.lemmas.List.{take-append-drop, drop_more, length-map}
 use Rattle.std.proofs.lemmas.Cmp.{nat_list_cmp_total, tied_itself}
 use Rattle.std.specs.declared.cmp.Ordering.TheVariants.{Less, Greater}
-use Rattle.jtree.specs.Data.{Data, Items, Members, no_members, member, IsBefore, IsObject, depth, members_depth}
+use Rattle.jtree.specs.Data.{Data, Items, Members, no_members, member, IsNameBefore, AreMembers, depth, members_depth}
 use Rattle.jtree.specs.Data as tree
 use Rattle.jtree.specs.Order.{text_cmp}
 use Rattle.jtree.specs.Path.{member_at, under}
@@ -25,7 +25,7 @@ use Rattle.schema.specs.declared.violation.Violation.{Violation}
 use Rattle.crdx.specs.Objects.Refusal.{IsRefusal}
 use Rattle.schema.specs.declared.refused.Refused.{Refused}
 use Rattle.schema.specs.declared.refused.Refused.TheVariants.{Violations, NotYet, NoMemory}
-use Rattle.jtree.specs.Internal.Lookups.{bool_cases, option_cases, same_name, own_name, member_first, member_tail, before_each, IsBefore-trans}
+use Rattle.jtree.specs.Internal.Lookups.{bool_cases, option_cases, same_name, own_name, member_first, member_tail, before_each, IsNameBefore-trans}
 
 name_properties : List ℕ
 name_properties = codes "properties"
@@ -169,19 +169,19 @@ push_known root xs m old new (l ∷ q) s at = elim (below_some xs [] m (l ∷ q)
 ]
 
 -- the next of some members that stand in order
-next_member : (xs ys : List Member) (m : Member) → IsObject (members_of (xs ++ m ∷ ys)) → member_at m.name (members_of (xs ++ m ∷ ys)) ≡ Some (data_of m.tree)
+next_member : (xs ys : List Member) (m : Member) → AreMembers (members_of (xs ++ m ∷ ys)) → member_at m.name (members_of (xs ++ m ∷ ys)) ≡ Some (data_of m.tree)
 next_member [] ys m o = member_first m.name (data_of m.tree) (members_of ys)
 next_member (x ∷ xs) ys m o = member_tail x.name (data_of x.tree) (members_of (xs ++ m ∷ ys)) m.name (data_of m.tree) o (next_member xs ys m o.2)
 
-last_object : (xs ys : List Member) (m : Member) → IsObject (members_of (xs ++ m ∷ ys)) → IsObject (members_of (m ∷ ys))
+last_object : (xs ys : List Member) (m : Member) → AreMembers (members_of (xs ++ m ∷ ys)) → AreMembers (members_of (m ∷ ys))
 last_object [] ys m o = o
 last_object (x ∷ xs) ys m o = last_object xs ys m o.2
 
-later_member : (m : Member) (ys : List Member) (l : List ℕ) (q : Place) (s : Data) → IsObject (members_of (m ∷ ys)) → members_at (members_of ys) (l ∷ q) ≡ Some s → text_cmp m.name l ≡ Less
+later_member : (m : Member) (ys : List Member) (l : List ℕ) (q : Place) (s : Data) → AreMembers (members_of (m ∷ ys)) → members_at (members_of ys) (l ∷ q) ≡ Some s → text_cmp m.name l ≡ Less
 later_member m ys l q s o at = option_and_then_some (λ t. schema_at t q) (member_at l (members_of ys)) s at
     (λ t found rest. before_each m.name (members_of ys) l t o.1 o.2 found)
 
-pub some_first : (root : Bool) (xs ys : List Member) (m : Member) (place : Place) → IsObject (members_of (xs ++ m ∷ ys)) → AreKnown root (members_at (members_of xs))
+pub some_first : (root : Bool) (xs ys : List Member) (m : Member) (place : Place) → AreMembers (members_of (xs ++ m ∷ ys)) → AreKnown root (members_at (members_of xs))
     → IsFirst root (members_at (member m.name (data_of m.tree) no_members)) place → IsFirst root (members_at (members_of (xs ++ m ∷ ys))) place
 some_first root xs ys m place o known f =
     let below = below_one m.name (data_of m.tree) place f.schema f.is in
@@ -192,7 +192,7 @@ some_first root xs ys m place o known f =
       unknown = f.unknown;
       first = λ earlier s at before. earlier_known root xs ys m place below.0 o known f below.1 earlier s at before;
     } where
-      earlier_known : (root : Bool) (xs ys : List Member) (m : Member) (place q : Place) → IsObject (members_of (xs ++ m ∷ ys)) → AreKnown root (members_at (members_of xs))
+      earlier_known : (root : Bool) (xs ys : List Member) (m : Member) (place q : Place) → AreMembers (members_of (xs ++ m ∷ ys)) → AreKnown root (members_at (members_of xs))
           → IsFirst root (members_at (member m.name (data_of m.tree) no_members)) place → place ≡ m.name ∷ q
           → (earlier : Place) (s : Data) → members_at (members_of (xs ++ m ∷ ys)) earlier ≡ Some s → place_cmp earlier place ≡ Less → IsKnown root earlier s
       earlier_known root xs ys m place q o known f is [] s at before = cc
@@ -349,15 +349,15 @@ pub kept_dropped : (root : Bool) (xs : List Member) (m : Member) → IsEnvelope 
 kept_dropped true xs m e = root_dropped xs m e
 kept_dropped false xs m e = absurd e
 
-kept_before : (k : List ℕ) (ms : Members) → IsBefore k ms → IsObject ms → IsBefore k (kept true ms)
+kept_before : (k : List ℕ) (ms : Members) → IsNameBefore k ms → AreMembers ms → IsNameBefore k (kept true ms)
 kept_before k no_members before o = tt
 kept_before k (member l d ms) before o = elim (bool_cases (is_among l envelope_names)) [
-  | inl t ↦ rw t (kept_before k ms (IsBefore-trans k l ms before o.1) o.2)
+  | inl t ↦ rw t (kept_before k ms (IsNameBefore-trans k l ms before o.1) o.2)
   | inr f ↦ rw f before
 ]
 
-pub kept_object : (root : Bool) (ms : Members) → IsObject ms → IsObject (kept root ms)
-kept_object false ms o = subst IsObject (sym (kept_all ms)) o
+pub kept_object : (root : Bool) (ms : Members) → AreMembers ms → AreMembers (kept root ms)
+kept_object false ms o = subst AreMembers (sym (kept_all ms)) o
 kept_object true no_members o = tt
 kept_object true (member k d ms) o = elim (bool_cases (is_among k envelope_names)) [
   | inl t ↦ rw t (kept_object true ms o.2)
@@ -373,13 +373,13 @@ pub push_nodes : (fs : List Field) (f : Field) → AreNodes (fields_of fs) → I
 push_nodes [] f h node = (node, tt)
 push_nodes (g ∷ fs) f h node = (h.0, push_nodes fs f h.1 node)
 
-fields_before : (k l : List ℕ) (fs : Fields) (ms : Members) → k ≡ l → AreFieldsOf fs ms → IsBefore l ms → IsBeforeFields k fs
+fields_before : (k l : List ℕ) (fs : Fields) (ms : Members) → k ≡ l → AreFieldsOf fs ms → IsNameBefore l ms → IsBeforeFields k fs
 fields_before k l no_fields no_members same h before = tt
 fields_before k l no_fields (member m d ms) same h before = absurd h
 fields_before k l (field n N fs) no_members same h before = absurd h
 fields_before k l (field n N fs) (member m d ms) same h before = subst (λ x. text_cmp x n ≡ Less) (sym same) (subst (λ x. text_cmp l x ≡ Less) (sym h.0) before)
 
-pub fields_ordered : (fs : Fields) (ms : Members) → AreFieldsOf fs ms → AreNodes fs → IsObject ms → AreOrdered fs
+pub fields_ordered : (fs : Fields) (ms : Members) → AreFieldsOf fs ms → AreNodes fs → AreMembers ms → AreOrdered fs
 fields_ordered no_fields no_members h nodes o = tt
 fields_ordered no_fields (member l d ms) h nodes o = absurd h
 fields_ordered (field k N fs) no_members h nodes o = absurd h
@@ -399,9 +399,8 @@ refusal raw (NotYet p) whole r = (whole, (r.0, r.1, record { schema = r.2.schema
 refusal raw NoMemory whole r = tt
 
 -- where no violation is told, nothing is broken
-pub nothing_told : (raw : Data) (vs : List Violation) → AreViolations raw vs → vs ≡ [] → IsUnbroken raw
-nothing_told raw vs all none p r broken =
+pub nothing_told : (raw : Data) (vs : List Violation) → AreViolations raw vs → length vs ≡ 0 → IsUnbroken raw
+nothing_told raw vs all empty p r broken =
     let found = all.1.all p r broken in
     let same : length all.0 ≡ length vs = sym (length-map all.0 told_of) ∙ ap length (sym all.2) ∙ length-map vs told in
-    let empty : length vs ≡ 0 = ap length none in
     absurd (omega (arith, found.1))

@@ -7,13 +7,13 @@ use Rattle.std.specs.Ordering.{ordering_reverse}
 use Rattle.std.proofs.lemmas.Cmp.{nat_list_cmp_total}
 use Rattle.std.proofs.lemmas.Map.Lookups.{exact_bytes}
 use Rattle.std.proofs.lemmas.Option.{same_Some}
-use Rattle.jtree.specs.Data.{Data, Members, no_members, member, IsBefore, IsObject, IsTree}
+use Rattle.jtree.specs.Data.{Data, Members, no_members, member, IsNameBefore, AreMembers, IsTree}
 use Rattle.jtree.specs.Data as tree
 use Rattle.jtree.specs.Order.{text_cmp}
 use Rattle.jtree.specs.Path.{member_at}
 use Rattle.crdx.specs.Objects.Node.{Node, scalar, object, Fields, no_fields, field, declared, is_nullable}
 use Rattle.crdx.specs.Objects.Filled.{filled, filled_members, replaced, without, with_member, standing}
-use Rattle.jtree.specs.Internal.Lookups.{bool_cases, option_cases, ordering_cases, same_name, member_first, member_later, before_none, IsBefore-trans, past_name}
+use Rattle.jtree.specs.Internal.Lookups.{bool_cases, option_cases, ordering_cases, same_name, member_first, member_later, before_none, IsNameBefore-trans, past_name}
 use Rattle.crdx.proofs.Names.{declared_later}
 use Rattle.crdx.proofs.FitsLemmas.{member_tree}
 
@@ -22,12 +22,12 @@ before_of k l past = nat_list_cmp_total.antisymm l k ∙ ap ordering_reverse pas
 
 -- ---- one name replaced
 
-replaced_at : (k : List ℕ) (o : Option Data) (ms : Members) → IsObject ms → member_at k (replaced k o ms) ≡ o
+replaced_at : (k : List ℕ) (o : Option Data) (ms : Members) → AreMembers ms → member_at k (replaced k o ms) ≡ o
 replaced_at k None no_members sorted = refl
 replaced_at k (Some e) no_members sorted = member_first k e no_members
 replaced_at k None (member l d ms) sorted = elim (ordering_cases (text_cmp k l)) [
   | inl before ↦ rw before (before_none k (member l d ms) before sorted)
-  | inr (inl same) ↦ rw same (let is = exact_bytes k l same in before_none k ms (subst (λ n. IsBefore n ms) (sym is) sorted.1) sorted.2)
+  | inr (inl same) ↦ rw same (let is = exact_bytes k l same in before_none k ms (subst (λ n. IsNameBefore n ms) (sym is) sorted.1) sorted.2)
   | inr (inr past) ↦ rw past (member_later k l d (without k ms) (past_name k l past) ∙ replaced_at k None ms sorted.2)
 ]
 replaced_at k (Some e) (member l d ms) sorted = elim (ordering_cases (text_cmp k l)) [
@@ -53,12 +53,12 @@ replaced_elsewhere j k (Some e) (member l d ms) other = elim (ordering_cases (te
   | inr (inr past) ↦ rw past (same_later j l d (with_member k e ms) ms (replaced_elsewhere j k (Some e) ms other))
 ]
 
-replaced_before : (j k : List ℕ) (o : Option Data) (ms : Members) → text_cmp j k ≡ Less → IsBefore j ms → IsObject ms → IsBefore j (replaced k o ms)
+replaced_before : (j k : List ℕ) (o : Option Data) (ms : Members) → text_cmp j k ≡ Less → IsNameBefore j ms → AreMembers ms → IsNameBefore j (replaced k o ms)
 replaced_before j k None no_members jk before sorted = tt
 replaced_before j k (Some e) no_members jk before sorted = jk
 replaced_before j k None (member l d ms) jk before sorted = elim (ordering_cases (text_cmp k l)) [
   | inl first ↦ rw first before
-  | inr (inl same) ↦ rw same (IsBefore-trans j l ms before sorted.1)
+  | inr (inl same) ↦ rw same (IsNameBefore-trans j l ms before sorted.1)
   | inr (inr past) ↦ rw past before
 ]
 replaced_before j k (Some e) (member l d ms) jk before sorted = elim (ordering_cases (text_cmp k l)) [
@@ -67,7 +67,7 @@ replaced_before j k (Some e) (member l d ms) jk before sorted = elim (ordering_c
   | inr (inr past) ↦ rw past before
 ]
 
-replaced_sorted : (k : List ℕ) (o : Option Data) (ms : Members) → IfSome o IsTree → IsObject ms → IsObject (replaced k o ms)
+replaced_sorted : (k : List ℕ) (o : Option Data) (ms : Members) → IfSome o IsTree → AreMembers ms → AreMembers (replaced k o ms)
 replaced_sorted k None no_members t sorted = tt
 replaced_sorted k (Some e) no_members t sorted = (t, tt, tt)
 replaced_sorted k None (member l d ms) t sorted = elim (ordering_cases (text_cmp k l)) [
@@ -77,7 +77,7 @@ replaced_sorted k None (member l d ms) t sorted = elim (ordering_cases (text_cmp
 ]
 replaced_sorted k (Some e) (member l d ms) t sorted = elim (ordering_cases (text_cmp k l)) [
   | inl first ↦ rw first (t, first, sorted)
-  | inr (inl same) ↦ rw same (t, subst (λ n. IsBefore n ms) (sym (exact_bytes k l same)) sorted.1, sorted.2)
+  | inr (inl same) ↦ rw same (t, subst (λ n. IsNameBefore n ms) (sym (exact_bytes k l same)) sorted.1, sorted.2)
   | inr (inr past) ↦ rw past (sorted.0, replaced_before l k (Some e) ms (before_of k l past) sorted.1 sorted.2, replaced_sorted k (Some e) ms t sorted.2)
 ]
 
@@ -93,7 +93,7 @@ standing_tree nullable fill (Some (tree.text s)) f t = f (tree.text s) t
 standing_tree nullable fill (Some (tree.list ds)) f t = f (tree.list ds) t
 standing_tree nullable fill (Some (tree.object ms)) f t = f (tree.object ms) t
 
-found_tree : (k : List ℕ) (ms : Members) → IsObject ms → IfSome (member_at k ms) IsTree
+found_tree : (k : List ℕ) (ms : Members) → AreMembers ms → IfSome (member_at k ms) IsTree
 found_tree k ms sorted = elim (option_cases (member_at k ms)) [
   | inl none ↦ rw none tt
   | inr d ↦ rw d.1 (member_tree ms k d.0 sorted d.1)
@@ -109,7 +109,7 @@ mutual
   filled_tree (object fs) (tree.list ds) t = t
   filled_tree (object fs) (tree.object ms) t = filled_sorted fs ms t
 
-  filled_sorted : (fs : Fields) (ms : Members) → IsObject ms → IsObject (filled_members fs ms)
+  filled_sorted : (fs : Fields) (ms : Members) → AreMembers ms → AreMembers (filled_members fs ms)
   filled_sorted no_fields ms t = t
   filled_sorted (field k N fs) ms t =
       replaced_sorted k (standing (is_nullable N) (λ d. filled N d) (member_at k ms)) (filled_members fs ms)
@@ -117,7 +117,7 @@ mutual
 
 -- ---- what stands under a name in the end
 
-pub filled_declared : (fs : Fields) (ms : Members) (k : List ℕ) (M : Node) → IsObject ms → declared k fs ≡ Some M
+pub filled_declared : (fs : Fields) (ms : Members) (k : List ℕ) (M : Node) → AreMembers ms → declared k fs ≡ Some M
     → member_at k (filled_members fs ms) ≡ standing (is_nullable M) (λ d. filled M d) (member_at k ms)
 filled_declared no_fields ms k M t is = cc
 filled_declared (field l N fs) ms k M t is = elim (bool_cases (bytes_eq k l)) [

@@ -3,7 +3,7 @@ use Rattle.std.proofs.Common.{◌≡◌, ℕ, List, [], ◌∷◌, false, Option
 use Rattle.std.specs.Prelude.{option_and_then, option_map}
 use Rattle.std.specs.Str.{bytes_eq}
 use Rattle.std.proofs.lemmas.Option.{option_and_then_some, same_Some}
-use Rattle.jtree.specs.Data.{Data, Members, no_members, member, IsBefore, IsObject, IsTree}
+use Rattle.jtree.specs.Data.{Data, Members, no_members, member, IsNameBefore, AreMembers, IsTree}
 use Rattle.jtree.specs.Data as tree
 use Rattle.jtree.specs.Path.{Path, Step, name, index, member_at, part_by, part_at}
 use Rattle.crdx.specs.Objects.Node.{boolean, integer, Node, scalar, object, Fields, no_fields, field, declared, is_nullable, IsNode, AreOrdered}
@@ -107,7 +107,7 @@ replaced_past k l (Some e) d ms past = rw past refl
 replaced_here : (k l : List ℕ) (d : Data) (ms : Members) → k ≡ l → replaced k (member_at k (member l d ms)) (member l d ms) ≡ member l d ms
 replaced_here k l d ms same = rw same (rw (own_name l, tied_itself nat_list_cmp_total l) refl)
 
-replaced_same : (k : List ℕ) (ms : Members) → IsObject ms → replaced k (member_at k ms) ms ≡ ms
+replaced_same : (k : List ℕ) (ms : Members) → AreMembers ms → replaced k (member_at k ms) ms ≡ ms
 replaced_same k no_members sorted = refl
 replaced_same k (member l d ms) sorted = elim (ordering_cases (text_cmp k l)) [
   | inl before ↦ rw (before_none k (member l d ms) before sorted) (rw before refl)
@@ -126,7 +126,7 @@ standing_same P N (tree.list ds) h e = ap Some e
 standing_same P N (tree.object ms) h e = ap Some e
 
 -- what stands under a name is a tree
-pub member_tree : (ms : Members) (k : List ℕ) (w : Data) → IsObject ms → member_at k ms ≡ Some w → IsTree w
+pub member_tree : (ms : Members) (k : List ℕ) (w : Data) → AreMembers ms → member_at k ms ≡ Some w → IsTree w
 member_tree no_members k w sorted e = cc
 member_tree (member l d ms) k w sorted e = elim (bool_cases (bytes_eq k l)) [
   | inl t ↦ subst IsTree (same_Some d w (rw t at e)) sorted.0
@@ -144,7 +144,7 @@ mutual
   fits_filled P (object fs) (tree.object ms) node t h =
       ap tree.object (fits_filled_members P fs ms node t (λ k M w d m. let f = fits_member P fs ms k w h m in subst (λ N. Fits P N w) (same_Some f.0 M (sym f.1 ∙ d)) f.2))
 
-  fits_filled_members : (P : Pools) (fs : Fields) (ms : Members) → AreOrdered fs → IsObject ms
+  fits_filled_members : (P : Pools) (fs : Fields) (ms : Members) → AreOrdered fs → AreMembers ms
       → ((k : List ℕ) (M : Node) (w : Data) → declared k fs ≡ Some M → member_at k ms ≡ Some w → Fits P M w) → filled_members fs ms ≡ ms
   fits_filled_members P no_fields ms ordered sorted h = refl
   fits_filled_members P (field k N fs) ms ordered sorted h =
@@ -220,8 +220,8 @@ mutual
   stored_fits P (object fs) (tree.list ds) t valid over = absurd (faultless_kind _ _ valid (fault.kind _ _ (λ e. cc) refl))
 
   -- some last members of a valid object over the pools
-  members_stored_fit : (P : Pools) (fs : Fields) (all ms : Members) → IsObject all → IsValid (object fs) (tree.object all) → IsOver P (object fs) (tree.object all)
-      → ((k : List ℕ) (w : Data) → member_at k ms ≡ Some w → member_at k all ≡ Some w) → IsObject ms → MembersFit P fs ms
+  members_stored_fit : (P : Pools) (fs : Fields) (all ms : Members) → AreMembers all → IsValid (object fs) (tree.object all) → IsOver P (object fs) (tree.object all)
+      → ((k : List ℕ) (w : Data) → member_at k ms ≡ Some w → member_at k all ≡ Some w) → AreMembers ms → MembersFit P fs ms
   members_stored_fit P fs all no_members whole valid over among sorted = tt
   members_stored_fit P fs all (member k d ms) whole valid over among sorted =
       let here : member_at k all ≡ Some d = among k d (member_first k d ms) in

@@ -11,7 +11,7 @@ use Rattle.std.proofs.lemmas.Bool.{cases_lt}
 use Rattle.std.proofs.lemmas.Option.{same_Some}
 use Rattle.std.proofs.lemmas.Cmp.{nat_list_cmp_total, tied_itself}
 use Rattle.std.specs.declared.cmp.Ordering.TheVariants.{Less, Equal, Greater}
-use Rattle.jtree.specs.Data.{Data, Items, no_items, item, Members, no_members, member, IsObject, AreTrees}
+use Rattle.jtree.specs.Data.{Data, Items, no_items, item, Members, no_members, member, AreMembers, AreTrees}
 use Rattle.jtree.specs.Data as tree
 use Rattle.jtree.specs.Order.{text_cmp}
 use Rattle.jtree.specs.Path.{Path, name, index, member_at, item_at, under}
@@ -130,7 +130,7 @@ not_less_index k i j h less = elim (cases_lt j i) [
 ]
 
 -- a name of the members is the first one, or comes later
-not_less_first : (k : List ℕ) (d : Data) (ms : Members) (l : List ℕ) (p : Path) → IsObject (member k d ms) → member_at l (member k d ms) ≢ None
+not_less_first : (k : List ℕ) (d : Data) (ms : Members) (l : List ℕ) (p : Path) → AreMembers (member k d ms) → member_at l (member k d ms) ≢ None
     → path_cmp (name l ∷ p) (name k ∷ []) ≢ Less
 not_less_first k d ms l p o present = elim (bool_cases (bytes_eq l k)) [
   | inl t ↦ let P : List ℕ → Type 0 = λ n. path_cmp (name n ∷ p) (name k ∷ []) ≢ Less in subst P (sym (same_name l k t)) (not_less_end k p)
@@ -141,7 +141,7 @@ not_less_first k d ms l p o present = elim (bool_cases (bytes_eq l k)) [
 ]
 
 -- no break comes before the first name
-break_later : (k : List ℕ) (d : Data) (ms : Members) (e : Path) → IsObject (member k d ms) → BreaksForm (tree.object (member k d ms)) e → path_cmp e (name k ∷ []) ≢ Less
+break_later : (k : List ℕ) (d : Data) (ms : Members) (e : Path) → AreMembers (member k d ms) → BreaksForm (tree.object (member k d ms)) e → path_cmp e (name k ∷ []) ≢ Less
 break_later k d ms e o (no_object _ h) = λ _. cc
 break_later k d ms e o (other_member _ l other present) = not_less_first k d ms l [] o present
 break_later k d ms e o (no_list _ v at other) = not_less_first k d ms name_integers [] o (λ none. cc)
@@ -149,7 +149,7 @@ break_later k d ms e o (no_integer _ ds i v at item_is other) = not_less_first k
 
 -- ---- the first break
 
-pub other_first : (k : List ℕ) (d : Data) (ms : Members) → IsObject (member k d ms) → bytes_eq k name_integers ≡ false
+pub other_first : (k : List ℕ) (d : Data) (ms : Members) → AreMembers (member k d ms) → bytes_eq k name_integers ≡ false
     → IsFirst (BreaksForm (tree.object (member k d ms))) (name k ∷ [])
 other_first k d ms o f = record {
   here = other_member _ k (λ same. let own = own_name name_integers in let t : bytes_eq k name_integers ≡ true = subst (λ n. bytes_eq n name_integers ≡ true) (sym same) own in cc)
@@ -157,7 +157,7 @@ other_first k d ms o f = record {
   none_before = λ e b. break_later k d ms e o b;
 }
 
-no_list_first : (d : Data) (ms : Members) → IsObject (member name_integers d ms) → ((ds : Items) → d ≢ tree.list ds)
+no_list_first : (d : Data) (ms : Members) → AreMembers (member name_integers d ms) → ((ds : Items) → d ≢ tree.list ds)
     → IsFirst (BreaksForm (tree.object (member name_integers d ms))) (name name_integers ∷ [])
 no_list_first d ms o h = record {
   here = no_list _ d (member_first name_integers d ms) h;
@@ -165,7 +165,7 @@ no_list_first d ms o h = record {
 }
 
 -- where the pool is a list, a break is one of its entries, or of a later member
-list_first : (ds : Items) (ms : Members) (n : ℕ) → IsObject (member name_integers (tree.list ds) ms) → IsOther ds n → (e : Path)
+list_first : (ds : Items) (ms : Members) (n : ℕ) → AreMembers (member name_integers (tree.list ds) ms) → IsOther ds n → (e : Path)
     → BreaksForm (tree.object (member name_integers (tree.list ds) ms)) e → path_cmp e (name name_integers ∷ index n ∷ []) ≢ Less
 list_first ds ms n o other e (no_object _ h) = λ _. cc
 list_first ds ms n o other e (other_member _ l differs present) = elim (bool_cases (bytes_eq l name_integers)) [
@@ -182,7 +182,7 @@ list_first ds ms n o other e (no_integer _ es j v at item_is differs) =
     let items : ds ≡ es = cc in
     not_less_index name_integers n j (λ below. let whole = other.first j v below (subst (λ x. item_at j x ≡ Some v) (sym items) item_is) in cc)
 
-pool_first : (d : Data) (ms : Members) (q : Path) → IsObject (member name_integers d ms) → pool_break d ≡ Some q
+pool_first : (d : Data) (ms : Members) (q : Path) → AreMembers (member name_integers d ms) → pool_break d ≡ Some q
     → IsFirst (BreaksForm (tree.object (member name_integers d ms))) (name name_integers ∷ q)
 pool_first tree.null ms q o h = subst (λ p. IsFirst (BreaksForm (tree.object (member name_integers tree.null ms))) (name name_integers ∷ p)) (same_Some [] q h) (no_list_first tree.null ms o (λ ds e. cc))
 pool_first (tree.boolean b) ms q o h = subst (λ p. IsFirst (BreaksForm (tree.object (member name_integers (tree.boolean b) ms))) (name name_integers ∷ p)) (same_Some [] q h) (no_list_first (tree.boolean b) ms o (λ ds e. cc))
@@ -208,7 +208,7 @@ good_list (tree.list ds) h = (ds, refl, option_map_none (λ (i : ℕ). index i �
 good_list (tree.object ms) h = cc
 
 -- a break behind it is one of the whole
-raised : (d : Data) (ms : Members) (e : Path) → IsObject (member name_integers d ms) → BreaksForm (tree.object ms) e → BreaksForm (tree.object (member name_integers d ms)) e
+raised : (d : Data) (ms : Members) (e : Path) → AreMembers (member name_integers d ms) → BreaksForm (tree.object ms) e → BreaksForm (tree.object (member name_integers d ms)) e
 raised d ms e o (no_object _ h) = cc
 raised d ms e o (other_member _ l other present) = elim (bool_cases (bytes_eq l name_integers)) [
   | inl t ↦ absurd (other (same_name l name_integers t))
@@ -218,7 +218,7 @@ raised d ms e o (no_list _ v at other) = let none = before_none name_integers ms
 raised d ms e o (no_integer _ ds i v at item_is other) = let none = before_none name_integers ms o.1 o.2 in cc
 
 -- and the other way round
-lowered : (d : Data) (ms : Members) (e : Path) → IsObject (member name_integers d ms) → pool_break d ≡ None → BreaksForm (tree.object (member name_integers d ms)) e → BreaksForm (tree.object ms) e
+lowered : (d : Data) (ms : Members) (e : Path) → AreMembers (member name_integers d ms) → pool_break d ≡ None → BreaksForm (tree.object (member name_integers d ms)) e → BreaksForm (tree.object ms) e
 lowered d ms e o good (no_object _ h) = cc
 lowered d ms e o good (other_member _ l other present) = elim (bool_cases (bytes_eq l name_integers)) [
   | inl t ↦ absurd (other (same_name l name_integers t))
@@ -235,7 +235,7 @@ lowered d ms e o good (no_integer _ es i v at item_is other) =
     let whole = others_none es (subst (λ x. other_item x ≡ None) items ds.2) i v item_is in
     cc
 
-good_first : (d : Data) (ms : Members) (path : Path) → IsObject (member name_integers d ms) → pool_break d ≡ None
+good_first : (d : Data) (ms : Members) (path : Path) → AreMembers (member name_integers d ms) → pool_break d ≡ None
     → IsFirst (BreaksForm (tree.object ms)) path → IsFirst (BreaksForm (tree.object (member name_integers d ms))) path
 good_first d ms path o good h = record {
   here = raised d ms path o h.here;
@@ -246,7 +246,7 @@ or_else_none : (o p : Option Path) → or_else o p ≡ None → (o ≡ None) × 
 or_else_none None p h = (refl, h)
 or_else_none (Some x) p h = cc
 
-pub members_form : (ms : Members) → IsObject ms → members_break ms ≡ None → HasForm (tree.object ms)
+pub members_form : (ms : Members) → AreMembers ms → members_break ms ≡ None → HasForm (tree.object ms)
 members_form no_members o h e (no_object _ is) = cc
 members_form no_members o h e (other_member _ l other present) = absurd (present refl)
 members_form no_members o h e (no_list _ v at other) = cc
@@ -256,7 +256,7 @@ members_form (member k d ms) o h e b = elim (bool_cases (bytes_eq k name_integer
       let same : k ≡ name_integers = same_name k name_integers t in
       let none = or_else_none (below_name k (pool_break d)) (members_break ms) (rw t at h) in
       let good : pool_break d ≡ None = option_map_none (λ (path : Path). name k ∷ path) (pool_break d) none.0 in
-      let o' = subst (λ n. IsObject (member n d ms)) same o in
+      let o' = subst (λ n. AreMembers (member n d ms)) same o in
       let b' = subst (λ n. BreaksForm (tree.object (member n d ms)) e) same b in
       members_form ms o.2 none.1 e (lowered d ms e o' good b')
   | inr f ↦ let some = rw f at h in cc
@@ -266,12 +266,12 @@ or_else_some : (o p : Option Path) (x : Path) → or_else o p ≡ Some x → (o 
 or_else_some None p x h = inr (refl, h)
 or_else_some (Some y) p x h = inl h
 
-pub members_first : (ms : Members) (path : Path) → IsObject ms → members_break ms ≡ Some path → IsFirst (BreaksForm (tree.object ms)) path
+pub members_first : (ms : Members) (path : Path) → AreMembers ms → members_break ms ≡ Some path → IsFirst (BreaksForm (tree.object ms)) path
 members_first no_members path o h = cc
 members_first (member k d ms) path o h = elim (bool_cases (bytes_eq k name_integers)) [
   | inl t ↦
       let same : k ≡ name_integers = same_name k name_integers t in
-      let o' = subst (λ n. IsObject (member n d ms)) same o in
+      let o' = subst (λ n. AreMembers (member n d ms)) same o in
       elim (or_else_some (below_name k (pool_break d)) (members_break ms) path (rw t at h)) [
         | inl here ↦
             let q = option_map_some (λ (p : Path). name k ∷ p) (pool_break d) path here in
@@ -323,7 +323,7 @@ integers_fit (item (tree.object ms) ds) h = integers_fit ds h.1
 
 -- ---- faults
 
-pub members_fault : (ms : Members) → IsObject ms → (e : PFault) → IsBreakFault (members_break ms) e → IsPoolsFault (tree.object ms) e
+pub members_fault : (ms : Members) → AreMembers ms → (e : PFault) → IsBreakFault (members_break ms) e → IsPoolsFault (tree.object ms) e
 members_fault ms o (Form p) h = (h.0, h.1, members_first ms h.0 o h.2)
 members_fault ms o TooLarge h = absurd h
 members_fault ms o NoMemory h = tt

@@ -7,7 +7,7 @@ use Rattle.std.proofs.lemmas.Option.{same_Some}
 use Rattle.std.proofs.lemmas.Map.Lookups.{exact_bytes}
 use Rattle.std.proofs.lemmas.Cmp.{nat_list_cmp_total}
 use Rattle.std.specs.Ordering.{ordering_reverse}
-use Rattle.jtree.specs.Data.{Data, Items, no_items, item, Members, no_members, member, IsBefore, IsObject, IsTree, AreTrees}
+use Rattle.jtree.specs.Data.{Data, Items, no_items, item, Members, no_members, member, IsNameBefore, AreMembers, IsTree, AreTrees}
 use Rattle.jtree.specs.Data as tree
 use Rattle.jtree.specs.Order.{text_cmp}
 use Rattle.jtree.specs.Path.{Path, Step, name, index, member_at, item_at, part_at}
@@ -15,7 +15,7 @@ use Rattle.crdx.specs.Objects.Node.{Node, scalar, object, Fields, declared}
 use Rattle.crdx.specs.Objects.Leads.{node_by, leads}
 use Rattle.crdx.specs.Objects.Pruned.{IsUndeclared, undeclared, IsCut, IsPruned, label, label_at}
 use Rattle.crdx.specs.Objects.ByLevel.{in_front, pruned, pruned_members}
-use Rattle.jtree.specs.Internal.Lookups.{bool_cases, option_cases, ordering_cases, same_name, member_first, member_later, before_none, IsBefore-trans}
+use Rattle.jtree.specs.Internal.Lookups.{bool_cases, option_cases, ordering_cases, same_name, member_first, member_later, before_none, IsNameBefore-trans}
 
 -- ---- what stands where after pruning level by level
 
@@ -175,7 +175,7 @@ turned_names : (k l : List ℕ) → text_cmp k l ≡ Greater → text_cmp l k �
 turned_names k l after = nat_list_cmp_total.antisymm l k ∙ ap ordering_reverse after
 
 -- behind equal first names, the other members agree where the whole objects do
-same_rest : (k l : List ℕ) (d e : Data) (ms ns : Members) → k ≡ l → IsObject (member k d ms) → IsObject (member l e ns) → (m : List ℕ) (path : Path)
+same_rest : (k l : List ℕ) (d e : Data) (ms ns : Members) → k ≡ l → AreMembers (member k d ms) → AreMembers (member l e ns) → (m : List ℕ) (path : Path)
     → option_map label (option_and_then (λ x. part_at x path) (member_at m (member k d ms))) ≡ option_map label (option_and_then (λ x. part_at x path) (member_at m (member l e ns)))
     → option_map label (option_and_then (λ x. part_at x path) (member_at m ms)) ≡ option_map label (option_and_then (λ x. part_at x path) (member_at m ns))
 same_rest k l d e ms ns is t u m path h = elim (bool_cases (bytes_eq m k)) [
@@ -204,7 +204,7 @@ mutual
   same_items no_items (item e es) t u h = let n = h 0 [] in cc
   same_items (item d ds) no_items t u h = let n = h 0 [] in cc
 
-  same_members : (ms ns : Members) → IsObject ms → IsObject ns
+  same_members : (ms ns : Members) → AreMembers ms → AreMembers ns
       → ((k : List ℕ) (path : Path) → option_map label (option_and_then (λ e. part_at e path) (member_at k ms)) ≡ option_map label (option_and_then (λ e. part_at e path) (member_at k ns))) → ms ≡ ns
   same_members no_members no_members t u h = refl
   same_members no_members (member l e ns) t u h = let n = rw (member_first l e ns) at (h l []) in cc
@@ -252,10 +252,10 @@ cut_decided (object fs) (tree.object ms) (name k ∷ path) = elim (option_cases 
   ]
 ]
 
-pruned_before : (fs : Fields) (k : List ℕ) (ms : Members) → IsBefore k ms → IsObject ms → IsBefore k (pruned_members fs ms)
+pruned_before : (fs : Fields) (k : List ℕ) (ms : Members) → IsNameBefore k ms → AreMembers ms → IsNameBefore k (pruned_members fs ms)
 pruned_before fs k no_members before sorted = tt
 pruned_before fs k (member l d ms) before sorted = elim (option_cases (declared l fs)) [
-  | inl none ↦ rw none (pruned_before fs k ms (IsBefore-trans k l ms before sorted.1) sorted.2)
+  | inl none ↦ rw none (pruned_before fs k ms (IsNameBefore-trans k l ms before sorted.1) sorted.2)
   | inr M ↦ rw M.1 before
 ]
 
@@ -269,7 +269,7 @@ mutual
   pruned_tree (object fs) (tree.list ds) t = t
   pruned_tree (object fs) (tree.object ms) t = pruned_object fs ms t
 
-  pruned_object : (fs : Fields) (ms : Members) → IsObject ms → IsObject (pruned_members fs ms)
+  pruned_object : (fs : Fields) (ms : Members) → AreMembers ms → AreMembers (pruned_members fs ms)
   pruned_object fs no_members t = tt
   pruned_object fs (member k d ms) t = elim (option_cases (declared k fs)) [
     | inl none ↦ rw none (pruned_object fs ms t.2)

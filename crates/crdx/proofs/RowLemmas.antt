@@ -3,13 +3,13 @@ use Rattle.std.proofs.Common.{◌≡◌, ◌⊎◌, ◌↔◌, ℕ, ◌+◌, ◌
 use Rattle.std.specs.Str.{bytes_eq}
 use Rattle.std.proofs.lemmas.Option.{same_Some}
 use Rattle.std.proofs.lemmas.List.Elements.{Contains-append_left, Contains-append_right, Contains-push, Contains-push_cases, Contains-append_cases}
-use Rattle.jtree.specs.Data.{Data, Members, no_members, member, IsBefore, IsObject}
+use Rattle.jtree.specs.Data.{Data, Members, no_members, member, IsNameBefore, AreMembers}
 use Rattle.jtree.specs.Nodes.{node_count, members_count}
 use Rattle.crdx.specs.Objects.Node.{Node, Fields, no_fields, field, declared, IsBeforeFields, AreOrdered}
 use Rattle.crdx.specs.Samples.Over.{Pools}
 use Rattle.crdx.specs.Objects.Fits.{Fits, MembersFit}
 use Rattle.crdx.specs.Internal.Values.{AreValuesOf, IsRowOf, AreRowsOf, IsExtendedRow, AreExtendedRows}
-use Rattle.jtree.specs.Internal.Lookups.{bool_cases, same_name, later_name, IsBefore-trans}
+use Rattle.jtree.specs.Internal.Lookups.{bool_cases, same_name, later_name, IsNameBefore-trans}
 use Rattle.crdx.proofs.Names.{before_each_field, declared_first, declared_later, declared_tail}
 
 -- the one element of a list
@@ -77,7 +77,7 @@ module _ (k : List ℕ) (room : ℕ) where
 -- ---- one field more
 
 -- the names of a row that fits come after a name before all fields
-pub row_after : (P : Pools) (k : List ℕ) (fs : Fields) (ms : Members) → IsBeforeFields k fs → AreOrdered fs → MembersFit P fs ms → IsBefore k ms
+pub row_after : (P : Pools) (k : List ℕ) (fs : Fields) (ms : Members) → IsBeforeFields k fs → AreOrdered fs → MembersFit P fs ms → IsNameBefore k ms
 row_after P k fs no_members before ordered fits = tt
 row_after P k fs (member l d ms) before ordered fits = before_each_field k fs l fits.0 before ordered fits.1
 
@@ -86,10 +86,10 @@ wider P k N fs no_members ordered fits = tt
 wider P k N fs (member l d ms) ordered fits = (fits.0, declared_tail k N fs l fits.0 ordered fits.1, fits.2, wider P k N fs ms ordered fits.3)
 
 -- a row whose names all come after the first field's fits the other fields
-narrower : (P : Pools) (k : List ℕ) (N : Node) (fs : Fields) (ms : Members) → IsBefore k ms → IsObject ms → MembersFit P (field k N fs) ms → MembersFit P fs ms
+narrower : (P : Pools) (k : List ℕ) (N : Node) (fs : Fields) (ms : Members) → IsNameBefore k ms → AreMembers ms → MembersFit P (field k N fs) ms → MembersFit P fs ms
 narrower P k N fs no_members before sorted fits = tt
 narrower P k N fs (member l d ms) before sorted fits =
-    (fits.0, sym (declared_later l k N fs (later_name l k before)) ∙ fits.1, fits.2, narrower P k N fs ms (IsBefore-trans k l ms before sorted.1) sorted.2 fits.3)
+    (fits.0, sym (declared_later l k N fs (later_name l k before)) ∙ fits.1, fits.2, narrower P k N fs ms (IsNameBefore-trans k l ms before sorted.1) sorted.2 fits.3)
 
 module _ (P : Pools) (k : List ℕ) (N : Node) (fs : Fields) (room : ℕ) (ordered : AreOrdered (field k N fs)) where
   kept_row : (ms : Members) → IsRowOf P fs room ms → IsRowOf P (field k N fs) room ms
@@ -113,7 +113,7 @@ module _ (P : Pools) (k : List ℕ) (N : Node) (fs : Fields) (room : ℕ) (order
         let same : l ≡ k = same_name l k t in
         let is : r.fits.0 ≡ N = same_Some r.fits.0 N (sym r.fits.1 ∙ (ap (λ n. declared n (field k N fs)) same ∙ declared_first k N fs)) in
         let sums : node_count d + members_count ms ≤ room = r.within in
-        let before : IsBefore k ms = subst (λ n. IsBefore n ms) same r.sorted.1 in
+        let before : IsNameBefore k ms = subst (λ n. IsNameBefore n ms) same r.sorted.1 in
         inr (record {
           value = d;
           row = ms;
@@ -124,7 +124,7 @@ module _ (P : Pools) (k : List ℕ) (N : Node) (fs : Fields) (room : ℕ) (order
         })
     | inr f ↦
         let found = sym (declared_later l k N fs f) ∙ r.fits.1 in
-        let before : IsBefore k (member l d ms) = before_each_field k fs l r.fits.0 ordered.1 ordered.2 found in
+        let before : IsNameBefore k (member l d ms) = before_each_field k fs l r.fits.0 ordered.1 ordered.2 found in
         inl ((rs (member l d ms)).1 (record { sorted = r.sorted; fits = narrower P k N fs (member l d ms) before r.sorted r.fits; within = r.within }))
   ]
 

@@ -16,13 +16,16 @@ use Rattle.crdx.specs.Output.PartialOutput.{IsPartialOutput, IsCutByFailure, IsC
 use Rattle.crdx.specs.Output.Walk.{WritesPage}
 use Rattle.crdx.specs.Program.Requested.{ArePools, IsRequested, IsRequestedSchema, HasAcceptedSchema, IsCrdRefused}
 use Rattle.crdx.specs.Program.Documents.{Documents, AreAmong}
-use Rattle.crdx.specs.Internal.ExitStatus.{status, cause_of_reading, cause_of_refusal, cause_of_walk, IsGiven}
+use Rattle.crdx.specs.Internal.ExitStatus.{status, cause_of_reading, cause_of_refusal, cause_of_pools, cause_of_walk, IsGiven}
 use Rattle.crdx.specs.Internal.Cause.{IsSchemaCause, IsPoolsCause, IsInputCause, IsSampleCause, IsWalkCause}
 use Rattle.crdx.specs.Samples.Over.{Pools}
 use Rattle.crdx.specs.Samples.Page.{IsPage}
 use Rattle.crdx.specs.Samples.Sample.{Question}
 use Rattle.crdx.specs.Objects.Refusal.{IsRefusal}
+use Rattle.crdx.specs.declared.plan.fault.PFault.{PFault}
 use Rattle.crdx.specs.declared.plan.fault.PFault.TheVariants.{Form}
+use Rattle.crdx.specs.declared.plan.fault.PFault.TheVariants as p
+use Rattle.crdx.specs.Samples.PoolFault.{IsPoolsFault}
 use Rattle.crdx.specs.declared.running.causes.Input.TheVariants as input
 use Rattle.crdx.specs.declared.running.causes.PlaceCode.TheVariants as code
 use Rattle.crdx.specs.declared.running.causes.Cause.{Cause}
@@ -95,6 +98,13 @@ sample_input has unread read arguments cause why =
     let version = arguments.version.now in
     input_of_schema has unread read crd version (Sample arguments) cause (λ r. inl r)
     (λ vs e is. let found = broken has unread read crd version vs is in no_samples arguments found.0 found.2) why
+
+pub cause_of_pools_fault : (has : Documents) (unread read : ℕ) (name : Bor (List ℕ)) (d : Data) (fault : PFault) → has (Some name.now) (Ok d) → IsPoolsFault d fault
+    → IsPoolsCause has unread read (Some name) (cause_of_pools fault)
+cause_of_pools_fault has unread read name d (Form p) at is = (d, at, λ e. cc, is)
+cause_of_pools_fault has unread read name d p.TooLarge at is = (d, at, λ e. cc, is)
+cause_of_pools_fault has unread read name d p.NoMemory at is = tt
+cause_of_pools_fault has unread read name d p.BadLimit at is = absurd is
 
 among_some : (first second : Documents) (name : Option (Bor (List ℕ))) (r : Bor (List ℕ) → Type 0) (q : Bor (List ℕ) → Type 0) → ((n : Bor (List ℕ)) → r n → q n) → IsSomeAnd name r → IsSomeAnd name q
 among_some first second None r q f is = is

@@ -3,7 +3,7 @@ use Rattle.std.proofs.Common.{◌≡◌, ℕ, List, [], ◌∷◌, true, Some, s
 use Rattle.std.specs.Prelude.{option_and_then}
 use Rattle.std.specs.Str.{bytes_eq}
 use Rattle.std.proofs.lemmas.Option.{option_and_then_some, same_Some, MatchOption-at_some}
-use Rattle.jtree.specs.Data.{Data, Members, no_members, member, IsObject, IsTree}
+use Rattle.jtree.specs.Data.{Data, Members, no_members, member, AreMembers, IsTree}
 use Rattle.jtree.specs.Data as tree
 use Rattle.jtree.specs.Path.{Path, Step, name, index, member_at, part_by, part_at}
 use Rattle.crdx.specs.Objects.Node.{boolean, integer, Node, scalar, object, Fields, declared, accepts_kind}
@@ -76,7 +76,7 @@ mutual
   levels_from_valid (object fs) (tree.object ms) t valid = members_from_valid fs ms ms valid (λ k w e. e) t
 
   members_from_valid : (fs : Fields) (all ms : Members) → IsValid (object fs) (tree.object all)
-      → ((k : List ℕ) (w : Data) → member_at k ms ≡ Some w → member_at k all ≡ Some w) → IsObject ms → AreValidMembers fs ms
+      → ((k : List ℕ) (w : Data) → member_at k ms ≡ Some w → member_at k all ≡ Some w) → AreMembers ms → AreValidMembers fs ms
   members_from_valid fs all no_members valid among sorted = tt
   members_from_valid fs all (member k d ms) valid among sorted =
       let here : member_at k all ≡ Some d = among k d (member_first k d ms) in

@@ -3,7 +3,7 @@ use Rattle.std.proofs.Common.{◌≡◌, ◌⊎◌, ◌↔◌, ℕ, ◌+◌, ◌
 use Rattle.std.specs.Prelude.{All, FitsSigned}
 use Rattle.std.specs.Int.{w64}
 use Rattle.std.proofs.lemmas.List.Elements.{Contains-append_left, Contains-append_right, Contains-push, Contains-push_cases, Contains-append_cases, All-contains}
-use Rattle.jtree.specs.Data.{Data, Members, IsTree, IsObject}
+use Rattle.jtree.specs.Data.{Data, Members, IsTree, AreMembers}
 use Rattle.jtree.specs.Data as tree
 use Rattle.jtree.specs.Nodes.{node_count}
 use Rattle.crdx.specs.Objects.Node.{Node, scalar, boolean, integer, object, Fields}

@@ -1,6 +1,6 @@
 -- For private contracts: all values that fit a node within a limit, and all rows of members that fit some fields.
 use Rattle.std.specs.Prelude.{◌≡◌, ◌≤◌, ◌+◌, ◌↔◌, ℕ, List, Contains}
-use Rattle.jtree.specs.Data.{Data, Members, member, IsTree, IsObject}
+use Rattle.jtree.specs.Data.{Data, Members, member, IsTree, AreMembers}
 use Rattle.jtree.specs.Nodes.{node_count, members_count}
 use Rattle.crdx.specs.Objects.Node.{Node, Fields}
 use Rattle.crdx.specs.Samples.Over.{Pools}
@@ -16,7 +16,7 @@ abbrev pub AreValuesOf : Pools → Node → ℕ → List Data → Type 0
 AreValuesOf P N limit vs = (v : Data) → Contains vs v ↔ IsValueOf P N limit v
 
 pub record IsRowOf (P : Pools) (fs : Fields) (room : ℕ) (ms : Members) : Type 0 where
-  pub sorted : IsObject ms
+  pub sorted : AreMembers ms
   pub fits : MembersFit P fs ms
   pub within : members_count ms ≤ room
 

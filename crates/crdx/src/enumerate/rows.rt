@@ -1,6 +1,6 @@
 // Rows of members, built one member at a time.
 ghost use Rattle.std.specs.Prelude.{◌≡◌, ◌<◌, ◌⊎◌, ◌↔◌, [], ◌∷◌, OnOk, IfOk, IfErr, Contains};
-ghost use Rattle.jtree.specs.Data.{member, IsBefore};
+ghost use Rattle.jtree.specs.Data.{member, IsNameBefore};
 ghost use Rattle.jtree.specs.View.{data_of};
 ghost use Rattle.crdx.specs.Samples.View.{trees_of};
 ghost use Rattle.crdx.specs.Internal.Values.{IsExtendedRow, AreExtendedRows};
@@ -12,7 +12,7 @@ use std::alloc::Global;
 
 /// The row with the value under the name in front of it.
 fn with_first(alloc: Global, name: &Text, value: &Tree, row: &Members) -> Result<Members, EFault>
-    requires { IsBefore name.now row.now }
+    requires { IsNameBefore name.now row.now }
     ensures ok { IfOk result (λ ms. ms ≡ member name.now (data_of value.now) row.now) }
     ensures err { IfErr result (λ e. e ≡ NoMemory) }
 {
@@ -38,7 +38,7 @@ fn extend_by(
     room: u64,
     extended: &mut Vec<Members>,
 ) -> Result<(), EFault>
-    requires before { (row : _) → Contains rows.now row → IsBefore name.now row }
+    requires before { (row : _) → Contains rows.now row → IsNameBefore name.now row }
     requires room { room < 64 }
     ensures ok { OnOk result ((row : _) → Contains extended.new.items row
         ↔ (Contains extended.old.items row ⊎ IsExtendedRow name.now (data_of value.now ∷ []) rows.now room row)) }
@@ -61,7 +61,7 @@ pub(crate) fn extended_rows(
     rows: &[Members],
     room: u64,
 ) -> Result<Vec<Members>, EFault>
-    requires before { (row : _) → Contains rows.now row → IsBefore name.now row }
+    requires before { (row : _) → Contains rows.now row → IsNameBefore name.now row }
     requires room { room < 64 }
     ensures ok { IfOk result (λ extended. AreExtendedRows name.now (trees_of values.now) rows.now room extended.items) }
     ensures err { IfErr result (λ e. e ≡ NoMemory) }

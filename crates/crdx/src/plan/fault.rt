@@ -1,7 +1,6 @@
 ghost use Rattle.std.specs.Prelude.{◌≡◌};
 ghost use Rattle.crdx.specs.declared.plan.fault.PFault.TheVariants.{NoMemory};
 
-use jtree::JFault;
 use std::alloc::{AllocError, AllocFailed};
 use thiserror::Error;
 
@@ -20,15 +19,6 @@ pub enum PFault {
     /// The node limit is not 1 to 63.
     #[error("P4")]
     BadLimit,
-}
-
-// A pointer is written, or memory is wanting.
-impl From<JFault> for PFault {
-    ghost from_gives = { λ _ e. e ≡ NoMemory };
-
-    fn from(_refused: JFault) -> PFault {
-        PFault::NoMemory
-    }
 }
 
 impl From<AllocError> for PFault {

@@ -1,7 +1,7 @@
 // Whether a document has the form of a pools document, asked member by member in the order of their names.
-ghost use Rattle.std.specs.Prelude.{◌≡◌, None, OnOk, IfOk, IfErr, string_bytes};
+ghost use Rattle.std.specs.Prelude.{◌≡◌, ◌++◌, None, OnOk, IfOk, IfErr, string_bytes};
 ghost use Rattle.jtree.specs.Data.{list as list_of};
-ghost use Rattle.jtree.specs.Pointer.{name_token};
+ghost use Rattle.jtree.specs.Pointer.{name_token, index_token};
 ghost use Rattle.jtree.specs.View.{data_of};
 ghost use Rattle.crdx.specs.Samples.Pools.{HasForm};
 ghost use Rattle.crdx.specs.Samples.PoolFault.{IsPoolsFault};
@@ -10,7 +10,7 @@ ghost use Rattle.crdx.specs.declared.plan.fault.PFault.TheVariants.{NoMemory};
 
 use crate::plan::fault::PFault;
 use jtree::{Items, Members, Tree, push_index, push_name};
-use std::alloc::Global;
+use std::alloc::{AllocError, Global};
 
 /// The name of the pool of integers.
 const INTEGERS: &str = "integers";
@@ -57,24 +57,27 @@ fn check_items(alloc: Global, name: &str, items: &Items) -> Result<(), PFault>
 {
     match first_other(items) {
         None => Ok(()),
-        Some(i) => {
-            let mut pointer = name_pointer(alloc, name)?;
-            push_index(&mut pointer, i as u64)?;
-            Err(PFault::Form(pointer))
-        }
+        Some(i) => Err(PFault::Form(item_pointer(alloc, name, i as u64)?)),
     }
 }
 
-fn name_pointer(alloc: Global, name: &str) -> Result<String, PFault>
-    ensures ok { IfOk result (λ s. string_bytes s ≡ name_token name.now) }
-    ensures err { IfErr result (λ e. e ≡ NoMemory) }
+fn name_pointer(alloc: Global, name: &str) -> Result<String, AllocError>
+    ensures { IfOk result (λ s. string_bytes s ≡ name_token name.now) }
 {
     let mut pointer = String::new(alloc);
-    push_name(&mut pointer, name)?;
+    push_name(&mut pointer, name).map_err(|_| AllocError)?;
     Ok(pointer)
 }
 
-/// The place of the first item that is no integer.
+fn item_pointer(alloc: Global, name: &str, index: u64) -> Result<String, AllocError>
+    ensures { IfOk result (λ s. string_bytes s ≡ name_token name.now ++ index_token index) }
+{
+    let mut pointer = name_pointer(alloc, name)?;
+    push_index(&mut pointer, index).map_err(|_| AllocError)?;
+    Ok(pointer)
+}
+
+/// The index of the first item that is no integer.
 fn first_other(items: &Items) -> Option<usize>
     ensures { result ≡ other_item items.now }
 {

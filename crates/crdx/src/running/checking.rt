@@ -73,6 +73,7 @@ fn violation_line(alloc: Global, violation: &Violation) -> Result<String, AllocE
 pub(crate) fn json_text(alloc: Global, text: &str) -> Result<String, AllocError>
     ensures { IfOk result (λ s. string_bytes s ≡ compact (tree.text text.now)) }
 {
-    let text = Text::from_str(alloc, text).map_err(|_| AllocError)?;
-    Tree::Text(text).to_text(alloc).map_err(|_| AllocError)
+    Tree::Text(Text::from_str(alloc, text)?)
+        .to_text(alloc)
+        .map_err(|_| AllocError)
 }

@@ -16,7 +16,7 @@ use crate::stored::node::{Field, Fields, Node};
 use crate::stored::shape::{Shape, is_envelope, shape_of};
 use jtree::{Members, Tree, push_name};
 use schema::{RawSchema, Refused, breaks};
-use std::alloc::Global;
+use std::alloc::{AllocError, Global};
 
 /// Accepts the raw schema of a version (apiextensions.k8s.io/v1, `schema.openAPIV3Schema`), where it breaks no rule of
 /// structural schemas, and each of its places is known at this stage: below the root `type` is `object`, `integer` or
@@ -108,13 +108,12 @@ fn read_field(alloc: Global, name: &str, tree: &Tree) -> Result<Node, Refused>
 }
 
 /// The pointer of a property, and behind it a pointer that is counted from there.
-fn property_pointer(alloc: Global, name: &str, below: &str) -> Result<String, Refused>
-    ensures ok { IfOk result (λ s. string_bytes s ≡ (name_token (codes "properties") ++ name_token name.now) ++ below.now) }
-    ensures err { IfErr result (λ e. e ≡ NoMemory) }
+fn property_pointer(alloc: Global, name: &str, below: &str) -> Result<String, AllocError>
+    ensures { IfOk result (λ s. string_bytes s ≡ (name_token (codes "properties") ++ name_token name.now) ++ below.now) }
 {
     let mut pointer = String::new(alloc);
-    push_name(&mut pointer, "properties")?;
-    push_name(&mut pointer, name)?;
+    push_name(&mut pointer, "properties").map_err(|_| AllocError)?;
+    push_name(&mut pointer, name).map_err(|_| AllocError)?;
     pointer.push_str(below)?;
     Ok(pointer)
 }

@@ -1,6 +1,6 @@
 // The definitions by paths say what a walk over a value finds, level by level.
 ghost use Rattle.std.specs.Prelude.{◌≡◌, ◌↔◌, ℕ, List, Some, None};
-ghost use Rattle.jtree.specs.Data.{Data, Members, IsTree, IsObject};
+ghost use Rattle.jtree.specs.Data.{Data, Members, IsTree, AreMembers};
 ghost use Rattle.jtree.specs.Path.{member_at};
 ghost use Rattle.crdx.specs.Objects.Node.{Node, Fields, declared, is_nullable, IsNode};
 ghost use Rattle.crdx.specs.Objects.Filled.{filled, filled_members, standing};
@@ -25,7 +25,7 @@ pub fn pruning_by_level()
 /// In a filled object there stands under a declared name what the node of the name makes of what stood there (nothing in
 /// place of a null that the node does not admit), and under another name what stood there.
 pub fn filling_by_name()
-    ensures declared { (fs : Fields) (ms : Members) (k : List ℕ) (M : Node) → IsObject ms → declared k fs ≡ Some M
+    ensures declared { (fs : Fields) (ms : Members) (k : List ℕ) (M : Node) → AreMembers ms → declared k fs ≡ Some M
         → member_at k (filled_members fs ms) ≡ standing (is_nullable M) (filled M) (member_at k ms) }
     ensures undeclared { (fs : Fields) (ms : Members) (k : List ℕ) → declared k fs ≡ None
         → member_at k (filled_members fs ms) ≡ member_at k ms }

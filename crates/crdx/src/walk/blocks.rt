@@ -1,12 +1,11 @@
 // Lines put together to blocks, so that one call of the sink takes many of them.
-ghost use Rattle.std.specs.Prelude.{◌≡◌, IfOk, IfErr};
+ghost use Rattle.std.specs.Prelude.{◌≡◌, IfOk};
 ghost use Rattle.crdx.specs.Output.Line.{lines};
 ghost use Rattle.crdx.specs.Internal.Block.{HasEnds, IsCountOfEnds};
 ghost use Rattle.crdx.specs.Samples.View.{trees_of};
-ghost use Rattle.jtree.specs.declared.fault.JFault.TheVariants.{NoMemory};
 
-use jtree::{JFault, Tree};
-use std::alloc::Global;
+use jtree::Tree;
+use std::alloc::{AllocError, Global};
 
 /// The lines of some trees in one piece, and where each of them ends.
 #[derive(Drop)]
@@ -16,10 +15,9 @@ pub(crate) struct Block {
 }
 
 /// The lines of the trees.
-pub(crate) fn block_of(alloc: Global, trees: &[Tree]) -> Result<Block, JFault>
+pub(crate) fn block_of(alloc: Global, trees: &[Tree]) -> Result<Block, AllocError>
     ensures lines { IfOk result (λ block. block.bytes.items ≡ lines (trees_of trees.now)) }
     ensures ends { IfOk result (λ block. HasEnds (trees_of trees.now) block.ends.items) }
-    ensures err { IfErr result (λ e. e ≡ NoMemory) }
 {
     let mut bytes = Vec::new(alloc);
     let mut ends = Vec::new(alloc);

@@ -1,6 +1,6 @@
 use Rattle.std.proofs.Common.{[], OnOk, IfErr, sym, subst}
 use Rattle.std.proofs.lemmas.Result.{on_ok_weaker, IfErr-weaker}
-use Rattle.jtree.specs.Data.{IsObject, IsTree}
+use Rattle.jtree.specs.Data.{AreMembers, IsTree}
 use Rattle.jtree.specs.View.{data_of}
 use Rattle.crdx.specs.Samples.Pools.{HasForm}
 use Rattle.crdx.specs.Internal.PoolForm.{members_break, IsBreakFault}
@@ -11,14 +11,14 @@ use Rattle.crdx.proofs.plan.pool_form.check_form.Goals as goal
 pub returns-in-Object-clause-ok : goal.returns-in-Object-clause-ok
 returns-in-Object-clause-ok c =
     let ms = c.in-Object.members in
-    let o : IsObject ms = subst (λ t. IsTree (data_of t)) c.in-Object.is c.reveal_invariant.ensures in
+    let o : AreMembers ms = subst (λ t. IsTree (data_of t)) c.in-Object.is c.reveal_invariant.ensures in
     subst (λ t. OnOk c.check_members.result (HasForm (data_of t))) (sym c.in-Object.is)
     (on_ok_weaker c.check_members.result (members_form ms o) c.check_members.ensures.ok)
 
 pub returns-in-Object-clause-err : goal.returns-in-Object-clause-err
 returns-in-Object-clause-err c =
     let ms = c.in-Object.members in
-    let o : IsObject ms = subst (λ t. IsTree (data_of t)) c.in-Object.is c.reveal_invariant.ensures in
+    let o : AreMembers ms = subst (λ t. IsTree (data_of t)) c.in-Object.is c.reveal_invariant.ensures in
     subst (λ t. IfErr c.check_members.result (IsPoolsFault (data_of t))) (sym c.in-Object.is)
     (IfErr-weaker c.check_members.result (IsBreakFault (members_break ms)) _ (members_fault ms o) c.check_members.ensures.err)
 

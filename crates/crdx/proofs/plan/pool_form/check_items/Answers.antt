@@ -6,13 +6,11 @@ use Rattle.jtree.specs.Pointer.{name_token, index_token}
 use Rattle.crdx.specs.Internal.PoolForm.{below_name}
 use Rattle.crdx.proofs.plan.pool_form.check_items.Goals as goal
 
-pub returns-in_ok-push_index-in-Some-clause-err : goal.returns-in_ok-push_index-in-Some-clause-err
-returns-in_ok-push_index-in-Some-clause-err c =
+pub returns-in_ok-item_pointer-in-Some-clause-err : goal.returns-in_ok-item_pointer-in-Some-clause-err
+returns-in_ok-item_pointer-in-Some-clause-err c =
     let k = c.args.name.now in
-    let i = c.in-Some.i in
-    let pushed = c.in_ok-push_index-in-Some.ensures.ok in
-    let named = c.in_ok-pointer-in-Some.ensures.ok in (
+    let i = c.in-Some.i in (
       name k ∷ index i ∷ [],
-      pushed ∙ ap (λ xs. xs ++ index_token i) named ∙ ap (λ xs. name_token k ++ xs) (sym (append-nil (index_token i))),
+      c.in_ok-item_pointer-in-Some.ensures ∙ ap (λ xs. name_token k ++ xs) (sym (append-nil (index_token i))),
       ap (λ o. below_name k (option_map (λ j. index j ∷ []) o)) (sym c.in-Some.ensures),
     )

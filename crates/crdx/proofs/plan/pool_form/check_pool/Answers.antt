@@ -9,6 +9,6 @@ use Rattle.crdx.proofs.plan.pool_form.check_pool.Goals as goal
 pub returns-in_ok-name_pointer-in_default : goal.returns-in_ok-name_pointer-in_default
 returns-in_ok-name_pointer-in_default c =
     let k = c.args.name.now in
-    let named = c.in_ok-name_pointer-in_default.ensures.ok in
+    let named = c.in_ok-name_pointer-in_default.ensures in
     let other = c.in_default.not-List in
     record { ok = tt; err = (name k ∷ [], named ∙ sym (append-nil (name_token k)), ap (below_name k) (no_list_break c.args.tree.now other)) }

@@ -1,7 +1,7 @@
 use Rattle.std.proofs.Common.{◌≡◌, ◌<◌, ◌+◌, [], ◌∷◌, ◌++◌, length, take, drop, false, refl, ap, sym, ◌∙◌, subst, arith}
 use Rattle.std.proofs.lemmas.Result.{err_from_is_err_and}
 use Rattle.std.proofs.lemmas.List.{take_more, take_all}
-use Rattle.jtree.specs.Data.{IsObject, member, no_members}
+use Rattle.jtree.specs.Data.{AreMembers, member, no_members}
 use Rattle.jtree.specs.View.{data_of, members_of}
 use Rattle.jtree.specs.Pointer.{name_token}
 use Rattle.std.specs.Prelude.{codes}
@@ -49,7 +49,7 @@ read_field-returns-in_ok-property_pointer-in-Err-NotYet-clause-not_yet t c =
     let d = data_of c.args.tree.now in
     let below = subst (IsRefusedAt false (schema_at d)) c.in-Err-NotYet.field-0-is c.in-Err-NotYet.ensures.not_yet in (
       k ∷ below.0,
-      c.in_ok-property_pointer-in-Err-NotYet.ensures.ok ∙ ap (λ xs. (name_token (codes "properties") ++ name_token k) ++ xs) (c.as_str.ensures.value ∙ below.1),
+      c.in_ok-property_pointer-in-Err-NotYet.ensures ∙ ap (λ xs. (name_token (codes "properties") ++ name_token k) ++ xs) (c.as_str.ensures.value ∙ below.1),
       one_first k d below.0 below.2,
     )
 
@@ -64,7 +64,7 @@ read_fields-returns-in_err-node-clause-not_yet t c =
     let within : i < length xs = omega arith in
     let whole : members_of xs ≡ c.args.properties.now = ap members_of c.deref-property-items.ensures.value ∙ c.properties.view_is in
     let split : c.args.properties.now ≡ members_of (take i xs ++ m ∷ drop (i + 1) xs) = sym whole ∙ ap members_of (members_split xs i m within c.property-item.is) in
-    let o : IsObject (members_of (take i xs ++ m ∷ drop (i + 1) xs)) = subst IsObject split c.reveal_invariant.ensures in
+    let o : AreMembers (members_of (take i xs ++ m ∷ drop (i + 1) xs)) = subst AreMembers split c.reveal_invariant.ensures in
     let other : IsEnvelope root (m.name ∷ []) → ⊥ = λ e. let contrary = c.if-is_envelope.ensures.1 (subst (λ n. IsEnvelope root (n ∷ [])) (sym c.as_str.ensures) e) in cc in
     let one : IsRefusedAt root (members_at (member m.name d no_members)) e =
     refused_at root m.name d e other (subst (λ n. IsRefusedAt false (members_at (member n d no_members)) e) c.as_str-in-loop-property.ensures c.in_err-node.ensures.not_yet) in
@@ -100,7 +100,7 @@ read_fields-loop-property-preserved t c =
     let within : i < length xs = omega arith in
     let more : members_of (take (i + 1) xs) ≡ members_of (take i xs ++ m ∷ []) = ap members_of (take_more xs i m within ∙ ap (λ x. take i xs ++ x ∷ []) (sym c.property-item.is)) in
     let pushed : c.push.new.self.items ≡ old ++ f ∷ [] = c.in_ok-push.ensures.items in
-    let named : f.name ≡ m.name = c.in_ok-name.ensures.ok in
+    let named : f.name ≡ m.name = c.in_ok-name.ensures in
     let other : IsEnvelope root (m.name ∷ []) → ⊥ = λ e. let contrary = c.if-is_envelope.ensures.1 (subst (λ n. IsEnvelope root (n ∷ [])) (sym c.as_str.ensures) e) in cc in
     let one : AreKnown root (members_at (member m.name (data_of m.tree) no_members)) =
     one_known_at root m.name (data_of m.tree) (subst (λ n. AreKnown false (members_at (member n (data_of m.tree) no_members))) c.as_str-in-loop-property.ensures c.in_ok-node.ensures.known) in
@@ -117,4 +117,4 @@ read_fields-invariant_of-result t c =
     let whole : members_of (take c.loop-property.property-index xs) ≡ c.args.properties.now =
     ap members_of all ∙ ap members_of c.deref-property-items.ensures.value ∙ c.properties.view_is in
     fields_ordered (fields_of c.loop-property.fields.items) (kept c.args.root (members_of (take c.loop-property.property-index xs))) c.loop-property.invariant.fields c.loop-property.invariant.nodes
-    (kept_object c.args.root (members_of (take c.loop-property.property-index xs)) (subst IsObject (sym whole) c.reveal_invariant.ensures))
+    (kept_object c.args.root (members_of (take c.loop-property.property-index xs)) (subst AreMembers (sym whole) c.reveal_invariant.ensures))
