@@ -1,5 +1,6 @@
 //! The arguments of the command line.
 
+mod help;
 mod parsing;
 mod request;
 

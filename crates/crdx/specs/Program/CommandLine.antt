@@ -33,7 +33,7 @@ sample_app = with_rule (with_rule (with_rule (with_rule (with_rule (new_app (cod
     (option_rule (codes "pools"))) (number_rule (codes "limit") 63 (codes "8"))) (number_rule (codes "count") 10000 (codes "100"))
 
 abbrev pub crdx_app : App
-crdx_app = with_subcommand (with_subcommand (on_top (λ s. record s { subcommand_required = true }) (new_app (codes "crdx"))) check_app.top) sample_app.top
+crdx_app = with_subcommand (with_subcommand (on_top (λ s. record s { has_version = true; subcommand_required = true }) (new_app (codes "crdx"))) check_app.top) sample_app.top
 
 -- what `clap` refuses of the arguments after the program's name, and the command that they name with what stands for each of its arguments
 unfoldable pub faults : List Text → Kinds

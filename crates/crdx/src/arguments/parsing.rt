@@ -8,6 +8,7 @@ ghost use Rattle.clap.specs.Simple.{app_of, subcommand_rows_of};
 ghost use Rattle.clap.specs.declared.builder.command.Command.TheViews.{out-Command};
 ghost use Rattle.crdx.specs.Program.CommandLine.{required_rule, option_rule, number_rule, check_app, sample_app, faults, entered, IsCommand, AreSampleArguments, Asks, IsRequestOf, IsUsageErrorOrMemory, IsNumberOf};
 
+use crate::arguments::help;
 use crate::arguments::request::{CheckArguments, Request, SampleArguments};
 use clap::error::ErrorKind;
 use clap::{Arg, ArgMatches, Command, Error};
@@ -23,7 +24,7 @@ const USUAL_LIMIT: u32 = 8;
 
 const USUAL_COUNT: u32 = 100;
 
-/// What the arguments ask for; the first of them is the program's name, which the usage lines repeat.
+/// What the arguments ask for; the first of them is the program's name, which is passed over.
 pub fn parse_arguments<'a>(alloc: Global, arguments: &'a [String]) -> Request<'a>
     ensures { Asks (map string_bytes arguments.entry.now) result }
 {
@@ -53,9 +54,11 @@ fn matches_of<'a>(alloc: Global, arguments: &'a [String]) -> Result<ArgMatches<'
     ensures kinds { FailsBy (faults (map string_bytes arguments.entry.now)) result }
 {
     let command = Command::new(alloc, "crdx")
-        .about(
-            "Explains the schema of a Kubernetes custom resource and lists its small objects exhaustively.",
-        )
+        .bin_name("crdx")?
+        .version(help::VERSION)
+        .about(help::PROGRAM)
+        .long_about(help::PROGRAM_LONG)
+        .after_long_help(help::PROGRAM_END)
         .subcommand_required(true)
         .subcommand(check_command(alloc)?)?
         .subcommand(sample_command(alloc)?)?;
@@ -68,7 +71,9 @@ fn check_command<'a>(alloc: Global) -> Result<Command<'a>, AllocError>
     ensures local { IfOk result (λ c. (out-Command c).has_globals ≡ false) }
 {
     Command::new(alloc, "check")
-        .about("Says whether a schema is structural, or each rule that it breaks and where")
+        .about(help::CHECK)
+        .long_about(help::CHECK_LONG)
+        .after_long_help(help::CHECK_END)
         .arg(crd_argument(alloc))?
         .arg(version_argument(alloc))
 }
@@ -77,9 +82,7 @@ fn crd_argument<'a>(alloc: Global) -> Arg<'a>
     ensures rule { rule_of result ≡ required_rule (codes "CRD") }
     ensures local { result.global ≡ false }
 {
-    Arg::new(alloc, "CRD")
-        .required(true)
-        .help("The file of the CustomResourceDefinition")
+    Arg::new(alloc, "CRD").required(true).help(help::CRD)
 }
 
 fn version_argument<'a>(alloc: Global) -> Arg<'a>
@@ -88,7 +91,7 @@ fn version_argument<'a>(alloc: Global) -> Arg<'a>
 {
     Arg::new(alloc, "VERSION")
         .required(true)
-        .help("The version whose schema is asked for")
+        .help(help::CRD_VERSION)
 }
 
 /// The arguments that `sample` takes.
@@ -97,7 +100,9 @@ fn sample_command<'a>(alloc: Global) -> Result<Command<'a>, AllocError>
     ensures local { IfOk result (λ c. (out-Command c).has_globals ≡ false) }
 {
     Command::new(alloc, "sample")
-        .about("Lists samples, a line for each")
+        .about(help::SAMPLE)
+        .long_about(help::SAMPLE_LONG)
+        .after_long_help(help::SAMPLE_END)
         .arg(crd_argument(alloc))?
         .arg(version_argument(alloc))?
         .arg(pools_option(alloc))?
@@ -112,7 +117,8 @@ fn pools_option<'a>(alloc: Global) -> Arg<'a>
     Arg::new(alloc, "pools")
         .long("pools")
         .value_name("FILE")
-        .help("The file of the pools of values")
+        .help(help::POOLS)
+        .long_help(help::POOLS_LONG)
 }
 
 fn limit_option<'a>(alloc: Global) -> Arg<'a>
@@ -122,7 +128,8 @@ fn limit_option<'a>(alloc: Global) -> Arg<'a>
     Arg::new(alloc, "limit")
         .long("limit")
         .value_name("N")
-        .help("The most nodes that a sample may have")
+        .help(help::LIMIT)
+        .long_help(help::LIMIT_LONG)
         .value_parser(clap::value_parser!(u32).range(1..=63))
         .default_value("8")
 }
@@ -134,7 +141,7 @@ fn count_option<'a>(alloc: Global) -> Arg<'a>
     Arg::new(alloc, "count")
         .long("count")
         .value_name("N")
-        .help("The most samples that are listed")
+        .help(help::COUNT)
         .value_parser(clap::value_parser!(u32).range(1..=10_000))
         .default_value("100")
 }

@@ -36,7 +36,7 @@ pub enum Request<'a> {
     Check(CheckArguments<'a>),
     /// To list samples.
     Sample(SampleArguments<'a>),
-    /// To print this help on standard output, with status 0.
+    /// To print this text of help or of the version on standard output, with status 0.
     Help(String),
     /// Nothing that there is: this text goes to standard error, with status 2.
     UsageError(String),

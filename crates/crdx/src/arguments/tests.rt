@@ -1,10 +1,10 @@
 use super::*;
-use crate::harness::{is_text, sides};
+use crate::harness::{holds, is_text, sides};
 use std::alloc::{AllocError, Global};
 use std::process::Abort;
 use std::test::Fail;
 
-// A command line, and what it asks for: of a mistake the first line, of help the usage.
+// A command line, and what it asks for: of a mistake the first line, of help the usage, and else its first line.
 static ROWS: &str = "crdx sample c.json v1 => c.json v1 - 8 100
 crdx check c.json v1 => check c.json v1
 crdx check c.json => error: the following required arguments were not provided:
@@ -22,12 +22,30 @@ crdx => error: 'crdx' requires a subcommand but one was not provided
 crdx list => error: unrecognized subcommand 'list'
 crdx --help => help Usage: crdx <COMMAND>
 crdx help => help Usage: crdx <COMMAND>
-listing sample --help => help Usage: listing sample [OPTIONS] <CRD> <VERSION>";
+crdx check -h => help Usage: crdx check <CRD> <VERSION>
+bin/crdx_cli sample --help => help Usage: crdx sample [OPTIONS] <CRD> <VERSION>
+crdx --version => help crdx 0.1.0
+bin/crdx_cli -V => help crdx 0.1.0
+crdx check --version => error: unexpected argument '--version' found";
+
+// Command lines that ask for help.
+static HELPS: &str = "crdx -h
+crdx --help
+crdx help
+crdx check -h
+crdx check --help
+crdx sample -h
+crdx sample --help
+crdx help sample";
+
+// What a run can answer, and the rules and codes that it can print.
+static ANSWERS: &str =
+    "0 1 2 3 4 5 V01 V02 V03 V04 V05 V06 V07 V08 V09 J1 J3 J4 S0 S1 S2 S3 S4 P1 P2";
 
 fn usage_of(text: &str) -> &str {
     text.lines()
         .find(|line| line.starts_with("Usage: "))
-        .unwrap_or("no usage")
+        .unwrap_or(text.lines().next().unwrap_or(""))
 }
 
 fn said_of_sample(alloc: Global, arguments: &SampleArguments<'_>) -> Result<String, AllocError> {
@@ -87,5 +105,55 @@ fn rows(rt: HostRuntime) -> Result<(), Fail> {
     for row in ROWS.lines() {
         try_row(&rt, rt.alloc(), row)?;
     }
+    Ok(())
+}
+
+/// The text of help or of the version that a command line asks for.
+fn help_of(alloc: Global, line: &str) -> Result<String, Fail> {
+    let arguments = words_of(alloc, line)?;
+    match parse_arguments(alloc, arguments.as_slice()) {
+        Request::Help(text) => Ok(text),
+        _ => Err(Fail::from("no help")),
+    }
+}
+
+#[test]
+fn help_fits_80_columns(rt: HostRuntime) -> Result<(), Fail> {
+    for line in HELPS.lines() {
+        for shown in help_of(rt.alloc(), line)?.as_str().lines() {
+            holds(&rt, shown.chars().count() <= 80, "the width", shown);
+        }
+    }
+    Ok(())
+}
+
+#[test]
+fn help_explains_each_answer(rt: HostRuntime) -> Result<(), Fail> {
+    let text = help_of(rt.alloc(), "crdx --help")?;
+    for answer in ANSWERS.split(' ') {
+        let is_explained = text
+            .as_str()
+            .lines()
+            .any(|line| line.trim_start().split(' ').next() == Some(answer));
+        holds(&rt, is_explained, "the line", answer);
+    }
+    Ok(())
+}
+
+#[test]
+fn version_is_one_line(rt: HostRuntime) -> Result<(), Fail> {
+    let text = help_of(rt.alloc(), "crdx --version")?;
+    is_text(&rt, text.as_str(), "crdx 0.1.0\n", "the text", "--version");
+    Ok(())
+}
+
+#[test]
+fn usage_names_crdx_where_the_program_has_another_name(rt: HostRuntime) -> Result<(), Fail> {
+    let arguments = words_of(rt.alloc(), "bin/crdx_cli check c.json")?;
+    let Request::UsageError(text) = parse_arguments(rt.alloc(), arguments.as_slice()) else {
+        return Err(Fail::from("no usage error"));
+    };
+    let wanted = "Usage: crdx check <CRD> <VERSION>";
+    is_text(&rt, usage_of(text.as_str()), wanted, "the usage", "check");
     Ok(())
 }

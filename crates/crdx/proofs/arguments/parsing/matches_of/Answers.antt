@@ -1,8 +1,8 @@
-use Rattle.std.proofs.Common.{◌≡◌, ◌∙◌, ap, ap₂, subst, true, codes, map, string_bytes}
+use Rattle.std.proofs.Common.{◌≡◌, ◌∙◌, ap, ap₂, subst, true, map, string_bytes}
 use Rattle.std.proofs.lemmas.Result.{IfOk-weaker}
 use Rattle.clap.specs.Faults.{fault_of, is_simple_and_free}
 use Rattle.clap.specs.Kinds.{FailsBy}
-use Rattle.clap.specs.Simple.{App, app_of, app_of_fields, is_simple, new_app, on_top, subcommand_of, with_subcommand}
+use Rattle.clap.specs.Simple.{App, app_of, app_of_fields, is_simple, on_top, subcommand_of, with_subcommand}
 use Rattle.crdx.specs.Program.CommandLine.{crdx_app}
 use Rattle.crdx.proofs.CommandLineLemmas.{crdx_is_simple, crdx_is_free, entered_is, faults_are}
 use Rattle.crdx.proofs.arguments.parsing.matches_of.Goals as goal
@@ -10,8 +10,10 @@ use Rattle.crdx.proofs.arguments.parsing.matches_of.Goals as goal
 -- the command that is built is the one that the arguments are read by
 command_is : (c : goal.After-try_get_matches_from) → app_of c.in_ok-command.command ≡ crdx_app
 command_is c =
-    let about : app_of c.about.result ≡ new_app (codes "crdx") = ap app_of_fields c.about.ensures ∙ c.new.ensures.app in
-    let top = ap app_of_fields c.subcommand_required.ensures ∙ ap (on_top (λ s. record s { subcommand_required = true })) about in
+    let named = ap app_of_fields c.in_ok-bin_name.ensures.0 ∙ c.new.ensures.app in
+    let versioned = ap app_of_fields c.version.ensures ∙ ap (on_top (λ s. record s { has_version = true })) named in
+    let texts = ap app_of_fields c.after_long_help.ensures ∙ (ap app_of_fields c.long_about.ensures ∙ (ap app_of_fields c.about.ensures ∙ versioned)) in
+    let top = ap app_of_fields c.subcommand_required.ensures ∙ ap (on_top (λ s. record s { subcommand_required = true })) texts in
     let first = c.in_ok-subcommand.ensures.shape c.in_ok-check_command.ensures.local
     ∙ ap₂ with_subcommand top (ap (λ (a : App). a.top) c.in_ok-check_command.ensures.app) in
     c.in_ok-command.ensures.shape c.in_ok-sample_command.ensures.local

@@ -6,7 +6,8 @@ use Rattle.crdx.proofs.arguments.parsing.sample_command.Goals as goal
 pub returns-clause-app : goal.returns-clause-app
 returns-clause-app c =
     let about : app_of c.about.result ≡ new_app (codes "sample") = ap app_of_fields c.about.ensures ∙ c.new.ensures.app in
-    let first = c.in_ok-arg.ensures.shape c.crd_argument.ensures.local ∙ ap₂ with_rule about c.crd_argument.ensures.rule in
+    let texts : app_of c.after_long_help.result ≡ new_app (codes "sample") = ap app_of_fields c.after_long_help.ensures ∙ (ap app_of_fields c.long_about.ensures ∙ about) in
+    let first = c.in_ok-arg.ensures.shape c.crd_argument.ensures.local ∙ ap₂ with_rule texts c.crd_argument.ensures.rule in
     let second = c.in_ok-arg-2.ensures.shape c.version_argument.ensures.local ∙ ap₂ with_rule first c.version_argument.ensures.rule in
     let third = c.in_ok-arg-3.ensures.shape c.pools_option.ensures.local ∙ ap₂ with_rule second c.pools_option.ensures.rule in
     let fourth = c.in_ok-arg-4.ensures.shape c.limit_option.ensures.local ∙ ap₂ with_rule third c.limit_option.ensures.rule in
@@ -15,7 +16,8 @@ returns-clause-app c =
 pub returns-clause-local : goal.returns-clause-local
 returns-clause-local c =
     let about = ap (λ f. f.has_globals) c.about.ensures ∙ c.new.ensures.local in
-    let first = c.in_ok-arg.ensures.globals ∙ ap₂ (λ g h. g || h) about c.crd_argument.ensures.local in
+    let texts = ap (λ f. f.has_globals) c.after_long_help.ensures ∙ (ap (λ f. f.has_globals) c.long_about.ensures ∙ about) in
+    let first = c.in_ok-arg.ensures.globals ∙ ap₂ (λ g h. g || h) texts c.crd_argument.ensures.local in
     let second = c.in_ok-arg-2.ensures.globals ∙ ap₂ (λ g h. g || h) first c.version_argument.ensures.local in
     let third = c.in_ok-arg-3.ensures.globals ∙ ap₂ (λ g h. g || h) second c.pools_option.ensures.local in
     let fourth = c.in_ok-arg-4.ensures.globals ∙ ap₂ (λ g h. g || h) third c.limit_option.ensures.local in
