@@ -17,7 +17,7 @@ use Rattle.serde_json.specs.Read.{number_of, of_json, of_items, of_members, read
 use Rattle.serde_json.specs.Written.{number_text, outline, items_outline, members_outline}
 use Rattle.serde_json.proofs.Numbers.{number_of-decimal, number_of-negative}
 use Rattle.json.proofs.Printed.Trees.{value-json_tokens}
-use Rattle.jtree.specs.Data.{Data, null, boolean, integer, text, list, object, Items, no_items, item, Members, no_members, member, IsTree, AreTrees, IsNameBefore, AreMembers, depth, items_depth, members_depth}
+use Rattle.jtree.specs.Data.{Data, integer, list, object, Items, no_items, item, Members, no_members, member, IsTree, AreTrees, IsNameBefore, AreMembers, depth, items_depth, members_depth}
 use Rattle.jtree.specs.Order.{text_cmp}
 use Rattle.jtree.specs.Reads.{tree_of, items_tree, members_tree}
 use Rattle.jtree.specs.Text.{json_of, items_json, members_json}

@@ -11,7 +11,7 @@ use Rattle.jtree.specs.Internal.Lookups.{member_first, member_tail}
 use Rattle.jtree.specs.View.{data_of, items_of, members_of}
 use Rattle.jtree.specs.declared.value.Tree.{Tree}
 use Rattle.jtree.specs.declared.value.Member.{Member}
-use Rattle.schema.specs.Document.Places.{Step, property, map_value, items, all_of, any_of, one_of, negation, Place, schema_by, schema_at, is_junctor, is_inside, core}
+use Rattle.schema.specs.Document.Places.{Step, property, map_value, items, all_of, any_of, Place, schema_by, schema_at, is_junctor, is_inside, core}
 use Rattle.schema.specs.Internal.Events.{Junctor, all, any, one, branch, Part, a_schema, properties, branches, part_of}
 use Rattle.schema.specs.Rules.Broken.{At, IsPatternBranch, of_any, of_all, HasAnyPattern, HasAllPattern}
 use Rattle.schema.specs.Internal.Contexts.{is_any, is_first_of_all, outer_by, IsContext, StandsAs}
@@ -19,7 +19,7 @@ use Rattle.schema.specs.Internal.PlaceView.{place_of}
 use Rattle.schema.specs.Internal.Subschemas.{IsSubschema}
 use Rattle.schema.specs.declared.listing.Context.{Context}
 use Rattle.schema.specs.declared.listing.Subschema.{Subschema}
-use Rattle.schema.proofs.EventParts.{PartIs, is_properties, is_map_value, is_items, is_all, is_any as is_any_part, is_one, is_negation, is_none, part_is, part_join}
+use Rattle.schema.proofs.EventParts.{PartIs, is_map_value, is_items, is_negation, is_none, part_is, part_join}
 
 -- ---- schemas one step on
 

@@ -2,9 +2,9 @@
 use Rattle.std.proofs.Common.{◌≡◌, ℕ, List, sym, ◌∙◌, subst}
 use Rattle.std.proofs.lemmas.Option.{same_Some}
 use Rattle.jtree.specs.Data.{Data, list, Items}
-use Rattle.schema.specs.Document.Crd.{IsCrd, IsVersion, IsNoCrd, no_crd, LacksVersion, IsHead, AreVersions}
+use Rattle.schema.specs.Document.Crd.{IsVersion, IsNoCrd, no_crd, LacksVersion, IsHead, AreVersions}
 use Rattle.schema.specs.declared.fault.SFault.{SFault}
-use Rattle.schema.specs.declared.fault.SFault.TheVariants.{NotACrd, NoSuchVersion, KeywordForm, TooLarge, NoMemory}
+use Rattle.schema.specs.declared.fault.SFault.TheVariants.{NotACrd, NoMemory}
 use Rattle.schema.specs.Internal.Faults.{IsDefinitionFault, IsVersionsFault}
 
 same_versions : {d : Data} {group kind name kinds : List ℕ} {versions others : Items} → IsHead d group kind versions → IsHead d name kinds others → versions ≡ others

@@ -5,7 +5,7 @@ use Rattle.std.specs.Cmp.{nat_cmp_is}
 use Rattle.std.specs.Ordering.{nat_cmp}
 use Rattle.std.specs.declared.cmp.Ordering.TheVariants.{Less}
 use Rattle.std.proofs.lemmas.List.{append-nil}
-use Rattle.jtree.specs.Data.{Data, null, boolean, integer, text, list, object, Items, no_items, item, Members, no_members, member, IsTree, AreTrees, AreMembers}
+use Rattle.jtree.specs.Data.{Data, list, object, Items, no_items, item, Members, no_members, member, IsTree, AreTrees, AreMembers}
 use Rattle.jtree.specs.Order.{text_cmp}
 use Rattle.jtree.specs.Path.{Path, name, index, member_at}
 use Rattle.jtree.specs.PathOrder.{path_cmp}
@@ -14,7 +14,7 @@ use Rattle.jtree.specs.Internal.Lookups.{before_each}
 use Rattle.schema.specs.Document.Places.{Step, property, Place, step_path, place_path}
 use Rattle.schema.specs.Document.Limits.{size, most_of}
 use Rattle.schema.specs.Internal.Events.{Event, entered, too_long, event_path, Junctor, all, any, one, branch, Part, a_schema, properties, branches, no_schema, part_of, is_past, keyword_event, part_events, member_events, item_events, schema_events, IsIn, Ascend, AreEventsOf}
-use Rattle.schema.proofs.EventParts.{in_append, PartIs, is_properties, is_map_value, is_items, is_all, is_any, is_one, is_negation, is_none, part_is, Leads, to_property, lead_path, schema_down, names_down, items_down, PartEvent, part_down, KeyEvent, members_down}
+use Rattle.schema.proofs.EventParts.{in_append, PartIs, is_properties, is_none, part_is, Leads, to_property, lead_path, schema_down, names_down, items_down, PartEvent, part_down, KeyEvent, members_down}
 use Rattle.schema.proofs.EventPlaces.{keyword_down, member_tree, item_tree, part_tree, EventOf, event_of, entered_schema, schema_entered, recorded_keyword, keyword_recorded}
 
 -- ---- paths

@@ -3,7 +3,7 @@ use Rattle.std.proofs.Common.{◌≡◌, ◌⊎◌, ℕ, zero, suc, ◌+◌, Lis
 use Rattle.std.specs.Prelude.{if◌then◌else◌, option_and_then, codes}
 use Rattle.std.specs.Str.{bytes_eq}
 use Rattle.std.proofs.lemmas.Option.{same_Some, option_and_then_some}
-use Rattle.jtree.specs.Data.{Data, null, boolean, integer, text, list, object, Items, no_items, item, Members, no_members, member, IsTree, AreMembers}
+use Rattle.jtree.specs.Data.{Data, list, object, Items, no_items, item, Members, no_members, member, IsTree, AreMembers}
 use Rattle.jtree.specs.Path.{Path, name, index, member_at, item_at, part_by, part_at}
 use Rattle.jtree.specs.Path as tree
 use Rattle.jtree.specs.Internal.Lookups.{bool_cases, same_name, member_first, member_later, member_tail}

@@ -4,10 +4,10 @@ use Rattle.std.specs.Str.{bytes_eq}
 use Rattle.std.proofs.lemmas.Bool.{lt-ltb, ltb-true}
 use Rattle.std.proofs.lemmas.List.{append-nil}
 use Rattle.std.proofs.lemmas.Option.{same_Some, option_and_then_some}
-use Rattle.jtree.specs.Data.{Data, null, boolean, integer, text, list, object, Items, no_items, item, Members, no_members, member, IsTree, AreTrees, AreMembers}
+use Rattle.jtree.specs.Data.{Data, list, object, Items, no_items, item, Members, no_members, member, IsTree, AreTrees, AreMembers}
 use Rattle.jtree.specs.Path.{Path, name, index, member_at, item_at, part_by, part_at, under}
 use Rattle.jtree.specs.Path as tree
-use Rattle.jtree.specs.Internal.Lookups.{bool_cases, same_name, member_later}
+use Rattle.jtree.specs.Internal.Lookups.{bool_cases, member_later}
 use Rattle.schema.specs.Document.Places.{Step, Place, schema_by, schema_at}
 use Rattle.schema.specs.Document.Limits.{size, most_of, IsTooLong}
 use Rattle.schema.specs.Internal.Events.{Event, entered, too_long, is_past, part_of, keyword_event, member_events, schema_events, IsIn}

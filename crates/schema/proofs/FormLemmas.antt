@@ -10,7 +10,7 @@ use Rattle.schema.specs.Document.Forms.{is_some_list}
 use Rattle.schema.specs.Internal.Faults.{IsBreakFault}
 use Rattle.schema.specs.Internal.FormBreak.{or_else}
 use Rattle.schema.specs.declared.fault.SFault.{SFault}
-use Rattle.schema.specs.declared.fault.SFault.TheVariants.{NotACrd, NoSuchVersion, KeywordForm, TooLarge, NoMemory}
+use Rattle.schema.specs.declared.fault.SFault.TheVariants.{KeywordForm, NoMemory}
 
 pub some_items : (ts : List Tree) → is_some_list (list (items_of ts)) ≡ not (length ts == 0)
 some_items [] = refl

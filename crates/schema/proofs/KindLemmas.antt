@@ -3,7 +3,7 @@ use Rattle.std.proofs.Common.{◌≡◌, ℕ, List, [], Bool, true, false, Optio
 use Rattle.std.specs.Prelude.{◌↔◌, IsTrue, IfSome, codes, option_map, if◌then◌else◌}
 use Rattle.std.specs.Str.{bytes_eq}
 use Rattle.std.proofs.lemmas.Option.{same_Some}
-use Rattle.jtree.specs.Data.{Data, Members, null, boolean, integer, text, list, object}
+use Rattle.jtree.specs.Data.{Data, Members, boolean, text, object}
 use Rattle.jtree.specs.Path.{under}
 use Rattle.jtree.specs.Internal.Lookups.{bool_cases, same_name}
 use Rattle.schema.specs.Document.Raw.{HasText, HasTrue}

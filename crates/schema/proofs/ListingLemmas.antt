@@ -12,7 +12,7 @@ use Rattle.schema.specs.Internal.Faults.{IsLimitRefusal, IsLimitFaultOf}
 use Rattle.schema.proofs.LimitLemmas.{first_past}
 use Rattle.schema.specs.Internal.PlaceView.{subschema_of}
 use Rattle.schema.specs.declared.fault.SFault.{SFault}
-use Rattle.schema.specs.declared.fault.SFault.TheVariants.{NotACrd, NoSuchVersion, KeywordForm, TooLarge, NoMemory}
+use Rattle.schema.specs.declared.fault.SFault.TheVariants.{TooLarge, NoMemory}
 use Rattle.schema.specs.declared.listing.Subschema.{Subschema}
 
 pub subschemas-append : (xs ys : List Event) → subschemas_of (xs ++ ys) ≡ subschemas_of xs ++ subschemas_of ys

@@ -2,7 +2,7 @@
 use Rattle.std.proofs.Common.{◌≡◌, ◌≤◌, ℕ, suc, List, [], ◌∷◌, ◌++◌, Some, ap, inl, inr, arith}
 use Rattle.std.specs.Str.{bytes_eq}
 use Rattle.std.proofs.lemmas.Option.{same_Some}
-use Rattle.jtree.specs.Data.{Data, null, boolean, integer, text, list, object, Members, no_members, member, depth, members_depth}
+use Rattle.jtree.specs.Data.{Data, object, Members, no_members, member, depth, members_depth}
 use Rattle.jtree.specs.Path.{member_at, under}
 use Rattle.jtree.specs.Internal.Lookups.{bool_cases}
 use Rattle.jtree.specs.View.{data_of, items_of}

@@ -3,7 +3,7 @@ use Rattle.std.proofs.Common.{◌≡◌, ◌≤◌, ℕ, List, [], ◌∷◌, le
 use Rattle.std.specs.Prelude.{codes}
 use Rattle.std.specs.Str.{bytes_eq}
 use Rattle.std.proofs.lemmas.Option.{same_Some}
-use Rattle.jtree.specs.Data.{Data, null, boolean, integer, text, list, object, Items, no_items, item, no_members, member}
+use Rattle.jtree.specs.Data.{Data, list, object, Items, no_items, item, no_members, member}
 use Rattle.jtree.specs.Path.{under}
 use Rattle.jtree.specs.Internal.Lookups.{bool_cases, same_name, member_first}
 use Rattle.jtree.specs.View.{data_of, items_of}

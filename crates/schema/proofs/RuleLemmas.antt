@@ -1,5 +1,5 @@
 -- What a subschema shows of the rules at its place.
-use Rattle.std.proofs.Common.{◌≡◌, ◌≢◌, ◌⊎◌, ℕ, List, [], ◌∷◌, ◌++◌, Bool, true, false, Some, refl, sym, ap, ◌∙◌, subst, inl, inr, zero, suc, ◌+◌, ◌<◌, ◌≤◌, length, get_or, drop, arith}
+use Rattle.std.proofs.Common.{◌≡◌, ◌⊎◌, ℕ, List, [], ◌∷◌, ◌++◌, Bool, true, false, Some, refl, sym, ap, ◌∙◌, subst, inl, inr, zero, suc, ◌+◌, ◌<◌, ◌≤◌, length, get_or, drop, arith}
 use Rattle.std.specs.Prelude.{◌↔◌, ◌||◌, not, IsTrue, codes, map}
 use Rattle.std.specs.Str.{bytes_eq}
 use Rattle.std.proofs.lemmas.Option.{same_Some}
@@ -11,7 +11,7 @@ use Rattle.jtree.specs.Path.{member_at}
 use Rattle.jtree.specs.Internal.Lookups.{bool_cases, same_name, own_name, member_first, member_later}
 use Rattle.schema.specs.Document.Raw.{Has}
 use Rattle.schema.specs.Document.Texts.{is_among}
-use Rattle.schema.specs.Document.Places.{Step, Place, property, map_value, items, all_of, any_of, one_of, negation, is_junctor, is_inside, schema_at}
+use Rattle.schema.specs.Document.Places.{Step, Place, property, is_junctor, is_inside, schema_at}
 use Rattle.schema.specs.Internal.PlaceView.{step_of, place_of}
 use Rattle.schema.specs.declared.places.Step.{Step as CodeStep}
 use Rattle.schema.specs.Rules.Broken.{metadata_names, HasOneOf, metadata_keywords, metadata, RestrictsMetadata, metadata_keyword, metadata_type, metadata_field, is_field, ends_in_field, HasOtherKeyword, HasOtherType}

@@ -12,7 +12,7 @@ use Rattle.schema.specs.Internal.FormBreak.{first_break}
 use Rattle.schema.specs.Document.Limits.{IsWithinLimits}
 use Rattle.schema.specs.Document.ReadFault.{IsSchemaFault}
 use Rattle.schema.specs.declared.fault.SFault.{SFault}
-use Rattle.schema.specs.declared.fault.SFault.TheVariants.{NotACrd, NoSuchVersion, KeywordForm, TooLarge, NoMemory}
+use Rattle.schema.specs.declared.fault.SFault.TheVariants.{KeywordForm, TooLarge, NoMemory}
 use Rattle.schema.proofs.FormFirst.{IsFound, first_found}
 
 pub all_forms : (raw : Data) → IsTree raw → first_break object raw ≡ None → HasForms raw

@@ -22,7 +22,10 @@ use jtree::{Members, Tree};
 use std::alloc::{AllocError, Global};
 
 /// The pointer (RFC 6901) of the first place in path order that is in no branch and not of the envelope, and has no node.
-pub(crate) fn first_without_node(alloc: Global, raw: &RawSchema) -> Result<Option<String>, AllocError>
+pub(crate) fn first_without_node(
+    alloc: Global,
+    raw: &RawSchema,
+) -> Result<Option<String>, AllocError>
     ensures some { IfOk result (λ o. IfSome o (λ s. (path : Path) × (string_bytes s ≡ pointer path) × IsFirst (LacksNodeAt raw.now) path)) }
     ensures none { result ≡ Ok None → (p : Place) → LacksNode raw.now p → ⊥ }
 {

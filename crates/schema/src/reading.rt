@@ -104,7 +104,11 @@ fn copied_items(alloc: Global, tree: &Tree) -> Result<Option<Items>, AllocError>
 }
 
 /// Copies of the texts in the list under a keyword.
-pub(crate) fn copy_texts(alloc: Global, schema: &Tree, keyword: &str) -> Result<Vec<Text>, AllocError>
+pub(crate) fn copy_texts(
+    alloc: Global,
+    schema: &Tree,
+    keyword: &str,
+) -> Result<Vec<Text>, AllocError>
     ensures { IfOk result (λ v. v.items ≡ texts_under (data_of schema.now) keyword.now) }
 {
     match schema.get(keyword) {

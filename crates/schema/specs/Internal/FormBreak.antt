@@ -1,5 +1,5 @@
 -- For private contracts: the first break of a form, found member by member and item by item.
-use Rattle.std.specs.Prelude.{◌≡◌, ℕ, suc, [], ◌∷◌, Option, Some, None, option_map, if◌then◌else◌}
+use Rattle.std.specs.Prelude.{ℕ, suc, [], ◌∷◌, Option, Some, None, option_map, if◌then◌else◌}
 use Rattle.jtree.specs.Data.{Data, Items, no_items, item, Members, no_members, member}
 use Rattle.jtree.specs.Data as tree
 use Rattle.jtree.specs.Path.{Step, name, index, Path}

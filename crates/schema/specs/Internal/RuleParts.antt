@@ -1,10 +1,9 @@
 -- For private contracts: what the rules ask of one place and its schema.
-use Rattle.std.specs.Prelude.{◌≡◌, ◌≢◌, ◌⊎◌, ℕ, List, [], ◌∷◌, ◌++◌, true, false, None, IsTrue, codes}
+use Rattle.std.specs.Prelude.{◌≡◌, ◌⊎◌, ℕ, List, [], ◌∷◌, ◌++◌, true, false, None, IsTrue, codes}
 use Rattle.jtree.specs.Data.{Data, object}
-use Rattle.schema.specs.Document.Raw.{Has, HasText}
+use Rattle.schema.specs.Document.Raw.{Has}
 use Rattle.schema.specs.Document.Texts.{is_among}
 use Rattle.schema.specs.Document.Places.{Step, Place, property, is_inside}
-use Rattle.schema.specs.Rules.Kinds.{HasNoType, IsIntOrString, Preserves}
 use Rattle.schema.specs.Internal.PlaceView.{place_of}
 use Rattle.schema.specs.Rules.Broken.{HasOneOf, HasOtherKeyword, HasOtherType, outside_keywords, metadata_names, metadata, ends_in_field}
 use Rattle.schema.specs.declared.listing.Subschema.{Subschema}
