@@ -1,17 +1,17 @@
-//! A sink for tests, which can fail, and documents.
+//! A sink that can fail, and documents of memory.
 ghost use Rattle.std.specs.Prelude.{Some, ◌≡◌, ◌⊎◌, IfOk};
 ghost use Rattle.crdx.specs.Program.InputFault.{IsReading};
 ghost use Rattle.crdx.specs.Output.Sink.{failures_after};
 
-use crate::inputs::{InFault, Inputs};
-use crate::sink::{Sink, SinkFault};
+use crdx::inputs::{InFault, Inputs};
+use crdx::sink::{Sink, SinkFault};
 use jtree::Tree;
 use std::alloc::Global;
 use std::io::Write;
 
 /// Takes at most `step` bytes a call, and `left` in all; then it fails, or answers 0.
 #[derive(Drop)]
-pub(crate) struct FailingSink {
+pub struct FailingSink {
     pub taken: Vec<u8>,
     pub left: usize,
     pub step: usize,
@@ -95,7 +95,7 @@ impl Sink for FailingSink {
 
 /// Two documents by name. Another name cannot be opened.
 #[derive(Drop)]
-pub(crate) struct FakeInputs<'a> {
+pub struct FakeInputs<'a> {
     pub alloc: Global,
     pub crd: &'a str,
     pub pools: &'a str,
