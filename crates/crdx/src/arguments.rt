@@ -6,6 +6,3 @@ mod request;
 
 pub use parsing::{MOST_COUNT, MOST_LIMIT, parse_arguments};
 pub use request::{CheckArguments, Request, SampleArguments};
-
-#[cfg(test)]
-mod tests;

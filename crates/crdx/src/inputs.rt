@@ -117,6 +117,3 @@ fn fault_of(kind: ErrorKind) -> InFault
         _ => InFault::Failed,
     }
 }
-
-#[cfg(test)]
-mod tests;

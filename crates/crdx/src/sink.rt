@@ -111,6 +111,3 @@ pub fn put_all<W: Sink>(sink: &mut W, bytes: &[u8]) -> Result<(), usize>
     }
     Ok(())
 }
-
-#[cfg(test)]
-mod tests;

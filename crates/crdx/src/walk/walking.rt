@@ -84,6 +84,3 @@ fn write_lines<W: Sink>(alloc: Global, trees: &[Tree], out: &mut W) -> Result<()
     }
     Ok(())
 }
-
-#[cfg(test)]
-mod tests;

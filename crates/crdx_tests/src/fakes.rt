@@ -1,17 +1,17 @@
-//! A sink for tests, which can fail, and documents.
+//! A sink that can fail, and documents of memory.
 ghost use Rattle.std.specs.Prelude.{Some, ◌≡◌, ◌⊎◌, IfOk};
 ghost use Rattle.crdx.specs.Program.InputFault.{IsReading};
 ghost use Rattle.crdx.specs.Output.Sink.{failures_after};
 
-use crate::inputs::{InFault, Inputs};
-use crate::sink::{Sink, SinkFault};
+use crdx::inputs::{InFault, Inputs};
+use crdx::sink::{Sink, SinkFault};
 use jtree::Tree;
 use std::alloc::Global;
 use std::io::Write;
 
 /// Takes at most `step` bytes a call, and `left` in all; then it fails, or answers 0.
 #[derive(Drop)]
-pub(crate) struct FailingSink {
+pub struct FailingSink {
     pub taken: Vec<u8>,
     pub left: usize,
     pub step: usize,
@@ -93,22 +93,61 @@ impl Sink for FailingSink {
     }
 }
 
-/// Two documents by name. Another name cannot be opened.
+/// How often each input was asked for.
+#[derive(Clone, Copy, Debug, PartialEq, Eq, Drop)]
+pub struct Reads {
+    pub crd: u64,
+    pub pools: u64,
+    /// The standard input, or a file of another name.
+    pub other: u64,
+}
+
+/// Two documents by name. Another name cannot be opened, and the standard input cannot be read.
 #[derive(Drop)]
-pub(crate) struct FakeInputs<'a> {
+pub struct FakeInputs<'a> {
     pub alloc: Global,
     pub crd: &'a str,
     pub pools: &'a str,
+    pub reads: Reads,
+    pub failures: u64,
+}
+
+impl<'a> FakeInputs<'a> {
+    pub fn new(alloc: Global, crd: &'a str, pools: &'a str) -> FakeInputs<'a> {
+        FakeInputs {
+            alloc,
+            crd,
+            pools,
+            reads: Reads {
+                crd: 0,
+                pools: 0,
+                other: 0,
+            },
+            failures: 0,
+        }
+    }
 }
 
 impl Inputs for FakeInputs<'_> {
     ghost has = { λ s name read. IsReading s.crd.now read ⊎ IsReading s.pools.now read };
 
+    ghost failures = { λ s. s.failures };
+
     fn tree(&mut self, name: Option<&str>) -> Result<Tree, InFault> {
         let text = match name {
-            Some("crd.json") => self.crd,
-            Some("pools.json") => self.pools,
-            _ => return Err(InFault::Failed),
+            Some("crd.json") => {
+                self.reads.crd = self.reads.crd.saturating_add(1);
+                self.crd
+            }
+            Some("pools.json") => {
+                self.reads.pools = self.reads.pools.saturating_add(1);
+                self.pools
+            }
+            _ => {
+                self.reads.other = self.reads.other.saturating_add(1);
+                self.failures = self.failures.saturating_add(1);
+                return Err(InFault::Failed);
+            }
         };
         match Tree::from_bytes(self.alloc, text.as_bytes()) {
             Ok(tree) => Ok(tree),

@@ -1,0 +1,252 @@
+//! The words of the command line: what they ask for, mistakes, and help.
+use crate::documents::{WIDGET, ZERO_AND_ONE};
+use crate::fakes::{FailingSink, FakeInputs};
+use crate::harness::{Output, is_number, is_text, run_on, words_of};
+use crdx::arguments::{CheckArguments, Request, SampleArguments, parse_arguments};
+use std::alloc::{AllocError, Global};
+use std::process::Abort;
+use std::test::Fail;
+
+// A name, a command line, and what it asks for: the file, the version, the pools, the limit and the count.
+static REQUESTS: [(&str, &str, &str); 4] = [
+    (
+        "a sample",
+        "crdx sample c.json v1",
+        "sample c.json v1 - 8 100",
+    ),
+    ("a check", "crdx check c.json v1", "check c.json v1"),
+    (
+        "the least limit and count",
+        "crdx sample c.json v1 --pools p.json --limit 1 --count 1",
+        "sample c.json v1 p.json 1 1",
+    ),
+    (
+        "the greatest limit and count",
+        "crdx sample --limit 63 --count=10000 - v1beta1",
+        "sample - v1beta1 - 63 10000",
+    ),
+];
+
+const MISSING: &str = "error: the following required arguments were not provided:\n";
+
+// A name, a command line, and the first line of standard error. The status is 2.
+static MISTAKES: [(&str, &str, &str); 13] = [
+    (
+        "no command",
+        "crdx",
+        "error: 'crdx' requires a subcommand but one was not provided\n",
+    ),
+    (
+        "another command",
+        "crdx list",
+        "error: unrecognized subcommand 'list'\n",
+    ),
+    ("a sample of nothing", "crdx sample", MISSING),
+    ("a sample of no version", "crdx sample crd.json", MISSING),
+    ("a check of no version", "crdx check crd.json", MISSING),
+    (
+        "a third word",
+        "crdx sample crd.json v1 w",
+        "error: unexpected argument 'w' found\n",
+    ),
+    (
+        "a limit of a check",
+        "crdx check crd.json v1 --limit 4",
+        "error: unexpected argument '--limit' found\n",
+    ),
+    (
+        "a count of a check",
+        "crdx check crd.json v1 --count 1",
+        "error: unexpected argument '--count' found\n",
+    ),
+    (
+        "limit 0",
+        "crdx sample crd.json v1 --limit 0",
+        "error: invalid value '0' for '--limit <N>': 0 is not in 1..=63\n",
+    ),
+    (
+        "limit 64",
+        "crdx sample crd.json v1 --limit 64",
+        "error: invalid value '64' for '--limit <N>': 64 is not in 1..=63\n",
+    ),
+    (
+        "count 0",
+        "crdx sample crd.json v1 --count 0",
+        "error: invalid value '0' for '--count <N>': 0 is not in 1..=10000\n",
+    ),
+    (
+        "count 10001",
+        "crdx sample crd.json v1 --count 10001",
+        "error: invalid value '10001' for '--count <N>': 10001 is not in 1..=10000\n",
+    ),
+    (
+        "a limit that is no number",
+        "crdx sample crd.json v1 --limit x",
+        "error: invalid value 'x' for '--limit <N>': invalid digit found in string\n",
+    ),
+];
+
+// A name, a command line, and a line of the help, or the version. The status is 0.
+static HELP: [(&str, &str, &str); 8] = [
+    ("an option", "crdx --help", "Usage: crdx <COMMAND>\n"),
+    ("a command", "crdx help", "Usage: crdx <COMMAND>\n"),
+    (
+        "an option of a command",
+        "crdx sample --help",
+        "Usage: crdx sample [OPTIONS] <CRD> <VERSION>\n",
+    ),
+    (
+        "a command of a command",
+        "crdx help sample",
+        "Usage: crdx sample [OPTIONS] <CRD> <VERSION>\n",
+    ),
+    (
+        "another name of the program",
+        "bin/crdx_cli sample --help",
+        "Usage: crdx sample [OPTIONS] <CRD> <VERSION>\n",
+    ),
+    (
+        "a short option",
+        "crdx check -h",
+        "Usage: crdx check <CRD> <VERSION>\n",
+    ),
+    ("the version", "crdx --version", "crdx 0.1.0\n"),
+    ("the version, for short", "bin/crdx_cli -V", "crdx 0.1.0\n"),
+];
+
+// What a run can answer, and the rules and codes that it can print: each begins a line of the help.
+static ANSWERS: [&str; 25] = [
+    "0", "1", "2", "3", "4", "5", "V01", "V02", "V03", "V04", "V05", "V06", "V07", "V08", "V09",
+    "J1", "J3", "J4", "S0", "S1", "S2", "S3", "S4", "P1", "P2",
+];
+
+// Command lines whose help is shown on a screen of 80 columns.
+static SHOWN: [&str; 6] = [
+    "crdx -h",
+    "crdx --help",
+    "crdx check -h",
+    "crdx check --help",
+    "crdx sample -h",
+    "crdx sample --help",
+];
+
+fn said_of_sample(alloc: Global, asked: &SampleArguments<'_>) -> Result<String, AllocError> {
+    let SampleArguments {
+        crd,
+        version,
+        pools,
+        limit,
+        count,
+    } = asked;
+    let pools = pools.unwrap_or("-");
+    format!(in alloc; "sample {crd} {version} {pools} {limit} {count}")
+}
+
+fn said_of_check(alloc: Global, asked: &CheckArguments<'_>) -> Result<String, AllocError> {
+    let CheckArguments { crd, version } = asked;
+    format!(in alloc; "check {crd} {version}")
+}
+
+fn said(alloc: Global, request: &Request<'_>) -> Result<String, AllocError> {
+    match request {
+        Request::Sample(asked) => said_of_sample(alloc, asked),
+        Request::Check(asked) => said_of_check(alloc, asked),
+        _ => String::from_str(alloc, "another request"),
+    }
+}
+
+fn try_request(rt: &impl Abort, alloc: Global, row: &(&str, &str, &str)) -> Result<(), AllocError> {
+    let (name, line, wanted) = *row;
+    let words = words_of(alloc, line)?;
+    let found = said(alloc, &parse_arguments(alloc, words.as_slice()))?;
+    is_text(rt, found.as_str(), wanted, "what is asked", name);
+    Ok(())
+}
+
+#[test]
+fn requests(rt: HostRuntime) -> Result<(), Fail> {
+    for row in &REQUESTS {
+        try_request(&rt, rt.alloc(), row)?;
+    }
+    Ok(())
+}
+
+fn run_of(alloc: Global, line: &str) -> Result<Output, AllocError> {
+    let inputs = FakeInputs::new(alloc, WIDGET, ZERO_AND_ONE);
+    run_on(alloc, line, inputs, FailingSink::endless(alloc))
+}
+
+fn try_mistake(rt: &impl Abort, alloc: Global, row: &(&str, &str, &str)) -> Result<(), AllocError> {
+    let (name, line, wanted) = *row;
+    let output = run_of(alloc, line)?;
+    let err = output.err.text();
+    assert!(rt; err.starts_with(wanted), "standard error of {name}: {err}");
+    is_text(rt, output.out.text(), "", "standard output", name);
+    is_number(rt, output.status as u64, 2, "the status", name);
+    Ok(())
+}
+
+#[test]
+fn mistakes(rt: HostRuntime) -> Result<(), Fail> {
+    for row in &MISTAKES {
+        try_mistake(&rt, rt.alloc(), row)?;
+    }
+    Ok(())
+}
+
+fn try_help(rt: &impl Abort, alloc: Global, row: &(&str, &str, &str)) -> Result<(), AllocError> {
+    let (name, line, wanted) = *row;
+    let output = run_of(alloc, line)?;
+    let out = output.out.text();
+    assert!(rt; out.contains(wanted), "standard output of {name}: {out}");
+    is_text(rt, output.err.text(), "", "standard error", name);
+    is_number(rt, output.status as u64, 0, "the status", name);
+    Ok(())
+}
+
+#[test]
+fn help(rt: HostRuntime) -> Result<(), Fail> {
+    for row in &HELP {
+        try_help(&rt, rt.alloc(), row)?;
+    }
+    Ok(())
+}
+
+fn is_explained(text: &str, answer: &str) -> bool {
+    for line in text.lines() {
+        if line.trim_start().split(' ').next() == Some(answer) {
+            return true;
+        }
+    }
+    false
+}
+
+#[test]
+fn help_explains_each_answer(rt: HostRuntime) -> Result<(), Fail> {
+    let output = run_of(rt.alloc(), "crdx --help")?;
+    for answer in ANSWERS {
+        assert!(rt;
+            is_explained(output.out.text(), answer),
+            "no line for {answer}"
+        );
+    }
+    Ok(())
+}
+
+fn is_narrow(rt: &impl Abort, text: &str) {
+    for line in text.lines() {
+        assert!(rt;
+            line.chars().count() <= 80,
+            "a line of more than 80 columns: {line}"
+        );
+    }
+}
+
+#[test]
+fn help_fits_80_columns(rt: HostRuntime) -> Result<(), Fail> {
+    for line in SHOWN {
+        let output = run_of(rt.alloc(), line)?;
+        is_narrow(&rt, output.out.text());
+    }
+    Ok(())
+}

@@ -1,0 +1,87 @@
+//! Runs of the program over documents of memory, and what comes of them.
+use crate::fakes::{FailingSink, FakeInputs, Reads};
+use crdx::plan::{Plan, Pools};
+use crdx::stored::{Schema, accept};
+use jtree::Tree;
+use schema::read_crd;
+use std::alloc::{AllocError, Global};
+use std::process::Abort;
+use std::test::Fail;
+
+/// What came of a run.
+#[derive(Drop)]
+pub struct Output {
+    pub out: FailingSink,
+    pub err: FailingSink,
+    pub status: u8,
+    pub reads: Reads,
+}
+
+/// The words of a command line.
+pub fn words_of(alloc: Global, line: &str) -> Result<Vec<String>, AllocError> {
+    let mut words = Vec::new(alloc);
+    for word in line.split(' ') {
+        words.push(String::from_str(alloc, word)?)?;
+    }
+    Ok(words)
+}
+
+/// A run of a command line, whose first word is the program's name.
+pub fn run_on(
+    alloc: Global,
+    line: &str,
+    mut inputs: FakeInputs<'_>,
+    mut out: FailingSink,
+) -> Result<Output, AllocError> {
+    let words = words_of(alloc, line)?;
+    let mut err = FailingSink::endless(alloc);
+    let status = crdx::run(alloc, words.as_slice(), &mut inputs, &mut out, &mut err);
+    Ok(Output {
+        out,
+        err,
+        status,
+        reads: inputs.reads,
+    })
+}
+
+/// Fails unless the text is the one that is wanted.
+pub fn is_text(rt: &impl Abort, found: &str, wanted: &str, what: &str, name: &str) {
+    assert_eq!(rt; found, wanted, "{what} of {name}");
+}
+
+/// Fails unless the number is the one that is wanted.
+pub fn is_number(rt: &impl Abort, found: u64, wanted: u64, what: &str, name: &str) {
+    assert_eq!(rt; found, wanted, "{what} of {name}");
+}
+
+/// Fails unless a run wrote these texts and ended with this status.
+pub fn is_answer(rt: &impl Abort, output: &Output, out: &str, err: &str, status: u8, name: &str) {
+    is_text(rt, output.out.text(), out, "standard output", name);
+    is_text(rt, output.err.text(), err, "standard error", name);
+    is_number(rt, output.status as u64, status as u64, "the status", name);
+}
+
+/// A CustomResourceDefinition whose one version, `v1`, has this schema.
+pub fn definition(alloc: Global, schema: &str) -> Result<String, AllocError> {
+    let mut document = String::from_str(
+        alloc,
+        r#"{"apiVersion":"apiextensions.k8s.io/v1","kind":"CustomResourceDefinition","spec":{"group":"example.com","names":{"kind":"Widget"},"versions":[{"name":"v1","schema":{"openAPIV3Schema":"#,
+    )?;
+    document.push_str(schema)?;
+    document.push_str("}}]}}")?;
+    Ok(document)
+}
+
+/// The accepted schema of version `v1` of a CustomResourceDefinition.
+pub fn schema_of(alloc: Global, crd: &str) -> Result<Schema, Fail> {
+    let document = Tree::from_bytes(alloc, crd.as_bytes())?;
+    let crd = read_crd(alloc, &document, "v1")?;
+    Ok(accept(alloc, crd.raw)?)
+}
+
+/// The plan of two documents and a node limit.
+pub fn plan_of(alloc: Global, crd: &str, pools: &str, limit: u32) -> Result<Plan, Fail> {
+    let document = Tree::from_bytes(alloc, pools.as_bytes())?;
+    let pools = Pools::read(alloc, &document)?;
+    Ok(Plan::new(schema_of(alloc, crd)?, pools, limit)?)
+}

@@ -1,0 +1,23 @@
+//! Tests of the program and of the public calls of its library, over documents and streams of memory.
+#![tactic(auto)]
+
+#[cfg(test)]
+mod argument_rows;
+#[cfg(test)]
+mod broken_rows;
+#[cfg(test)]
+mod check_rows;
+#[cfg(test)]
+mod documents;
+#[cfg(test)]
+mod fakes;
+#[cfg(test)]
+mod harness;
+#[cfg(test)]
+mod input_rows;
+#[cfg(test)]
+mod page_rows;
+#[cfg(test)]
+mod pool_rows;
+#[cfg(test)]
+mod sample_rows;

@@ -1,0 +1,252 @@
+//! `sample`: what is listed, and what is said of the inputs that are refused.
+use crate::documents::{BROKEN, BROKEN_LINES, TEN_LINES, WIDGET, ZERO_AND_ONE};
+use crate::fakes::{FailingSink, FakeInputs};
+use crate::harness::{is_answer, run_on};
+use std::alloc::{AllocError, Global};
+use std::process::Abort;
+use std::test::Fail;
+
+const REPEATED_AND_NEGATIVE: &str = r#"{"integers":[5,-9223372036854775808,5,-1]}"#;
+
+const TEXT_PROPERTY: &str =
+    r#"{"apiVersion":"apiextensions.k8s.io/v1","kind":"CustomResourceDefinition","spec":{"group":"example.org","names":{"kind":"Widget"},"versions":[{"name":"v1","schema":{"openAPIV3Schema":{"type":"object","properties":{"a":{"type":"string"}}}}}]}}"#;
+
+const ANNOTATED_WIDGET: &str =
+    r#"{"apiVersion":"apiextensions.k8s.io/v1","kind":"CustomResourceDefinition","spec":{"group":"example.org","names":{"kind":"Widget"},"versions":[{"name":"v1","schema":{"openAPIV3Schema":{"type":"object","description":"A widget.","properties":{"apiVersion":{"type":"string"},"kind":{"type":"string"},"metadata":{"type":"object"},"spec":{"type":"object","title":"What is wanted","properties":{"a":{"type":"integer","format":"int64","example":7},"b":{"type":"boolean","uniqueItems":false}}}}}}}]}}"#;
+
+const NUMBER_REQUIRED: &str =
+    r#"{"apiVersion":"apiextensions.k8s.io/v1","kind":"CustomResourceDefinition","spec":{"group":"example.org","names":{"kind":"Widget"},"versions":[{"name":"v1","schema":{"openAPIV3Schema":{"type":"object","properties":{"a":{"type":"string","required":[1]}}}}}]}}"#;
+
+const FIVE_KEYS: &str =
+    r#"{"apiVersion":"apiextensions.k8s.io/v1","kind":"CustomResourceDefinition","spec":{"group":"example.org","names":{"kind":"Widget"},"versions":[{"name":"v1","schema":{"openAPIV3Schema":{"type":"object","properties":{"a":{"x-kubernetes-list-map-keys":["a","b","c","d","e"]}}}}}]}}"#;
+
+const QUOTED_PROPERTY: &str =
+    r#"{"apiVersion":"apiextensions.k8s.io/v1","kind":"CustomResourceDefinition","spec":{"group":"example.org","names":{"kind":"Widget"},"versions":[{"name":"v1","schema":{"openAPIV3Schema":{"type":"object","properties":{"a\"/~é":{"type":"string"}}}}}]}}"#;
+
+const FRACTION: &str = r#"{"integers":[1.5]}"#;
+
+const CUT: &str = r#"{"apiVersion":"apiextensions.k8s.io/v1","kind":"CustomRes"#;
+
+const NO_DEFINITION: &str = r#"{"kind":"Widget"}"#;
+
+const TWO_LINES: &str = r#"{}
+{"spec":{}}
+"#;
+
+const FOUR_LINES: &str = r#"{}
+{"spec":{}}
+{"spec":{"b":false}}
+{"spec":{"b":true}}
+"#;
+
+const SIX_LINES: &str = r#"{}
+{"spec":{}}
+{"spec":{"b":false}}
+{"spec":{"b":true}}
+{"spec":{"a":0}}
+{"spec":{"a":1}}
+"#;
+
+const NEGATIVE_LINES: &str = r#"{}
+{"spec":{}}
+{"spec":{"b":false}}
+{"spec":{"b":true}}
+{"spec":{"a":-9223372036854775808}}
+{"spec":{"a":-1}}
+{"spec":{"a":5}}
+"#;
+
+// A name, a command line, the two documents, standard output, standard error and the status.
+static ROWS: [(&str, &str, &str, &str, &str, &str, u8); 19] = [
+    (
+        "every sample of four nodes",
+        "crdx sample crd.json v1 --pools pools.json --limit 4",
+        WIDGET,
+        ZERO_AND_ONE,
+        TEN_LINES,
+        "crdx: end\n",
+        0,
+    ),
+    (
+        "one node",
+        "crdx sample crd.json v1 --pools pools.json --limit 1",
+        WIDGET,
+        ZERO_AND_ONE,
+        "{}\n",
+        "crdx: end\n",
+        0,
+    ),
+    (
+        "two nodes",
+        "crdx sample crd.json v1 --pools pools.json --limit 2",
+        WIDGET,
+        ZERO_AND_ONE,
+        TWO_LINES,
+        "crdx: end\n",
+        0,
+    ),
+    (
+        "three nodes",
+        "crdx sample crd.json v1 --pools pools.json --limit 3",
+        WIDGET,
+        ZERO_AND_ONE,
+        SIX_LINES,
+        "crdx: end\n",
+        0,
+    ),
+    (
+        "six of ten samples",
+        "crdx sample crd.json v1 --pools pools.json --limit 4 --count 6",
+        WIDGET,
+        ZERO_AND_ONE,
+        SIX_LINES,
+        "crdx: more\n",
+        0,
+    ),
+    (
+        "as many samples as there are",
+        "crdx sample crd.json v1 --pools pools.json --count 10",
+        WIDGET,
+        ZERO_AND_ONE,
+        TEN_LINES,
+        "crdx: end\n",
+        0,
+    ),
+    (
+        "no pools",
+        "crdx sample crd.json v1",
+        WIDGET,
+        ZERO_AND_ONE,
+        FOUR_LINES,
+        "crdx: end\n",
+        0,
+    ),
+    (
+        "repeated and negative integers",
+        "crdx sample crd.json v1 --pools pools.json --limit 3",
+        WIDGET,
+        REPEATED_AND_NEGATIVE,
+        NEGATIVE_LINES,
+        "crdx: end\n",
+        0,
+    ),
+    (
+        "a property of texts",
+        "crdx sample crd.json v1 --pools pools.json --limit 4",
+        TEXT_PROPERTY,
+        ZERO_AND_ONE,
+        "",
+        "crdx: crd: S0 \"/properties/a\"\n",
+        3,
+    ),
+    (
+        "an envelope and keywords without effect",
+        "crdx sample crd.json v1 --pools pools.json --limit 4",
+        ANNOTATED_WIDGET,
+        ZERO_AND_ONE,
+        TEN_LINES,
+        "crdx: end\n",
+        0,
+    ),
+    (
+        "a required name that is a number",
+        "crdx sample crd.json v1",
+        NUMBER_REQUIRED,
+        ZERO_AND_ONE,
+        "",
+        "crdx: crd: S3 \"/properties/a/required/0\"\n",
+        3,
+    ),
+    (
+        "five keys of a map list",
+        "crdx sample crd.json v1",
+        FIVE_KEYS,
+        ZERO_AND_ONE,
+        "",
+        "crdx: crd: S4 \"/properties/a/x-kubernetes-list-map-keys\"\n",
+        3,
+    ),
+    (
+        "a pointer with a quote and a slash",
+        "crdx sample crd.json v1",
+        QUOTED_PROPERTY,
+        ZERO_AND_ONE,
+        "",
+        "crdx: crd: S0 \"/properties/a\\\"~1~0é\"\n",
+        3,
+    ),
+    (
+        "a definition that is cut, judged before the pools",
+        "crdx sample crd.json v1 --pools pools.json",
+        CUT,
+        FRACTION,
+        "",
+        "crdx: crd: J3\n",
+        3,
+    ),
+    (
+        "no definition",
+        "crdx sample crd.json v1",
+        NO_DEFINITION,
+        ZERO_AND_ONE,
+        "",
+        "crdx: crd: S1\n",
+        3,
+    ),
+    (
+        "no such version",
+        "crdx sample crd.json v2",
+        WIDGET,
+        ZERO_AND_ONE,
+        "",
+        "crdx: crd: S2\n",
+        3,
+    ),
+    (
+        "a definition that cannot be read",
+        "crdx sample nowhere.json v1",
+        WIDGET,
+        ZERO_AND_ONE,
+        "",
+        "crdx: crd: read failed\n",
+        4,
+    ),
+    (
+        "pools that cannot be read",
+        "crdx sample crd.json v1 --pools nowhere.json",
+        WIDGET,
+        ZERO_AND_ONE,
+        "",
+        "crdx: pools: read failed\n",
+        4,
+    ),
+    (
+        "a schema that breaks rules",
+        "crdx sample crd.json v1",
+        BROKEN,
+        "",
+        "",
+        BROKEN_LINES,
+        1,
+    ),
+];
+
+fn try_row(
+    rt: &impl Abort,
+    alloc: Global,
+    row: &(&str, &str, &str, &str, &str, &str, u8),
+) -> Result<(), AllocError> {
+    let (name, command, crd, pools, out, err, status) = *row;
+    let inputs = FakeInputs::new(alloc, crd, pools);
+    let output = run_on(alloc, command, inputs, FailingSink::endless(alloc))?;
+    is_answer(rt, &output, out, err, status, name);
+    Ok(())
+}
+
+#[test]
+fn samples(rt: HostRuntime) -> Result<(), Fail> {
+    for row in &ROWS {
+        try_row(&rt, rt.alloc(), row)?;
+    }
+    Ok(())
+}
