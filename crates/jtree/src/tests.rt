@@ -25,37 +25,42 @@ fn is_outcome(
 }
 
 // A document, and its compact text or the fault.
-static DOCUMENTS: &str = r#"null => null
- [ true , false ]  => [true,false]
-{"b":1,"a":2,"":3,"é":4,"Z":5} => {"":3,"Z":5,"a":2,"b":1,"é":4}
-{"😀":1,"￼":2} => {"￼":2,"😀":1}
-{"k":[{},[],"",{"x":null}]} => {"k":[{},[],"",{"x":null}]}
-9223372036854775807 => 9223372036854775807
-9223372036854775808 => J1
--9223372036854775808 => -9223372036854775808
--9223372036854775809 => J1
-[0,-1,10] => [0,-1,10]
-1.5 => J1
-1e2 => J1
-1.0 => J1
-1e999 => J3
-{"a":[1,1.5]} => J1
-"\ud800" => J3
-1 2 => J3
-{"a": => J3
-[1,] => J3
-01 => J3
-nul => J3
-"\u0041\/\u00e9\ud83d\ude00" => "A/é😀"
-"a\"b\\c" => "a\"b\\c""#;
+static DOCUMENTS: [(&str, &str); 23] = [
+    ("null", "null"),
+    (" [ true , false ] ", "[true,false]"),
+    (
+        r#"{"b":1,"a":2,"":3,"é":4,"Z":5}"#,
+        r#"{"":3,"Z":5,"a":2,"b":1,"é":4}"#,
+    ),
+    (r#"{"😀":1,"￼":2}"#, r#"{"￼":2,"😀":1}"#),
+    (
+        r#"{"k":[{},[],"",{"x":null}]}"#,
+        r#"{"k":[{},[],"",{"x":null}]}"#,
+    ),
+    ("9223372036854775807", "9223372036854775807"),
+    ("9223372036854775808", "J1"),
+    ("-9223372036854775808", "-9223372036854775808"),
+    ("-9223372036854775809", "J1"),
+    ("[0,-1,10]", "[0,-1,10]"),
+    ("1.5", "J1"),
+    ("1e2", "J1"),
+    ("1.0", "J1"),
+    ("1e999", "J3"),
+    (r#"{"a":[1,1.5]}"#, "J1"),
+    (r#""\ud800""#, "J3"),
+    ("1 2", "J3"),
+    (r#"{"a":"#, "J3"),
+    ("[1,]", "J3"),
+    ("01", "J3"),
+    ("nul", "J3"),
+    (r#""\u0041\/\u00e9\ud83d\ude00""#, r#""A/é😀""#),
+    (r#""a\"b\\c""#, r#""a\"b\\c""#),
+];
 
 #[test]
 fn documents(rt: HostRuntime) -> Result<(), Fail> {
     let alloc = rt.alloc();
-    for row in DOCUMENTS.lines() {
-        let Some((document, wanted)) = row.split_once(" => ") else {
-            return Err(Fail::from("a row with no arrow"));
-        };
+    for (document, wanted) in DOCUMENTS {
         is_outcome(&rt, alloc, document.as_bytes(), wanted, document)?;
     }
     is_outcome(&rt, alloc, b"", "J3", "no byte")?;
@@ -112,38 +117,40 @@ fn borders(rt: HostRuntime) -> Result<(), Fail> {
 }
 
 // The texts of the control characters from 0 to 31.
-static CONTROLS: &str = r#""\u0000"
-"\u0001"
-"\u0002"
-"\u0003"
-"\u0004"
-"\u0005"
-"\u0006"
-"\u0007"
-"\b"
-"\t"
-"\n"
-"\u000b"
-"\f"
-"\r"
-"\u000e"
-"\u000f"
-"\u0010"
-"\u0011"
-"\u0012"
-"\u0013"
-"\u0014"
-"\u0015"
-"\u0016"
-"\u0017"
-"\u0018"
-"\u0019"
-"\u001a"
-"\u001b"
-"\u001c"
-"\u001d"
-"\u001e"
-"\u001f""#;
+static CONTROLS: [&str; 32] = [
+    r#""\u0000""#,
+    r#""\u0001""#,
+    r#""\u0002""#,
+    r#""\u0003""#,
+    r#""\u0004""#,
+    r#""\u0005""#,
+    r#""\u0006""#,
+    r#""\u0007""#,
+    r#""\b""#,
+    r#""\t""#,
+    r#""\n""#,
+    r#""\u000b""#,
+    r#""\f""#,
+    r#""\r""#,
+    r#""\u000e""#,
+    r#""\u000f""#,
+    r#""\u0010""#,
+    r#""\u0011""#,
+    r#""\u0012""#,
+    r#""\u0013""#,
+    r#""\u0014""#,
+    r#""\u0015""#,
+    r#""\u0016""#,
+    r#""\u0017""#,
+    r#""\u0018""#,
+    r#""\u0019""#,
+    r#""\u001a""#,
+    r#""\u001b""#,
+    r#""\u001c""#,
+    r#""\u001d""#,
+    r#""\u001e""#,
+    r#""\u001f""#,
+];
 
 fn written(alloc: Global, text: &str) -> Result<String, Fail> {
     let tree = Tree::Text(Text::from_str(alloc, text)?);
@@ -153,8 +160,7 @@ fn written(alloc: Global, text: &str) -> Result<String, Fail> {
 #[test]
 fn escapes(rt: HostRuntime) -> Result<(), Fail> {
     let alloc = rt.alloc();
-    assert_eq!(rt; CONTROLS.lines().count(), 32);
-    for (code, wanted) in (0u8..32).zip(CONTROLS.lines()) {
+    for (code, wanted) in (0u8..32).zip(CONTROLS) {
         let mut text = String::new(alloc);
         text.push(char::from(code))?;
         assert_eq!(rt;
@@ -214,20 +220,19 @@ fn long_list(rt: HostRuntime) -> Result<(), Fail> {
 }
 
 // A name, and its token.
-static NAMES: &str = "a~b/c => /a~0b~1c
-~1 => /~01
-~0 => /~00
-// => /~1~1
-é~😀/ => /é~0😀~1
- => /";
+static NAMES: [(&str, &str); 6] = [
+    ("a~b/c", "/a~0b~1c"),
+    ("~1", "/~01"),
+    ("~0", "/~00"),
+    ("//", "/~1~1"),
+    ("é~😀/", "/é~0😀~1"),
+    ("", "/"),
+];
 
 #[test]
 fn pointers(rt: HostRuntime) -> Result<(), Fail> {
     let alloc = rt.alloc();
-    for row in NAMES.lines() {
-        let Some((name, wanted)) = row.split_once(" => ") else {
-            return Err(Fail::from("a row with no arrow"));
-        };
+    for (name, wanted) in NAMES {
         let mut text = String::new(alloc);
         push_name(&mut text, name)?;
         assert_eq!(rt; text.as_str(), wanted, "at {name}");
@@ -241,45 +246,44 @@ fn pointers(rt: HostRuntime) -> Result<(), Fail> {
 }
 
 // Two trees of which the first is before the second, by one rule of the order after the other.
-static ORDERED: &str = r#"9 < [9]
-{"a":1} < [1,2]
-{"z":[[]]} < {"a":[],"b":1,"c":2}
-null < false
-true < -5
-5 < ""
-"zzz" < []
-[] < {}
-[[]] < {"a":1}
-false < true
--9223372036854775808 < -2
--2 < -1
--1 < 0
-9 < 10
-10 < 9223372036854775807
-"" < "a"
-"a" < "aa"
-"aa" < "b"
-"Z" < "a"
-"z" < "é"
-"￼" < "😀"
-[1,2] < [2,1]
-[0,9] < [1,0]
-[[],[]] < [[0]]
-[0,1] < [[1]]
-{"b":false} < {"a":0}
-{"k":"x"} < {"j":"x"}
-{"b":true,"c":true} < {"a":false,"c":false}
-{"a":false,"c":true} < {"a":false,"b":false}
-{"a":0} < {"a":1}
-{"a":0,"b":1} < {"a":1,"b":0}
-{"a":1,"b":[]} < {"a":[],"b":1}
-{"a":null} < {"":null}"#;
+static ORDERED: [(&str, &str); 33] = [
+    ("9", "[9]"),
+    (r#"{"a":1}"#, "[1,2]"),
+    (r#"{"z":[[]]}"#, r#"{"a":[],"b":1,"c":2}"#),
+    ("null", "false"),
+    ("true", "-5"),
+    ("5", r#""""#),
+    (r#""zzz""#, "[]"),
+    ("[]", "{}"),
+    ("[[]]", r#"{"a":1}"#),
+    ("false", "true"),
+    ("-9223372036854775808", "-2"),
+    ("-2", "-1"),
+    ("-1", "0"),
+    ("9", "10"),
+    ("10", "9223372036854775807"),
+    (r#""""#, r#""a""#),
+    (r#""a""#, r#""aa""#),
+    (r#""aa""#, r#""b""#),
+    (r#""Z""#, r#""a""#),
+    (r#""z""#, r#""é""#),
+    (r#""￼""#, r#""😀""#),
+    ("[1,2]", "[2,1]"),
+    ("[0,9]", "[1,0]"),
+    ("[[],[]]", "[[0]]"),
+    ("[0,1]", "[[1]]"),
+    (r#"{"b":false}"#, r#"{"a":0}"#),
+    (r#"{"k":"x"}"#, r#"{"j":"x"}"#),
+    (r#"{"b":true,"c":true}"#, r#"{"a":false,"c":false}"#),
+    (r#"{"a":false,"c":true}"#, r#"{"a":false,"b":false}"#),
+    (r#"{"a":0}"#, r#"{"a":1}"#),
+    (r#"{"a":0,"b":1}"#, r#"{"a":1,"b":0}"#),
+    (r#"{"a":1,"b":[]}"#, r#"{"a":[],"b":1}"#),
+    (r#"{"a":null}"#, r#"{"":null}"#),
+];
 
-fn is_before(rt: &impl Abort, alloc: Global, row: &str) -> Result<(), Fail> {
-    let Some((earlier, later)) = row.split_once(" < ") else {
-        return Err(Fail::from("a row with no sign"));
-    };
-    let earlier = Tree::from_bytes(alloc, earlier.as_bytes())?;
+fn is_before(rt: &impl Abort, alloc: Global, row: &str, later: &str) -> Result<(), Fail> {
+    let earlier = Tree::from_bytes(alloc, row.as_bytes())?;
     let later = Tree::from_bytes(alloc, later.as_bytes())?;
     assert!(rt; earlier.cmp(&later).is_lt(), "at {row}");
     assert!(rt; later.cmp(&earlier).is_gt(), "at {row}");
@@ -294,8 +298,8 @@ fn is_before(rt: &impl Abort, alloc: Global, row: &str) -> Result<(), Fail> {
 fn order(rt: HostRuntime) -> Result<(), Fail> {
     order_is_total();
     order_in_words();
-    for row in ORDERED.lines() {
-        is_before(&rt, rt.alloc(), row)?;
+    for (earlier, later) in ORDERED {
+        is_before(&rt, rt.alloc(), earlier, later)?;
     }
     Ok(())
 }
