@@ -3,7 +3,7 @@ use crate::fakes::{FailingSink, FakeInputs, Reads};
 use crdx::plan::{Plan, Pools};
 use crdx::stored::{Schema, accept};
 use jtree::Tree;
-use schema::read_crd;
+use schema::{Crd, SFault, read_crd};
 use std::alloc::{AllocError, Global};
 use std::process::Abort;
 use std::test::Fail;
@@ -84,4 +84,44 @@ pub fn plan_of(alloc: Global, crd: &str, pools: &str, limit: u32) -> Result<Plan
     let document = Tree::from_bytes(alloc, pools.as_bytes())?;
     let pools = Pools::read(alloc, &document)?;
     Ok(Plan::new(schema_of(alloc, crd)?, pools, limit)?)
+}
+
+/// What is read of version `v1` of a document.
+pub fn read(alloc: Global, document: &str) -> Result<Result<Crd, SFault>, Fail> {
+    let document = Tree::from_bytes(alloc, document.as_bytes())?;
+    Ok(read_crd(alloc, &document, "v1"))
+}
+
+/// What is read of the definition whose one version has this schema.
+pub fn crd_of(alloc: Global, schema: &str) -> Result<Result<Crd, SFault>, Fail> {
+    read(alloc, definition(alloc, schema)?.as_str())
+}
+
+fn fault_text(alloc: Global, fault: &SFault) -> Result<String, AllocError> {
+    match fault {
+        SFault::KeywordForm(pointer) => format!(in alloc; "S3 {pointer}"),
+        SFault::TooLarge(pointer) => format!(in alloc; "S4 {pointer}"),
+        fault => fault.to_string(alloc),
+    }
+}
+
+/// Fails unless reading a schema says so: `read`, or the code and the pointer of the fault.
+pub fn try_schema(
+    rt: &impl Abort,
+    alloc: Global,
+    name: &str,
+    schema: &str,
+    wanted: &str,
+) -> Result<(), Fail> {
+    match crd_of(alloc, schema)? {
+        Ok(_crd) => is_text(rt, "read", wanted, "what is read", name),
+        Err(fault) => is_text(
+            rt,
+            fault_text(alloc, &fault)?.as_str(),
+            wanted,
+            "what is read",
+            name,
+        ),
+    }
+    Ok(())
 }

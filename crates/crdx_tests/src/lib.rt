@@ -16,8 +16,18 @@ mod harness;
 #[cfg(test)]
 mod input_rows;
 #[cfg(test)]
+mod limit_rows;
+#[cfg(test)]
+mod node_rows;
+#[cfg(test)]
+mod node_text;
+#[cfg(test)]
 mod page_rows;
 #[cfg(test)]
 mod pool_rows;
 #[cfg(test)]
+mod reading_rows;
+#[cfg(test)]
 mod sample_rows;
+#[cfg(test)]
+mod tree_rows;

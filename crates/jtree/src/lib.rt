@@ -8,8 +8,6 @@ mod order;
 mod parts;
 mod pointer;
 mod read;
-#[cfg(test)]
-mod tests;
 mod value;
 mod write;
 

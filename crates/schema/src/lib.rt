@@ -17,8 +17,6 @@ mod refused;
 mod rules;
 mod shaped;
 mod shaping;
-#[cfg(test)]
-mod tests;
 mod validations;
 mod versions;
 mod violation;

@@ -1,4 +1,5 @@
-use super::*;
+//! Trees: reading and writing, their order, pointers and what stands under a name.
+use jtree::{Text, Tree, order_in_words, order_is_total, push_index, push_name};
 use serde_json::Value;
 use std::alloc::Global;
 use std::process::Abort;
@@ -332,6 +333,27 @@ fn parts(rt: HostRuntime) -> Result<(), Fail> {
     assert_eq!(rt; found.to_text(alloc)?.as_str(), "2");
     assert!(rt; tree.get("ab").is_none());
     assert!(rt; found.get("a").is_none());
+    Ok(())
+}
+
+// A name of `{"a":"x","b":1,"":""}`, the text that stands there, if one does, and whether it is `x`.
+static TEXTS: [(&str, Option<&str>, bool); 4] = [
+    ("a", Some("x"), true),
+    ("b", None, false),
+    ("", Some(""), false),
+    ("c", None, false),
+];
+
+#[test]
+fn texts(rt: HostRuntime) -> Result<(), Fail> {
+    let tree = Tree::from_bytes(rt.alloc(), br#"{"a":"x","b":1,"":""}"#)?;
+    for (name, text, is_x) in TEXTS {
+        assert!(rt; tree.get_text(name) == text, "at {name}");
+        assert!(rt; tree.has_text(name, "x") == is_x, "at {name}");
+    }
+    let list = Tree::from_bytes(rt.alloc(), br#"["a"]"#)?;
+    assert!(rt; list.get_text("a").is_none());
+    assert!(rt; !list.has_text("a", "a"));
     Ok(())
 }
 

@@ -1,14 +1,14 @@
-// Nodes as texts.
-use crate::{
+//! Nodes as texts.
+use jtree::Items;
+use schema::{
     Bounds, Branches, Constraints, Field, ListNode, ListType, MapNode, MapType, Node, ObjectNode,
     ScalarKind, Sort, Validations,
 };
-use jtree::Items;
 use std::alloc::Global;
 use std::test::Fail;
 
 /// The node: its sort, its parts, and what is asked of it.
-pub(crate) fn node_text(alloc: Global, node: &Node) -> Result<String, Fail> {
+pub fn node_text(alloc: Global, node: &Node) -> Result<String, Fail> {
     let mut out = String::from_str(alloc, sort_keyword(&node.sort))?;
     push_flag(&mut out, node.nullable, "nullable")?;
     if let Some(description) = &node.description {

@@ -1,5 +1,5 @@
-// Schemas at the limits and past them.
-use crate::tests::try_schema;
+//! Schemas at the limits and past them.
+use crate::harness::try_schema;
 use std::alloc::{AllocError, Global};
 use std::test::Fail;
 

@@ -1,14 +1,14 @@
-// The node of a schema, or why it has none.
-use crate::tests::node_text::node_text;
-use crate::tests::schema_of;
-use crate::{Refused, shape};
+//! The node of a schema, or why it has none.
+use crate::harness::crd_of;
+use crate::node_text::node_text;
+use schema::{Refused, shape};
 use std::alloc::Global;
 use std::process::Abort;
 use std::test::Fail;
 
 // The text of the node of a schema, or its fault.
 fn said(alloc: Global, schema: &str) -> Result<String, Fail> {
-    let crd = schema_of(alloc, schema)??;
+    let crd = crd_of(alloc, schema)??;
     match shape(alloc, &crd.raw) {
         Ok(shape) => node_text(alloc, shape.root()),
         Err(Refused::NotYet(pointer)) => Ok(format!(in alloc; "S0 {pointer}")?),

@@ -1,5 +1,5 @@
-// Definitions that are read or refused, and the forms of the keywords of their schemas.
-use crate::tests::{read, try_schema};
+//! Definitions that are read or refused, and the forms of the keywords of their schemas.
+use crate::harness::{read, try_schema};
 use std::alloc::Global;
 use std::process::Abort;
 use std::test::Fail;
