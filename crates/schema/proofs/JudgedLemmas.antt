@@ -18,7 +18,7 @@ use Rattle.schema.specs.Internal.Subschemas.{IsSubschema, AreSubschemas}
 use Rattle.schema.specs.Internal.Judged.{judged, pair, pairs_at, pairs_of, AreBroken, none, broken, kept, AreFound}
 use Rattle.schema.specs.declared.listing.Subschema.{Subschema}
 use Rattle.schema.specs.declared.violation.Rule.{Rule}
-use Rattle.schema.specs.declared.violation.Rule.TheVariants.{V01, V02, V03, V04, V05, V06, V07, V08, V09}
+use Rattle.schema.specs.declared.violation.Rule.TheVariants.{V01, V02, V03, V04, V05, V06, V07, V08, V09, V10, V11, V12, V13, V15, V16, V17}
 use Rattle.schema.specs.declared.violation.Violation.{Violation}
 use Rattle.schema.proofs.Rising.{Among, Rising, contains, each_of, all_pairs, among_left, among_right, among_parts, rising_join}
 use Rattle.schema.proofs.LimitLemmas.{path_total}
@@ -136,6 +136,13 @@ is_judged raw p V06 h = inr (inr (inr (inr (inr (inl refl)))))
 is_judged raw p V07 h = inr (inr (inr (inr (inr (inr (inl refl))))))
 is_judged raw p V08 h = inr (inr (inr (inr (inr (inr (inr (inl refl)))))))
 is_judged raw p V09 h = inr (inr (inr (inr (inr (inr (inr (inr (inl refl))))))))
+is_judged raw p V10 h = inr (inr (inr (inr (inr (inr (inr (inr (inr (inl refl)))))))))
+is_judged raw p V11 h = inr (inr (inr (inr (inr (inr (inr (inr (inr (inr (inl refl))))))))))
+is_judged raw p V12 h = inr (inr (inr (inr (inr (inr (inr (inr (inr (inr (inr (inl refl)))))))))))
+is_judged raw p V13 h = inr (inr (inr (inr (inr (inr (inr (inr (inr (inr (inr (inr (inl refl))))))))))))
+is_judged raw p V15 h = inr (inr (inr (inr (inr (inr (inr (inr (inr (inr (inr (inr (inr (inl refl)))))))))))))
+is_judged raw p V16 h = inr (inr (inr (inr (inr (inr (inr (inr (inr (inr (inr (inr (inr (inr (inl refl))))))))))))))
+is_judged raw p V17 h = inr (inr (inr (inr (inr (inr (inr (inr (inr (inr (inr (inr (inr (inr (inr (inl refl)))))))))))))))
 is_judged raw p _ h = absurd h
 
 restricted_place : (raw : Data) (p : Place) → Broken raw p V04 → IsPlace raw p
@@ -153,6 +160,13 @@ at_place raw p V06 h = (h.0, h.1)
 at_place raw p V07 h = (h.0, h.1)
 at_place raw p V08 h = (h.0, h.1)
 at_place raw p V09 h = (h.1.0, h.1.1)
+at_place raw p V10 h = (h.1.0, h.1.1)
+at_place raw p V11 h = (h.1.0, h.1.1)
+at_place raw p V12 h = (h.1.0, h.1.1)
+at_place raw p V13 h = (h.1.0, h.1.1)
+at_place raw p V15 h = (h.1.0, h.1.1)
+at_place raw p V16 h = (h.0, h.1)
+at_place raw p V17 h = (h.1.0, h.1.1)
 at_place raw p _ h = absurd h
 
 -- ---- the pairs of the places are in order, and all are there
@@ -211,7 +225,7 @@ pairs_rising p (r ∷ rules) h = (
 )
 
 judged_chain : Chained judged
-judged_chain = (omega arith, (omega arith, (omega arith, (omega arith, (omega arith, (omega arith, (omega arith, (omega arith, tt))))))))
+judged_chain = (omega arith, (omega arith, (omega arith, (omega arith, (omega arith, (omega arith, (omega arith, (omega arith, (omega arith, (omega arith, (omega arith, (omega arith, (omega arith, (omega arith, (omega arith, tt)))))))))))))))
 
 abbrev pub Earlier : Subschema → Subschema → Type 0
 Earlier v w = path_cmp (place_path (place_of v.place.items)) (place_path (place_of w.place.items)) ≡ Less
@@ -277,7 +291,7 @@ pub subschemas_earlier : (ms : Members) (subschemas : List Subschema) → AreMem
 subschemas_earlier ms subschemas o are = subschemas_rising subschemas (subst Ascend (sym are.whole) (subschemas_ascend (schema_events [] ms) (schema_events_are ms o).ascending))
 
 pub violations_of : (ms : Members) (subschemas : List Subschema) (violations : List Violation) → AreMembers ms → AreSubschemas ms subschemas
-    → AreFound (λ raw. All (IsSubschema raw) subschemas) (pairs_of subschemas) [] violations → AreViolations (object ms) violations
+    → AreFound (λ raw. All (IsSubschema raw) subschemas) (pairs_of subschemas) [] violations → AreViolations (Broken (object ms)) violations
 violations_of ms subschemas violations o are f =
     let raw = object ms in
     let broken = f.are raw are.each in

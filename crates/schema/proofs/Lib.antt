@@ -14,7 +14,7 @@ pub mod PatternLemmas
 pub mod SchemaFaults
 pub mod RuleLemmas
 pub mod JudgedLemmas
-pub mod ShapeLemmas
 pub mod NodeLemmas
 pub mod KindLemmas
-pub mod LackingLemmas
+pub mod ShapeLemmas
+pub mod DefaultLemmas

@@ -1,20 +1,22 @@
 -- What a subschema shows of the rules at its place.
-use Rattle.std.proofs.Common.{◌≡◌, ◌⊎◌, ℕ, List, [], ◌∷◌, ◌++◌, Bool, true, false, Some, refl, sym, ap, ◌∙◌, subst, inl, inr, zero, suc, ◌+◌, ◌<◌, ◌≤◌, length, get_or, drop, arith}
-use Rattle.std.specs.Prelude.{◌↔◌, ◌||◌, not, IsTrue, codes, map}
+use Rattle.std.proofs.Common.{◌≡◌, ◌⊎◌, ℕ, List, [], ◌∷◌, ◌++◌, Bool, true, false, Some, refl, sym, ap, ◌∙◌, subst, inl, inr, zero, suc, ◌+◌, ◌-◌, ◌<◌, ◌≤◌, length, get_or, drop, arith}
+use Rattle.std.specs.Prelude.{◌↔◌, ◌||◌, ◌&&◌, not, IsTrue, codes, map}
 use Rattle.std.specs.Str.{bytes_eq}
 use Rattle.std.proofs.lemmas.Option.{same_Some}
-use Rattle.std.proofs.lemmas.List.{at_drop_more, at_drop_all}
-use Rattle.jtree.specs.View.{data_of, members_of}
+use Rattle.std.proofs.lemmas.List.{at_drop_more, drop_more}
+use Rattle.jtree.specs.View.{data_of, members_of, items_of}
 use Rattle.jtree.specs.declared.value.Member.{Member}
-use Rattle.jtree.specs.Data.{Data, object, Members, member, no_members}
-use Rattle.jtree.specs.Path.{member_at}
-use Rattle.jtree.specs.Internal.Lookups.{bool_cases, same_name, own_name, member_first, member_later}
+use Rattle.jtree.specs.declared.value.Tree.{Tree}
+use Rattle.jtree.specs.Data.{Data, Items, member}
+use Rattle.jtree.specs.Data as tree
+use Rattle.jtree.specs.Internal.Lookups.{bool_cases, same_name, own_name}
 use Rattle.schema.specs.Document.Raw.{Has}
 use Rattle.schema.specs.Document.Texts.{is_among}
-use Rattle.schema.specs.Document.Places.{Step, Place, property, is_junctor, is_inside, schema_at}
+use Rattle.schema.specs.Document.Places.{Step, Place, property, is_junctor, is_inside, ends_with, schema_at}
 use Rattle.schema.specs.Internal.PlaceView.{step_of, place_of}
 use Rattle.schema.specs.declared.places.Step.{Step as CodeStep}
-use Rattle.schema.specs.Rules.Broken.{metadata_names, HasOneOf, metadata_keywords, metadata, RestrictsMetadata, metadata_keyword, metadata_type, metadata_field, is_field, ends_in_field, HasOtherKeyword, HasOtherType}
+use Rattle.schema.specs.Rules.Keywords.{has_other_name, any_item, is_empty, texts_of}
+use Rattle.schema.specs.Rules.Broken.{metadata_names, HasOneOf, metadata, Passes, PassesOutside, RestrictsMetadata, metadata_keyword, metadata_type, metadata_field}
 use Rattle.schema.specs.Internal.RuleParts.{IsOtherName, IsOtherField, Restricts}
 
 -- ---- one of several keywords
@@ -57,54 +59,32 @@ keywords_found f xs i d s Whole within some all =
     let split : map f (drop i xs) ≡ f (get_or xs i d) ∷ map f (drop (i + 1) xs) = at_drop_more (map f) xs i d within in
     (λ e. all.0 (subst (λ ws. HasOneOf ws s) (sym split) (one_of_first (f (get_or xs i d)) (map f (drop (i + 1) xs)) s (some.0 refl))), λ w. refl)
 
--- ---- a keyword that `metadata` may not have
+-- ---- what is left of members, items and texts
 
-pub other_none : HasOtherKeyword (object no_members) → ⊥
-other_none h = h.1 refl
+pub others_next : (is_known : List ℕ → Bool) (xs : List Member) (i : ℕ) (m : Member) → i < length xs → m ≡ get_or xs i m
+    → has_other_name is_known (members_of (drop i xs)) ≡ (not (is_known m.name) || has_other_name is_known (members_of (drop (i + 1) xs)))
+others_next is_known xs i m within is =
+    ap (has_other_name is_known) (at_drop_more members_of xs i m within ∙ ap (λ z. member z.name (data_of z.tree) (members_of (drop (i + 1) xs))) (sym is))
 
-pub other_first : (k : List ℕ) (d : Data) (ms : Members) → is_among k metadata_keywords ≡ false → HasOtherKeyword (object (member k d ms))
-other_first k d ms other = (k, λ none. let some : member_at k (member k d ms) ≡ Some d = member_first k d ms in cc, other)
+pub items_next : (test : Data → Bool) (xs : List Tree) (i : ℕ) (t : Tree) → i < length xs → t ≡ get_or xs i t
+    → any_item test (items_of (drop i xs)) ≡ (test (data_of t) || any_item test (items_of (drop (i + 1) xs)))
+items_next test xs i t within is = ap (λ ys. any_item test (items_of ys)) (drop_more xs i t within ∙ ap (λ x. x ∷ drop (i + 1) xs) (sym is))
 
-some_later : (w k : List ℕ) (d : Data) (ms : Members) → Has (object ms) w → Has (object (member k d ms)) w
-some_later w k d ms h = elim (bool_cases (bytes_eq w k)) [
-  | inl same ↦ λ none. let some : member_at w (member k d ms) ≡ Some d = rw same refl in cc
-  | inr other ↦ λ none. h (sym (member_later w k d ms other) ∙ none)
+pub some_trees : (xs : List Tree) → 1 ≤ length xs → false ≡ is_empty (items_of xs)
+some_trees [] some = absurd (omega arith)
+some_trees (x ∷ xs) some = refl
+
+texts_split : (x : Data) (k : List ℕ) (ds : Items) → is_among k (texts_of (tree.item x ds)) ≡ (is_among k (texts_of (tree.item x tree.no_items)) || is_among k (texts_of ds))
+texts_split (tree.text t) k ds = elim (bool_cases (bytes_eq k t)) [
+  | inl same ↦ rw same refl
+  | inr f ↦ rw f refl
 ]
+texts_split _ k ds = refl
 
-pub other_next : (k : List ℕ) (d : Data) (ms : Members) → is_among k metadata_keywords ≡ true → HasOtherKeyword (object ms) ↔ HasOtherKeyword (object (member k d ms))
-other_next k d ms known = (
-  λ h. (h.0, some_later h.0 k d ms h.1, h.2),
-  λ h. elim (bool_cases (bytes_eq h.0 k)) [
-    | inl same ↦
-        let found : is_among h.0 metadata_keywords ≡ true = subst (λ w. is_among w metadata_keywords ≡ true) (sym (same_name h.0 k same)) known in
-        let not_found : is_among h.0 metadata_keywords ≡ false = h.2 in
-        absurd (cc)
-    | inr other ↦ (h.0, λ none. h.1 (member_later h.0 k d ms other ∙ none), h.2)
-  ],
-)
-
-members_split : (xs : List Member) (i : ℕ) (m : Member) → i < length xs → m ≡ get_or xs i m → members_of (drop i xs) ≡ member m.name (data_of m.tree) (members_of (drop (i + 1) xs))
-members_split xs i m within is = at_drop_more members_of xs i m within ∙ ap (λ z. member z.name (data_of z.tree) (members_of (drop (i + 1) xs))) (sym is)
-
-pub others_next : (xs : List Member) (i : ℕ) (m : Member) (Whole : Type 0) → i < length xs → m ≡ get_or xs i m → is_among m.name metadata_keywords ≡ true
-    → HasOtherKeyword (object (members_of (drop i xs))) ↔ Whole → HasOtherKeyword (object (members_of (drop (i + 1) xs))) ↔ Whole
-others_next xs i m Whole within is known all =
-    let split = members_split xs i m within is in
-    let next = other_next m.name (data_of m.tree) (members_of (drop (i + 1) xs)) known in (
-      λ h. all.0 (subst (λ ms. HasOtherKeyword (object ms)) (sym split) (next.0 h)),
-      λ w. next.1 (subst (λ ms. HasOtherKeyword (object ms)) split (all.1 w)),
-    )
-
-pub others_found : (xs : List Member) (i : ℕ) (m : Member) (Whole : Type 0) → i < length xs → m ≡ get_or xs i m → is_among m.name metadata_keywords ≡ false
-    → HasOtherKeyword (object (members_of (drop i xs))) ↔ Whole → IsTrue true ↔ Whole
-others_found xs i m Whole within is other all =
-    let split = members_split xs i m within is in
-    (λ e. all.0 (subst (λ ms. HasOtherKeyword (object ms)) (sym split) (other_first m.name (data_of m.tree) (members_of (drop (i + 1) xs)) other)), λ w. refl)
-
-pub others_none : (xs : List Member) (i : ℕ) (Whole : Type 0) → length xs ≤ i → HasOtherKeyword (object (members_of (drop i xs))) ↔ Whole → IsTrue false ↔ Whole
-others_none xs i Whole past all =
-    let none = at_drop_all members_of xs i past in
-    (λ e. absurd (cc), λ w. absurd (other_none (subst (λ ms. HasOtherKeyword (object ms)) none (all.1 w))))
+pub texts_next : (xs : List Tree) (i : ℕ) (t : Tree) (k : List ℕ) → i < length xs → t ≡ get_or xs i t
+    → is_among k (texts_of (items_of (drop i xs))) ≡ (is_among k (texts_of (tree.item (data_of t) tree.no_items)) || is_among k (texts_of (items_of (drop (i + 1) xs))))
+texts_next xs i t k within is =
+    ap (λ ys. is_among k (texts_of (items_of ys))) (drop_more xs i t within ∙ ap (λ x. x ∷ drop (i + 1) xs) (sym is)) ∙ texts_split (data_of t) k (items_of (drop (i + 1) xs))
 
 -- ---- the steps of a place
 
@@ -114,12 +94,15 @@ inside_next s p h = rw h refl
 pub inside_here : (s : Step) (p : Place) → is_junctor s ≡ true → is_inside (s ∷ p) ≡ true
 inside_here s p h = rw h refl
 
-pub ends_at : (xs : List CodeStep) (k : ℕ) (d : CodeStep) → suc k ≡ length xs → ends_in_field (place_of xs) ≡ is_field (step_of (get_or xs k d))
-ends_at [] k d h = absurd (omega arith)
-ends_at (x ∷ []) zero d h = refl
-ends_at (x ∷ []) (suc k) d h = absurd (omega arith)
-ends_at (x ∷ y ∷ xs) zero d h = absurd (omega arith)
-ends_at (x ∷ y ∷ xs) (suc k) d h = ends_at (y ∷ xs) k d (omega arith)
+ends_at : (test : Step → Bool) (xs : List CodeStep) (k : ℕ) (d : CodeStep) → suc k ≡ length xs → ends_with test (place_of xs) ≡ test (step_of (get_or xs k d))
+ends_at test [] k d h = absurd (omega arith)
+ends_at test (x ∷ []) zero d h = refl
+ends_at test (x ∷ []) (suc k) d h = absurd (omega arith)
+ends_at test (x ∷ y ∷ xs) zero d h = absurd (omega arith)
+ends_at test (x ∷ y ∷ xs) (suc k) d h = ends_at test (y ∷ xs) k d (omega arith)
+
+pub last_step : (test : Step → Bool) (xs : List CodeStep) (d : CodeStep) → 0 < length xs → test (step_of (get_or xs (length xs - 1) d)) ≡ ends_with test (place_of xs)
+last_step test xs d some = let last : suc (length xs - 1) ≡ length xs = omega arith in sym (ends_at test xs (length xs - 1) d last)
 
 pub other_name : (k : List ℕ) (b : Bool) → b ≡ is_among k metadata_names → IsTrue (not b) ↔ IsOtherName (property k)
 other_name k true is = (
@@ -151,10 +134,27 @@ restricts_to raw p s is (inr (step, here, other)) =
     let at : p ≡ metadata ++ (property other.0 ∷ []) = here ∙ ap (λ t. metadata ++ (t ∷ [])) other.1 in
     subst (RestrictsMetadata raw) (sym at) (metadata_field raw other.0 (s, subst (λ q. schema_at raw q ≡ Some s) at is) other.2)
 
+passes_here : (raw : Data) (p : Place) (s : Data) (test : Data → Bool) → schema_at raw p ≡ Some s → Passes raw p test → test s ≡ true
+passes_here raw p s test is at = subst (λ t. test t ≡ true) (same_Some at.0 s (sym at.1 ∙ is)) at.2
+
 restricts_from : (raw : Data) (p : Place) (s : Data) → schema_at raw p ≡ Some s → RestrictsMetadata raw p → Restricts p s
-restricts_from raw p s is (metadata_keyword r at) = inl (refl, inl (subst HasOtherKeyword (same_Some at.0 s (sym at.1 ∙ is)) at.2))
-restricts_from raw p s is (metadata_type r at) = inl (refl, inr (subst HasOtherType (same_Some at.0 s (sym at.1 ∙ is)) at.2))
+restricts_from raw p s is (metadata_keyword r at) = inl (refl, inl (passes_here r p s _ is at))
+restricts_from raw p s is (metadata_type r at) = inl (refl, inr (passes_here r p s _ is at))
 restricts_from raw p s is (metadata_field r k at n) = inr (property k, refl, (k, refl, n))
 
 pub restricts : (raw : Data) (p : Place) (s : Data) (b : Bool) → schema_at raw p ≡ Some s → IsTrue b ↔ Restricts p s → IsTrue b ↔ RestrictsMetadata raw p
 restricts raw p s b is h = (λ t. restricts_to raw p s is (h.0 t), λ r. h.1 (restricts_from raw p s is r))
+
+-- ---- a test that the schema at a place passes
+
+pub passes : (raw : Data) (p : Place) (s : Data) (test : Data → Bool) (b : Bool) → schema_at raw p ≡ Some s → b ≡ test s → IsTrue b ↔ Passes raw p test
+passes raw p s test b is told = (λ t. (s, is, sym told ∙ t), λ at. told ∙ passes_here raw p s test is at)
+
+pub passes_there : (raw : Data) (p : Place) (s : Data) (test : Data → Bool) (b : Bool) → schema_at raw p ≡ Some s → is_inside p ≡ false → b ≡ test s
+    → IsTrue b ↔ PassesOutside raw p test
+passes_there raw p s test b is out told = (λ t. (out, (passes raw p s test b is told).0 t), λ at. (passes raw p s test b is told).1 at.1)
+
+pub passes_outside : (raw : Data) (p : Place) (s : Data) (test : Data → Bool) (inside b : Bool) → schema_at raw p ≡ Some s → inside ≡ is_inside p
+    → b ≡ test s → IsTrue (not inside && b) ↔ PassesOutside raw p test
+passes_outside raw p s test true b is there told = (λ t. absurd (cc), λ at. let out = at.0 in cc)
+passes_outside raw p s test false b is there told = (λ t. (sym there, (passes raw p s test b is told).0 t), λ at. (passes raw p s test b is told).1 at.1)

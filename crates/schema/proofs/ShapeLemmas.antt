@@ -1,6 +1,6 @@
 -- The schemas below one whose places have nodes have nodes, and the fields of properties.
 use Rattle.std.proofs.Common.{◌≡◌, ◌<◌, ◌+◌, ℕ, List, [], ◌∷◌, ◌++◌, length, get_or, take, drop, Bool, true, false, Some, None, refl, sym, ap, ◌∙◌, subst, inl, inr}
-use Rattle.std.specs.Prelude.{option_and_then, option_map, codes, ◌||◌}
+use Rattle.std.specs.Prelude.{option_and_then, option_map, codes, ◌||◌, ◌&&◌}
 use Rattle.std.specs.Str.{bytes_eq}
 use Rattle.std.proofs.lemmas.Option.{same_Some}
 use Rattle.std.proofs.lemmas.List.{take-append-drop, drop_more}
@@ -17,27 +17,56 @@ use Rattle.jtree.specs.declared.value.Member.{Member}
 use Rattle.schema.specs.Document.Texts.{is_among}
 use Rattle.schema.specs.Document.Raw.{HasObject}
 use Rattle.schema.specs.Rules.Kinds as kinds
-use Rattle.schema.specs.Rules.Kinds.{IsOfKind, then_map}
+use Rattle.schema.specs.Rules.Keywords.{has_other_text}
+use Rattle.schema.specs.Rules.Kinds.{IsOfKind}
+use Rattle.schema.specs.Rules.Profile.{types, is_bad_root, is_root, lacks_items, is_outside_profile}
+use Rattle.schema.specs.Rules.Breaks.{BreaksNone}
+use Rattle.schema.specs.declared.violation.Rule.TheVariants.{V01, V17}
+use Rattle.schema.proofs.KindLemmas.{map_has_object, kind_none}
 use Rattle.schema.specs.Document.Places.{property, map_value, items, schema_by, schema_at, IsEnvelopeName}
-use Rattle.schema.specs.Nodes.Keywords.{texts_of}
 use Rattle.schema.specs.Nodes.Node.{Fields, no_fields, field, IsNode, IsBeforeFields, AreOrdered}
 use Rattle.schema.specs.Nodes.View.{node_of, fields_of}
-use Rattle.schema.specs.Nodes.Shape.{HasNoNode, IsNodeOf, AreFieldsOf, is_declared, declared_of}
-use Rattle.schema.specs.Internal.Building.{HasNodes, HaveNodes, AreNodes}
+use Rattle.schema.specs.Nodes.Shape.{IsNodeOf, AreFieldsOf, is_declared, declared_of}
+use Rattle.schema.specs.Internal.Building.{HasNoNode, HasNodes, HaveNodes, AreNodes}
 use Rattle.schema.specs.declared.node.Field.{Field}
+
+-- ---- where no rule is broken each place has a node
+
+or_right : (a b : Bool) → b ≡ true → (a || b) ≡ true
+or_right true b h = refl
+or_right false b h = h
+
+or_left : (a b : Bool) → a ≡ true → (a || b) ≡ true
+or_left true b h = refl
+or_left false b h = cc
+
+other_type : (root : Bool) (s : Data) → has_other_text types s (codes "type") ≡ true → is_outside_profile root s ≡ true
+other_type root s h = or_left _ _ (or_right (root && is_bad_root s) _ (or_left _ _ h))
+
+no_items : (root : Bool) (s : Data) → IsOfKind s kinds.list → schema_by s items ≡ None → is_outside_profile root s ≡ true
+no_items root s kind none = or_right _ (lacks_items s || _) (or_left (lacks_items s) _ (rw (kind.is, none) refl))
+
+pub all_have_nodes : (raw : Data) → BreaksNone raw → HasNodes true raw
+all_have_nodes raw none p outside other at = elim at.2 [
+  | inl untyped ↦ elim (kind_none at.0 untyped) [
+    | inl lacks ↦ none p V01 (outside, (at.0, at.1, lacks))
+    | inr typed ↦ none p V17 (outside, (at.0, at.1, other_type (is_root p) at.0 typed))
+  ]
+  | inr list ↦ none p V17 (outside, (at.0, at.1, no_items (is_root p) at.0 list.0 list.1))
+]
 
 -- ---- places one step below
 
 pub has_node : (root : Bool) (s : Data) → HasNodes root s → HasNoNode s → ⊥
-has_node root s h lacks = h [] refl (λ is e. e) (s, refl, lacks)
+has_node root s h lacks = h [] refl (λ is e. absurd (cc)) (s, refl, lacks)
 
 list_below : (root : Bool) (s d : Data) → HasNodes root s → schema_by s items ≡ Some d → HasNodes false d
 list_below root s d h by p outside other at =
-    h (items ∷ p) outside (λ is e. e) (at.0, ap (option_and_then (λ t. schema_at t p)) by ∙ at.1, at.2)
+    h (items ∷ p) outside (λ is e. absurd (cc)) (at.0, ap (option_and_then (λ t. schema_at t p)) by ∙ at.1, at.2)
 
 map_below : (root : Bool) (s d : Data) → HasNodes root s → schema_by s map_value ≡ Some d → HasNodes false d
 map_below root s d h by p outside other at =
-    h (map_value ∷ p) outside (λ is e. e) (at.0, ap (option_and_then (λ t. schema_at t p)) by ∙ at.1, at.2)
+    h (map_value ∷ p) outside (λ is e. absurd (cc)) (at.0, ap (option_and_then (λ t. schema_at t p)) by ∙ at.1, at.2)
 
 property_below : (root : Bool) (s d : Data) (k : List ℕ) → HasNodes root s → (root ≡ true → IsEnvelopeName k → ⊥) → schema_by s (property k) ≡ Some d → HasNodes false d
 property_below root s d k h other by p outside none at =
@@ -46,23 +75,20 @@ property_below root s d k h other by p outside none at =
 -- ---- the items of a list
 
 pub list_has_items : (root : Bool) (s : Data) → HasNodes root s → IsOfKind s kinds.list → under s (codes "items") ≡ None → ⊥
-list_has_items root s h kind none = has_node root s h (inr (kind, λ o. let some = o.1 in cc))
+list_has_items root s h kind none = has_node root s h (inr (kind, rw none refl))
 
 pub list_nodes : (root : Bool) (s d : Data) → HasNodes root s → IsOfKind s kinds.list → under s (codes "items") ≡ Some d → HasNodes false d
 list_nodes root s (tree.object ms) h kind at = list_below root s (tree.object ms) h (rw at refl)
-list_nodes root s _ h kind at = absurd (has_node root s h (inr (kind, λ o. let some = o.1 in cc)))
+list_nodes root s _ h kind at = absurd (has_node root s h (inr (kind, rw at refl)))
 
 -- ---- the values of a map
 
-map_has_object : (s : Data) → IsOfKind s kinds.map → HasObject s (codes "additionalProperties")
-map_has_object s (then_map _ _ _ o) = o
-
 pub map_has_values : (s : Data) → IsOfKind s kinds.map → under s (codes "additionalProperties") ≡ None → ⊥
-map_has_values s kind none = let some = (map_has_object s kind).1 in cc
+map_has_values s kind none = let some = (map_has_object s kind.is).1 in cc
 
 pub map_nodes : (root : Bool) (s d : Data) → HasNodes root s → IsOfKind s kinds.map → under s (codes "additionalProperties") ≡ Some d → HasNodes false d
 map_nodes root s d h kind at =
-    let o = map_has_object s kind in
+    let o = map_has_object s kind.is in
     let same : d ≡ tree.object o.0 = same_Some d (tree.object o.0) (sym at ∙ o.1) in
     subst (HasNodes false) (sym same) (map_below root s (tree.object o.0) h (rw o.1 refl))
 
@@ -170,15 +196,3 @@ pub member_named : (xs : List Member) (i : ℕ) (m : Member) → i < length xs �
 member_named xs i m within is o =
     let split : xs ≡ take i xs ++ m ∷ drop (i + 1) xs = sym (take-append-drop i xs) ∙ ap (λ ys. take i xs ++ ys) (drop_more xs i m within ∙ ap (λ x. x ∷ drop (i + 1) xs) (sym is)) in
     subst (λ zs. member_at m.name (members_of zs) ≡ Some (data_of m.tree)) (sym split) (item_named (take i xs) m (drop (i + 1) xs) (subst (λ zs. AreMembers (members_of zs)) split o))
-
-texts_split : (x : Data) (k : List ℕ) (ds : Items) → is_among k (texts_of (tree.item x ds)) ≡ (is_among k (texts_of (tree.item x tree.no_items)) || is_among k (texts_of ds))
-texts_split (tree.text t) k ds = elim (bool_cases (bytes_eq k t)) [
-  | inl same ↦ rw same refl
-  | inr f ↦ rw f refl
-]
-texts_split _ k ds = refl
-
-pub texts_next : (xs : List Tree) (i : ℕ) (t : Tree) (k : List ℕ) → i < length xs → t ≡ get_or xs i t
-    → is_among k (texts_of (items_of (drop i xs))) ≡ (is_among k (texts_of (tree.item (data_of t) tree.no_items)) || is_among k (texts_of (items_of (drop (i + 1) xs))))
-texts_next xs i t k within is =
-    ap (λ ys. is_among k (texts_of (items_of ys))) (drop_more xs i t within ∙ ap (λ x. x ∷ drop (i + 1) xs) (sym is)) ∙ texts_split (data_of t) k (items_of (drop (i + 1) xs))

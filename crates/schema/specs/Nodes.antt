@@ -1,6 +1,5 @@
 -- The nodes of a schema that breaks no rule.
 pub mod Node
-pub mod Keywords
 pub mod Validations
 pub mod Shape
 pub mod View

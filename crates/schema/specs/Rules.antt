@@ -1,4 +1,8 @@
 -- The rules of structural schemas, and all that is broken in a schema.
+pub mod Keywords
 pub mod Kinds
+pub mod Lists
+pub mod Profile
 pub mod Broken
 pub mod Breaks
+pub mod Defaults

@@ -3,6 +3,7 @@ ghost use Rattle.std.specs.Prelude.{◌≡◌, OnOk, IfOk, IfErr};
 ghost use Rattle.jtree.specs.Data.{object, Members as MembersData, AreMembers};
 ghost use Rattle.schema.specs.Internal.PlaceView.{place_of};
 ghost use Rattle.schema.specs.Internal.Subschemas.{IsSubschema, AreSubschemas};
+ghost use Rattle.schema.specs.Rules.Broken.{Broken};
 ghost use Rattle.schema.specs.Rules.Breaks.{AreViolations};
 ghost use Rattle.schema.specs.Internal.Judged.{judged, pairs_at, AreFound};
 ghost use Rattle.schema.specs.declared.fault.SFault.TheVariants.{NoMemory};
@@ -16,10 +17,11 @@ use crate::violation::{Rule, Violation};
 use jtree::Tree;
 use std::alloc::{AllocError, Global};
 
-/// All breaks of the rules V01 to V09 (apiextensions.k8s.io/v1, "specifying a structural schema"), each once, in path order
+/// All breaks of the rules V01 to V13 and V15 to V17 (apiextensions.k8s.io/v1, "specifying a structural schema", and this
+/// project's profile), each once, in path order
 /// of the places and then by the number of the rule. `NoMemory` where an allocation fails. Each place is looked at once.
 pub fn breaks(alloc: Global, raw: &RawSchema) -> Result<Vec<Violation>, SFault>
-    ensures ok { IfOk result (λ found. AreViolations raw.now found.items) }
+    ensures ok { IfOk result (λ found. AreViolations (Broken raw.now) found.items) }
     ensures err { IfErr result (λ e. e ≡ NoMemory) }
 {
     match raw.tree() {
@@ -37,7 +39,7 @@ pub fn breaks(alloc: Global, raw: &RawSchema) -> Result<Vec<Violation>, SFault>
 
 /// All breaks of the rules at these places, in their order and then by number.
 fn breaks_of(alloc: Global, subschemas: &[Subschema<'_>]) -> Result<Vec<Violation>, AllocError>
-    ensures { IfOk result (λ found. (ms : MembersData) → AreMembers ms → AreSubschemas ms subschemas.now → AreViolations (object ms) found.items) }
+    ensures { IfOk result (λ found. (ms : MembersData) → AreMembers ms → AreSubschemas ms subschemas.now → AreViolations (Broken (object ms)) found.items) }
 {
     let mut violations = Vec::new(alloc);
     for subschema in subschemas {
@@ -64,6 +66,13 @@ fn judge(
         Rule::V07,
         Rule::V08,
         Rule::V09,
+        Rule::V10,
+        Rule::V11,
+        Rule::V12,
+        Rule::V13,
+        Rule::V15,
+        Rule::V16,
+        Rule::V17,
     ];
     judge_by(alloc, subschema, &rules, violations)
 }

@@ -1,23 +1,31 @@
 // What a rule reads of the keywords of a schema.
-ghost use Rattle.std.specs.Prelude.{◌≡◌, ◌↔◌, map, IsTrue};
-ghost use Rattle.jtree.specs.Data.{object};
+ghost use Rattle.std.specs.Prelude.{◌≡◌, ◌↔◌, map, option_map, option_and_then, IsTrue};
+ghost use Rattle.jtree.specs.Data.{object, item, no_items};
+ghost use Rattle.jtree.specs.Path.{member_at};
+ghost use Rattle.jtree.specs.View.{data_of, items_of};
+ghost use Rattle.schema.specs.Document.Places.{only_object};
 ghost use Rattle.schema.specs.Document.Raw.{Has, HasTrue, HasFalse};
-ghost use Rattle.schema.specs.Rules.Kinds.{HasNoType};
 ghost use Rattle.schema.specs.Document.Texts.{is_among};
-ghost use Rattle.schema.specs.Rules.Broken.{HasOneOf, metadata_keywords, HasOtherKeyword, HasOtherType};
+ghost use Rattle.schema.specs.Internal.KindView.{kind_view, is_known_in};
+ghost use Rattle.schema.specs.Rules.Broken.{HasOneOf, metadata_keywords};
+ghost use Rattle.schema.specs.Rules.Profile.{is_branch_keyword as is_branch_keyword_of, is_common_keyword as is_common_keyword_of, own_keywords, keywords_of_all, junctor_keywords, outside_keywords, unsupported_keywords, keywords_of_scalars, keywords_of_objects, keywords_of_lists};
+ghost use Rattle.schema.specs.Rules.Keywords.{flag, has as has_keyword, has_text_among as has_text_of, has_other_text as has_other_text_than, has_other_name, is_empty as is_empty_list, texts_of, texts_under};
 
+use crate::kinds::Kind;
 use jtree::{Members, Tree};
 
 /// Whether a keyword is there.
 pub(crate) fn has(schema: &Members, keyword: &str) -> bool
-    ensures { IsTrue result ↔ Has (object schema.now) keyword.now }
+    ensures is { IsTrue result ↔ Has (object schema.now) keyword.now }
+    ensures value { result ≡ has_keyword (object schema.now) keyword.now }
 {
     schema.get(keyword).is_some()
 }
 
 /// Whether a keyword is there and is true.
 pub(crate) fn has_true(schema: &Members, keyword: &str) -> bool
-    ensures { IsTrue result ↔ HasTrue (object schema.now) keyword.now }
+    ensures is { IsTrue result ↔ HasTrue (object schema.now) keyword.now }
+    ensures value { result ≡ flag (object schema.now) keyword.now }
 {
     match schema.get(keyword) {
         Some(Tree::Bool(value)) => *value,
@@ -35,17 +43,6 @@ pub(crate) fn has_false(schema: &Members, keyword: &str) -> bool
     }
 }
 
-/// Whether `type` is absent or empty.
-pub(crate) fn has_no_type(schema: &Members) -> bool
-    ensures { IsTrue result ↔ HasNoType (object schema.now) }
-{
-    match schema.get("type") {
-        Some(Tree::Text(text)) => text.as_str().is_empty(),
-        Some(_) => false,
-        None => true,
-    }
-}
-
 /// Whether one of these keywords is there.
 pub(crate) fn has_one_of(schema: &Members, keywords: &[&str]) -> bool
     ensures { IsTrue result ↔ HasOneOf (map (λ w. w.now) keywords.now) (object schema.now) }
@@ -58,16 +55,37 @@ pub(crate) fn has_one_of(schema: &Members, keywords: &[&str]) -> bool
     false
 }
 
-/// Whether another keyword is there than the schema of `metadata` may have.
-pub(crate) fn has_other_keyword(schema: &Members) -> bool
-    ensures { IsTrue result ↔ HasOtherKeyword (object schema.now) }
+/// Which keywords are known.
+#[derive(Clone, Copy, Drop)]
+pub(crate) enum Keywords {
+    /// Those of the schema of `metadata`.
+    OfMetadata,
+    /// Those of a branch of a junctor.
+    OfBranch,
+    /// Those of a place of a kind.
+    OfKind(Kind),
+}
+
+/// Whether a keyword is there that is not known.
+pub(crate) fn has_other_keyword(schema: &Members, known: Keywords) -> bool
+    ensures { result ≡ has_other_name (is_known_in known) schema.now }
 {
     for member in &schema.members {
-        if !is_metadata_keyword(member.name.as_str()) {
+        if !is_known(member.name.as_str(), known) {
             return true;
         }
     }
     false
+}
+
+fn is_known(keyword: &str, known: Keywords) -> bool
+    ensures { result ≡ is_known_in known keyword.now }
+{
+    match known {
+        Keywords::OfMetadata => is_metadata_keyword(keyword),
+        Keywords::OfBranch => is_branch_keyword(keyword),
+        Keywords::OfKind(kind) => is_common_keyword(keyword) || is_own_keyword(keyword, kind),
+    }
 }
 
 fn is_metadata_keyword(keyword: &str) -> bool
@@ -76,15 +94,184 @@ fn is_metadata_keyword(keyword: &str) -> bool
     keyword == "type" || keyword == "description" || keyword == "properties"
 }
 
-/// Whether `type` is a text, and neither empty nor `object`.
-pub(crate) fn has_other_type(schema: &Members) -> bool
-    ensures { IsTrue result ↔ HasOtherType (object schema.now) }
+fn is_branch_keyword(keyword: &str) -> bool
+    ensures { result ≡ is_branch_keyword_of keyword.now }
 {
-    match schema.get("type") {
-        Some(Tree::Text(text)) => {
-            let text = text.as_str();
-            !text.is_empty() && text != "object"
+    (is_keyword_of_scalars(keyword) || is_junctor_keyword(keyword))
+        || (keyword == "type" || (is_outside_keyword(keyword) || is_unsupported_keyword(keyword)))
+}
+
+fn is_common_keyword(keyword: &str) -> bool
+    ensures { result ≡ is_common_keyword_of keyword.now }
+{
+    is_keyword_of_all(keyword)
+        || (is_junctor_keyword(keyword) || is_unsupported_keyword(keyword))
+}
+
+/// Whether a keyword is one of a kind alone.
+fn is_own_keyword(keyword: &str, kind: Kind) -> bool
+    ensures { result ≡ is_among keyword.now (own_keywords (kind_view kind)) }
+{
+    match kind {
+        Kind::Scalar(_) => is_keyword_of_scalars(keyword),
+        Kind::Object | Kind::Map => is_keyword_of_objects(keyword),
+        Kind::List => is_keyword_of_lists(keyword),
+        Kind::Open => false,
+    }
+}
+
+fn is_keyword_of_all(keyword: &str) -> bool
+    ensures { result ≡ is_among keyword.now keywords_of_all }
+{
+    keyword == "type"
+        || keyword == "description"
+        || keyword == "title"
+        || keyword == "format"
+        || keyword == "example"
+        || keyword == "externalDocs"
+        || keyword == "nullable"
+        || keyword == "default"
+        || keyword == "uniqueItems"
+        || keyword == "x-kubernetes-int-or-string"
+        || keyword == "x-kubernetes-preserve-unknown-fields"
+        || keyword == "x-kubernetes-list-type"
+        || keyword == "x-kubernetes-list-map-keys"
+        || keyword == "x-kubernetes-map-type"
+}
+
+fn is_junctor_keyword(keyword: &str) -> bool
+    ensures { result ≡ is_among keyword.now junctor_keywords }
+{
+    keyword == "allOf" || keyword == "anyOf" || keyword == "oneOf" || keyword == "not"
+}
+
+fn is_outside_keyword(keyword: &str) -> bool
+    ensures { result ≡ is_among keyword.now outside_keywords }
+{
+    keyword == "description"
+        || keyword == "default"
+        || keyword == "additionalProperties"
+        || keyword == "nullable"
+}
+
+fn is_unsupported_keyword(keyword: &str) -> bool
+    ensures { result ≡ is_among keyword.now unsupported_keywords }
+{
+    keyword == "definitions"
+        || keyword == "dependencies"
+        || keyword == "deprecated"
+        || keyword == "discriminator"
+        || keyword == "id"
+        || keyword == "patternProperties"
+        || keyword == "readOnly"
+        || keyword == "writeOnly"
+        || keyword == "xml"
+        || keyword == "$ref"
+}
+
+fn is_keyword_of_scalars(keyword: &str) -> bool
+    ensures { result ≡ is_among keyword.now keywords_of_scalars }
+{
+    keyword == "enum"
+        || keyword == "minimum"
+        || keyword == "maximum"
+        || keyword == "exclusiveMinimum"
+        || keyword == "exclusiveMaximum"
+        || keyword == "minLength"
+        || keyword == "maxLength"
+}
+
+fn is_keyword_of_objects(keyword: &str) -> bool
+    ensures { result ≡ is_among keyword.now keywords_of_objects }
+{
+    keyword == "properties"
+        || keyword == "additionalProperties"
+        || keyword == "required"
+        || keyword == "minProperties"
+        || keyword == "maxProperties"
+}
+
+fn is_keyword_of_lists(keyword: &str) -> bool
+    ensures { result ≡ is_among keyword.now keywords_of_lists }
+{
+    keyword == "items" || keyword == "minItems" || keyword == "maxItems"
+}
+
+/// Whether a text is one of these.
+fn is_one_of(text: &str, values: &[&str]) -> bool
+    ensures { result ≡ is_among text.now (map (λ w. w.now) values.now) }
+{
+    for value in values {
+        if text == *value {
+            return true;
         }
+    }
+    false
+}
+
+/// Whether a keyword is there and is one of these texts.
+pub(crate) fn has_text_among(schema: &Members, keyword: &str, values: &[&str]) -> bool
+    ensures { result ≡ has_text_of (map (λ w. w.now) values.now) (object schema.now) keyword.now }
+{
+    match schema.get(keyword) {
+        Some(Tree::Text(text)) => is_one_of(text.as_str(), values),
         _ => false,
+    }
+}
+
+/// Whether a keyword is there and is none of these texts.
+pub(crate) fn has_other_text(schema: &Members, keyword: &str, values: &[&str]) -> bool
+    ensures { result ≡ has_other_text_than (map (λ w. w.now) values.now) (object schema.now) keyword.now }
+{
+    has(schema, keyword) && !has_text_among(schema, keyword, values)
+}
+
+/// Whether a text stands in the list under a keyword.
+pub(crate) fn lists_text(schema: &Members, keyword: &str, text: &str) -> bool
+    ensures { result ≡ is_among text.now (texts_under (object schema.now) keyword.now) }
+{
+    match schema.get(keyword) {
+        Some(Tree::List(items)) => is_listed(items.items.as_slice(), text),
+        _ => false,
+    }
+}
+
+/// Whether one of these trees is this text.
+pub(crate) fn is_listed(trees: &[Tree], text: &str) -> bool
+    ensures { result ≡ is_among text.now (texts_of (items_of trees.now)) }
+{
+    for tree in trees {
+        if is_text(tree, text) {
+            return true;
+        }
+    }
+    false
+}
+
+pub(crate) fn is_empty(trees: &[Tree]) -> bool
+    ensures { result ≡ is_empty_list (items_of trees.now) }
+{
+    match trees {
+        [] => true,
+        _ => false,
+    }
+}
+
+fn is_text(tree: &Tree, text: &str) -> bool
+    ensures { result ≡ is_among text.now (texts_of (item (data_of tree.now) no_items)) }
+{
+    match tree {
+        Tree::Text(found) => text == found.as_str(),
+        _ => false,
+    }
+}
+
+/// The object under a keyword or a name.
+pub(crate) fn object_under<'a>(schema: &'a Members, name: &str) -> Option<&'a Members>
+    ensures { option_map (λ m. object m.now) result ≡ option_and_then only_object (member_at name.now schema.now) }
+{
+    match schema.get(name) {
+        Some(Tree::Object(members)) => Some(members),
+        _ => None,
     }
 }

@@ -1,10 +1,10 @@
 // The kind of a place that is in no branch of a junctor.
-ghost use Rattle.std.specs.Prelude.{◌≡◌, None, IfSome, codes, option_map};
+ghost use Rattle.std.specs.Prelude.{◌≡◌, codes, option_map};
 ghost use Rattle.jtree.specs.Data.{object};
 ghost use Rattle.jtree.specs.Path.{under};
 ghost use Rattle.jtree.specs.View.{data_of};
-ghost use Rattle.schema.specs.Rules.Kinds.{IsOfKind, HasNoKind};
-ghost use Rattle.schema.specs.Internal.KindView.{kind_view, kind_by, open_kind as open_kind_by, named_kind as named_kind_by, object_kind as object_kind_by};
+ghost use Rattle.schema.specs.Rules.Kinds.{kind_of as kind_of_schema, untyped_kind as untyped_kind_of, named_kind as named_kind_of, object_kind as object_kind_of, is_scalar_kind, is_list_kind, is_object_kind, is_open_kind, is_untyped as is_untyped_of, lacks_type as lacks_type_of};
+ghost use Rattle.schema.specs.Internal.KindView.{kind_view};
 
 use crate::keywords::has_true;
 use crate::node::ScalarKind;
@@ -21,21 +21,19 @@ pub(crate) enum Kind {
     Object,
 }
 
-/// The kind of a schema, the first that fits; none where none does.
+/// The kind of a schema, the first that fits; none where none does, and for what is no object.
 pub(crate) fn kind_of(schema: &Tree) -> Option<Kind>
-    ensures some { IfSome result (λ k. IsOfKind (data_of schema.now) (kind_view k)) }
-    ensures none { result ≡ None → HasNoKind (data_of schema.now) }
+    ensures { option_map kind_view result ≡ kind_of_schema (data_of schema.now) }
 {
     match schema {
         Tree::Object(members) => kind_of_members(members),
-        // what is no object has no keywords
         _ => None,
     }
 }
 
 /// The kind of a schema that is an object.
 pub(crate) fn kind_of_members(schema: &Members) -> Option<Kind>
-    ensures { option_map kind_view result ≡ kind_by (object schema.now) }
+    ensures { option_map kind_view result ≡ kind_of_schema (object schema.now) }
 {
     if has_true(schema, "x-kubernetes-int-or-string") {
         return Some(Kind::Scalar(ScalarKind::IntOrString));
@@ -43,13 +41,13 @@ pub(crate) fn kind_of_members(schema: &Members) -> Option<Kind>
     match schema.get("type") {
         Some(Tree::Text(text)) => named_kind(schema, text.as_str()),
         Some(_) => None,
-        None => open_kind(schema),
+        None => untyped_kind(schema),
     }
 }
 
 /// The kind of a schema without a type.
-fn open_kind(schema: &Members) -> Option<Kind>
-    ensures { option_map kind_view result ≡ open_kind_by (object schema.now) }
+fn untyped_kind(schema: &Members) -> Option<Kind>
+    ensures { option_map kind_view result ≡ untyped_kind_of (object schema.now) }
 {
     if has_true(schema, "x-kubernetes-preserve-unknown-fields") {
         Some(Kind::Open)
@@ -60,10 +58,10 @@ fn open_kind(schema: &Members) -> Option<Kind>
 
 /// The kind of a schema by the text of its type.
 fn named_kind(schema: &Members, name: &str) -> Option<Kind>
-    ensures { option_map kind_view result ≡ named_kind_by (object schema.now) name.now }
+    ensures { option_map kind_view result ≡ named_kind_of (object schema.now) name.now }
 {
     match name {
-        "" => open_kind(schema),
+        "" => untyped_kind(schema),
         "integer" => Some(Kind::Scalar(ScalarKind::Integer)),
         "string" => Some(Kind::Scalar(ScalarKind::String)),
         "boolean" => Some(Kind::Scalar(ScalarKind::Boolean)),
@@ -75,10 +73,68 @@ fn named_kind(schema: &Members, name: &str) -> Option<Kind>
 
 /// The kind of an object: a map where `additionalProperties` is an object.
 fn object_kind(schema: &Members) -> Kind
-    ensures { kind_view result ≡ object_kind_by (under (object schema.now) (codes "additionalProperties")) }
+    ensures { kind_view result ≡ object_kind_of (under (object schema.now) (codes "additionalProperties")) }
 {
     match schema.get("additionalProperties") {
         Some(Tree::Object(_)) => Kind::Map,
         _ => Kind::Object,
+    }
+}
+
+/// Whether a schema is of a scalar kind.
+pub(crate) fn is_scalar(schema: &Members) -> bool
+    ensures { result ≡ is_scalar_kind (kind_of_schema (object schema.now)) }
+{
+    match kind_of_members(schema) {
+        Some(Kind::Scalar(_)) => true,
+        _ => false,
+    }
+}
+
+pub(crate) fn is_list(schema: &Members) -> bool
+    ensures { result ≡ is_list_kind (kind_of_schema (object schema.now)) }
+{
+    match kind_of_members(schema) {
+        Some(Kind::List) => true,
+        _ => false,
+    }
+}
+
+/// Whether a schema is of an object, maps among them.
+pub(crate) fn is_object(schema: &Members) -> bool
+    ensures { result ≡ is_object_kind (kind_of_schema (object schema.now)) }
+{
+    match kind_of_members(schema) {
+        Some(Kind::Object | Kind::Map) => true,
+        _ => false,
+    }
+}
+
+pub(crate) fn is_open(schema: &Members) -> bool
+    ensures { result ≡ is_open_kind (kind_of_schema (object schema.now)) }
+{
+    match kind_of_members(schema) {
+        Some(Kind::Open) => true,
+        _ => false,
+    }
+}
+
+/// Whether a schema has neither a type, nor is int-or-string, nor accepts every value.
+pub(crate) fn lacks_type(schema: &Members) -> bool
+    ensures { result ≡ lacks_type_of (object schema.now) }
+{
+    is_untyped(schema)
+        && !has_true(schema, "x-kubernetes-int-or-string")
+        && !has_true(schema, "x-kubernetes-preserve-unknown-fields")
+}
+
+/// Whether `type` is absent or empty.
+fn is_untyped(schema: &Members) -> bool
+    ensures { result ≡ is_untyped_of (under (object schema.now) (codes "type")) }
+{
+    match schema.get("type") {
+        Some(Tree::Text(text)) => text.as_str().is_empty(),
+        Some(_) => false,
+        None => true,
     }
 }

@@ -1,13 +1,13 @@
 //! Reads a CustomResourceDefinition, and the schema of one of its versions.
 #![tactic(auto)]
 
+mod defaults;
 mod definition;
 mod fault;
 mod forms;
 mod judging;
 mod keywords;
 mod kinds;
-mod lacking;
 mod listing;
 mod node;
 mod places;
@@ -21,6 +21,7 @@ mod validations;
 mod versions;
 mod violation;
 
+pub use defaults::first_default;
 pub use definition::{Crd, read_crd};
 pub use fault::SFault;
 pub use judging::breaks;

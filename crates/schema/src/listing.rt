@@ -7,14 +7,13 @@ ghost use Rattle.schema.specs.Document.Limits.{size as size_of, IsWithinLimits, 
 ghost use Rattle.schema.specs.Internal.Events.{Event, entered, part_of as part_of_keyword, is_past, part_events, member_events, item_events, schema_events, subschemas_of, limit_break, branch as branch_of, properties as properties_part, branches};
 ghost use Rattle.schema.specs.Internal.Faults.{IsLimitRefusal, IsLimitFaultOf};
 ghost use Rattle.schema.specs.Document.Places.{Place, only_object, schema_by};
-ghost use Rattle.schema.specs.Rules.Kinds.{IsIntOrString};
-ghost use Rattle.schema.specs.Rules.Broken.{pattern, holder, typed, HasAnyPattern, HasAllPattern};
+ghost use Rattle.schema.specs.Rules.Broken.{IsIntOrString, pattern, holder, typed, HasAnyPattern, HasAllPattern};
 ghost use Rattle.schema.specs.Internal.Contexts.{is_any as is_any_step, is_first_of_all as is_first_of_all_step, outer_by, IsContext, StandsAs};
 ghost use Rattle.schema.specs.Internal.Subschemas.{IsSubschema, AreSubschemas};
 ghost use Rattle.schema.specs.Internal.PlaceView.{step_of, place_of, junctor_of, part_view, subschema_of};
 
 use crate::fault::SFault;
-use crate::keywords::has_true;
+use crate::keywords::{has_true, object_under};
 use crate::places::{Step, is_junctor, keyword_pointer, pointer_of};
 use jtree::{Items, Members, Tree};
 use std::alloc::{AllocError, Global};
@@ -249,15 +248,6 @@ fn is_typed(tree: &Tree, name: &str) -> bool
     ensures { IsTrue result ↔ (data_of tree.now ≡ typed name.now) }
 {
     size(tree) == 1 && tree.has_text("type", name)
-}
-
-fn object_under<'a>(schema: &'a Members, name: &str) -> Option<&'a Members>
-    ensures { option_map (λ m. object m.now) result ≡ option_and_then only_object (member_at name.now schema.now) }
-{
-    match schema.get(name) {
-        Some(Tree::Object(members)) => Some(members),
-        _ => None,
-    }
 }
 
 fn below<'a>(alloc: Global, place: &[Step<'a>], step: Step<'a>) -> Result<Vec<Step<'a>>, AllocError>

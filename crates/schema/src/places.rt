@@ -2,7 +2,7 @@
 ghost use Rattle.std.specs.Prelude.{◌≡◌, ◌++◌, ◌∷◌, [], OnOk, IfOk, IfErr, string_bytes};
 ghost use Rattle.jtree.specs.Path.{name as name_step, index as index_step};
 ghost use Rattle.jtree.specs.Pointer.{pointer, name_token, index_token};
-ghost use Rattle.schema.specs.Document.Places.{place_path, step_path, is_junctor as is_junctor_of, is_envelope_name as is_envelope_name_of};
+ghost use Rattle.schema.specs.Document.Places.{place_path, step_path, is_junctor as is_junctor_of, is_envelope_name as is_envelope_name_of, is_envelope as is_envelope_of};
 ghost use Rattle.schema.specs.Internal.PlaceView.{step_of, place_of};
 
 use std::alloc::{AllocError, Global};
@@ -41,6 +41,16 @@ pub(crate) fn is_envelope_name(name: &str) -> bool
     ensures { result ≡ is_envelope_name_of name.now }
 {
     name == "apiVersion" || name == "kind" || name == "metadata"
+}
+
+/// Whether a place is `apiVersion`, `kind` or `metadata` of the root, or below one of these.
+pub(crate) fn is_envelope(place: &[Step<'_>]) -> bool
+    ensures { result ≡ is_envelope_of (place_of place.now) }
+{
+    match place.first() {
+        Some(Step::Property(name)) => is_envelope_name(name),
+        _ => false,
+    }
 }
 
 /// The pointer of a place (RFC 6901), counted from the root of the schema.

@@ -5,15 +5,12 @@ use crate::violation::Violation;
 use std::alloc::{AllocError, AllocFailed};
 use thiserror::Error;
 
-/// Why a raw schema was not accepted. Each but the first is displayed as its code.
+/// Why a raw schema has no shape. The second is displayed as its code.
 #[derive(Debug, Drop, Error)]
 pub enum Refused {
     /// The schema breaks rules at these places: all of them, and at least one.
     #[error("violations")]
     Violations(Vec<Violation>),
-    /// What stands at the pointer (RFC 6901), counted from the root of the schema, is not known yet.
-    #[error("S0")]
-    NotYet(String),
     /// An allocation failed.
     #[error("S5")]
     NoMemory,

@@ -1,26 +1,34 @@
 // Which rules a place breaks.
 ghost use Rattle.std.specs.Prelude.{◌≡◌, ◌↔◌, false, IsTrue};
 ghost use Rattle.jtree.specs.Data.{Data, object};
-ghost use Rattle.schema.specs.Document.Places.{property, is_inside as is_inside_of};
+ghost use Rattle.schema.specs.Document.Places.{property, ends_with, is_inside as is_inside_of, is_envelope as is_envelope_of};
 ghost use Rattle.schema.specs.Internal.PlaceView.{step_of, place_of};
-ghost use Rattle.schema.specs.Rules.Broken.{Broken, metadata, is_field as is_field_of, ends_in_field as ends_in_field_of, HasOneOf, unsupported_keywords, metadata_names, LacksType, HasBothTypes};
+ghost use Rattle.schema.specs.Rules.Broken.{Broken, metadata, is_field as is_field_of, ends_in_field as ends_in_field_of, HasOneOf, metadata_names, HasBothTypes};
+ghost use Rattle.schema.specs.Rules.Lists.{has_bad_list_type, has_bad_keys, has_bad_set_items, has_bad_map_type};
+ghost use Rattle.schema.specs.Rules.Profile.{unsupported_keywords, is_property as is_property_of, has_misplaced_default as has_misplaced_default_at, has_bad_junctor as has_bad_junctor_at, is_outside_profile as is_outside_profile_at, is_root as is_root_of};
 ghost use Rattle.schema.specs.Document.Texts.{is_among};
 ghost use Rattle.schema.specs.Internal.RuleParts.{IsOtherName, IsOtherField, IsUnspecified, HasOutsideKeyword, Restricts};
 ghost use Rattle.schema.specs.Internal.Subschemas.{IsSubschema};
 
-use crate::keywords::{
-    has, has_false, has_no_type, has_one_of, has_other_keyword, has_other_type, has_true,
-};
+mod lists;
+mod profile;
+
+use crate::keywords::{Keywords, has, has_false, has_one_of, has_other_keyword, has_other_text, has_true};
+use crate::kinds::lacks_type;
 use crate::listing::Subschema;
-use crate::places::{Step, is_junctor};
+use crate::places::{Step, is_envelope, is_junctor};
+use crate::rules::lists::{bad_keys, bad_list_type, bad_map_type, bad_set_items};
+use crate::rules::profile::{has_junctor_beside_scalar, is_bad_branch, is_outside_profile};
 use crate::violation::Rule;
+use jtree::Members;
 
 /// Whether a place breaks a rule.
 pub(crate) fn is_broken(subschema: &Subschema<'_>, rule: Rule) -> bool
     ensures { (raw : Data) → IsSubschema raw subschema.now → IsTrue result ↔ Broken raw (place_of subschema.now.place.items) rule }
 {
+    let place = subschema.place.as_slice();
     match rule {
-        Rule::V01 => lacks_type(subschema),
+        Rule::V01 => !is_inside(place) && lacks_type(subschema.schema),
         Rule::V02 => is_unspecified(subschema),
         Rule::V03 => has_outside_keyword(subschema),
         Rule::V04 => restricts_metadata(subschema),
@@ -30,18 +38,15 @@ pub(crate) fn is_broken(subschema: &Subschema<'_>, rule: Rule) -> bool
         Rule::V08 => has(subschema.schema, "properties")
             && has(subschema.schema, "additionalProperties"),
         Rule::V09 => has_both_types(subschema),
-        _ => false,
+        Rule::V10 => !is_inside(place) && bad_list_type(subschema.schema),
+        Rule::V11 => !is_inside(place) && bad_keys(subschema.schema),
+        Rule::V12 => !is_inside(place) && bad_set_items(subschema.schema),
+        Rule::V13 => !is_inside(place) && bad_map_type(subschema.schema),
+        Rule::V14 => false,
+        Rule::V15 => !is_inside(place) && has_misplaced_default(place, subschema.schema),
+        Rule::V16 => has_bad_junctor(place, subschema.schema),
+        Rule::V17 => !is_inside(place) && is_outside_profile(is_root(place), subschema.schema),
     }
-}
-
-/// V01: an outside place has no type, and neither is int-or-string nor accepts every value.
-fn lacks_type(subschema: &Subschema<'_>) -> bool
-    ensures { IsTrue result ↔ ((is_inside_of (place_of subschema.now.place.items) ≡ false) × LacksType (object subschema.now.schema.now)) }
-{
-    !is_inside(subschema.place.as_slice())
-        && has_no_type(subschema.schema)
-        && !has_true(subschema.schema, "x-kubernetes-int-or-string")
-        && !has_true(subschema.schema, "x-kubernetes-preserve-unknown-fields")
 }
 
 /// V02: a field or the items of a list in a branch are not specified outside of it.
@@ -68,7 +73,8 @@ fn restricts_metadata(subschema: &Subschema<'_>) -> bool
 {
     let place = subschema.place.as_slice();
     if is_metadata(place) {
-        return has_other_keyword(subschema.schema) || has_other_type(subschema.schema);
+        return has_other_keyword(subschema.schema, Keywords::OfMetadata)
+            || has_other_text(subschema.schema, "type", &["", "object"]);
     }
     is_other_field(place)
 }
@@ -101,6 +107,24 @@ fn has_both_types(subschema: &Subschema<'_>) -> bool
         && has(subschema.schema, "type")
 }
 
+/// V15: a default stands where no field of the body does.
+fn has_misplaced_default(place: &[Step<'_>], schema: &Members) -> bool
+    ensures { result ≡ has_misplaced_default_at (place_of place.now) (object schema.now) }
+{
+    has(schema, "default") && (!ends_in_property(place) || is_envelope(place))
+}
+
+/// V16: a junctor outside a scalar, or a branch with another keyword or value than it may have.
+fn has_bad_junctor(place: &[Step<'_>], schema: &Members) -> bool
+    ensures { result ≡ has_bad_junctor_at (is_inside_of (place_of place.now)) (object schema.now) }
+{
+    if is_inside(place) {
+        is_bad_branch(schema)
+    } else {
+        has_junctor_beside_scalar(schema)
+    }
+}
+
 /// Whether a step of the place is into a branch.
 pub(crate) fn is_inside(place: &[Step<'_>]) -> bool
     ensures { result ≡ is_inside_of (place_of place.now) }
@@ -113,6 +137,15 @@ pub(crate) fn is_inside(place: &[Step<'_>]) -> bool
     false
 }
 
+fn is_root(place: &[Step<'_>]) -> bool
+    ensures { result ≡ is_root_of (place_of place.now) }
+{
+    match place {
+        [] => true,
+        _ => false,
+    }
+}
+
 /// Whether the last step is to a property or to the items of a list.
 fn ends_in_field(place: &[Step<'_>]) -> bool
     ensures { result ≡ ends_in_field_of (place_of place.now) }
@@ -120,6 +153,25 @@ fn ends_in_field(place: &[Step<'_>]) -> bool
     match place.last() {
         Some(step) => is_field(*step),
         None => false,
+    }
+}
+
+/// Whether the last step is to a property.
+fn ends_in_property(place: &[Step<'_>]) -> bool
+    ensures { result ≡ ends_with is_property_of (place_of place.now) }
+{
+    match place.last() {
+        Some(step) => is_property_step(*step),
+        None => false,
+    }
+}
+
+fn is_property_step(step: Step<'_>) -> bool
+    ensures { result ≡ is_property_of (step_of step.entry) }
+{
+    match step {
+        Step::Property(_) => true,
+        _ => false,
     }
 }
 

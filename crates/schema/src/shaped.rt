@@ -18,14 +18,20 @@ impl Model for Shape {
     ghost use Rattle.schema.specs.Nodes.View.{node_of};
 
     ghost view = { λ a. node_of a.root };
+
+    ghost use Rattle.schema.specs.Nodes.Shape.{IsShape};
+
+    ghost invariant = { λ a. IsShape (node_of a.root) };
 }
 
 impl Shape {
     ghost use Rattle.std.specs.Prelude.{◌≡◌};
     ghost use Rattle.schema.specs.Nodes.View.{node_of};
+    ghost use Rattle.schema.specs.Nodes.Shape.{IsShape};
 
     /// The shape with this root.
     pub(crate) fn new(root: Node) -> Shape
+        requires { IsShape (node_of root) }
         ensures { result ≡ node_of root }
     {
         Shape { root }
@@ -33,7 +39,8 @@ impl Shape {
 
     /// The node of the whole resource.
     pub fn root(&self) -> &Node
-        ensures { node_of result.now ≡ self.now }
+        ensures node { node_of result.now ≡ self.now }
+        ensures shape { IsShape self.now }
     {
         &self.root
     }

@@ -6,15 +6,15 @@ ghost use Rattle.jtree.specs.View.{data_of};
 ghost use Rattle.schema.specs.Document.Texts.{is_among};
 ghost use Rattle.schema.specs.Rules.Kinds.{list as list_kind, map as map_kind, object as object_kind, IsOfKind};
 ghost use Rattle.schema.specs.Document.Places.{Place};
-ghost use Rattle.schema.specs.Rules.Breaks.{IsUnbroken};
-ghost use Rattle.schema.specs.Nodes.Keywords.{text_under, texts_of, texts_under};
+ghost use Rattle.schema.specs.Rules.Breaks.{BreaksNone};
+ghost use Rattle.schema.specs.Rules.Keywords.{text_under, texts_under, members_under};
 ghost use Rattle.schema.specs.Nodes.View.{node_of, sort_of, object_of, map_of, list_of};
-ghost use Rattle.schema.specs.Nodes.Shape.{IsNodeOf, IsSortOf, AreFieldsOf, LacksNode, IsShapeRefusal, is_declared as is_declared_of, declared_of, list_type_named, map_type_named};
+ghost use Rattle.schema.specs.Nodes.Shape.{IsNodeOf, IsSortOf, AreFieldsOf, IsShapeRefusal, is_declared as is_declared_of, declared_of, list_type_named, map_type_named};
 ghost use Rattle.schema.specs.Internal.Building.{HasNodes, HaveNodes, IsFieldOf};
 
 use crate::judging::breaks;
 use crate::kinds::{Kind, kind_of};
-use crate::lacking::first_without_node;
+use crate::keywords::lists_text;
 use crate::node::{
     Below, Field, Fields, ListNode, ListType, MapNode, MapType, Node, ObjectNode, ScalarNode, Sort,
 };
@@ -27,31 +27,33 @@ use crate::validations::read_validations;
 use jtree::{Items, Member, Members, Tree};
 use std::alloc::{AllocError, Global};
 
-/// The nodes of a schema that breaks none of the rules V01 to V09 (apiextensions.k8s.io/v1, "specifying a structural
-/// schema"): one for each place that is in no branch of a junctor and not of the envelope, of its kind and with its
-/// keywords. The root has no field for `apiVersion`, `kind` and `metadata`. Keywords that a kind does not know are passed
-/// over, and so are values that the rules V10 to V17 forbid: these rules are not judged yet.
+/// The nodes of a schema that breaks none of the rules V01 to V13 and V15 to V17 (apiextensions.k8s.io/v1, "specifying a
+/// structural schema", and this project's profile): one for each place that is in no branch of a junctor and not of the
+/// envelope, of its kind and with its keywords. The root has no field for `apiVersion`, `kind` and `metadata`.
 ///
 /// `Violations` with all that is broken, in path order of the places and then by number, where some rule is broken.
-/// `NotYet` with the pointer (RFC 6901) of the first place in path order that has no node, where nothing is broken and some
-/// place is of no kind, or is a list without `items`. `NoMemory` where an allocation fails.
+/// `NoMemory` where an allocation fails.
 pub fn shape(alloc: Global, raw: &RawSchema) -> Result<Shape, Refused>
     ensures node { IfOk result (λ s. IsNodeOf true s raw.now) }
-    ensures unbroken { OnOk result (IsUnbroken raw.now) }
-    ensures whole { OnOk result ((p : Place) → LacksNode raw.now p → ⊥) }
+    ensures unbroken { OnOk result (BreaksNone raw.now) }
     ensures refused { IfErr result (IsShapeRefusal raw.now) }
 {
-    let violations = match breaks(alloc, raw) {
-        Ok(violations) => violations,
-        Err(_refused) => return Err(Refused::NoMemory),
-    };
-    if !violations.as_slice().is_empty() {
-        return Err(Refused::Violations(violations));
+    match check_rules(alloc, raw) {
+        Ok(()) => Ok(Shape::new(read_node(alloc, raw.tree(), true)?)),
+        Err(refused) => Err(refused),
     }
-    if let Some(pointer) = first_without_node(alloc, raw)? {
-        return Err(Refused::NotYet(pointer));
+}
+
+/// Whether a schema breaks no rule.
+fn check_rules(alloc: Global, raw: &RawSchema) -> Result<(), Refused>
+    ensures ok { OnOk result (BreaksNone raw.now) }
+    ensures err { IfErr result (IsShapeRefusal raw.now) }
+{
+    match breaks(alloc, raw) {
+        Ok(violations) if violations.as_slice().is_empty() => Ok(()),
+        Ok(violations) => Err(Refused::Violations(violations)),
+        Err(_fault) => Err(Refused::NoMemory),
     }
-    Ok(Shape::new(read_node(alloc, raw.tree(), true)?))
 }
 
 /// The node of a schema, at the root of the whole or below it.
@@ -94,18 +96,26 @@ fn read_object(alloc: Global, schema: &Tree, root: bool) -> Result<ObjectNode, A
     requires kind { IsOfKind (data_of schema.now) object_kind }
     ensures { IfOk result (λ n. IsSortOf root (object_of n) (data_of schema.now)) }
 {
-    let fields = match schema.get("properties") {
-        Some(Tree::Object(properties)) => read_fields(alloc, schema, properties, root)?,
-        _ => Fields {
-            fields: Vec::new(alloc),
-        },
-    };
     Ok(ObjectNode {
-        fields,
+        fields: read_properties(alloc, schema, root)?,
         preserves: flag(schema, "x-kubernetes-preserve-unknown-fields"),
         map_type: map_type(schema),
         bounds: bounds(schema, "minProperties", "maxProperties"),
     })
+}
+
+/// The fields of an object.
+#[cycle(read)]
+fn read_properties(alloc: Global, schema: &Tree, root: bool) -> Result<Fields, AllocError>
+    requires { HasNodes root (data_of schema.now) }
+    ensures { IfOk result (λ fs. AreFieldsOf fs (texts_under (data_of schema.now) (codes "required")) (declared_of root (members_under (data_of schema.now) (codes "properties")))) }
+{
+    match schema.get("properties") {
+        Some(Tree::Object(properties)) => read_fields(alloc, schema, properties, root),
+        _ => Ok(Fields {
+            fields: Vec::new(alloc),
+        }),
+    }
 }
 
 #[cycle(read)]
@@ -209,29 +219,8 @@ fn is_declared(property: &Member, root: bool) -> bool
 fn is_required(schema: &Tree, name: &str) -> bool
     ensures { result ≡ is_among name.now (texts_under (data_of schema.now) (codes "required")) }
 {
-    match schema.get("required") {
-        Some(Tree::List(names)) => has_text(names, name),
-        _ => false,
-    }
-}
-
-/// Whether a list has this text.
-fn has_text(items: &Items, name: &str) -> bool
-    ensures { result ≡ is_among name.now (texts_of items.now) }
-{
-    for item in &items.items {
-        if is_text(item, name) {
-            return true;
-        }
-    }
-    false
-}
-
-fn is_text(tree: &Tree, name: &str) -> bool
-    ensures { result ≡ is_among name.now (texts_of (item (data_of tree.now) no_items)) }
-{
-    match tree {
-        Tree::Text(text) => name == text.as_str(),
+    match schema {
+        Tree::Object(members) => lists_text(members, "required", name),
         _ => false,
     }
 }

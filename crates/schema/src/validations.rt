@@ -4,7 +4,7 @@ ghost use Rattle.jtree.specs.Path.{under};
 ghost use Rattle.jtree.specs.View.{data_of};
 ghost use Rattle.schema.specs.Nodes.Validations.{AreConstraintsOf, AreValidationsOf, AreBranchesOf, one_item};
 ghost use Rattle.schema.specs.Nodes.View.{validations_of};
-ghost use Rattle.schema.specs.Nodes.Keywords.{items_under};
+ghost use Rattle.schema.specs.Rules.Keywords.{items_under};
 
 use crate::node::{Branches, Constraints, Validations};
 use crate::reading::{bounds, copy_list, flag, integer};

@@ -71,6 +71,12 @@ is_inside (s ∷ p) = is_junctor s || is_inside p
 abbrev pub core : Place → Place
 core p = filter (λ s. not (is_junctor s)) p
 
+-- the last step of a place passes a test
+abbrev pub ends_with : (Step → Bool) → Place → Bool
+ends_with test [] = false
+ends_with test (s ∷ []) = test s
+ends_with test (s ∷ t ∷ p) = ends_with test (t ∷ p)
+
 -- at the root `apiVersion`, `kind` and `metadata`, and all below them, are the envelope of a resource
 abbrev pub envelope_names : List (List ℕ)
 envelope_names = codes "apiVersion" ∷ codes "kind" ∷ codes "metadata" ∷ []
@@ -81,6 +87,9 @@ is_envelope_name k = is_among k envelope_names
 abbrev pub IsEnvelopeName : List ℕ → Type 0
 IsEnvelopeName k = is_envelope_name k ≡ true
 
+abbrev pub is_envelope : Place → Bool
+is_envelope (property k ∷ p) = is_envelope_name k
+is_envelope _ = false
+
 abbrev pub IsEnvelope : Place → Type 0
-IsEnvelope (property k ∷ p) = IsEnvelopeName k
-IsEnvelope _ = ⊥
+IsEnvelope p = is_envelope p ≡ true

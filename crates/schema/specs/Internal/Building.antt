@@ -1,17 +1,22 @@
 -- For private contracts: what is known of the schemas from which nodes are made.
-use Rattle.std.specs.Prelude.{◌≡◌, ℕ, List, Bool, true, false, Some, option_map, codes}
+use Rattle.std.specs.Prelude.{◌≡◌, ◌⊎◌, ℕ, List, Bool, true, false, Some, None, option_map, codes}
 use Rattle.jtree.specs.Data.{Data, Members}
 use Rattle.jtree.specs.Path.{member_at, under}
 use Rattle.jtree.specs.View.{data_of}
 use Rattle.jtree.specs.declared.value.Member.{Member}
 use Rattle.schema.specs.Document.Texts.{is_among}
-use Rattle.schema.specs.Document.Places.{Place, is_inside, IsEnvelope}
+use Rattle.schema.specs.Document.Places.{Place, items, is_inside, IsEnvelope, schema_by}
+use Rattle.schema.specs.Rules.Kinds.{kind_of, IsOfKind, list}
 use Rattle.schema.specs.Rules.Broken.{At}
-use Rattle.schema.specs.Nodes.Keywords.{texts_under}
+use Rattle.schema.specs.Rules.Keywords.{texts_under}
 use Rattle.schema.specs.Nodes.Node.{Fields, no_fields, field, IsNode}
 use Rattle.schema.specs.Nodes.View.{node_of}
-use Rattle.schema.specs.Nodes.Shape.{HasNoNode, IsNodeOf, is_declared}
+use Rattle.schema.specs.Nodes.Shape.{IsNodeOf, is_declared}
 use Rattle.schema.specs.declared.node.Field.{Field}
+
+-- a schema of no kind, or a list without items
+abbrev pub HasNoNode : Data → Type 0
+HasNoNode s = (kind_of s ≡ None) ⊎ (IsOfKind s list × (schema_by s items ≡ None))
 
 -- no place that has to have a node is without one
 abbrev pub HasNodes : Bool → Data → Type 0

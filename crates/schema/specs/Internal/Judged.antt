@@ -7,12 +7,12 @@ use Rattle.schema.specs.Rules.Broken.{Broken}
 use Rattle.schema.specs.Rules.Breaks.{Break, told, told_of}
 use Rattle.schema.specs.declared.listing.Subschema.{Subschema}
 use Rattle.schema.specs.declared.violation.Rule.{Rule}
-use Rattle.schema.specs.declared.violation.Rule.TheVariants.{V01, V02, V03, V04, V05, V06, V07, V08, V09}
+use Rattle.schema.specs.declared.violation.Rule.TheVariants.{V01, V02, V03, V04, V05, V06, V07, V08, V09, V10, V11, V12, V13, V15, V16, V17}
 use Rattle.schema.specs.declared.violation.Violation.{Violation}
 
 -- the rules that are judged, in order
 abbrev pub judged : List Rule
-judged = V01 ∷ V02 ∷ V03 ∷ V04 ∷ V05 ∷ V06 ∷ V07 ∷ V08 ∷ V09 ∷ []
+judged = V01 ∷ V02 ∷ V03 ∷ V04 ∷ V05 ∷ V06 ∷ V07 ∷ V08 ∷ V09 ∷ V10 ∷ V11 ∷ V12 ∷ V13 ∷ V15 ∷ V16 ∷ V17 ∷ []
 
 abbrev pub pair : Place → Rule → Break
 pair p r = record { place = p; rule = r }

@@ -5,7 +5,9 @@ use Rattle.schema.specs.Document.Raw.{Has}
 use Rattle.schema.specs.Document.Texts.{is_among}
 use Rattle.schema.specs.Document.Places.{Step, Place, property, is_inside}
 use Rattle.schema.specs.Internal.PlaceView.{place_of}
-use Rattle.schema.specs.Rules.Broken.{HasOneOf, HasOtherKeyword, HasOtherType, outside_keywords, metadata_names, metadata, ends_in_field}
+use Rattle.schema.specs.Rules.Keywords.{has_other_keyword, has_other_text}
+use Rattle.schema.specs.Rules.Broken.{HasOneOf, metadata_keywords, metadata_types, metadata_names, metadata, ends_in_field}
+use Rattle.schema.specs.Rules.Profile.{outside_keywords}
 use Rattle.schema.specs.declared.listing.Subschema.{Subschema}
 
 -- the step is to a property, and its name neither `name` nor `generateName`
@@ -25,4 +27,6 @@ HasOutsideKeyword v =
     × (HasOneOf outside_keywords (object v.schema.now) ⊎ (Has (object v.schema.now) (codes "type") × (IsTrue v.in_pattern → ⊥)))
 
 abbrev pub Restricts : Place → Data → Type 0
-Restricts p s = ((p ≡ metadata) × (HasOtherKeyword s ⊎ HasOtherType s)) ⊎ IsOtherField p
+Restricts p s =
+    ((p ≡ metadata) × ((has_other_keyword (λ k. is_among k metadata_keywords) s ≡ true) ⊎ (has_other_text metadata_types s (codes "type") ≡ true)))
+    ⊎ IsOtherField p

@@ -3,7 +3,7 @@
 use Rattle.std.specs.Prelude.{◌≡◌, Option, Some, None, codes}
 use Rattle.jtree.specs.Data.{Data, Items, no_items, item}
 use Rattle.jtree.specs.Path.{under}
-use Rattle.schema.specs.Nodes.Keywords.{flag, integer_under, count_under, list_under, items_under}
+use Rattle.schema.specs.Rules.Keywords.{flag, integer_under, count_under, list_under, items_under}
 use Rattle.schema.specs.Nodes.Node.{Validations, validations, Branches, no_branches, branch}
 use Rattle.schema.specs.declared.node.Constraints.{Constraints}
 

@@ -58,14 +58,22 @@ pub record Break : Type 0 where
 abbrev pub break_cmp : Break → Break → Ordering
 break_cmp b c = ordering_then (path_cmp (place_path b.place) (place_path c.place)) (nat_cmp (number b.rule) (number c.rule))
 
-pub record AreBreaks (raw : Data) (breaks : List Break) : Type 0 where
-  pub each : All (λ b. Broken raw b.place b.rule) breaks
-  pub all : (p : Place) (r : Rule) → Broken raw p r → Contains breaks (record { place = p; rule = r })
+-- which rules are broken, and where
+abbrev pub Breaking : Type 1
+Breaking = Place → Rule → Type 0
+
+pub record AreBreaks (IsBroken : Breaking) (breaks : List Break) : Type 0 where
+  pub each : All (λ b. IsBroken b.place b.rule) breaks
+  pub all : (p : Place) (r : Rule) → IsBroken p r → Contains breaks (record { place = p; rule = r })
   pub ascending : AllPairs (λ b c. break_cmp b c ≡ Less) breaks
 
 -- no rule is broken at any place
-abbrev pub IsUnbroken : Data → Type 0
-IsUnbroken raw = (p : Place) (r : Rule) → Broken raw p r → ⊥
+abbrev pub IsUnbroken : Breaking → Type 0
+IsUnbroken IsBroken = (p : Place) (r : Rule) → IsBroken p r → ⊥
+
+-- a schema breaks none of the rules V01 to V13 and V15 to V17
+abbrev pub BreaksNone : Data → Type 0
+BreaksNone raw = IsUnbroken (Broken raw)
 
 -- a violation as its pointer and its rule
 pub record Told : Type 0 where
@@ -78,6 +86,6 @@ told v = record { pointer = string_bytes v.pointer; rule = v.rule }
 abbrev pub told_of : Break → Told
 told_of b = record { pointer = place_pointer b.place; rule = b.rule }
 
--- the violations are those of the schema, all of them
-abbrev pub AreViolations : Data → List Violation → Type 0
-AreViolations raw violations = (breaks : List Break) × AreBreaks raw breaks × (map told violations ≡ map told_of breaks)
+-- the violations are all that is broken, in order
+abbrev pub AreViolations : Breaking → List Violation → Type 0
+AreViolations IsBroken violations = (breaks : List Break) × AreBreaks IsBroken breaks × (map told violations ≡ map told_of breaks)

@@ -1,31 +1,32 @@
 -- What makes a schema no structural schema (apiextensions.k8s.io/v1, "specifying a structural schema"), as a relation
 -- between a schema, a place and a rule. The keyword lists of V03 to V05 are this project's profile.
-use Rattle.std.specs.Prelude.{◌≡◌, ◌≢◌, ◌⊎◌, ℕ, List, [], ◌∷◌, ◌++◌, Bool, true, false, Some, codes}
+use Rattle.std.specs.Prelude.{◌≡◌, ◌⊎◌, ℕ, List, [], ◌∷◌, ◌++◌, Bool, true, false, Some, codes}
 use Rattle.jtree.specs.Data.{Data}
 use Rattle.jtree.specs.Data as tree
 use Rattle.jtree.specs.Path.{under}
-use Rattle.schema.specs.Document.Raw.{Has, HasText, HasTrue, HasFalse}
+use Rattle.schema.specs.Document.Raw.{Has, HasTrue, HasFalse}
 use Rattle.schema.specs.Document.Texts.{is_among}
-use Rattle.schema.specs.Document.Places.{Step, Place, property, items, all_of, any_of, schema_at, IsPlace, is_inside, core}
-use Rattle.schema.specs.Rules.Kinds.{HasNoType, IsIntOrString, Preserves}
+use Rattle.schema.specs.Document.Places.{Step, Place, property, items, all_of, any_of, schema_at, IsPlace, is_inside, core, ends_with}
+use Rattle.schema.specs.Rules.Keywords.{has_other_text, has_other_keyword}
+use Rattle.schema.specs.Rules.Kinds.{lacks_type}
+use Rattle.schema.specs.Rules.Lists.{has_bad_list_type, has_bad_keys, has_bad_set_items, has_bad_map_type}
+use Rattle.schema.specs.Rules.Profile.{outside_keywords, unsupported_keywords, has_misplaced_default, has_bad_junctor, is_root, is_outside_profile}
 use Rattle.schema.specs.declared.violation.Rule.{Rule}
-use Rattle.schema.specs.declared.violation.Rule.TheVariants.{V01, V02, V03, V04, V05, V06, V07, V08, V09}
+use Rattle.schema.specs.declared.violation.Rule.TheVariants.{V01, V02, V03, V04, V05, V06, V07, V08, V09, V10, V11, V12, V13, V15, V16, V17}
 
 -- something holds of the schema at a place
 abbrev pub At : Data → Place → (Data → Type 0) → Type 0
 At raw p Holds = (s : Data) × (schema_at raw p ≡ Some s) × Holds s
 
+-- the schema at a place passes a test; and the place is outside
+abbrev pub Passes : Data → Place → (Data → Bool) → Type 0
+Passes raw p test = At raw p (λ s. test s ≡ true)
+
+abbrev pub PassesOutside : Data → Place → (Data → Bool) → Type 0
+PassesOutside raw p test = (is_inside p ≡ false) × Passes raw p test
+
 abbrev pub HasOneOf : List (List ℕ) → Data → Type 0
 HasOneOf keywords s = (w : List ℕ) × (is_among w keywords ≡ true) × Has s w
-
--- keywords that no branch of a junctor may have, besides `type`
-abbrev pub outside_keywords : List (List ℕ)
-outside_keywords = codes "description" ∷ codes "default" ∷ codes "additionalProperties" ∷ codes "nullable" ∷ []
-
--- keywords that no place may have
-abbrev pub unsupported_keywords : List (List ℕ)
-unsupported_keywords = codes "definitions" ∷ codes "dependencies" ∷ codes "deprecated" ∷ codes "discriminator" ∷ codes "id"
-    ∷ codes "patternProperties" ∷ codes "readOnly" ∷ codes "writeOnly" ∷ codes "xml" ∷ codes "$ref" ∷ []
 
 -- the keywords that the schema of `metadata` may have
 abbrev pub metadata_keywords : List (List ℕ)
@@ -38,9 +39,10 @@ is_field items = true
 is_field _ = false
 
 abbrev pub ends_in_field : Place → Bool
-ends_in_field [] = false
-ends_in_field (s ∷ []) = is_field s
-ends_in_field (s ∷ t ∷ p) = ends_in_field (t ∷ p)
+ends_in_field p = ends_with is_field p
+
+abbrev pub IsIntOrString : Data → Type 0
+IsIntOrString s = HasTrue s (codes "x-kubernetes-int-or-string")
 
 -- `[{"type":"integer"},{"type":"string"}]`
 abbrev pub typed : List ℕ → Data
@@ -73,13 +75,9 @@ pub data IsPatternBranch : Data → Place → Type 0 where
 abbrev pub metadata : Place
 metadata = property (codes "metadata") ∷ []
 
--- a keyword that the schema of `metadata` may not have
-abbrev pub HasOtherKeyword : Data → Type 0
-HasOtherKeyword s = (w : List ℕ) × Has s w × (is_among w metadata_keywords ≡ false)
-
--- a type that the schema of `metadata` may not have
-abbrev pub HasOtherType : Data → Type 0
-HasOtherType s = (t : List ℕ) × HasText s (codes "type") t × t ≢ [] × t ≢ codes "object"
+-- the types that it may have
+abbrev pub metadata_types : List (List ℕ)
+metadata_types = [] ∷ codes "object" ∷ []
 
 -- the fields of `metadata` that may be restricted
 abbrev pub metadata_names : List (List ℕ)
@@ -87,14 +85,10 @@ metadata_names = codes "name" ∷ codes "generateName" ∷ []
 
 -- `metadata` has another keyword, another type than `object`, or another field than `name` and `generateName`
 pub data RestrictsMetadata : Data → Place → Type 0 where
-  metadata_keyword : (raw : Data) → At raw metadata HasOtherKeyword → RestrictsMetadata raw metadata
-  metadata_type : (raw : Data) → At raw metadata HasOtherType → RestrictsMetadata raw metadata
+  metadata_keyword : (raw : Data) → Passes raw metadata (has_other_keyword (λ k. is_among k metadata_keywords)) → RestrictsMetadata raw metadata
+  metadata_type : (raw : Data) → Passes raw metadata (λ s. has_other_text metadata_types s (codes "type")) → RestrictsMetadata raw metadata
   metadata_field : (raw : Data) (k : List ℕ) → IsPlace raw (metadata ++ (property k ∷ [])) → is_among k metadata_names ≡ false
       → RestrictsMetadata raw (metadata ++ (property k ∷ []))
-
--- neither a type, nor int-or-string, nor open
-abbrev pub LacksType : Data → Type 0
-LacksType s = HasNoType s × (IsIntOrString s → ⊥) × (Preserves s → ⊥)
 
 -- int-or-string with a type
 abbrev pub HasBothTypes : Data → Type 0
@@ -102,7 +96,7 @@ HasBothTypes s = IsIntOrString s × Has s (codes "type")
 
 abbrev pub Broken : Data → Place → Rule → Type 0
 -- missing type
-Broken raw p V01 = (is_inside p ≡ false) × At raw p LacksType
+Broken raw p V01 = PassesOutside raw p lacks_type
 -- not specified outside the junctor
 Broken raw p V02 = (is_inside p ≡ true) × IsPlace raw p × (ends_in_field p ≡ true) × (IsPlace raw (core p) → ⊥)
 -- keyword not allowed in a junctor; `type` in the branches of the int-or-string pattern is excepted
@@ -119,5 +113,19 @@ Broken raw p V07 = At raw p (λ s. HasFalse s (codes "additionalProperties"))
 Broken raw p V08 = At raw p (λ s. Has s (codes "properties") × Has s (codes "additionalProperties"))
 -- int-or-string with a type
 Broken raw p V09 = (is_inside p ≡ false) × At raw p HasBothTypes
--- the rules that are not judged yet
+-- bad list type
+Broken raw p V10 = PassesOutside raw p has_bad_list_type
+-- bad map keys
+Broken raw p V11 = PassesOutside raw p has_bad_keys
+-- bad items of a set
+Broken raw p V12 = PassesOutside raw p has_bad_set_items
+-- bad map type
+Broken raw p V13 = PassesOutside raw p has_bad_map_type
+-- misplaced default
+Broken raw p V15 = PassesOutside raw p (has_misplaced_default p)
+-- junctor outside the profile
+Broken raw p V16 = Passes raw p (has_bad_junctor (is_inside p))
+-- outside the profile
+Broken raw p V17 = PassesOutside raw p (is_outside_profile (is_root p))
+-- what a default becomes is not judged here
 Broken raw p _ = ⊥

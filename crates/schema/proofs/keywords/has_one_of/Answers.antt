@@ -8,11 +8,11 @@ loop-keyword-preserved c =
     let xs = c.args.keywords.now in
     let i = c.loop-keyword.keyword-index in
     let within : i < length xs = omega arith in
-    keywords_next (λ w. w.now) xs i _ (object c.args.schema.now) _ within c.if-has.ensures c.loop-keyword.invariant
+    keywords_next (λ w. w.now) xs i _ (object c.args.schema.now) _ within c.if-has.ensures.is c.loop-keyword.invariant
 
 pub returns-then-has : goal.returns-then-has
 returns-then-has c =
     let xs = c.args.keywords.now in
     let i = c.loop-keyword.keyword-index in
     let within : i < length xs = omega arith in
-    keywords_found (λ w. w.now) xs i _ (object c.args.schema.now) _ within c.if-has.ensures c.loop-keyword.invariant
+    keywords_found (λ w. w.now) xs i _ (object c.args.schema.now) _ within c.if-has.ensures.is c.loop-keyword.invariant

@@ -1,10 +1,9 @@
-use Rattle.std.proofs.Common.{drop}
-use Rattle.std.specs.Prelude.{◌↔◌}
-use Rattle.jtree.specs.Data.{object}
+use Rattle.std.proofs.Common.{◌≡◌, drop}
 use Rattle.jtree.specs.View.{members_of}
-use Rattle.schema.specs.Rules.Broken.{HasOtherKeyword}
+use Rattle.schema.specs.Internal.KindView.{is_known_in}
+use Rattle.schema.specs.Rules.Keywords.{has_other_name}
 use Rattle.schema.proofs.keywords.has_other_keyword.Given as goal
 
--- another keyword is there exactly where one of those that are left is
+-- a member is unknown exactly where one of those that are left is
 abbrev pub invariant-loop-member : goal.invariant-loop-member
-invariant-loop-member l = HasOtherKeyword (object (members_of (drop l.member-index l.member-items))) ↔ HasOtherKeyword (object (members_of l.member-items))
+invariant-loop-member l = has_other_name (is_known_in l.known) (members_of (drop l.member-index l.member-items)) ≡ has_other_name (is_known_in l.known) (members_of l.member-items)

@@ -1,6 +1,6 @@
 use Rattle.std.proofs.Common.{◌≡◌, ◌++◌, drop}
 use Rattle.jtree.specs.View.{items_of}
-use Rattle.schema.specs.Nodes.Keywords.{texts_of}
+use Rattle.schema.specs.Rules.Keywords.{texts_of}
 use Rattle.schema.proofs.reading.copied_texts.Given as goal
 
 -- the texts so far with those of what is left are those of the whole

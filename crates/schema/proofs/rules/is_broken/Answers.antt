@@ -1,9 +1,11 @@
-use Rattle.std.proofs.Common.{sym, subst}
+use Rattle.std.proofs.Common.{sym, subst, ap, ◌∙◌}
 use Rattle.std.specs.Prelude.{◌↔◌, IsTrue}
 use Rattle.jtree.specs.Data.{object}
+use Rattle.schema.specs.Document.Places.{is_inside}
 use Rattle.schema.specs.Internal.PlaceView.{place_of}
 use Rattle.schema.specs.Rules.Broken.{Broken}
-use Rattle.schema.proofs.RuleLemmas.{restricts}
+use Rattle.schema.specs.Rules.Profile.{is_root, is_outside_profile}
+use Rattle.schema.proofs.RuleLemmas.{restricts, passes_there}
 use Rattle.schema.proofs.rules.is_broken.Goals as goal
 
 pub returns-in-V04 : goal.returns-in-V04
@@ -11,3 +13,15 @@ returns-in-V04 c = λ raw is.
     let v = c.args.subschema.now in
     let b = c.restricts_metadata.result in
     subst (λ r. IsTrue b ↔ Broken raw (place_of v.place.items) r) (sym c.in-V04.is) (restricts raw (place_of v.place.items) (object v.schema.now) b is.is c.restricts_metadata.ensures)
+
+pub returns-then-not-is_inside-7 : goal.returns-then-not-is_inside-7
+returns-then-not-is_inside-7 c = λ raw is.
+    let v = c.args.subschema.now in
+    let p = place_of v.place.items in
+    let s = object v.schema.now in
+    let b = c.is_outside_profile.result in
+    let same = c.as_slice-place.ensures.value in
+    let root = c.is_root.ensures ∙ ap (λ steps. is_root (place_of steps)) same in
+    let told = c.is_outside_profile.ensures ∙ ap (λ r. is_outside_profile r s) root in
+    let out = sym (c.if-not-is_inside-7.ensures ∙ ap (λ steps. is_inside (place_of steps)) same) in
+    subst (λ r. IsTrue b ↔ Broken raw p r) (sym c.in-V17.is) (passes_there raw p s (is_outside_profile (is_root p)) b is.is out told)

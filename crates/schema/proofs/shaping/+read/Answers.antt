@@ -4,7 +4,7 @@ use Rattle.std.specs.Prelude.{codes}
 use Rattle.jtree.specs.Data.{object, AreMembers}
 use Rattle.jtree.specs.Path.{member_at, under}
 use Rattle.jtree.specs.View.{data_of, members_of}
-use Rattle.schema.specs.Nodes.Keywords.{texts_under}
+use Rattle.schema.specs.Rules.Keywords.{texts_under}
 use Rattle.schema.specs.Nodes.View.{fields_of}
 use Rattle.schema.specs.Nodes.Shape.{AreFieldsOf, declared_of}
 use Rattle.schema.proofs.ShapeLemmas.{has_node, member_named, list_has_items, list_nodes, map_has_values, map_nodes, property_nodes, declared_dropped, push_field, declared_object, push_nodes, fields_ordered}
@@ -62,13 +62,13 @@ read_fields-loop-property-preserved t c =
       nodes = rw pushed (push_nodes old f c.loop-property.invariant.nodes c.reveal_invariant-in-loop-property.ensures);
     }
 
-pub read_object-read_fields-requires : goal.read_object-read_fields-requires
-read_object-read_fields-requires t c =
+pub read_properties-read_fields-requires : goal.read_properties-read_fields-requires
+read_properties-read_fields-requires t c =
     let s = data_of c.args.schema.now in
     let ms = c.in-Some-Object.properties in
     let at : under s (codes "properties") ≡ Some (object ms) = sym c.in-Some-Object.ensures ∙ ap (λ x. Some (data_of x)) c.in-Some-Object.field-0-is in
     let below = under_decreases s (codes "properties") (object ms) at in
-    (omega (arith, below, c.decreases), property_nodes c.args.root s ms c.requires.nodes at)
+    (omega (arith, below, c.decreases), property_nodes c.args.root s ms c.requires at)
 
 pub read_fields-invariant_of-result : goal.read_fields-invariant_of-result
 read_fields-invariant_of-result t c =
@@ -111,4 +111,4 @@ pub read_map-unreachable-requires : goal.read_map-unreachable-requires
 read_map-unreachable-requires t c = map_has_values (data_of c.args.schema.now) c.requires.kind (sym c.in-None.ensures)
 
 pub read_sort-unreachable-requires : goal.read_sort-unreachable-requires
-read_sort-unreachable-requires t c = has_node c.args.root (data_of c.args.schema.now) c.requires (inl (c.in-None.ensures.none refl))
+read_sort-unreachable-requires t c = has_node c.args.root (data_of c.args.schema.now) c.requires (inl (sym c.in-None.ensures))

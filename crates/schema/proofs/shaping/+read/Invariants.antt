@@ -2,7 +2,7 @@ use Rattle.std.proofs.Common.{◌+◌, ◌*◌, take}
 use Rattle.std.specs.Prelude.{codes}
 use Rattle.jtree.specs.Data.{depth, members_depth}
 use Rattle.jtree.specs.View.{data_of, members_of}
-use Rattle.schema.specs.Nodes.Keywords.{texts_under}
+use Rattle.schema.specs.Rules.Keywords.{texts_under}
 use Rattle.schema.specs.Nodes.View.{fields_of}
 use Rattle.schema.specs.Nodes.Shape.{AreFieldsOf, declared_of}
 use Rattle.schema.specs.Internal.Building.{AreNodes}
@@ -16,6 +16,9 @@ decreases-read_sort l = 6 * depth (data_of l.schema.now) + 3
 
 abbrev pub decreases-read_object : goal.decreases-read_object
 decreases-read_object l = 6 * depth (data_of l.schema.now) + 2
+
+abbrev pub decreases-read_properties : goal.decreases-read_properties
+decreases-read_properties l = 6 * depth (data_of l.schema.now) + 1
 
 abbrev pub decreases-read_map : goal.decreases-read_map
 decreases-read_map l = 6 * depth (data_of l.schema.now) + 2

@@ -1,8 +1,10 @@
 -- What a keyword of a schema says: nothing where it is absent, or where its value has another JSON form
 -- (OpenAPI 3.0, Schema Object).
-use Rattle.std.specs.Prelude.{ℕ, ℤ, pos, List, [], ◌∷◌, Bool, false, Option, Some, None, option_and_then}
-use Rattle.jtree.specs.Data.{Data, boolean, integer, text, list, object, Items, no_items, item, Members, no_members}
+use Rattle.std.specs.Prelude.{ℕ, ℤ, pos, List, [], ◌∷◌, Bool, true, false, Option, Some, None, option_and_then, not, ◌&&◌, ◌||◌}
+use Rattle.std.specs.Option.{is_some}
+use Rattle.jtree.specs.Data.{Data, boolean, integer, text, list, object, Items, no_items, item, Members, no_members, member}
 use Rattle.jtree.specs.Path.{under}
+use Rattle.schema.specs.Document.Texts.{is_among}
 
 abbrev pub text_of : Data → Option (List ℕ)
 text_of (text s) = Some s
@@ -62,3 +64,36 @@ members_under s k = members_in (under s k)
 
 abbrev pub texts_under : Data → List ℕ → List (List ℕ)
 texts_under s k = texts_of (items_under s k)
+
+-- the keyword is there, whatever its value
+abbrev pub has : Data → List ℕ → Bool
+has s k = is_some (under s k)
+
+abbrev pub is_text_among : List (List ℕ) → Option Data → Bool
+is_text_among values (Some (text t)) = is_among t values
+is_text_among values _ = false
+
+-- the keyword is there, and is one of these texts; or something else
+abbrev pub has_text_among : List (List ℕ) → Data → List ℕ → Bool
+has_text_among values s k = is_text_among values (under s k)
+
+abbrev pub has_other_text : List (List ℕ) → Data → List ℕ → Bool
+has_other_text values s k = has s k && not (has_text_among values s k)
+
+-- a member has a name that is not known
+abbrev pub has_other_name : (List ℕ → Bool) → Members → Bool
+has_other_name is_known no_members = false
+has_other_name is_known (member k d ms) = not (is_known k) || has_other_name is_known ms
+
+-- a keyword is there that is not known
+abbrev pub has_other_keyword : (List ℕ → Bool) → Data → Bool
+has_other_keyword is_known s = has_other_name is_known (members_in (Some s))
+
+-- some item passes a test
+abbrev pub any_item : (Data → Bool) → Items → Bool
+any_item test no_items = false
+any_item test (item d ds) = test d || any_item test ds
+
+abbrev pub is_empty : Items → Bool
+is_empty no_items = true
+is_empty _ = false

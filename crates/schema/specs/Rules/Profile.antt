@@ -1,0 +1,149 @@
+-- The rules that are this project's own: where a default may stand, what the branches of a junctor may say, and which
+-- keywords a place of each kind may have. Keywords without effect are among them.
+use Rattle.std.specs.Prelude.{ℕ, List, [], ◌∷◌, ◌++◌, Bool, true, false, Option, Some, None, if◌then◌else◌, not, ◌&&◌, ◌||◌, codes}
+use Rattle.std.specs.Option.{is_some}
+use Rattle.std.specs.Str.{bytes_eq}
+use Rattle.jtree.specs.Data.{Data, text, list, Members}
+use Rattle.jtree.specs.Kind.{is_boolean, is_integer, is_text}
+use Rattle.jtree.specs.Path.{under, member_at}
+use Rattle.schema.specs.Document.Texts.{is_among}
+use Rattle.schema.specs.Document.Places.{Step, Place, property, items, schema_by, ends_with, is_envelope_name, is_envelope}
+use Rattle.schema.specs.Rules.Keywords.{flag, has, has_other_text, has_other_keyword, any_item, is_empty, items_under, members_under}
+use Rattle.schema.specs.Rules.Kinds.{Kind, scalar, open_, kind_of, is_scalar_kind, is_list_kind, is_object_kind, is_open_kind, is_int_or_string, preserves, lacks_type}
+use Rattle.schema.specs.Rules.Kinds as kinds
+use Rattle.schema.specs.declared.node.ScalarKind.{ScalarKind}
+use Rattle.schema.specs.declared.node.ScalarKind.TheVariants.{Boolean, Integer, String, IntOrString}
+
+-- ---- defaults
+
+abbrev pub is_property : Step → Bool
+is_property (property k) = true
+is_property _ = false
+
+-- a default stands where no field of the body does
+abbrev pub has_misplaced_default : Place → Data → Bool
+has_misplaced_default p s = has s (codes "default") && (not (ends_with is_property p) || is_envelope p)
+
+-- ---- keywords
+
+abbrev pub junctor_keywords : List (List ℕ)
+junctor_keywords = codes "allOf" ∷ codes "anyOf" ∷ codes "oneOf" ∷ codes "not" ∷ []
+
+-- keywords that no branch of a junctor may have, besides `type`
+abbrev pub outside_keywords : List (List ℕ)
+outside_keywords = codes "description" ∷ codes "default" ∷ codes "additionalProperties" ∷ codes "nullable" ∷ []
+
+-- keywords that no place may have
+abbrev pub unsupported_keywords : List (List ℕ)
+unsupported_keywords = codes "definitions" ∷ codes "dependencies" ∷ codes "deprecated" ∷ codes "discriminator" ∷ codes "id"
+    ∷ codes "patternProperties" ∷ codes "readOnly" ∷ codes "writeOnly" ∷ codes "xml" ∷ codes "$ref" ∷ []
+
+abbrev pub keywords_of_scalars : List (List ℕ)
+keywords_of_scalars = codes "enum" ∷ codes "minimum" ∷ codes "maximum" ∷ codes "exclusiveMinimum" ∷ codes "exclusiveMaximum"
+    ∷ codes "minLength" ∷ codes "maxLength" ∷ []
+
+abbrev pub keywords_of_objects : List (List ℕ)
+keywords_of_objects = codes "properties" ∷ codes "additionalProperties" ∷ codes "required" ∷ codes "minProperties" ∷ codes "maxProperties" ∷ []
+
+abbrev pub keywords_of_lists : List (List ℕ)
+keywords_of_lists = codes "items" ∷ codes "minItems" ∷ codes "maxItems" ∷ []
+
+-- The keywords of places of every kind, with those that no place may have: of these, and of where each may stand, other
+-- rules speak.
+abbrev pub keywords_of_all : List (List ℕ)
+keywords_of_all = codes "type" ∷ codes "description" ∷ codes "title" ∷ codes "format" ∷ codes "example" ∷ codes "externalDocs"
+    ∷ codes "nullable" ∷ codes "default" ∷ codes "uniqueItems" ∷ codes "x-kubernetes-int-or-string"
+    ∷ codes "x-kubernetes-preserve-unknown-fields" ∷ codes "x-kubernetes-list-type" ∷ codes "x-kubernetes-list-map-keys"
+    ∷ codes "x-kubernetes-map-type" ∷ []
+
+abbrev pub is_common_keyword : List ℕ → Bool
+is_common_keyword k = is_among k keywords_of_all || (is_among k junctor_keywords || is_among k unsupported_keywords)
+
+abbrev pub own_keywords : Kind → List (List ℕ)
+own_keywords (scalar k) = keywords_of_scalars
+own_keywords open_ = []
+own_keywords kinds.list = keywords_of_lists
+own_keywords _ = keywords_of_objects
+
+abbrev pub is_keyword_of : Kind → List ℕ → Bool
+is_keyword_of kind k = is_common_keyword k || is_among k (own_keywords kind)
+
+-- the place has a keyword that its kind has not
+abbrev pub has_foreign_keyword : Option Kind → Data → Bool
+has_foreign_keyword None s = false
+has_foreign_keyword (Some kind) s = has_other_keyword (is_keyword_of kind) s
+
+-- ---- the values of `enum`
+
+-- `enum` is there, and lists no value, or one that is not accepted
+abbrev pub are_bad_choices : (Data → Bool) → Option Data → Bool
+are_bad_choices accepts (Some (list ds)) = is_empty ds || any_item (λ d. not (accepts d)) ds
+are_bad_choices accepts _ = false
+
+-- neither null, nor a list, nor an object
+abbrev pub is_scalar_value : Data → Bool
+is_scalar_value d = is_boolean d || (is_integer d || is_text d)
+
+-- a scalar place accepts values of its kind
+abbrev pub accepts : ScalarKind → Data → Bool
+accepts Boolean d = is_boolean d
+accepts Integer d = is_integer d
+accepts String d = is_text d
+accepts IntOrString d = is_integer d || is_text d
+
+abbrev pub has_bad_choices : Option Kind → Data → Bool
+has_bad_choices (Some (scalar k)) s = are_bad_choices (accepts k) (under s (codes "enum"))
+has_bad_choices _ s = false
+
+-- ---- junctors
+
+abbrev pub has_junctor : Data → Bool
+has_junctor s = (has s (codes "allOf") || has s (codes "anyOf")) || (has s (codes "oneOf") || has s (codes "not"))
+
+-- the keywords of a branch, with those of which other rules speak
+abbrev pub is_branch_keyword : List ℕ → Bool
+is_branch_keyword k = (is_among k keywords_of_scalars || is_among k junctor_keywords)
+    || (bytes_eq k (codes "type") || (is_among k outside_keywords || is_among k unsupported_keywords))
+
+-- a branch has another keyword, or lists what is no scalar
+abbrev pub is_bad_branch : Data → Bool
+is_bad_branch s = has_other_keyword is_branch_keyword s || are_bad_choices is_scalar_value (under s (codes "enum"))
+
+-- outside, a junctor stands at a place that is no scalar
+abbrev pub has_bad_junctor : Bool → Data → Bool
+has_bad_junctor inside s = if inside then is_bad_branch s else has_junctor s && not (is_scalar_kind (kind_of s))
+
+-- ---- the profile
+
+abbrev pub is_root : Place → Bool
+is_root [] = true
+is_root _ = false
+
+-- The root is no object, whose type is not just missing, or takes null, or bounds its members, or is a map.
+abbrev pub is_bad_root : Data → Bool
+is_bad_root s = (not (lacks_type s) && not (is_object_kind (kind_of s))) || (flag s (codes "nullable")
+    || (has s (codes "additionalProperties") || (has s (codes "minProperties") || has s (codes "maxProperties"))))
+
+-- unknown fields are kept at a place that is neither an object with `properties` nor open to every value
+abbrev pub is_bad_preserving : Data → Bool
+is_bad_preserving s = preserves s && (has_other_text ([] ∷ codes "object" ∷ []) s (codes "type") || (is_int_or_string s
+    || (has s (codes "additionalProperties") || (is_open_kind (kind_of s) && (has s (codes "properties") || has s (codes "items"))))))
+
+abbrev pub types : List (List ℕ)
+types = [] ∷ codes "integer" ∷ codes "string" ∷ codes "boolean" ∷ codes "array" ∷ codes "object" ∷ []
+
+abbrev pub lacks_items : Data → Bool
+lacks_items s = is_list_kind (kind_of s) && not (is_some (schema_by s items))
+
+-- the text names no property, and at the root nothing of the envelope
+abbrev pub is_undeclared : Bool → Members → Data → Bool
+is_undeclared root properties (text k) = not (is_some (member_at k properties) || (root && is_envelope_name k))
+is_undeclared root properties _ = false
+
+abbrev pub requires_undeclared : Bool → Data → Bool
+requires_undeclared root s = any_item (is_undeclared root (members_under s (codes "properties"))) (items_under s (codes "required"))
+
+abbrev pub is_outside_profile : Bool → Data → Bool
+is_outside_profile root s =
+    ((root && is_bad_root s) || (has_other_text types s (codes "type") || (is_bad_preserving s || has_foreign_keyword (kind_of s) s)))
+    || (lacks_items s || (requires_undeclared root s || (has_bad_choices (kind_of s) s || flag s (codes "additionalProperties"))))

@@ -1,0 +1,130 @@
+// The rules on list types and map types.
+ghost use Rattle.std.specs.Prelude.{◌≡◌, codes, option_map};
+ghost use Rattle.jtree.specs.Data.{object};
+ghost use Rattle.jtree.specs.View.{data_of, items_of};
+ghost use Rattle.schema.specs.Document.Places.{property, schema_by};
+ghost use Rattle.schema.specs.Rules.Keywords.{texts_of, items_under};
+ghost use Rattle.schema.specs.Rules.Lists.{list_types, map_types, is_of_list_type as is_of_list_type_named, has_bad_list_type, has_bad_map_type, has_bad_set_items, has_bad_keys, is_plain_scalar as is_plain_scalar_at, has_default as has_default_at, is_key as is_key_of, are_keys as are_keys_of, have_keys as have_keys_of};
+
+use crate::keywords::{
+    has, has_other_text, has_text_among, has_true, is_empty, is_listed, lists_text, object_under,
+};
+use crate::kinds::{is_list, is_object, is_scalar};
+use jtree::{Items, Members, Tree};
+
+/// V10: a list type stands at a place that is no list, or is none of the three.
+pub(crate) fn bad_list_type(schema: &Members) -> bool
+    ensures { result ≡ has_bad_list_type (object schema.now) }
+{
+    let types = ["atomic", "set", "map"];
+    has(schema, "x-kubernetes-list-type")
+        && (!is_list(schema) || has_other_text(schema, "x-kubernetes-list-type", &types))
+}
+
+/// V11: keys of what is no map list, or a map list whose items have not its keys.
+pub(crate) fn bad_keys(schema: &Members) -> bool
+    ensures { result ≡ has_bad_keys (object schema.now) }
+{
+    if is_of_list_type(schema, "map") {
+        is_list(schema) && !have_keys(object_under(schema, "items"), keys_of(schema))
+    } else {
+        has(schema, "x-kubernetes-list-map-keys")
+    }
+}
+
+/// V12: the items of a set are no scalars, or take null.
+pub(crate) fn bad_set_items(schema: &Members) -> bool
+    ensures { result ≡ has_bad_set_items (object schema.now) }
+{
+    is_list(schema)
+        && is_of_list_type(schema, "set")
+        && !is_plain_scalar(object_under(schema, "items"))
+}
+
+/// V13: a map type stands at a place that is neither an object nor a map, or is none of the two.
+pub(crate) fn bad_map_type(schema: &Members) -> bool
+    ensures { result ≡ has_bad_map_type (object schema.now) }
+{
+    let types = ["granular", "atomic"];
+    has(schema, "x-kubernetes-map-type")
+        && (!is_object(schema) || has_other_text(schema, "x-kubernetes-map-type", &types))
+}
+
+fn is_of_list_type(schema: &Members, name: &str) -> bool
+    ensures { result ≡ is_of_list_type_named name.now (object schema.now) }
+{
+    has_text_among(schema, "x-kubernetes-list-type", &[name])
+}
+
+/// Whether a place is a scalar that takes no null.
+fn is_plain_scalar(schema: Option<&Members>) -> bool
+    ensures { result ≡ is_plain_scalar_at (option_map (λ m. object m.now) schema.entry) }
+{
+    match schema {
+        Some(schema) => is_scalar(schema) && !has_true(schema, "nullable"),
+        None => false,
+    }
+}
+
+/// The keys of a map list, as written.
+fn keys_of(schema: &Members) -> &[Tree]
+    ensures { items_of result.now ≡ items_under (object schema.now) (codes "x-kubernetes-list-map-keys") }
+{
+    match schema.get("x-kubernetes-list-map-keys") {
+        Some(Tree::List(keys)) => keys.items.as_slice(),
+        _ => &[],
+    }
+}
+
+/// Whether the items are objects that take no null and have these keys, at least one.
+fn have_keys(items: Option<&Members>, keys: &[Tree]) -> bool
+    ensures { result ≡ have_keys_of (option_map (λ m. object m.now) items.entry) (items_of keys.now) }
+{
+    match items {
+        Some(items) => {
+            is_object(items)
+                && !has_true(items, "nullable")
+                && !is_empty(keys)
+                && are_keys(items, keys)
+        }
+        None => false,
+    }
+}
+
+/// Whether each of these is a key of the items, and none stands twice. There are at most four.
+fn are_keys(items: &Members, keys: &[Tree]) -> bool
+    ensures { result ≡ are_keys_of (object items.now) (texts_of (items_of keys.now)) }
+{
+    match keys {
+        [Tree::Text(key), rest @ ..] => {
+            let key = key.as_str();
+            is_key(items, key) && !is_listed(rest, key) && are_keys(items, rest)
+        }
+        [_, rest @ ..] => are_keys(items, rest),
+        [] => true,
+    }
+}
+
+/// Whether a name is that of a scalar property that takes no null, and that each item has.
+fn is_key(items: &Members, name: &str) -> bool
+    ensures { result ≡ is_key_of (object items.now) name.now }
+{
+    let property = property_of(items, name);
+    is_plain_scalar(property) && (lists_text(items, "required", name) || has_default(property))
+}
+
+/// The schema of a property.
+fn property_of<'a>(schema: &'a Members, name: &str) -> Option<&'a Members>
+    ensures { option_map (λ m. object m.now) result ≡ schema_by (object schema.now) (property name.now) }
+{
+    object_under(object_under(schema, "properties")?, name)
+}
+
+fn has_default(schema: Option<&Members>) -> bool
+    ensures { result ≡ has_default_at (option_map (λ m. object m.now) schema.entry) }
+{
+    match schema {
+        Some(schema) => has(schema, "default"),
+        None => false,
+    }
+}
