@@ -9,7 +9,8 @@ ghost use Rattle.schema.specs.Document.Places.{Place};
 ghost use Rattle.schema.specs.Rules.Breaks.{IsUnbroken};
 ghost use Rattle.schema.specs.Nodes.Keywords.{text_under, texts_of, texts_under};
 ghost use Rattle.schema.specs.Nodes.View.{node_of, sort_of, object_of, map_of, list_of};
-ghost use Rattle.schema.specs.Nodes.Shape.{IsNodeOf, IsSortOf, AreFieldsOf, LacksNode, IsShapeRefusal, is_declared as is_declared_of, declared_of, list_type_named, map_type_named};
+ghost use Rattle.schema.specs.Nodes.ByPlace.{list_type_named, map_type_named};
+ghost use Rattle.schema.specs.Nodes.Shape.{IsNodeOf, IsSortOf, AreFieldsOf, LacksNode, IsShapeRefusal, is_declared as is_declared_of, declared_of};
 ghost use Rattle.schema.specs.Internal.Building.{HasNodes, HaveNodes, IsFieldOf};
 
 use crate::judging::breaks;

@@ -6,7 +6,7 @@ use Rattle.jtree.specs.Kind.{is_object}
 use Rattle.jtree.specs.Path.{under}
 use Rattle.schema.specs.Nodes.Keywords.{flag}
 use Rattle.schema.specs.Rules.Kinds as kinds
-use Rattle.schema.specs.Nodes.Shape.{kind_of}
+use Rattle.schema.specs.Nodes.ByPlace.{kind_of}
 use Rattle.schema.specs.declared.kinds.Kind.{Kind}
 use Rattle.schema.specs.declared.kinds.Kind.TheVariants as kind
 

@@ -1,7 +1,6 @@
 -- Which node stands for a place of a schema: of its kind, and with its keywords (apiextensions.k8s.io/v1). The body of a
 -- resource is judged without `apiVersion`, `kind` and `metadata`, so the root has no field for these (this project's own).
-use Rattle.std.specs.Prelude.{◌≡◌, ◌≢◌, ◌⊎◌, ℕ, List, [], Bool, false, Option, Some, None, if◌then◌else◌, ◌&&◌, not, string_bytes, codes}
-use Rattle.std.specs.Str.{bytes_eq}
+use Rattle.std.specs.Prelude.{◌≡◌, ◌≢◌, ◌⊎◌, ℕ, List, [], Bool, false, Some, if◌then◌else◌, ◌&&◌, not, string_bytes, codes}
 use Rattle.jtree.specs.Data.{Data, Members, no_members, member}
 use Rattle.jtree.specs.Kind.{is_object}
 use Rattle.jtree.specs.Path.{Path, under}
@@ -11,40 +10,14 @@ use Rattle.schema.specs.Document.Raw.{HasObject}
 use Rattle.schema.specs.Document.Texts.{is_among}
 use Rattle.schema.specs.Document.Places.{Place, place_path, is_inside, is_envelope_name, IsEnvelope}
 use Rattle.schema.specs.Rules.Kinds as kinds
-use Rattle.schema.specs.Rules.Kinds.{Kind, IsOfKind, HasNoKind}
+use Rattle.schema.specs.Rules.Kinds.{IsOfKind, HasNoKind}
 use Rattle.schema.specs.Rules.Broken.{At}
 use Rattle.schema.specs.Rules.Breaks.{AreViolations, IsUnbroken}
-use Rattle.schema.specs.Nodes.Keywords.{flag, text_under, count_under, members_under, texts_under}
-use Rattle.schema.specs.Nodes.Validations.{AreValidationsOf}
+use Rattle.schema.specs.Nodes.Keywords.{members_under, texts_under}
+use Rattle.schema.specs.Nodes.ByPlace.{sort_kind, HasKeywords, IsNodeHere}
 use Rattle.schema.specs.Nodes.Node.{Node, node, Sort, scalar, object, map, list, open_, Fields, no_fields, field}
-use Rattle.schema.specs.declared.node.Bounds.{Bounds}
-use Rattle.schema.specs.declared.node.ScalarKind.{ScalarKind}
-use Rattle.schema.specs.declared.node.ScalarKind.TheVariants as scalar_kind
-use Rattle.schema.specs.declared.node.ListType.{ListType}
-use Rattle.schema.specs.declared.node.ListType.TheVariants as list_type
-use Rattle.schema.specs.declared.node.MapType.{MapType}
-use Rattle.schema.specs.declared.node.MapType.TheVariants as map_type
 use Rattle.schema.specs.declared.refused.Refused.{Refused}
 use Rattle.schema.specs.declared.refused.Refused.TheVariants.{Violations, NotYet, NoMemory}
-
-abbrev pub kind_of : ScalarKind → Kind
-kind_of scalar_kind.Boolean = kinds.boolean
-kind_of scalar_kind.Integer = kinds.integer
-kind_of scalar_kind.String = kinds.string
-kind_of scalar_kind.IntOrString = kinds.int_or_string
-
--- a list is atomic where nothing else is said
-abbrev pub list_type_named : Option (List ℕ) → ListType
-list_type_named None = list_type.Atomic
-list_type_named (Some t) = if bytes_eq t (codes "set") then list_type.Set else if bytes_eq t (codes "map") then list_type.Map else list_type.Atomic
-
--- an object or a map is granular where nothing else is said
-abbrev pub map_type_named : Option (List ℕ) → MapType
-map_type_named None = map_type.Granular
-map_type_named (Some t) = if bytes_eq t (codes "atomic") then map_type.Atomic else map_type.Granular
-
-abbrev pub AreBoundsOf : Bounds → Data → List ℕ → List ℕ → Type 0
-AreBoundsOf b s least most = (b.least ≡ count_under s least) × (b.most ≡ count_under s most)
 
 -- a property has a field where it is a schema, and at the root where it is not of the envelope
 abbrev pub is_declared : Bool → List ℕ → Data → Bool
@@ -54,25 +27,16 @@ abbrev pub declared_of : Bool → Members → Members
 declared_of root no_members = no_members
 declared_of root (member k d ms) = if is_declared root k d then member k d (declared_of root ms) else declared_of root ms
 
--- N is the node of the schema, at the root or below it
+-- N is the node of the schema, at the root or below it, and so are the nodes below it
 abbrev mutual
   pub IsNodeOf : Bool → Node → Data → Type 0
-  IsNodeOf root (node nullable description sort) s =
-      (nullable ≡ flag s (codes "nullable")) × (description ≡ text_under s (codes "description")) × IsSortOf root sort s
+  IsNodeOf root (node nullable description sort) s = IsNodeHere (node nullable description sort) s × AreBelow root sort s
 
-  pub IsSortOf : Bool → Sort → Data → Type 0
-  IsSortOf root (scalar kind cs) s = IsOfKind s (kind_of kind) × AreValidationsOf cs s
-  IsSortOf root (object fs preserves type bounds) s =
-      IsOfKind s kinds.object × AreFieldsOf fs (texts_under s (codes "required")) (declared_of root (members_under s (codes "properties")))
-      × (preserves ≡ flag s (codes "x-kubernetes-preserve-unknown-fields")) × (type ≡ map_type_named (text_under s (codes "x-kubernetes-map-type")))
-      × AreBoundsOf bounds s (codes "minProperties") (codes "maxProperties")
-  IsSortOf root (map N type bounds) s =
-      IsOfKind s kinds.map × ((d : Data) × (under s (codes "additionalProperties") ≡ Some d) × IsNodeOf false N d) × (type ≡ map_type_named (text_under s (codes "x-kubernetes-map-type")))
-      × AreBoundsOf bounds s (codes "minProperties") (codes "maxProperties")
-  IsSortOf root (list N type keys bounds) s =
-      IsOfKind s kinds.list × ((d : Data) × (under s (codes "items") ≡ Some d) × IsNodeOf false N d) × (type ≡ list_type_named (text_under s (codes "x-kubernetes-list-type")))
-      × (keys ≡ texts_under s (codes "x-kubernetes-list-map-keys")) × AreBoundsOf bounds s (codes "minItems") (codes "maxItems")
-  IsSortOf root open_ s = IsOfKind s kinds.open_
+  pub AreBelow : Bool → Sort → Data → Type 0
+  AreBelow root (object fs preserves type bounds) s = AreFieldsOf fs (texts_under s (codes "required")) (declared_of root (members_under s (codes "properties")))
+  AreBelow root (map N type bounds) s = (d : Data) × (under s (codes "additionalProperties") ≡ Some d) × IsNodeOf false N d
+  AreBelow root (list N type keys bounds) s = (d : Data) × (under s (codes "items") ≡ Some d) × IsNodeOf false N d
+  AreBelow root _ s = Unit {0}
 
   -- a field for each property, with its node, and whether it is required, and its default
   pub AreFieldsOf : Fields → List (List ℕ) → Members → Type 0
@@ -80,6 +44,10 @@ abbrev mutual
   AreFieldsOf (field k N required default fs) names (member l d ms) =
       (k ≡ l) × IsNodeOf false N d × (required ≡ is_among l names) × (default ≡ under d (codes "default")) × AreFieldsOf fs names ms
   AreFieldsOf _ _ _ = ⊥
+
+-- what the node of the schema accepts besides null
+abbrev pub IsSortOf : Bool → Sort → Data → Type 0
+IsSortOf root sort s = IsOfKind s (sort_kind sort) × HasKeywords sort s × AreBelow root sort s
 
 -- a schema of no kind, or a list without `items`; both are for rules that are not judged yet
 abbrev pub HasNoNode : Data → Type 0
