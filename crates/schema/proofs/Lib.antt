@@ -18,3 +18,4 @@ pub mod ShapeLemmas
 pub mod NodeLemmas
 pub mod KindLemmas
 pub mod LackingLemmas
+pub mod OneNode

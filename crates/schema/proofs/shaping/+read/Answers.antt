@@ -1,4 +1,4 @@
-use Rattle.std.proofs.Common.{◌≡◌, ◌+◌, [], ◌∷◌, ◌++◌, take, Some, refl, inl, ap, sym, ◌∙◌, subst, arith}
+use Rattle.std.proofs.Common.{◌≡◌, ◌+◌, [], ◌∷◌, ◌++◌, take, Some, refl, inl, ap, sym, ◌∙◌, subst, arith, rules}
 use Rattle.std.proofs.lemmas.List.{take_more, take_all}
 use Rattle.std.specs.Prelude.{codes}
 use Rattle.jtree.specs.Data.{object, AreMembers}
@@ -89,6 +89,9 @@ read_fields-returns t c =
     let all : take i xs ≡ xs = take_all i xs (omega arith) in
     let whole : members_of (take i xs) ≡ c.args.properties.now = ap members_of all ∙ ap members_of c.deref-property-items.ensures.value ∙ c.properties.view_is in
     subst (λ ms. AreFieldsOf (fields_of c.loop-property.fields.items) (texts_under (data_of c.args.schema.now) (codes "required")) (declared_of root ms)) whole c.loop-property.invariant.fields
+
+pub read_object-returns : goal.read_object-returns
+read_object-returns t c = (c.requires.kind, search rules, search rules)
 
 pub read_list-read_below-requires : goal.read_list-read_below-requires
 read_list-read_below-requires t c =
