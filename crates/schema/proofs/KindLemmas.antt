@@ -6,7 +6,7 @@ use Rattle.std.proofs.lemmas.Option.{same_Some}
 use Rattle.jtree.specs.Data.{Data, Members, boolean, text, object}
 use Rattle.jtree.specs.Path.{under}
 use Rattle.jtree.specs.Internal.Lookups.{bool_cases, same_name}
-use Rattle.schema.specs.Document.Raw.{HasText, HasTrue}
+use Rattle.schema.specs.Document.Raw.{HasText, HasTrue, IsObject}
 use Rattle.schema.specs.Nodes.Keywords.{flag, is_true}
 use Rattle.schema.specs.Rules.Kinds as kinds
 use Rattle.schema.specs.Rules.Kinds.{HasNoType, IsIntOrString, IsOfKind, HasNoKind, first_int_or_string, then_open, then_integer, then_string, then_boolean, then_list, then_map, then_object}
@@ -55,6 +55,11 @@ kind_told s k (then_list t single h) = rw (no_int_or_string t single, h) refl
 kind_told s k (then_map t single h values) = rw (no_int_or_string t single, h) (ap (λ o. Some (object_kind o)) values.1)
 kind_told s k (then_object t single h none) =
     rw (no_int_or_string t single, h) (ap Some (other_object (under t (codes "additionalProperties")) (λ ms is. none (ms, is))))
+
+-- and is an object
+pub kind_object : (s : Data) (k : kinds.Kind) → IsOfKind s k → IsObject s
+kind_object (object ms) k is = (ms, refl)
+kind_object s k is = let told = kind_told s k is in absurd (cc)
 
 -- a schema is of one kind at most
 pub one_kind : (s : Data) (j k : kinds.Kind) → IsOfKind s j → IsOfKind s k → j ≡ k

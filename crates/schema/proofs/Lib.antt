@@ -19,3 +19,4 @@ pub mod NodeLemmas
 pub mod KindLemmas
 pub mod LackingLemmas
 pub mod OneNode
+pub mod ByPlaceLemmas

@@ -73,11 +73,11 @@ mutual
 
 -- ---- fields by their names
 
-pub field_first : (k l : List ℕ) (N : Node) (r : Bool) (e : Option Data) (fs : Fields) → bytes_eq k l ≡ true
+field_first : (k l : List ℕ) (N : Node) (r : Bool) (e : Option Data) (fs : Fields) → bytes_eq k l ≡ true
     → field_at k (field l N r e fs) ≡ Some (record { node = N; required = r; default = e })
 field_first k l N r e fs is = rw is refl
 
-pub field_later : (k l : List ℕ) (N : Node) (r : Bool) (e : Option Data) (fs : Fields) → bytes_eq k l ≡ false → field_at k (field l N r e fs) ≡ field_at k fs
+field_later : (k l : List ℕ) (N : Node) (r : Bool) (e : Option Data) (fs : Fields) → bytes_eq k l ≡ false → field_at k (field l N r e fs) ≡ field_at k fs
 field_later k l N r e fs other = rw other refl
 
 fields_trans : (k l : List ℕ) (fs : Fields) → text_cmp k l ≡ Less → IsBeforeFields l fs → IsBeforeFields k fs
@@ -94,7 +94,7 @@ before_field k (field m N r e fs) l f before ordered at = elim (bool_cases (byte
 
 -- ---- nodes one step below
 
-or_parts : (a b : Bool) → (a || b) ≡ false → (a ≡ false) × (b ≡ false)
+pub or_parts : (a b : Bool) → (a || b) ≡ false → (a ≡ false) × (b ≡ false)
 or_parts true b h = cc
 or_parts false b h = (refl, h)
 
@@ -109,7 +109,7 @@ ordered_field k (field l N r e fs) f ordered found = elim (bool_cases (bytes_eq 
   | inr other ↦ ordered_field k fs f ordered.2 (sym (field_later k l N r e fs other) ∙ found)
 ]
 
-pub ordered_below : (N M : Node) (step : Step) → IsNode N → node_below N step ≡ Some M → IsNode M
+ordered_below : (N M : Node) (step : Step) → IsNode N → node_below N step ≡ Some M → IsNode M
 ordered_below (node n d (object fs p t b)) M (property k) ordered leads =
     let f = found_node (field_at k fs) M leads in
     subst IsNode f.2 (ordered_field k fs f.0 ordered f.1)
@@ -120,6 +120,9 @@ ordered_below _ _ _ ordered leads = cc
 pub envelope_step : (step : Step) (p q : Place) → IsEnvelope (step ∷ p) → IsEnvelope (step ∷ q)
 envelope_step (property k) p q h = h
 envelope_step _ p q h = h
+
+pub place_more : (whole : Bool) (step : Step) (p : Place) → IsNodePlace whole (step ∷ []) → IsNodePlace false p → IsNodePlace whole (step ∷ p)
+place_more whole step p first rest = (rw ((or_parts (is_junctor step) false first.0).0) rest.0, λ is e. first.1 is (envelope_step step p [] e))
 
 -- the node itself
 here : (whole : Bool) (N : Node) (s : Data) → AreNodesOf whole N s → IsNodeHere N s × AreFieldsHere N s
@@ -132,8 +135,7 @@ nodes_below : (whole : Bool) (N M : Node) (s : Data) (step : Step) (d : Data) �
 nodes_below whole N M s step d h place leads by = record {
   ordered = ordered_below N M step h.ordered leads;
   each = λ p t below found.
-      let outside : is_inside (step ∷ p) ≡ false = rw ((or_parts (is_junctor step) false place.0).0) below.0 in
-      let got = h.each (step ∷ p) t (outside, λ is e. place.1 is (envelope_step step p [] e)) (rw by found) in
+      let got = h.each (step ∷ p) t (place_more whole step p place below) (rw by found) in
       (got.0, rw leads at got.1, got.2, got.3);
   only = λ p K at_p.
       let got = h.only (step ∷ p) K (rw leads at_p) in

@@ -68,11 +68,11 @@ map_nodes root s d h kind at =
 
 -- ---- the properties of an object
 
-declared_is_object : (root : Bool) (k : List ℕ) (d : Data) → is_declared root k d ≡ true → (ms : Members) × (d ≡ tree.object ms)
+pub declared_is_object : (root : Bool) (k : List ℕ) (d : Data) → is_declared root k d ≡ true → (ms : Members) × (d ≡ tree.object ms)
 declared_is_object root k (tree.object ms) is = (ms, refl)
 declared_is_object root k _ is = cc
 
-declared_is_other : (root : Bool) (k : List ℕ) (d : Data) → is_declared root k d ≡ true → root ≡ true → IsEnvelopeName k → ⊥
+pub declared_is_other : (root : Bool) (k : List ℕ) (d : Data) → is_declared root k d ≡ true → root ≡ true → IsEnvelopeName k → ⊥
 declared_is_other false k d is at e = cc
 declared_is_other true k d is at e = elim (bool_cases (is_object d)) [
   | inl t ↦ let h = rw (t, e) at is in cc
