@@ -1,19 +1,19 @@
 -- The nodes that are found level by level are those of the places of a schema.
 use Rattle.std.proofs.Common.{◌≡◌, ℕ, List, [], ◌∷◌, Bool, true, false, Option, Some, None, refl, sym, ap, ◌∙◌, subst, inl, inr}
-use Rattle.std.specs.Prelude.{option_and_then, option_map, codes, not, ◌&&◌, if◌then◌else◌}
+use Rattle.std.specs.Prelude.{option_and_then, codes, not, ◌&&◌, if◌then◌else◌}
 use Rattle.std.specs.Str.{bytes_eq}
 use Rattle.std.proofs.lemmas.Option.{option_and_then_some, same_Some}
 use Rattle.jtree.specs.Data.{Data, Members, no_members, member, AreMembers, IsTree}
 use Rattle.jtree.specs.Data as tree
-use Rattle.jtree.specs.Path.{name, member_at, under, part_by, part_at}
-use Rattle.jtree.specs.Internal.Lookups.{bool_cases, same_name, own_name, before_none}
-use Rattle.schema.specs.Document.Raw.{HasObject, IsObject}
+use Rattle.jtree.specs.Path.{name, member_at, under, part_at}
+use Rattle.jtree.specs.Internal.Lookups.{bool_cases, same_name, before_none}
+use Rattle.schema.specs.Document.Raw.{IsObject}
 use Rattle.schema.specs.Document.Texts.{is_among}
-use Rattle.schema.specs.Document.Places.{Step, Place, property, map_value, items, step_path, only_object, schema_by, schema_at, IsPlace, is_junctor, is_inside, is_envelope_name, IsEnvelopeName, IsEnvelope}
+use Rattle.schema.specs.Document.Places.{Step, Place, property, map_value, items, step_path, only_object, schema_by, schema_at, IsPlace, is_junctor, is_inside, is_envelope_name}
 use Rattle.schema.specs.Rules.Kinds as kinds
 use Rattle.schema.specs.Rules.Kinds.{IsOfKind}
 use Rattle.schema.specs.Nodes.Keywords.{members_in, members_under, texts_under}
-use Rattle.schema.specs.Nodes.Node.{Node, node, Sort, scalar, object, map, list, open_, Fields, no_fields, field, IsNode}
+use Rattle.schema.specs.Nodes.Node.{Node, node, Sort, object, map, list, Fields, no_fields, field, IsNode}
 use Rattle.schema.specs.Nodes.ByPlace.{sort_kind, IsNodeHere, AreFieldsHere, Declared, field_at, node_below, node_at, IsNodePlace, AreNodesOf, HasOwnParts, HaveOwnParts}
 use Rattle.schema.specs.Nodes.Shape.{is_declared, declared_of, IsNodeOf, AreBelow, AreFieldsOf}
 use Rattle.schema.proofs.KindLemmas.{one_kind, kind_object}
@@ -75,3 +75,179 @@ declared_at whole k (member l d ms) o = elim (bool_cases (bytes_eq k l)) [
     | inr lacks ↦ rw (lacks, other) (declared_at whole k ms o.2)
   ]
 ]
+
+kept_is : (whole : Bool) (k : List ℕ) (o : Option Data) (d : Data) → kept whole k o ≡ Some d → (o ≡ Some d) × (is_declared whole k d ≡ true)
+kept_is whole k None d h = absurd (cc)
+kept_is whole k (Some e) d h = elim (bool_cases (is_declared whole k e)) [
+  | inl has ↦ let same = same_Some e d (rw has at h) in (ap Some same, subst (λ x. is_declared whole k x ≡ true) same has)
+  | inr lacks ↦ let none = rw lacks at h in absurd (cc)
+]
+
+members_tree : (o : Option Data) → ((d : Data) → o ≡ Some d → IsTree d) → AreMembers (members_in o)
+members_tree (Some (tree.object ms)) h = h (tree.object ms) refl
+members_tree _ h = tt
+
+properties_tree : (s : Data) → IsTree s → AreMembers (members_under s (codes "properties"))
+properties_tree s o = members_tree (under s (codes "properties")) (λ d is. part_tree (name (codes "properties") ∷ []) s d o (rw is refl))
+
+and_false : (a b : Bool) → (a ≡ true → b ≡ true → ⊥) → not (a && b) ≡ true
+and_false true true h = absurd (h refl refl)
+and_false true false h = refl
+and_false false b h = refl
+
+declared_each : (whole : Bool) (s d : Data) (k : List ℕ) → IsTree s → IsNodePlace whole (property k ∷ []) → schema_by s (property k) ≡ Some d
+    → member_at k (declared_of whole (members_under s (codes "properties"))) ≡ Some d
+declared_each whole s d k o place by =
+    let at = property_in (under s (codes "properties")) k d by in
+    let ms = members_under s (codes "properties") in
+    let is : is_declared whole k d ≡ true = subst (λ x. is_declared whole k x ≡ true) (sym at.3.1) (and_false whole (is_envelope_name k) place.1) in
+    let found : kept whole k (Some d) ≡ Some d = rw is refl in
+    declared_at whole k ms (properties_tree s o) ∙ (ap (kept whole k) at.2 ∙ found)
+
+declared_only : (whole : Bool) (s d : Data) (k : List ℕ) → IsTree s → member_at k (declared_of whole (members_under s (codes "properties"))) ≡ Some d
+    → IsNodePlace whole (property k ∷ []) × (schema_by s (property k) ≡ Some d)
+declared_only whole s d k o found =
+    let ms = members_under s (codes "properties") in
+    let at = kept_is whole k (member_at k ms) d (sym (declared_at whole k ms (properties_tree s o)) ∙ found) in
+    let is = declared_is_object whole k d at.1 in
+    ((refl, declared_is_other whole k d at.1), in_property (under s (codes "properties")) k is.0 (at.0 ∙ ap Some is.1) ∙ ap Some (sym is.1))
+
+-- ---- fields and properties of one name
+
+abbrev IsFieldOf : List (List ℕ) → List ℕ → Declared → Data → Type 0
+IsFieldOf names k f d = IsNodeOf false f.node d × (f.required ≡ is_among k names) × (f.default ≡ under d (codes "default"))
+
+-- a field where there is a property
+abbrev Matches : List (List ℕ) → List ℕ → Option Declared → Option Data → Type 0
+Matches names k None None = Unit {0}
+Matches names k (Some f) (Some d) = IsFieldOf names k f d
+Matches names k _ _ = ⊥
+
+fields_match : (fs : Fields) (names : List (List ℕ)) (ms : Members) (k : List ℕ) → AreFieldsOf fs names ms → Matches names k (field_at k fs) (member_at k ms)
+fields_match no_fields names no_members k h = tt
+fields_match no_fields names (member m d ms) k h = absurd h
+fields_match (field l N r e fs) names no_members k h = absurd h
+fields_match (field l N r e fs) names (member m d ms) k h = elim (bool_cases (bytes_eq k l)) [
+  | inl t ↦
+      let is_m : bytes_eq k m ≡ true = subst (λ n. bytes_eq k n ≡ true) h.0 t in
+      rw (t, is_m) (h.1, h.2 ∙ ap (λ n. is_among n names) (sym (same_name k m is_m)), h.3)
+  | inr other ↦
+      let not_m : bytes_eq k m ≡ false = subst (λ n. bytes_eq k n ≡ false) h.0 other in
+      rw (other, not_m) (fields_match fs names ms k h.4)
+]
+
+matches_field : (names : List (List ℕ)) (k : List ℕ) (o : Option Declared) (d : Data) → Matches names k o (Some d) → (f : Declared) × (o ≡ Some f) × IsFieldOf names k f d
+matches_field names k None d h = absurd h
+matches_field names k (Some f) d h = (f, refl, h)
+
+matches_property : (names : List (List ℕ)) (k : List ℕ) (f : Declared) (o : Option Data) → Matches names k (Some f) o → (d : Data) × (o ≡ Some d) × IsFieldOf names k f d
+matches_property names k f None h = absurd h
+matches_property names k f (Some d) h = (d, refl, h)
+
+field_each : (whole : Bool) (fs : Fields) (s d : Data) (k : List ℕ) → IsTree s → AreFieldsOf fs (texts_under s (codes "required")) (declared_of whole (members_under s (codes "properties")))
+    → IsNodePlace whole (property k ∷ []) → schema_by s (property k) ≡ Some d → (f : Declared) × (field_at k fs ≡ Some f) × IsNodeOf false f.node d
+field_each whole fs s d k o are place by =
+    let names = texts_under s (codes "required") in
+    let ms = declared_of whole (members_under s (codes "properties")) in
+    let f = matches_field names k (field_at k fs) d (subst (Matches names k (field_at k fs)) (declared_each whole s d k o place by) (fields_match fs names ms k are)) in
+    (f.0, f.1, f.2.0)
+
+field_only : (whole : Bool) (fs : Fields) (s : Data) (k : List ℕ) (f : Declared) → IsTree s
+    → AreFieldsOf fs (texts_under s (codes "required")) (declared_of whole (members_under s (codes "properties"))) → field_at k fs ≡ Some f
+    → (d : Data) × IsNodePlace whole (property k ∷ []) × (schema_by s (property k) ≡ Some d) × IsFieldOf (texts_under s (codes "required")) k f d
+field_only whole fs s k f o are found =
+    let names = texts_under s (codes "required") in
+    let ms = declared_of whole (members_under s (codes "properties")) in
+    let d = matches_property names k f (member_at k ms) (subst (λ x. Matches names k x (member_at k ms)) found (fields_match fs names ms k are)) in
+    let by = declared_only whole s d.0 k o d.1 in
+    (d.0, by.0, by.1, d.2)
+
+-- ---- nodes one step below
+
+each_property : (whole : Bool) (A : Sort) (n : Bool) (x : Option (List ℕ)) (s d : Data) (k : List ℕ) → IsTree s → sort_kind A ≡ kinds.object → scalar_in A ≡ None → AreBelow whole A s
+    → IsNodePlace whole (property k ∷ []) → schema_by s (property k) ≡ Some d → (M : Node) × (node_below (node n x A) (property k) ≡ Some M) × IsNodeOf false M d
+each_property whole (object fs p t b) n x s d k o kind_is scalar_is below place by =
+    let f = field_each whole fs s d k o below place by in
+    (f.0.node, rw f.1 refl, f.2)
+each_property whole A n x s d k o kind_is scalar_is below place by = absurd (cc)
+
+each_value : (whole : Bool) (A : Sort) (n : Bool) (x : Option (List ℕ)) (s d : Data) → sort_kind A ≡ kinds.map → scalar_in A ≡ None → AreBelow whole A s
+    → under s (codes "additionalProperties") ≡ Some d → (M : Node) × (node_below (node n x A) map_value ≡ Some M) × IsNodeOf false M d
+each_value whole (map N t b) n x s d kind_is scalar_is below found = (N, refl, subst (IsNodeOf false N) (same_Some below.0 d (sym below.1 ∙ found)) below.2)
+each_value whole A n x s d kind_is scalar_is below found = absurd (cc)
+
+each_item : (whole : Bool) (A : Sort) (n : Bool) (x : Option (List ℕ)) (s d : Data) → sort_kind A ≡ kinds.list → scalar_in A ≡ None → AreBelow whole A s
+    → under s (codes "items") ≡ Some d → (M : Node) × (node_below (node n x A) items ≡ Some M) × IsNodeOf false M d
+each_item whole (list N t k b) n x s d kind_is scalar_is below found = (N, refl, subst (IsNodeOf false N) (same_Some below.0 d (sym below.1 ∙ found)) below.2)
+each_item whole A n x s d kind_is scalar_is below found = absurd (cc)
+
+each_below : (whole : Bool) (N : Node) (s d : Data) (step : Step) → IsTree s → HasOwnParts s → IsNodeOf whole N s → IsNodePlace whole (step ∷ []) → schema_by s step ≡ Some d
+    → (M : Node) × (node_below N step ≡ Some M) × IsNodeOf false M d
+each_below whole (node n x A) s d (property k) o own is place by =
+    let at = property_in (under s (codes "properties")) k d by in
+    let kind_is = one_kind s (sort_kind A) kinds.object is.0.2 (own.properties (at.0, at.1)) in
+    each_property whole A n x s d k o kind_is (sym (scalar_kind_is A) ∙ ap scalar_of kind_is) is.1 place by
+each_below whole (node n x A) s d map_value o own is place by =
+    let at = object_by (under s (codes "additionalProperties")) d by in
+    let kind_is = one_kind s (sort_kind A) kinds.map is.0.2 (own.values (at.0, at.1)) in
+    each_value whole A n x s d kind_is (sym (scalar_kind_is A) ∙ ap scalar_of kind_is) is.1 (at.1 ∙ ap Some (sym at.2))
+each_below whole (node n x A) s d items o own is place by =
+    let at = object_by (under s (codes "items")) d by in
+    let kind_is = one_kind s (sort_kind A) kinds.list is.0.2 (own.items (at.0, at.1)) in
+    each_item whole A n x s d kind_is (sym (scalar_kind_is A) ∙ ap scalar_of kind_is) is.1 (at.1 ∙ ap Some (sym at.2))
+each_below whole (node n x A) s d step o own is place by = let outside = place.0 in absurd (cc)
+
+node_object : (N : Node) (d : Data) → IsNodeOf false N d → IsObject d
+node_object (node n x A) d is = kind_object d (sort_kind A) is.0.2
+
+only_below : (whole : Bool) (N M : Node) (s : Data) (step : Step) → IsTree s → IsNodeOf whole N s → node_below N step ≡ Some M
+    → (d : Data) × IsNodePlace whole (step ∷ []) × (schema_by s step ≡ Some d) × IsNodeOf false M d
+only_below whole (node n x (object fs p t b)) M s (property k) o is leads =
+    let f = found_node (field_at k fs) M leads in
+    let d = field_only whole fs s k f.0 o is.1 f.1 in
+    (d.0, d.1, d.2, subst (λ K. IsNodeOf false K d.0) f.2 d.3.0)
+only_below whole (node n x (map N t b)) M s map_value o is leads =
+    let object_is = node_object N is.1.0 is.1.2 in
+    (is.1.0, (refl, λ e h. h), rw (is.1.1, object_is.1) refl, subst (λ K. IsNodeOf false K is.1.0) (same_Some N M leads) is.1.2)
+only_below whole (node n x (list N t k b)) M s items o is leads =
+    let object_is = node_object N is.1.0 is.1.2 in
+    (is.1.0, (refl, λ e h. h), rw (is.1.1, object_is.1) refl, subst (λ K. IsNodeOf false K is.1.0) (same_Some N M leads) is.1.2)
+only_below whole N M s step o is leads = absurd (cc)
+
+-- ---- at all places
+
+fields_here : (whole : Bool) (N : Node) (s : Data) → IsTree s → IsNodeOf whole N s → AreFieldsHere N s
+fields_here whole (node n x (object fs p t b)) s o is = λ k f found.
+    let d = field_only whole fs s k f o is.1 found in
+    (d.3.1, rw d.2 d.3.2)
+fields_here whole N s o is = tt
+
+itself_here : (whole : Bool) (N : Node) (s : Data) → IsNodeOf whole N s → IsNodeHere N s
+itself_here whole (node n x A) s is = is.0
+
+each_place : (p : Place) (whole : Bool) (N : Node) (s t : Data) → IsTree s → HaveOwnParts whole s → IsNodeOf whole N s → IsNodePlace whole p → schema_at s p ≡ Some t
+    → (M : Node) × (node_at N p ≡ Some M) × IsNodeHere M t × AreFieldsHere M t
+each_place [] whole N s t o own is place found =
+    let same = same_Some s t found in
+    (N, refl, subst (IsNodeHere N) same (itself_here whole N s is), subst (AreFieldsHere N) same (fields_here whole N s o is))
+each_place (step ∷ p) whole N s t o own is place found =
+    option_and_then_some (λ x. schema_at x p) (schema_by s step) t found (λ d by rest.
+        let first = place_first whole step p place in
+        let M = each_below whole N s d step o (own [] s (refl, λ e h. h) refl) is first by in
+        let got = each_place p false M.0 d t (schema_tree s d step o by) (own_below whole s d step own first by) M.2 (place_rest whole step p place) rest in
+        (got.0, rw M.1 got.1, got.2, got.3))
+
+only_place : (p : Place) (whole : Bool) (N M : Node) (s : Data) → IsTree s → IsNodeOf whole N s → node_at N p ≡ Some M → IsNodePlace whole p × IsPlace s p
+only_place [] whole N M s o is leads = ((refl, λ e h. h), (s, refl))
+only_place (step ∷ p) whole N M s o is leads =
+    option_and_then_some (λ K. node_at K p) (node_below N step) M leads (λ K below rest.
+        let d = only_below whole N K s step o is below in
+        let got = only_place p false K M d.0 (schema_tree s d.0 step o d.2) d.3 rest in
+        (place_more whole step p d.1 got.0, (got.1.0, rw d.2 got.1.1)))
+
+pub nodes_by_place : (N : Node) (s : Data) (whole : Bool) → IsTree s → HaveOwnParts whole s → IsNode N → IsNodeOf whole N s → AreNodesOf whole N s
+nodes_by_place N s whole o own ordered is = record {
+  ordered = ordered;
+  each = λ p t. each_place p whole N s t o own is;
+  only = λ p M. only_place p whole N M s o is;
+}

@@ -1,21 +1,19 @@
 -- A schema has one tree of nodes at most.
 use Rattle.std.proofs.Common.{◌≡◌, ℕ, List, [], ◌∷◌, Bool, true, false, Option, Some, None, refl, sym, ap, ◌∙◌, subst, inl, inr}
-use Rattle.std.specs.Prelude.{option_and_then, option_map, codes, ◌||◌}
+use Rattle.std.specs.Prelude.{option_map, ◌||◌}
 use Rattle.std.specs.Str.{bytes_eq}
-use Rattle.std.specs.declared.cmp.Ordering.TheVariants.{Less, Equal, Greater}
-use Rattle.std.specs.Ordering.{ordering_reverse}
+use Rattle.std.specs.declared.cmp.Ordering.TheVariants.{Less}
 use Rattle.std.proofs.lemmas.Option.{option_and_then_some, same_Some}
 use Rattle.std.proofs.lemmas.Cmp.{nat_list_cmp_total}
 use Rattle.jtree.specs.Data.{Data, Items, no_items, item}
-use Rattle.jtree.specs.Path.{under}
 use Rattle.jtree.specs.Order.{text_cmp}
 use Rattle.jtree.specs.Internal.Lookups.{bool_cases, same_name, own_name, later_name, earlier_name, not_itself}
-use Rattle.schema.specs.Document.Places.{Step, Place, property, map_value, items, schema_by, schema_at, is_junctor, is_inside, IsEnvelope}
+use Rattle.schema.specs.Document.Places.{Step, Place, property, map_value, items, schema_by, is_junctor, is_inside, IsEnvelope}
 use Rattle.schema.specs.Rules.Kinds as kinds
 use Rattle.schema.specs.Rules.Kinds.{IsOfKind}
 use Rattle.schema.specs.Nodes.Validations.{AreConstraintsOf, AreValidationsOf, AreBranchesOf}
 use Rattle.schema.specs.Nodes.Node.{Validations, validations, Branches, no_branches, branch, Node, node, Sort, scalar, object, map, list, open_, Fields, no_fields, field, IsNode, IsBeforeFields, AreOrdered}
-use Rattle.schema.specs.Nodes.ByPlace.{kind_of, sort_kind, AreBoundsOf, HasKeywords, IsNodeHere, AreFieldsHere, Declared, field_at, node_below, node_at, IsNodePlace, AreNodesOf}
+use Rattle.schema.specs.Nodes.ByPlace.{sort_kind, AreBoundsOf, IsNodeHere, AreFieldsHere, Declared, field_at, node_below, IsNodePlace, AreNodesOf}
 use Rattle.schema.specs.declared.node.Bounds.{Bounds}
 use Rattle.schema.specs.declared.node.Constraints.{Constraints}
 use Rattle.schema.specs.declared.node.ScalarKind.{ScalarKind}

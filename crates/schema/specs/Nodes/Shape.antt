@@ -15,7 +15,7 @@ use Rattle.schema.specs.Rules.Broken.{At}
 use Rattle.schema.specs.Rules.Breaks.{AreViolations, IsUnbroken}
 use Rattle.schema.specs.Nodes.Keywords.{members_under, texts_under}
 use Rattle.schema.specs.Nodes.ByPlace.{sort_kind, HasKeywords, IsNodeHere}
-use Rattle.schema.specs.Nodes.Node.{Node, node, Sort, scalar, object, map, list, open_, Fields, no_fields, field}
+use Rattle.schema.specs.Nodes.Node.{Node, node, Sort, object, map, list, Fields, no_fields, field}
 use Rattle.schema.specs.declared.refused.Refused.{Refused}
 use Rattle.schema.specs.declared.refused.Refused.TheVariants.{Violations, NotYet, NoMemory}
 
