@@ -9,7 +9,7 @@ use Rattle.jtree.specs.Path.{name, member_at, under, part_at}
 use Rattle.jtree.specs.Internal.Lookups.{bool_cases, same_name, before_none}
 use Rattle.schema.specs.Document.Raw.{IsObject}
 use Rattle.schema.specs.Document.Texts.{is_among}
-use Rattle.schema.specs.Document.Places.{Step, Place, property, map_value, items, step_path, only_object, schema_by, schema_at, IsPlace, is_junctor, is_inside, is_envelope_name}
+use Rattle.schema.specs.Document.Places.{Step, Place, property, map_value, items, step_path, only_object, schema_by, schema_at, IsPlace, is_inside, is_envelope_name}
 use Rattle.schema.specs.Rules.Kinds as kinds
 use Rattle.schema.specs.Rules.Kinds.{IsOfKind}
 use Rattle.schema.specs.Nodes.Keywords.{members_in, members_under, texts_under}
@@ -20,7 +20,7 @@ use Rattle.schema.proofs.KindLemmas.{one_kind, kind_object}
 use Rattle.schema.proofs.EventParts.{object_only}
 use Rattle.schema.proofs.EventPlaces.{part_tree}
 use Rattle.schema.proofs.ShapeLemmas.{declared_is_object, declared_is_other}
-use Rattle.schema.proofs.OneNode.{scalar_of, scalar_in, scalar_kind_is, found_node, or_parts, envelope_step, place_more}
+use Rattle.schema.proofs.OneNode.{scalar_of, scalar_in, scalar_kind_is, found_node, place_more, place_first, place_rest}
 
 -- ---- what a step leads to
 
@@ -43,43 +43,37 @@ in_property : (o : Option Data) (k : List ℕ) (ms : Members) → member_at k (m
 in_property (Some (tree.object ns)) k ms h = rw h refl
 in_property _ k ms h = cc
 
-place_first : (whole : Bool) (step : Step) (p : Place) → IsNodePlace whole (step ∷ p) → IsNodePlace whole (step ∷ [])
-place_first whole step p h = (rw ((or_parts (is_junctor step) (is_inside p) h.0).0) refl, λ is e. h.1 is (envelope_step step [] p e))
-
-place_rest : (whole : Bool) (step : Step) (p : Place) → IsNodePlace whole (step ∷ p) → IsNodePlace false p
-place_rest whole step p h = ((or_parts (is_junctor step) (is_inside p) h.0).1, λ is e. cc)
-
-own_below : (whole : Bool) (s d : Data) (step : Step) → HaveOwnParts whole s → IsNodePlace whole (step ∷ []) → schema_by s step ≡ Some d → HaveOwnParts false d
-own_below whole s d step own place by p t below found = own (step ∷ p) t (place_more whole step p place below) (rw by found)
+own_below : (root : Bool) (s d : Data) (step : Step) → HaveOwnParts root s → IsNodePlace root (step ∷ []) → schema_by s step ≡ Some d → HaveOwnParts false d
+own_below root s d step own place by p t below found = own (step ∷ p) t (place_more root step p place below) (rw by found)
 
 -- ---- declared properties
 
 abbrev kept : Bool → List ℕ → Option Data → Option Data
-kept whole k None = None
-kept whole k (Some d) = if is_declared whole k d then Some d else None
+kept root k None = None
+kept root k (Some d) = if is_declared root k d then Some d else None
 
-declared_at : (whole : Bool) (k : List ℕ) (ms : Members) → AreMembers ms → member_at k (declared_of whole ms) ≡ kept whole k (member_at k ms)
-declared_at whole k no_members o = refl
-declared_at whole k (member l d ms) o = elim (bool_cases (bytes_eq k l)) [
+declared_at : (root : Bool) (k : List ℕ) (ms : Members) → AreMembers ms → member_at k (declared_of root ms) ≡ kept root k (member_at k ms)
+declared_at root k no_members o = refl
+declared_at root k (member l d ms) o = elim (bool_cases (bytes_eq k l)) [
   | inl t ↦
       let is : k ≡ l = same_name k l t in
-      elim (bool_cases (is_declared whole l d)) [
-        | inl has ↦ let has_k : is_declared whole k d ≡ true = subst (λ n. is_declared whole n d ≡ true) (sym is) has in rw (has, t, has_k) refl
+      elim (bool_cases (is_declared root l d)) [
+        | inl has ↦ let has_k : is_declared root k d ≡ true = subst (λ n. is_declared root n d ≡ true) (sym is) has in rw (has, t, has_k) refl
         | inr lacks ↦
-            let lacks_k : is_declared whole k d ≡ false = subst (λ n. is_declared whole n d ≡ false) (sym is) lacks in
+            let lacks_k : is_declared root k d ≡ false = subst (λ n. is_declared root n d ≡ false) (sym is) lacks in
             let none : member_at k ms ≡ None = subst (λ n. member_at n ms ≡ None) (sym is) (before_none l ms o.1 o.2) in
-            rw (lacks, t, lacks_k) (declared_at whole k ms o.2 ∙ ap (kept whole k) none)
+            rw (lacks, t, lacks_k) (declared_at root k ms o.2 ∙ ap (kept root k) none)
       ]
-  | inr other ↦ elim (bool_cases (is_declared whole l d)) [
-    | inl has ↦ rw (has, other) (declared_at whole k ms o.2)
-    | inr lacks ↦ rw (lacks, other) (declared_at whole k ms o.2)
+  | inr other ↦ elim (bool_cases (is_declared root l d)) [
+    | inl has ↦ rw (has, other) (declared_at root k ms o.2)
+    | inr lacks ↦ rw (lacks, other) (declared_at root k ms o.2)
   ]
 ]
 
-kept_is : (whole : Bool) (k : List ℕ) (o : Option Data) (d : Data) → kept whole k o ≡ Some d → (o ≡ Some d) × (is_declared whole k d ≡ true)
-kept_is whole k None d h = absurd (cc)
-kept_is whole k (Some e) d h = elim (bool_cases (is_declared whole k e)) [
-  | inl has ↦ let same = same_Some e d (rw has at h) in (ap Some same, subst (λ x. is_declared whole k x ≡ true) same has)
+kept_is : (root : Bool) (k : List ℕ) (o : Option Data) (d : Data) → kept root k o ≡ Some d → (o ≡ Some d) × (is_declared root k d ≡ true)
+kept_is root k None d h = absurd (cc)
+kept_is root k (Some e) d h = elim (bool_cases (is_declared root k e)) [
+  | inl has ↦ let same = same_Some e d (rw has at h) in (ap Some same, subst (λ x. is_declared root k x ≡ true) same has)
   | inr lacks ↦ let none = rw lacks at h in absurd (cc)
 ]
 
@@ -95,22 +89,22 @@ and_false true true h = absurd (h refl refl)
 and_false true false h = refl
 and_false false b h = refl
 
-declared_each : (whole : Bool) (s d : Data) (k : List ℕ) → IsTree s → IsNodePlace whole (property k ∷ []) → schema_by s (property k) ≡ Some d
-    → member_at k (declared_of whole (members_under s (codes "properties"))) ≡ Some d
-declared_each whole s d k o place by =
+declared_each : (root : Bool) (s d : Data) (k : List ℕ) → IsTree s → IsNodePlace root (property k ∷ []) → schema_by s (property k) ≡ Some d
+    → member_at k (declared_of root (members_under s (codes "properties"))) ≡ Some d
+declared_each root s d k o place by =
     let at = property_in (under s (codes "properties")) k d by in
     let ms = members_under s (codes "properties") in
-    let is : is_declared whole k d ≡ true = subst (λ x. is_declared whole k x ≡ true) (sym at.3.1) (and_false whole (is_envelope_name k) place.1) in
-    let found : kept whole k (Some d) ≡ Some d = rw is refl in
-    declared_at whole k ms (properties_tree s o) ∙ (ap (kept whole k) at.2 ∙ found)
+    let is : is_declared root k d ≡ true = subst (λ x. is_declared root k x ≡ true) (sym at.3.1) (and_false root (is_envelope_name k) place.1) in
+    let found : kept root k (Some d) ≡ Some d = rw is refl in
+    declared_at root k ms (properties_tree s o) ∙ (ap (kept root k) at.2 ∙ found)
 
-declared_only : (whole : Bool) (s d : Data) (k : List ℕ) → IsTree s → member_at k (declared_of whole (members_under s (codes "properties"))) ≡ Some d
-    → IsNodePlace whole (property k ∷ []) × (schema_by s (property k) ≡ Some d)
-declared_only whole s d k o found =
+declared_only : (root : Bool) (s d : Data) (k : List ℕ) → IsTree s → member_at k (declared_of root (members_under s (codes "properties"))) ≡ Some d
+    → IsNodePlace root (property k ∷ []) × (schema_by s (property k) ≡ Some d)
+declared_only root s d k o found =
     let ms = members_under s (codes "properties") in
-    let at = kept_is whole k (member_at k ms) d (sym (declared_at whole k ms (properties_tree s o)) ∙ found) in
-    let is = declared_is_object whole k d at.1 in
-    ((refl, declared_is_other whole k d at.1), in_property (under s (codes "properties")) k is.0 (at.0 ∙ ap Some is.1) ∙ ap Some (sym is.1))
+    let at = kept_is root k (member_at k ms) d (sym (declared_at root k ms (properties_tree s o)) ∙ found) in
+    let is = declared_is_object root k d at.1 in
+    ((refl, declared_is_other root k d at.1), in_property (under s (codes "properties")) k is.0 (at.0 ∙ ap Some is.1) ∙ ap Some (sym is.1))
 
 -- ---- fields and properties of one name
 
@@ -144,110 +138,110 @@ matches_property : (names : List (List ℕ)) (k : List ℕ) (f : Declared) (o : 
 matches_property names k f None h = absurd h
 matches_property names k f (Some d) h = (d, refl, h)
 
-field_each : (whole : Bool) (fs : Fields) (s d : Data) (k : List ℕ) → IsTree s → AreFieldsOf fs (texts_under s (codes "required")) (declared_of whole (members_under s (codes "properties")))
-    → IsNodePlace whole (property k ∷ []) → schema_by s (property k) ≡ Some d → (f : Declared) × (field_at k fs ≡ Some f) × IsNodeOf false f.node d
-field_each whole fs s d k o are place by =
+field_each : (root : Bool) (fs : Fields) (s d : Data) (k : List ℕ) → IsTree s → AreFieldsOf fs (texts_under s (codes "required")) (declared_of root (members_under s (codes "properties")))
+    → IsNodePlace root (property k ∷ []) → schema_by s (property k) ≡ Some d → (f : Declared) × (field_at k fs ≡ Some f) × IsNodeOf false f.node d
+field_each root fs s d k o are place by =
     let names = texts_under s (codes "required") in
-    let ms = declared_of whole (members_under s (codes "properties")) in
-    let f = matches_field names k (field_at k fs) d (subst (Matches names k (field_at k fs)) (declared_each whole s d k o place by) (fields_match fs names ms k are)) in
+    let ms = declared_of root (members_under s (codes "properties")) in
+    let f = matches_field names k (field_at k fs) d (subst (Matches names k (field_at k fs)) (declared_each root s d k o place by) (fields_match fs names ms k are)) in
     (f.0, f.1, f.2.0)
 
-field_only : (whole : Bool) (fs : Fields) (s : Data) (k : List ℕ) (f : Declared) → IsTree s
-    → AreFieldsOf fs (texts_under s (codes "required")) (declared_of whole (members_under s (codes "properties"))) → field_at k fs ≡ Some f
-    → (d : Data) × IsNodePlace whole (property k ∷ []) × (schema_by s (property k) ≡ Some d) × IsFieldOf (texts_under s (codes "required")) k f d
-field_only whole fs s k f o are found =
+field_only : (root : Bool) (fs : Fields) (s : Data) (k : List ℕ) (f : Declared) → IsTree s
+    → AreFieldsOf fs (texts_under s (codes "required")) (declared_of root (members_under s (codes "properties"))) → field_at k fs ≡ Some f
+    → (d : Data) × IsNodePlace root (property k ∷ []) × (schema_by s (property k) ≡ Some d) × IsFieldOf (texts_under s (codes "required")) k f d
+field_only root fs s k f o are found =
     let names = texts_under s (codes "required") in
-    let ms = declared_of whole (members_under s (codes "properties")) in
+    let ms = declared_of root (members_under s (codes "properties")) in
     let d = matches_property names k f (member_at k ms) (subst (λ x. Matches names k x (member_at k ms)) found (fields_match fs names ms k are)) in
-    let by = declared_only whole s d.0 k o d.1 in
+    let by = declared_only root s d.0 k o d.1 in
     (d.0, by.0, by.1, d.2)
 
 -- ---- nodes one step below
 
-each_property : (whole : Bool) (A : Sort) (n : Bool) (x : Option (List ℕ)) (s d : Data) (k : List ℕ) → IsTree s → sort_kind A ≡ kinds.object → scalar_in A ≡ None → AreBelow whole A s
-    → IsNodePlace whole (property k ∷ []) → schema_by s (property k) ≡ Some d → (M : Node) × (node_below (node n x A) (property k) ≡ Some M) × IsNodeOf false M d
-each_property whole (object fs p t b) n x s d k o kind_is scalar_is below place by =
-    let f = field_each whole fs s d k o below place by in
-    (f.0.node, rw f.1 refl, f.2)
-each_property whole A n x s d k o kind_is scalar_is below place by = absurd (cc)
+-- the kind of a schema with a schema below it by this step
+abbrev step_kind : Step → kinds.Kind
+step_kind (property k) = kinds.object
+step_kind map_value = kinds.map
+step_kind items = kinds.list
+-- for the branches of junctors, which have no nodes
+step_kind _ = kinds.open_
 
-each_value : (whole : Bool) (A : Sort) (n : Bool) (x : Option (List ℕ)) (s d : Data) → sort_kind A ≡ kinds.map → scalar_in A ≡ None → AreBelow whole A s
-    → under s (codes "additionalProperties") ≡ Some d → (M : Node) × (node_below (node n x A) map_value ≡ Some M) × IsNodeOf false M d
-each_value whole (map N t b) n x s d kind_is scalar_is below found = (N, refl, subst (IsNodeOf false N) (same_Some below.0 d (sym below.1 ∙ found)) below.2)
-each_value whole A n x s d kind_is scalar_is below found = absurd (cc)
+own_kind : (s d : Data) (step : Step) → HasOwnParts s → is_inside (step ∷ []) ≡ false → schema_by s step ≡ Some d → IsOfKind s (step_kind step)
+own_kind s d (property k) own outside by = let o = property_in (under s (codes "properties")) k d by in own.properties (o.0, o.1)
+own_kind s d map_value own outside by = let o = object_by (under s (codes "additionalProperties")) d by in own.values (o.0, o.1)
+own_kind s d items own outside by = let o = object_by (under s (codes "items")) d by in own.items (o.0, o.1)
+own_kind s d step own outside by = absurd (cc)
 
-each_item : (whole : Bool) (A : Sort) (n : Bool) (x : Option (List ℕ)) (s d : Data) → sort_kind A ≡ kinds.list → scalar_in A ≡ None → AreBelow whole A s
-    → under s (codes "items") ≡ Some d → (M : Node) × (node_below (node n x A) items ≡ Some M) × IsNodeOf false M d
-each_item whole (list N t k b) n x s d kind_is scalar_is below found = (N, refl, subst (IsNodeOf false N) (same_Some below.0 d (sym below.1 ∙ found)) below.2)
-each_item whole A n x s d kind_is scalar_is below found = absurd (cc)
+keyword_below : (N : Node) (s d : Data) (k : List ℕ) → (e : Data) × (under s k ≡ Some e) × IsNodeOf false N e → option_and_then only_object (option_and_then (λ e. Some e) (under s k)) ≡ Some d
+    → IsNodeOf false N d
+keyword_below N s d k below by =
+    let o = object_by (under s k) d by in
+    subst (IsNodeOf false N) (same_Some below.0 d (sym below.1 ∙ (o.1 ∙ ap Some (sym o.2)))) below.2
 
-each_below : (whole : Bool) (N : Node) (s d : Data) (step : Step) → IsTree s → HasOwnParts s → IsNodeOf whole N s → IsNodePlace whole (step ∷ []) → schema_by s step ≡ Some d
+each_sort : (root : Bool) (step : Step) (A : Sort) (n : Bool) (x : Option (List ℕ)) (s d : Data) → IsTree s → sort_kind A ≡ step_kind step → scalar_in A ≡ scalar_of (step_kind step)
+    → AreBelow root A s → IsNodePlace root (step ∷ []) → schema_by s step ≡ Some d → (M : Node) × (node_below (node n x A) step ≡ Some M) × IsNodeOf false M d
+each_sort root (property k) (object fs p t b) n x s d o kind_is scalar_is below place by = let f = field_each root fs s d k o below place by in (f.0.node, rw f.1 refl, f.2)
+each_sort root map_value (map N t b) n x s d o kind_is scalar_is below place by = (N, refl, keyword_below N s d (codes "additionalProperties") below by)
+each_sort root items (list N t k b) n x s d o kind_is scalar_is below place by = (N, refl, keyword_below N s d (codes "items") below by)
+each_sort root step A n x s d o kind_is scalar_is below place by = let outside = place.0 in absurd (cc)
+
+each_below : (root : Bool) (N : Node) (s d : Data) (step : Step) → IsTree s → HasOwnParts s → IsNodeOf root N s → IsNodePlace root (step ∷ []) → schema_by s step ≡ Some d
     → (M : Node) × (node_below N step ≡ Some M) × IsNodeOf false M d
-each_below whole (node n x A) s d (property k) o own is place by =
-    let at = property_in (under s (codes "properties")) k d by in
-    let kind_is = one_kind s (sort_kind A) kinds.object is.0.2 (own.properties (at.0, at.1)) in
-    each_property whole A n x s d k o kind_is (sym (scalar_kind_is A) ∙ ap scalar_of kind_is) is.1 place by
-each_below whole (node n x A) s d map_value o own is place by =
-    let at = object_by (under s (codes "additionalProperties")) d by in
-    let kind_is = one_kind s (sort_kind A) kinds.map is.0.2 (own.values (at.0, at.1)) in
-    each_value whole A n x s d kind_is (sym (scalar_kind_is A) ∙ ap scalar_of kind_is) is.1 (at.1 ∙ ap Some (sym at.2))
-each_below whole (node n x A) s d items o own is place by =
-    let at = object_by (under s (codes "items")) d by in
-    let kind_is = one_kind s (sort_kind A) kinds.list is.0.2 (own.items (at.0, at.1)) in
-    each_item whole A n x s d kind_is (sym (scalar_kind_is A) ∙ ap scalar_of kind_is) is.1 (at.1 ∙ ap Some (sym at.2))
-each_below whole (node n x A) s d step o own is place by = let outside = place.0 in absurd (cc)
+each_below root (node n x A) s d step o own is place by =
+    let kind_is = one_kind s (sort_kind A) (step_kind step) is.0.2 (own_kind s d step own place.0 by) in
+    each_sort root step A n x s d o kind_is (sym (scalar_kind_is A) ∙ ap scalar_of kind_is) is.1 place by
 
 node_object : (N : Node) (d : Data) → IsNodeOf false N d → IsObject d
 node_object (node n x A) d is = kind_object d (sort_kind A) is.0.2
 
-only_below : (whole : Bool) (N M : Node) (s : Data) (step : Step) → IsTree s → IsNodeOf whole N s → node_below N step ≡ Some M
-    → (d : Data) × IsNodePlace whole (step ∷ []) × (schema_by s step ≡ Some d) × IsNodeOf false M d
-only_below whole (node n x (object fs p t b)) M s (property k) o is leads =
+only_below : (root : Bool) (N M : Node) (s : Data) (step : Step) → IsTree s → IsNodeOf root N s → node_below N step ≡ Some M
+    → (d : Data) × IsNodePlace root (step ∷ []) × (schema_by s step ≡ Some d) × IsNodeOf false M d
+only_below root (node n x (object fs p t b)) M s (property k) o is leads =
     let f = found_node (field_at k fs) M leads in
-    let d = field_only whole fs s k f.0 o is.1 f.1 in
+    let d = field_only root fs s k f.0 o is.1 f.1 in
     (d.0, d.1, d.2, subst (λ K. IsNodeOf false K d.0) f.2 d.3.0)
-only_below whole (node n x (map N t b)) M s map_value o is leads =
+only_below root (node n x (map N t b)) M s map_value o is leads =
     let object_is = node_object N is.1.0 is.1.2 in
     (is.1.0, (refl, λ e h. h), rw (is.1.1, object_is.1) refl, subst (λ K. IsNodeOf false K is.1.0) (same_Some N M leads) is.1.2)
-only_below whole (node n x (list N t k b)) M s items o is leads =
+only_below root (node n x (list N t k b)) M s items o is leads =
     let object_is = node_object N is.1.0 is.1.2 in
     (is.1.0, (refl, λ e h. h), rw (is.1.1, object_is.1) refl, subst (λ K. IsNodeOf false K is.1.0) (same_Some N M leads) is.1.2)
-only_below whole N M s step o is leads = absurd (cc)
+only_below root N M s step o is leads = absurd (cc)
 
 -- ---- at all places
 
-fields_here : (whole : Bool) (N : Node) (s : Data) → IsTree s → IsNodeOf whole N s → AreFieldsHere N s
-fields_here whole (node n x (object fs p t b)) s o is = λ k f found.
-    let d = field_only whole fs s k f o is.1 found in
+fields_here : (root : Bool) (N : Node) (s : Data) → IsTree s → IsNodeOf root N s → AreFieldsHere N s
+fields_here root (node n x (object fs p t b)) s o is = λ k f found.
+    let d = field_only root fs s k f o is.1 found in
     (d.3.1, rw d.2 d.3.2)
-fields_here whole N s o is = tt
+fields_here root N s o is = tt
 
-itself_here : (whole : Bool) (N : Node) (s : Data) → IsNodeOf whole N s → IsNodeHere N s
-itself_here whole (node n x A) s is = is.0
+itself_here : (root : Bool) (N : Node) (s : Data) → IsNodeOf root N s → IsNodeHere N s
+itself_here root (node n x A) s is = is.0
 
-each_place : (p : Place) (whole : Bool) (N : Node) (s t : Data) → IsTree s → HaveOwnParts whole s → IsNodeOf whole N s → IsNodePlace whole p → schema_at s p ≡ Some t
+each_place : (p : Place) (root : Bool) (N : Node) (s t : Data) → IsTree s → HaveOwnParts root s → IsNodeOf root N s → IsNodePlace root p → schema_at s p ≡ Some t
     → (M : Node) × (node_at N p ≡ Some M) × IsNodeHere M t × AreFieldsHere M t
-each_place [] whole N s t o own is place found =
+each_place [] root N s t o own is place found =
     let same = same_Some s t found in
-    (N, refl, subst (IsNodeHere N) same (itself_here whole N s is), subst (AreFieldsHere N) same (fields_here whole N s o is))
-each_place (step ∷ p) whole N s t o own is place found =
+    (N, refl, subst (IsNodeHere N) same (itself_here root N s is), subst (AreFieldsHere N) same (fields_here root N s o is))
+each_place (step ∷ p) root N s t o own is place found =
     option_and_then_some (λ x. schema_at x p) (schema_by s step) t found (λ d by rest.
-        let first = place_first whole step p place in
-        let M = each_below whole N s d step o (own [] s (refl, λ e h. h) refl) is first by in
-        let got = each_place p false M.0 d t (schema_tree s d step o by) (own_below whole s d step own first by) M.2 (place_rest whole step p place) rest in
+        let first = place_first root step p place in
+        let M = each_below root N s d step o (own [] s (refl, λ e h. h) refl) is first by in
+        let got = each_place p false M.0 d t (schema_tree s d step o by) (own_below root s d step own first by) M.2 (place_rest root step p place) rest in
         (got.0, rw M.1 got.1, got.2, got.3))
 
-only_place : (p : Place) (whole : Bool) (N M : Node) (s : Data) → IsTree s → IsNodeOf whole N s → node_at N p ≡ Some M → IsNodePlace whole p × IsPlace s p
-only_place [] whole N M s o is leads = ((refl, λ e h. h), (s, refl))
-only_place (step ∷ p) whole N M s o is leads =
+only_place : (p : Place) (root : Bool) (N M : Node) (s : Data) → IsTree s → IsNodeOf root N s → node_at N p ≡ Some M → IsNodePlace root p × IsPlace s p
+only_place [] root N M s o is leads = ((refl, λ e h. h), (s, refl))
+only_place (step ∷ p) root N M s o is leads =
     option_and_then_some (λ K. node_at K p) (node_below N step) M leads (λ K below rest.
-        let d = only_below whole N K s step o is below in
+        let d = only_below root N K s step o is below in
         let got = only_place p false K M d.0 (schema_tree s d.0 step o d.2) d.3 rest in
-        (place_more whole step p d.1 got.0, (got.1.0, rw d.2 got.1.1)))
+        (place_more root step p d.1 got.0, (got.1.0, rw d.2 got.1.1)))
 
-pub nodes_by_place : (N : Node) (s : Data) (whole : Bool) → IsTree s → HaveOwnParts whole s → IsNode N → IsNodeOf whole N s → AreNodesOf whole N s
-nodes_by_place N s whole o own ordered is = record {
+pub nodes_by_place : (N : Node) (s : Data) (root : Bool) → IsTree s → HaveOwnParts root s → IsNode N → IsNodeOf root N s → AreNodesOf root N s
+nodes_by_place N s root o own ordered is = record {
   ordered = ordered;
-  each = λ p t. each_place p whole N s t o own is;
-  only = λ p M. only_place p whole N M s o is;
+  each = λ p t. each_place p root N s t o own is;
+  only = λ p M. only_place p root N M s o is;
 }

@@ -13,7 +13,7 @@ use Rattle.schema.specs.Rules.Kinds as kinds
 use Rattle.schema.specs.Rules.Kinds.{IsOfKind}
 use Rattle.schema.specs.Nodes.Validations.{AreConstraintsOf, AreValidationsOf, AreBranchesOf}
 use Rattle.schema.specs.Nodes.Node.{Validations, validations, Branches, no_branches, branch, Node, node, Sort, scalar, object, map, list, open_, Fields, no_fields, field, IsNode, IsBeforeFields, AreOrdered}
-use Rattle.schema.specs.Nodes.ByPlace.{sort_kind, AreBoundsOf, IsNodeHere, AreFieldsHere, Declared, field_at, node_below, IsNodePlace, AreNodesOf}
+use Rattle.schema.specs.Nodes.ByPlace.{sort_kind, AreBoundsOf, HasKeywords, IsNodeHere, AreFieldsHere, Declared, field_at, node_below, IsNodePlace, AreNodesOf}
 use Rattle.schema.specs.declared.node.Bounds.{Bounds}
 use Rattle.schema.specs.declared.node.Constraints.{Constraints}
 use Rattle.schema.specs.declared.node.ScalarKind.{ScalarKind}
@@ -92,7 +92,7 @@ before_field k (field m N r e fs) l f before ordered at = elim (bool_cases (byte
 
 -- ---- nodes one step below
 
-pub or_parts : (a b : Bool) → (a || b) ≡ false → (a ≡ false) × (b ≡ false)
+or_parts : (a b : Bool) → (a || b) ≡ false → (a ≡ false) × (b ≡ false)
 or_parts true b h = cc
 or_parts false b h = (refl, h)
 
@@ -115,57 +115,59 @@ ordered_below (node n d (map N t b)) M map_value ordered leads = subst IsNode (s
 ordered_below (node n d (list N t k b)) M items ordered leads = subst IsNode (same_Some N M leads) ordered
 ordered_below _ _ _ ordered leads = cc
 
-pub envelope_step : (step : Step) (p q : Place) → IsEnvelope (step ∷ p) → IsEnvelope (step ∷ q)
+envelope_step : (step : Step) (p q : Place) → IsEnvelope (step ∷ p) → IsEnvelope (step ∷ q)
 envelope_step (property k) p q h = h
 envelope_step _ p q h = h
 
-pub place_more : (whole : Bool) (step : Step) (p : Place) → IsNodePlace whole (step ∷ []) → IsNodePlace false p → IsNodePlace whole (step ∷ p)
-place_more whole step p first rest = (rw ((or_parts (is_junctor step) false first.0).0) rest.0, λ is e. first.1 is (envelope_step step p [] e))
+pub place_more : (root : Bool) (step : Step) (p : Place) → IsNodePlace root (step ∷ []) → IsNodePlace false p → IsNodePlace root (step ∷ p)
+place_more root step p first rest = (rw ((or_parts (is_junctor step) false first.0).0) rest.0, λ is e. first.1 is (envelope_step step p [] e))
 
--- the node itself
-here : (whole : Bool) (N : Node) (s : Data) → AreNodesOf whole N s → IsNodeHere N s × AreFieldsHere N s
-here whole N s h =
-    let root = h.each [] s (refl, λ is e. e) refl in
-    subst (λ M. IsNodeHere M s × AreFieldsHere M s) (sym (same_Some N root.0 root.1)) (root.2, root.3)
+pub place_first : (root : Bool) (step : Step) (p : Place) → IsNodePlace root (step ∷ p) → IsNodePlace root (step ∷ [])
+place_first root step p h = (rw ((or_parts (is_junctor step) (is_inside p) h.0).0) refl, λ is e. h.1 is (envelope_step step [] p e))
 
-nodes_below : (whole : Bool) (N M : Node) (s : Data) (step : Step) (d : Data) → AreNodesOf whole N s → IsNodePlace whole (step ∷ []) → node_below N step ≡ Some M
+pub place_rest : (root : Bool) (step : Step) (p : Place) → IsNodePlace root (step ∷ p) → IsNodePlace false p
+place_rest root step p h = ((or_parts (is_junctor step) (is_inside p) h.0).1, λ is e. cc)
+
+-- the two are the nodes of one schema
+abbrev AreOfOne : Node → Node → Type 0
+AreOfOne N M = (root : Bool) × (s : Data) × AreNodesOf root N s × AreNodesOf root M s
+
+turned : (N M : Node) → AreOfOne N M → AreOfOne M N
+turned N M h = (h.0, h.1, h.3, h.2)
+
+here : (root : Bool) (N : Node) (s : Data) → AreNodesOf root N s → IsNodeHere N s × AreFieldsHere N s
+here root N s h =
+    let first = h.each [] s (refl, λ is e. e) refl in
+    subst (λ M. IsNodeHere M s × AreFieldsHere M s) (sym (same_Some N first.0 first.1)) (first.2, first.3)
+
+nodes_below : (root : Bool) (N M : Node) (s d : Data) (step : Step) → AreNodesOf root N s → IsNodePlace root (step ∷ []) → node_below N step ≡ Some M
     → schema_by s step ≡ Some d → AreNodesOf false M d
-nodes_below whole N M s step d h place leads by = record {
+nodes_below root N M s d step h place leads by = record {
   ordered = ordered_below N M step h.ordered leads;
   each = λ p t below found.
-      let got = h.each (step ∷ p) t (place_more whole step p place below) (rw by found) in
+      let got = h.each (step ∷ p) t (place_more root step p place below) (rw by found) in
       (got.0, rw leads at got.1, got.2, got.3);
   only = λ p K at_p.
       let got = h.only (step ∷ p) K (rw leads at_p) in
-      (((or_parts (is_junctor step) (is_inside p) got.0.0).1, λ is e. cc), (got.1.0, rw by at got.1.1));
+      (place_rest root step p got.0, (got.1.0, rw by at got.1.1));
 }
 
-below_schema : (whole : Bool) (N M : Node) (s : Data) (step : Step) → AreNodesOf whole N s → node_below N step ≡ Some M
-    → (d : Data) × IsNodePlace whole (step ∷ []) × (schema_by s step ≡ Some d)
-below_schema whole N M s step h leads =
-    let first = h.only (step ∷ []) M (rw leads refl) in
-    option_and_then_some (λ t. Some t) (schema_by s step) first.1.0 first.1.1 (λ d by same. (d, first.0, by))
-
-below_node : (whole : Bool) (N : Node) (s : Data) (step : Step) (d : Data) → AreNodesOf whole N s → IsNodePlace whole (step ∷ []) → schema_by s step ≡ Some d
-    → (M : Node) × (node_below N step ≡ Some M)
-below_node whole N s step d h place by =
-    let first = h.each (step ∷ []) d place (rw by refl) in
-    option_and_then_some (λ K. Some K) (node_below N step) first.0 first.1 (λ M leads same. (M, leads))
-
--- where a step leads in one tree, it leads in the other, and to nodes of one schema
-both_below : (whole : Bool) (N M K : Node) (s : Data) (step : Step) → AreNodesOf whole N s → AreNodesOf whole M s → node_below N step ≡ Some K
-    → (L : Node) × (node_below M step ≡ Some L) × (d : Data) × AreNodesOf false K d × AreNodesOf false L d
-both_below whole N M K s step h j leads =
-    let d = below_schema whole N K s step h leads in
-    let L = below_node whole M s step d.0 j d.1 d.2 in
-    (L.0, L.1, d.0, nodes_below whole N K s step d.0 h d.1 leads d.2, nodes_below whole M L.0 s step d.0 j d.1 L.1 d.2)
+-- where a step leads in one tree, it leads in the other
+both_below : (N M K : Node) (step : Step) → AreOfOne N M → node_below N step ≡ Some K → (L : Node) × (node_below M step ≡ Some L) × AreOfOne K L
+both_below N M K step both leads =
+    let s = both.1 in
+    let first = both.2.only (step ∷ []) K (rw leads refl) in
+    option_and_then_some (λ t. Some t) (schema_by s step) first.1.0 first.1.1 (λ d by same_d.
+        let other = both.3.each (step ∷ []) d first.0 (rw by refl) in
+        option_and_then_some (λ J. Some J) (node_below M step) other.0 other.1 (λ L there same_L.
+            (L, there, (false, d, nodes_below both.0 N K s d step both.2 first.0 leads by, nodes_below both.0 M L s d step both.3 first.0 there by))))
 
 -- ---- fields one by one
 
 -- each field has one in the other list that is the same but for the nodes, which are nodes of one schema
 abbrev AreAlike : Fields → Fields → Type 0
 AreAlike fs gs = (k : List ℕ) (f : Declared) → field_at k fs ≡ Some f
-    → (g : Declared) × (field_at k gs ≡ Some g) × (f.required ≡ g.required) × (f.default ≡ g.default) × (d : Data) × AreNodesOf false f.node d × AreNodesOf false g.node d
+    → (g : Declared) × (field_at k gs ≡ Some g) × (f.required ≡ g.required) × (f.default ≡ g.default) × AreOfOne f.node g.node
 
 after_first : (k l : List ℕ) (N : Node) (r : Bool) (e : Option Data) (fs : Fields) (f : Declared) → AreOrdered (field l N r e fs) → field_at k (field l N r e fs) ≡ Some f
     → bytes_eq k l ≡ false → text_cmp l k ≡ Less
@@ -188,67 +190,58 @@ rest_alike : (k l : List ℕ) (N M : Node) (r q : Bool) (e o : Option Data) (fs 
 rest_alike k l N M r q e o fs gs same u a m f found =
     let other : bytes_eq m k ≡ false = later_name m k (before_field k fs m f u.1 u.2 found) in
     let g = a m f (field_later m k N r e fs other ∙ found) in
-    (g.0, sym (field_later m l M q o gs (subst (λ n. bytes_eq m n ≡ false) same other)) ∙ g.1, g.2, g.3, g.4, g.5, g.6)
+    (g.0, sym (field_later m l M q o gs (subst (λ n. bytes_eq m n ≡ false) same other)) ∙ g.1, g.2, g.3, g.4)
 
-
-fields_alike : (whole : Bool) (n m : Bool) (d e : Option (List ℕ)) (fs gs : Fields) (p q : Bool) (t u : MapType) (b c : Bounds) (s : Data)
-    → AreNodesOf whole (node n d (object fs p t b)) s → AreNodesOf whole (node m e (object gs q u c)) s → AreAlike fs gs
-fields_alike whole n m d e fs gs p q t u b c s h j = λ k f found.
+fields_alike : (n m : Bool) (d e : Option (List ℕ)) (fs gs : Fields) (p q : Bool) (t u : MapType) (b c : Bounds)
+    → AreOfOne (node n d (object fs p t b)) (node m e (object gs q u c)) → AreAlike fs gs
+fields_alike n m d e fs gs p q t u b c both = λ k f found.
     let N = node n d (object fs p t b) in
     let M = node m e (object gs q u c) in
-    let two = both_below whole N M f.node s (property k) h j (rw found refl) in
-    let g = found_node (field_at k gs) two.0 two.1 in
-    let x = (here whole N s h).1 k f found in
-    let y = (here whole M s j).1 k g.0 g.1 in
-    (g.0, g.1, x.0 ∙ sym y.0, x.1 ∙ sym y.1, two.2, two.3, subst (λ K. AreNodesOf false K two.2) (sym g.2) two.4)
+    let below = both_below N M f.node (property k) both (rw found refl) in
+    let g = found_node (field_at k gs) below.0 below.1 in
+    let x = (here both.0 N both.1 both.2).1 k f found in
+    let y = (here both.0 M both.1 both.3).1 k g.0 g.1 in
+    (g.0, g.1, x.0 ∙ sym y.0, x.1 ∙ sym y.1, subst (AreOfOne f.node) (sym g.2) below.2)
 
 -- ---- the whole
 
 mutual
-  pub same_node : (N M : Node) (whole : Bool) (s : Data) → AreNodesOf whole N s → AreNodesOf whole M s → N ≡ M
-  same_node (node n d A) (node m e B) whole s h j =
-      let x = (here whole (node n d A) s h).0 in
-      let y = (here whole (node m e B) s j).0 in
-      let kinds_agree = one_kind s (sort_kind A) (sort_kind B) x.2 y.2 in
-      let scalars_agree = sym (scalar_kind_is A) ∙ (ap scalar_of kinds_agree ∙ scalar_kind_is B) in
-      λ i. node ((x.0 ∙ sym y.0) i) ((x.1 ∙ sym y.1) i) (same_sort A B n m d e whole s kinds_agree scalars_agree h j i)
+  same_node : (N M : Node) → AreOfOne N M → N ≡ M
+  same_node (node n d A) (node m e B) both =
+      let s = both.1 in
+      let x = (here both.0 (node n d A) s both.2).0 in
+      let y = (here both.0 (node m e B) s both.3).0 in
+      let kind_is = one_kind s (sort_kind A) (sort_kind B) x.2 y.2 in
+      let scalar_is = sym (scalar_kind_is A) ∙ (ap scalar_of kind_is ∙ scalar_kind_is B) in
+      λ i. node ((x.0 ∙ sym y.0) i) ((x.1 ∙ sym y.1) i) (same_sort A B n m d e s kind_is scalar_is x.3 y.3 both i)
 
-  same_sort : (A B : Sort) (n m : Bool) (d e : Option (List ℕ)) (whole : Bool) (s : Data) → sort_kind A ≡ sort_kind B → scalar_in A ≡ scalar_in B
-      → AreNodesOf whole (node n d A) s → AreNodesOf whole (node m e B) s → A ≡ B
-  same_sort (scalar k v) (scalar l w) n m d e whole s kind_is scalar_is h j =
-      let x = (here whole (node n d (scalar k v)) s h).0 in
-      let y = (here whole (node m e (scalar l w)) s j).0 in
-      λ i. scalar (same_Some k l scalar_is i) (same_validations v w s x.3 y.3 i)
-  same_sort (object fs p t b) (object gs q u c) n m d e whole s kind_is scalar_is h j =
-      let x = (here whole (node n d (object fs p t b)) s h).0 in
-      let y = (here whole (node m e (object gs q u c)) s j).0 in
-      let fields_are = same_fields fs gs h.ordered j.ordered (fields_alike whole n m d e fs gs p q t u b c s h j) (fields_alike whole m n e d gs fs q p u t c b s j h) in
-      λ i. object (fields_are i) ((x.3.0 ∙ sym y.3.0) i) ((x.3.1 ∙ sym y.3.1) i) (same_bounds b c s _ _ x.3.2 y.3.2 i)
-  same_sort (map N t b) (map M u c) n m d e whole s kind_is scalar_is h j =
-      let x = (here whole (node n d (map N t b)) s h).0 in
-      let y = (here whole (node m e (map M u c)) s j).0 in
-      let two = both_below whole (node n d (map N t b)) (node m e (map M u c)) N s map_value h j refl in
-      let other = subst (λ K. AreNodesOf false K two.2) (sym (same_Some M two.0 two.1)) two.4 in
-      λ i. map (same_node N M false two.2 two.3 other i) ((x.3.0 ∙ sym y.3.0) i) (same_bounds b c s _ _ x.3.1 y.3.1 i)
-  same_sort (list N t k b) (list M u l c) n m d e whole s kind_is scalar_is h j =
-      let x = (here whole (node n d (list N t k b)) s h).0 in
-      let y = (here whole (node m e (list M u l c)) s j).0 in
-      let two = both_below whole (node n d (list N t k b)) (node m e (list M u l c)) N s items h j refl in
-      let other = subst (λ K. AreNodesOf false K two.2) (sym (same_Some M two.0 two.1)) two.4 in
-      λ i. list (same_node N M false two.2 two.3 other i) ((x.3.0 ∙ sym y.3.0) i) ((x.3.1 ∙ sym y.3.1) i) (same_bounds b c s _ _ x.3.2 y.3.2 i)
-  same_sort open_ open_ n m d e whole s kind_is scalar_is h j = refl
-  same_sort A B n m d e whole s kind_is scalar_is h j = cc
+  same_sort : (A B : Sort) (n m : Bool) (d e : Option (List ℕ)) (s : Data) → sort_kind A ≡ sort_kind B → scalar_in A ≡ scalar_in B → HasKeywords A s → HasKeywords B s
+      → AreOfOne (node n d A) (node m e B) → A ≡ B
+  same_sort (scalar k v) (scalar l w) n m d e s kind_is scalar_is x y both = λ i. scalar (same_Some k l scalar_is i) (same_validations v w s x y i)
+  same_sort (object fs p t b) (object gs q u c) n m d e s kind_is scalar_is x y both =
+      let alike = fields_alike n m d e fs gs p q t u b c both in
+      let back = fields_alike m n e d gs fs q p u t c b (turned (node n d (object fs p t b)) (node m e (object gs q u c)) both) in
+      λ i. object (same_fields fs gs both.2.ordered both.3.ordered alike back i) ((x.0 ∙ sym y.0) i) ((x.1 ∙ sym y.1) i) (same_bounds b c s _ _ x.2 y.2 i)
+  same_sort (map N t b) (map M u c) n m d e s kind_is scalar_is x y both =
+      let below = both_below (node n d (map N t b)) (node m e (map M u c)) N map_value both refl in
+      λ i. map (same_node N M (subst (AreOfOne N) (sym (same_Some M below.0 below.1)) below.2) i) ((x.0 ∙ sym y.0) i) (same_bounds b c s _ _ x.1 y.1 i)
+  same_sort (list N t k b) (list M u l c) n m d e s kind_is scalar_is x y both =
+      let below = both_below (node n d (list N t k b)) (node m e (list M u l c)) N items both refl in
+      λ i. list (same_node N M (subst (AreOfOne N) (sym (same_Some M below.0 below.1)) below.2) i) ((x.0 ∙ sym y.0) i) ((x.1 ∙ sym y.1) i) (same_bounds b c s _ _ x.2 y.2 i)
+  same_sort open_ open_ n m d e s kind_is scalar_is x y both = refl
+  same_sort A B n m d e s kind_is scalar_is x y both = cc
 
   same_fields : (fs gs : Fields) → AreOrdered fs → AreOrdered gs → AreAlike fs gs → AreAlike gs fs → fs ≡ gs
   same_fields no_fields no_fields u v a b = refl
-  same_fields no_fields (field l M q o gs) u v a b = let f = b l (record { node = M; required = q; default = o }) (field_first l l M q o gs (own_name l)) in let is = f.1 in cc
-  same_fields (field k N r e fs) no_fields u v a b = let g = a k (record { node = N; required = r; default = e }) (field_first k k N r e fs (own_name k)) in let is = g.1 in cc
+  same_fields no_fields (field l M q o gs) u v a b = let is = (b l (record { node = M; required = q; default = o }) (field_first l l M q o gs (own_name l))).1 in cc
+  same_fields (field k N r e fs) no_fields u v a b = let is = (a k (record { node = N; required = r; default = e }) (field_first k k N r e fs (own_name k))).1 in cc
   same_fields (field k N r e fs) (field l M q o gs) u v a b =
       let same = same_first k l N M r q e o fs gs u v a b in
       let g = a k (record { node = N; required = r; default = e }) (field_first k k N r e fs (own_name k)) in
       let first = same_Some g.0 (record { node = M; required = q; default = o }) (sym g.1 ∙ field_first k l M q o gs (subst (λ n. bytes_eq k n ≡ true) same (own_name k))) in
-      let node_is = same_node N M false g.4 g.5 (subst (λ f. AreNodesOf false f.node g.4) first g.6) in
-      let required_is = g.2 ∙ ap (λ f. f.required) first in
-      let default_is = g.3 ∙ ap (λ f. f.default) first in
+      let node_is = same_node N M (subst (λ f. AreOfOne N f.node) first g.4) in
       let rest = same_fields fs gs u.2 v.2 (rest_alike k l N M r q e o fs gs same u a) (rest_alike l k M N q r o e gs fs (sym same) v b) in
-      λ i. field (same i) (node_is i) (required_is i) (default_is i) (rest i)
+      λ i. field (same i) (node_is i) ((g.2 ∙ ap (λ f. f.required) first) i) ((g.3 ∙ ap (λ f. f.default) first) i) (rest i)
+
+pub one_node : (N M : Node) (s : Data) (root : Bool) → AreNodesOf root N s → AreNodesOf root M s → N ≡ M
+one_node N M s root h j = same_node N M (root, s, h, j)

@@ -8,6 +8,6 @@ ghost use Rattle.schema.specs.Nodes.Shape.{IsNodeOf};
 /// A law, and nothing that runs: the node that `shape` reads has, level by level, just the nodes of the places of the
 /// schema, where keywords that hold schemas stand in schemas of their kind alone; and a schema has one tree of nodes at most.
 pub fn nodes_are_by_place()
-    ensures nodes { (N : Node) (s : Data) (whole : Bool) → IsTree s → HaveOwnParts whole s → IsNode N → IsNodeOf whole N s → AreNodesOf whole N s }
-    ensures unique { (N M : Node) (s : Data) (whole : Bool) → AreNodesOf whole N s → AreNodesOf whole M s → N ≡ M }
+    ensures nodes { (N : Node) (s : Data) (root : Bool) → IsTree s → HaveOwnParts root s → IsNode N → IsNodeOf root N s → AreNodesOf root N s }
+    ensures unique { (N M : Node) (s : Data) (root : Bool) → AreNodesOf root N s → AreNodesOf root M s → N ≡ M }
 {}

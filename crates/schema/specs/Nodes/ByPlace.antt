@@ -104,16 +104,16 @@ AreFieldsHere _ s = Unit {0}
 -- A place that has a node is in no branch of a junctor. The body of a resource is judged without `apiVersion`, `kind` and
 -- `metadata`: in the schema of a whole resource these places, and those below them, have no node (this project's own).
 abbrev pub IsNodePlace : Bool → Place → Type 0
-IsNodePlace whole p = (is_inside p ≡ false) × (whole ≡ true → IsEnvelope p → ⊥)
+IsNodePlace root p = (is_inside p ≡ false) × (root ≡ true → IsEnvelope p → ⊥)
 
 -- N is the tree of the nodes of a schema, which is that of a whole resource or not
-pub record AreNodesOf (whole : Bool) (N : Node) (s : Data) : Type 0 where
+pub record AreNodesOf (root : Bool) (N : Node) (s : Data) : Type 0 where
   -- fields stand in the order of their names, each once
   pub ordered : IsNode N
   -- each place that is to have a node has one, as its schema says
-  pub each : (p : Place) (t : Data) → IsNodePlace whole p → schema_at s p ≡ Some t → (M : Node) × (node_at N p ≡ Some M) × IsNodeHere M t × AreFieldsHere M t
+  pub each : (p : Place) (t : Data) → IsNodePlace root p → schema_at s p ≡ Some t → (M : Node) × (node_at N p ≡ Some M) × IsNodeHere M t × AreFieldsHere M t
   -- and there is no other node
-  pub only : (p : Place) (M : Node) → node_at N p ≡ Some M → IsNodePlace whole p × IsPlace s p
+  pub only : (p : Place) (M : Node) → node_at N p ≡ Some M → IsNodePlace root p × IsPlace s p
 
 -- ---- schemas whose places all have nodes
 
@@ -124,4 +124,4 @@ pub record HasOwnParts (s : Data) : Type 0 where
   pub items : HasObject s (codes "items") → IsOfKind s kinds.list
 
 abbrev pub HaveOwnParts : Bool → Data → Type 0
-HaveOwnParts whole s = (p : Place) (t : Data) → IsNodePlace whole p → schema_at s p ≡ Some t → HasOwnParts t
+HaveOwnParts root s = (p : Place) (t : Data) → IsNodePlace root p → schema_at s p ≡ Some t → HasOwnParts t
