@@ -19,8 +19,8 @@ use Rattle.schema.specs.Nodes.Shape.{is_declared, declared_of, IsNodeOf, AreBelo
 use Rattle.schema.proofs.KindLemmas.{one_kind, kind_object}
 use Rattle.schema.proofs.EventParts.{object_only}
 use Rattle.schema.proofs.EventPlaces.{part_tree}
-use Rattle.schema.proofs.ShapeLemmas.{declared_is_object, declared_is_other}
-use Rattle.schema.proofs.OneNode.{scalar_of, scalar_in, scalar_kind_is, found_node, place_more, place_first, place_rest}
+use Rattle.schema.proofs.ShapeLemmas.{place_more, place_first, place_rest, declared_is_object, declared_is_other}
+use Rattle.schema.proofs.OneNode.{scalar_of, scalar_in, scalar_kind_is, found_node}
 
 -- ---- what a step leads to
 

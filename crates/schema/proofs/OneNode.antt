@@ -1,6 +1,6 @@
 -- A schema has one tree of nodes at most.
 use Rattle.std.proofs.Common.{◌≡◌, ℕ, List, [], ◌∷◌, Bool, true, false, Option, Some, None, refl, sym, ap, ◌∙◌, subst, inl, inr}
-use Rattle.std.specs.Prelude.{option_map, ◌||◌}
+use Rattle.std.specs.Prelude.{option_map}
 use Rattle.std.specs.Str.{bytes_eq}
 use Rattle.std.specs.declared.cmp.Ordering.TheVariants.{Less}
 use Rattle.std.proofs.lemmas.Option.{option_and_then_some, same_Some}
@@ -8,7 +8,7 @@ use Rattle.std.proofs.lemmas.Cmp.{nat_list_cmp_total}
 use Rattle.jtree.specs.Data.{Data, Items, no_items, item}
 use Rattle.jtree.specs.Order.{text_cmp}
 use Rattle.jtree.specs.Internal.Lookups.{bool_cases, same_name, own_name, later_name, earlier_name, not_itself}
-use Rattle.schema.specs.Document.Places.{Step, Place, property, map_value, items, schema_by, is_junctor, is_inside, IsEnvelope}
+use Rattle.schema.specs.Document.Places.{Step, property, map_value, items, schema_by}
 use Rattle.schema.specs.Rules.Kinds as kinds
 use Rattle.schema.specs.Rules.Kinds.{IsOfKind}
 use Rattle.schema.specs.Nodes.Validations.{AreConstraintsOf, AreValidationsOf, AreBranchesOf}
@@ -20,6 +20,7 @@ use Rattle.schema.specs.declared.node.ScalarKind.{ScalarKind}
 use Rattle.schema.specs.declared.node.ScalarKind.TheVariants as scalar_kind
 use Rattle.schema.specs.declared.node.MapType.{MapType}
 use Rattle.schema.proofs.KindLemmas.{one_kind}
+use Rattle.schema.proofs.ShapeLemmas.{place_more, place_rest}
 
 -- ---- sorts by their kinds
 
@@ -92,10 +93,6 @@ before_field k (field m N r e fs) l f before ordered at = elim (bool_cases (byte
 
 -- ---- nodes one step below
 
-or_parts : (a b : Bool) → (a || b) ≡ false → (a ≡ false) × (b ≡ false)
-or_parts true b h = cc
-or_parts false b h = (refl, h)
-
 pub found_node : (o : Option Declared) (M : Node) → option_map (λ f. f.node) o ≡ Some M → (f : Declared) × (o ≡ Some f) × (f.node ≡ M)
 found_node None M h = cc
 found_node (Some f) M h = (f, refl, same_Some f.node M h)
@@ -114,19 +111,6 @@ ordered_below (node n d (object fs p t b)) M (property k) ordered leads =
 ordered_below (node n d (map N t b)) M map_value ordered leads = subst IsNode (same_Some N M leads) ordered
 ordered_below (node n d (list N t k b)) M items ordered leads = subst IsNode (same_Some N M leads) ordered
 ordered_below _ _ _ ordered leads = cc
-
-envelope_step : (step : Step) (p q : Place) → IsEnvelope (step ∷ p) → IsEnvelope (step ∷ q)
-envelope_step (property k) p q h = h
-envelope_step _ p q h = h
-
-pub place_more : (root : Bool) (step : Step) (p : Place) → IsNodePlace root (step ∷ []) → IsNodePlace false p → IsNodePlace root (step ∷ p)
-place_more root step p first rest = (rw ((or_parts (is_junctor step) false first.0).0) rest.0, λ is e. first.1 is (envelope_step step p [] e))
-
-pub place_first : (root : Bool) (step : Step) (p : Place) → IsNodePlace root (step ∷ p) → IsNodePlace root (step ∷ [])
-place_first root step p h = (rw ((or_parts (is_junctor step) (is_inside p) h.0).0) refl, λ is e. h.1 is (envelope_step step [] p e))
-
-pub place_rest : (root : Bool) (step : Step) (p : Place) → IsNodePlace root (step ∷ p) → IsNodePlace false p
-place_rest root step p h = ((or_parts (is_junctor step) (is_inside p) h.0).1, λ is e. cc)
 
 -- the two are the nodes of one schema
 abbrev AreOfOne : Node → Node → Type 0

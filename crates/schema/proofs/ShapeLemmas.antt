@@ -18,30 +18,40 @@ use Rattle.schema.specs.Document.Texts.{is_among}
 use Rattle.schema.specs.Document.Raw.{HasObject}
 use Rattle.schema.specs.Rules.Kinds as kinds
 use Rattle.schema.specs.Rules.Kinds.{IsOfKind, then_map}
-use Rattle.schema.specs.Document.Places.{property, map_value, items, schema_by, schema_at, IsEnvelopeName}
+use Rattle.schema.specs.Document.Places.{Step, Place, property, map_value, items, schema_by, schema_at, is_junctor, is_inside, IsEnvelopeName, IsEnvelope}
 use Rattle.schema.specs.Nodes.Keywords.{texts_of}
 use Rattle.schema.specs.Nodes.Node.{Fields, no_fields, field, IsNode, IsBeforeFields, AreOrdered}
 use Rattle.schema.specs.Nodes.View.{node_of, fields_of}
+use Rattle.schema.specs.Nodes.ByPlace.{IsNodePlace}
 use Rattle.schema.specs.Nodes.Shape.{HasNoNode, IsNodeOf, AreFieldsOf, is_declared, declared_of}
 use Rattle.schema.specs.Internal.Building.{HasNodes, HaveNodes, AreNodes}
 use Rattle.schema.specs.declared.node.Field.{Field}
 
 -- ---- places one step below
 
+or_parts : (a b : Bool) → (a || b) ≡ false → (a ≡ false) × (b ≡ false)
+or_parts true b h = cc
+or_parts false b h = (refl, h)
+
+envelope_step : (step : Step) (p q : Place) → IsEnvelope (step ∷ p) → IsEnvelope (step ∷ q)
+envelope_step (property k) p q h = h
+envelope_step _ p q h = h
+
+pub place_more : (root : Bool) (step : Step) (p : Place) → IsNodePlace root (step ∷ []) → IsNodePlace false p → IsNodePlace root (step ∷ p)
+place_more root step p first rest = (rw ((or_parts (is_junctor step) false first.0).0) rest.0, λ is e. first.1 is (envelope_step step p [] e))
+
+pub place_first : (root : Bool) (step : Step) (p : Place) → IsNodePlace root (step ∷ p) → IsNodePlace root (step ∷ [])
+place_first root step p h = (rw ((or_parts (is_junctor step) (is_inside p) h.0).0) refl, λ is e. h.1 is (envelope_step step [] p e))
+
+pub place_rest : (root : Bool) (step : Step) (p : Place) → IsNodePlace root (step ∷ p) → IsNodePlace false p
+place_rest root step p h = ((or_parts (is_junctor step) (is_inside p) h.0).1, λ is e. cc)
+
 pub has_node : (root : Bool) (s : Data) → HasNodes root s → HasNoNode s → ⊥
-has_node root s h lacks = h [] refl (λ is e. e) (s, refl, lacks)
+has_node root s h lacks = h [] (refl, λ is e. e) (s, refl, lacks)
 
-list_below : (root : Bool) (s d : Data) → HasNodes root s → schema_by s items ≡ Some d → HasNodes false d
-list_below root s d h by p outside other at =
-    h (items ∷ p) outside (λ is e. e) (at.0, ap (option_and_then (λ t. schema_at t p)) by ∙ at.1, at.2)
-
-map_below : (root : Bool) (s d : Data) → HasNodes root s → schema_by s map_value ≡ Some d → HasNodes false d
-map_below root s d h by p outside other at =
-    h (map_value ∷ p) outside (λ is e. e) (at.0, ap (option_and_then (λ t. schema_at t p)) by ∙ at.1, at.2)
-
-property_below : (root : Bool) (s d : Data) (k : List ℕ) → HasNodes root s → (root ≡ true → IsEnvelopeName k → ⊥) → schema_by s (property k) ≡ Some d → HasNodes false d
-property_below root s d k h other by p outside none at =
-    h (property k ∷ p) outside other (at.0, ap (option_and_then (λ t. schema_at t p)) by ∙ at.1, at.2)
+nodes_below : (root : Bool) (s d : Data) (step : Step) → HasNodes root s → IsNodePlace root (step ∷ []) → schema_by s step ≡ Some d → HasNodes false d
+nodes_below root s d step h first by p place at =
+    h (step ∷ p) (place_more root step p first place) (at.0, ap (option_and_then (λ t. schema_at t p)) by ∙ at.1, at.2)
 
 -- ---- the items of a list
 
@@ -49,7 +59,7 @@ pub list_has_items : (root : Bool) (s : Data) → HasNodes root s → IsOfKind s
 list_has_items root s h kind none = has_node root s h (inr (kind, λ o. let some = o.1 in cc))
 
 pub list_nodes : (root : Bool) (s d : Data) → HasNodes root s → IsOfKind s kinds.list → under s (codes "items") ≡ Some d → HasNodes false d
-list_nodes root s (tree.object ms) h kind at = list_below root s (tree.object ms) h (rw at refl)
+list_nodes root s (tree.object ms) h kind at = nodes_below root s (tree.object ms) items h (refl, λ is e. e) (rw at refl)
 list_nodes root s _ h kind at = absurd (has_node root s h (inr (kind, λ o. let some = o.1 in cc)))
 
 -- ---- the values of a map
@@ -64,7 +74,7 @@ pub map_nodes : (root : Bool) (s d : Data) → HasNodes root s → IsOfKind s ki
 map_nodes root s d h kind at =
     let o = map_has_object s kind in
     let same : d ≡ tree.object o.0 = same_Some d (tree.object o.0) (sym at ∙ o.1) in
-    subst (HasNodes false) (sym same) (map_below root s (tree.object o.0) h (rw o.1 refl))
+    subst (HasNodes false) (sym same) (nodes_below root s (tree.object o.0) map_value h (refl, λ is e. e) (rw o.1 refl))
 
 -- ---- the properties of an object
 
@@ -84,7 +94,7 @@ property_nodes root s ms h at k d there is =
     let o = declared_is_object root k d is in
     let found : member_at k ms ≡ Some (tree.object o.0) = there ∙ ap Some o.1 in
     let by : schema_by s (property k) ≡ Some (tree.object o.0) = rw (at, found) refl in
-    subst (HasNodes false) (sym o.1) (property_below root s (tree.object o.0) k h (declared_is_other root k d is) by)
+    subst (HasNodes false) (sym o.1) (nodes_below root s (tree.object o.0) (property k) h (refl, declared_is_other root k d is) by)
 
 -- ---- fields
 

@@ -5,17 +5,18 @@ use Rattle.jtree.specs.Path.{member_at, under}
 use Rattle.jtree.specs.View.{data_of}
 use Rattle.jtree.specs.declared.value.Member.{Member}
 use Rattle.schema.specs.Document.Texts.{is_among}
-use Rattle.schema.specs.Document.Places.{Place, is_inside, IsEnvelope}
+use Rattle.schema.specs.Document.Places.{Place}
 use Rattle.schema.specs.Rules.Broken.{At}
 use Rattle.schema.specs.Nodes.Keywords.{texts_under}
 use Rattle.schema.specs.Nodes.Node.{Fields, no_fields, field, IsNode}
 use Rattle.schema.specs.Nodes.View.{node_of}
+use Rattle.schema.specs.Nodes.ByPlace.{IsNodePlace}
 use Rattle.schema.specs.Nodes.Shape.{HasNoNode, IsNodeOf, is_declared}
 use Rattle.schema.specs.declared.node.Field.{Field}
 
 -- no place that has to have a node is without one
 abbrev pub HasNodes : Bool → Data → Type 0
-HasNodes root s = (p : Place) → is_inside p ≡ false → (root ≡ true → IsEnvelope p → ⊥) → At s p HasNoNode → ⊥
+HasNodes root s = (p : Place) → IsNodePlace root p → At s p HasNoNode → ⊥
 
 abbrev pub HaveNodes : Bool → Members → Type 0
 HaveNodes root ms = (k : List ℕ) (d : Data) → member_at k ms ≡ Some d → is_declared root k d ≡ true → HasNodes false d

@@ -6,7 +6,7 @@ use Rattle.schema.proofs.shaping.shape.Goals as goal
 -- no place lacks a node
 pub read_node-requires : goal.read_node-requires
 read_node-requires c =
-    subst (HasNodes true) (sym c.tree.ensures.data) (λ p outside other at. c.first_without_node.ensures.none (c.in_ok-pointer.was ∙ ap Ok c.in_default.is) p (outside, other refl, at))
+    subst (HasNodes true) (sym c.tree.ensures.data) (λ p place at. c.first_without_node.ensures.none (c.in_ok-pointer.was ∙ ap Ok c.in_default.is) p (place.0, place.1 refl, at))
 
 pub returns-clause-whole : goal.returns-clause-whole
 returns-clause-whole c = c.first_without_node.ensures.none (c.in_ok-pointer.was ∙ ap Ok c.in_default.is)
