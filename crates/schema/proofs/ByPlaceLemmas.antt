@@ -13,13 +13,13 @@ use Rattle.schema.specs.Document.Places.{Step, Place, property, map_value, items
 use Rattle.schema.specs.Rules.Kinds as kinds
 use Rattle.schema.specs.Rules.Kinds.{IsOfKind}
 use Rattle.schema.specs.Nodes.Keywords.{members_in, members_under, texts_under}
-use Rattle.schema.specs.Nodes.Node.{Node, node, Sort, object, map, list, Fields, no_fields, field, IsNode}
+use Rattle.schema.specs.Nodes.Node.{Node, node, Sort, object, map, list, Fields, no_fields, field}
 use Rattle.schema.specs.Nodes.ByPlace.{sort_kind, IsNodeHere, AreFieldsHere, Declared, field_at, node_below, node_at, IsNodePlace, AreNodesOf, HasOwnParts, HaveOwnParts}
 use Rattle.schema.specs.Nodes.Shape.{is_declared, declared_of, IsNodeOf, AreBelow, AreFieldsOf}
 use Rattle.schema.proofs.KindLemmas.{one_kind, kind_object}
 use Rattle.schema.proofs.EventParts.{object_only}
 use Rattle.schema.proofs.EventPlaces.{part_tree}
-use Rattle.schema.proofs.ShapeLemmas.{place_more, place_first, place_rest, declared_is_object, declared_is_other}
+use Rattle.schema.proofs.ShapeLemmas.{place_more, place_first, place_rest, declared_is_object, declared_is_other, properties_tree, node_ordered}
 use Rattle.schema.proofs.OneNode.{scalar_of, scalar_in, scalar_kind_is, found_node}
 
 -- ---- what a step leads to
@@ -76,13 +76,6 @@ kept_is root k (Some e) d h = elim (bool_cases (is_declared root k e)) [
   | inl has ↦ let same = same_Some e d (rw has at h) in (ap Some same, subst (λ x. is_declared root k x ≡ true) same has)
   | inr lacks ↦ let none = rw lacks at h in absurd (cc)
 ]
-
-members_tree : (o : Option Data) → ((d : Data) → o ≡ Some d → IsTree d) → AreMembers (members_in o)
-members_tree (Some (tree.object ms)) h = h (tree.object ms) refl
-members_tree _ h = tt
-
-properties_tree : (s : Data) → IsTree s → AreMembers (members_under s (codes "properties"))
-properties_tree s o = members_tree (under s (codes "properties")) (λ d is. part_tree (name (codes "properties") ∷ []) s d o (rw is refl))
 
 and_false : (a b : Bool) → (a ≡ true → b ≡ true → ⊥) → not (a && b) ≡ true
 and_false true true h = absurd (h refl refl)
@@ -239,9 +232,9 @@ only_place (step ∷ p) root N M s o is leads =
         let got = only_place p false K M d.0 (schema_tree s d.0 step o d.2) d.3 rest in
         (place_more root step p d.1 got.0, (got.1.0, rw d.2 got.1.1)))
 
-pub nodes_by_place : (N : Node) (s : Data) (root : Bool) → IsTree s → HaveOwnParts root s → IsNode N → IsNodeOf root N s → AreNodesOf root N s
-nodes_by_place N s root o own ordered is = record {
-  ordered = ordered;
+pub nodes_by_place : (N : Node) (s : Data) (root : Bool) → IsTree s → HaveOwnParts root s → IsNodeOf root N s → AreNodesOf root N s
+nodes_by_place N s root o own is = record {
+  ordered = node_ordered N root s o is;
   each = λ p t. each_place p root N s t o own is;
   only = λ p M. only_place p root N M s o is;
 }

@@ -1,11 +1,11 @@
 -- The schemas below one whose places have nodes have nodes, and the fields of properties.
-use Rattle.std.proofs.Common.{◌≡◌, ◌<◌, ◌+◌, ℕ, List, [], ◌∷◌, ◌++◌, length, get_or, take, drop, Bool, true, false, Some, None, refl, sym, ap, ◌∙◌, subst, inl, inr}
+use Rattle.std.proofs.Common.{◌≡◌, ◌<◌, ◌+◌, ℕ, List, [], ◌∷◌, ◌++◌, length, get_or, take, drop, Bool, true, false, Option, Some, None, refl, sym, ap, ◌∙◌, subst, inl, inr}
 use Rattle.std.specs.Prelude.{option_and_then, option_map, codes, ◌||◌}
 use Rattle.std.specs.Str.{bytes_eq}
 use Rattle.std.proofs.lemmas.Option.{same_Some}
 use Rattle.std.proofs.lemmas.List.{take-append-drop, drop_more}
 use Rattle.std.specs.declared.cmp.Ordering.TheVariants.{Less}
-use Rattle.jtree.specs.Data.{Data, Items, Members, no_members, member, IsNameBefore, AreMembers, depth, members_depth}
+use Rattle.jtree.specs.Data.{Data, Items, Members, no_members, member, IsNameBefore, IsTree, AreMembers}
 use Rattle.jtree.specs.Data as tree
 use Rattle.jtree.specs.Kind.{is_object}
 use Rattle.jtree.specs.Internal.Lookups.{bool_cases, IsNameBefore-trans, member_first, member_tail}
@@ -19,13 +19,14 @@ use Rattle.schema.specs.Document.Raw.{HasObject}
 use Rattle.schema.specs.Rules.Kinds as kinds
 use Rattle.schema.specs.Rules.Kinds.{IsOfKind, then_map}
 use Rattle.schema.specs.Document.Places.{Step, Place, property, map_value, items, schema_by, schema_at, is_junctor, is_inside, IsEnvelopeName, IsEnvelope}
-use Rattle.schema.specs.Nodes.Keywords.{texts_of}
-use Rattle.schema.specs.Nodes.Node.{Fields, no_fields, field, IsNode, IsBeforeFields, AreOrdered}
+use Rattle.schema.specs.Nodes.Keywords.{members_in, texts_of, members_under, texts_under}
+use Rattle.schema.specs.Nodes.Node.{Node, node, Sort, object, map, list, Fields, no_fields, field, IsNode, IsSort, IsBeforeFields, AreOrdered}
 use Rattle.schema.specs.Nodes.View.{node_of, fields_of}
 use Rattle.schema.specs.Nodes.ByPlace.{IsNodePlace}
-use Rattle.schema.specs.Nodes.Shape.{HasNoNode, IsNodeOf, AreFieldsOf, is_declared, declared_of}
-use Rattle.schema.specs.Internal.Building.{HasNodes, HaveNodes, AreNodes}
+use Rattle.schema.specs.Nodes.Shape.{HasNoNode, IsNodeOf, AreBelow, AreFieldsOf, is_declared, declared_of}
+use Rattle.schema.specs.Internal.Building.{HasNodes, HaveNodes}
 use Rattle.schema.specs.declared.node.Field.{Field}
+use Rattle.schema.proofs.EventPlaces.{under_tree}
 
 -- ---- places one step below
 
@@ -107,11 +108,11 @@ end_fields : (fs : List Field) (f : Field) (names : List (List ℕ)) (ms : Membe
     → IsNodeOf false (node_of f.node) d → f.required ≡ is_among k names → option_map data_of f.default ≡ under d (codes "default")
     → AreFieldsOf (fields_of (fs ++ f ∷ [])) names (ended ms k d)
 unfolding ended
-end_fields [] f names no_members k d h name node required default = (name, node, required, default, tt)
-end_fields [] f names (member l e ms) k d h name node required default = absurd h
-end_fields (g ∷ fs) f names no_members k d h name node required default = absurd h
-end_fields (g ∷ fs) f names (member l e ms) k d h name node required default =
-    (h.0, h.1, h.2, h.3, end_fields fs f names ms k d h.4 name node required default)
+end_fields [] f names no_members k d h name is_node required default = (name, is_node, required, default, tt)
+end_fields [] f names (member l e ms) k d h name is_node required default = absurd h
+end_fields (g ∷ fs) f names no_members k d h name is_node required default = absurd h
+end_fields (g ∷ fs) f names (member l e ms) k d h name is_node required default =
+    (h.0, h.1, h.2, h.3, end_fields fs f names ms k d h.4 name is_node required default)
 
 declared_ended : (root : Bool) (xs : List Member) (m : Member) → is_declared root m.name (data_of m.tree) ≡ true
     → declared_of root (members_of (xs ++ m ∷ [])) ≡ ended (declared_of root (members_of xs)) m.name (data_of m.tree)
@@ -135,9 +136,9 @@ pub push_field : (root : Bool) (fs : List Field) (f : Field) (names : List (List
     → AreFieldsOf (fields_of fs) names (declared_of root (members_of xs)) → f.name ≡ m.name → IsNodeOf false (node_of f.node) (data_of m.tree)
     → f.required ≡ is_among m.name names → option_map data_of f.default ≡ under (data_of m.tree) (codes "default")
     → AreFieldsOf (fields_of (fs ++ f ∷ [])) names (declared_of root (members_of (xs ++ m ∷ [])))
-push_field root fs f names xs m is h name node required default =
+push_field root fs f names xs m is h name is_node required default =
     subst (AreFieldsOf (fields_of (fs ++ f ∷ [])) names) (sym (declared_ended root xs m is))
-    (end_fields fs f names (declared_of root (members_of xs)) m.name (data_of m.tree) h name node required default)
+    (end_fields fs f names (declared_of root (members_of xs)) m.name (data_of m.tree) h name is_node required default)
 
 declared_before : (root : Bool) (k : List ℕ) (ms : Members) → IsNameBefore k ms → AreMembers ms → IsNameBefore k (declared_of root ms)
 declared_before root k no_members before o = tt
@@ -153,21 +154,35 @@ declared_object root (member k d ms) o = elim (bool_cases (is_declared root k d)
   | inr f ↦ rw f (declared_object root ms o.2)
 ]
 
-pub push_nodes : (fs : List Field) (f : Field) → AreNodes (fields_of fs) → IsNode (node_of f.node) → AreNodes (fields_of (fs ++ f ∷ []))
-push_nodes [] f h node = (node, tt)
-push_nodes (g ∷ fs) f h node = (h.0, push_nodes fs f h.1 node)
-
 fields_before : (k l : List ℕ) (fs : Fields) (names : List (List ℕ)) (ms : Members) → k ≡ l → AreFieldsOf fs names ms → IsNameBefore l ms → IsBeforeFields k fs
 fields_before k l no_fields names no_members same h before = tt
 fields_before k l no_fields names (member m d ms) same h before = absurd h
 fields_before k l (field n N r e fs) names no_members same h before = absurd h
 fields_before k l (field n N r e fs) names (member m d ms) same h before = subst (λ x. text_cmp x n ≡ Less) (sym same) (subst (λ x. text_cmp l x ≡ Less) (sym h.0) before)
 
-pub fields_ordered : (fs : Fields) (names : List (List ℕ)) (ms : Members) → AreFieldsOf fs names ms → AreNodes fs → AreMembers ms → AreOrdered fs
-fields_ordered no_fields names no_members h nodes o = tt
-fields_ordered no_fields names (member l d ms) h nodes o = absurd h
-fields_ordered (field k N r e fs) names no_members h nodes o = absurd h
-fields_ordered (field k N r e fs) names (member l d ms) h nodes o = (nodes.0, fields_before k l fs names ms h.0 h.4 o.1, fields_ordered fs names ms h.4 nodes.1 o.2)
+members_tree : (o : Option Data) → ((d : Data) → o ≡ Some d → IsTree d) → AreMembers (members_in o)
+members_tree (Some (tree.object ms)) h = h (tree.object ms) refl
+members_tree _ h = tt
+
+pub properties_tree : (s : Data) → IsTree s → AreMembers (members_under s (codes "properties"))
+properties_tree s o = members_tree (under s (codes "properties")) (λ d is. under_tree s (codes "properties") d o is)
+
+mutual
+  pub node_ordered : (N : Node) (root : Bool) (s : Data) → IsTree s → IsNodeOf root N s → IsNode N
+  node_ordered (node nullable description sort) root s o is = sort_ordered sort root s o is.1
+
+  sort_ordered : (A : Sort) (root : Bool) (s : Data) → IsTree s → AreBelow root A s → IsSort A
+  sort_ordered (object fs preserves type bounds) root s o below =
+      fields_ordered fs (texts_under s (codes "required")) (declared_of root (members_under s (codes "properties"))) below (declared_object root (members_under s (codes "properties")) (properties_tree s o))
+  sort_ordered (map N type bounds) root s o below = node_ordered N false below.0 (under_tree s (codes "additionalProperties") below.0 o below.1) below.2
+  sort_ordered (list N type keys bounds) root s o below = node_ordered N false below.0 (under_tree s (codes "items") below.0 o below.1) below.2
+  sort_ordered _ root s o below = tt
+
+  pub fields_ordered : (fs : Fields) (names : List (List ℕ)) (ms : Members) → AreFieldsOf fs names ms → AreMembers ms → AreOrdered fs
+  fields_ordered no_fields names no_members h o = tt
+  fields_ordered no_fields names (member l d ms) h o = absurd h
+  fields_ordered (field k N r e fs) names no_members h o = absurd h
+  fields_ordered (field k N r e fs) names (member l d ms) h o = (node_ordered N false d o.0 h.1, fields_before k l fs names ms h.0 h.4 o.1, fields_ordered fs names ms h.4 o.2)
 
 -- ---- members and texts by their places
 

@@ -172,9 +172,7 @@ fn read_fields(
         if !is_declared(property, root) {
             continue;
         }
-        let field = read_field(alloc, schema, property)?;
-        field.node.reveal_invariant();
-        fields.push(field)?;
+        fields.push(read_field(alloc, schema, property)?)?;
     }
     Ok(Fields { fields })
 }

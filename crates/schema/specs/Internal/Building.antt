@@ -8,7 +8,6 @@ use Rattle.schema.specs.Document.Texts.{is_among}
 use Rattle.schema.specs.Document.Places.{Place}
 use Rattle.schema.specs.Rules.Broken.{At}
 use Rattle.schema.specs.Nodes.Keywords.{texts_under}
-use Rattle.schema.specs.Nodes.Node.{Fields, no_fields, field, IsNode}
 use Rattle.schema.specs.Nodes.View.{node_of}
 use Rattle.schema.specs.Nodes.ByPlace.{IsNodePlace}
 use Rattle.schema.specs.Nodes.Shape.{HasNoNode, IsNodeOf, is_declared}
@@ -27,8 +26,3 @@ pub record IsFieldOf (f : Field) (schema : Data) (property : Member) : Type 0 wh
   pub node : IsNodeOf false (node_of f.node) (data_of property.tree)
   pub required : f.required ≡ is_among property.name (texts_under schema (codes "required"))
   pub default : option_map data_of f.default ≡ under (data_of property.tree) (codes "default")
-
--- each node has its fields in order
-abbrev pub AreNodes : Fields → Type 0
-AreNodes no_fields = Unit {0}
-AreNodes (field k N required default fs) = IsNode N × AreNodes fs
