@@ -219,18 +219,18 @@ each_place [] root N s t o own is place found =
     (N, refl, subst (IsNodeHere N) same (itself_here root N s is), subst (AreFieldsHere N) same (fields_here root N s o is))
 each_place (step ∷ p) root N s t o own is place found =
     option_and_then_some (λ x. schema_at x p) (schema_by s step) t found (λ d by rest.
-        let first = place_first root step p place in
-        let M = each_below root N s d step o (own [] s (refl, λ e h. h) refl) is first by in
-        let got = each_place p false M.0 d t (schema_tree s d step o by) (own_below root s d step own first by) M.2 (place_rest root step p place) rest in
-        (got.0, rw M.1 got.1, got.2, got.3))
+    let first = place_first root step p place in
+    let M = each_below root N s d step o (own [] s (refl, λ e h. h) refl) is first by in
+    let got = each_place p false M.0 d t (schema_tree s d step o by) (own_below root s d step own first by) M.2 (place_rest root step p place) rest in
+    (got.0, rw M.1 got.1, got.2, got.3))
 
 only_place : (p : Place) (root : Bool) (N M : Node) (s : Data) → IsTree s → IsNodeOf root N s → node_at N p ≡ Some M → IsNodePlace root p × IsPlace s p
 only_place [] root N M s o is leads = ((refl, λ e h. h), (s, refl))
 only_place (step ∷ p) root N M s o is leads =
     option_and_then_some (λ K. node_at K p) (node_below N step) M leads (λ K below rest.
-        let d = only_below root N K s step o is below in
-        let got = only_place p false K M d.0 (schema_tree s d.0 step o d.2) d.3 rest in
-        (place_more root step p d.1 got.0, (got.1.0, rw d.2 got.1.1)))
+    let d = only_below root N K s step o is below in
+    let got = only_place p false K M d.0 (schema_tree s d.0 step o d.2) d.3 rest in
+    (place_more root step p d.1 got.0, (got.1.0, rw d.2 got.1.1)))
 
 pub nodes_by_place : (N : Node) (s : Data) (root : Bool) → IsTree s → HaveOwnParts root s → IsNodeOf root N s → AreNodesOf root N s
 nodes_by_place N s root o own is = record {

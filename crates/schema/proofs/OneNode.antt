@@ -142,9 +142,9 @@ both_below N M K step both leads =
     let s = both.1 in
     let first = both.2.only (step ∷ []) K (rw leads refl) in
     option_and_then_some (λ t. Some t) (schema_by s step) first.1.0 first.1.1 (λ d by same_d.
-        let other = both.3.each (step ∷ []) d first.0 (rw by refl) in
-        option_and_then_some (λ J. Some J) (node_below M step) other.0 other.1 (λ L there same_L.
-            (L, there, (false, d, nodes_below both.0 N K s d step both.2 first.0 leads by, nodes_below both.0 M L s d step both.3 first.0 there by))))
+    let other = both.3.each (step ∷ []) d first.0 (rw by refl) in
+    option_and_then_some (λ J. Some J) (node_below M step) other.0 other.1 (λ L there same_L.
+    (L, there, (false, d, nodes_below both.0 N K s d step both.2 first.0 leads by, nodes_below both.0 M L s d step both.3 first.0 there by))))
 
 -- ---- fields one by one
 

@@ -22,6 +22,7 @@ use Rattle.schema.specs.declared.node.MapType.TheVariants as map_type
 
 -- ---- a node and the schema of its place
 
+-- the kind of the schemas of a scalar (OpenAPI 3.0, `type`; `x-kubernetes-int-or-string`)
 abbrev pub kind_of : ScalarKind → Kind
 kind_of scalar_kind.Boolean = kinds.boolean
 kind_of scalar_kind.Integer = kinds.integer
@@ -46,6 +47,7 @@ abbrev pub map_type_named : Option (List ℕ) → MapType
 map_type_named None = map_type.Granular
 map_type_named (Some t) = if bytes_eq t (codes "atomic") then map_type.Atomic else map_type.Granular
 
+-- the bounds are those of two keywords (OpenAPI 3.0, `minProperties`, `maxItems` and the like)
 abbrev pub AreBoundsOf : Bounds → Data → List ℕ → List ℕ → Type 0
 AreBoundsOf b s least most = (b.least ≡ count_under s least) × (b.most ≡ count_under s most)
 
@@ -69,12 +71,13 @@ IsNodeHere (node nullable description sort) s =
 
 -- ---- the nodes below a node
 
--- what is declared under a name
+-- what an object node says of a field: its node, whether it is required, and its default
 pub record Declared : Type 0 where
   pub node : Node
   pub required : Bool
   pub default : Option Data
 
+-- the field of a name
 abbrev pub field_at : List ℕ → Fields → Option Declared
 field_at k no_fields = None
 field_at k (field l N required default fs) = if bytes_eq k l then Some (record { node = N; required = required; default = default }) else field_at k fs
@@ -87,6 +90,7 @@ node_below (node nullable description (map N type bounds)) map_value = Some N
 node_below (node nullable description (list N type keys bounds)) items = Some N
 node_below _ _ = None
 
+-- where a list of steps leads
 abbrev pub node_at : Node → Place → Option Node
 node_at N [] = Some N
 node_at N (step ∷ p) = option_and_then (λ M. node_at M p) (node_below N step)
@@ -101,27 +105,30 @@ AreFieldsHere _ s = Unit {0}
 
 -- ---- all nodes
 
--- A place that has a node is in no branch of a junctor. The body of a resource is judged without `apiVersion`, `kind` and
--- `metadata`: in the schema of a whole resource these places, and those below them, have no node (this project's own).
+-- A place that is to have a node is in no branch of a junctor. The body of a resource is judged without `apiVersion`, `kind`
+-- and `metadata`: where the schema is that of a whole resource (root), these places and all below them have no node (this
+-- project's own).
 abbrev pub IsNodePlace : Bool → Place → Type 0
 IsNodePlace root p = (is_inside p ≡ false) × (root ≡ true → IsEnvelope p → ⊥)
 
--- N is the tree of the nodes of a schema, which is that of a whole resource or not
+-- N is the tree of the nodes of a schema
 pub record AreNodesOf (root : Bool) (N : Node) (s : Data) : Type 0 where
   -- fields stand in the order of their names, each once
   pub ordered : IsNode N
   -- each place that is to have a node has one, as its schema says
   pub each : (p : Place) (t : Data) → IsNodePlace root p → schema_at s p ≡ Some t → (M : Node) × (node_at N p ≡ Some M) × IsNodeHere M t × AreFieldsHere M t
-  -- and there is no other node
+  -- no other place has one
   pub only : (p : Place) (M : Node) → node_at N p ≡ Some M → IsNodePlace root p × IsPlace s p
 
 -- ---- schemas whose places all have nodes
 
--- a keyword that holds schemas stands in a schema of the kind that it belongs to alone (this project's own)
+-- keywords that hold schemas stand where the kind has them: `properties` in objects, a schema of values in maps, `items` in
+-- lists (this project's own)
 pub record HasOwnParts (s : Data) : Type 0 where
   pub properties : HasObject s (codes "properties") → IsOfKind s kinds.object
   pub values : HasObject s (codes "additionalProperties") → IsOfKind s kinds.map
   pub items : HasObject s (codes "items") → IsOfKind s kinds.list
 
+-- and so at each place that is to have a node
 abbrev pub HaveOwnParts : Bool → Data → Type 0
 HaveOwnParts root s = (p : Place) (t : Data) → IsNodePlace root p → schema_at s p ≡ Some t → HasOwnParts t

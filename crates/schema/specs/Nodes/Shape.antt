@@ -1,5 +1,5 @@
--- Which node stands for a place of a schema: of its kind, and with its keywords (apiextensions.k8s.io/v1). The body of a
--- resource is judged without `apiVersion`, `kind` and `metadata`, so the root has no field for these (this project's own).
+-- Which node is that of a schema, level by level, as it is read; `nodes_are_by_place` proves that these are the nodes of its
+-- places (`ByPlace.antt`). And what a refusal says (this project's own).
 use Rattle.std.specs.Prelude.{◌≡◌, ◌≢◌, ◌⊎◌, ℕ, List, [], Bool, false, Some, if◌then◌else◌, ◌&&◌, not, string_bytes, codes}
 use Rattle.jtree.specs.Data.{Data, Members, no_members, member}
 use Rattle.jtree.specs.Kind.{is_object}
