@@ -1,12 +1,12 @@
 -- The nodes that are found level by level are those of the places of a schema.
 use Rattle.std.proofs.Common.{◌≡◌, ℕ, List, [], ◌∷◌, Bool, true, false, Option, Some, None, refl, sym, ap, ◌∙◌, subst, inl, inr}
-use Rattle.std.specs.Prelude.{option_and_then, codes, not, ◌&&◌, if◌then◌else◌}
+use Rattle.std.specs.Prelude.{option_and_then, codes, not, ◌&&◌}
 use Rattle.std.specs.Str.{bytes_eq}
 use Rattle.std.proofs.lemmas.Option.{option_and_then_some, same_Some}
 use Rattle.jtree.specs.Data.{Data, Members, no_members, member, AreMembers, IsTree}
 use Rattle.jtree.specs.Data as tree
 use Rattle.jtree.specs.Path.{name, member_at, under, part_at}
-use Rattle.jtree.specs.Internal.Lookups.{bool_cases, same_name, before_none}
+use Rattle.jtree.specs.Internal.Lookups.{bool_cases, same_name, member_later, member_tail}
 use Rattle.schema.specs.Document.Raw.{IsObject}
 use Rattle.schema.specs.Document.Texts.{is_among}
 use Rattle.schema.specs.Document.Places.{Step, Place, property, map_value, items, step_path, only_object, schema_by, schema_at, IsPlace, is_inside, is_envelope_name}
@@ -48,54 +48,49 @@ own_below root s d step own place by p t below found = own (step ∷ p) t (place
 
 -- ---- declared properties
 
-abbrev kept : Bool → List ℕ → Option Data → Option Data
-kept root k None = None
-kept root k (Some d) = if is_declared root k d then Some d else None
-
-declared_at : (root : Bool) (k : List ℕ) (ms : Members) → AreMembers ms → member_at k (declared_of root ms) ≡ kept root k (member_at k ms)
-declared_at root k no_members o = refl
-declared_at root k (member l d ms) o = elim (bool_cases (bytes_eq k l)) [
+declared_each : (root : Bool) (k : List ℕ) (ms : Members) (d : Data) → is_declared root k d ≡ true → member_at k ms ≡ Some d → member_at k (declared_of root ms) ≡ Some d
+declared_each root k no_members d has found = cc
+declared_each root k (member l e ms) d has found = elim (bool_cases (bytes_eq k l)) [
   | inl t ↦
-      let is : k ≡ l = same_name k l t in
-      elim (bool_cases (is_declared root l d)) [
-        | inl has ↦ let has_k : is_declared root k d ≡ true = subst (λ n. is_declared root n d ≡ true) (sym is) has in rw (has, t, has_k) refl
-        | inr lacks ↦
-            let lacks_k : is_declared root k d ≡ false = subst (λ n. is_declared root n d ≡ false) (sym is) lacks in
-            let none : member_at k ms ≡ None = subst (λ n. member_at n ms ≡ None) (sym is) (before_none l ms o.1 o.2) in
-            rw (lacks, t, lacks_k) (declared_at root k ms o.2 ∙ ap (kept root k) none)
+      let same = same_Some e d (rw t at found) in
+      let first : is_declared root l e ≡ true = subst (λ n. is_declared root n e ≡ true) (same_name k l t) (subst (λ x. is_declared root k x ≡ true) (sym same) has) in
+      rw (first, t) (ap Some same)
+  | inr other ↦
+      let rest = declared_each root k ms d has (sym (member_later k l e ms other) ∙ found) in
+      elim (bool_cases (is_declared root l e)) [
+        | inl first ↦ rw (first, other) rest
+        | inr lacks ↦ rw lacks rest
       ]
-  | inr other ↦ elim (bool_cases (is_declared root l d)) [
-    | inl has ↦ rw (has, other) (declared_at root k ms o.2)
-    | inr lacks ↦ rw (lacks, other) (declared_at root k ms o.2)
+]
+
+declared_only : (root : Bool) (k : List ℕ) (ms : Members) (d : Data) → AreMembers ms → member_at k (declared_of root ms) ≡ Some d
+    → (member_at k ms ≡ Some d) × (is_declared root k d ≡ true)
+declared_only root k no_members d o found = absurd (cc)
+declared_only root k (member l e ms) d o found = elim (bool_cases (is_declared root l e)) [
+  | inl first ↦ elim (bool_cases (bytes_eq k l)) [
+    | inl t ↦
+        let same = same_Some e d (rw (first, t) at found) in
+        (rw t (ap Some same), subst (λ x. is_declared root k x ≡ true) same (subst (λ n. is_declared root n e ≡ true) (sym (same_name k l t)) first))
+    | inr other ↦ let rest = declared_only root k ms d o.2 (rw (first, other) at found) in (member_later k l e ms other ∙ rest.0, rest.1)
   ]
+  | inr lacks ↦ let rest = declared_only root k ms d o.2 (rw lacks at found) in (member_tail l e ms k d o rest.0, rest.1)
 ]
 
-kept_is : (root : Bool) (k : List ℕ) (o : Option Data) (d : Data) → kept root k o ≡ Some d → (o ≡ Some d) × (is_declared root k d ≡ true)
-kept_is root k None d h = absurd (cc)
-kept_is root k (Some e) d h = elim (bool_cases (is_declared root k e)) [
-  | inl has ↦ let same = same_Some e d (rw has at h) in (ap Some same, subst (λ x. is_declared root k x ≡ true) same has)
-  | inr lacks ↦ let none = rw lacks at h in absurd (cc)
-]
+not_both : (a b : Bool) → (a ≡ true → b ≡ true → ⊥) → not (a && b) ≡ true
+not_both true true h = absurd (h refl refl)
+not_both true false h = refl
+not_both false b h = refl
 
-and_false : (a b : Bool) → (a ≡ true → b ≡ true → ⊥) → not (a && b) ≡ true
-and_false true true h = absurd (h refl refl)
-and_false true false h = refl
-and_false false b h = refl
-
-declared_each : (root : Bool) (s d : Data) (k : List ℕ) → IsTree s → IsNodePlace root (property k ∷ []) → schema_by s (property k) ≡ Some d
+each_declared : (root : Bool) (s d : Data) (k : List ℕ) → IsNodePlace root (property k ∷ []) → schema_by s (property k) ≡ Some d
     → member_at k (declared_of root (members_under s (codes "properties"))) ≡ Some d
-declared_each root s d k o place by =
+each_declared root s d k place by =
     let at = property_in (under s (codes "properties")) k d by in
-    let ms = members_under s (codes "properties") in
-    let is : is_declared root k d ≡ true = subst (λ x. is_declared root k x ≡ true) (sym at.3.1) (and_false root (is_envelope_name k) place.1) in
-    let found : kept root k (Some d) ≡ Some d = rw is refl in
-    declared_at root k ms (properties_tree s o) ∙ (ap (kept root k) at.2 ∙ found)
+    declared_each root k (members_under s (codes "properties")) d (subst (λ x. is_declared root k x ≡ true) (sym at.3.1) (not_both root (is_envelope_name k) place.1)) at.2
 
-declared_only : (root : Bool) (s d : Data) (k : List ℕ) → IsTree s → member_at k (declared_of root (members_under s (codes "properties"))) ≡ Some d
+only_declared : (root : Bool) (s d : Data) (k : List ℕ) → IsTree s → member_at k (declared_of root (members_under s (codes "properties"))) ≡ Some d
     → IsNodePlace root (property k ∷ []) × (schema_by s (property k) ≡ Some d)
-declared_only root s d k o found =
-    let ms = members_under s (codes "properties") in
-    let at = kept_is root k (member_at k ms) d (sym (declared_at root k ms (properties_tree s o)) ∙ found) in
+only_declared root s d k o found =
+    let at = declared_only root k (members_under s (codes "properties")) d (properties_tree s o) found in
     let is = declared_is_object root k d at.1 in
     ((refl, declared_is_other root k d at.1), in_property (under s (codes "properties")) k is.0 (at.0 ∙ ap Some is.1) ∙ ap Some (sym is.1))
 
@@ -131,12 +126,12 @@ matches_property : (names : List (List ℕ)) (k : List ℕ) (f : Declared) (o : 
 matches_property names k f None h = absurd h
 matches_property names k f (Some d) h = (d, refl, h)
 
-field_each : (root : Bool) (fs : Fields) (s d : Data) (k : List ℕ) → IsTree s → AreFieldsOf fs (texts_under s (codes "required")) (declared_of root (members_under s (codes "properties")))
+field_each : (root : Bool) (fs : Fields) (s d : Data) (k : List ℕ) → AreFieldsOf fs (texts_under s (codes "required")) (declared_of root (members_under s (codes "properties")))
     → IsNodePlace root (property k ∷ []) → schema_by s (property k) ≡ Some d → (f : Declared) × (field_at k fs ≡ Some f) × IsNodeOf false f.node d
-field_each root fs s d k o are place by =
+field_each root fs s d k are place by =
     let names = texts_under s (codes "required") in
     let ms = declared_of root (members_under s (codes "properties")) in
-    let f = matches_field names k (field_at k fs) d (subst (Matches names k (field_at k fs)) (declared_each root s d k o place by) (fields_match fs names ms k are)) in
+    let f = matches_field names k (field_at k fs) d (subst (Matches names k (field_at k fs)) (each_declared root s d k place by) (fields_match fs names ms k are)) in
     (f.0, f.1, f.2.0)
 
 field_only : (root : Bool) (fs : Fields) (s : Data) (k : List ℕ) (f : Declared) → IsTree s
@@ -146,7 +141,7 @@ field_only root fs s k f o are found =
     let names = texts_under s (codes "required") in
     let ms = declared_of root (members_under s (codes "properties")) in
     let d = matches_property names k f (member_at k ms) (subst (λ x. Matches names k x (member_at k ms)) found (fields_match fs names ms k are)) in
-    let by = declared_only root s d.0 k o d.1 in
+    let by = only_declared root s d.0 k o d.1 in
     (d.0, by.0, by.1, d.2)
 
 -- ---- nodes one step below
@@ -171,18 +166,18 @@ keyword_below N s d k below by =
     let o = object_by (under s k) d by in
     subst (IsNodeOf false N) (same_Some below.0 d (sym below.1 ∙ (o.1 ∙ ap Some (sym o.2)))) below.2
 
-each_sort : (root : Bool) (step : Step) (A : Sort) (n : Bool) (x : Option (List ℕ)) (s d : Data) → IsTree s → sort_kind A ≡ step_kind step → scalar_in A ≡ scalar_of (step_kind step)
+each_sort : (root : Bool) (step : Step) (A : Sort) (n : Bool) (x : Option (List ℕ)) (s d : Data) → sort_kind A ≡ step_kind step → scalar_in A ≡ scalar_of (step_kind step)
     → AreBelow root A s → IsNodePlace root (step ∷ []) → schema_by s step ≡ Some d → (M : Node) × (node_below (node n x A) step ≡ Some M) × IsNodeOf false M d
-each_sort root (property k) (object fs p t b) n x s d o kind_is scalar_is below place by = let f = field_each root fs s d k o below place by in (f.0.node, rw f.1 refl, f.2)
-each_sort root map_value (map N t b) n x s d o kind_is scalar_is below place by = (N, refl, keyword_below N s d (codes "additionalProperties") below by)
-each_sort root items (list N t k b) n x s d o kind_is scalar_is below place by = (N, refl, keyword_below N s d (codes "items") below by)
-each_sort root step A n x s d o kind_is scalar_is below place by = let outside = place.0 in absurd (cc)
+each_sort root (property k) (object fs p t b) n x s d kind_is scalar_is below place by = let f = field_each root fs s d k below place by in (f.0.node, rw f.1 refl, f.2)
+each_sort root map_value (map N t b) n x s d kind_is scalar_is below place by = (N, refl, keyword_below N s d (codes "additionalProperties") below by)
+each_sort root items (list N t k b) n x s d kind_is scalar_is below place by = (N, refl, keyword_below N s d (codes "items") below by)
+each_sort root step A n x s d kind_is scalar_is below place by = let outside = place.0 in absurd (cc)
 
-each_below : (root : Bool) (N : Node) (s d : Data) (step : Step) → IsTree s → HasOwnParts s → IsNodeOf root N s → IsNodePlace root (step ∷ []) → schema_by s step ≡ Some d
+each_below : (root : Bool) (N : Node) (s d : Data) (step : Step) → HasOwnParts s → IsNodeOf root N s → IsNodePlace root (step ∷ []) → schema_by s step ≡ Some d
     → (M : Node) × (node_below N step ≡ Some M) × IsNodeOf false M d
-each_below root (node n x A) s d step o own is place by =
+each_below root (node n x A) s d step own is place by =
     let kind_is = one_kind s (sort_kind A) (step_kind step) is.0.2 (own_kind s d step own place.0 by) in
-    each_sort root step A n x s d o kind_is (sym (scalar_kind_is A) ∙ ap scalar_of kind_is) is.1 place by
+    each_sort root step A n x s d kind_is (sym (scalar_kind_is A) ∙ ap scalar_of kind_is) is.1 place by
 
 node_object : (N : Node) (d : Data) → IsNodeOf false N d → IsObject d
 node_object (node n x A) d is = kind_object d (sort_kind A) is.0.2
@@ -220,7 +215,7 @@ each_place [] root N s t o own is place found =
 each_place (step ∷ p) root N s t o own is place found =
     option_and_then_some (λ x. schema_at x p) (schema_by s step) t found (λ d by rest.
     let first = place_first root step p place in
-    let M = each_below root N s d step o (own [] s (refl, λ e h. h) refl) is first by in
+    let M = each_below root N s d step (own [] s (refl, λ e h. h) refl) is first by in
     let got = each_place p false M.0 d t (schema_tree s d step o by) (own_below root s d step own first by) M.2 (place_rest root step p place) rest in
     (got.0, rw M.1 got.1, got.2, got.3))
 
