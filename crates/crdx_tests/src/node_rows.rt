@@ -1,7 +1,7 @@
 //! The node of a schema, or why it has none.
 use crate::harness::crd_of;
 use crate::node_text::node_text;
-use schema::{Refused, shape};
+use schema::{Refused, nodes_are_by_place, shape};
 use std::alloc::Global;
 use std::process::Abort;
 use std::test::Fail;
@@ -167,6 +167,7 @@ fn try_row(rt: &impl Abort, alloc: Global, row: &(&str, &str, &str)) -> Result<(
 
 #[test]
 fn nodes(rt: HostRuntime) -> Result<(), Fail> {
+    nodes_are_by_place();
     for row in &NODES {
         try_row(&rt, rt.alloc(), row)?;
     }
