@@ -36,34 +36,38 @@ pub(crate) enum Form {
 fn is_text_keyword(keyword: &str) -> bool
     ensures { result ≡ is_among keyword.now text_keywords }
 {
-    keyword == "type"
-        || keyword == "description"
-        || keyword == "title"
-        || keyword == "format"
-        || keyword == "x-kubernetes-list-type"
-        || keyword == "x-kubernetes-map-type"
+    matches!(
+        keyword,
+        "type"
+            | "description"
+            | "title"
+            | "format"
+            | "x-kubernetes-list-type"
+            | "x-kubernetes-map-type"
+    )
 }
 
 fn is_truth_value_keyword(keyword: &str) -> bool
     ensures { result ≡ is_among keyword.now truth_value_keywords }
 {
-    keyword == "nullable"
-        || keyword == "uniqueItems"
-        || keyword == "exclusiveMinimum"
-        || keyword == "exclusiveMaximum"
-        || keyword == "x-kubernetes-int-or-string"
-        || keyword == "x-kubernetes-preserve-unknown-fields"
+    matches!(
+        keyword,
+        "nullable"
+            | "uniqueItems"
+            | "exclusiveMinimum"
+            | "exclusiveMaximum"
+            | "x-kubernetes-int-or-string"
+            | "x-kubernetes-preserve-unknown-fields"
+    )
 }
 
 fn is_count_keyword(keyword: &str) -> bool
     ensures { result ≡ is_among keyword.now count_keywords }
 {
-    keyword == "minLength"
-        || keyword == "maxLength"
-        || keyword == "minItems"
-        || keyword == "maxItems"
-        || keyword == "minProperties"
-        || keyword == "maxProperties"
+    matches!(
+        keyword,
+        "minLength" | "maxLength" | "minItems" | "maxItems" | "minProperties" | "maxProperties"
+    )
 }
 
 /// The form of a keyword.
@@ -76,31 +80,19 @@ fn form_of(keyword: &str) -> Form
     if is_truth_value_keyword(keyword) {
         return Form::TruthValue;
     }
-    if keyword == "properties" {
-        return Form::ObjectOfObjects;
-    }
-    if keyword == "additionalProperties" {
-        return Form::TruthValueOrObject;
-    }
-    if keyword == "items" || keyword == "not" {
-        return Form::Object;
-    }
-    if keyword == "allOf" || keyword == "anyOf" || keyword == "oneOf" {
-        return Form::SomeObjects;
-    }
-    if keyword == "required" || keyword == "x-kubernetes-list-map-keys" {
-        return Form::Texts;
-    }
-    if keyword == "enum" {
-        return Form::List;
-    }
-    if keyword == "minimum" || keyword == "maximum" {
-        return Form::Integer;
-    }
     if is_count_keyword(keyword) {
         return Form::Count;
     }
-    Form::AnyTree
+    match keyword {
+        "properties" => Form::ObjectOfObjects,
+        "additionalProperties" => Form::TruthValueOrObject,
+        "items" | "not" => Form::Object,
+        "allOf" | "anyOf" | "oneOf" => Form::SomeObjects,
+        "required" | "x-kubernetes-list-map-keys" => Form::Texts,
+        "enum" => Form::List,
+        "minimum" | "maximum" => Form::Integer,
+        _ => Form::AnyTree,
+    }
 }
 
 /// The form of a member, from the form of its object.

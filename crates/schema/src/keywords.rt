@@ -91,7 +91,7 @@ fn is_known(keyword: &str, known: Keywords) -> bool
 fn is_metadata_keyword(keyword: &str) -> bool
     ensures { result ≡ is_among keyword.now metadata_keywords }
 {
-    keyword == "type" || keyword == "description" || keyword == "properties"
+    matches!(keyword, "type" | "description" | "properties")
 }
 
 fn is_branch_keyword(keyword: &str) -> bool
@@ -122,78 +122,86 @@ fn is_own_keyword(keyword: &str, kind: Kind) -> bool
 fn is_keyword_of_all(keyword: &str) -> bool
     ensures { result ≡ is_among keyword.now keywords_of_all }
 {
-    keyword == "type"
-        || keyword == "description"
-        || keyword == "title"
-        || keyword == "format"
-        || keyword == "example"
-        || keyword == "externalDocs"
-        || keyword == "nullable"
-        || keyword == "default"
-        || keyword == "uniqueItems"
-        || keyword == "x-kubernetes-int-or-string"
-        || keyword == "x-kubernetes-preserve-unknown-fields"
-        || keyword == "x-kubernetes-list-type"
-        || keyword == "x-kubernetes-list-map-keys"
-        || keyword == "x-kubernetes-map-type"
+    matches!(
+        keyword,
+        "type"
+            | "description"
+            | "title"
+            | "format"
+            | "example"
+            | "externalDocs"
+            | "nullable"
+            | "default"
+            | "uniqueItems"
+            | "x-kubernetes-int-or-string"
+            | "x-kubernetes-preserve-unknown-fields"
+            | "x-kubernetes-list-type"
+            | "x-kubernetes-list-map-keys"
+            | "x-kubernetes-map-type"
+    )
 }
 
 fn is_junctor_keyword(keyword: &str) -> bool
     ensures { result ≡ is_among keyword.now junctor_keywords }
 {
-    keyword == "allOf" || keyword == "anyOf" || keyword == "oneOf" || keyword == "not"
+    matches!(keyword, "allOf" | "anyOf" | "oneOf" | "not")
 }
 
 fn is_outside_keyword(keyword: &str) -> bool
     ensures { result ≡ is_among keyword.now outside_keywords }
 {
-    keyword == "description"
-        || keyword == "default"
-        || keyword == "additionalProperties"
-        || keyword == "nullable"
+    matches!(
+        keyword,
+        "description" | "default" | "additionalProperties" | "nullable"
+    )
 }
 
 fn is_unsupported_keyword(keyword: &str) -> bool
     ensures { result ≡ is_among keyword.now unsupported_keywords }
 {
-    keyword == "definitions"
-        || keyword == "dependencies"
-        || keyword == "deprecated"
-        || keyword == "discriminator"
-        || keyword == "id"
-        || keyword == "patternProperties"
-        || keyword == "readOnly"
-        || keyword == "writeOnly"
-        || keyword == "xml"
-        || keyword == "$ref"
+    matches!(
+        keyword,
+        "definitions"
+            | "dependencies"
+            | "deprecated"
+            | "discriminator"
+            | "id"
+            | "patternProperties"
+            | "readOnly"
+            | "writeOnly"
+            | "xml"
+            | "$ref"
+    )
 }
 
 fn is_keyword_of_scalars(keyword: &str) -> bool
     ensures { result ≡ is_among keyword.now keywords_of_scalars }
 {
-    keyword == "enum"
-        || keyword == "minimum"
-        || keyword == "maximum"
-        || keyword == "exclusiveMinimum"
-        || keyword == "exclusiveMaximum"
-        || keyword == "minLength"
-        || keyword == "maxLength"
+    matches!(
+        keyword,
+        "enum"
+            | "minimum"
+            | "maximum"
+            | "exclusiveMinimum"
+            | "exclusiveMaximum"
+            | "minLength"
+            | "maxLength"
+    )
 }
 
 fn is_keyword_of_objects(keyword: &str) -> bool
     ensures { result ≡ is_among keyword.now keywords_of_objects }
 {
-    keyword == "properties"
-        || keyword == "additionalProperties"
-        || keyword == "required"
-        || keyword == "minProperties"
-        || keyword == "maxProperties"
+    matches!(
+        keyword,
+        "properties" | "additionalProperties" | "required" | "minProperties" | "maxProperties"
+    )
 }
 
 fn is_keyword_of_lists(keyword: &str) -> bool
     ensures { result ≡ is_among keyword.now keywords_of_lists }
 {
-    keyword == "items" || keyword == "minItems" || keyword == "maxItems"
+    matches!(keyword, "items" | "minItems" | "maxItems")
 }
 
 /// Whether a text is one of these.

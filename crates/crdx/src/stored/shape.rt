@@ -105,12 +105,10 @@ fn is_known_keyword(keyword: &str, object: bool) -> bool
 fn is_annotation_keyword(keyword: &str) -> bool
     ensures { result ≡ is_among keyword.now annotation_keywords }
 {
-    keyword == "title"
-        || keyword == "description"
-        || keyword == "format"
-        || keyword == "example"
-        || keyword == "externalDocs"
-        || keyword == "uniqueItems"
+    matches!(
+        keyword,
+        "title" | "description" | "format" | "example" | "externalDocs" | "uniqueItems"
+    )
 }
 
 /// Whether each member is an object.
