@@ -1,0 +1,111 @@
+//! Defaults: where `check` says that one is misplaced (V15), and which place of a schema is the first with one.
+use crate::harness::{crd_of, is_text, try_judged};
+use schema::first_default;
+use std::alloc::Global;
+use std::process::Abort;
+use std::test::Fail;
+
+// A name, a schema, and standard output.
+static MISPLACED: [(&str, &str, &str); 7] = [
+    (
+        "a default of the root",
+        r#"{"type":"object","default":{}}"#,
+        "V15 \"\" misplaced default\n",
+    ),
+    (
+        "a default of an item",
+        r#"{"type":"object","properties":{"x":{"type":"array","items":{"type":"integer","default":1}}}}"#,
+        "V15 \"/properties/x/items\" misplaced default\n",
+    ),
+    (
+        "a default of the values of a map",
+        r#"{"type":"object","properties":{"x":{"type":"object","additionalProperties":{"type":"integer","default":1}}}}"#,
+        "V15 \"/properties/x/additionalProperties\" misplaced default\n",
+    ),
+    (
+        "a default of the envelope",
+        r#"{"type":"object","properties":{"kind":{"type":"string","default":"x"}}}"#,
+        "V15 \"/properties/kind\" misplaced default\n",
+    ),
+    (
+        "a default below the envelope",
+        r#"{"type":"object","properties":{"metadata":{"type":"object","properties":{"name":{"type":"string","default":"x"}}}}}"#,
+        "V15 \"/properties/metadata/properties/name\" misplaced default\n",
+    ),
+    (
+        "a default of metadata",
+        r#"{"type":"object","properties":{"metadata":{"type":"object","default":{}}}}"#,
+        r#"V04 "/properties/metadata" metadata restricted
+V15 "/properties/metadata" misplaced default
+"#,
+    ),
+    (
+        "a default in a branch",
+        r#"{"type":"object","properties":{"x":{"type":"integer","not":{"default":1}}}}"#,
+        "V03 \"/properties/x/not\" keyword not allowed in a junctor\n",
+    ),
+];
+
+#[test]
+fn misplaced(rt: HostRuntime) -> Result<(), Fail> {
+    for (name, schema, out) in MISPLACED {
+        try_judged(&rt, rt.alloc(), name, schema, out)?;
+    }
+    Ok(())
+}
+
+// A name, a schema, and the pointer of the first place in path order that has a default.
+static FIRST: [(&str, &str, Option<&str>); 6] = [
+    (
+        "no default, but a field of that name",
+        r#"{"properties":{"default":{"type":"integer","example":{"default":1}}}}"#,
+        None,
+    ),
+    (
+        "the root before all below",
+        r#"{"default":{},"properties":{"a":{"default":1}}}"#,
+        Some(""),
+    ),
+    (
+        "a property behind one whose name begins so",
+        r#"{"properties":{"a-b":{"default":1},"a":{"properties":{"b/c":{"default":1}}}}}"#,
+        Some("/properties/a/properties/b~1c"),
+    ),
+    (
+        "null, in a branch",
+        r#"{"properties":{"x":{"not":{"items":{"default":null}}},"y":{"default":1}}}"#,
+        Some("/properties/x/not/items"),
+    ),
+    (
+        "the third and the eleventh branch",
+        r#"{"anyOf":[{},{},{"default":1},{},{},{},{},{},{},{},{"default":1}]}"#,
+        Some("/anyOf/2"),
+    ),
+    (
+        "a value of a map before a property",
+        r#"{"properties":{"a":{"default":1}},"additionalProperties":{"default":1}}"#,
+        Some("/additionalProperties"),
+    ),
+];
+
+fn try_first(
+    rt: &impl Abort,
+    alloc: Global,
+    row: &(&str, &str, Option<&str>),
+) -> Result<(), Fail> {
+    let (name, schema, wanted) = *row;
+    let crd = crd_of(alloc, schema)??;
+    match first_default(alloc, &crd.raw)? {
+        Some(pointer) => is_text(rt, pointer.as_str(), wanted.unwrap_or("no default"), "the first default", name),
+        None => assert!(rt; wanted.is_none(), "no default of {name}"),
+    }
+    Ok(())
+}
+
+#[test]
+fn first(rt: HostRuntime) -> Result<(), Fail> {
+    for row in &FIRST {
+        try_first(&rt, rt.alloc(), row)?;
+    }
+    Ok(())
+}
