@@ -20,11 +20,12 @@ use Rattle.crdx.specs.Objects.Accepted.{IsEnvelope, IsKnown, in_envelope, known_
 use Rattle.schema.specs.Document.Places.{envelope_names}
 use Rattle.schema.specs.Document.Texts.{is_among}
 use Rattle.crdx.specs.Internal.Acceptance.{members_at, AreKnown, IsFirst, IsRefusedAt, AreNodes}
-use Rattle.schema.specs.Rules.Breaks.{AreViolations, IsUnbroken, told, told_of}
+use Rattle.schema.specs.Rules.Broken.{Broken}
+use Rattle.schema.specs.Rules.Breaks.{AreViolations, BreaksNone, told, told_of}
 use Rattle.schema.specs.declared.violation.Violation.{Violation}
 use Rattle.crdx.specs.Objects.Refusal.{IsRefusal}
-use Rattle.schema.specs.declared.refused.Refused.{Refused}
-use Rattle.schema.specs.declared.refused.Refused.TheVariants.{Violations, NotYet, NoMemory}
+use Rattle.crdx.specs.declared.stored.refused.Refused.{Refused}
+use Rattle.crdx.specs.declared.stored.refused.Refused.TheVariants.{Violations, NotYet, NoMemory}
 use Rattle.jtree.specs.Internal.Lookups.{bool_cases, option_cases, same_name, own_name, member_first, member_tail, before_each, IsNameBefore-trans}
 
 name_properties : List ℕ
@@ -393,13 +394,13 @@ refused_along root look more h (NotYet p) r = (r.0, r.1, h r.0 r.2)
 refused_along root look more h NoMemory r = tt
 
 -- the refusal of the whole
-pub refusal : (raw : Data) (e : Refused) → IsUnbroken raw → IsRefusedAt true (schema_at raw) e → IsRefusal raw e
+pub refusal : (raw : Data) (e : Refused) → BreaksNone raw → IsRefusedAt true (schema_at raw) e → IsRefusal raw e
 refusal raw (Violations vs) whole r = absurd r
 refusal raw (NotYet p) whole r = (whole, (r.0, r.1, record { schema = r.2.schema; is = r.2.is; unknown = r.2.unknown; first = r.2.first }))
 refusal raw NoMemory whole r = tt
 
 -- where no violation is told, nothing is broken
-pub nothing_told : (raw : Data) (vs : List Violation) → AreViolations raw vs → length vs ≡ 0 → IsUnbroken raw
+pub nothing_told : (raw : Data) (vs : List Violation) → AreViolations (Broken raw) vs → length vs ≡ 0 → BreaksNone raw
 nothing_told raw vs all empty p r broken =
     let found = all.1.all p r broken in
     let same : length all.0 ≡ length vs = sym (length-map all.0 told_of) ∙ ap length (sym all.2) ∙ length-map vs told in

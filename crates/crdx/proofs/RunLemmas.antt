@@ -7,17 +7,17 @@ use Rattle.schema.specs.Rules.Breaks.{Break, told, told_of, AreViolations}
 use Rattle.schema.specs.Document.ReadFault.{IsReadFault}
 use Rattle.schema.specs.declared.fault.SFault.{SFault}
 use Rattle.schema.specs.declared.fault.SFault.TheVariants as s
-use Rattle.schema.specs.declared.refused.Refused.{Refused}
-use Rattle.schema.specs.declared.refused.Refused.TheVariants as refusal
+use Rattle.crdx.specs.declared.stored.refused.Refused.{Refused}
+use Rattle.crdx.specs.declared.stored.refused.Refused.TheVariants as refusal
 use Rattle.schema.specs.declared.violation.Violation.{Violation}
 use Rattle.crdx.specs.Program.RunResult.{IsRunResult, answered, refused, unread_input, unwritten, no_memory, IsInputRefused, IsAnswer, violations, no_samples, HasBreaks, IsCutByMemory, IsCutByWrite, told_lines}
 use Rattle.crdx.specs.Output.Line.{lines}
 use Rattle.crdx.specs.Output.PartialOutput.{IsPartialOutput, IsCutByFailure, IsCutWithinLine}
 use Rattle.crdx.specs.Output.Walk.{WritesPage}
-use Rattle.crdx.specs.Program.Requested.{ArePools, IsRequested, IsRequestedSchema, HasAcceptedSchema, IsCrdRefused}
+use Rattle.crdx.specs.Program.Requested.{ArePools, IsRequested, NotYet, HasFirstDefault, HasFirstUnknown, IsRequestedSchema, HasAcceptedSchema, IsCrdRefused}
 use Rattle.crdx.specs.Program.Documents.{Documents, AreAmong}
 use Rattle.crdx.specs.Internal.ExitStatus.{status, cause_of_reading, cause_of_refusal, cause_of_pools, cause_of_walk, IsGiven}
-use Rattle.crdx.specs.Internal.Cause.{IsSchemaCause, IsPoolsCause, IsInputCause, IsSampleCause, IsWalkCause}
+use Rattle.crdx.specs.Internal.Cause.{IsReadCause, IsRawCause, IsSchemaCause, IsPoolsCause, IsInputCause, IsSampleCause, IsWalkCause}
 use Rattle.crdx.specs.Samples.Over.{Pools}
 use Rattle.crdx.specs.Samples.Page.{IsPage}
 use Rattle.crdx.specs.Samples.Sample.{Question}
@@ -47,35 +47,31 @@ pools_before first second None P among is = is
 pools_before first second (Some name) P among is = (is.0, among (Some name.now) (Ok is.0) is.1, is.2, is.3)
 
 module _ (has : Documents) (unread read : ℕ) (crd version : List ℕ) where
-  pub cause_of_fault : (d : Data) (fault : SFault) → has (Some crd) (Ok d) → IsReadFault d version fault → IsSchemaCause has unread read crd version (cause_of_reading fault)
+  pub cause_of_fault : (d : Data) (fault : SFault) → has (Some crd) (Ok d) → IsReadFault d version fault → IsReadCause has unread read crd version (cause_of_reading fault)
   cause_of_fault d s.NotACrd at is = (d, at, λ e. cc, is)
   cause_of_fault d s.NoSuchVersion at is = (d, at, λ e. cc, is)
   cause_of_fault d (s.KeywordForm p) at is = (d, at, λ e. cc, is)
   cause_of_fault d (s.TooLarge p) at is = (d, at, λ e. cc, is)
   cause_of_fault d s.NoMemory at is = tt
 
-  pub cause_of_refused : (raw : Data) (r : Refused) → IsRequestedSchema has crd version raw → IsRefusal raw r → IsSchemaCause has unread read crd version (cause_of_refusal r)
-  cause_of_refused raw (refusal.Violations vs) asked is = (raw, asked, is.0, is.1)
-  cause_of_refused raw (refusal.NotYet p) asked is = (raw, asked, is.0, is.1)
-  cause_of_refused raw refusal.NoMemory asked is = tt
-
   -- why a request that names the schema has no answer, where violations are told apart
-  input_of_schema : (request : Request) (cause : Cause) → (IsCrdRefused has crd version → IsInputRefused has request)
-      → ((vs : Vec Violation Global) → cause ≡ Violations vs → IsSchemaCause has unread read crd version (Violations vs) → IsAnswer has request 1 [])
-      → IsSchemaCause has unread read crd version cause → IsInputCause has unread read request cause
-  input_of_schema request (Unread i) refuse answer why = why.1
-  input_of_schema request (Document i fault) refuse answer why = refuse (inl (fault, why.1, why.2))
-  input_of_schema request (Crd fault) refuse answer why = refuse (inr (inl (fault, why)))
-  input_of_schema request (PoolsCause fault) refuse answer why = absurd why
-  input_of_schema request (Place input.Crd code.NotYet p) refuse answer why = refuse (inr (inr (string_bytes p, why)))
-  input_of_schema request (Place input.Crd code.KeywordForm p) refuse answer why = refuse (inr (inl (s.KeywordForm p, why)))
-  input_of_schema request (Place input.Crd code.TooLarge p) refuse answer why = refuse (inr (inl (s.TooLarge p, why)))
-  input_of_schema request (Place input.Crd code.Form p) refuse answer why = absurd why
-  input_of_schema request (Place input.Pools c p) refuse answer why = absurd why
-  input_of_schema request (Violations vs) refuse answer why = answer vs refl why
-  input_of_schema request NotASample refuse answer why = absurd why
-  input_of_schema request (Write n) refuse answer why = absurd why
-  input_of_schema request NoMemory refuse answer why = tt
+  input_of_reading : (Unready : NotYet) (request : Request) (cause : Cause) → (IsCrdRefused has crd version Unready → IsInputRefused has request)
+      → IsReadCause has unread read crd version cause → IsInputCause has unread read request cause
+  input_of_reading Unready request (Unread i) refuse why = why.1
+  input_of_reading Unready request (Document i fault) refuse why = refuse (inl (fault, why.1, why.2))
+  input_of_reading Unready request (Crd fault) refuse why = refuse (inr (inl (fault, why)))
+  input_of_reading Unready request (Place input.Crd code.KeywordForm p) refuse why = refuse (inr (inl (s.KeywordForm p, why)))
+  input_of_reading Unready request (Place input.Crd code.TooLarge p) refuse why = refuse (inr (inl (s.TooLarge p, why)))
+  input_of_reading Unready request NoMemory refuse why = tt
+  input_of_reading Unready request _ refuse why = absurd why
+
+  input_of_raw : (Unready : NotYet) (request : Request) (raw : Data) (cause : Cause) → IsRequestedSchema has crd version raw → (IsCrdRefused has crd version Unready → IsInputRefused has request)
+      → ((vs : Vec Violation Global) → cause ≡ Violations vs → IsRawCause raw Unready (Violations vs) → IsAnswer has request 1 [])
+      → IsRawCause raw Unready cause → IsInputCause has unread read request cause
+  input_of_raw Unready request raw (Place input.Crd code.NotYet p) asked refuse answer why = refuse (inr (inr (string_bytes p, (raw, asked, why))))
+  input_of_raw Unready request raw (Violations vs) asked refuse answer why = answer vs refl why
+  input_of_raw Unready request raw NoMemory asked refuse answer why = tt
+  input_of_raw Unready request raw _ asked refuse answer why = absurd why
 
   some_break : (vs : List Violation) (breaks : List Break) → map told vs ≡ map told_of breaks → vs ≢ [] → breaks ≢ []
   some_break [] breaks same some none = some refl
@@ -83,21 +79,35 @@ module _ (has : Documents) (unread read : ℕ) (crd version : List ℕ) where
   some_break (v ∷ vs) (b ∷ breaks) same some none = cc
 
   -- the breaks that violations tell
-  pub broken : (vs : Vec Violation Global) → IsSchemaCause has unread read crd version (Violations vs) → (breaks : List Break) × (map told vs.items ≡ map told_of breaks) × HasBreaks has crd version breaks
-  broken vs why = (why.2.0, why.2.2, (why.0, why.1, why.2.1, some_break vs.items why.2.0 why.2.2 why.3))
+  broken_raw : (Unready : NotYet) (raw : Data) (vs : Vec Violation Global) → IsRequestedSchema has crd version raw → IsRawCause raw Unready (Violations vs)
+      → (breaks : List Break) × (map told vs.items ≡ map told_of breaks) × HasBreaks has crd version breaks
+  broken_raw Unready raw vs asked why = (why.0.0, why.0.2, (raw, asked, why.0.1, some_break vs.items why.0.0 why.0.2 why.1))
+
+  pub broken : (Unready : NotYet) (vs : Vec Violation Global) → IsSchemaCause has unread read crd version Unready (Violations vs) → (breaks : List Break) × (map told vs.items ≡ map told_of breaks) × HasBreaks has crd version breaks
+  broken Unready vs (inl why) = absurd why
+  broken Unready vs (inr why) = broken_raw Unready why.0 vs why.1 why.2
+
+pub refused_raw : (raw : Data) (r : Refused) → IsRefusal raw r → IsRawCause raw HasFirstUnknown (cause_of_refusal r)
+refused_raw raw (refusal.Violations vs) is = is
+refused_raw raw (refusal.NotYet p) is = is
+refused_raw raw refusal.NoMemory is = tt
 
 pub check_input : (has : Documents) (unread read : ℕ) (arguments : CheckArguments) (cause : Cause) → ((vs : Vec Violation Global) → cause ≡ Violations vs → ⊥)
-    → IsSchemaCause has unread read arguments.crd.now arguments.version.now cause → IsInputCause has unread read (Check arguments) cause
-check_input has unread read arguments cause none why =
-    input_of_schema has unread read arguments.crd.now arguments.version.now (Check arguments) cause (λ r. r) (λ vs e is. absurd (none vs e)) why
+    → IsSchemaCause has unread read arguments.crd.now arguments.version.now HasFirstDefault cause → IsInputCause has unread read (Check arguments) cause
+check_input has unread read arguments cause none (inl why) =
+    input_of_reading has unread read arguments.crd.now arguments.version.now HasFirstDefault (Check arguments) cause (λ r. r) why
+check_input has unread read arguments cause none (inr why) =
+    input_of_raw has unread read arguments.crd.now arguments.version.now HasFirstDefault (Check arguments) why.0 cause why.1 (λ r. r) (λ vs e is. absurd (none vs e)) why.2
 
 pub sample_input : (has : Documents) (unread read : ℕ) (arguments : SampleArguments) (cause : Cause)
-    → IsSchemaCause has unread read arguments.crd.now arguments.version.now cause → IsInputCause has unread read (Sample arguments) cause
-sample_input has unread read arguments cause why =
+    → IsSchemaCause has unread read arguments.crd.now arguments.version.now HasFirstUnknown cause → IsInputCause has unread read (Sample arguments) cause
+sample_input has unread read arguments cause (inl why) =
+    input_of_reading has unread read arguments.crd.now arguments.version.now HasFirstUnknown (Sample arguments) cause (λ r. inl r) why
+sample_input has unread read arguments cause (inr why) =
     let crd = arguments.crd.now in
     let version = arguments.version.now in
-    input_of_schema has unread read crd version (Sample arguments) cause (λ r. inl r)
-    (λ vs e is. let found = broken has unread read crd version vs is in no_samples arguments found.0 found.2) why
+    input_of_raw has unread read crd version HasFirstUnknown (Sample arguments) why.0 cause why.1 (λ r. inl r)
+    (λ vs e is. let found = broken_raw has unread read crd version HasFirstUnknown why.0 vs why.1 is in no_samples arguments found.0 found.2) why.2
 
 pub cause_of_pools_fault : (has : Documents) (unread read : ℕ) (name : Bor (List ℕ)) (d : Data) (fault : PFault) → has (Some name.now) (Ok d) → IsPoolsFault d fault
     → IsPoolsCause has unread read (Some name) (cause_of_pools fault)

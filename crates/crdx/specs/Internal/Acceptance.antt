@@ -9,8 +9,8 @@ use Rattle.crdx.specs.Objects.Node.{ScalarKind, boolean, integer, Fields, no_fie
 use Rattle.crdx.specs.Objects.NodeView.{kind_of}
 use Rattle.crdx.specs.Objects.Place.{Place, schema_at, place_pointer, place_cmp}
 use Rattle.crdx.specs.Objects.Accepted.{HasType, IsKnown, IsKnownScalar, IsKnownObject, known_keywords}
-use Rattle.schema.specs.declared.refused.Refused.{Refused}
-use Rattle.schema.specs.declared.refused.Refused.TheVariants.{Violations, NotYet, NoMemory}
+use Rattle.crdx.specs.declared.stored.refused.Refused.{Refused}
+use Rattle.crdx.specs.declared.stored.refused.Refused.TheVariants.{Violations, NotYet, NoMemory}
 use Rattle.crdx.specs.declared.stored.shape.Shape.{Shape}
 use Rattle.crdx.specs.declared.stored.shape.Shape.TheVariants as shape
 

@@ -4,12 +4,13 @@ use Rattle.std.specs.Borrow.{Bor}
 use Rattle.std.specs.Io.KnownBytes.{Appends, Keeps}
 use Rattle.jtree.specs.Data.{Data}
 use Rattle.jtree.specs.declared.fault.JFault.TheVariants as j
+use Rattle.schema.specs.Rules.Broken.{Broken}
 use Rattle.schema.specs.Rules.Breaks.{AreViolations}
 use Rattle.schema.specs.declared.fault.SFault.TheVariants as s
 use Rattle.crdx.specs.Output.PartialOutput.{IsCutBetweenLines, IsCutByFailure}
 use Rattle.crdx.specs.Output.Sink.{HasFailed}
 use Rattle.crdx.specs.Program.Documents.{Documents}
-use Rattle.crdx.specs.Program.Requested.{IsRequestedSchema, HasReadFault, HasUnknownPlace, HasPoolsFault, IsRequested}
+use Rattle.crdx.specs.Program.Requested.{IsRequestedSchema, HasReadFault, NotYet, IsNotYet, HasPoolsFault, IsRequested}
 use Rattle.crdx.specs.Program.RunResult.{IsAnswer, IsInputRefused}
 use Rattle.crdx.specs.Samples.Page.{IsPage}
 use Rattle.crdx.specs.Samples.Sample.{Question}
@@ -30,17 +31,27 @@ IsUnreadCause has before now input name (Document i fault) = (i ≡ input) × (f
 IsUnreadCause has before now input name NoMemory = Unit {0}
 IsUnreadCause has before now input name _ = ⊥
 
--- why there is no accepted schema
-abbrev pub IsSchemaCause : Documents → ℕ → ℕ → List ℕ → List ℕ → Cause → Type 0
-IsSchemaCause has before now crd version (Unread i) = (i ≡ input.Crd) × HasFailed before now
-IsSchemaCause has before now crd version (Document i fault) = (i ≡ input.Crd) × (fault ≢ j.NoMemory) × has (Some crd) (Err fault)
-IsSchemaCause has before now crd version (Crd fault) = HasReadFault has crd version fault
-IsSchemaCause has before now crd version (Place input.Crd code.NotYet p) = HasUnknownPlace has crd version (string_bytes p)
-IsSchemaCause has before now crd version (Place input.Crd code.KeywordForm p) = HasReadFault has crd version (s.KeywordForm p)
-IsSchemaCause has before now crd version (Place input.Crd code.TooLarge p) = HasReadFault has crd version (s.TooLarge p)
-IsSchemaCause has before now crd version (Violations vs) = (raw : Data) × IsRequestedSchema has crd version raw × AreViolations raw vs.items × (vs.items ≢ [])
-IsSchemaCause has before now crd version NoMemory = Unit {0}
-IsSchemaCause has before now crd version _ = ⊥
+-- why a schema is refused that was read
+abbrev pub IsRawCause : Data → NotYet → Cause → Type 0
+IsRawCause raw Unready (Place input.Crd code.NotYet p) = Unready raw (string_bytes p)
+IsRawCause raw Unready (Violations vs) = AreViolations (Broken raw) vs.items × (vs.items ≢ [])
+IsRawCause raw Unready NoMemory = Unit {0}
+IsRawCause raw Unready _ = ⊥
+
+-- why no schema is read
+abbrev pub IsReadCause : Documents → ℕ → ℕ → List ℕ → List ℕ → Cause → Type 0
+IsReadCause has before now crd version (Unread i) = (i ≡ input.Crd) × HasFailed before now
+IsReadCause has before now crd version (Document i fault) = (i ≡ input.Crd) × (fault ≢ j.NoMemory) × has (Some crd) (Err fault)
+IsReadCause has before now crd version (Crd fault) = HasReadFault has crd version fault
+IsReadCause has before now crd version (Place input.Crd code.KeywordForm p) = HasReadFault has crd version (s.KeywordForm p)
+IsReadCause has before now crd version (Place input.Crd code.TooLarge p) = HasReadFault has crd version (s.TooLarge p)
+IsReadCause has before now crd version NoMemory = Unit {0}
+IsReadCause has before now crd version _ = ⊥
+
+-- why there is no schema that is taken
+abbrev pub IsSchemaCause : Documents → ℕ → ℕ → List ℕ → List ℕ → NotYet → Cause → Type 0
+IsSchemaCause has before now crd version Unready cause =
+    IsReadCause has before now crd version cause ⊎ ((raw : Data) × IsRequestedSchema has crd version raw × IsRawCause raw Unready cause)
 
 -- why there are no pools
 abbrev pub IsPoolsCause : Documents → ℕ → ℕ → Option (Bor (List ℕ)) → Cause → Type 0

@@ -12,8 +12,8 @@ use Rattle.crdx.specs.declared.running.causes.Cause.{Cause}
 use Rattle.crdx.specs.declared.running.causes.Cause.TheVariants as cause
 use Rattle.schema.specs.declared.fault.SFault.{SFault}
 use Rattle.schema.specs.declared.fault.SFault.TheVariants as s
-use Rattle.schema.specs.declared.refused.Refused.{Refused}
-use Rattle.schema.specs.declared.refused.Refused.TheVariants as refused
+use Rattle.crdx.specs.declared.stored.refused.Refused.{Refused}
+use Rattle.crdx.specs.declared.stored.refused.Refused.TheVariants as refused
 use Rattle.crdx.specs.declared.plan.fault.PFault.{PFault}
 use Rattle.crdx.specs.declared.plan.fault.PFault.TheVariants as p
 use Rattle.crdx.specs.declared.walk.fault.WFault.{WFault}

@@ -2,12 +2,13 @@
 -- first place that is not known at this stage; or that memory is wanting (this project's own).
 use Rattle.std.specs.Prelude.{◌≢◌, [], true, string_bytes}
 use Rattle.jtree.specs.Data.{Data}
-use Rattle.schema.specs.Rules.Breaks.{AreViolations, IsUnbroken}
+use Rattle.schema.specs.Rules.Broken.{Broken}
+use Rattle.schema.specs.Rules.Breaks.{AreViolations, BreaksNone}
 use Rattle.crdx.specs.Objects.Accepted.{IsUnknownAt}
-use Rattle.schema.specs.declared.refused.Refused.{Refused}
-use Rattle.schema.specs.declared.refused.Refused.TheVariants.{Violations, NotYet, NoMemory}
+use Rattle.crdx.specs.declared.stored.refused.Refused.{Refused}
+use Rattle.crdx.specs.declared.stored.refused.Refused.TheVariants.{Violations, NotYet, NoMemory}
 
 abbrev pub IsRefusal : Data → Refused → Type 0
-IsRefusal raw (Violations vs) = AreViolations raw vs.items × (vs.items ≢ [])
-IsRefusal raw (NotYet p) = IsUnbroken raw × IsUnknownAt true raw (string_bytes p)
+IsRefusal raw (Violations vs) = AreViolations (Broken raw) vs.items × (vs.items ≢ [])
+IsRefusal raw (NotYet p) = BreaksNone raw × IsUnknownAt true raw (string_bytes p)
 IsRefusal raw NoMemory = Unit {0}

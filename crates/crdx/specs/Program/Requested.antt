@@ -3,11 +3,16 @@
 use Rattle.std.specs.Prelude.{◌≡◌, ◌≢◌, ◌⊎◌, ℕ, List, [], true, Option, Some, None, IsSomeAnd, Ok, Err}
 use Rattle.std.specs.Borrow.{Bor}
 use Rattle.jtree.specs.Data.{Data}
+use Rattle.jtree.specs.Path.{Path}
+use Rattle.jtree.specs.PathOrder.{IsFirst}
+use Rattle.jtree.specs.Pointer.{pointer}
 use Rattle.jtree.specs.declared.fault.JFault.{JFault}
 use Rattle.jtree.specs.declared.fault.JFault.TheVariants as j
 use Rattle.schema.specs.Document.Crd.{IsRead}
 use Rattle.schema.specs.Document.ReadFault.{IsSound, IsReadFault}
-use Rattle.schema.specs.Rules.Breaks.{IsUnbroken}
+use Rattle.schema.specs.Document.Places.{Place}
+use Rattle.schema.specs.Rules.Breaks.{BreaksNone}
+use Rattle.schema.specs.Rules.Defaults.{HasDefault, HasDefaultAt}
 use Rattle.schema.specs.declared.fault.SFault.{SFault}
 use Rattle.schema.specs.declared.fault.SFault.TheVariants as s
 use Rattle.crdx.specs.Objects.Accepted.{AllKnown, IsUnknownAt, IsNodeAt}
@@ -29,10 +34,19 @@ pub record IsRequestedSchema (has : Documents) (crd version : List ℕ) (raw : D
   pub read : IsRead document version group kind raw
   pub sound : IsSound raw
 
+-- it is structural: no rule is broken, and no place has a default, which is not judged yet
+pub record IsStructuralSchema (has : Documents) (crd version : List ℕ) (raw : Data) : Type 0 where
+  pub asked : IsRequestedSchema has crd version raw
+  pub unbroken : BreaksNone raw
+  pub no_default : (p : Place) → HasDefault raw p → ⊥
+
+abbrev pub HasStructuralSchema : Documents → List ℕ → List ℕ → Type 0
+HasStructuralSchema has crd version = (raw : Data) × IsStructuralSchema has crd version raw
+
 -- it is accepted: no rule is broken, and each place is known
 pub record IsAcceptedSchema (has : Documents) (crd version : List ℕ) (raw : Data) : Type 0 where
   pub asked : IsRequestedSchema has crd version raw
-  pub unbroken : IsUnbroken raw
+  pub unbroken : BreaksNone raw
   pub known : AllKnown true raw
 
 abbrev pub HasAcceptedSchema : Documents → List ℕ → List ℕ → Type 0
@@ -42,14 +56,25 @@ HasAcceptedSchema has crd version = (raw : Data) × IsAcceptedSchema has crd ver
 abbrev pub HasReadFault : Documents → List ℕ → List ℕ → SFault → Type 0
 HasReadFault has crd version fault = (document : Data) × has (Some crd) (Ok document) × (fault ≢ s.NoMemory) × IsReadFault document version fault
 
--- the pointer of the first place that is not known, in a schema that breaks no rule
-abbrev pub HasUnknownPlace : Documents → List ℕ → List ℕ → List ℕ → Type 0
-HasUnknownPlace has crd version pointer = (raw : Data) × IsRequestedSchema has crd version raw × IsUnbroken raw × IsUnknownAt true raw pointer
+-- a schema, and the pointer of a place at which it is not taken yet
+abbrev pub NotYet : Type 1
+NotYet = Data → List ℕ → Type 0
 
--- there is no document of this name, or it has a fault, or its schema for this version has a place that is not known
-abbrev pub IsCrdRefused : Documents → List ℕ → List ℕ → Type 0
-IsCrdRefused has crd version = ((fault : JFault) × (fault ≢ j.NoMemory) × has (Some crd) (Err fault)) ⊎ (((fault : SFault) × HasReadFault has crd version fault)
-    ⊎ ((pointer : List ℕ) × HasUnknownPlace has crd version pointer))
+-- for `sample`: the first place that is not known, in a schema that breaks no rule
+abbrev pub HasFirstUnknown : NotYet
+HasFirstUnknown raw p = BreaksNone raw × IsUnknownAt true raw p
+
+-- for `check`: the first place in path order that has a default, in a schema that breaks no rule
+abbrev pub HasFirstDefault : NotYet
+HasFirstDefault raw p = BreaksNone raw × ((path : Path) × (p ≡ pointer path) × IsFirst (HasDefaultAt raw) path)
+
+abbrev pub IsNotYet : Documents → List ℕ → List ℕ → NotYet → List ℕ → Type 0
+IsNotYet has crd version Unready p = (raw : Data) × IsRequestedSchema has crd version raw × Unready raw p
+
+-- there is no document of this name, or it has a fault, or its schema for this version is not taken yet
+abbrev pub IsCrdRefused : Documents → List ℕ → List ℕ → NotYet → Type 0
+IsCrdRefused has crd version Unready =
+    ((fault : JFault) × (fault ≢ j.NoMemory) × has (Some crd) (Err fault)) ⊎ (((fault : SFault) × HasReadFault has crd version fault) ⊎ ((p : List ℕ) × IsNotYet has crd version Unready p))
 
 -- the pools of the document of this name, and empty ones without a name
 abbrev pub ArePools : Documents → Option (Bor (List ℕ)) → Pools → Type 0

@@ -4,13 +4,14 @@ use Rattle.std.specs.Global.{Global}
 use Rattle.std.specs.Io.KnownBytes.{Appends, Keeps}
 use Rattle.jtree.specs.Data.{Data, text}
 use Rattle.jtree.specs.Text.{compact}
+use Rattle.schema.specs.Rules.Broken.{Broken}
 use Rattle.schema.specs.Rules.Breaks.{Break, AreBreaks, Told, told_of, rule_name}
 use Rattle.crdx.specs.Output.Line.{lines}
 use Rattle.crdx.specs.Output.PartialOutput.{IsCutBetweenLines, IsCutByFailure}
 use Rattle.crdx.specs.Output.Sink.{HasFailed}
 use Rattle.crdx.specs.Program.Documents.{Documents}
 use Rattle.crdx.specs.Program.Phrases.{phrase_of}
-use Rattle.crdx.specs.Program.Requested.{IsRequestedSchema, HasAcceptedSchema, IsCrdRefused, IsRequested, ArePoolsRefused}
+use Rattle.crdx.specs.Program.Requested.{IsRequestedSchema, HasStructuralSchema, HasAcceptedSchema, HasFirstDefault, HasFirstUnknown, IsCrdRefused, IsRequested, ArePoolsRefused}
 use Rattle.crdx.specs.Samples.Page.{IsPage}
 use Rattle.crdx.specs.Samples.Sample.{Question}
 use Rattle.crdx.specs.declared.arguments.request.CheckArguments.{CheckArguments}
@@ -27,11 +28,11 @@ told_lines ts = flat_map told_line ts
 
 -- these are all breaks of the schema that is asked for, and there are some
 abbrev pub HasBreaks : Documents → List ℕ → List ℕ → List Break → Type 0
-HasBreaks has crd version breaks = (raw : Data) × IsRequestedSchema has crd version raw × AreBreaks raw breaks × (breaks ≢ [])
+HasBreaks has crd version breaks = (raw : Data) × IsRequestedSchema has crd version raw × AreBreaks (Broken raw) breaks × (breaks ≢ [])
 
 -- the answer to a request: the exit status, and the whole text on standard output
 pub data IsAnswer (has : Documents) : Request → ℕ → List ℕ → Type 0 where
-  structural : (arguments : CheckArguments) → HasAcceptedSchema has arguments.crd.now arguments.version.now → IsAnswer has (Check arguments) 0 (codes "structural\n")
+  structural : (arguments : CheckArguments) → HasStructuralSchema has arguments.crd.now arguments.version.now → IsAnswer has (Check arguments) 0 (codes "structural\n")
   violations : (arguments : CheckArguments) (breaks : List Break) → HasBreaks has arguments.crd.now arguments.version.now breaks
       → IsAnswer has (Check arguments) 1 (told_lines (map told_of breaks))
   samples : (arguments : SampleArguments) (q : Question) (items : List Data) (end : Bool) → IsRequested has arguments q → IsPage q None arguments.count items end
@@ -43,8 +44,9 @@ pub data IsAnswer (has : Documents) : Request → ℕ → List ℕ → Type 0 wh
 
 -- an input of the request is refused; pools only where the schema is accepted
 abbrev pub IsInputRefused : Documents → Request → Type 0
-IsInputRefused has (Check arguments) = IsCrdRefused has arguments.crd.now arguments.version.now
-IsInputRefused has (Sample arguments) = IsCrdRefused has arguments.crd.now arguments.version.now ⊎ (HasAcceptedSchema has arguments.crd.now arguments.version.now × ArePoolsRefused has arguments.pools)
+IsInputRefused has (Check arguments) = IsCrdRefused has arguments.crd.now arguments.version.now HasFirstDefault
+IsInputRefused has (Sample arguments) = IsCrdRefused has arguments.crd.now arguments.version.now HasFirstUnknown
+    ⊎ (HasAcceptedSchema has arguments.crd.now arguments.version.now × ArePoolsRefused has arguments.pools)
 IsInputRefused has _ = ⊥
 
 -- what is out where standard output failed: a beginning of the answer, as a walk leaves it

@@ -1,19 +1,22 @@
 // What `check` answers.
-ghost use Rattle.std.specs.Prelude.{◌≡◌, map, IfOk, IfErr, string_bytes};
+ghost use Rattle.std.specs.Prelude.{◌≡◌, map, OnOk, IfOk, IfErr, string_bytes};
 ghost use Rattle.jtree.specs.Data as tree;
 ghost use Rattle.jtree.specs.Text.{compact};
-ghost use Rattle.schema.specs.Rules.Breaks.{told};
-ghost use Rattle.crdx.specs.Internal.Cause.{IsInputCause};
+ghost use Rattle.schema.specs.Document.Places.{Place};
+ghost use Rattle.schema.specs.Rules.Breaks.{BreaksNone, told};
+ghost use Rattle.schema.specs.Rules.Defaults.{HasDefault};
+ghost use Rattle.crdx.specs.Internal.Cause.{IsRawCause, IsSchemaCause, IsInputCause};
+ghost use Rattle.crdx.specs.Program.Requested.{HasFirstDefault, HasStructuralSchema};
 ghost use Rattle.crdx.specs.Program.RunResult.{IsAnswer, told_line, told_lines};
 ghost use Rattle.crdx.specs.declared.arguments.request.Request.TheVariants.{Check};
 
 use crate::arguments::CheckArguments;
 use crate::inputs::Inputs;
 use crate::phrases::phrase;
-use crate::running::causes::Cause;
-use crate::running::documents::schema_of;
+use crate::running::causes::{Cause, Input, PlaceCode};
+use crate::running::documents::raw_of;
 use jtree::{Text, Tree};
-use schema::Violation;
+use schema::{RawSchema, Refused, Violation, first_default, shape};
 use std::alloc::{AllocError, Global};
 
 /// A whole answer: the exit status, and the text for standard output.
@@ -32,8 +35,8 @@ pub(crate) fn check<I: Inputs>(
     ensures answer { IfOk result (λ a. IsAnswer (I.has inputs.old) (Check arguments.now) a.status (string_bytes a.text)) }
     ensures cause { IfErr result (IsInputCause (I.has inputs.old) (I.failures inputs.old) (I.failures inputs.new) (Check arguments.now)) }
 {
-    let cause = match schema_of(alloc, arguments.crd, arguments.version, inputs) {
-        Ok(_schema) => {
+    let cause = match find_structural(alloc, arguments, inputs) {
+        Ok(()) => {
             return Ok(Answer {
                 status: 0,
                 text: String::from_str(alloc, "structural\n")?,
@@ -47,6 +50,40 @@ pub(crate) fn check<I: Inputs>(
             text: violation_lines(alloc, &violations)?,
         }),
         other => Err(other),
+    }
+}
+
+/// Whether the schema that is asked for is structural.
+fn find_structural<I: Inputs>(
+    alloc: Global,
+    arguments: &CheckArguments<'_>,
+    inputs: &mut I,
+) -> Result<(), Cause>
+    ensures ok { OnOk result (HasStructuralSchema (I.has inputs.old) arguments.now.crd.now arguments.now.version.now) }
+    ensures cause { IfErr result (IsSchemaCause (I.has inputs.old) (I.failures inputs.old) (I.failures inputs.new) arguments.now.crd.now arguments.now.version.now HasFirstDefault) }
+{
+    let raw = raw_of(alloc, arguments.crd, arguments.version, inputs)?;
+    match judge(alloc, &raw) {
+        Ok(()) => Ok(()),
+        Err(cause) => Err(cause),
+    }
+}
+
+/// Whether a schema breaks no rule, and has no default: what a default becomes is not judged yet.
+fn judge(alloc: Global, raw: &RawSchema) -> Result<(), Cause>
+    ensures unbroken { OnOk result (BreaksNone raw.now) }
+    ensures no_default { OnOk result ((p : Place) → HasDefault raw.now p → ⊥) }
+    ensures cause { IfErr result (IsRawCause raw.now HasFirstDefault) }
+{
+    match shape(alloc, raw) {
+        Ok(_shape) => {}
+        Err(Refused::Violations(violations)) => return Err(Cause::Violations(violations)),
+        Err(Refused::NoMemory) => return Err(Cause::NoMemory),
+    }
+    match first_default(alloc, raw) {
+        Ok(None) => Ok(()),
+        Ok(Some(pointer)) => Err(Cause::Place(Input::Crd, PlaceCode::NotYet, pointer)),
+        Err(_fault) => Err(Cause::NoMemory),
     }
 }
 

@@ -3,8 +3,8 @@ ghost use Rattle.std.specs.Prelude.{◌≡◌, true, Some, Ok, IfOk, IfErr, OnOk
 ghost use Rattle.jtree.specs.Data.{Data};
 ghost use Rattle.jtree.specs.View.{data_of};
 ghost use Rattle.crdx.specs.Objects.Accepted.{IsNodeAt};
-ghost use Rattle.crdx.specs.Internal.Cause.{IsUnreadCause, IsSchemaCause, IsPoolsCause};
-ghost use Rattle.crdx.specs.Program.Requested.{IsAcceptedSchema, ArePools};
+ghost use Rattle.crdx.specs.Internal.Cause.{IsUnreadCause, IsReadCause, IsSchemaCause, IsPoolsCause};
+ghost use Rattle.crdx.specs.Program.Requested.{HasFirstUnknown, IsRequestedSchema, IsAcceptedSchema, ArePools};
 ghost use Rattle.crdx.specs.Program.Documents.{AreAmong};
 
 use crate::inputs::{InFault, Inputs};
@@ -12,10 +12,10 @@ use crate::plan::Pools;
 use crate::running::causes::{Cause, Input};
 use crate::stored::{Schema, accept};
 use jtree::{JFault, Tree};
-use schema::read_crd;
+use schema::{RawSchema, read_crd};
 use std::alloc::Global;
 
-/// The schema of a version of the CustomResourceDefinition of this name.
+/// The accepted schema of a version of the CustomResourceDefinition of this name.
 pub(crate) fn schema_of<I: Inputs>(
     alloc: Global,
     crd: &str,
@@ -23,13 +23,28 @@ pub(crate) fn schema_of<I: Inputs>(
     inputs: &mut I,
 ) -> Result<Schema, Cause>
     ensures accepted { IfOk result (λ schema. (raw : Data) × IsAcceptedSchema (I.has inputs.old) crd.now version.now raw × IsNodeAt true schema raw) }
-    ensures cause { IfErr result (IsSchemaCause (I.has inputs.old) (I.failures inputs.old) (I.failures inputs.new) crd.now version.now) }
+    ensures cause { IfErr result (IsSchemaCause (I.has inputs.old) (I.failures inputs.old) (I.failures inputs.new) crd.now version.now HasFirstUnknown) }
+    ensures stays { AreAmong (I.has inputs.new) (I.has inputs.old) }
+    ensures unfailed { OnOk result (I.failures inputs.new ≡ I.failures inputs.old) }
+{
+    let raw = raw_of(alloc, crd, version, inputs)?;
+    Ok(accept(alloc, raw)?)
+}
+
+/// The schema of a version of the CustomResourceDefinition of this name, as written.
+pub(crate) fn raw_of<I: Inputs>(
+    alloc: Global,
+    crd: &str,
+    version: &str,
+    inputs: &mut I,
+) -> Result<RawSchema, Cause>
+    ensures ok { IfOk result (λ raw. IsRequestedSchema (I.has inputs.old) crd.now version.now raw) }
+    ensures cause { IfErr result (IsReadCause (I.has inputs.old) (I.failures inputs.old) (I.failures inputs.new) crd.now version.now) }
     ensures stays { AreAmong (I.has inputs.new) (I.has inputs.old) }
     ensures unfailed { OnOk result (I.failures inputs.new ≡ I.failures inputs.old) }
 {
     let document = document(inputs, Input::Crd, crd)?;
-    let crd = read_crd(alloc, &document, version)?;
-    Ok(accept(alloc, crd.raw)?)
+    Ok(read_crd(alloc, &document, version)?.raw)
 }
 
 /// The pools of the document of this name, and empty pools where there is no name.

@@ -6,20 +6,21 @@ ghost use Rattle.jtree.specs.View.{data_of};
 ghost use Rattle.crdx.specs.Objects.NodeView.{node_of};
 ghost use Rattle.crdx.specs.Objects.Place.{schema_at};
 ghost use Rattle.crdx.specs.Objects.Accepted.{AllKnown, IsNodeOf, IsNodeAt, AreFieldsOf, kept};
-ghost use Rattle.schema.specs.Rules.Breaks.{IsUnbroken};
+ghost use Rattle.schema.specs.Rules.Breaks.{BreaksNone};
 ghost use Rattle.crdx.specs.Objects.Refusal.{IsRefusal};
 ghost use Rattle.crdx.specs.Internal.Acceptance.{members_at, AreKnown, IsRefusedAt};
-ghost use Rattle.schema.specs.declared.refused.Refused.TheVariants.{NoMemory};
+ghost use Rattle.crdx.specs.declared.stored.refused.Refused.TheVariants.{NoMemory};
 
 use crate::stored::accepted::Schema;
 use crate::stored::node::{Field, Fields, Node};
+use crate::stored::refused::Refused;
 use crate::stored::shape::{Shape, is_envelope, shape_of};
 use jtree::{Members, Tree, push_name};
-use schema::{RawSchema, Refused, breaks};
+use schema::{RawSchema, breaks};
 use std::alloc::{AllocError, Global};
 
-/// Accepts the raw schema of a version (apiextensions.k8s.io/v1, `schema.openAPIV3Schema`), where it breaks no rule of
-/// structural schemas, and each of its places is known at this stage: below the root `type` is `object`, `integer` or
+/// Accepts the raw schema of a version (apiextensions.k8s.io/v1, `schema.openAPIV3Schema`), where it breaks none of the
+/// rules V01 to V13 and V15 to V17, and each of its places is known at this stage: below the root `type` is `object`, `integer` or
 /// `boolean`; an object may have `properties`, which is an object of objects; and no other keyword stands there but those
 /// without effect (`title`, `description`, `format`, `example`, `externalDocs` and a false `uniqueItems`). The root itself
 /// is an object. `apiVersion`, `kind` and `metadata` among its properties, the envelope of a resource, are let through, and
@@ -30,7 +31,7 @@ use std::alloc::{AllocError, Global};
 /// some place is not. `NoMemory` where an allocation fails.
 pub fn accept(alloc: Global, raw: RawSchema) -> Result<Schema, Refused>
     ensures node { IfOk result (λ s. IsNodeAt true s raw) }
-    ensures unbroken { OnOk result (IsUnbroken raw) }
+    ensures unbroken { OnOk result (BreaksNone raw) }
     ensures known { OnOk result (AllKnown true raw) }
     ensures refused { IfErr result (IsRefusal raw) }
 {
