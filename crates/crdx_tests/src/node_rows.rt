@@ -1,15 +1,9 @@
 //! The node of a schema, or why it has none.
 use crate::harness::{crd_of, is_text};
 use crate::node_text::node_text;
-use schema::{Node, Refused, Shape, Sort, shape};
+use schema::{Node, Sort, shape};
 use std::alloc::Global;
 use std::test::Fail;
-
-// The shape of a schema, or its refusal.
-fn shape_of(alloc: Global, schema: &str) -> Result<Result<Shape, Refused>, Fail> {
-    let crd = crd_of(alloc, schema)??;
-    Ok(shape(alloc, &crd.raw))
-}
 
 // The node of the first field of an object.
 fn first_field(root: &Node) -> Result<&Node, Fail> {
@@ -22,21 +16,16 @@ fn first_field(root: &Node) -> Result<&Node, Fail> {
     }
 }
 
-// The text of the node of a field with this schema, the only one of a root.
-fn said(alloc: Global, schema: &str) -> Result<String, Fail> {
-    let root = format!(in alloc; r#"{{"type":"object","properties":{{"x":{schema}}}}}"#)?;
-    match shape_of(alloc, root.as_str())? {
-        Ok(shape) => node_text(alloc, first_field(shape.root())?),
-        Err(refused) => Ok(refused.to_string(alloc)?),
-    }
-}
-
-// The text of the node of the root.
-fn root_said(alloc: Global, schema: &str) -> Result<String, Fail> {
-    match shape_of(alloc, schema)? {
-        Ok(shape) => node_text(alloc, shape.root()),
-        Err(refused) => Ok(refused.to_string(alloc)?),
-    }
+// The text of the node of the root, or of its first field; or the refusal.
+fn said(alloc: Global, schema: &str, is_field: bool) -> Result<String, Fail> {
+    let crd = crd_of(alloc, schema)??;
+    let shape = match shape(alloc, &crd.raw) {
+        Ok(shape) => shape,
+        Err(refused) => return Ok(refused.to_string(alloc)?),
+    };
+    let root = shape.root();
+    let node = if is_field { first_field(root)? } else { root };
+    node_text(alloc, node)
 }
 
 // A name, the schema of a field, and its node or its refusal.
@@ -170,7 +159,8 @@ static ROOTS: [(&str, &str, &str); 6] = [
 #[test]
 fn nodes(rt: HostRuntime) -> Result<(), Fail> {
     for (name, schema, wanted) in NODES {
-        let found = said(rt.alloc(), schema)?;
+        let root = format!(in rt.alloc(); r#"{{"type":"object","properties":{{"x":{schema}}}}}"#)?;
+        let found = said(rt.alloc(), root.as_str(), true)?;
         is_text(&rt, found.as_str(), wanted, "the node", name);
     }
     Ok(())
@@ -179,7 +169,7 @@ fn nodes(rt: HostRuntime) -> Result<(), Fail> {
 #[test]
 fn roots(rt: HostRuntime) -> Result<(), Fail> {
     for (name, schema, wanted) in ROOTS {
-        let found = root_said(rt.alloc(), schema)?;
+        let found = said(rt.alloc(), schema, false)?;
         is_text(&rt, found.as_str(), wanted, "the node", name);
     }
     Ok(())
