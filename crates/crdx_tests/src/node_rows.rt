@@ -1,7 +1,7 @@
 //! The node of a schema, or why it has none.
 use crate::harness::{crd_of, is_text};
 use crate::node_text::node_text;
-use schema::{Node, Sort, shape};
+use schema::{Node, Sort, nodes_are_unique, shape};
 use std::alloc::Global;
 use std::test::Fail;
 
@@ -173,4 +173,10 @@ fn roots(rt: HostRuntime) -> Result<(), Fail> {
         is_text(&rt, found.as_str(), wanted, "the node", name);
     }
     Ok(())
+}
+
+/// The law is no more than its contract.
+#[test]
+fn law() {
+    nodes_are_unique();
 }

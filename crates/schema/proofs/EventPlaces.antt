@@ -53,6 +53,9 @@ by_tree (list ds) (index i) e o h = item_tree i ds e o h
 by_tree (object ms) (name k) e o h = member_tree ms k e o h
 by_tree _ _ e o h = cc
 
+pub under_tree : (d : Data) (k : List ℕ) (e : Data) → IsTree d → under d k ≡ Some e → IsTree e
+under_tree d k = by_tree d (name k)
+
 pub part_tree : (path : Path) (d e : Data) → IsTree d → part_at d path ≡ Some e → IsTree e
 part_tree [] d e o h = subst IsTree (same_Some d e h) o
 part_tree (s ∷ path) d e o h = let first = part_first d s path e h in part_tree path first.0 e (by_tree d s first.0 o first.1) first.2

@@ -1,48 +1,74 @@
 -- What follows from the kind of a schema.
-use Rattle.std.proofs.Common.{◌≡◌, ◌⊎◌, ℕ, List, [], Bool, true, false, Option, Some, None, refl, inl, inr}
+use Rattle.std.proofs.Common.{◌≡◌, ◌⊎◌, ℕ, List, [], Bool, true, false, Option, Some, None, refl, sym, ◌∙◌, subst, inl, inr}
 use Rattle.std.specs.Prelude.{codes, if◌then◌else◌}
 use Rattle.std.specs.Str.{bytes_eq}
 use Rattle.std.proofs.lemmas.Option.{same_Some}
 use Rattle.jtree.specs.Data.{Data, text, object}
 use Rattle.jtree.specs.Path.{under}
-use Rattle.schema.specs.Document.Raw.{HasObject}
+use Rattle.schema.specs.Document.Raw.{HasObject, IsObject}
 use Rattle.schema.specs.Rules.Keywords.{has_other_text}
-use Rattle.schema.specs.Rules.Kinds.{map, kind_of, typed_kind, named_kind, untyped_kind, object_kind, is_int_or_string, preserves, lacks_type}
+use Rattle.schema.specs.Rules.Kinds as kinds
+use Rattle.schema.specs.Rules.Kinds.{Kind, IsOfKind, open_, map, is_object_kind, kind_of, typed_kind, named_kind, untyped_kind, object_kind, is_int_or_string, preserves, lacks_type}
 use Rattle.schema.specs.Rules.Profile.{types}
+
+-- a schema that is of a kind is an object
+pub kind_object : (s : Data) (k : Kind) → IsOfKind s k → IsObject s
+kind_object (object ms) k is = (ms, refl)
+kind_object s k is = let told = is.is in absurd (cc)
+
+-- a schema is of one kind at most
+pub one_kind : (s : Data) (j k : Kind) → IsOfKind s j → IsOfKind s k → j ≡ k
+one_kind s j k is_j is_k = same_Some j k (sym is_j.is ∙ is_k.is)
 
 -- one of two answers
 either : {X : Type 0} (b : Bool) (x y z : X) (P : Type 0) → (if b then x else y) ≡ z → (b ≡ true → x ≡ z → P) → (b ≡ false → y ≡ z → P) → P
 either true x y z P is then_P else_P = then_P refl is
 either false x y z P is then_P else_P = else_P refl is
 
--- ---- the values of a map
+-- ---- the kinds of objects
+
+abbrev IsEither : Option Kind → Type 0
+IsEither o = is_object_kind o ≡ true
+
+other_kind : (o p : Option Kind) (P : Type 0) → is_object_kind o ≡ false → o ≡ p → IsEither p → P
+other_kind o p P other same is = let either_is : is_object_kind o ≡ true = subst IsEither (sym same) is in absurd (cc)
+
+untyped_object : (s : Data) (k : Kind) (P : Type 0) → IsEither (Some k) → untyped_kind s ≡ Some k → P
+untyped_object s k P either_is is =
+    either (preserves s) _ _ (Some k) P is (λ _ told. other_kind (Some open_) (Some k) P refl told either_is) (λ _ told. other_kind None (Some k) P refl told either_is)
+
+named_object : (s : Data) (t : List ℕ) (k : Kind) → IsEither (Some k) → named_kind s t ≡ Some k → object_kind (under s (codes "additionalProperties")) ≡ k
+named_object s t k either_is is =
+    let P = object_kind (under s (codes "additionalProperties")) ≡ k in
+    let never = λ (o : Option Kind) (other : is_object_kind o ≡ false) (told : o ≡ Some k). other_kind o (Some k) P other told either_is in
+    either (bytes_eq t []) _ _ (Some k) P is (λ _ told. untyped_object s k P either_is told)
+    (λ _ first. either (bytes_eq t (codes "integer")) _ _ (Some k) P first (λ _ told. never _ refl told)
+    (λ _ second. either (bytes_eq t (codes "string")) _ _ (Some k) P second (λ _ told. never _ refl told)
+    (λ _ third. either (bytes_eq t (codes "boolean")) _ _ (Some k) P third (λ _ told. never _ refl told)
+    (λ _ fourth. either (bytes_eq t (codes "array")) _ _ (Some k) P fourth (λ _ told. never _ refl told)
+    (λ _ fifth. either (bytes_eq t (codes "object")) _ _ (Some k) P fifth (λ _ told. same_Some _ k told) (λ _ told. never None refl told))))))
+
+typed_object : (s : Data) (o : Option Data) (k : Kind) → IsEither (Some k) → typed_kind s o ≡ Some k → object_kind (under s (codes "additionalProperties")) ≡ k
+typed_object s None k either_is is = untyped_object s k _ either_is is
+typed_object s (Some (text t)) k either_is is = named_object s t k either_is is
+typed_object s _ k either_is is = absurd (cc)
+
+object_told : (s : Data) (k : Kind) → IsEither (Some k) → kind_of s ≡ Some k → object_kind (under s (codes "additionalProperties")) ≡ k
+object_told s k either_is is =
+    let P = object_kind (under s (codes "additionalProperties")) ≡ k in
+    either (is_int_or_string s) _ _ (Some k) P is (λ _ told. other_kind _ (Some k) P refl told either_is) (λ _ told. typed_object s (under s (codes "type")) k either_is told)
 
 map_values : (s : Data) (o : Option Data) → under s (codes "additionalProperties") ≡ o → object_kind o ≡ map → HasObject s (codes "additionalProperties")
 map_values s (Some (object ms)) at is = (ms, at)
 map_values s _ at is = absurd (cc)
 
-untyped_map : (s : Data) (P : Type 0) → untyped_kind s ≡ Some map → P
-untyped_map s P is = either (preserves s) _ _ (Some map) P is (λ _ told. absurd (cc)) (λ _ told. absurd (cc))
-
-named_map : (s : Data) (t : List ℕ) → named_kind s t ≡ Some map → HasObject s (codes "additionalProperties")
-named_map s t is =
-    let P = HasObject s (codes "additionalProperties") in
-    either (bytes_eq t []) _ _ (Some map) P is (λ _ told. untyped_map s P told)
-    (λ _ first. either (bytes_eq t (codes "integer")) _ _ (Some map) P first (λ _ told. absurd (cc))
-    (λ _ second. either (bytes_eq t (codes "string")) _ _ (Some map) P second (λ _ told. absurd (cc))
-    (λ _ third. either (bytes_eq t (codes "boolean")) _ _ (Some map) P third (λ _ told. absurd (cc))
-    (λ _ fourth. either (bytes_eq t (codes "array")) _ _ (Some map) P fourth (λ _ told. absurd (cc))
-    (λ _ fifth. either (bytes_eq t (codes "object")) _ _ (Some map) P fifth (λ _ told. map_values s (under s (codes "additionalProperties")) refl (same_Some _ map told))
-    (λ _ told. absurd (cc)))))))
-
-typed_map : (s : Data) (o : Option Data) → typed_kind s o ≡ Some map → HasObject s (codes "additionalProperties")
-typed_map s None is = untyped_map s (HasObject s (codes "additionalProperties")) is
-typed_map s (Some (text t)) is = named_map s t is
-typed_map s _ is = absurd (cc)
-
 pub map_has_object : (s : Data) → kind_of s ≡ Some map → HasObject s (codes "additionalProperties")
-map_has_object s is = either (is_int_or_string s) _ _ (Some map) (HasObject s (codes "additionalProperties")) is (λ _ told. absurd (cc))
-    (λ _ told. typed_map s (under s (codes "type")) told)
+map_has_object s is = map_values s (under s (codes "additionalProperties")) refl (object_told s map refl is)
+
+pub object_has_none : (s : Data) → kind_of s ≡ Some kinds.object → HasObject s (codes "additionalProperties") → ⊥
+object_has_none s is o =
+    let one : map ≡ kinds.object = subst (λ x. object_kind x ≡ kinds.object) o.1 (object_told s kinds.object refl is) in
+    cc
 
 -- ---- a place of no kind has no type, or another one
 

@@ -18,3 +18,6 @@ pub mod NodeLemmas
 pub mod KindLemmas
 pub mod ShapeLemmas
 pub mod DefaultLemmas
+pub mod OwnParts
+pub mod OneNode
+pub mod ByPlaceLemmas

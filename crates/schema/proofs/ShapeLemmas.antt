@@ -1,11 +1,11 @@
 -- The schemas below one whose places have nodes have nodes, and the fields of properties.
-use Rattle.std.proofs.Common.{◌≡◌, ◌<◌, ◌+◌, ℕ, List, [], ◌∷◌, ◌++◌, length, get_or, take, drop, Bool, true, false, Some, None, refl, sym, ap, ◌∙◌, subst, inl, inr}
+use Rattle.std.proofs.Common.{◌≡◌, ◌<◌, ◌+◌, ℕ, List, [], ◌∷◌, ◌++◌, length, get_or, take, drop, Bool, true, false, Option, Some, None, refl, sym, ap, ◌∙◌, subst, inl, inr}
 use Rattle.std.specs.Prelude.{option_and_then, option_map, codes, ◌||◌, ◌&&◌}
 use Rattle.std.specs.Str.{bytes_eq}
 use Rattle.std.proofs.lemmas.Option.{same_Some}
 use Rattle.std.proofs.lemmas.List.{take-append-drop, drop_more}
 use Rattle.std.specs.declared.cmp.Ordering.TheVariants.{Less}
-use Rattle.jtree.specs.Data.{Data, Items, Members, no_members, member, IsNameBefore, AreMembers, depth, members_depth}
+use Rattle.jtree.specs.Data.{Data, Items, Members, no_members, member, IsNameBefore, IsTree, AreMembers}
 use Rattle.jtree.specs.Data as tree
 use Rattle.jtree.specs.Kind.{is_object}
 use Rattle.jtree.specs.Internal.Lookups.{bool_cases, IsNameBefore-trans, member_first, member_tail}
@@ -17,26 +17,28 @@ use Rattle.jtree.specs.declared.value.Member.{Member}
 use Rattle.schema.specs.Document.Texts.{is_among}
 use Rattle.schema.specs.Document.Raw.{HasObject}
 use Rattle.schema.specs.Rules.Kinds as kinds
-use Rattle.schema.specs.Rules.Keywords.{has_other_text}
-use Rattle.schema.specs.Rules.Kinds.{IsOfKind}
+use Rattle.schema.specs.Rules.Keywords.{has_other_text, members_in, members_under, texts_under}
+use Rattle.schema.specs.Rules.Kinds.{Kind, IsOfKind, kind_of}
 use Rattle.schema.specs.Rules.Profile.{types, is_bad_root, is_root, lacks_items, is_outside_profile}
 use Rattle.schema.specs.Rules.Breaks.{BreaksNone}
+use Rattle.schema.specs.Document.Places.{Step, Place, property, map_value, items, schema_by, schema_at, is_junctor, is_inside, IsEnvelopeName, IsEnvelope}
+use Rattle.schema.specs.Nodes.Node.{Node, node, Sort, object, map, list, Fields, no_fields, field, IsNode, IsSort, IsBeforeFields, AreOrdered}
+use Rattle.schema.specs.Nodes.View.{node_of, fields_of}
+use Rattle.schema.specs.Nodes.ByPlace.{IsNodePlace}
+use Rattle.schema.specs.Internal.NodeOf.{IsNodeOf, AreBelow, AreFieldsOf, is_declared, declared_of}
+use Rattle.schema.specs.Internal.Building.{HasNoNode, HasNodes, HaveNodes}
 use Rattle.schema.specs.declared.violation.Rule.TheVariants.{V01, V17}
 use Rattle.schema.proofs.KindLemmas.{map_has_object, kind_none}
-use Rattle.schema.specs.Document.Places.{property, map_value, items, schema_by, schema_at, IsEnvelopeName}
-use Rattle.schema.specs.Nodes.Node.{Fields, no_fields, field, IsNode, IsBeforeFields, AreOrdered}
-use Rattle.schema.specs.Nodes.View.{node_of, fields_of}
-use Rattle.schema.specs.Nodes.Shape.{IsNodeOf, AreFieldsOf, is_declared, declared_of}
-use Rattle.schema.specs.Internal.Building.{HasNoNode, HasNodes, HaveNodes, AreNodes}
 use Rattle.schema.specs.declared.node.Field.{Field}
+use Rattle.schema.proofs.EventPlaces.{under_tree}
 
 -- ---- where no rule is broken each place has a node
 
-or_right : (a b : Bool) → b ≡ true → (a || b) ≡ true
+pub or_right : (a b : Bool) → b ≡ true → (a || b) ≡ true
 or_right true b h = refl
 or_right false b h = h
 
-or_left : (a b : Bool) → a ≡ true → (a || b) ≡ true
+pub or_left : (a b : Bool) → a ≡ true → (a || b) ≡ true
 or_left true b h = refl
 or_left false b h = cc
 
@@ -46,31 +48,50 @@ other_type root s h = or_left _ _ (or_right (root && is_bad_root s) _ (or_left _
 no_items : (root : Bool) (s : Data) → IsOfKind s kinds.list → schema_by s items ≡ None → is_outside_profile root s ≡ true
 no_items root s kind none = or_right _ (lacks_items s || _) (or_left (lacks_items s) _ (rw (kind.is, none) refl))
 
+no_kind : (raw : Data) → BreaksNone raw → (p : Place) (s : Data) → is_inside p ≡ false → schema_at raw p ≡ Some s → kind_of s ≡ None → ⊥
+no_kind raw none p s outside at untyped = elim (kind_none s untyped) [
+  | inl lacks ↦ none p V01 (outside, (s, at, lacks))
+  | inr typed ↦ none p V17 (outside, (s, at, other_type (is_root p) s typed))
+]
+
+kind_or_none : (o : Option Kind) → (o ≡ None → ⊥) → (k : Kind) × (o ≡ Some k)
+kind_or_none None some = absurd (some refl)
+kind_or_none (Some k) some = (k, refl)
+
+pub some_kind : (raw : Data) → BreaksNone raw → (p : Place) (s : Data) → is_inside p ≡ false → schema_at raw p ≡ Some s → (k : Kind) × (kind_of s ≡ Some k)
+some_kind raw none p s outside at = kind_or_none (kind_of s) (no_kind raw none p s outside at)
+
 pub all_have_nodes : (raw : Data) → BreaksNone raw → HasNodes true raw
-all_have_nodes raw none p outside other at = elim at.2 [
-  | inl untyped ↦ elim (kind_none at.0 untyped) [
-    | inl lacks ↦ none p V01 (outside, (at.0, at.1, lacks))
-    | inr typed ↦ none p V17 (outside, (at.0, at.1, other_type (is_root p) at.0 typed))
-  ]
-  | inr list ↦ none p V17 (outside, (at.0, at.1, no_items (is_root p) at.0 list.0 list.1))
+all_have_nodes raw none p place at = elim at.2 [
+  | inl untyped ↦ no_kind raw none p at.0 place.0 at.1 untyped
+  | inr empty ↦ none p V17 (place.0, (at.0, at.1, no_items (is_root p) at.0 empty.0 empty.1))
 ]
 
 -- ---- places one step below
 
+or_parts : (a b : Bool) → (a || b) ≡ false → (a ≡ false) × (b ≡ false)
+or_parts true b h = cc
+or_parts false b h = (refl, h)
+
+envelope_step : (step : Step) (p q : Place) → IsEnvelope (step ∷ p) → IsEnvelope (step ∷ q)
+envelope_step (property k) p q h = h
+envelope_step _ p q h = h
+
+pub place_more : (root : Bool) (step : Step) (p : Place) → IsNodePlace root (step ∷ []) → IsNodePlace false p → IsNodePlace root (step ∷ p)
+place_more root step p first rest = (rw ((or_parts (is_junctor step) false first.0).0) rest.0, λ is e. first.1 is (envelope_step step p [] e))
+
+pub place_first : (root : Bool) (step : Step) (p : Place) → IsNodePlace root (step ∷ p) → IsNodePlace root (step ∷ [])
+place_first root step p h = (rw ((or_parts (is_junctor step) (is_inside p) h.0).0) refl, λ is e. h.1 is (envelope_step step [] p e))
+
+pub place_rest : (root : Bool) (step : Step) (p : Place) → IsNodePlace root (step ∷ p) → IsNodePlace false p
+place_rest root step p h = ((or_parts (is_junctor step) (is_inside p) h.0).1, λ is e. cc)
+
 pub has_node : (root : Bool) (s : Data) → HasNodes root s → HasNoNode s → ⊥
-has_node root s h lacks = h [] refl (λ is e. absurd (cc)) (s, refl, lacks)
+has_node root s h lacks = h [] (refl, λ is e. absurd (cc)) (s, refl, lacks)
 
-list_below : (root : Bool) (s d : Data) → HasNodes root s → schema_by s items ≡ Some d → HasNodes false d
-list_below root s d h by p outside other at =
-    h (items ∷ p) outside (λ is e. absurd (cc)) (at.0, ap (option_and_then (λ t. schema_at t p)) by ∙ at.1, at.2)
-
-map_below : (root : Bool) (s d : Data) → HasNodes root s → schema_by s map_value ≡ Some d → HasNodes false d
-map_below root s d h by p outside other at =
-    h (map_value ∷ p) outside (λ is e. absurd (cc)) (at.0, ap (option_and_then (λ t. schema_at t p)) by ∙ at.1, at.2)
-
-property_below : (root : Bool) (s d : Data) (k : List ℕ) → HasNodes root s → (root ≡ true → IsEnvelopeName k → ⊥) → schema_by s (property k) ≡ Some d → HasNodes false d
-property_below root s d k h other by p outside none at =
-    h (property k ∷ p) outside other (at.0, ap (option_and_then (λ t. schema_at t p)) by ∙ at.1, at.2)
+nodes_below : (root : Bool) (s d : Data) (step : Step) → HasNodes root s → IsNodePlace root (step ∷ []) → schema_by s step ≡ Some d → HasNodes false d
+nodes_below root s d step h first by p place at =
+    h (step ∷ p) (place_more root step p first place) (at.0, ap (option_and_then (λ t. schema_at t p)) by ∙ at.1, at.2)
 
 -- ---- the items of a list
 
@@ -78,7 +99,7 @@ pub list_has_items : (root : Bool) (s : Data) → HasNodes root s → IsOfKind s
 list_has_items root s h kind none = has_node root s h (inr (kind, rw none refl))
 
 pub list_nodes : (root : Bool) (s d : Data) → HasNodes root s → IsOfKind s kinds.list → under s (codes "items") ≡ Some d → HasNodes false d
-list_nodes root s (tree.object ms) h kind at = list_below root s (tree.object ms) h (rw at refl)
+list_nodes root s (tree.object ms) h kind at = nodes_below root s (tree.object ms) items h (refl, λ is e. absurd (cc)) (rw at refl)
 list_nodes root s _ h kind at = absurd (has_node root s h (inr (kind, rw at refl)))
 
 -- ---- the values of a map
@@ -90,15 +111,15 @@ pub map_nodes : (root : Bool) (s d : Data) → HasNodes root s → IsOfKind s ki
 map_nodes root s d h kind at =
     let o = map_has_object s kind.is in
     let same : d ≡ tree.object o.0 = same_Some d (tree.object o.0) (sym at ∙ o.1) in
-    subst (HasNodes false) (sym same) (map_below root s (tree.object o.0) h (rw o.1 refl))
+    subst (HasNodes false) (sym same) (nodes_below root s (tree.object o.0) map_value h (refl, λ is e. absurd (cc)) (rw o.1 refl))
 
 -- ---- the properties of an object
 
-declared_is_object : (root : Bool) (k : List ℕ) (d : Data) → is_declared root k d ≡ true → (ms : Members) × (d ≡ tree.object ms)
+pub declared_is_object : (root : Bool) (k : List ℕ) (d : Data) → is_declared root k d ≡ true → (ms : Members) × (d ≡ tree.object ms)
 declared_is_object root k (tree.object ms) is = (ms, refl)
 declared_is_object root k _ is = cc
 
-declared_is_other : (root : Bool) (k : List ℕ) (d : Data) → is_declared root k d ≡ true → root ≡ true → IsEnvelopeName k → ⊥
+pub declared_is_other : (root : Bool) (k : List ℕ) (d : Data) → is_declared root k d ≡ true → root ≡ true → IsEnvelopeName k → ⊥
 declared_is_other false k d is at e = cc
 declared_is_other true k d is at e = elim (bool_cases (is_object d)) [
   | inl t ↦ let h = rw (t, e) at is in cc
@@ -110,7 +131,7 @@ property_nodes root s ms h at k d there is =
     let o = declared_is_object root k d is in
     let found : member_at k ms ≡ Some (tree.object o.0) = there ∙ ap Some o.1 in
     let by : schema_by s (property k) ≡ Some (tree.object o.0) = rw (at, found) refl in
-    subst (HasNodes false) (sym o.1) (property_below root s (tree.object o.0) k h (declared_is_other root k d is) by)
+    subst (HasNodes false) (sym o.1) (nodes_below root s (tree.object o.0) (property k) h (refl, declared_is_other root k d is) by)
 
 -- ---- fields
 
@@ -123,11 +144,11 @@ end_fields : (fs : List Field) (f : Field) (names : List (List ℕ)) (ms : Membe
     → IsNodeOf false (node_of f.node) d → f.required ≡ is_among k names → option_map data_of f.default ≡ under d (codes "default")
     → AreFieldsOf (fields_of (fs ++ f ∷ [])) names (ended ms k d)
 unfolding ended
-end_fields [] f names no_members k d h name node required default = (name, node, required, default, tt)
-end_fields [] f names (member l e ms) k d h name node required default = absurd h
-end_fields (g ∷ fs) f names no_members k d h name node required default = absurd h
-end_fields (g ∷ fs) f names (member l e ms) k d h name node required default =
-    (h.0, h.1, h.2, h.3, end_fields fs f names ms k d h.4 name node required default)
+end_fields [] f names no_members k d h name is_node required default = (name, is_node, required, default, tt)
+end_fields [] f names (member l e ms) k d h name is_node required default = absurd h
+end_fields (g ∷ fs) f names no_members k d h name is_node required default = absurd h
+end_fields (g ∷ fs) f names (member l e ms) k d h name is_node required default =
+    (h.0, h.1, h.2, h.3, end_fields fs f names ms k d h.4 name is_node required default)
 
 declared_ended : (root : Bool) (xs : List Member) (m : Member) → is_declared root m.name (data_of m.tree) ≡ true
     → declared_of root (members_of (xs ++ m ∷ [])) ≡ ended (declared_of root (members_of xs)) m.name (data_of m.tree)
@@ -151,9 +172,9 @@ pub push_field : (root : Bool) (fs : List Field) (f : Field) (names : List (List
     → AreFieldsOf (fields_of fs) names (declared_of root (members_of xs)) → f.name ≡ m.name → IsNodeOf false (node_of f.node) (data_of m.tree)
     → f.required ≡ is_among m.name names → option_map data_of f.default ≡ under (data_of m.tree) (codes "default")
     → AreFieldsOf (fields_of (fs ++ f ∷ [])) names (declared_of root (members_of (xs ++ m ∷ [])))
-push_field root fs f names xs m is h name node required default =
+push_field root fs f names xs m is h name is_node required default =
     subst (AreFieldsOf (fields_of (fs ++ f ∷ [])) names) (sym (declared_ended root xs m is))
-    (end_fields fs f names (declared_of root (members_of xs)) m.name (data_of m.tree) h name node required default)
+    (end_fields fs f names (declared_of root (members_of xs)) m.name (data_of m.tree) h name is_node required default)
 
 declared_before : (root : Bool) (k : List ℕ) (ms : Members) → IsNameBefore k ms → AreMembers ms → IsNameBefore k (declared_of root ms)
 declared_before root k no_members before o = tt
@@ -169,21 +190,35 @@ declared_object root (member k d ms) o = elim (bool_cases (is_declared root k d)
   | inr f ↦ rw f (declared_object root ms o.2)
 ]
 
-pub push_nodes : (fs : List Field) (f : Field) → AreNodes (fields_of fs) → IsNode (node_of f.node) → AreNodes (fields_of (fs ++ f ∷ []))
-push_nodes [] f h node = (node, tt)
-push_nodes (g ∷ fs) f h node = (h.0, push_nodes fs f h.1 node)
-
 fields_before : (k l : List ℕ) (fs : Fields) (names : List (List ℕ)) (ms : Members) → k ≡ l → AreFieldsOf fs names ms → IsNameBefore l ms → IsBeforeFields k fs
 fields_before k l no_fields names no_members same h before = tt
 fields_before k l no_fields names (member m d ms) same h before = absurd h
 fields_before k l (field n N r e fs) names no_members same h before = absurd h
 fields_before k l (field n N r e fs) names (member m d ms) same h before = subst (λ x. text_cmp x n ≡ Less) (sym same) (subst (λ x. text_cmp l x ≡ Less) (sym h.0) before)
 
-pub fields_ordered : (fs : Fields) (names : List (List ℕ)) (ms : Members) → AreFieldsOf fs names ms → AreNodes fs → AreMembers ms → AreOrdered fs
-fields_ordered no_fields names no_members h nodes o = tt
-fields_ordered no_fields names (member l d ms) h nodes o = absurd h
-fields_ordered (field k N r e fs) names no_members h nodes o = absurd h
-fields_ordered (field k N r e fs) names (member l d ms) h nodes o = (nodes.0, fields_before k l fs names ms h.0 h.4 o.1, fields_ordered fs names ms h.4 nodes.1 o.2)
+members_tree : (o : Option Data) → ((d : Data) → o ≡ Some d → IsTree d) → AreMembers (members_in o)
+members_tree (Some (tree.object ms)) h = h (tree.object ms) refl
+members_tree _ h = tt
+
+pub properties_tree : (s : Data) → IsTree s → AreMembers (members_under s (codes "properties"))
+properties_tree s o = members_tree (under s (codes "properties")) (λ d is. under_tree s (codes "properties") d o is)
+
+mutual
+  pub node_ordered : (N : Node) (root : Bool) (s : Data) → IsTree s → IsNodeOf root N s → IsNode N
+  node_ordered (node nullable description sort) root s o is = sort_ordered sort root s o is.1
+
+  sort_ordered : (A : Sort) (root : Bool) (s : Data) → IsTree s → AreBelow root A s → IsSort A
+  sort_ordered (object fs preserves type bounds) root s o below =
+      fields_ordered fs (texts_under s (codes "required")) (declared_of root (members_under s (codes "properties"))) below (declared_object root (members_under s (codes "properties")) (properties_tree s o))
+  sort_ordered (map N type bounds) root s o below = node_ordered N false below.0 (under_tree s (codes "additionalProperties") below.0 o below.1) below.2
+  sort_ordered (list N type keys bounds) root s o below = node_ordered N false below.0 (under_tree s (codes "items") below.0 o below.1) below.2
+  sort_ordered _ root s o below = tt
+
+  pub fields_ordered : (fs : Fields) (names : List (List ℕ)) (ms : Members) → AreFieldsOf fs names ms → AreMembers ms → AreOrdered fs
+  fields_ordered no_fields names no_members h o = tt
+  fields_ordered no_fields names (member l d ms) h o = absurd h
+  fields_ordered (field k N r e fs) names no_members h o = absurd h
+  fields_ordered (field k N r e fs) names (member l d ms) h o = (node_ordered N false d o.0 h.1, fields_before k l fs names ms h.0 h.4 o.1, fields_ordered fs names ms h.4 o.2)
 
 -- ---- members and texts by their places
 

@@ -9,6 +9,7 @@ pub mod Contexts
 pub mod KindView
 pub mod RuleParts
 pub mod Judged
+pub mod NodeOf
 pub mod Building
 pub mod NodeCode
 pub mod NodeMeasures

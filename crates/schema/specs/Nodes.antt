@@ -1,5 +1,6 @@
 -- The nodes of a schema that breaks no rule.
 pub mod Node
 pub mod Validations
+pub mod ByPlace
 pub mod Shape
 pub mod View

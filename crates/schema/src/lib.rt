@@ -1,6 +1,7 @@
 //! Reads a CustomResourceDefinition, and the schema of one of its versions.
 #![tactic(auto)]
 
+mod by_place;
 mod defaults;
 mod definition;
 mod fault;
@@ -21,6 +22,7 @@ mod validations;
 mod versions;
 mod violation;
 
+pub use by_place::nodes_are_unique;
 pub use defaults::first_default;
 pub use definition::{Crd, read_crd};
 pub use fault::SFault;

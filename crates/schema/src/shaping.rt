@@ -9,7 +9,9 @@ ghost use Rattle.schema.specs.Document.Places.{Place};
 ghost use Rattle.schema.specs.Rules.Breaks.{BreaksNone};
 ghost use Rattle.schema.specs.Rules.Keywords.{text_under, texts_under, members_under};
 ghost use Rattle.schema.specs.Nodes.View.{node_of, sort_of, object_of, map_of, list_of};
-ghost use Rattle.schema.specs.Nodes.Shape.{IsNodeOf, IsSortOf, AreFieldsOf, IsShapeRefusal, is_declared as is_declared_of, declared_of, list_type_named, map_type_named};
+ghost use Rattle.schema.specs.Nodes.ByPlace.{AreNodesOf, list_type_named, map_type_named};
+ghost use Rattle.schema.specs.Nodes.Shape.{IsRootOf, IsShapeRefusal};
+ghost use Rattle.schema.specs.Internal.NodeOf.{IsNodeOf, IsSortOf, AreFieldsOf, is_declared as is_declared_of, declared_of};
 ghost use Rattle.schema.specs.Internal.Building.{HasNodes, HaveNodes, IsFieldOf};
 
 use crate::judging::breaks;
@@ -34,14 +36,24 @@ use std::alloc::{AllocError, Global};
 /// `Violations` with all that is broken, in path order of the places and then by number, where some rule is broken.
 /// `NoMemory` where an allocation fails.
 pub fn shape(alloc: Global, raw: &RawSchema) -> Result<Shape, Refused>
-    ensures node { IfOk result (λ s. IsNodeOf true s raw.now) }
+    ensures nodes { IfOk result (λ s. AreNodesOf true s raw.now) }
     ensures unbroken { OnOk result (BreaksNone raw.now) }
     ensures refused { IfErr result (IsShapeRefusal raw.now) }
 {
     match check_rules(alloc, raw) {
-        Ok(()) => Ok(Shape::new(read_node(alloc, raw.tree(), true)?)),
+        Ok(()) => Ok(Shape::new(read_root(alloc, raw)?)),
         Err(refused) => Err(refused),
     }
+}
+
+/// The node of a whole schema.
+fn read_root(alloc: Global, raw: &RawSchema) -> Result<Node, AllocError>
+    requires { BreaksNone raw.now }
+    ensures { IfOk result (λ n. IsRootOf (node_of n) raw.now) }
+{
+    let schema = raw.tree();
+    schema.reveal_invariant();
+    Ok(read_node(alloc, schema, true)?)
 }
 
 /// Whether a schema breaks no rule.
@@ -181,9 +193,7 @@ fn read_fields(
         if !is_declared(property, root) {
             continue;
         }
-        let field = read_field(alloc, schema, property)?;
-        field.node.reveal_invariant();
-        fields.push(field)?;
+        fields.push(read_field(alloc, schema, property)?)?;
     }
     Ok(Fields { fields })
 }

@@ -5,22 +5,24 @@ use Rattle.jtree.specs.Path.{member_at, under}
 use Rattle.jtree.specs.View.{data_of}
 use Rattle.jtree.specs.declared.value.Member.{Member}
 use Rattle.schema.specs.Document.Texts.{is_among}
-use Rattle.schema.specs.Document.Places.{Place, items, is_inside, IsEnvelope, schema_by}
-use Rattle.schema.specs.Rules.Kinds.{kind_of, IsOfKind, list}
+use Rattle.schema.specs.Document.Raw.{HasObject}
+use Rattle.schema.specs.Document.Places.{Place, items, schema_by, schema_at}
+use Rattle.schema.specs.Rules.Kinds as kinds
+use Rattle.schema.specs.Rules.Kinds.{kind_of, IsOfKind}
 use Rattle.schema.specs.Rules.Broken.{At}
 use Rattle.schema.specs.Rules.Keywords.{texts_under}
-use Rattle.schema.specs.Nodes.Node.{Fields, no_fields, field, IsNode}
 use Rattle.schema.specs.Nodes.View.{node_of}
-use Rattle.schema.specs.Nodes.Shape.{IsNodeOf, is_declared}
+use Rattle.schema.specs.Nodes.ByPlace.{IsNodePlace}
+use Rattle.schema.specs.Internal.NodeOf.{IsNodeOf, is_declared}
 use Rattle.schema.specs.declared.node.Field.{Field}
 
 -- a schema of no kind, or a list without items
 abbrev pub HasNoNode : Data → Type 0
-HasNoNode s = (kind_of s ≡ None) ⊎ (IsOfKind s list × (schema_by s items ≡ None))
+HasNoNode s = (kind_of s ≡ None) ⊎ (IsOfKind s kinds.list × (schema_by s items ≡ None))
 
 -- no place that has to have a node is without one
 abbrev pub HasNodes : Bool → Data → Type 0
-HasNodes root s = (p : Place) → is_inside p ≡ false → (root ≡ true → IsEnvelope p → ⊥) → At s p HasNoNode → ⊥
+HasNodes root s = (p : Place) → IsNodePlace root p → At s p HasNoNode → ⊥
 
 abbrev pub HaveNodes : Bool → Members → Type 0
 HaveNodes root ms = (k : List ℕ) (d : Data) → member_at k ms ≡ Some d → is_declared root k d ≡ true → HasNodes false d
@@ -32,7 +34,13 @@ pub record IsFieldOf (f : Field) (schema : Data) (property : Member) : Type 0 wh
   pub required : f.required ≡ is_among property.name (texts_under schema (codes "required"))
   pub default : option_map data_of f.default ≡ under (data_of property.tree) (codes "default")
 
--- each node has its fields in order
-abbrev pub AreNodes : Fields → Type 0
-AreNodes no_fields = Unit {0}
-AreNodes (field k N required default fs) = IsNode N × AreNodes fs
+-- keywords that hold schemas stand where the kind has them: `properties` in objects, a schema of values in maps, `items` in
+-- lists
+pub record HasOwnParts (s : Data) : Type 0 where
+  pub properties : HasObject s (codes "properties") → IsOfKind s kinds.object
+  pub values : HasObject s (codes "additionalProperties") → IsOfKind s kinds.map
+  pub items : HasObject s (codes "items") → IsOfKind s kinds.list
+
+-- and so at each place that is to have a node
+abbrev pub HaveOwnParts : Bool → Data → Type 0
+HaveOwnParts root s = (p : Place) (t : Data) → IsNodePlace root p → schema_at s p ≡ Some t → HasOwnParts t

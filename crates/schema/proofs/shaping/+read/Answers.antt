@@ -1,4 +1,4 @@
-use Rattle.std.proofs.Common.{◌≡◌, ◌+◌, [], ◌∷◌, ◌++◌, take, Some, refl, inl, ap, sym, ◌∙◌, subst, arith}
+use Rattle.std.proofs.Common.{◌≡◌, ◌+◌, [], ◌∷◌, ◌++◌, take, Some, refl, inl, ap, sym, ◌∙◌, subst, arith, rules}
 use Rattle.std.proofs.lemmas.List.{take_more, take_all}
 use Rattle.std.specs.Prelude.{codes}
 use Rattle.jtree.specs.Data.{object, AreMembers}
@@ -6,8 +6,8 @@ use Rattle.jtree.specs.Path.{member_at, under}
 use Rattle.jtree.specs.View.{data_of, members_of}
 use Rattle.schema.specs.Rules.Keywords.{texts_under}
 use Rattle.schema.specs.Nodes.View.{fields_of}
-use Rattle.schema.specs.Nodes.Shape.{AreFieldsOf, declared_of}
-use Rattle.schema.proofs.ShapeLemmas.{has_node, member_named, list_has_items, list_nodes, map_has_values, map_nodes, property_nodes, declared_dropped, push_field, declared_object, push_nodes, fields_ordered}
+use Rattle.schema.specs.Internal.NodeOf.{AreFieldsOf, declared_of}
+use Rattle.schema.proofs.ShapeLemmas.{has_node, member_named, list_has_items, list_nodes, map_has_values, map_nodes, property_nodes, declared_dropped, push_field, declared_object, fields_ordered}
 use Rattle.schema.proofs.NodeLemmas.{under_decreases, member_decreases}
 use Rattle.schema.proofs.shaping.+read.Goals as goal
 
@@ -15,10 +15,7 @@ pub read_field-read_node-requires : goal.read_field-read_node-requires
 read_field-read_node-requires t c = (omega (arith, c.decreases), c.requires)
 
 pub read_fields-loop-property-init : goal.read_fields-loop-property-init
-read_fields-loop-property-init t c = record {
-  fields = rw c.new-fields.ensures.items tt;
-  nodes = rw c.new-fields.ensures.items tt;
-}
+read_fields-loop-property-init t c = rw c.new-fields.ensures.items tt
 
 pub read_fields-read_field-requires : goal.read_fields-read_field-requires
 read_fields-read_field-requires t c =
@@ -40,10 +37,7 @@ read_fields-loop-property-preserved-then-not-is_declared t c =
     let names = texts_under (data_of c.args.schema.now) (codes "required") in
     let more : members_of (take (i + 1) xs) ≡ members_of (take i xs ++ m ∷ []) = ap members_of (take_more xs i m (omega arith) ∙ ap (λ x. take i xs ++ x ∷ []) (sym c.property-item.is)) in
     let same = ap (declared_of root) more ∙ declared_dropped root (take i xs) m (sym c.if-not-is_declared.ensures) in
-    record {
-      fields = subst (AreFieldsOf (fields_of c.loop-property.fields.items) names) (sym same) c.loop-property.invariant.fields;
-      nodes = c.loop-property.invariant.nodes;
-    }
+    subst (AreFieldsOf (fields_of c.loop-property.fields.items) names) (sym same) c.loop-property.invariant
 
 pub read_fields-loop-property-preserved : goal.read_fields-loop-property-preserved
 read_fields-loop-property-preserved t c =
@@ -51,16 +45,13 @@ read_fields-loop-property-preserved t c =
     let xs = c.deref-property-items.result.now in
     let i = c.loop-property.property-index in
     let m = c.property-item.result in
-    let f = c.in_ok-field.field in
+    let f = c.in_ok-read_field.field-0 in
     let names = texts_under (data_of c.args.schema.now) (codes "required") in
     let old = c.loop-property.fields.items in
     let more : members_of (take (i + 1) xs) ≡ members_of (take i xs ++ m ∷ []) = ap members_of (take_more xs i m (omega arith) ∙ ap (λ x. take i xs ++ x ∷ []) (sym c.property-item.is)) in
     let pushed : c.push.new.self.items ≡ old ++ f ∷ [] = c.in_ok-push.ensures.items in
-    let is = c.in_ok-field.ensures in
-    record {
-      fields = rw (pushed, more) (push_field root old f names (take i xs) m (sym c.if-not-is_declared.ensures) c.loop-property.invariant.fields is.name is.node is.required is.default);
-      nodes = rw pushed (push_nodes old f c.loop-property.invariant.nodes c.reveal_invariant-in-loop-property.ensures);
-    }
+    let is = c.in_ok-read_field.ensures in
+    rw (pushed, more) (push_field root old f names (take i xs) m (sym c.if-not-is_declared.ensures) c.loop-property.invariant is.name is.node is.required is.default)
 
 pub read_properties-read_fields-requires : goal.read_properties-read_fields-requires
 read_properties-read_fields-requires t c =
@@ -78,8 +69,7 @@ read_fields-invariant_of-result t c =
     let all : take i xs ≡ xs = take_all i xs (omega arith) in
     let whole : members_of (take i xs) ≡ c.args.properties.now = ap members_of all ∙ ap members_of c.deref-property-items.ensures.value ∙ c.properties.view_is in
     fields_ordered (fields_of c.loop-property.fields.items) (texts_under (data_of c.args.schema.now) (codes "required")) (declared_of root (members_of (take i xs)))
-    c.loop-property.invariant.fields c.loop-property.invariant.nodes
-    (declared_object root (members_of (take i xs)) (subst AreMembers (sym whole) c.reveal_invariant.ensures))
+    c.loop-property.invariant (declared_object root (members_of (take i xs)) (subst AreMembers (sym whole) c.reveal_invariant.ensures))
 
 pub read_fields-returns : goal.read_fields-returns
 read_fields-returns t c =
@@ -88,7 +78,10 @@ read_fields-returns t c =
     let i = c.loop-property.property-index in
     let all : take i xs ≡ xs = take_all i xs (omega arith) in
     let whole : members_of (take i xs) ≡ c.args.properties.now = ap members_of all ∙ ap members_of c.deref-property-items.ensures.value ∙ c.properties.view_is in
-    subst (λ ms. AreFieldsOf (fields_of c.loop-property.fields.items) (texts_under (data_of c.args.schema.now) (codes "required")) (declared_of root ms)) whole c.loop-property.invariant.fields
+    subst (λ ms. AreFieldsOf (fields_of c.loop-property.fields.items) (texts_under (data_of c.args.schema.now) (codes "required")) (declared_of root ms)) whole c.loop-property.invariant
+
+pub read_object-returns : goal.read_object-returns
+read_object-returns t c = (c.requires.kind, search rules, search rules)
 
 pub read_list-read_below-requires : goal.read_list-read_below-requires
 read_list-read_below-requires t c =

@@ -4,8 +4,7 @@ use Rattle.jtree.specs.Data.{depth, members_depth}
 use Rattle.jtree.specs.View.{data_of, members_of}
 use Rattle.schema.specs.Rules.Keywords.{texts_under}
 use Rattle.schema.specs.Nodes.View.{fields_of}
-use Rattle.schema.specs.Nodes.Shape.{AreFieldsOf, declared_of}
-use Rattle.schema.specs.Internal.Building.{AreNodes}
+use Rattle.schema.specs.Internal.NodeOf.{AreFieldsOf, declared_of}
 use Rattle.schema.proofs.shaping.+read.Given as goal
 
 abbrev pub decreases-read_node : goal.decreases-read_node
@@ -37,7 +36,5 @@ decreases-read_field l = 6 * depth (data_of l.property.now.tree) + 5
 
 -- the fields are those of the properties so far
 abbrev pub invariant-read_fields-loop-property : goal.invariant-read_fields-loop-property
-invariant-read_fields-loop-property l = record {
-  fields : AreFieldsOf (fields_of l.fields.items) (texts_under (data_of l.schema) (codes "required")) (declared_of l.root (members_of (take l.property-index l.property-items)));
-  nodes : AreNodes (fields_of l.fields.items);
-}
+invariant-read_fields-loop-property l =
+    AreFieldsOf (fields_of l.fields.items) (texts_under (data_of l.schema) (codes "required")) (declared_of l.root (members_of (take l.property-index l.property-items)))

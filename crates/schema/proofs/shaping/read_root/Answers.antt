@@ -1,0 +1,24 @@
+use Rattle.std.proofs.Common.{true, sym, subst}
+use Rattle.jtree.specs.Data.{IsTree}
+use Rattle.schema.specs.Internal.Building.{HasNodes}
+use Rattle.schema.specs.Internal.NodeOf.{IsNodeOf}
+use Rattle.schema.specs.Nodes.View.{node_of}
+use Rattle.schema.proofs.ByPlaceLemmas.{nodes_by_place}
+use Rattle.schema.proofs.OwnParts.{have_own_parts}
+use Rattle.schema.proofs.ShapeLemmas.{all_have_nodes}
+use Rattle.schema.proofs.shaping.read_root.Goals as goal
+
+-- where no rule is broken each place has a node
+pub read_node-requires : goal.read_node-requires
+read_node-requires c = subst (HasNodes true) (sym c.tree-schema.ensures.data) (all_have_nodes c.args.raw.now c.requires)
+
+pub returns : goal.returns
+returns c =
+    let raw = c.args.raw.now in
+    let whole = c.tree-schema.ensures.data in
+    let root = node_of c.in_ok-read_node.field-0 in
+    record {
+      sound = c.tree-schema.ensures.sound;
+      unbroken = c.requires;
+      nodes = nodes_by_place root raw true (subst IsTree whole c.reveal_invariant.ensures) (have_own_parts raw c.requires) (subst (IsNodeOf true root) whole c.in_ok-read_node.ensures);
+    }
