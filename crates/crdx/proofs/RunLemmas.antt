@@ -3,23 +3,22 @@ use Rattle.std.proofs.Common.{◌≡◌, ◌≢◌, ◌⊎◌, ℕ, List, [], �
 use Rattle.std.specs.Io.KnownBytes.{Appends, Keeps}
 use Rattle.jtree.specs.Data.{Data}
 use Rattle.jtree.specs.Internal.OrderLaws.{tree_total}
-use Rattle.schema.specs.Rules.Breaks.{Break, told, told_of, AreViolations}
+use Rattle.schema.specs.Rules.Breaks.{Break, told, told_of}
 use Rattle.schema.specs.Document.ReadFault.{IsReadFault}
 use Rattle.schema.specs.declared.fault.SFault.{SFault}
 use Rattle.schema.specs.declared.fault.SFault.TheVariants as s
 use Rattle.crdx.specs.declared.stored.refused.Refused.{Refused}
 use Rattle.crdx.specs.declared.stored.refused.Refused.TheVariants as refusal
 use Rattle.schema.specs.declared.violation.Violation.{Violation}
-use Rattle.crdx.specs.Program.RunResult.{IsRunResult, answered, refused, unread_input, unwritten, no_memory, IsInputRefused, IsAnswer, violations, no_samples, HasBreaks, IsCutByMemory, IsCutByWrite, told_lines}
+use Rattle.crdx.specs.Program.RunResult.{IsRunResult, answered, refused, unread_input, unwritten, no_memory, IsInputRefused, IsAnswer, no_samples, HasBreaks, IsCutByMemory, IsCutByWrite}
 use Rattle.crdx.specs.Output.Line.{lines}
-use Rattle.crdx.specs.Output.PartialOutput.{IsPartialOutput, IsCutByFailure, IsCutWithinLine}
+use Rattle.crdx.specs.Output.PartialOutput.{IsPartialOutput}
 use Rattle.crdx.specs.Output.Walk.{WritesPage}
 use Rattle.crdx.specs.Program.Requested.{ArePools, IsRequested, NotYet, HasFirstDefault, HasFirstUnknown, IsRequestedSchema, HasAcceptedSchema, IsCrdRefused}
 use Rattle.crdx.specs.Program.Documents.{Documents, AreAmong}
 use Rattle.crdx.specs.Internal.ExitStatus.{status, cause_of_reading, cause_of_refusal, cause_of_pools, cause_of_walk, IsGiven}
 use Rattle.crdx.specs.Internal.Cause.{IsReadCause, IsRawCause, IsSchemaCause, IsPoolsCause, IsInputCause, IsSampleCause, IsWalkCause}
 use Rattle.crdx.specs.Samples.Over.{Pools}
-use Rattle.crdx.specs.Samples.Page.{IsPage}
 use Rattle.crdx.specs.Samples.Sample.{Question}
 use Rattle.crdx.specs.Objects.Refusal.{IsRefusal}
 use Rattle.crdx.specs.declared.plan.fault.PFault.{PFault}

@@ -1,13 +1,13 @@
 -- Where no rule is broken, keywords that hold schemas stand in schemas of their kind alone.
-use Rattle.std.proofs.Common.{◌≡◌, ◌≢◌, ℕ, List, Bool, true, false, Option, Some, None, refl, sym, ◌∙◌, subst, inl, inr}
-use Rattle.std.specs.Prelude.{◌||◌, ◌&&◌, not, codes}
+use Rattle.std.proofs.Common.{◌≡◌, ◌≢◌, ℕ, List, Bool, true, false, Some, None, refl, subst, inl, inr}
+use Rattle.std.specs.Prelude.{◌&&◌, not, codes}
 use Rattle.std.specs.Str.{bytes_eq}
 use Rattle.jtree.specs.Data.{Data, object, Members, no_members, member}
 use Rattle.jtree.specs.Path.{under, member_at}
 use Rattle.jtree.specs.Internal.Lookups.{bool_cases, same_name}
-use Rattle.schema.specs.Document.Raw.{Has, HasObject}
+use Rattle.schema.specs.Document.Raw.{HasObject}
 use Rattle.schema.specs.Document.Places.{Place, schema_at, is_inside}
-use Rattle.schema.specs.Rules.Keywords.{has_other_name, has_other_keyword, members_in}
+use Rattle.schema.specs.Rules.Keywords.{has_other_name, has_other_keyword}
 use Rattle.schema.specs.Rules.Kinds as kinds
 use Rattle.schema.specs.Rules.Kinds.{Kind, IsOfKind, kind_of}
 use Rattle.schema.specs.Rules.Profile.{is_keyword_of, has_foreign_keyword, is_bad_root, is_bad_preserving, is_root, is_outside_profile}

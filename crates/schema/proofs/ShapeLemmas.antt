@@ -1,7 +1,6 @@
 -- The schemas below one whose places have nodes have nodes, and the fields of properties.
 use Rattle.std.proofs.Common.{◌≡◌, ◌<◌, ◌+◌, ℕ, List, [], ◌∷◌, ◌++◌, length, get_or, take, drop, Bool, true, false, Option, Some, None, refl, sym, ap, ◌∙◌, subst, inl, inr}
 use Rattle.std.specs.Prelude.{option_and_then, option_map, codes, ◌||◌, ◌&&◌}
-use Rattle.std.specs.Str.{bytes_eq}
 use Rattle.std.proofs.lemmas.Option.{same_Some}
 use Rattle.std.proofs.lemmas.List.{take-append-drop, drop_more}
 use Rattle.std.specs.declared.cmp.Ordering.TheVariants.{Less}
@@ -11,11 +10,9 @@ use Rattle.jtree.specs.Kind.{is_object}
 use Rattle.jtree.specs.Internal.Lookups.{bool_cases, IsNameBefore-trans, member_first, member_tail}
 use Rattle.jtree.specs.Order.{text_cmp}
 use Rattle.jtree.specs.Path.{member_at, under}
-use Rattle.jtree.specs.View.{data_of, items_of, members_of}
-use Rattle.jtree.specs.declared.value.Tree.{Tree}
+use Rattle.jtree.specs.View.{data_of, members_of}
 use Rattle.jtree.specs.declared.value.Member.{Member}
 use Rattle.schema.specs.Document.Texts.{is_among}
-use Rattle.schema.specs.Document.Raw.{HasObject}
 use Rattle.schema.specs.Rules.Kinds as kinds
 use Rattle.schema.specs.Rules.Keywords.{has_other_text, members_in, members_under, texts_under}
 use Rattle.schema.specs.Rules.Kinds.{Kind, IsOfKind, kind_of}

@@ -104,8 +104,7 @@ fn is_branch_keyword(keyword: &str) -> bool
 fn is_common_keyword(keyword: &str) -> bool
     ensures { result ≡ is_common_keyword_of keyword.now }
 {
-    is_keyword_of_all(keyword)
-        || (is_junctor_keyword(keyword) || is_unsupported_keyword(keyword))
+    is_keyword_of_all(keyword) || (is_junctor_keyword(keyword) || is_unsupported_keyword(keyword))
 }
 
 /// Whether a keyword is one of a kind alone.

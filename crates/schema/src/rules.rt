@@ -13,7 +13,9 @@ ghost use Rattle.schema.specs.Internal.Subschemas.{IsSubschema};
 mod lists;
 mod profile;
 
-use crate::keywords::{Keywords, has, has_false, has_one_of, has_other_keyword, has_other_text, has_true};
+use crate::keywords::{
+    Keywords, has, has_false, has_one_of, has_other_keyword, has_other_text, has_true,
+};
 use crate::kinds::lacks_type;
 use crate::listing::Subschema;
 use crate::places::{Step, is_envelope, is_junctor};

@@ -15,8 +15,8 @@ ghost use Rattle.schema.specs.Internal.NodeOf.{IsNodeOf, IsSortOf, AreFieldsOf, 
 ghost use Rattle.schema.specs.Internal.Building.{HasNodes, HaveNodes, IsFieldOf};
 
 use crate::judging::breaks;
-use crate::kinds::{Kind, kind_of};
 use crate::keywords::lists_text;
+use crate::kinds::{Kind, kind_of};
 use crate::node::{
     Below, Field, Fields, ListNode, ListType, MapNode, MapType, Node, ObjectNode, ScalarNode, Sort,
 };

@@ -1,7 +1,7 @@
 -- Why a run has no answer, said of the documents at hand; the counts are those of the reads that failed, before and now.
 use Rattle.std.specs.Prelude.{◌≡◌, ◌≢◌, ◌⊎◌, ℕ, List, [], Bool, Option, Some, None, IsSomeAnd, Err, string_bytes}
 use Rattle.std.specs.Borrow.{Bor}
-use Rattle.std.specs.Io.KnownBytes.{Appends, Keeps}
+use Rattle.std.specs.Io.KnownBytes.{Keeps}
 use Rattle.jtree.specs.Data.{Data}
 use Rattle.jtree.specs.declared.fault.JFault.TheVariants as j
 use Rattle.schema.specs.Rules.Broken.{Broken}
@@ -10,7 +10,7 @@ use Rattle.schema.specs.declared.fault.SFault.TheVariants as s
 use Rattle.crdx.specs.Output.PartialOutput.{IsCutBetweenLines, IsCutByFailure}
 use Rattle.crdx.specs.Output.Sink.{HasFailed}
 use Rattle.crdx.specs.Program.Documents.{Documents}
-use Rattle.crdx.specs.Program.Requested.{IsRequestedSchema, HasReadFault, NotYet, IsNotYet, HasPoolsFault, IsRequested}
+use Rattle.crdx.specs.Program.Requested.{IsRequestedSchema, HasReadFault, NotYet, HasPoolsFault, IsRequested}
 use Rattle.crdx.specs.Program.RunResult.{IsAnswer, IsInputRefused}
 use Rattle.crdx.specs.Samples.Page.{IsPage}
 use Rattle.crdx.specs.Samples.Sample.{Question}

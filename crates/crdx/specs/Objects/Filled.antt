@@ -6,7 +6,7 @@ use Rattle.jtree.specs.Data.{Data, Members, no_members, member}
 use Rattle.jtree.specs.Data as tree
 use Rattle.jtree.specs.Path.{member_at}
 use Rattle.jtree.specs.Order.{text_cmp}
-use Rattle.crdx.specs.Objects.Node.{Node, scalar, object, Fields, no_fields, field, is_nullable}
+use Rattle.crdx.specs.Objects.Node.{Node, object, Fields, no_fields, field, is_nullable}
 
 -- the members without the one of a name
 abbrev pub without : List ℕ → Members → Members

@@ -1,10 +1,8 @@
 -- The pools document: an object whose member `integers` is a list of at most 64 integers (this project's own).
 use Rattle.std.specs.Prelude.{◌≡◌, ◌≢◌, ℕ, ℤ, List, [], ◌∷◌, false, Option, Some, None, codes}
-use Rattle.std.specs.declared.cmp.Ordering.TheVariants.{Less}
 use Rattle.jtree.specs.Data.{Data, Items, no_items, item}
 use Rattle.jtree.specs.Data as tree
 use Rattle.jtree.specs.Path.{name, index, Path, item_at, under}
-use Rattle.jtree.specs.PathOrder.{path_cmp}
 use Rattle.jtree.specs.Kind.{is_object, is_integer}
 use Rattle.crdx.specs.Samples.Over.{Pools}
 

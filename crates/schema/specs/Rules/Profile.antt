@@ -1,6 +1,6 @@
 -- The rules that are this project's own: where a default may stand, what the branches of a junctor may say, and which
 -- keywords a place of each kind may have. Keywords without effect are among them.
-use Rattle.std.specs.Prelude.{ℕ, List, [], ◌∷◌, ◌++◌, Bool, true, false, Option, Some, None, if◌then◌else◌, not, ◌&&◌, ◌||◌, codes}
+use Rattle.std.specs.Prelude.{ℕ, List, [], ◌∷◌, Bool, true, false, Option, Some, None, if◌then◌else◌, not, ◌&&◌, ◌||◌, codes}
 use Rattle.std.specs.Option.{is_some}
 use Rattle.std.specs.Str.{bytes_eq}
 use Rattle.jtree.specs.Data.{Data, text, list, Members}

@@ -1,4 +1,4 @@
-use Rattle.std.proofs.Common.{◌≡◌, ◌∙◌, ap, subst, sym, map, string_bytes}
+use Rattle.std.proofs.Common.{◌∙◌, ap, subst, sym, map}
 use Rattle.schema.specs.Rules.Breaks.{told}
 use Rattle.crdx.specs.Internal.Cause.{IsSchemaCause}
 use Rattle.crdx.specs.Program.Requested.{HasFirstDefault}

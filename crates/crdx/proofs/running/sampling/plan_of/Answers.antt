@@ -1,5 +1,4 @@
-use Rattle.std.proofs.Common.{◌≡◌, subst, sym}
-use Rattle.crdx.specs.Output.Sink.{HasFailed}
+use Rattle.std.proofs.Common.{subst}
 use Rattle.crdx.specs.Internal.Cause.{IsPoolsCause}
 use Rattle.crdx.proofs.RunLemmas.{sample_input, pools_input}
 use Rattle.crdx.proofs.running.sampling.plan_of.Goals as goal
