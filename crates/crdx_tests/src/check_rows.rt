@@ -18,7 +18,7 @@ static SOUND: [(&str, &str); 14] = [
     ),
     (
         "keywords without effect, and the envelope",
-        r#"{"type":"object","title":"","properties":{"apiVersion":{"type":"string"},"kind":{"type":"array","items":{"type":"integer"}},"metadata":{"type":"object","properties":{"name":{"type":"string","minLength":1}}},"spec":{"type":"object","description":"","format":"","example":[1],"externalDocs":{"url":""},"uniqueItems":false,"properties":{"kind":{"type":"integer","format":"int32","title":"x"}}}}}"#,
+        r#"{"type":"object","title":"","properties":{"apiVersion":{"type":"string"},"kind":{"type":"array","items":{"type":"integer"}},"metadata":{"type":"object","description":"","properties":{"name":{"type":"string","minLength":1}}},"spec":{"type":"object","description":"","format":"","example":[1],"externalDocs":{"url":""},"uniqueItems":false,"properties":{"kind":{"type":"integer","format":"int32","title":"x"}}}}}"#,
     ),
     (
         "a text",
@@ -63,7 +63,7 @@ static SOUND: [(&str, &str); 14] = [
 ];
 
 // A name, a schema that breaks rules, and standard output. The status is 1.
-static BROKEN: [(&str, &str, &str); 20] = [
+static BROKEN: [(&str, &str, &str); 25] = [
     (
         "two rules",
         r#"{"type":"object","properties":{"a":{},"b":{"type":"string","uniqueItems":true}}}"#,
@@ -186,6 +186,47 @@ V16 "" junctor outside the profile
 V05 "/not" keyword not supported
 V06 "/not" uniqueItems is true
 V16 "/not" junctor outside the profile
+"#,
+    ),
+    (
+        "each keyword that is not supported",
+        r#"{"type":"object","properties":{"$ref":{"type":"string","$ref":1},"definitions":{"type":"string","definitions":1},"dependencies":{"type":"string","dependencies":1},"deprecated":{"type":"string","deprecated":1},"discriminator":{"type":"string","discriminator":1},"id":{"type":"string","id":1},"patternProperties":{"type":"string","patternProperties":1},"readOnly":{"type":"string","readOnly":1},"writeOnly":{"type":"string","writeOnly":1},"xml":{"type":"string","xml":1}}}"#,
+        r#"V05 "/properties/$ref" keyword not supported
+V05 "/properties/definitions" keyword not supported
+V05 "/properties/dependencies" keyword not supported
+V05 "/properties/deprecated" keyword not supported
+V05 "/properties/discriminator" keyword not supported
+V05 "/properties/id" keyword not supported
+V05 "/properties/patternProperties" keyword not supported
+V05 "/properties/readOnly" keyword not supported
+V05 "/properties/writeOnly" keyword not supported
+V05 "/properties/xml" keyword not supported
+"#,
+    ),
+    (
+        "metadata that is a text",
+        r#"{"type":"object","properties":{"metadata":{"type":"string"}}}"#,
+        "V04 \"/properties/metadata\" metadata restricted\n",
+    ),
+    (
+        "the int-or-string pattern in allOf, beside a test",
+        r#"{"type":"object","properties":{"x":{"x-kubernetes-int-or-string":true,"allOf":[{"minimum":1,"anyOf":[{"type":"integer"},{"type":"string"}]}]}}}"#,
+        r#"V03 "/properties/x/allOf/0/anyOf/0" keyword not allowed in a junctor
+V03 "/properties/x/allOf/0/anyOf/1" keyword not allowed in a junctor
+"#,
+    ),
+    (
+        "the int-or-string pattern in allOf of integers",
+        r#"{"type":"object","properties":{"x":{"type":"integer","allOf":[{"anyOf":[{"type":"integer"},{"type":"string"}]}]}}}"#,
+        r#"V03 "/properties/x/allOf/0/anyOf/0" keyword not allowed in a junctor
+V03 "/properties/x/allOf/0/anyOf/1" keyword not allowed in a junctor
+"#,
+    ),
+    (
+        "the int-or-string pattern in a branch",
+        r#"{"type":"object","properties":{"x":{"x-kubernetes-int-or-string":true,"not":{"allOf":[{"anyOf":[{"type":"integer"},{"type":"string"}]}]}}}}"#,
+        r#"V03 "/properties/x/not/allOf/0/anyOf/0" keyword not allowed in a junctor
+V03 "/properties/x/not/allOf/0/anyOf/1" keyword not allowed in a junctor
 "#,
     ),
     (

@@ -21,9 +21,11 @@ static MISPLACED: [(&str, &str, &str); 7] = [
         "V15 \"/properties/x/additionalProperties\" misplaced default\n",
     ),
     (
-        "a default of the envelope",
-        r#"{"type":"object","properties":{"kind":{"type":"string","default":"x"}}}"#,
-        "V15 \"/properties/kind\" misplaced default\n",
+        "defaults of the envelope",
+        r#"{"type":"object","properties":{"apiVersion":{"type":"string","default":"x"},"kind":{"type":"string","default":"x"}}}"#,
+        r#"V15 "/properties/apiVersion" misplaced default
+V15 "/properties/kind" misplaced default
+"#,
     ),
     (
         "a default below the envelope",
