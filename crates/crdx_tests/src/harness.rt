@@ -125,3 +125,37 @@ pub fn try_schema(
     }
     Ok(())
 }
+
+/// Fails unless `check` says so of a schema, and ends with this status.
+pub fn try_check(
+    rt: &impl Abort,
+    alloc: Global,
+    name: &str,
+    schema: &str,
+    out: &str,
+    err: &str,
+    status: u8,
+) -> Result<(), AllocError> {
+    let crd = definition(alloc, schema)?;
+    let inputs = FakeInputs::new(alloc, crd.as_str(), "");
+    let output = run_on(
+        alloc,
+        "crdx check crd.json v1",
+        inputs,
+        FailingSink::endless(alloc),
+    )?;
+    is_answer(rt, &output, out, err, status, name);
+    Ok(())
+}
+
+/// Fails unless `check` judges a schema so: `structural`, or the lines of all that is broken.
+pub fn try_judged(
+    rt: &impl Abort,
+    alloc: Global,
+    name: &str,
+    schema: &str,
+    out: &str,
+) -> Result<(), AllocError> {
+    let status = if out == "structural\n" { 0 } else { 1 };
+    try_check(rt, alloc, name, schema, out, "", status)
+}

@@ -8,6 +8,8 @@ mod broken_rows;
 #[cfg(test)]
 mod check_rows;
 #[cfg(test)]
+mod default_rows;
+#[cfg(test)]
 mod documents;
 #[cfg(test)]
 mod fakes;
@@ -18,6 +20,8 @@ mod input_rows;
 #[cfg(test)]
 mod limit_rows;
 #[cfg(test)]
+mod marker_rows;
+#[cfg(test)]
 mod node_rows;
 #[cfg(test)]
 mod node_text;
@@ -25,6 +29,8 @@ mod node_text;
 mod page_rows;
 #[cfg(test)]
 mod pool_rows;
+#[cfg(test)]
+mod profile_rows;
 #[cfg(test)]
 mod reading_rows;
 #[cfg(test)]

@@ -1,22 +1,34 @@
 //! The node of a schema, or why it has none.
-use crate::harness::crd_of;
+use crate::harness::{crd_of, is_text};
 use crate::node_text::node_text;
-use schema::{Refused, nodes_are_by_place, shape};
+use schema::{Node, Sort, nodes_are_unique, shape};
 use std::alloc::Global;
-use std::process::Abort;
 use std::test::Fail;
 
-// The text of the node of a schema, or its fault.
-fn said(alloc: Global, schema: &str) -> Result<String, Fail> {
-    let crd = crd_of(alloc, schema)??;
-    match shape(alloc, &crd.raw) {
-        Ok(shape) => node_text(alloc, shape.root()),
-        Err(Refused::NotYet(pointer)) => Ok(format!(in alloc; "S0 {pointer}")?),
-        Err(refused) => Ok(refused.to_string(alloc)?),
+// The node of the first field of an object.
+fn first_field(root: &Node) -> Result<&Node, Fail> {
+    let Sort::Object(object) = &root.sort else {
+        return Err(Fail::from("no object"));
+    };
+    match object.fields.fields.as_slice() {
+        [field, ..] => Ok(&field.node),
+        [] => Err(Fail::from("no field")),
     }
 }
 
-// A name, a schema, and its node.
+// The text of the node of the root, or of its first field; or the refusal.
+fn said(alloc: Global, schema: &str, is_field: bool) -> Result<String, Fail> {
+    let crd = crd_of(alloc, schema)??;
+    let shape = match shape(alloc, &crd.raw) {
+        Ok(shape) => shape,
+        Err(refused) => return Ok(refused.to_string(alloc)?),
+    };
+    let root = shape.root();
+    let node = if is_field { first_field(root)? } else { root };
+    node_text(alloc, node)
+}
+
+// A name, the schema of a field, and its node or its refusal.
 static NODES: [(&str, &str, &str); 22] = [
     ("an integer", r#"{"type":"integer"}"#, "integer"),
     (
@@ -35,9 +47,9 @@ static NODES: [(&str, &str, &str); 22] = [
         "int-or-string",
     ),
     (
-        "enum, with null and a repeat",
-        r#"{"type":"integer","enum":[1,null,1],"minimum":-1,"maximum":9}"#,
-        "integer choice=1 choice=null choice=1 minimum=-1 maximum=9",
+        "enum, with a repeat",
+        r#"{"type":"integer","enum":[1,-2,1],"minimum":-1,"maximum":9}"#,
+        "integer choice=1 choice=-2 choice=1 minimum=-1 maximum=9",
     ),
     (
         "an exclusive minimum",
@@ -50,19 +62,14 @@ static NODES: [(&str, &str, &str); 22] = [
         "integer maximum=0 exclusiveMaximum",
     ),
     (
-        "an empty enum",
-        r#"{"type":"string","enum":[],"title":"t","example":1}"#,
-        "string",
+        "keywords without effect",
+        r#"{"type":"string","enum":["a"],"title":"t","example":1}"#,
+        r#"string choice="a""#,
     ),
     ("an object", r#"{"type":"object"}"#, "object"),
     (
-        "additionalProperties of true",
-        r#"{"type":"object","additionalProperties":true}"#,
-        "object",
-    ),
-    (
         "fields, one required and with a default",
-        r#"{"type":"object","properties":{"b":{"type":"string","default":"y"},"a":{"type":"integer"}},"required":["b","c","b"]}"#,
+        r#"{"type":"object","properties":{"b":{"type":"string","default":"y"},"a":{"type":"integer"}},"required":["b","b"]}"#,
         r#"object a=integer b=string required default="y""#,
     ),
     (
@@ -87,7 +94,7 @@ static NODES: [(&str, &str, &str); 22] = [
     ),
     (
         "a map list",
-        r#"{"type":"array","items":{"type":"object"},"x-kubernetes-list-type":"map","x-kubernetes-list-map-keys":["l","k"],"minItems":0,"maxItems":3}"#,
+        r#"{"type":"array","items":{"type":"object","properties":{"k":{"type":"string"},"l":{"type":"integer"}},"required":["k","l"]},"x-kubernetes-list-type":"map","x-kubernetes-list-map-keys":["l","k"],"minItems":0,"maxItems":3}"#,
         "list of=object map key=l key=k least=0 most=3",
     ),
     (
@@ -115,69 +122,61 @@ static NODES: [(&str, &str, &str); 22] = [
         r#"{"type":"integer","allOf":[{"minimum":1},{"maximum":5,"not":{"enum":[3]}}],"anyOf":[{}],"oneOf":[{"minimum":2},{"minLength":1}],"not":{"enum":[4,5]}}"#,
         "integer allOf( minimum=1) allOf( maximum=5 not) anyOf() oneOf( minimum=2) oneOf( least=1) not( choice=4 choice=5)",
     ),
+    ("a number", r#"{"type":"number"}"#, "violations"),
+    ("no type", "{}", "violations"),
+];
+
+// A name, a schema, and the node of the root or its refusal.
+static ROOTS: [(&str, &str, &str); 6] = [
     (
         "an envelope",
         r#"{"type":"object","required":["kind","spec"],"properties":{"apiVersion":{"type":"string"},"kind":{"type":"string"},"metadata":{"type":"object"},"spec":{"type":"object"},"status":{"type":"boolean"}}}"#,
         "object spec=object required status=boolean",
     ),
-];
-
-// A name, a schema, and its refusal.
-static REFUSALS: [(&str, &str, &str); 8] = [
     (
-        "a number",
-        r#"{"type":"object","properties":{"x":{"type":"number"}}}"#,
-        "S0 /properties/x",
+        "a required envelope, and a field of the same name below",
+        r#"{"type":"object","required":["metadata"],"properties":{"spec":{"type":"object","properties":{"kind":{"type":"string"}}}}}"#,
+        "object spec=object",
     ),
     (
-        "a list without items",
-        r#"{"type":"object","properties":{"x":{"type":"array"}}}"#,
-        "S0 /properties/x",
+        "a description and markers",
+        r#"{"type":"object","description":"a widget","x-kubernetes-map-type":"atomic","x-kubernetes-preserve-unknown-fields":true}"#,
+        "object description=a widget preserves atomic",
     ),
+    ("an integer", r#"{"type":"integer"}"#, "violations"),
     (
-        "a list of a list without items",
-        r#"{"type":"array","items":{"type":"array"}}"#,
-        "S0 /items",
-    ),
-    ("null", r#"{"type":"null"}"#, "S0 "),
-    (
-        "the first in path order",
-        r#"{"type":"object","properties":{"kind":{"type":"number"},"b":{"type":"object","additionalProperties":{"type":"array"}},"a-b":{"type":"null"},"a":{"type":"array","items":{"type":"any"}}}}"#,
-        "S0 /properties/a/items",
-    ),
-    (
-        "no type",
-        r#"{"type":"object","properties":{"x":{}}}"#,
+        "a violation behind a default",
+        r#"{"type":"object","properties":{"x":{"type":"integer","default":1},"y":{"type":"array"}}}"#,
         "violations",
     ),
     (
-        "a violation behind a number",
-        r#"{"type":"object","properties":{"x":{"type":"number"},"y":{"type":"string","uniqueItems":true}}}"#,
+        "a violation in the envelope",
+        r#"{"type":"object","properties":{"kind":{"type":"string","default":"x"}}}"#,
         "violations",
     ),
-    ("an empty schema", "{}", "violations"),
 ];
-
-fn try_row(rt: &impl Abort, alloc: Global, row: &(&str, &str, &str)) -> Result<(), Fail> {
-    let (name, schema, wanted) = *row;
-    let found = said(alloc, schema)?;
-    assert_eq!(rt; found.as_str(), wanted, "what is said of {name}");
-    Ok(())
-}
 
 #[test]
 fn nodes(rt: HostRuntime) -> Result<(), Fail> {
-    nodes_are_by_place();
-    for row in &NODES {
-        try_row(&rt, rt.alloc(), row)?;
+    for (name, schema, wanted) in NODES {
+        let root = format!(in rt.alloc(); r#"{{"type":"object","properties":{{"x":{schema}}}}}"#)?;
+        let found = said(rt.alloc(), root.as_str(), true)?;
+        is_text(&rt, found.as_str(), wanted, "the node", name);
     }
     Ok(())
 }
 
 #[test]
-fn refusals(rt: HostRuntime) -> Result<(), Fail> {
-    for row in &REFUSALS {
-        try_row(&rt, rt.alloc(), row)?;
+fn roots(rt: HostRuntime) -> Result<(), Fail> {
+    for (name, schema, wanted) in ROOTS {
+        let found = said(rt.alloc(), schema, false)?;
+        is_text(&rt, found.as_str(), wanted, "the node", name);
     }
     Ok(())
+}
+
+/// The law is no more than its contract.
+#[test]
+fn law() {
+    nodes_are_unique();
 }

@@ -11,6 +11,12 @@ const REPEATED_AND_NEGATIVE: &str = r#"{"integers":[5,-9223372036854775808,5,-1]
 const TEXT_PROPERTY: &str =
     r#"{"apiVersion":"apiextensions.k8s.io/v1","kind":"CustomResourceDefinition","spec":{"group":"example.org","names":{"kind":"Widget"},"versions":[{"name":"v1","schema":{"openAPIV3Schema":{"type":"object","properties":{"a":{"type":"string"}}}}}]}}"#;
 
+const TEXT_AND_NUMBER: &str =
+    r#"{"apiVersion":"apiextensions.k8s.io/v1","kind":"CustomResourceDefinition","spec":{"group":"example.org","names":{"kind":"Widget"},"versions":[{"name":"v1","schema":{"openAPIV3Schema":{"type":"object","properties":{"a":{"type":"string"},"n":{"type":"number"}}}}}]}}"#;
+
+const DEFAULT_INTEGER: &str =
+    r#"{"apiVersion":"apiextensions.k8s.io/v1","kind":"CustomResourceDefinition","spec":{"group":"example.org","names":{"kind":"Widget"},"versions":[{"name":"v1","schema":{"openAPIV3Schema":{"type":"object","properties":{"a":{"type":"integer","default":1}}}}}]}}"#;
+
 const ANNOTATED_WIDGET: &str =
     r#"{"apiVersion":"apiextensions.k8s.io/v1","kind":"CustomResourceDefinition","spec":{"group":"example.org","names":{"kind":"Widget"},"versions":[{"name":"v1","schema":{"openAPIV3Schema":{"type":"object","description":"A widget.","properties":{"apiVersion":{"type":"string"},"kind":{"type":"string"},"metadata":{"type":"object"},"spec":{"type":"object","title":"What is wanted","properties":{"a":{"type":"integer","format":"int64","example":7},"b":{"type":"boolean","uniqueItems":false}}}}}}}]}}"#;
 
@@ -57,7 +63,7 @@ const NEGATIVE_LINES: &str = r#"{}
 "#;
 
 // A name, a command line, the two documents, standard output, standard error and the status.
-static ROWS: [(&str, &str, &str, &str, &str, &str, u8); 19] = [
+static ROWS: [(&str, &str, &str, &str, &str, &str, u8); 21] = [
     (
         "every sample of four nodes",
         "crdx sample crd.json v1 --pools pools.json --limit 4",
@@ -138,6 +144,24 @@ static ROWS: [(&str, &str, &str, &str, &str, &str, u8); 19] = [
         "",
         "crdx: crd: S0 \"/properties/a\"\n",
         3,
+    ),
+    (
+        "a default",
+        "crdx sample crd.json v1 --pools pools.json --limit 4",
+        DEFAULT_INTEGER,
+        ZERO_AND_ONE,
+        "",
+        "crdx: crd: S0 \"/properties/a\"\n",
+        3,
+    ),
+    (
+        "numbers behind a property of texts",
+        "crdx sample crd.json v1 --pools pools.json",
+        TEXT_AND_NUMBER,
+        FRACTION,
+        "",
+        "V17 \"/properties/n\" outside the profile\n",
+        1,
     ),
     (
         "an envelope and keywords without effect",
