@@ -1,5 +1,5 @@
--- What makes a schema no structural schema (apiextensions.k8s.io/v1, "specifying a structural schema"), as a relation
--- between a schema, a place and a rule. The keyword lists of V03 to V05 are this project's profile.
+-- Which rules a schema breaks (apiextensions.k8s.io/v1, "specifying a structural schema", and merge strategies), as a relation
+-- between a schema, a place and a rule. The keyword lists of V03 to V05, and V15 to V17, are this project's profile.
 use Rattle.std.specs.Prelude.{◌≡◌, ◌⊎◌, ℕ, List, [], ◌∷◌, ◌++◌, Bool, true, false, Some, codes}
 use Rattle.jtree.specs.Data.{Data}
 use Rattle.jtree.specs.Data as tree
