@@ -115,9 +115,10 @@ static HELP: [(&str, &str, &str); 8] = [
 ];
 
 // What a run can answer, and the rules and codes that it can print: each begins a line of the help.
-static ANSWERS: [&str; 25] = [
+static ANSWERS: [&str; 32] = [
     "0", "1", "2", "3", "4", "5", "V01", "V02", "V03", "V04", "V05", "V06", "V07", "V08", "V09",
-    "J1", "J3", "J4", "S0", "S1", "S2", "S3", "S4", "P1", "P2",
+    "V10", "V11", "V12", "V13", "V15", "V16", "V17", "J1", "J3", "J4", "S0", "S1", "S2", "S3",
+    "S4", "P1", "P2",
 ];
 
 // Command lines whose help is shown on a screen of 80 columns.

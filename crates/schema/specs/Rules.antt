@@ -1,4 +1,4 @@
--- The rules of structural schemas, and all that is broken in a schema.
+-- The rules of structural schemas and of this project's profile, and all that is broken in a schema.
 pub mod Keywords
 pub mod Kinds
 pub mod Lists

@@ -18,8 +18,8 @@ use jtree::Tree;
 use std::alloc::{AllocError, Global};
 
 /// All breaks of the rules V01 to V13 and V15 to V17 (apiextensions.k8s.io/v1, "specifying a structural schema", and this
-/// project's profile), each once, in path order
-/// of the places and then by the number of the rule. `NoMemory` where an allocation fails. Each place is looked at once.
+/// project's profile), each once, in path order of the places and then by the number of the rule. `NoMemory` where an
+/// allocation fails. Each place is looked at once.
 pub fn breaks(alloc: Global, raw: &RawSchema) -> Result<Vec<Violation>, SFault>
     ensures ok { IfOk result (λ found. AreViolations (Broken raw.now) found.items) }
     ensures err { IfErr result (λ e. e ≡ NoMemory) }

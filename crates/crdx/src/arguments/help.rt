@@ -14,8 +14,9 @@ apiextensions.k8s.io/v1, and looks at the schema of one of its versions.
 `crdx check` says which rules that schema breaks and where, or that it is
 structural. `crdx sample` lists its small objects, each once and in order.
 
-So far crdx knows integers, booleans and objects with `properties`. A schema
-that breaks no rule and needs more is refused with the code S0.";
+So far `crdx check` does not judge defaults, and `crdx sample` knows integers,
+booleans and objects with `properties` alone. A schema that breaks no rule and
+needs more is refused with the code S0.";
 
 /// What stands at the end of `crdx --help`.
 pub(super) const PROGRAM_END: &str = r#"Examples, at the top of the repository:
@@ -46,13 +47,23 @@ Rules that a schema can break, where allOf, anyOf, oneOf and not are junctors:
   V07  additionalProperties is false.
   V08  There are both properties and additionalProperties.
   V09  There is a type beside x-kubernetes-int-or-string.
+  V10  x-kubernetes-list-type is not atomic, set or map, or is not at a list.
+  V11  The keys of a map list are missing or no fields that tell its items
+       apart, or there are keys where there is no map list.
+  V12  The items of a set are not scalars, or are nullable.
+  V13  x-kubernetes-map-type is not granular or atomic, or is not at an object.
+  V15  A default is not at a property, or is in apiVersion, kind or metadata.
+  V16  A junctor is not at a scalar, or has keywords or values beyond scalars.
+  V17  The schema is outside the profile of crdx: a keyword that does not go
+       with the type, a type that crdx does not know, a list without items, a
+       required name that is no property, or the like.
 
 Codes of a file that is refused:
   J1   A number is not an integer of 64 bits.
   J3   The file is not UTF-8 or not JSON, or nests deeper than 127.
   J4   The file has more than 1,048,576 bytes.
-  S0   The schema breaks no rule, and has something that crdx does not know
-       yet.
+  S0   The schema breaks no rule, and has something that the command does not
+       know yet: under `check` a default.
   S1   The file is no CustomResourceDefinition of apiextensions.k8s.io/v1, or
        the version has no schema.
   S2   There is no version of that name.
@@ -76,7 +87,9 @@ rule, a JSON pointer to the place, and what is wrong there, such as
 
     V04 "/properties/metadata/properties/labels" metadata restricted
 
-Of a schema that is accepted it prints `structural`."#;
+Of a schema that breaks none it prints `structural`. Whether a default is valid
+is not judged yet: a schema that breaks no rule and has a default is refused
+with S0 and the place of the first."#;
 
 pub(super) const CHECK_END: &str = "Examples, at the top of the repository:
   ./crdx check examples/widget/crd.json v1

@@ -26,7 +26,7 @@ pub(crate) struct Answer {
     pub text: String,
 }
 
-/// `structural` of a schema that is accepted, and the lines of all that is broken in one that breaks rules.
+/// `structural` of a schema that breaks no rule and has no default, and the lines of all that is broken in one that breaks rules.
 pub(crate) fn check<I: Inputs>(
     alloc: Global,
     arguments: &CheckArguments<'_>,

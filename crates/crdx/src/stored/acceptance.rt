@@ -20,11 +20,11 @@ use schema::{RawSchema, breaks};
 use std::alloc::{AllocError, Global};
 
 /// Accepts the raw schema of a version (apiextensions.k8s.io/v1, `schema.openAPIV3Schema`), where it breaks none of the
-/// rules V01 to V13 and V15 to V17, and each of its places is known at this stage: below the root `type` is `object`, `integer` or
-/// `boolean`; an object may have `properties`, which is an object of objects; and no other keyword stands there but those
-/// without effect (`title`, `description`, `format`, `example`, `externalDocs` and a false `uniqueItems`). The root itself
-/// is an object. `apiVersion`, `kind` and `metadata` among its properties, the envelope of a resource, are let through, and
-/// the schema is without them.
+/// rules V01 to V13 and V15 to V17, and each of its places is known at this stage: below the root `type` is `object`,
+/// `integer` or `boolean`; an object may have `properties`, which is an object of objects; and no other keyword stands
+/// there but those without effect (`title`, `description`, `format`, `example`, `externalDocs` and a false `uniqueItems`).
+/// The root itself is an object. `apiVersion`, `kind` and `metadata` among its properties, the envelope of a resource, are
+/// let through, and the schema is without them.
 ///
 /// `Violations` with all that is broken, in path order of the places and then by number, where some rule is broken.
 /// `NotYet` with the pointer (RFC 6901) of the first place in path order that is not known, where nothing is broken and

@@ -1,5 +1,5 @@
--- A node of an accepted schema, as plain data (OpenAPI 3.0, Schema Object; apiextensions.k8s.io/v1, JSONSchemaProps): a
--- scalar, an object with declared fields, a map, a list, or open to any value.
+-- A node of a schema that breaks no rule, as plain data (OpenAPI 3.0, Schema Object; apiextensions.k8s.io/v1,
+-- JSONSchemaProps): a scalar, an object with declared fields, a map, a list, or open to any value.
 use Rattle.std.specs.Prelude.{◌≡◌, ℕ, suc, max, List, Bool, Option}
 use Rattle.std.specs.declared.cmp.Ordering.TheVariants.{Less}
 use Rattle.jtree.specs.Data.{Data}

@@ -1,5 +1,5 @@
 -- All that is broken in a schema: each pair of a place and a rule once, in path order of the places and then by number
--- (the rules of structural schemas, apiextensions.k8s.io/v1; their order is this project's own).
+-- (structural schemas, apiextensions.k8s.io/v1; the profile and the order are this project's own).
 use Rattle.std.specs.Prelude.{◌≡◌, ℕ, List, map, AllPairs, All, Contains, string_bytes, codes}
 use Rattle.std.specs.Ordering.{nat_cmp, ordering_then}
 use Rattle.std.specs.declared.cmp.Ordering.{Ordering}

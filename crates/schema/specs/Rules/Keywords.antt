@@ -73,10 +73,11 @@ abbrev pub is_text_among : List (List ℕ) → Option Data → Bool
 is_text_among values (Some (text t)) = is_among t values
 is_text_among values _ = false
 
--- the keyword is there, and is one of these texts; or something else
+-- the keyword is there, and is one of these texts
 abbrev pub has_text_among : List (List ℕ) → Data → List ℕ → Bool
 has_text_among values s k = is_text_among values (under s k)
 
+-- the keyword is there, and is none of them
 abbrev pub has_other_text : List (List ℕ) → Data → List ℕ → Bool
 has_other_text values s k = has s k && not (has_text_among values s k)
 

@@ -119,12 +119,12 @@ abbrev pub is_root : Place → Bool
 is_root [] = true
 is_root _ = false
 
--- The root is no object, whose type is not just missing, or takes null, or bounds its members, or is a map.
+-- the root is of another kind than object, and not just without a type, or takes null, or has one of these keywords
 abbrev pub is_bad_root : Data → Bool
 is_bad_root s = (not (lacks_type s) && not (is_object_kind (kind_of s))) || (flag s (codes "nullable")
     || (has s (codes "additionalProperties") || (has s (codes "minProperties") || has s (codes "maxProperties"))))
 
--- unknown fields are kept at a place that is neither an object with `properties` nor open to every value
+-- unknown fields are kept beside a type or a keyword that does not go with that
 abbrev pub is_bad_preserving : Data → Bool
 is_bad_preserving s = preserves s && (has_other_text ([] ∷ codes "object" ∷ []) s (codes "type") || (is_int_or_string s
     || (has s (codes "additionalProperties") || (is_open_kind (kind_of s) && (has s (codes "properties") || has s (codes "items"))))))
