@@ -295,7 +295,7 @@ static REFUSED: [(&str, &str, &str); 8] = [
 
 #[test]
 fn sound_schemas(rt: HostRuntime) -> Result<(), Fail> {
-    for (name, schema) in SOUND {
+    for (name, schema) in &SOUND {
         try_check(&rt, rt.alloc(), name, schema, "structural\n", "", 0)?;
     }
     Ok(())
@@ -303,7 +303,7 @@ fn sound_schemas(rt: HostRuntime) -> Result<(), Fail> {
 
 #[test]
 fn broken_schemas(rt: HostRuntime) -> Result<(), Fail> {
-    for (name, schema, out) in BROKEN {
+    for (name, schema, out) in &BROKEN {
         try_check(&rt, rt.alloc(), name, schema, out, "", 1)?;
     }
     Ok(())
@@ -311,7 +311,7 @@ fn broken_schemas(rt: HostRuntime) -> Result<(), Fail> {
 
 #[test]
 fn refused_schemas(rt: HostRuntime) -> Result<(), Fail> {
-    for (name, schema, err) in REFUSED {
+    for (name, schema, err) in &REFUSED {
         try_check(&rt, rt.alloc(), name, schema, "", err, 3)?;
     }
     Ok(())

@@ -48,7 +48,7 @@ V15 "/properties/metadata" misplaced default
 
 #[test]
 fn misplaced(rt: HostRuntime) -> Result<(), Fail> {
-    for (name, schema, out) in MISPLACED {
+    for (name, schema, out) in &MISPLACED {
         try_judged(&rt, rt.alloc(), name, schema, out)?;
     }
     Ok(())
@@ -90,7 +90,7 @@ static FIRST: [(&str, &str, &str); 6] = [
 
 #[test]
 fn first(rt: HostRuntime) -> Result<(), Fail> {
-    for (name, schema, wanted) in FIRST {
+    for (name, schema, wanted) in &FIRST {
         let crd = crd_of(rt.alloc(), schema)??;
         let found = first_default(rt.alloc(), &crd.raw)?;
         let found = match &found {

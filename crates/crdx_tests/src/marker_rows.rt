@@ -316,7 +316,7 @@ V13 "/properties/x" bad map type
 
 #[test]
 fn markers(rt: HostRuntime) -> Result<(), Fail> {
-    for (name, schema, out) in MARKERS {
+    for (name, schema, out) in &MARKERS {
         try_judged(&rt, rt.alloc(), name, schema, out)?;
     }
     Ok(())

@@ -158,7 +158,7 @@ static ROOTS: [(&str, &str, &str); 6] = [
 
 #[test]
 fn nodes(rt: HostRuntime) -> Result<(), Fail> {
-    for (name, schema, wanted) in NODES {
+    for (name, schema, wanted) in &NODES {
         let root = format!(in rt.alloc(); r#"{{"type":"object","properties":{{"x":{schema}}}}}"#)?;
         let found = said(rt.alloc(), root.as_str(), true)?;
         is_text(&rt, found.as_str(), wanted, "the node", name);
@@ -168,7 +168,7 @@ fn nodes(rt: HostRuntime) -> Result<(), Fail> {
 
 #[test]
 fn roots(rt: HostRuntime) -> Result<(), Fail> {
-    for (name, schema, wanted) in ROOTS {
+    for (name, schema, wanted) in &ROOTS {
         let found = said(rt.alloc(), schema, false)?;
         is_text(&rt, found.as_str(), wanted, "the node", name);
     }

@@ -468,7 +468,7 @@ V17 "/properties/x" outside the profile
 
 #[test]
 fn junctors(rt: HostRuntime) -> Result<(), Fail> {
-    for (name, schema, out) in JUNCTORS {
+    for (name, schema, out) in &JUNCTORS {
         try_judged(&rt, rt.alloc(), name, schema, out)?;
     }
     Ok(())
@@ -476,7 +476,7 @@ fn junctors(rt: HostRuntime) -> Result<(), Fail> {
 
 #[test]
 fn keywords_and_values(rt: HostRuntime) -> Result<(), Fail> {
-    for (name, schema, out) in PROFILE {
+    for (name, schema, out) in &PROFILE {
         try_judged(&rt, rt.alloc(), name, schema, out)?;
     }
     Ok(())
