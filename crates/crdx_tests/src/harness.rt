@@ -159,3 +159,15 @@ pub fn try_judged(
     let status = if out == "structural\n" { 0 } else { 1 };
     try_check(rt, alloc, name, schema, out, "", status)
 }
+
+/// As `try_judged`, of an object with one field, `x`, of this schema.
+pub fn try_field(
+    rt: &impl Abort,
+    alloc: Global,
+    name: &str,
+    schema: &str,
+    out: &str,
+) -> Result<(), AllocError> {
+    let root = format!(in alloc; r#"{{"type":"object","properties":{{"x":{schema}}}}}"#)?;
+    try_judged(rt, alloc, name, root.as_str(), out)
+}

@@ -1,275 +1,299 @@
 //! `check` on the markers of lists and maps (V10 to V13): what breaks a rule, beside what does not.
-use crate::harness::try_judged;
+use crate::harness::{try_field, try_judged};
 use std::test::Fail;
 
-// A name, a schema, and standard output.
-static MARKERS: [(&str, &str, &str); 58] = [
+// List types: a name, the schema of a field, and standard output.
+static LIST_TYPES: [(&str, &str, &str); 7] = [
     (
         "a list type",
-        r#"{"type":"object","properties":{"x":{"type":"array","items":{"type":"string"},"x-kubernetes-list-type":"atomic"}}}"#,
+        r#"{"type":"array","items":{"type":"string"},"x-kubernetes-list-type":"atomic"}"#,
         "structural\n",
     ),
     (
         "a list type of a text",
-        r#"{"type":"object","properties":{"x":{"type":"string","x-kubernetes-list-type":"atomic"}}}"#,
+        r#"{"type":"string","x-kubernetes-list-type":"atomic"}"#,
         "V10 \"/properties/x\" bad list type\n",
     ),
     (
         "a list type of an object",
-        r#"{"type":"object","properties":{"x":{"type":"object","x-kubernetes-list-type":"set"}}}"#,
+        r#"{"type":"object","x-kubernetes-list-type":"set"}"#,
         "V10 \"/properties/x\" bad list type\n",
     ),
     (
         "a list type of any value",
-        r#"{"type":"object","properties":{"x":{"x-kubernetes-preserve-unknown-fields":true,"x-kubernetes-list-type":"atomic"}}}"#,
+        r#"{"x-kubernetes-preserve-unknown-fields":true,"x-kubernetes-list-type":"atomic"}"#,
         "V10 \"/properties/x\" bad list type\n",
     ),
     (
         "a list type without a type",
-        r#"{"type":"object","properties":{"x":{"x-kubernetes-list-type":"atomic"}}}"#,
+        r#"{"x-kubernetes-list-type":"atomic"}"#,
         r#"V01 "/properties/x" missing type
 V10 "/properties/x" bad list type
 "#,
     ),
     (
         "another list type",
-        r#"{"type":"object","properties":{"x":{"type":"array","items":{"type":"string"},"x-kubernetes-list-type":"list"}}}"#,
+        r#"{"type":"array","items":{"type":"string"},"x-kubernetes-list-type":"list"}"#,
         "V10 \"/properties/x\" bad list type\n",
     ),
     (
         "an empty list type",
-        r#"{"type":"object","properties":{"x":{"type":"array","items":{"type":"string"},"x-kubernetes-list-type":""}}}"#,
+        r#"{"type":"array","items":{"type":"string"},"x-kubernetes-list-type":""}"#,
         "V10 \"/properties/x\" bad list type\n",
     ),
+];
+
+// Keys where there is no map list: a name, the schema of a field, and standard output.
+static KEYS_ELSEWHERE: [(&str, &str, &str); 7] = [
     (
         "another list type with keys",
-        r#"{"type":"object","properties":{"x":{"type":"array","items":{"type":"string"},"x-kubernetes-list-type":"Map","x-kubernetes-list-map-keys":["k"]}}}"#,
+        r#"{"type":"array","items":{"type":"string"},"x-kubernetes-list-type":"Map","x-kubernetes-list-map-keys":["k"]}"#,
         r#"V10 "/properties/x" bad list type
 V11 "/properties/x" bad map keys
 "#,
     ),
     (
         "an object of list type map with keys",
-        r#"{"type":"object","properties":{"x":{"type":"object","x-kubernetes-list-type":"map","x-kubernetes-list-map-keys":["k"]}}}"#,
+        r#"{"type":"object","x-kubernetes-list-type":"map","x-kubernetes-list-map-keys":["k"]}"#,
         "V10 \"/properties/x\" bad list type\n",
     ),
     (
         "keys without a list type",
-        r#"{"type":"object","properties":{"x":{"type":"array","items":{"type":"string"},"x-kubernetes-list-map-keys":["k"]}}}"#,
+        r#"{"type":"array","items":{"type":"string"},"x-kubernetes-list-map-keys":["k"]}"#,
         "V11 \"/properties/x\" bad map keys\n",
     ),
     (
         "keys of an atomic list",
-        r#"{"type":"object","properties":{"x":{"type":"array","items":{"type":"string"},"x-kubernetes-list-type":"atomic","x-kubernetes-list-map-keys":["k"]}}}"#,
+        r#"{"type":"array","items":{"type":"string"},"x-kubernetes-list-type":"atomic","x-kubernetes-list-map-keys":["k"]}"#,
         "V11 \"/properties/x\" bad map keys\n",
     ),
     (
         "keys of a set",
-        r#"{"type":"object","properties":{"x":{"type":"array","items":{"type":"string"},"x-kubernetes-list-type":"set","x-kubernetes-list-map-keys":["k"]}}}"#,
+        r#"{"type":"array","items":{"type":"string"},"x-kubernetes-list-type":"set","x-kubernetes-list-map-keys":["k"]}"#,
         "V11 \"/properties/x\" bad map keys\n",
     ),
     (
         "no keys of a set",
-        r#"{"type":"object","properties":{"x":{"type":"array","items":{"type":"string"},"x-kubernetes-list-type":"set","x-kubernetes-list-map-keys":[]}}}"#,
+        r#"{"type":"array","items":{"type":"string"},"x-kubernetes-list-type":"set","x-kubernetes-list-map-keys":[]}"#,
         "V11 \"/properties/x\" bad map keys\n",
     ),
     (
         "keys of an object",
-        r#"{"type":"object","properties":{"x":{"type":"object","x-kubernetes-list-map-keys":["k"]}}}"#,
+        r#"{"type":"object","x-kubernetes-list-map-keys":["k"]}"#,
         "V11 \"/properties/x\" bad map keys\n",
     ),
+];
+
+// Map lists: a name, the schema of a field, and standard output.
+static MAP_LISTS: [(&str, &str, &str); 8] = [
     (
         "a map list",
-        r#"{"type":"object","properties":{"x":{"type":"array","x-kubernetes-list-map-keys":["k"],"x-kubernetes-list-type":"map","items":{"type":"object","properties":{"k":{"type":"string"}},"required":["k"]}}}}"#,
+        r#"{"type":"array","x-kubernetes-list-map-keys":["k"],"x-kubernetes-list-type":"map","items":{"type":"object","properties":{"k":{"type":"string"}},"required":["k"]}}"#,
         "structural\n",
     ),
     (
         "a map list without keys",
-        r#"{"type":"object","properties":{"x":{"type":"array","x-kubernetes-list-type":"map","items":{"type":"object","properties":{"k":{"type":"string"}},"required":["k"]}}}}"#,
+        r#"{"type":"array","x-kubernetes-list-type":"map","items":{"type":"object","properties":{"k":{"type":"string"}},"required":["k"]}}"#,
         "V11 \"/properties/x\" bad map keys\n",
     ),
     (
         "a map list of no keys",
-        r#"{"type":"object","properties":{"x":{"type":"array","x-kubernetes-list-map-keys":[],"x-kubernetes-list-type":"map","items":{"type":"object","properties":{"k":{"type":"string"}},"required":["k"]}}}}"#,
+        r#"{"type":"array","x-kubernetes-list-map-keys":[],"x-kubernetes-list-type":"map","items":{"type":"object","properties":{"k":{"type":"string"}},"required":["k"]}}"#,
         "V11 \"/properties/x\" bad map keys\n",
     ),
     (
         "a key that stands twice",
-        r#"{"type":"object","properties":{"x":{"type":"array","x-kubernetes-list-map-keys":["k","k"],"x-kubernetes-list-type":"map","items":{"type":"object","properties":{"k":{"type":"string"}},"required":["k"]}}}}"#,
+        r#"{"type":"array","x-kubernetes-list-map-keys":["k","k"],"x-kubernetes-list-type":"map","items":{"type":"object","properties":{"k":{"type":"string"}},"required":["k"]}}"#,
         "V11 \"/properties/x\" bad map keys\n",
     ),
     (
         "two keys",
-        r#"{"type":"object","properties":{"x":{"type":"array","x-kubernetes-list-map-keys":["l","k"],"x-kubernetes-list-type":"map","items":{"type":"object","properties":{"k":{"type":"string"},"l":{"type":"integer"}},"required":["k","l"]}}}}"#,
+        r#"{"type":"array","x-kubernetes-list-map-keys":["l","k"],"x-kubernetes-list-type":"map","items":{"type":"object","properties":{"k":{"type":"string"},"l":{"type":"integer"}},"required":["k","l"]}}"#,
         "structural\n",
     ),
     (
         "two keys, the last not required",
-        r#"{"type":"object","properties":{"x":{"type":"array","x-kubernetes-list-map-keys":["l","k"],"x-kubernetes-list-type":"map","items":{"type":"object","properties":{"k":{"type":"string"},"l":{"type":"integer"}},"required":["l"]}}}}"#,
+        r#"{"type":"array","x-kubernetes-list-map-keys":["l","k"],"x-kubernetes-list-type":"map","items":{"type":"object","properties":{"k":{"type":"string"},"l":{"type":"integer"}},"required":["l"]}}"#,
         "V11 \"/properties/x\" bad map keys\n",
     ),
     (
         "two keys, the last no property",
-        r#"{"type":"object","properties":{"x":{"type":"array","x-kubernetes-list-map-keys":["l","k"],"x-kubernetes-list-type":"map","items":{"type":"object","properties":{"l":{"type":"integer"}},"required":["l"]}}}}"#,
+        r#"{"type":"array","x-kubernetes-list-map-keys":["l","k"],"x-kubernetes-list-type":"map","items":{"type":"object","properties":{"l":{"type":"integer"}},"required":["l"]}}"#,
         "V11 \"/properties/x\" bad map keys\n",
     ),
     (
         "a map list without items",
-        r#"{"type":"object","properties":{"x":{"type":"array","x-kubernetes-list-map-keys":["k"],"x-kubernetes-list-type":"map"}}}"#,
+        r#"{"type":"array","x-kubernetes-list-map-keys":["k"],"x-kubernetes-list-type":"map"}"#,
         r#"V11 "/properties/x" bad map keys
 V17 "/properties/x" outside the profile
 "#,
     ),
+];
+
+// Items of map lists: a name, the schema of a field, and standard output.
+static ITEMS: [(&str, &str, &str); 8] = [
     (
         "a map list of texts",
-        r#"{"type":"object","properties":{"x":{"type":"array","x-kubernetes-list-map-keys":["k"],"x-kubernetes-list-type":"map","items":{"type":"string"}}}}"#,
+        r#"{"type":"array","x-kubernetes-list-map-keys":["k"],"x-kubernetes-list-type":"map","items":{"type":"string"}}"#,
         "V11 \"/properties/x\" bad map keys\n",
     ),
     (
         "a map list of any values",
-        r#"{"type":"object","properties":{"x":{"type":"array","x-kubernetes-list-map-keys":["k"],"x-kubernetes-list-type":"map","items":{"x-kubernetes-preserve-unknown-fields":true}}}}"#,
+        r#"{"type":"array","x-kubernetes-list-map-keys":["k"],"x-kubernetes-list-type":"map","items":{"x-kubernetes-preserve-unknown-fields":true}}"#,
         "V11 \"/properties/x\" bad map keys\n",
     ),
     (
         "a map list of items without a type",
-        r#"{"type":"object","properties":{"x":{"type":"array","x-kubernetes-list-map-keys":["k"],"x-kubernetes-list-type":"map","items":{"properties":{"k":{"type":"string"}},"required":["k"]}}}}"#,
+        r#"{"type":"array","x-kubernetes-list-map-keys":["k"],"x-kubernetes-list-type":"map","items":{"properties":{"k":{"type":"string"}},"required":["k"]}}"#,
         r#"V11 "/properties/x" bad map keys
 V01 "/properties/x/items" missing type
 "#,
     ),
     (
         "a map list of maps",
-        r#"{"type":"object","properties":{"x":{"type":"array","x-kubernetes-list-map-keys":["k"],"x-kubernetes-list-type":"map","items":{"type":"object","additionalProperties":{"type":"string"}}}}}"#,
+        r#"{"type":"array","x-kubernetes-list-map-keys":["k"],"x-kubernetes-list-type":"map","items":{"type":"object","additionalProperties":{"type":"string"}}}"#,
         "V11 \"/properties/x\" bad map keys\n",
     ),
     (
         "a map list of maps with properties",
-        r#"{"type":"object","properties":{"x":{"type":"array","x-kubernetes-list-map-keys":["k"],"x-kubernetes-list-type":"map","items":{"type":"object","additionalProperties":{"type":"string"},"properties":{"k":{"type":"string"}},"required":["k"]}}}}"#,
+        r#"{"type":"array","x-kubernetes-list-map-keys":["k"],"x-kubernetes-list-type":"map","items":{"type":"object","additionalProperties":{"type":"string"},"properties":{"k":{"type":"string"}},"required":["k"]}}"#,
         "V08 \"/properties/x/items\" properties with additionalProperties\n",
     ),
     (
         "a map list of objects or null",
-        r#"{"type":"object","properties":{"x":{"type":"array","x-kubernetes-list-map-keys":["k"],"x-kubernetes-list-type":"map","items":{"type":"object","nullable":true,"properties":{"k":{"type":"string"}},"required":["k"]}}}}"#,
+        r#"{"type":"array","x-kubernetes-list-map-keys":["k"],"x-kubernetes-list-type":"map","items":{"type":"object","nullable":true,"properties":{"k":{"type":"string"}},"required":["k"]}}"#,
         "V11 \"/properties/x\" bad map keys\n",
     ),
     (
         "a map list of objects and no null",
-        r#"{"type":"object","properties":{"x":{"type":"array","x-kubernetes-list-map-keys":["k"],"x-kubernetes-list-type":"map","items":{"type":"object","nullable":false,"properties":{"k":{"type":"string"}},"required":["k"]}}}}"#,
+        r#"{"type":"array","x-kubernetes-list-map-keys":["k"],"x-kubernetes-list-type":"map","items":{"type":"object","nullable":false,"properties":{"k":{"type":"string"}},"required":["k"]}}"#,
         "structural\n",
     ),
     (
         "a map list of objects with other fields",
-        r#"{"type":"object","properties":{"x":{"type":"array","x-kubernetes-list-map-keys":["k"],"x-kubernetes-list-type":"map","items":{"type":"object","x-kubernetes-preserve-unknown-fields":true,"properties":{"k":{"type":"string"}},"required":["k"]}}}}"#,
+        r#"{"type":"array","x-kubernetes-list-map-keys":["k"],"x-kubernetes-list-type":"map","items":{"type":"object","x-kubernetes-preserve-unknown-fields":true,"properties":{"k":{"type":"string"}},"required":["k"]}}"#,
         "structural\n",
     ),
+];
+
+// Keys of map lists: a name, the schema of a field, and standard output.
+static KEYS: [(&str, &str, &str); 10] = [
     (
         "a key that is no property",
-        r#"{"type":"object","properties":{"x":{"type":"array","x-kubernetes-list-map-keys":["k"],"x-kubernetes-list-type":"map","items":{"type":"object","properties":{"l":{"type":"string"}},"required":["l"]}}}}"#,
+        r#"{"type":"array","x-kubernetes-list-map-keys":["k"],"x-kubernetes-list-type":"map","items":{"type":"object","properties":{"l":{"type":"string"}},"required":["l"]}}"#,
         "V11 \"/properties/x\" bad map keys\n",
     ),
     (
         "a key of items without properties",
-        r#"{"type":"object","properties":{"x":{"type":"array","x-kubernetes-list-map-keys":["k"],"x-kubernetes-list-type":"map","items":{"type":"object"}}}}"#,
+        r#"{"type":"array","x-kubernetes-list-map-keys":["k"],"x-kubernetes-list-type":"map","items":{"type":"object"}}"#,
         "V11 \"/properties/x\" bad map keys\n",
     ),
     (
         "a key of objects",
-        r#"{"type":"object","properties":{"x":{"type":"array","x-kubernetes-list-map-keys":["k"],"x-kubernetes-list-type":"map","items":{"type":"object","properties":{"k":{"type":"object"}},"required":["k"]}}}}"#,
+        r#"{"type":"array","x-kubernetes-list-map-keys":["k"],"x-kubernetes-list-type":"map","items":{"type":"object","properties":{"k":{"type":"object"}},"required":["k"]}}"#,
         "V11 \"/properties/x\" bad map keys\n",
     ),
     (
         "a key of lists",
-        r#"{"type":"object","properties":{"x":{"type":"array","x-kubernetes-list-map-keys":["k"],"x-kubernetes-list-type":"map","items":{"type":"object","properties":{"k":{"type":"array","items":{"type":"string"}}},"required":["k"]}}}}"#,
+        r#"{"type":"array","x-kubernetes-list-map-keys":["k"],"x-kubernetes-list-type":"map","items":{"type":"object","properties":{"k":{"type":"array","items":{"type":"string"}}},"required":["k"]}}"#,
         "V11 \"/properties/x\" bad map keys\n",
     ),
     (
         "a key of any values",
-        r#"{"type":"object","properties":{"x":{"type":"array","x-kubernetes-list-map-keys":["k"],"x-kubernetes-list-type":"map","items":{"type":"object","properties":{"k":{"x-kubernetes-preserve-unknown-fields":true}},"required":["k"]}}}}"#,
+        r#"{"type":"array","x-kubernetes-list-map-keys":["k"],"x-kubernetes-list-type":"map","items":{"type":"object","properties":{"k":{"x-kubernetes-preserve-unknown-fields":true}},"required":["k"]}}"#,
         "V11 \"/properties/x\" bad map keys\n",
     ),
     (
         "a key without a type",
-        r#"{"type":"object","properties":{"x":{"type":"array","x-kubernetes-list-map-keys":["k"],"x-kubernetes-list-type":"map","items":{"type":"object","properties":{"k":{}},"required":["k"]}}}}"#,
+        r#"{"type":"array","x-kubernetes-list-map-keys":["k"],"x-kubernetes-list-type":"map","items":{"type":"object","properties":{"k":{}},"required":["k"]}}"#,
         r#"V11 "/properties/x" bad map keys
 V01 "/properties/x/items/properties/k" missing type
 "#,
     ),
     (
         "a key of integers and texts",
-        r#"{"type":"object","properties":{"x":{"type":"array","x-kubernetes-list-map-keys":["k"],"x-kubernetes-list-type":"map","items":{"type":"object","properties":{"k":{"x-kubernetes-int-or-string":true}},"required":["k"]}}}}"#,
+        r#"{"type":"array","x-kubernetes-list-map-keys":["k"],"x-kubernetes-list-type":"map","items":{"type":"object","properties":{"k":{"x-kubernetes-int-or-string":true}},"required":["k"]}}"#,
         "structural\n",
     ),
     (
         "a key of truth values",
-        r#"{"type":"object","properties":{"x":{"type":"array","x-kubernetes-list-map-keys":["k"],"x-kubernetes-list-type":"map","items":{"type":"object","properties":{"k":{"type":"boolean","nullable":false}},"required":["k"]}}}}"#,
+        r#"{"type":"array","x-kubernetes-list-map-keys":["k"],"x-kubernetes-list-type":"map","items":{"type":"object","properties":{"k":{"type":"boolean","nullable":false}},"required":["k"]}}"#,
         "structural\n",
     ),
     (
         "a key of texts or null",
-        r#"{"type":"object","properties":{"x":{"type":"array","x-kubernetes-list-map-keys":["k"],"x-kubernetes-list-type":"map","items":{"type":"object","properties":{"k":{"type":"string","nullable":true}},"required":["k"]}}}}"#,
+        r#"{"type":"array","x-kubernetes-list-map-keys":["k"],"x-kubernetes-list-type":"map","items":{"type":"object","properties":{"k":{"type":"string","nullable":true}},"required":["k"]}}"#,
         "V11 \"/properties/x\" bad map keys\n",
     ),
     (
         "a key that is not required",
-        r#"{"type":"object","properties":{"x":{"type":"array","x-kubernetes-list-map-keys":["k"],"x-kubernetes-list-type":"map","items":{"type":"object","properties":{"k":{"type":"string"}}}}}}"#,
+        r#"{"type":"array","x-kubernetes-list-map-keys":["k"],"x-kubernetes-list-type":"map","items":{"type":"object","properties":{"k":{"type":"string"}}}}"#,
         "V11 \"/properties/x\" bad map keys\n",
     ),
+];
+
+// Sets: a name, the schema of a field, and standard output.
+static SETS: [(&str, &str, &str); 10] = [
     (
         "a set",
-        r#"{"type":"object","properties":{"x":{"type":"array","x-kubernetes-list-type":"set","items":{"type":"string"}}}}"#,
+        r#"{"type":"array","x-kubernetes-list-type":"set","items":{"type":"string"}}"#,
         "structural\n",
     ),
     (
         "a set without items",
-        r#"{"type":"object","properties":{"x":{"type":"array","x-kubernetes-list-type":"set"}}}"#,
+        r#"{"type":"array","x-kubernetes-list-type":"set"}"#,
         r#"V12 "/properties/x" bad items of a set
 V17 "/properties/x" outside the profile
 "#,
     ),
     (
         "a set of objects",
-        r#"{"type":"object","properties":{"x":{"type":"array","x-kubernetes-list-type":"set","items":{"type":"object"}}}}"#,
+        r#"{"type":"array","x-kubernetes-list-type":"set","items":{"type":"object"}}"#,
         "V12 \"/properties/x\" bad items of a set\n",
     ),
     (
         "a set of lists",
-        r#"{"type":"object","properties":{"x":{"type":"array","x-kubernetes-list-type":"set","items":{"type":"array","items":{"type":"string"}}}}}"#,
+        r#"{"type":"array","x-kubernetes-list-type":"set","items":{"type":"array","items":{"type":"string"}}}"#,
         "V12 \"/properties/x\" bad items of a set\n",
     ),
     (
         "a set of any values",
-        r#"{"type":"object","properties":{"x":{"type":"array","x-kubernetes-list-type":"set","items":{"x-kubernetes-preserve-unknown-fields":true}}}}"#,
+        r#"{"type":"array","x-kubernetes-list-type":"set","items":{"x-kubernetes-preserve-unknown-fields":true}}"#,
         "V12 \"/properties/x\" bad items of a set\n",
     ),
     (
         "a set of items without a type",
-        r#"{"type":"object","properties":{"x":{"type":"array","x-kubernetes-list-type":"set","items":{}}}}"#,
+        r#"{"type":"array","x-kubernetes-list-type":"set","items":{}}"#,
         r#"V12 "/properties/x" bad items of a set
 V01 "/properties/x/items" missing type
 "#,
     ),
     (
         "a set of numbers",
-        r#"{"type":"object","properties":{"x":{"type":"array","x-kubernetes-list-type":"set","items":{"type":"number"}}}}"#,
+        r#"{"type":"array","x-kubernetes-list-type":"set","items":{"type":"number"}}"#,
         r#"V12 "/properties/x" bad items of a set
 V17 "/properties/x/items" outside the profile
 "#,
     ),
     (
         "a set of integers and texts",
-        r#"{"type":"object","properties":{"x":{"type":"array","x-kubernetes-list-type":"set","items":{"x-kubernetes-int-or-string":true,"nullable":false}}}}"#,
+        r#"{"type":"array","x-kubernetes-list-type":"set","items":{"x-kubernetes-int-or-string":true,"nullable":false}}"#,
         "structural\n",
     ),
     (
         "a set of texts or null",
-        r#"{"type":"object","properties":{"x":{"type":"array","x-kubernetes-list-type":"set","items":{"type":"string","nullable":true}}}}"#,
+        r#"{"type":"array","x-kubernetes-list-type":"set","items":{"type":"string","nullable":true}}"#,
         "V12 \"/properties/x\" bad items of a set\n",
     ),
     (
         "an atomic list of texts or null",
-        r#"{"type":"object","properties":{"x":{"type":"array","x-kubernetes-list-type":"atomic","items":{"type":"string","nullable":true}}}}"#,
+        r#"{"type":"array","x-kubernetes-list-type":"atomic","items":{"type":"string","nullable":true}}"#,
         "structural\n",
     ),
+];
+
+// Map types: a name, a schema, and standard output.
+static MAP_TYPES: [(&str, &str, &str); 8] = [
     (
         "map types",
         r#"{"type":"object","x-kubernetes-map-type":"granular","properties":{"m":{"type":"object","additionalProperties":{"type":"string"},"x-kubernetes-map-type":"atomic"}}}"#,
@@ -315,8 +339,56 @@ V13 "/properties/x" bad map type
 ];
 
 #[test]
-fn markers(rt: HostRuntime) -> Result<(), Fail> {
-    for (name, schema, out) in &MARKERS {
+fn list_types(rt: HostRuntime) -> Result<(), Fail> {
+    for (name, schema, out) in &LIST_TYPES {
+        try_field(&rt, rt.alloc(), name, schema, out)?;
+    }
+    Ok(())
+}
+
+#[test]
+fn keys_elsewhere(rt: HostRuntime) -> Result<(), Fail> {
+    for (name, schema, out) in &KEYS_ELSEWHERE {
+        try_field(&rt, rt.alloc(), name, schema, out)?;
+    }
+    Ok(())
+}
+
+#[test]
+fn map_lists(rt: HostRuntime) -> Result<(), Fail> {
+    for (name, schema, out) in &MAP_LISTS {
+        try_field(&rt, rt.alloc(), name, schema, out)?;
+    }
+    Ok(())
+}
+
+#[test]
+fn items(rt: HostRuntime) -> Result<(), Fail> {
+    for (name, schema, out) in &ITEMS {
+        try_field(&rt, rt.alloc(), name, schema, out)?;
+    }
+    Ok(())
+}
+
+#[test]
+fn keys(rt: HostRuntime) -> Result<(), Fail> {
+    for (name, schema, out) in &KEYS {
+        try_field(&rt, rt.alloc(), name, schema, out)?;
+    }
+    Ok(())
+}
+
+#[test]
+fn sets(rt: HostRuntime) -> Result<(), Fail> {
+    for (name, schema, out) in &SETS {
+        try_field(&rt, rt.alloc(), name, schema, out)?;
+    }
+    Ok(())
+}
+
+#[test]
+fn map_types(rt: HostRuntime) -> Result<(), Fail> {
+    for (name, schema, out) in &MAP_TYPES {
         try_judged(&rt, rt.alloc(), name, schema, out)?;
     }
     Ok(())

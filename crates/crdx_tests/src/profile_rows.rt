@@ -1,8 +1,8 @@
 //! `check` on junctors and the profile (V16 and V17): what breaks a rule, beside what does not.
-use crate::harness::try_judged;
+use crate::harness::{try_field, try_judged};
 use std::test::Fail;
 
-// A name, a schema, and standard output.
+// Junctors: a name, a schema, and standard output.
 static JUNCTORS: [(&str, &str, &str); 13] = [
     (
         "junctors of scalars",
@@ -103,8 +103,8 @@ V16 "/properties/x/anyOf/4" junctor outside the profile
     ),
 ];
 
-// A name, a schema, and standard output.
-static PROFILE: [(&str, &str, &str); 56] = [
+// The root: a name, a schema, and standard output.
+static ROOTS: [(&str, &str, &str); 7] = [
     (
         "a root of integers",
         r#"{"type":"integer"}"#,
@@ -140,6 +140,10 @@ static PROFILE: [(&str, &str, &str); 56] = [
         r#"{"type":"object","x-kubernetes-preserve-unknown-fields":true}"#,
         "structural\n",
     ),
+];
+
+// Keywords of the root: a name, a schema, and standard output.
+static ROOT_KEYWORDS: [(&str, &str, &str); 8] = [
     (
         "a root or null",
         r#"{"type":"object","nullable":true}"#,
@@ -184,6 +188,10 @@ V17 "" outside the profile
         r#"{"type":"object","properties":{"x":{"type":"object","nullable":true,"minProperties":0,"maxProperties":9}}}"#,
         "structural\n",
     ),
+];
+
+// Types: a name, a schema, and standard output.
+static TYPES: [(&str, &str, &str); 5] = [
     (
         "a number",
         r#"{"type":"object","properties":{"x":{"type":"number"}}}"#,
@@ -211,56 +219,64 @@ V17 "/properties/x" outside the profile
         r#"{"type":"object","properties":{"x":{"type":"","x-kubernetes-int-or-string":true}}}"#,
         "V09 \"/properties/x\" int-or-string with a type\n",
     ),
+];
+
+// Unknown fields that are kept: a name, the schema of a field, and standard output.
+static UNKNOWN_FIELDS: [(&str, &str, &str); 10] = [
     (
         "a text that keeps fields",
-        r#"{"type":"object","properties":{"x":{"type":"string","x-kubernetes-preserve-unknown-fields":true}}}"#,
+        r#"{"type":"string","x-kubernetes-preserve-unknown-fields":true}"#,
         "V17 \"/properties/x\" outside the profile\n",
     ),
     (
         "a text that keeps no fields",
-        r#"{"type":"object","properties":{"x":{"type":"string","x-kubernetes-preserve-unknown-fields":false}}}"#,
+        r#"{"type":"string","x-kubernetes-preserve-unknown-fields":false}"#,
         "structural\n",
     ),
     (
         "integers and texts that keep fields",
-        r#"{"type":"object","properties":{"x":{"x-kubernetes-int-or-string":true,"x-kubernetes-preserve-unknown-fields":true}}}"#,
+        r#"{"x-kubernetes-int-or-string":true,"x-kubernetes-preserve-unknown-fields":true}"#,
         "V17 \"/properties/x\" outside the profile\n",
     ),
     (
         "integers and texts that keep no fields",
-        r#"{"type":"object","properties":{"x":{"x-kubernetes-int-or-string":true,"x-kubernetes-preserve-unknown-fields":false}}}"#,
+        r#"{"x-kubernetes-int-or-string":true,"x-kubernetes-preserve-unknown-fields":false}"#,
         "structural\n",
     ),
     (
         "a map that keeps fields",
-        r#"{"type":"object","properties":{"x":{"type":"object","additionalProperties":{"type":"string"},"x-kubernetes-preserve-unknown-fields":true}}}"#,
+        r#"{"type":"object","additionalProperties":{"type":"string"},"x-kubernetes-preserve-unknown-fields":true}"#,
         "V17 \"/properties/x\" outside the profile\n",
     ),
     (
         "a map that keeps no fields",
-        r#"{"type":"object","properties":{"x":{"type":"object","additionalProperties":{"type":"string"},"x-kubernetes-preserve-unknown-fields":false}}}"#,
+        r#"{"type":"object","additionalProperties":{"type":"string"},"x-kubernetes-preserve-unknown-fields":false}"#,
         "structural\n",
     ),
     (
         "any value with properties",
-        r#"{"type":"object","properties":{"x":{"x-kubernetes-preserve-unknown-fields":true,"properties":{}}}}"#,
+        r#"{"x-kubernetes-preserve-unknown-fields":true,"properties":{}}"#,
         "V17 \"/properties/x\" outside the profile\n",
     ),
     (
         "any value with items",
-        r#"{"type":"object","properties":{"x":{"x-kubernetes-preserve-unknown-fields":true,"items":{"type":"string"}}}}"#,
+        r#"{"x-kubernetes-preserve-unknown-fields":true,"items":{"type":"string"}}"#,
         "V17 \"/properties/x\" outside the profile\n",
     ),
     (
         "any value",
-        r#"{"type":"object","properties":{"x":{"x-kubernetes-preserve-unknown-fields":true,"type":"","description":"","title":"","format":"","example":[],"externalDocs":0,"nullable":true,"uniqueItems":false}}}"#,
+        r#"{"x-kubernetes-preserve-unknown-fields":true,"type":"","description":"","title":"","format":"","example":[],"externalDocs":0,"nullable":true,"uniqueItems":false}"#,
         "structural\n",
     ),
     (
         "an object that keeps fields",
-        r#"{"type":"object","properties":{"x":{"type":"object","x-kubernetes-preserve-unknown-fields":true,"properties":{"a":{"x-kubernetes-preserve-unknown-fields":true}}}}}"#,
+        r#"{"type":"object","x-kubernetes-preserve-unknown-fields":true,"properties":{"a":{"x-kubernetes-preserve-unknown-fields":true}}}"#,
         "structural\n",
     ),
+];
+
+// Keywords of each kind: a name, a schema, and standard output.
+static KEYWORDS: [(&str, &str, &str); 9] = [
     (
         "the keywords of a text",
         r#"{"type":"object","properties":{"x":{"type":"string","description":"","title":"","format":"","example":[],"externalDocs":0,"nullable":true,"uniqueItems":false,"x-kubernetes-int-or-string":false,"x-kubernetes-preserve-unknown-fields":false,"enum":["a"],"minimum":1,"maximum":1,"exclusiveMinimum":false,"exclusiveMaximum":false,"minLength":1,"maxLength":1}}}"#,
@@ -367,43 +383,51 @@ V17 "/properties/x-kubernetes-validations" outside the profile
         r#"{"type":"object","properties":{"x":{"pattern":"","minItems":1,"minLength":1}}}"#,
         "V01 \"/properties/x\" missing type\n",
     ),
+];
+
+// Items and required names: a name, the schema of a field, and standard output.
+static REQUIRED: [(&str, &str, &str); 7] = [
     (
         "a list of any values",
-        r#"{"type":"object","properties":{"x":{"type":"array","items":{"x-kubernetes-preserve-unknown-fields":true}}}}"#,
+        r#"{"type":"array","items":{"x-kubernetes-preserve-unknown-fields":true}}"#,
         "structural\n",
     ),
     (
         "a list without items",
-        r#"{"type":"object","properties":{"x":{"type":"array"}}}"#,
+        r#"{"type":"array"}"#,
         "V17 \"/properties/x\" outside the profile\n",
     ),
     (
         "a required field that is not declared",
-        r#"{"type":"object","properties":{"x":{"type":"object","properties":{"a":{"type":"string"}},"required":["a","b"]}}}"#,
+        r#"{"type":"object","properties":{"a":{"type":"string"}},"required":["a","b"]}"#,
         "V17 \"/properties/x\" outside the profile\n",
     ),
     (
         "a required field that stands twice",
-        r#"{"type":"object","properties":{"x":{"type":"object","properties":{"a":{"type":"string"}},"required":["a","a"]}}}"#,
+        r#"{"type":"object","properties":{"a":{"type":"string"}},"required":["a","a"]}"#,
         "structural\n",
     ),
     (
         "a required field without properties",
-        r#"{"type":"object","properties":{"x":{"type":"object","required":["a"]}}}"#,
+        r#"{"type":"object","required":["a"]}"#,
         "V17 \"/properties/x\" outside the profile\n",
     ),
     (
         "a required field of a map",
-        r#"{"type":"object","properties":{"x":{"type":"object","additionalProperties":{"type":"string"},"required":["a"]}}}"#,
+        r#"{"type":"object","additionalProperties":{"type":"string"},"required":["a"]}"#,
         "V17 \"/properties/x\" outside the profile\n",
     ),
     (
         "a required field without a type",
-        r#"{"type":"object","properties":{"x":{"required":["a"]}}}"#,
+        r#"{"required":["a"]}"#,
         r#"V01 "/properties/x" missing type
 V17 "/properties/x" outside the profile
 "#,
     ),
+];
+
+// Required names of the root: a name, a schema, and standard output.
+static REQUIRED_AT_THE_ROOT: [(&str, &str, &str); 3] = [
     (
         "a required field named as one of the envelope",
         r#"{"type":"object","properties":{"x":{"type":"object","required":["kind"]}}}"#,
@@ -419,6 +443,10 @@ V17 "/properties/x" outside the profile
         r#"{"type":"object","required":["kind","spec"]}"#,
         "V17 \"\" outside the profile\n",
     ),
+];
+
+// Values of enum, and additionalProperties: a name, a schema, and standard output.
+static VALUES: [(&str, &str, &str); 7] = [
     (
         "enums",
         r#"{"type":"object","properties":{"a":{"type":"integer","enum":[1,1]},"b":{"type":"string","enum":["a"]},"c":{"type":"boolean","enum":[true]},"d":{"x-kubernetes-int-or-string":true,"enum":[1,"a"]}}}"#,
@@ -475,8 +503,64 @@ fn junctors(rt: HostRuntime) -> Result<(), Fail> {
 }
 
 #[test]
-fn keywords_and_values(rt: HostRuntime) -> Result<(), Fail> {
-    for (name, schema, out) in &PROFILE {
+fn roots(rt: HostRuntime) -> Result<(), Fail> {
+    for (name, schema, out) in &ROOTS {
+        try_judged(&rt, rt.alloc(), name, schema, out)?;
+    }
+    Ok(())
+}
+
+#[test]
+fn root_keywords(rt: HostRuntime) -> Result<(), Fail> {
+    for (name, schema, out) in &ROOT_KEYWORDS {
+        try_judged(&rt, rt.alloc(), name, schema, out)?;
+    }
+    Ok(())
+}
+
+#[test]
+fn types(rt: HostRuntime) -> Result<(), Fail> {
+    for (name, schema, out) in &TYPES {
+        try_judged(&rt, rt.alloc(), name, schema, out)?;
+    }
+    Ok(())
+}
+
+#[test]
+fn unknown_fields(rt: HostRuntime) -> Result<(), Fail> {
+    for (name, schema, out) in &UNKNOWN_FIELDS {
+        try_field(&rt, rt.alloc(), name, schema, out)?;
+    }
+    Ok(())
+}
+
+#[test]
+fn keywords(rt: HostRuntime) -> Result<(), Fail> {
+    for (name, schema, out) in &KEYWORDS {
+        try_judged(&rt, rt.alloc(), name, schema, out)?;
+    }
+    Ok(())
+}
+
+#[test]
+fn required(rt: HostRuntime) -> Result<(), Fail> {
+    for (name, schema, out) in &REQUIRED {
+        try_field(&rt, rt.alloc(), name, schema, out)?;
+    }
+    Ok(())
+}
+
+#[test]
+fn required_at_the_root(rt: HostRuntime) -> Result<(), Fail> {
+    for (name, schema, out) in &REQUIRED_AT_THE_ROOT {
+        try_judged(&rt, rt.alloc(), name, schema, out)?;
+    }
+    Ok(())
+}
+
+#[test]
+fn values(rt: HostRuntime) -> Result<(), Fail> {
+    for (name, schema, out) in &VALUES {
         try_judged(&rt, rt.alloc(), name, schema, out)?;
     }
     Ok(())

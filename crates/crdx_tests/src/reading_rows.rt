@@ -96,8 +96,8 @@ fn definitions(rt: HostRuntime) -> Result<(), Fail> {
     Ok(())
 }
 
-// A name, a schema, and what is answered.
-static FORMS: [(&str, &str, &str); 44] = [
+// Keywords that have their form: a name, a schema, and what is answered.
+static FORMS: [(&str, &str, &str); 6] = [
     (
         "texts",
         r#"{"type":"x","description":"x","title":"x","format":"x","x-kubernetes-list-type":"x","x-kubernetes-map-type":"x"}"#,
@@ -128,6 +128,10 @@ static FORMS: [(&str, &str, &str); 44] = [
         r#"{"additionalProperties":{},"enum":[1,null,{"type":1}],"example":{"type":1},"x":[{"items":1}]}"#,
         "read",
     ),
+];
+
+// A text or a truth value that has not its form: a name, a schema, and what is answered.
+static TEXTS: [(&str, &str, &str); 12] = [
     ("type", r#"{"type":1}"#, "S3 /type"),
     ("description", r#"{"description":null}"#, "S3 /description"),
     ("title", r#"{"title":[]}"#, "S3 /title"),
@@ -164,6 +168,10 @@ static FORMS: [(&str, &str, &str); 44] = [
         r#"{"x-kubernetes-preserve-unknown-fields":null}"#,
         "S3 /x-kubernetes-preserve-unknown-fields",
     ),
+];
+
+// Schemas and lists that have not their form: a name, a schema, and what is answered.
+static SCHEMAS: [(&str, &str, &str); 12] = [
     ("properties", r#"{"properties":[]}"#, "S3 /properties"),
     (
         "a property",
@@ -192,6 +200,10 @@ static FORMS: [(&str, &str, &str); 44] = [
         "S3 /x-kubernetes-list-map-keys/0",
     ),
     ("enum", r#"{"enum":{}}"#, "S3 /enum"),
+];
+
+// A number that has not its form: a name, a schema, and what is answered.
+static NUMBERS: [(&str, &str, &str); 8] = [
     ("minimum", r#"{"minimum":"1"}"#, "S3 /minimum"),
     ("maximum", r#"{"maximum":true}"#, "S3 /maximum"),
     ("minLength", r#"{"minLength":-1}"#, "S3 /minLength"),
@@ -208,6 +220,10 @@ static FORMS: [(&str, &str, &str); 44] = [
         r#"{"maxProperties":{}}"#,
         "S3 /maxProperties",
     ),
+];
+
+// The first value that has not its form: a name, a schema, and what is answered.
+static FIRST_BREAKS: [(&str, &str, &str); 6] = [
     (
         "enum, far below",
         r#"{"not":{"anyOf":[{"items":{"enum":1}}]}}"#,
@@ -243,6 +259,38 @@ static FORMS: [(&str, &str, &str); 44] = [
 #[test]
 fn forms(rt: HostRuntime) -> Result<(), Fail> {
     for (name, schema, wanted) in &FORMS {
+        try_schema(&rt, rt.alloc(), name, schema, wanted)?;
+    }
+    Ok(())
+}
+
+#[test]
+fn texts(rt: HostRuntime) -> Result<(), Fail> {
+    for (name, schema, wanted) in &TEXTS {
+        try_schema(&rt, rt.alloc(), name, schema, wanted)?;
+    }
+    Ok(())
+}
+
+#[test]
+fn schemas(rt: HostRuntime) -> Result<(), Fail> {
+    for (name, schema, wanted) in &SCHEMAS {
+        try_schema(&rt, rt.alloc(), name, schema, wanted)?;
+    }
+    Ok(())
+}
+
+#[test]
+fn numbers(rt: HostRuntime) -> Result<(), Fail> {
+    for (name, schema, wanted) in &NUMBERS {
+        try_schema(&rt, rt.alloc(), name, schema, wanted)?;
+    }
+    Ok(())
+}
+
+#[test]
+fn first_breaks(rt: HostRuntime) -> Result<(), Fail> {
+    for (name, schema, wanted) in &FIRST_BREAKS {
         try_schema(&rt, rt.alloc(), name, schema, wanted)?;
     }
     Ok(())
