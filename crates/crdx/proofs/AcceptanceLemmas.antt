@@ -28,9 +28,6 @@ use Rattle.crdx.specs.declared.stored.refused.Refused.{Refused}
 use Rattle.crdx.specs.declared.stored.refused.Refused.TheVariants.{Violations, NotYet, NoMemory}
 use Rattle.jtree.specs.Internal.Lookups.{bool_cases, option_cases, same_name, own_name, member_first, member_tail, before_each, IsNameBefore-trans}
 
-name_properties : List ℕ
-name_properties = codes "properties"
-
 -- ---- one place further from the root
 
 no_envelope_here : (root : Bool) → IsEnvelope root [] → ⊥

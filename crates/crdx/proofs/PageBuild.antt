@@ -90,14 +90,6 @@ pub record IsSoFar (after : Option Data) (count : ℕ) (front items : List Data)
   pub all : (v : Data) → Contains front v → IsPast after v → Contains items v
   pub short : length items ≤ count
 
-pub nothing_yet : (after : Option Data) (count : ℕ) → IsSoFar after count [] []
-nothing_yet after count = record {
-  from = λ k d lt. absurd (omega arith);
-  ascending = λ i j d lt within. absurd (omega arith);
-  all = λ v found past. absurd (contains_none v found);
-  short = omega arith;
-}
-
 -- the last item, if there is one
 last_cases : (items : List Data) → ((slice_get items (length items - 1) ≡ None) × (length items ≡ 0)) ⊎ ((l : Data) × (slice_get items (length items - 1) ≡ Some l) × (0 < length items) × ((d : Data) → get_or items (length items - 1) d ≡ l))
 last_cases items = elim (slice_get_cases items (length items - 1)).1 [

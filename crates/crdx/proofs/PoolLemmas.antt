@@ -349,9 +349,3 @@ form_items d ds form at = elim (option_cases (other_item ds)) [
 
 pub integers_of_list : (d : Data) (ds : Items) → under d name_integers ≡ Some (tree.list ds) → pools_of d ≡ record { integers = integers_of_items ds }
 integers_of_list d ds at = let P : Option Data → Pools = λ o. record { integers = integers_of o } in ap P at
-
-pub list_fault : (d : Data) (ds : Items) → HasForm d → under d name_integers ≡ Some (tree.list ds) → (e : PFault) → IsPoolFault ds e → IsPoolsFault d e
-list_fault d ds form at (Form p) h = absurd h
-list_fault d ds form at TooLarge h = (form, subst (λ P. most_entries < length P.integers) (sym (integers_of_list d ds at)) h)
-list_fault d ds form at NoMemory h = tt
-list_fault d ds form at BadLimit h = absurd h

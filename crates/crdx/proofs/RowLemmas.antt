@@ -139,8 +139,3 @@ module _ (P : Pools) (k : List ℕ) (N : Node) (fs : Fields) (room : ℕ) (order
       | inr new ↦ Contains-append_right rows extended ms ((es ms).1 new)
     ],
   )
-
--- of no fields there is the empty row alone
-pub no_field_rows : (P : Pools) (room : ℕ) → AreRowsOf P no_fields room (no_members ∷ [])
-no_field_rows P room no_members = (λ found. record { sorted = tt; fits = tt; within = omega arith }, λ r. Contains-push [] no_members)
-no_field_rows P room (member k d ms) = (λ found. let same = contains_one no_members (member k d ms) found in cc, λ r. let none = r.fits.1 in cc)

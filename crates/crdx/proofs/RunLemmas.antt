@@ -40,11 +40,6 @@ use Rattle.crdx.specs.Output.Sink.{HasFailed, one_more}
 use Rattle.std.proofs.lemmas.Bool.Decides.{nat_tests}
 use Rattle.crdx.proofs.PageLemmas.{same_items}
 
--- pools of documents that were at hand before
-pub pools_before : (first second : Documents) (name : Option (Bor (List ℕ))) (P : Pools) → AreAmong first second → ArePools first name P → ArePools second name P
-pools_before first second None P among is = is
-pools_before first second (Some name) P among is = (is.0, among (Some name.now) (Ok is.0) is.1, is.2, is.3)
-
 module _ (has : Documents) (unread read : ℕ) (crd version : List ℕ) where
   pub cause_of_fault : (d : Data) (fault : SFault) → has (Some crd) (Ok d) → IsReadFault d version fault → IsReadCause has unread read crd version (cause_of_reading fault)
   cause_of_fault d s.NotACrd at is = (d, at, λ e. cc, is)

@@ -34,24 +34,6 @@ lines-append xs ys = flat_map-append line xs ys
 pub lines_more : (xs : List Data) (v : Data) → lines (xs ++ v ∷ []) ≡ lines xs ++ line v
 lines_more xs v = lines-append xs (v ∷ []) ∙ ap (λ l. lines xs ++ l) (append-nil (line v))
 
-pub no_ends : HasEnds [] []
-no_ends = record { each = refl; at = λ k lt. absurd (omega arith) }
-
--- one more line
-pub more_ends : (xs : List Data) (v : Data) (ends : List ℕ) (e : ℕ) → HasEnds xs ends → e ≡ length (lines (xs ++ v ∷ [])) → HasEnds (xs ++ v ∷ []) (ends ++ e ∷ [])
-more_ends xs v ends e h is = record {
-  each = omega (arith, length-append ends (e ∷ []), length-append xs (v ∷ []), h.each);
-  at = λ k lt. elim (cases_lt k (length xs)) [
-    | inl earlier ↦
-        get_or_append_left ends (e ∷ []) 0 k (omega (arith, h.each)) ∙ (h.at k earlier
-        ∙ sym (ap (λ us. length (lines us)) (take-append-le (k + 1) xs (v ∷ []) (omega arith))))
-    | inr last ↦
-        let here : k ≡ length ends = omega (arith, length-append xs (v ∷ []), h.each) in
-        ap (λ j. get_or (ends ++ e ∷ []) j 0) here ∙ (get_or-append_seam ends e [] 0 ∙ (is
-        ∙ sym (ap (λ us. length (lines us)) (take_all (k + 1) (xs ++ v ∷ []) (omega (arith, length-append xs (v ∷ [])))))))
-  ];
-}
-
 -- the lines whose ends lie within what is taken are taken
 reached : (items : List Data) (ends : List ℕ) (taken n : ℕ) → HasEnds items ends → ((k : ℕ) → k < n → get_or ends k 0 ≤ taken) → n ≤ length items → length (lines (take n items)) ≤ taken
 reached items ends taken zero h whole le = omega arith
@@ -124,10 +106,6 @@ cut_within front items rest all taken n at old mid new is place c before after =
       out = subst (Appends old new) text both;
     } in
     subst (λ us. IsCutWithinLine us (at + n) old new) (sym is) (subst (λ k. IsCutWithinLine joined (k + n) old new) (sym place) there)
-
--- before any line
-pub cut_at_none : (items : List Data) (old : Option (List ℕ)) → IsCutBetweenLines items 0 old old
-cut_at_none items old = record { out = Appends-nil old; fewer = inl refl }
 
 -- what holds of the page's own items holds of the items of any such page
 pub partial_output_of_lines : (q : Question) (after : Option Data) (total : ℕ) (items : List Data) (end : Bool) (old new : Option (List ℕ)) (before now : ℕ) (e : WFault)

@@ -1,5 +1,5 @@
 -- How a list of places grows along the events of a schema.
-use Rattle.std.proofs.Common.{◌≡◌, ◌+◌, ℕ, suc, List, [], ◌∷◌, ◌++◌, length, true, false, Some, None, refl, sym, ap, ◌∙◌, inl, inr, arith}
+use Rattle.std.proofs.Common.{◌≡◌, ◌+◌, ℕ, suc, List, [], ◌∷◌, ◌++◌, length, false, Some, None, refl, sym, ap, ◌∙◌, inl, inr, arith}
 use Rattle.std.specs.Prelude.{map, nat_lt, nat_le}
 use Rattle.std.proofs.lemmas.List.{append_assoc, length-append, length-map}
 use Rattle.jtree.specs.Data.{Data}
@@ -75,9 +75,6 @@ grown_limit old new events rest g =
 
 pub short_keyword : (p : Place) (k : List ℕ) (d : Data) → is_past (most_of k) (size d) ≡ false → keyword_event p k d ≡ []
 short_keyword p k d h = rw h refl
-
-pub long_keyword : (p : Place) (k : List ℕ) (d : Data) → is_past (most_of k) (size d) ≡ true → keyword_event p k d ≡ too_long p k ∷ []
-long_keyword p k d h = rw h refl
 
 -- the fault of a whole schema
 pub refusal_names : (raw : Data) (events : List Event) → AreEventsOf raw events → (e : SFault) → IsLimitRefusal (limit_break 0 events) e → IsLimitFaultOf raw e

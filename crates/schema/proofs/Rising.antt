@@ -30,9 +30,6 @@ contains xs v a = index_of xs v v a
 pub each_of : {X : Type 0} (P : X → Type 0) (xs : List X) → ((v : X) → Among xs v → P v) → All P xs
 each_of P xs h = λ k d lt. h (get_or xs k d) (at_index xs k d lt)
 
-pub one_of_all : {X : Type 0} (P : X → Type 0) (xs : List X) (v : X) → All P xs → Among xs v → P v
-one_of_all P xs v all a = let r = index_of xs v v a in subst P r.2 (all r.0 v r.1)
-
 pub rising : {X : Type 0} (R : X → X → Type 0) (xs : List X) → AllPairs R xs → Rising R xs
 rising R [] h = tt
 rising R (x ∷ xs) h = (

@@ -1,21 +1,19 @@
 -- What a subschema shows of the rules at its place.
 use Rattle.std.proofs.Common.{◌≡◌, ◌⊎◌, ℕ, List, [], ◌∷◌, ◌++◌, Bool, true, false, Some, refl, sym, ap, ◌∙◌, subst, inl, inr, zero, suc, ◌+◌, ◌-◌, ◌<◌, ◌≤◌, length, get_or, drop, arith}
-use Rattle.std.specs.Prelude.{◌↔◌, ◌||◌, ◌&&◌, not, IsTrue, codes, map}
+use Rattle.std.specs.Prelude.{◌↔◌, ◌||◌, not, IsTrue, codes, map}
 use Rattle.std.specs.Str.{bytes_eq}
 use Rattle.std.proofs.lemmas.Option.{same_Some}
-use Rattle.std.proofs.lemmas.List.{at_drop_more, drop_more}
-use Rattle.jtree.specs.View.{data_of, members_of, items_of}
-use Rattle.jtree.specs.declared.value.Member.{Member}
+use Rattle.std.proofs.lemmas.List.{at_drop_more}
+use Rattle.jtree.specs.View.{items_of}
 use Rattle.jtree.specs.declared.value.Tree.{Tree}
-use Rattle.jtree.specs.Data.{Data, Items, member}
-use Rattle.jtree.specs.Data as tree
-use Rattle.jtree.specs.Internal.Lookups.{bool_cases, same_name, own_name}
+use Rattle.jtree.specs.Data.{Data}
+use Rattle.jtree.specs.Internal.Lookups.{same_name, own_name}
 use Rattle.schema.specs.Document.Raw.{Has}
 use Rattle.schema.specs.Document.Texts.{is_among}
 use Rattle.schema.specs.Document.Places.{Step, Place, property, is_junctor, is_inside, ends_with, schema_at}
 use Rattle.schema.specs.Internal.PlaceView.{step_of, place_of}
 use Rattle.schema.specs.declared.places.Step.{Step as CodeStep}
-use Rattle.schema.specs.Rules.Keywords.{has_other_name, any_item, is_empty, texts_of}
+use Rattle.schema.specs.Rules.Keywords.{is_empty}
 use Rattle.schema.specs.Rules.Broken.{metadata_names, HasOneOf, metadata, Passes, PassesOutside, RestrictsMetadata, metadata_keyword, metadata_type, metadata_field}
 use Rattle.schema.specs.Internal.RuleParts.{IsOtherName, IsOtherField, Restricts}
 
@@ -28,9 +26,6 @@ or_cases false b h = inr h
 or_right : (a b : Bool) → b ≡ true → (a || b) ≡ true
 or_right true b h = refl
 or_right false b h = h
-
-pub one_of_none : (s : Data) → HasOneOf [] s → ⊥
-one_of_none s h = let no = h.1 in cc
 
 pub one_of_first : (w : List ℕ) (ws : List (List ℕ)) (s : Data) → Has s w → HasOneOf (w ∷ ws) s
 one_of_first w ws s h = (w, rw own_name refl, h)
@@ -61,30 +56,9 @@ keywords_found f xs i d s Whole within some all =
 
 -- ---- what is left of members, items and texts
 
-pub others_next : (is_known : List ℕ → Bool) (xs : List Member) (i : ℕ) (m : Member) → i < length xs → m ≡ get_or xs i m
-    → has_other_name is_known (members_of (drop i xs)) ≡ (not (is_known m.name) || has_other_name is_known (members_of (drop (i + 1) xs)))
-others_next is_known xs i m within is =
-    ap (has_other_name is_known) (at_drop_more members_of xs i m within ∙ ap (λ z. member z.name (data_of z.tree) (members_of (drop (i + 1) xs))) (sym is))
-
-pub items_next : (test : Data → Bool) (xs : List Tree) (i : ℕ) (t : Tree) → i < length xs → t ≡ get_or xs i t
-    → any_item test (items_of (drop i xs)) ≡ (test (data_of t) || any_item test (items_of (drop (i + 1) xs)))
-items_next test xs i t within is = ap (λ ys. any_item test (items_of ys)) (drop_more xs i t within ∙ ap (λ x. x ∷ drop (i + 1) xs) (sym is))
-
 pub some_trees : (xs : List Tree) → 1 ≤ length xs → false ≡ is_empty (items_of xs)
 some_trees [] some = absurd (omega arith)
 some_trees (x ∷ xs) some = refl
-
-texts_split : (x : Data) (k : List ℕ) (ds : Items) → is_among k (texts_of (tree.item x ds)) ≡ (is_among k (texts_of (tree.item x tree.no_items)) || is_among k (texts_of ds))
-texts_split (tree.text t) k ds = elim (bool_cases (bytes_eq k t)) [
-  | inl same ↦ rw same refl
-  | inr f ↦ rw f refl
-]
-texts_split _ k ds = refl
-
-pub texts_next : (xs : List Tree) (i : ℕ) (t : Tree) (k : List ℕ) → i < length xs → t ≡ get_or xs i t
-    → is_among k (texts_of (items_of (drop i xs))) ≡ (is_among k (texts_of (tree.item (data_of t) tree.no_items)) || is_among k (texts_of (items_of (drop (i + 1) xs))))
-texts_next xs i t k within is =
-    ap (λ ys. is_among k (texts_of (items_of ys))) (drop_more xs i t within ∙ ap (λ x. x ∷ drop (i + 1) xs) (sym is)) ∙ texts_split (data_of t) k (items_of (drop (i + 1) xs))
 
 -- ---- the steps of a place
 
@@ -153,8 +127,3 @@ passes raw p s test b is told = (λ t. (s, is, sym told ∙ t), λ at. told ∙ 
 pub passes_there : (raw : Data) (p : Place) (s : Data) (test : Data → Bool) (b : Bool) → schema_at raw p ≡ Some s → is_inside p ≡ false → b ≡ test s
     → IsTrue b ↔ PassesOutside raw p test
 passes_there raw p s test b is out told = (λ t. (out, (passes raw p s test b is told).0 t), λ at. (passes raw p s test b is told).1 at.1)
-
-pub passes_outside : (raw : Data) (p : Place) (s : Data) (test : Data → Bool) (inside b : Bool) → schema_at raw p ≡ Some s → inside ≡ is_inside p
-    → b ≡ test s → IsTrue (not inside && b) ↔ PassesOutside raw p test
-passes_outside raw p s test true b is there told = (λ t. absurd (cc), λ at. let out = at.0 in cc)
-passes_outside raw p s test false b is there told = (λ t. (sym there, (passes raw p s test b is told).0 t), λ at. (passes raw p s test b is told).1 at.1)

@@ -9,7 +9,6 @@ use Rattle.jtree.specs.declared.value.Members.{Members as TreeMembers}
 use Rattle.schema.specs.Document.Forms.{object, has_form, BreaksForm, HasForms, IsFormFault}
 use Rattle.schema.specs.Internal.Faults.{IsBreakFault, IsLimitFaultOf}
 use Rattle.schema.specs.Internal.FormBreak.{first_break}
-use Rattle.schema.specs.Document.Limits.{IsWithinLimits}
 use Rattle.schema.specs.Document.ReadFault.{IsSchemaFault}
 use Rattle.schema.specs.declared.fault.SFault.{SFault}
 use Rattle.schema.specs.declared.fault.SFault.TheVariants.{KeywordForm, TooLarge, NoMemory}
@@ -34,12 +33,6 @@ limit_fault raw _ forms h = absurd h
 -- a schema whose keywords have their forms is an object
 pub no_object : (raw : Data) → HasForms raw → has_form object raw ≡ false → ⊥
 no_object raw forms other = forms [] (raw, refl, other)
-
--- where no limit is passed, want of memory alone is left
-pub no_limit : (raw : Data) (e : SFault) → IsWithinLimits raw → IsLimitFaultOf raw e → e ≡ NoMemory
-no_limit raw (TooLarge p) within h = absurd (within h.0 h.2.here)
-no_limit raw NoMemory within h = refl
-no_limit raw _ within h = absurd h
 
 other_tree : (t : Tree) → ((ms : TreeMembers) → t ≡ code.Object ms → ⊥) → has_form object (data_of t) ≡ false
 other_tree (code.Object ms) h = absurd (h ms refl)
