@@ -1,0 +1,5 @@
+-- What becomes of an object under the nodes of a schema.
+pub mod Parts
+pub mod Tests
+pub mod Fault
+pub mod Becomes

@@ -1,0 +1,3 @@
+-- Which schemas are accepted.
+pub mod Defaults
+pub mod Accepted

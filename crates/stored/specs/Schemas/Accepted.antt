@@ -1,0 +1,46 @@
+-- Which schemas are accepted: those that break none of the rules V01 to V17. V14 is asked where the sixteen others are unbroken
+-- (apiextensions.k8s.io/v1, structural schemas and defaulting; the profile is this project's own).
+use Rattle.std.specs.Prelude.{◌≡◌, ◌≢◌, ◌⊎◌, [], true, Some, codes}
+use Rattle.jtree.specs.Data.{Data}
+use Rattle.jtree.specs.Path.{under}
+use Rattle.schema.specs.Document.Places.{Place}
+use Rattle.schema.specs.Document.ReadFault.{IsSound}
+use Rattle.schema.specs.Rules.Broken.{Broken, At}
+use Rattle.schema.specs.Rules.Breaks.{IsUnbroken, BreaksNone, AreViolations}
+use Rattle.schema.specs.Nodes.Node.{Node}
+use Rattle.schema.specs.Nodes.ByPlace.{node_at, AreNodesOf}
+use Rattle.schema.specs.declared.refused.Refused.{Refused}
+use Rattle.schema.specs.declared.refused.Refused.TheVariants.{Violations, NoMemory}
+use Rattle.schema.specs.declared.violation.Rule.{Rule}
+use Rattle.schema.specs.declared.violation.Rule.TheVariants.{V14}
+use Rattle.stored.specs.Schemas.Defaults.{IsGoodDefault, HasGoodDefaults}
+
+-- the default of a place is not good at the node of the place
+pub record HasBadDefault (raw : Data) (p : Place) : Type 0 where
+  pub root : Node
+  pub nodes : AreNodesOf true root raw
+  pub node : Node
+  pub node_is : node_at root p ≡ Some node
+  pub default : Data
+  pub default_is : At raw p (λ s. under s (codes "default") ≡ Some default)
+  pub bad : IsGoodDefault node default → ⊥
+
+-- the place breaks the rule
+abbrev pub IsBroken : Data → Place → Rule → Type 0
+IsBroken raw p r = Broken raw p r ⊎ ((r ≡ V14) × BreaksNone raw × HasBadDefault raw p)
+
+-- the root of a schema that breaks no rule
+pub record IsRootOf (N : Node) (raw : Data) : Type 0 where
+  pub sound : IsSound raw
+  pub unbroken : IsUnbroken (IsBroken raw)
+  pub nodes : AreNodesOf true N raw
+  pub defaults : HasGoodDefaults N
+
+-- the root of some such schema
+abbrev pub IsSchema : Node → Type 0
+IsSchema N = (raw : Data) × IsRootOf N raw
+
+-- What a refusal says of a schema: all that is broken in it, and at least one rule; or that memory is wanting.
+abbrev pub IsRefusal : Data → Refused → Type 0
+IsRefusal raw (Violations vs) = AreViolations (IsBroken raw) vs.items × (vs.items ≢ [])
+IsRefusal raw NoMemory = Unit {0}

@@ -1,0 +1,26 @@
+-- Which defaults are good (apiextensions.k8s.io/v1, "defaulting": defaults are pruned, and must be valid).
+use Rattle.std.specs.Prelude.{◌≡◌, ℕ, List, Option, Some, None}
+use Rattle.jtree.specs.Data.{Data, IsTree}
+use Rattle.schema.specs.Document.Places.{Place}
+use Rattle.schema.specs.Nodes.Node.{Node, node, object}
+use Rattle.schema.specs.Nodes.ByPlace.{Declared, field_at, node_at}
+use Rattle.stored.specs.Objects.Fault.{IsValid}
+use Rattle.stored.specs.Objects.Becomes.{IsPruned, IsFilled}
+
+-- pruning leaves it as it is, and it is valid once it is filled with the defaults below it
+pub record IsGoodDefault (N : Node) (d : Data) : Type 0 where
+  pub pruned : IsPruned N d d
+  pub value : Data
+  pub tree : IsTree value
+  pub filled : IsFilled N d value
+  pub valid : IsValid N value
+
+-- a declared field of an object node
+abbrev pub field_of : Node → List ℕ → Option Declared
+field_of (node nullable description (object fs preserves type bounds)) k = field_at k fs
+field_of _ k = None
+
+-- all defaults of a tree of nodes are good
+abbrev pub HasGoodDefaults : Node → Type 0
+HasGoodDefaults N =
+    (p : Place) (M : Node) (k : List ℕ) (f : Declared) (d : Data) → node_at N p ≡ Some M → field_of M k ≡ Some f → f.default ≡ Some d → IsGoodDefault f.node d

@@ -1,0 +1,5 @@
+//! What becomes of an object under an accepted schema: whether it is valid, and how it is pruned and completed.
+#![tactic(auto)]
+
+/// Nothing.
+pub fn nothing() {}
