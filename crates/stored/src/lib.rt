@@ -1,5 +1,4 @@
 //! What becomes of an object under an accepted schema: whether it is valid, and how it is pruned and completed.
 #![tactic(auto)]
 
-/// Nothing.
-pub fn nothing() {}
+mod tests;

@@ -1,0 +1,197 @@
+//! What is asked of a scalar.
+ghost use Rattle.std.specs.Prelude.{◌≡◌, ◌+◌, not, ◌&&◌, ◌||◌, nat_eq, length, chars};
+ghost use Rattle.jtree.specs.View.{data_of, items_of};
+ghost use Rattle.schema.specs.Nodes.View.{validations_of, branches_of};
+ghost use Rattle.stored.specs.Objects.Tests.{accepts_scalar as accepts_scalar_of, is_same, is_choice as is_choice_of, is_below as is_below_of, is_above as is_above_of, is_other_value as is_other_value_of, is_below_minimum as is_below_minimum_of, is_above_maximum as is_above_maximum_of, is_too_short as is_too_short_of, is_too_long as is_too_long_of, meets_constraints as meets_constraints_of, holds as holds_of, meets_junctors as meets_junctors_of, all_hold as all_hold_of, any_holds as any_holds_of, is_absent as is_absent_of, holding as holding_of};
+
+use jtree::{Items, Tree};
+use schema::{Branches, Constraints, ScalarKind, Validations};
+
+/// Whether a value is a scalar of this kind.
+pub(crate) fn accepts_scalar(kind: ScalarKind, tree: &Tree) -> bool
+    ensures { result ≡ accepts_scalar_of kind (data_of tree.now) }
+{
+    match (kind, tree) {
+        (ScalarKind::Boolean, Tree::Bool(_)) => true,
+        (ScalarKind::Integer | ScalarKind::IntOrString, Tree::Int(_)) => true,
+        (ScalarKind::String | ScalarKind::IntOrString, Tree::Text(_)) => true,
+        _ => false,
+    }
+}
+
+/// Whether a value is one of a list.
+fn is_choice(tree: &Tree, choices: &Items) -> bool
+    ensures { result ≡ is_choice_of (data_of tree.now) choices.now }
+{
+    for choice in &choices.items {
+        if tree == choice {
+            return true;
+        }
+    }
+    false
+}
+
+/// Whether a number is below a bound.
+pub(crate) fn is_below(least: Option<u64>, number: usize) -> bool
+    ensures { result ≡ is_below_of least number }
+{
+    match least {
+        Some(least) => (number as u64) < least,
+        None => false,
+    }
+}
+
+/// Whether a number is above a bound.
+pub(crate) fn is_above(most: Option<u64>, number: usize) -> bool
+    ensures { result ≡ is_above_of most number }
+{
+    match most {
+        Some(most) => most < number as u64,
+        None => false,
+    }
+}
+
+/// Whether a value is not in `enum`.
+pub(crate) fn is_other_value(constraints: &Constraints, tree: &Tree) -> bool
+    ensures { result ≡ is_other_value_of constraints.now.choices (data_of tree.now) }
+{
+    match &constraints.choices {
+        Some(choices) => !is_choice(tree, choices),
+        None => false,
+    }
+}
+
+/// Whether an integer is below `minimum`, or equal to it where that is exclusive.
+pub(crate) fn is_below_minimum(constraints: &Constraints, tree: &Tree) -> bool
+    ensures { result ≡ is_below_minimum_of constraints.now.minimum constraints.now.exclusive_minimum (data_of tree.now) }
+{
+    match (constraints.minimum, tree) {
+        (Some(least), Tree::Int(number)) => {
+            if constraints.exclusive_minimum {
+                *number <= least
+            } else {
+                *number < least
+            }
+        }
+        _ => false,
+    }
+}
+
+/// Whether an integer is above `maximum`, or equal to it where that is exclusive.
+pub(crate) fn is_above_maximum(constraints: &Constraints, tree: &Tree) -> bool
+    ensures { result ≡ is_above_maximum_of constraints.now.maximum constraints.now.exclusive_maximum (data_of tree.now) }
+{
+    match (constraints.maximum, tree) {
+        (Some(most), Tree::Int(number)) => {
+            if constraints.exclusive_maximum {
+                most <= *number
+            } else {
+                most < *number
+            }
+        }
+        _ => false,
+    }
+}
+
+/// How many Unicode scalar values a text has.
+fn scalar_values(text: &str) -> usize
+    ensures { result ≡ length (chars text.now) }
+{
+    text.chars().count()
+}
+
+/// Whether a text is shorter than `minLength`, in Unicode scalar values.
+pub(crate) fn is_too_short(constraints: &Constraints, tree: &Tree) -> bool
+    ensures { result ≡ is_too_short_of constraints.now.lengths.least (data_of tree.now) }
+{
+    match tree {
+        Tree::Text(text) => is_below(constraints.lengths.least, scalar_values(text.as_str())),
+        _ => false,
+    }
+}
+
+/// Whether a text is longer than `maxLength`, in Unicode scalar values.
+pub(crate) fn is_too_long(constraints: &Constraints, tree: &Tree) -> bool
+    ensures { result ≡ is_too_long_of constraints.now.lengths.most (data_of tree.now) }
+{
+    match tree {
+        Tree::Text(text) => is_above(constraints.lengths.most, scalar_values(text.as_str())),
+        _ => false,
+    }
+}
+
+/// Whether a value meets all constraints.
+fn meets_constraints(constraints: &Constraints, tree: &Tree) -> bool
+    ensures { result ≡ meets_constraints_of constraints.now (data_of tree.now) }
+{
+    !is_other_value(constraints, tree)
+        && (!is_below_minimum(constraints, tree)
+            && (!is_above_maximum(constraints, tree)
+                && (!is_too_short(constraints, tree) && !is_too_long(constraints, tree))))
+}
+
+/// Whether a scalar meets the constraints and the junctors of a branch, or of a node.
+#[cycle(branches)]
+pub(crate) fn holds(validations: &Validations, tree: &Tree) -> bool
+    ensures { result ≡ holds_of (validations_of validations.now) (data_of tree.now) }
+{
+    meets_constraints(&validations.constraints, tree) && meets_junctors(validations, tree)
+}
+
+/// Whether a scalar meets the junctors.
+#[cycle(branches)]
+pub(crate) fn meets_junctors(validations: &Validations, tree: &Tree) -> bool
+    ensures { result ≡ meets_junctors_of (validations_of validations.now) (data_of tree.now) }
+{
+    all_hold(&validations.all_of, tree)
+        && ((is_absent(&validations.any_of) || any_holds(&validations.any_of, tree))
+            && ((is_absent(&validations.one_of) || holding(&validations.one_of, tree) == 1)
+                && !any_holds(&validations.negated, tree)))
+}
+
+fn is_absent(branches: &Branches) -> bool
+    ensures { result ≡ is_absent_of branches.now }
+{
+    match branches.branches.as_slice() {
+        [] => true,
+        _ => false,
+    }
+}
+
+#[cycle(branches)]
+fn all_hold(branches: &Branches, tree: &Tree) -> bool
+    ensures { result ≡ all_hold_of branches.now (data_of tree.now) }
+{
+    for branch in &branches.branches {
+        if !holds(branch, tree) {
+            return false;
+        }
+    }
+    true
+}
+
+#[cycle(branches)]
+fn any_holds(branches: &Branches, tree: &Tree) -> bool
+    ensures { result ≡ any_holds_of branches.now (data_of tree.now) }
+{
+    for branch in &branches.branches {
+        if holds(branch, tree) {
+            return true;
+        }
+    }
+    false
+}
+
+/// How many branches hold.
+#[cycle(branches)]
+fn holding(branches: &Branches, tree: &Tree) -> usize
+    ensures { result ≡ holding_of branches.now (data_of tree.now) }
+{
+    let mut count = 0;
+    for branch in &branches.branches {
+        if holds(branch, tree) {
+            count += 1;
+        }
+    }
+    count
+}
