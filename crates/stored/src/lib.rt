@@ -2,3 +2,6 @@
 #![tactic(auto)]
 
 mod tests;
+mod validity;
+
+pub use validity::valid;

@@ -1,0 +1,41 @@
+-- All faults of an object: each pair of a path and a number once, in path order and then by number (the order is this project's
+-- own).
+use Rattle.std.specs.Prelude.{◌≡◌, ℕ, List, map, All, AllPairs, Contains, string_bytes}
+use Rattle.std.specs.Ordering.{nat_cmp, ordering_then}
+use Rattle.std.specs.declared.cmp.Ordering.{Ordering}
+use Rattle.std.specs.declared.cmp.Ordering.TheVariants.{Less}
+use Rattle.jtree.specs.Data.{Data}
+use Rattle.jtree.specs.Path.{Path}
+use Rattle.jtree.specs.PathOrder.{path_cmp}
+use Rattle.jtree.specs.Pointer.{pointer}
+use Rattle.schema.specs.Nodes.Node.{Node}
+use Rattle.stored.specs.Objects.Fault.{Test, number, HasFault}
+use Rattle.stored.specs.declared.faults.Fault.{Fault}
+
+-- a path and the test that fails there
+pub record Failure : Type 0 where
+  pub path : Path
+  pub test : Test
+
+abbrev pub failure_cmp : Failure → Failure → Ordering
+failure_cmp f g = ordering_then (path_cmp f.path g.path) (nat_cmp (number f.test) (number g.test))
+
+pub record AreFailures (N : Node) (v : Data) (fs : List Failure) : Type 0 where
+  pub each : All (λ f. HasFault N v f.path f.test) fs
+  pub all : (path : Path) (t : Test) → HasFault N v path t → Contains fs (record { path = path; test = t })
+  pub ascending : AllPairs (λ f g. failure_cmp f g ≡ Less) fs
+
+-- a fault as the pointer of its path and its number
+pub record Told : Type 0 where
+  pub path : List ℕ
+  pub number : ℕ
+
+abbrev pub told : Fault → Told
+told f = record { path = string_bytes f.path; number = f.number }
+
+abbrev pub told_of : Failure → Told
+told_of f = record { path = pointer f.path; number = number f.test }
+
+-- the faults are all that is wrong, in order
+abbrev pub AreFaults : Node → Data → List Fault → Type 0
+AreFaults N v faults = (fs : List Failure) × AreFailures N v fs × (map told faults ≡ map told_of fs)

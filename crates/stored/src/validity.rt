@@ -1,0 +1,192 @@
+//! Whether an object is valid.
+ghost use Rattle.std.specs.Prelude.{◌≡◌, Decides, option_map};
+ghost use Rattle.jtree.specs.Path.{member_at};
+ghost use Rattle.jtree.specs.View.{data_of, items_of};
+ghost use Rattle.schema.specs.Nodes.ByPlace.{field_at};
+ghost use Rattle.schema.specs.Nodes.View.{node_of};
+ghost use Rattle.stored.specs.Objects.Tests.{is_same};
+ghost use Rattle.stored.specs.Objects.Fault.{agree as agree_of, agree_at as agree_at_of, are_alike as are_alike_of, items_count as items_count_of, members_count as members_count_of, IsValid};
+ghost use Rattle.stored.specs.Internal.ValidByLevel.{true_if_any, is_valid as is_valid_of, is_within as is_within_of, has_required as has_required_of, any_item, are_apart as are_apart_of, are_fields_valid as are_fields_valid_of, are_values_valid as are_values_valid_of, are_items_valid as are_items_valid_of};
+
+use crate::tests::{accepts_scalar, holds, is_above, is_below};
+use jtree::{Items, Member, Members, Text, Tree};
+use schema::{Bounds, Fields, ListNode, ListType, Node, Sort};
+
+/// Whether an object is valid at a node: no part of it has a fault (OpenAPI 3.0, Schema Object; apiextensions.k8s.io/v1,
+/// nullable and merge markers). It is judged as it is, and not completed first. It takes no memory. Work is linear in the
+/// object, but for the items of a set or a map list, which are compared in pairs.
+pub fn valid(node: &Node, tree: &Tree) -> bool
+    ensures { Decides result (IsValid (node_of node.now) (data_of tree.now)) }
+{
+    node.reveal_invariant();
+    tree.reveal_invariant();
+    is_valid(node, tree)
+}
+
+#[cycle(valid)]
+fn is_valid(node: &Node, tree: &Tree) -> bool
+    ensures { result ≡ is_valid_of (node_of node.now) (data_of tree.now) }
+{
+    match (&node.sort, tree) {
+        (_, Tree::Null) => node.nullable,
+        (Sort::Scalar(scalar), _) => {
+            accepts_scalar(scalar.kind, tree) && holds(&scalar.validations, tree)
+        }
+        (Sort::Object(object), Tree::Object(members)) => {
+            is_within(object.bounds, members_count(members))
+                && (has_required(&object.fields, members)
+                    && are_fields_valid(&object.fields, members))
+        }
+        (Sort::Map(map), Tree::Object(members)) => {
+            is_within(map.bounds, members_count(members))
+                && are_values_valid(&map.value.node, members)
+        }
+        (Sort::List(list), Tree::List(items)) => {
+            is_within(list.bounds, items_count(items))
+                && (are_apart(list, items) && are_items_valid(&list.item.node, items))
+        }
+        (Sort::Open, _) => true,
+        _ => false,
+    }
+}
+
+/// Whether a number of parts keeps to the bounds.
+fn is_within(bounds: Bounds, count: usize) -> bool
+    ensures { result ≡ is_within_of bounds count }
+{
+    !is_below(bounds.least, count) && !is_above(bounds.most, count)
+}
+
+pub(crate) fn members_count(members: &Members) -> usize
+    ensures { result ≡ members_count_of members.now }
+{
+    members.members.len()
+}
+
+pub(crate) fn items_count(items: &Items) -> usize
+    ensures { result ≡ items_count_of items.now }
+{
+    items.items.len()
+}
+
+/// Whether no required field is absent.
+fn has_required(fields: &Fields, members: &Members) -> bool
+    ensures { result ≡ has_required_of fields.now members.now }
+{
+    for field in &fields.fields {
+        if field.required && members.get(field.name.as_str()).is_none() {
+            return false;
+        }
+    }
+    true
+}
+
+#[cycle(valid)]
+fn are_fields_valid(fields: &Fields, members: &Members) -> bool
+    ensures { result ≡ are_fields_valid_of fields.now members.now }
+{
+    for member in &members.members {
+        if !is_member_valid(fields, member) {
+            return false;
+        }
+    }
+    true
+}
+
+/// Whether a member is valid at the node of its field, where it is declared.
+#[cycle(valid)]
+fn is_member_valid(fields: &Fields, member: &Member) -> bool
+    ensures { result ≡ true_if_any (option_map (λ f. is_valid_of f.node (data_of member.now.tree)) (field_at member.now.name fields.now)) }
+{
+    for field in &fields.fields {
+        if member.name == field.name {
+            return is_valid(&field.node, &member.tree);
+        }
+    }
+    true
+}
+
+#[cycle(valid)]
+fn are_values_valid(node: &Node, members: &Members) -> bool
+    ensures { result ≡ are_values_valid_of (node_of node.now) members.now }
+{
+    for member in &members.members {
+        if !is_valid(node, &member.tree) {
+            return false;
+        }
+    }
+    true
+}
+
+#[cycle(valid)]
+fn are_items_valid(node: &Node, items: &Items) -> bool
+    ensures { result ≡ are_items_valid_of (node_of node.now) items.now }
+{
+    for item in &items.items {
+        if !is_valid(node, item) {
+            return false;
+        }
+    }
+    true
+}
+
+/// Whether no two items may not stand in one list.
+fn are_apart(list: &ListNode, items: &Items) -> bool
+    ensures { result ≡ are_apart_of (are_alike_of list.now.list_type list.now.keys.items) items.now }
+{
+    let items = items.items.as_slice();
+    for index in 0..items.len() {
+        if is_repeated(list, &items[index], &items[index + 1..]) {
+            return false;
+        }
+    }
+    true
+}
+
+/// Whether an item may not stand beside one of those that follow.
+fn is_repeated(list: &ListNode, item: &Tree, later: &[Tree]) -> bool
+    ensures { result ≡ any_item (are_alike_of list.now.list_type list.now.keys.items (data_of item.now)) (items_of later.now) }
+{
+    for other in later {
+        if are_alike(list, item, other) {
+            return true;
+        }
+    }
+    false
+}
+
+/// Whether two items may not stand in one list: in a set equal ones, in a map list objects that agree on all keys.
+fn are_alike(list: &ListNode, item: &Tree, other: &Tree) -> bool
+    ensures { result ≡ are_alike_of list.now.list_type list.now.keys.items (data_of item.now) (data_of other.now) }
+{
+    match (list.list_type, item, other) {
+        (ListType::Set, _, _) => item == other,
+        (ListType::Map, Tree::Object(members), Tree::Object(others)) => {
+            agree(&list.keys, members, others)
+        }
+        _ => false,
+    }
+}
+
+/// Whether two objects agree on all keys.
+fn agree(keys: &[Text], members: &Members, others: &Members) -> bool
+    ensures { result ≡ agree_of keys.now members.now others.now }
+{
+    for key in keys {
+        if !agree_at(key.as_str(), members, others) {
+            return false;
+        }
+    }
+    true
+}
+
+/// Whether two objects have the same value under a name, or both have none.
+fn agree_at(name: &str, members: &Members, others: &Members) -> bool
+    ensures { result ≡ agree_at_of (member_at name.now members.now) (member_at name.now others.now) }
+{
+    match (members.get(name), others.get(name)) {
+        (Some(value), Some(other)) => value == other,
+        (None, None) => true,
+        _ => false,
+    }
+}
