@@ -1,3 +1,5 @@
 -- Laws of the definitions of this crate.
 pub mod TestLemmas
 pub mod CountLemmas
+pub mod PartLemmas
+pub mod ValidLemmas
