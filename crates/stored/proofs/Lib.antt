@@ -3,3 +3,4 @@ pub mod TestLemmas
 pub mod CountLemmas
 pub mod PartLemmas
 pub mod ValidLemmas
+pub mod DefaultLemmas

@@ -1,6 +1,7 @@
 //! What becomes of an object under an accepted schema: whether it is valid, and how it is pruned and completed.
 #![tactic(auto)]
 
+mod defaults;
 mod tests;
 mod validity;
 
