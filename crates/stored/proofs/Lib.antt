@@ -4,3 +4,5 @@ pub mod CountLemmas
 pub mod PartLemmas
 pub mod ValidLemmas
 pub mod DefaultLemmas
+pub mod FieldLemmas
+pub mod BadPlaceLemmas

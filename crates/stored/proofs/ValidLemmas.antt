@@ -21,6 +21,7 @@ use Rattle.stored.specs.Objects.Parts.{Pair, fields, pair, Part, at, part_of, pa
 use Rattle.stored.specs.Objects.Tests.{accepts_scalar, is_below, is_above, is_other_value, is_below_minimum, is_above_maximum, is_too_short, is_too_long, holds, meets_junctors}
 use Rattle.stored.specs.Objects.Fault.{Test, F01, F02, F03, F04, F05, F06, F07, F08, F09, F10, F11, F12, F13, F14, is_null, constraints_of, fails_scalar, fails_items, fails_members, are_few, are_many, fails, is_required, lacks_name, has_alike_before, any_before, are_alike, repeats, finds, HasFault, IsValid}
 use Rattle.stored.specs.Internal.ValidByLevel.{is_within, has_required, any_item, are_apart, true_if_any, is_valid, are_fields_valid, are_values_valid, are_items_valid}
+use Rattle.stored.proofs.FieldLemmas.{later_field, field_node}
 use Rattle.stored.proofs.PartLemmas.{never_free, kept_everywhere, holds_below}
 
 not_false : (x : Bool) → not x ≡ true → x ≡ false
@@ -254,29 +255,6 @@ stands_if_required : (r : Bool) (o : Option Data) → (r && is_none o) ≡ false
 stands_if_required true None h = sym h
 stands_if_required true (Some d) h = refl
 stands_if_required false o h = refl
-
-fields_before : (k l : List ℕ) (fs : Fields) → text_cmp k l ≡ Less → IsBeforeFields l fs → IsBeforeFields k fs
-fields_before k l no_fields before h = tt
-fields_before k l (field m N required default fs) before h = nat_list_cmp_total.trans k l m before h
-
--- a field further on is the field of its name in the whole
-field_after : (l : List ℕ) (fs : Fields) (k : List ℕ) (f : Declared) → IsBeforeFields l fs → AreOrdered fs → field_at k fs ≡ Some f → text_cmp l k ≡ Less
-field_after l no_fields k f before ordered is = cc
-field_after l (field m N required default fs) k f before ordered is = elim (bool_cases (bytes_eq k m)) [
-  | inl t ↦ subst (λ n. text_cmp l n ≡ Less) (sym (same_name k m t)) before
-  | inr o ↦ field_after l fs k f (fields_before l m fs before ordered.1) ordered.2 (rw o at is)
-]
-
-later_field : (k l : List ℕ) (N : Node) (required : Bool) (default : Option Data) (fs : Fields) (f : Declared) → AreOrdered (field l N required default fs)
-    → field_at k fs ≡ Some f → field_at k (field l N required default fs) ≡ Some f
-later_field k l N required default fs f ordered is = rw (later_name k l (field_after l fs k f ordered.1 ordered.2 is)) is
-
-field_node : (k : List ℕ) (fs : Fields) (f : Declared) → AreOrdered fs → field_at k fs ≡ Some f → IsNode f.node
-field_node k no_fields f ordered is = cc
-field_node k (field l N required default fs) f ordered is = elim (bool_cases (bytes_eq k l)) [
-  | inl t ↦ subst IsNode (ap (λ g. g.node) (same_Some (record { node = N; required = required; default = default }) f (rw t at is))) ordered.0
-  | inr o ↦ field_node k fs f ordered.2 (rw o at is)
-]
 
 names_from : (fs : Fields) (ms : Members) → AreOrdered fs → ((k : List ℕ) → (is_required (field_at k fs) && is_none (member_at k ms)) ≡ false) → has_required fs ms ≡ true
 names_from no_fields ms ordered h = refl

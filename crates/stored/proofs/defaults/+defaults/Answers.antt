@@ -1,6 +1,7 @@
 use Rattle.std.proofs.Common.{◌≡◌, ◌++◌, ◌∙◌, sym, ap}
 use Rattle.std.specs.Prelude.{map, option_map, codes}
 use Rattle.std.proofs.lemmas.Result.{on_ok_weaker}
+use Rattle.stored.proofs.BadPlaceLemmas.{bad_breaks}
 use Rattle.jtree.specs.Pointer.{name_token}
 use Rattle.jtree.specs.View.{data_of}
 use Rattle.schema.specs.Nodes.View.{node_of}
