@@ -4,5 +4,5 @@ pub mod CountLemmas
 pub mod PartLemmas
 pub mod ValidLemmas
 pub mod DefaultLemmas
+pub mod DefaultListLemmas
 pub mod FieldLemmas
-pub mod BadPlaceLemmas

@@ -1,3 +1,3 @@
 -- What private contracts cite.
 pub mod ValidByLevel
-pub mod BadPlaces
+pub mod DefaultList

@@ -1,12 +1,11 @@
 //! Which defaults of a schema are not good.
-ghost use Rattle.std.specs.Prelude.{◌≡◌, ◌++◌, [], ◌∷◌, OnOk, IfOk, map, option_map, string_bytes};
+ghost use Rattle.std.specs.Prelude.{◌≡◌, ◌++◌, Decides, OnOk, IfOk, map, option_map, string_bytes};
 ghost use Rattle.jtree.specs.Pointer.{name_token};
 ghost use Rattle.jtree.specs.View.{data_of};
-ghost use Rattle.schema.specs.Document.Places.{Step, property};
-ghost use Rattle.schema.specs.Nodes.Node.{Fields as FieldsData};
 ghost use Rattle.schema.specs.Nodes.View.{node_of};
 ghost use Rattle.schema.specs.Rules.Breaks.{told};
-ghost use Rattle.stored.specs.Internal.BadPlaces.{is_good as is_good_of, is_bad, with_place, bad_places, bad_in_fields, told_below};
+ghost use Rattle.stored.specs.Schemas.Defaults.{IsGoodDefault};
+ghost use Rattle.stored.specs.Internal.DefaultList.{own_default, defaults_of, defaults_in_fields, defaults_in_field, AreAdded};
 
 use crate::validity::is_valid;
 use jtree::{Tree, push_name};
@@ -21,7 +20,7 @@ pub(crate) fn find_bad(
     pointer: &str,
     found: &mut Vec<Violation>,
 ) -> Result<(), AllocError>
-    ensures { OnOk result (map told found.new.items ≡ map told found.old.items ++ told_below pointer.now (bad_places (node_of node.now))) }
+    ensures { OnOk result (AreAdded pointer.now (defaults_of (node_of node.now)) (map told found.old.items) (map told found.new.items)) }
 {
     match &node.sort {
         Sort::Object(object) => find_bad_fields(alloc, &object.fields, pointer, found),
@@ -42,7 +41,7 @@ fn find_bad_below(
     keyword: &str,
     found: &mut Vec<Violation>,
 ) -> Result<(), AllocError>
-    ensures { OnOk result (map told found.new.items ≡ map told found.old.items ++ told_below (pointer.now ++ name_token keyword.now) (bad_places node.now)) }
+    ensures { OnOk result (AreAdded (pointer.now ++ name_token keyword.now) (defaults_of node.now) (map told found.old.items) (map told found.new.items)) }
 {
     let place = below(alloc, pointer, keyword)?;
     find_bad(alloc, &node.node, place.as_str(), found)
@@ -55,7 +54,7 @@ fn find_bad_fields(
     pointer: &str,
     found: &mut Vec<Violation>,
 ) -> Result<(), AllocError>
-    ensures { OnOk result (map told found.new.items ≡ map told found.old.items ++ told_below pointer.now (bad_in_fields fields.now)) }
+    ensures { OnOk result (AreAdded pointer.now (defaults_in_fields fields.now) (map told found.old.items) (map told found.new.items)) }
 {
     for field in &fields.fields {
         find_bad_field(alloc, field, pointer, found)?;
@@ -70,8 +69,7 @@ fn find_bad_field(
     pointer: &str,
     found: &mut Vec<Violation>,
 ) -> Result<(), AllocError>
-    ensures { OnOk result (map told found.new.items ≡ map told found.old.items ++ told_below pointer.now (map (λ p. property field.now.name ∷ p)
-        (with_place (node_of field.now.node) (option_map data_of field.now.default) (bad_places (node_of field.now.node))))) }
+    ensures { OnOk result (AreAdded pointer.now (defaults_in_field field.now) (map told found.old.items) (map told found.new.items)) }
 {
     let properties = below(alloc, pointer, "properties")?;
     let place = below(alloc, properties.as_str(), field.name.as_str())?;
@@ -86,30 +84,22 @@ fn add_bad(
     pointer: &str,
     found: &mut Vec<Violation>,
 ) -> Result<(), AllocError>
-    ensures { OnOk result (map told found.new.items ≡ map told found.old.items ++ told_below pointer.now (with_place (node_of field.now.node) (option_map data_of field.now.default) [])) }
+    ensures { OnOk result (AreAdded pointer.now (own_default (node_of field.now.node) (option_map data_of field.now.default)) (map told found.old.items) (map told found.new.items)) }
 {
-    if has_bad_default(alloc, field)? {
-        found.push(Violation {
-            pointer: String::from_str(alloc, pointer)?,
-            rule: Rule::V14,
-        })?;
+    if let Some(default) = &field.default {
+        if !is_good(alloc, &field.node, default)? {
+            found.push(Violation {
+                pointer: String::from_str(alloc, pointer)?,
+                rule: Rule::V14,
+            })?;
+        }
     }
     Ok(())
 }
 
-/// Whether a field has a default that is not good.
-fn has_bad_default(alloc: Global, field: &Field) -> Result<bool, AllocError>
-    ensures { IfOk result (λ b. b ≡ is_bad (node_of field.now.node) (option_map data_of field.now.default)) }
-{
-    match &field.default {
-        Some(default) => Ok(!is_good(alloc, &field.node, default)?),
-        None => Ok(false),
-    }
-}
-
 /// Whether pruning leaves a default as it is, and it is valid once it is filled.
 fn is_good(alloc: Global, node: &Node, default: &Tree) -> Result<bool, AllocError>
-    ensures { IfOk result (λ b. b ≡ is_good_of (node_of node.now) (data_of default.now)) }
+    ensures { IfOk result (λ b. Decides b (IsGoodDefault (node_of node.now) (data_of default.now))) }
 {
     Ok(is_valid(node, default))
 }
