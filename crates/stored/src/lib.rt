@@ -1,5 +1,7 @@
 //! What becomes of an object under an accepted schema: whether it is valid, and how it is pruned and completed.
 #![tactic(auto)]
 
-/// Nothing.
-pub fn nothing() {}
+mod fields;
+mod pruning;
+
+pub use pruning::prune;

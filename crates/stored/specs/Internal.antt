@@ -1,0 +1,4 @@
+-- What private contracts cite.
+pub mod Becoming
+pub mod Fields
+pub mod Pruning
