@@ -1,4 +1,7 @@
 -- Why the contracts hold.
 pub mod BecomingLemmas
 pub mod PrunedTrees
+pub mod Passing
+pub mod FilledParts
+pub mod FilledWalks
 pub mod PrunedPaths

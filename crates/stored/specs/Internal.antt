@@ -2,3 +2,4 @@
 pub mod Becoming
 pub mod Fields
 pub mod Pruning
+pub mod Filling
