@@ -6,3 +6,9 @@ pub mod ValidLemmas
 pub mod DefaultLemmas
 pub mod DefaultListLemmas
 pub mod FieldLemmas
+pub mod BecomingLemmas
+pub mod PrunedTrees
+pub mod Passing
+pub mod FilledParts
+pub mod FilledWalks
+pub mod PrunedPaths
