@@ -16,12 +16,15 @@ use Rattle.schema.specs.Nodes.Node.{Node, node, Sort, scalar, object, map as map
 use Rattle.schema.specs.Nodes.ByPlace.{Declared, field_at, node_below, node_at, AreNodesOf}
 use Rattle.schema.specs.Rules.Breaks.{Break, AreBreaks, BreaksNone, AreViolations, break_cmp, told, told_of}
 use Rattle.schema.specs.Document.ReadFault.{IsSound}
+use Rattle.schema.specs.Nodes.Shape.{IsShapeRefusal}
+use Rattle.schema.specs.declared.refused.Refused.{Refused}
+use Rattle.schema.specs.declared.refused.Refused.TheVariants.{Violations, NoMemory}
 use Rattle.schema.specs.Rules.Broken.{Broken}
 use Rattle.schema.specs.declared.violation.Violation.{Violation}
 use Rattle.schema.specs.declared.violation.Rule.TheVariants.{V14}
 use Rattle.stored.specs.Schemas.Defaults.{IsGoodDefault, HasDefault, HasGoodDefaults, field_of}
-use Rattle.stored.specs.Schemas.Accepted.{HasBadDefault, IsBroken, IsRootOf}
-use Rattle.stored.specs.Internal.DefaultList.{Default, behind, own_default, defaults_of, defaults_in_fields, IsGood, AreBadOf, told_below}
+use Rattle.stored.specs.Schemas.Accepted.{HasBadDefault, IsBroken, IsRootOf, IsRefusal}
+use Rattle.stored.specs.Internal.DefaultList.{Default, behind, own_default, defaults_of, defaults_in_fields, IsGood, AreBadOf, told_below, AreAdded}
 use Rattle.stored.proofs.FieldLemmas.{fields_before, later_field}
 
 -- what is listed is a default of the nodes
@@ -260,7 +263,7 @@ earlier_break : (x y : Default) → IsEarlier x y → break_cmp (break_of x) (br
 earlier_break x y e = rw e refl
 
 -- the bad defaults are all that is broken where none of the sixteen other rules is
-pub bad_violations : (raw : Data) (N : Node) (bad : List Default) (found : List Violation) → BreaksNone raw → AreNodesOf true N raw
+bad_violations : (raw : Data) (N : Node) (bad : List Default) (found : List Violation) → BreaksNone raw → AreNodesOf true N raw
     → ((M : Node) → AreNodesOf true M raw → M ≡ N) → AreBadOf (defaults_of N) bad → map told found ≡ told_below [] bad → AreViolations (IsBroken raw) found
 bad_violations raw N bad found unbroken nodes only are_bad is = (
   map break_of bad,
@@ -285,7 +288,7 @@ bad_violations raw N bad found unbroken nodes only are_bad is = (
 )
 
 -- where none is bad, the schema is accepted
-pub none_bad : (raw : Data) (N : Node) → IsSound raw → BreaksNone raw → AreNodesOf true N raw → ((M : Node) → AreNodesOf true M raw → M ≡ N)
+none_bad : (raw : Data) (N : Node) → IsSound raw → BreaksNone raw → AreNodesOf true N raw → ((M : Node) → AreNodesOf true M raw → M ≡ N)
     → AreBadOf (defaults_of N) [] → IsRootOf N raw
 none_bad raw N sound unbroken nodes only none =
     let good : HasGoodDefaults N = λ p M d h. all_good (defaults_of N) none (record { place = p; node = M; value = d }) (all_listed N p M d h) in
@@ -306,7 +309,7 @@ none_broken raw (w ∷ found) [] each is some none = cc
 none_broken raw (w ∷ found) (b ∷ breaks) each is some none = none b.place b.rule (each 0 b (omega arith))
 
 -- where one of the sixteen is broken, V14 is not asked
-pub other_violations : (raw : Data) (found : List Violation) → AreViolations (Broken raw) found → found ≢ [] → AreViolations (IsBroken raw) found
+other_violations : (raw : Data) (found : List Violation) → AreViolations (Broken raw) found → found ≢ [] → AreViolations (IsBroken raw) found
 other_violations raw found v some = (
   v.0,
   record {
@@ -319,3 +322,25 @@ other_violations raw found v some = (
   },
   v.2,
 )
+
+pub nothing_broken : (raw : Data) (N : Node) → IsRootOf N raw → AreViolations (IsBroken raw) []
+nothing_broken raw N root = ([], record { each = λ k d within. absurd (omega arith); all = λ p r b. absurd (root.unbroken p r b); ascending = λ i j d lt within. absurd (omega arith) }, refl)
+
+-- ---- what is answered
+
+empty_bad : (bad : List Default) (found : List Violation) → found ≡ [] → map told found ≡ told_below [] bad → bad ≡ []
+empty_bad [] found none is = refl
+empty_bad (x ∷ bad) found none is = let e = rw none at is in cc
+
+pub is_accepted : (raw : Data) (N : Node) (found : List Violation) → IsSound raw → BreaksNone raw → AreNodesOf true N raw → ((M : Node) → AreNodesOf true M raw → M ≡ N)
+    → AreAdded [] (defaults_of N) [] (map told found) → found ≡ [] → IsRootOf N raw
+is_accepted raw N found sound unbroken nodes only a none =
+    none_bad raw N sound unbroken nodes only (subst (AreBadOf (defaults_of N)) (empty_bad a.bad found none a.told) a.are_bad)
+
+pub is_refused : (raw : Data) (N : Node) (found : List Violation) → BreaksNone raw → AreNodesOf true N raw → ((M : Node) → AreNodesOf true M raw → M ≡ N)
+    → AreAdded [] (defaults_of N) [] (map told found) → AreViolations (IsBroken raw) found
+is_refused raw N found unbroken nodes only a = bad_violations raw N a.bad found unbroken nodes only a.are_bad a.told
+
+pub refusal_from : (raw : Data) (r : Refused) → IsShapeRefusal raw r → IsRefusal raw r
+refusal_from raw (Violations vs) h = (other_violations raw vs.items h.0 h.1, h.1)
+refusal_from raw NoMemory h = tt

@@ -1,9 +1,9 @@
 //! Which schemas are accepted.
-ghost use Rattle.std.specs.Prelude.{◌≡◌, OnOk, IfOk, IfErr, map};
+ghost use Rattle.std.specs.Prelude.{◌≡◌, [], true, OnOk, IfOk, IfErr, map};
 ghost use Rattle.schema.specs.Nodes.View.{node_of};
 ghost use Rattle.schema.specs.Nodes.ByPlace.{AreNodesOf};
-ghost use Rattle.schema.specs.Rules.Breaks.{IsUnbroken, AreViolations, told};
-ghost use Rattle.stored.specs.Schemas.Accepted.{IsBroken, IsSchema, IsRefusal};
+ghost use Rattle.schema.specs.Rules.Breaks.{BreaksNone, IsUnbroken, AreViolations, told};
+ghost use Rattle.stored.specs.Schemas.Accepted.{IsBroken, IsRootOf, IsSchema, IsRefusal};
 ghost use Rattle.stored.specs.Internal.DefaultList.{defaults_of, AreAdded};
 
 use crate::defaults::find_bad;
@@ -20,7 +20,11 @@ pub struct Schema {
 impl Model for Schema {
     ghost use Rattle.schema.specs.Nodes.Node.{Node as NodeData};
 
+    ghost use Rattle.schema.specs.Internal.NodeCode.{node_coded};
+
     ghost Value = { NodeData };
+
+    ghost coded = { node_coded };
 
     ghost view = { λ a. a.shape };
 
@@ -45,11 +49,8 @@ impl Schema {
 pub fn violations(alloc: Global, raw: &RawSchema) -> Result<Vec<Violation>, AllocError>
     ensures { IfOk result (λ vs. AreViolations (IsBroken raw.now) vs.items) }
 {
-    match shape(alloc, raw) {
-        Ok(shape) => {
-            nodes_are_unique();
-            bad_defaults(alloc, shape.root())
-        }
+    match judge(alloc, raw) {
+        Ok(_shape) => Ok(Vec::new(alloc)),
         Err(Refused::Violations(violations)) => Ok(violations),
         Err(Refused::NoMemory) => Err(AllocError),
     }
@@ -64,18 +65,36 @@ pub fn accept(alloc: Global, raw: RawSchema) -> Result<Schema, Refused>
     ensures unbroken { OnOk result (IsUnbroken (IsBroken raw)) }
     ensures refused { IfErr result (IsRefusal raw) }
 {
-    let _tree = raw.tree();
-    match shape(alloc, &raw) {
-        Ok(shape) => {
-            nodes_are_unique();
-            let found = bad_defaults(alloc, shape.root())?;
-            if found.as_slice().is_empty() {
-                Ok(Schema { shape })
-            } else {
-                Err(Refused::Violations(found))
-            }
-        }
+    Ok(Schema {
+        shape: judge(alloc, &raw)?,
+    })
+}
+
+/// The shape of a schema that breaks no rule.
+fn judge(alloc: Global, raw: &RawSchema) -> Result<Shape, Refused>
+    ensures accepted { IfOk result (λ s. IsRootOf s raw.now) }
+    ensures refused { IfErr result (IsRefusal raw.now) }
+{
+    match shape(alloc, raw) {
+        Ok(shape) => judge_defaults(alloc, raw, shape),
         Err(refused) => Err(refused),
+    }
+}
+
+/// The shape, where its defaults are good.
+fn judge_defaults(alloc: Global, raw: &RawSchema, shape: Shape) -> Result<Shape, Refused>
+    requires unbroken { BreaksNone raw.now }
+    requires nodes { AreNodesOf true shape raw.now }
+    ensures accepted { IfOk result (λ s. IsRootOf s raw.now) }
+    ensures refused { IfErr result (IsRefusal raw.now) }
+{
+    raw.tree();
+    nodes_are_unique();
+    let found = bad_defaults(alloc, shape.root())?;
+    if found.as_slice().is_empty() {
+        Ok(shape)
+    } else {
+        Err(Refused::Violations(found))
     }
 }
 

@@ -6,7 +6,6 @@ use Rattle.schema.specs.Nodes.View.{node_of}
 use Rattle.schema.specs.Rules.Breaks.{told}
 use Rattle.schema.specs.declared.violation.Rule.TheVariants.{V14}
 use Rattle.stored.proofs.DefaultLemmas.{bad_added, good_passed}
-use Rattle.stored.proofs.DefaultListLemmas.{bad_violations, none_bad, other_violations}
 use Rattle.stored.proofs.defaults.add_bad.Goals as goal
 
 pub returns-in_ok-push : goal.returns-in_ok-push
