@@ -1,6 +1,8 @@
 -- Why the contracts hold.
 pub mod BecomingLemmas
 pub mod PrunedTrees
+pub mod Again
+pub mod PrunedAgain
 pub mod Passing
 pub mod FilledParts
 pub mod FilledWalks
