@@ -76,14 +76,14 @@ step R P (node n t (list M type keys bounds)) v (tree.list es) r (index i) path 
     each M (item_at i es) path (λ e is. let d = P.item n t M type keys bounds o.0 es i e o.1 is in again M d.0 e d.1)
 step R P _ v w r s path again = free_stays leads_uncut (part_by w s) path
 
-prunes : (R : Node → Data → Data → Type 0) → Prunes R → (N : Node) (v w : Data) → R N v w → IsPruned N w w
+pub prunes : (R : Node → Data → Data → Type 0) → Prunes R → (N : Node) (v w : Data) → R N v w → IsPruned N w w
 prunes R P N v w r [] = refl
 prunes R P N v w r (s ∷ path) = step R P N v w r s path (λ M d e h. prunes R P M d e h path)
 
 -- ---- pruned again
 
 -- a declared name is not cut
-uncut : (n : Bool) (t : Option (List ℕ)) (fs : Fields) (preserves : Bool) (type : MapType) (bounds : Bounds) (ms ns : Members) (k : List ℕ) (f : Declared)
+pub uncut : (n : Bool) (t : Option (List ℕ)) (fs : Fields) (preserves : Bool) (type : MapType) (bounds : Bounds) (ms ns : Members) (k : List ℕ) (f : Declared)
     → IsPruned (node n t (object fs preserves type bounds)) (tree.object ms) (tree.object ns) → field_at k fs ≡ Some f → PartBecomes leads_uncut (option_map (at f.node) (member_at k ms)) (member_at k ns)
 uncut n t fs true type bounds ms ns k f b found path = rw found at (b (name k ∷ path))
 uncut n t fs false type bounds ms ns k f b found path = rw found at (b (name k ∷ path))
@@ -123,7 +123,7 @@ filled_from N v default d e stands by_default = elim (option_cases (admitted N v
 ]
 
 -- a value that stands there is pruned, where the whole is
-pruned_part : (N : Node) (v : Option Data) (d : Data) → PartBecomes leads_uncut (option_map (at N) v) v → v ≡ Some d → IsPruned N d d
+pub pruned_part : (N : Node) (v : Option Data) (d : Data) → PartBecomes leads_uncut (option_map (at N) v) v → v ≡ Some d → IsPruned N d d
 pruned_part N v d b is = rw is at b
 
 filled_below : Prunes IsGoodFilling

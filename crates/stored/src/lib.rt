@@ -4,6 +4,7 @@
 mod completing;
 mod fields;
 mod filling;
+mod pruned;
 mod pruning;
 
 pub use completing::complete;
