@@ -8,6 +8,9 @@ pub mod DefaultListLemmas
 pub mod FieldLemmas
 pub mod BecomingLemmas
 pub mod PrunedTrees
+pub mod Again
+pub mod PrunedAgain
+pub mod PrunedTest
 pub mod Passing
 pub mod FilledParts
 pub mod FilledWalks

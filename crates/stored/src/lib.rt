@@ -6,6 +6,7 @@ mod completing;
 mod defaults;
 mod fields;
 mod filling;
+mod pruned;
 mod pruning;
 mod tests;
 mod validity;

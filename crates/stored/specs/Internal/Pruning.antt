@@ -1,5 +1,5 @@
 -- Pruning level by level, as a walk over a value prunes it. It is proved to be pruning by paths.
-use Rattle.std.specs.Prelude.{ℕ, List, Bool, true, false, Option, Some, None, option_map, if◌then◌else◌, is_some}
+use Rattle.std.specs.Prelude.{ℕ, List, Bool, true, false, Option, Some, None, option_map, if◌then◌else◌, is_some, ◌&&◌}
 use Rattle.jtree.specs.Data.{Data, Items, no_items, item, Members, no_members, member}
 use Rattle.jtree.specs.Data as tree
 use Rattle.jtree.specs.View.{data_of, tree_from}
@@ -38,6 +38,23 @@ abbrev mutual
   pub pruned_items : Node → Items → Items
   pruned_items N no_items = no_items
   pruned_items N (item d ds) = item (pruned N d) (pruned_items N ds)
+
+-- nothing is cut
+abbrev mutual
+  pub is_pruned : Node → Data → Bool
+  is_pruned (node nullable description (object fs preserves type bounds)) (tree.object ms) = are_pruned (field_node fs) preserves ms
+  is_pruned (node nullable description (map N type bounds)) (tree.object ms) = are_pruned (λ k. Some N) true ms
+  is_pruned (node nullable description (list N type keys bounds)) (tree.list ds) = are_items_pruned N ds
+  is_pruned _ v = true
+
+  -- each member by the node of its name, and whether one without a node is kept
+  pub are_pruned : (List ℕ → Option Node) → Bool → Members → Bool
+  are_pruned nodes preserves no_members = true
+  are_pruned nodes preserves (member k d ms) = by_node (nodes k) (λ N. is_pruned N d) preserves && are_pruned nodes preserves ms
+
+  pub are_items_pruned : Node → Items → Bool
+  are_items_pruned N no_items = true
+  are_items_pruned N (item d ds) = is_pruned N d && are_items_pruned N ds
 
 -- the same of the code's trees
 abbrev pub pruned_tree : Node → Tree → Tree
