@@ -6,6 +6,7 @@ pub mod ValidLemmas
 pub mod DefaultLemmas
 pub mod DefaultListLemmas
 pub mod FieldLemmas
+pub mod OneTree
 pub mod BecomingLemmas
 pub mod PrunedTrees
 pub mod Again

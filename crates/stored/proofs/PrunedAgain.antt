@@ -1,19 +1,20 @@
 -- Pruning what was pruned changes nothing, and so pruning what was filled, where defaults are good.
-use Rattle.std.proofs.Common.{◌≡◌, ℕ, List, [], ◌∷◌, Bool, true, false, Option, Some, None, refl, sym, ap, ◌∙◌, subst, inl, inr}
+use Rattle.std.proofs.Common.{◌≡◌, ℕ, List, [], ◌∷◌, ◌++◌, Bool, true, false, Option, Some, None, refl, sym, ap, ◌∙◌, subst, inl, inr}
 use Rattle.std.specs.Prelude.{option_map, option_and_then}
 use Rattle.jtree.specs.Data.{Data, Items, Members}
 use Rattle.jtree.specs.Data as tree
 use Rattle.jtree.specs.Path.{Step, name, index, Path, member_at, item_at, part_at, part_by}
 use Rattle.jtree.specs.Internal.Lookups.{bool_cases, option_cases}
 use Rattle.schema.specs.Document.Places as places
+use Rattle.schema.specs.Document.Places.{Place}
 use Rattle.schema.specs.Nodes.Node.{Node, node, object, map, list, Fields}
-use Rattle.schema.specs.Nodes.ByPlace.{Declared, field_at}
+use Rattle.schema.specs.Nodes.ByPlace.{Declared, field_at, node_at}
 use Rattle.schema.specs.declared.node.Bounds.{Bounds}
 use Rattle.schema.specs.declared.node.MapType.{MapType}
 use Rattle.schema.specs.declared.node.ListType.{ListType}
 use Rattle.stored.specs.Objects.Parts.{Part, at, free, value_of, part_by_path, Leading, pair, whole}
 use Rattle.stored.specs.Objects.Becomes.{label, Becomes, leads_uncut, leads_filled, filled_under, admitted, or_default, is_nullable, IsPruned, IsFilled}
-use Rattle.stored.specs.Schemas.Defaults.{HasGoodDefaults}
+use Rattle.stored.specs.Schemas.Defaults.{IsGoodDefault, HasGoodDefaults, field_of}
 use Rattle.stored.specs.Internal.Becoming.{PartBecomes}
 use Rattle.stored.proofs.BecomingLemmas.{free_stays, by_steps}
 use Rattle.stored.proofs.Again.{same_label, list_only, object_only, absent}
@@ -103,8 +104,12 @@ pruned_again N v w b = prunes IsPruned uncut_below N v w b
 
 -- ---- pruned after filling
 
+-- each field of each object has a good default, where it has one
+abbrev AreGood : Node → Type 0
+AreGood N = (p : Place) (M : Node) (k : List ℕ) (f : Declared) (d : Data) → node_at N p ≡ Some M → field_of M k ≡ Some f → f.default ≡ Some d → IsGoodDefault f.node d
+
 pub record IsGoodFilling (N : Node) (v w : Data) : Type 0 where
-  pub good : HasGoodDefaults N
+  pub good : AreGood N
   pub pruned : IsPruned N v v
   pub filled : IsFilled N v w
 
@@ -155,4 +160,7 @@ filled_below = record {
 
 -- what was pruned, and then filled with good defaults, is pruned
 pub filled_pruned : (N : Node) (u v w : Data) → HasGoodDefaults N → IsPruned N u v → IsFilled N v w → IsPruned N w w
-filled_pruned N u v w good pruned filled = prunes IsGoodFilling filled_below N v w (record { good = good; pruned = pruned_again N u v pruned; filled = filled })
+filled_pruned N u v w good pruned filled = prunes IsGoodFilling filled_below N v w (record {
+  good = λ p M k f d there is has. good (p ++ (places.property k ∷ [])) f.node d
+      (record { before = p; name = k; place_is = refl; object = M; object_is = there; field = f; field_is = is; node_is = refl; default_is = has });
+  pruned = pruned_again N u v pruned; filled = filled })

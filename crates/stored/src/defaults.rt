@@ -7,7 +7,9 @@ ghost use Rattle.schema.specs.Rules.Breaks.{told};
 ghost use Rattle.stored.specs.Schemas.Defaults.{IsGoodDefault};
 ghost use Rattle.stored.specs.Internal.DefaultList.{own_default, defaults_of, defaults_in_fields, defaults_in_field, AreAdded};
 
-use crate::validity::is_valid;
+use crate::filling::{copy_tree, fill};
+use crate::pruned::is_pruned;
+use crate::validity::valid;
 use jtree::{Tree, push_name};
 use schema::{Below, Field, Fields, Node, Rule, Sort, Violation};
 use std::alloc::{AllocError, Global};
@@ -101,7 +103,12 @@ fn add_bad(
 fn is_good(alloc: Global, node: &Node, default: &Tree) -> Result<bool, AllocError>
     ensures { IfOk result (λ b. Decides b (IsGoodDefault (node_of node.now) (data_of default.now))) }
 {
-    Ok(is_valid(node, default))
+    if !is_pruned(node, default) {
+        return Ok(false);
+    }
+    let value = fill(alloc, node, copy_tree(alloc, default)?)?;
+    value.reveal_invariant();
+    Ok(valid(node, &value))
 }
 
 /// The pointer of a member, by the pointer of its object.

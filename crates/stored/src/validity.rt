@@ -24,7 +24,7 @@ pub fn valid(node: &Node, tree: &Tree) -> bool
 }
 
 #[cycle(valid)]
-pub(crate) fn is_valid(node: &Node, tree: &Tree) -> bool
+fn is_valid(node: &Node, tree: &Tree) -> bool
     ensures { result ≡ is_valid_of (node_of node.now) (data_of tree.now) }
 {
     match (&node.sort, tree) {

@@ -1,4 +1,5 @@
-use Rattle.std.proofs.Common.{subst, sym, ap, ◌∙◌}
+use Rattle.std.proofs.Common.{subst, sym, rules}
+use Rattle.std.proofs.lemmas.List.{nil_from_length}
 use Rattle.std.specs.Prelude.{map, [], true}
 use Rattle.schema.specs.Rules.Breaks.{told}
 use Rattle.stored.specs.Internal.DefaultList.{defaults_of, AreAdded}
@@ -8,12 +9,13 @@ use Rattle.stored.proofs.accepting.judge_defaults.Goals as goal
 pub returns-then-is_empty-clause-accepted : goal.returns-then-is_empty-clause-accepted
 returns-then-is_empty-clause-accepted c = is_accepted c.args.raw.now c.args.shape c.in_ok-found.found.items c.tree.ensures.sound c.requires.unbroken c.requires.nodes
     (λ M nodes. c.nodes_are_unique.ensures M c.args.shape c.args.raw.now true nodes c.requires.nodes)
-    (subst (λ N. AreAdded [] (defaults_of N) [] (map told c.in_ok-found.found.items)) c.root.ensures.node c.in_ok-found.ensures) ?
+    (subst (λ N. AreAdded [] (defaults_of N) [] (map told c.in_ok-found.found.items)) c.root.ensures.node c.in_ok-found.ensures)
+    (search (rules, nil_from_length))
 
 pub returns-else-is_empty-clause-refused : goal.returns-else-is_empty-clause-refused
 returns-else-is_empty-clause-refused c = (
   is_refused c.args.raw.now c.args.shape c.in_ok-found.found.items c.requires.unbroken c.requires.nodes
       (λ M nodes. c.nodes_are_unique.ensures M c.args.shape c.args.raw.now true nodes c.requires.nodes)
       (subst (λ N. AreAdded [] (defaults_of N) [] (map told c.in_ok-found.found.items)) c.root.ensures.node c.in_ok-found.ensures),
-  ?,
+  search (rules, nil_from_length),
 )
