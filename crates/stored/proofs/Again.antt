@@ -1,5 +1,5 @@
 -- Filling again changes nothing.
-use Rattle.std.proofs.Common.{◌≡◌, ◌⊎◌, ℕ, List, [], ◌∷◌, Bool, true, false, Option, Some, None, refl, sym, ap, ◌∙◌, subst, inl, inr}
+use Rattle.std.proofs.Common.{◌≡◌, ◌⊎◌, [], ◌∷◌, Bool, false, Option, Some, None, refl, sym, ap, ◌∙◌, subst, inl, inr}
 use Rattle.std.specs.Prelude.{option_map, option_and_then}
 use Rattle.std.proofs.lemmas.Option.{same_Some}
 use Rattle.jtree.specs.Data.{Data, Items, Members}
@@ -7,8 +7,8 @@ use Rattle.jtree.specs.Data as tree
 use Rattle.jtree.specs.Path.{Step, name, index, Path, member_at, item_at, part_at}
 use Rattle.jtree.specs.Internal.Lookups.{bool_cases, option_cases}
 use Rattle.schema.specs.Nodes.Node.{Node, node, object, map, list, Fields}
-use Rattle.schema.specs.Nodes.ByPlace.{Declared, field_at}
-use Rattle.stored.specs.Objects.Parts.{Part, at, free, value_of, part_by_path, Leading, pair, fields, values, items, whole}
+use Rattle.schema.specs.Nodes.ByPlace.{field_at}
+use Rattle.stored.specs.Objects.Parts.{Part, at, value_of, part_by_path, Leading, pair, fields, values, items, whole}
 use Rattle.stored.specs.Objects.Becomes.{Label, label, Becomes, leads_filled, filled_under, admitted, is_nullable, or_default, IsFilled}
 use Rattle.stored.specs.Objects.Becomes as labels
 use Rattle.stored.specs.Internal.Becoming.{PartBecomes}

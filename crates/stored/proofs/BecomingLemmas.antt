@@ -4,7 +4,7 @@ use Rattle.std.specs.Prelude.{option_map}
 use Rattle.jtree.specs.Data.{Data}
 use Rattle.jtree.specs.Path.{Step, part_by}
 use Rattle.schema.specs.Nodes.Node.{Node}
-use Rattle.stored.specs.Objects.Parts.{Part, free, Leading}
+use Rattle.stored.specs.Objects.Parts.{free, Leading}
 use Rattle.stored.specs.Objects.Becomes.{label, Becomes}
 use Rattle.stored.specs.Internal.Becoming.{PartBecomes}
 

@@ -1,5 +1,5 @@
 -- What is filled part by part is filled by paths.
-use Rattle.std.proofs.Common.{◌≡◌, ℕ, zero, suc, List, [], ◌∷◌, ◌++◌, Bool, true, false, Option, Some, None, refl, sym, ap, ◌∙◌, subst, inl, inr}
+use Rattle.std.proofs.Common.{◌≡◌, ℕ, zero, suc, List, [], ◌∷◌, ◌++◌, Bool, false, Option, Some, None, refl, sym, ap, ◌∙◌, subst, inl, inr}
 use Rattle.std.specs.Prelude.{option_map, IfSome}
 use Rattle.std.specs.List.{All}
 use Rattle.std.specs.Option.{option_to_list}
@@ -24,7 +24,7 @@ use Rattle.schema.specs.declared.node.Sort.TheVariants as sort
 use Rattle.schema.specs.declared.node.ObjectNode.{ObjectNode}
 use Rattle.schema.specs.declared.node.MapNode.{MapNode}
 use Rattle.schema.specs.declared.node.ListNode.{ListNode}
-use Rattle.stored.specs.Objects.Parts.{Part, pair, whole, at, free}
+use Rattle.stored.specs.Objects.Parts.{Part, pair, whole, at}
 use Rattle.stored.specs.Objects.Becomes.{leads_filled, filled_under, IsFilled, admitted}
 use Rattle.stored.specs.Internal.Becoming.{PartBecomes}
 use Rattle.stored.specs.Internal.Filling.{joined_items, AreFilledItems, joined, in_front, AreFilled, field_parts, AreFilledFields, value_parts, AreFilledValues, tree_in}

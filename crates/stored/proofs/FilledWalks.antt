@@ -1,8 +1,8 @@
 -- Walks that fill the parts of a value one after the other.
-use Rattle.std.proofs.Common.{◌≡◌, ℕ, List, [], ◌∷◌, ◌++◌, Option, Some, None, length, arith, refl, sym, ap, ◌∙◌, subst}
-use Rattle.std.specs.Prelude.{option_map, IfSome, MatchOption}
+use Rattle.std.proofs.Common.{◌≡◌, ℕ, List, [], ◌∷◌, ◌++◌, Option, Some, None, length, arith, refl, subst}
+use Rattle.std.specs.Prelude.{option_map, MatchOption}
 use Rattle.std.specs.Option.{option_to_list}
-use Rattle.jtree.specs.Data.{Data, Items, no_items, item, Members, no_members, member, IsTree, AreMembers, IsNameBefore}
+use Rattle.jtree.specs.Data.{Items, no_items, item, Members, no_members, member, IsTree, AreMembers, IsNameBefore}
 use Rattle.jtree.specs.View.{data_of, items_of, members_of}
 use Rattle.jtree.specs.declared.value.Tree.{Tree}
 use Rattle.jtree.specs.declared.value.Member.{Member}
@@ -12,7 +12,7 @@ use Rattle.schema.specs.declared.node.Field.{Field}
 use Rattle.stored.specs.Objects.Parts.{at}
 use Rattle.stored.specs.Objects.Becomes.{IsFilled, admitted, filled_under}
 use Rattle.stored.specs.Internal.Fields.{declared_of}
-use Rattle.stored.specs.Internal.Filling.{joined_items, AreFilledItems, joined, in_front, AreFilledFields, AreFilledValues, tree_in, IsFilledAt, IsPassed, FillsItems, FillsValues, FillsFields}
+use Rattle.stored.specs.Internal.Filling.{AreFilledItems, joined, in_front, AreFilledFields, AreFilledValues, tree_in, IsFilledAt, IsPassed, FillsItems, FillsValues, FillsFields}
 use Rattle.stored.proofs.FilledParts.{item_filled, joined_item, joined_end, joined_members, joined_none, joined_some, some_tree, no_values, value_filled, no_more_fields, field_filled, passed_stay}
 
 -- a list of no length is over
@@ -87,11 +87,11 @@ fields_more fs ms f later fields all rest filled passed more found o is p here p
       onward = λ ns g.
           let front_of = in_front f.name (tree_in o) ns in
           let field_is : AreFilledFields (fields_of (f ∷ later)) (members_of ys) front_of =
-              rw (found_members f.name found rest p.named)
-              (field_filled f.name (declared_of f) (fields_of later) (tree_in found) (tree_in o) (members_of rest) ns ordered before (found_sorted found rest behind) (some_tree f.name o here.member) here.becomes g)
+          rw (found_members f.name found rest p.named)
+          (field_filled f.name (declared_of f) (fields_of later) (tree_in found) (tree_in o) (members_of rest) ns ordered before (found_sorted found rest behind) (some_tree f.name o here.member) here.becomes g)
           in
           let whole_is : AreFilledFields (fields_of fields) (members_of all) (joined (members_of xs) front_of) =
-              rw (is, p.left) (passed_stay f.name (declared_of f) (fields_of later) xs ys front_of ordered sorted p.are_before field_is)
+          rw (is, p.left) (passed_stay f.name (declared_of f) (fields_of later) xs ys front_of ordered sorted p.are_before field_is)
           in
           rw (pushed, joined_some f.name passed o ns here.member, p.out, joined_members filled xs front_of) (fills.onward (joined (members_of xs) front_of) whole_is);
     }

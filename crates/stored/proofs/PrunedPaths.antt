@@ -1,11 +1,11 @@
 -- Pruning level by level is pruning by paths.
-use Rattle.std.proofs.Common.{◌≡◌, ℕ, zero, suc, List, [], ◌∷◌, Bool, true, false, Option, Some, None, refl, ap, sym, ◌∙◌, subst, inl, inr}
+use Rattle.std.proofs.Common.{◌≡◌, ℕ, zero, suc, List, [], ◌∷◌, true, false, Option, Some, None, refl, ap, ◌∙◌, inl, inr}
 use Rattle.std.specs.Prelude.{option_map, option_and_then, is_some, if◌then◌else◌}
 use Rattle.std.specs.Str.{bytes_eq}
 use Rattle.jtree.specs.Data.{Data, Items, no_items, item, Members, no_members, member}
 use Rattle.jtree.specs.Data as tree
 use Rattle.jtree.specs.Path.{Step, name, index, Path, member_at, item_at, part_at, part_by}
-use Rattle.jtree.specs.Internal.Lookups.{bool_cases, option_cases, same_name, member_later}
+use Rattle.jtree.specs.Internal.Lookups.{bool_cases, option_cases, same_name}
 use Rattle.schema.specs.Nodes.Node.{Node, node, object, map, list, Fields}
 use Rattle.schema.specs.Nodes.ByPlace.{field_at}
 use Rattle.stored.specs.Objects.Parts.{at, part_of, value_of, part_by_path}

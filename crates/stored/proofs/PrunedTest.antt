@@ -1,6 +1,6 @@
 -- The test finds nothing that is cut exactly where pruning changes nothing.
-use Rattle.std.proofs.Common.{◌≡◌, ℕ, zero, suc, List, [], ◌∷◌, Bool, true, false, Option, Some, None, refl, sym, ap, ◌∙◌, subst, inl, inr}
-use Rattle.std.specs.Prelude.{◌&&◌, option_map}
+use Rattle.std.proofs.Common.{◌≡◌, ℕ, zero, suc, List, ◌∷◌, Bool, true, false, Option, Some, None, refl, sym, ap, ◌∙◌, subst, inl, inr}
+use Rattle.std.specs.Prelude.{◌&&◌}
 use Rattle.std.specs.Str.{bytes_eq}
 use Rattle.std.proofs.lemmas.Option.{same_Some}
 use Rattle.jtree.specs.Data.{Data, Items, no_items, item, Members, no_members, member, IsTree, AreTrees, AreMembers}
@@ -27,8 +27,8 @@ kept_at nodes preserves no_members k d all found = absurd (cc)
 kept_at nodes preserves (member l e ms) k d all found =
     let these = both (by_node (nodes l) (λ N. is_pruned N e) preserves) (are_pruned nodes preserves ms) all in
     elim (bool_cases (bytes_eq k l)) [
-    | inl t ↦ let same = same_Some e d (rw t at found) in rw (same_name k l t, ← same) these.0
-    | inr f ↦ kept_at nodes preserves ms k d these.1 (sym (member_later k l e ms f) ∙ found)
+      | inl t ↦ let same = same_Some e d (rw t at found) in rw (same_name k l t, ← same) these.0
+      | inr f ↦ kept_at nodes preserves ms k d these.1 (sym (member_later k l e ms f) ∙ found)
     ]
 
 item_kept : (N : Node) (ds : Items) (i : ℕ) (d : Data) → are_items_pruned N ds ≡ true → item_at i ds ≡ Some d → is_pruned N d ≡ true
@@ -95,7 +95,7 @@ mutual
   members_complete nodes preserves no_members o p q = refl
   members_complete nodes preserves (member l e ms) o p q =
       let rest : are_pruned nodes preserves ms ≡ true =
-          members_complete nodes preserves ms o.2 (λ k M d is found. p k M d is (member_tail l e ms k d o found)) (λ k d none found. q k d none (member_tail l e ms k d o found))
+      members_complete nodes preserves ms o.2 (λ k M d is found. p k M d is (member_tail l e ms k d o found)) (λ k d none found. q k d none (member_tail l e ms k d o found))
       in
       let first : by_node (nodes l) (λ N. is_pruned N e) preserves ≡ true = elim (option_cases (nodes l)) [
         | inl none ↦ rw none (q l e none (member_first l e ms))

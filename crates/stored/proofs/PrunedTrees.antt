@@ -1,5 +1,5 @@
 -- What is pruned level by level is a tree.
-use Rattle.std.proofs.Common.{◌≡◌, ◌≤◌, ℕ, List, [], ◌∷◌, ◌++◌, Bool, true, false, Option, Some, None, ◌+◌, ◌<◌, get_or, set, map, take, drop, length, refl, sym, ap, ◌∙◌, subst, inl, inr, arith}
+use Rattle.std.proofs.Common.{◌≡◌, ◌≤◌, ℕ, List, [], ◌∷◌, ◌++◌, true, false, Option, Some, None, ◌+◌, ◌<◌, get_or, set, map, take, drop, length, refl, sym, ap, ◌∙◌, inl, inr, arith}
 use Rattle.std.specs.Str.{bytes_eq}
 use Rattle.std.proofs.lemmas.Option.{same_Some}
 use Rattle.std.proofs.lemmas.List.Edits.{map_over_more}
@@ -9,7 +9,7 @@ use Rattle.jtree.specs.Data as tree
 use Rattle.jtree.specs.View.{data_of, tree_from, items_of, members_of}
 use Rattle.jtree.specs.declared.value.Tree.{Tree}
 use Rattle.jtree.specs.declared.value.Member.{Member}
-use Rattle.jtree.specs.Internal.Lookups.{bool_cases, option_cases, IsNameBefore-trans}
+use Rattle.jtree.specs.Internal.Lookups.{bool_cases, IsNameBefore-trans}
 use Rattle.schema.specs.Nodes.Node.{Node, node, object, map as map_node, list, Fields, no_fields, field, node_depth, fields_depth}
 use Rattle.schema.specs.Nodes.ByPlace.{Declared, field_at}
 use Rattle.stored.specs.Internal.Pruning.{field_node, declared, pruned, pruned_members, pruned_items, by_node, pruned_tree, pruned_member, is_declared_member}

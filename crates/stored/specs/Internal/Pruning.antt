@@ -1,5 +1,5 @@
 -- Pruning level by level, as a walk over a value prunes it. It is proved to be pruning by paths.
-use Rattle.std.specs.Prelude.{ℕ, List, Bool, true, false, Option, Some, None, option_map, if◌then◌else◌, is_some, ◌&&◌}
+use Rattle.std.specs.Prelude.{ℕ, List, Bool, true, Option, Some, None, option_map, if◌then◌else◌, is_some, ◌&&◌}
 use Rattle.jtree.specs.Data.{Data, Items, no_items, item, Members, no_members, member}
 use Rattle.jtree.specs.Data as tree
 use Rattle.jtree.specs.View.{data_of, tree_from}
@@ -7,7 +7,6 @@ use Rattle.jtree.specs.declared.value.Tree.{Tree}
 use Rattle.jtree.specs.declared.value.Member.{Member}
 use Rattle.schema.specs.Nodes.Node.{Node, node, object, map, list, Fields}
 use Rattle.schema.specs.Nodes.ByPlace.{field_at}
-use Rattle.stored.specs.Objects.Parts.{Part, at, free, part_of}
 
 abbrev pub field_node : Fields → List ℕ → Option Node
 field_node fs k = option_map (λ f. f.node) (field_at k fs)

@@ -1,14 +1,12 @@
-use Rattle.std.proofs.Common.{◌≡◌, ◌∷◌, ◌++◌, ◌+◌, drop, ap, sym, ◌∙◌, subst, Ok, Err}
+use Rattle.std.proofs.Common.{◌∷◌, ◌++◌, ◌+◌, drop, ap, sym, ◌∙◌, subst}
 use Rattle.std.proofs.lemmas.List.{at_drop_more, at_drop_all}
 use Rattle.stored.specs.Internal.Filling.{IsPassed}
-use Rattle.jtree.specs.Data.{Items, no_items, Members, no_members, AreTrees, AreMembers}
-use Rattle.jtree.specs.View.{items_of, members_of}
 use Rattle.schema.specs.Nodes.View.{node_of}
 use Rattle.schema.specs.declared.node.ListNode.{ListNode}
 use Rattle.schema.specs.declared.node.MapNode.{MapNode}
 use Rattle.std.proofs.lemmas.Result.{IfOk-weaker}
-use Rattle.stored.specs.Internal.Filling.{AreFilledItems, AreFilledFields, AreFilledValues, joined_items, joined}
-use Rattle.stored.proofs.FilledParts.{whole_filled, whole_tree, whole_list, whole_object, items_filled, fields_filled, values_filled, no_values}
+use Rattle.stored.specs.Internal.Filling.{AreFilledItems, AreFilledValues}
+use Rattle.stored.proofs.FilledParts.{whole_filled, whole_tree, whole_list, whole_object, items_filled, fields_filled, values_filled}
 use Rattle.stored.proofs.FilledWalks.{no_more, items_more, items_end, values_more, values_end, fields_more, fields_end}
 use Rattle.stored.proofs.filling.+fill.Goals as goal
 

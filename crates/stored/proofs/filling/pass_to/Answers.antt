@@ -1,4 +1,4 @@
-use Rattle.std.proofs.Common.{◌≡◌, ap, sym, ◌∙◌}
+use Rattle.std.proofs.Common.{ap, sym, ◌∙◌}
 use Rattle.jtree.specs.Order.{text_cmp}
 use Rattle.stored.proofs.Passing.{pass_found, pass_absent}
 use Rattle.stored.proofs.filling.pass_to.Goals as goal

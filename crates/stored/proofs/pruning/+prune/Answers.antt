@@ -1,4 +1,4 @@
-use Rattle.std.proofs.Common.{◌≡◌, ℕ, List, Some, None, arith, sym, ap, ◌∙◌, refl, subst}
+use Rattle.std.proofs.Common.{ℕ, List, Some, None, arith, sym, ap, ◌∙◌, refl, subst}
 use Rattle.jtree.specs.Data.{AreTrees, AreMembers}
 use Rattle.jtree.specs.Data as tree
 use Rattle.jtree.specs.View.{items_of, members_of}
@@ -8,7 +8,6 @@ use Rattle.schema.specs.declared.node.ListNode.{ListNode}
 use Rattle.schema.specs.declared.node.MapNode.{MapNode}
 use Rattle.schema.specs.Nodes.ByPlace.{field_at}
 use Rattle.stored.specs.Internal.Pruning.{field_node, declared, pruned_tree, pruned_member, pruned_items, pruned_members}
-use Rattle.stored.specs.Internal.Fields.{declared_of}
 use Rattle.stored.proofs.PrunedTrees.{mapped_more, member_pruned, members_pruned, items_pruned, members_declared, field_depth, declared_members, trees_pruned, sorted_pruned}
 use Rattle.stored.proofs.pruning.+prune.Goals as goal
 use Rattle.stored.proofs.pruning.+prune.Goals.{prune_fields-in-Some, prune_fields-in_default}
@@ -34,12 +33,12 @@ prune_fields-loop-member-preserved t c =
     let nodes = field_node c.args.fields.now in
     let found = ap (option_map (λ f. f.node)) (c.field_named.ensures ∙ ap (λ k. field_at k c.args.fields.now) c.as_str.ensures) in
     elim c.match-field_named.branch [
-    | prune_fields-in-Some w ↦
-        w.member-items-is ∙ mapped_more (pruned_member nodes) c.deref_mut-member-items.result.now l.member-items l.member-index c.member-item.result _ c.loop-member-test.true l.invariant c.member-item.is
-        (member_pruned nodes _ (Some (node_of w.in-Some.field.now.node)) _ (sym (rw w.in-Some.is at found)) w.prune_tree.ensures)
-    | prune_fields-in_default w ↦
-        w.member-items-is ∙ mapped_more (pruned_member nodes) c.deref_mut-member-items.result.now l.member-items l.member-index c.member-item.result _ c.loop-member-test.true l.invariant c.member-item.is
-        (member_pruned nodes _ None _ (sym (rw w.in_default.is at found)) refl)
+      | prune_fields-in-Some w ↦
+          w.member-items-is ∙ mapped_more (pruned_member nodes) c.deref_mut-member-items.result.now l.member-items l.member-index c.member-item.result _ c.loop-member-test.true l.invariant c.member-item.is
+          (member_pruned nodes _ (Some (node_of w.in-Some.field.now.node)) _ (sym (rw w.in-Some.is at found)) w.prune_tree.ensures)
+      | prune_fields-in_default w ↦
+          w.member-items-is ∙ mapped_more (pruned_member nodes) c.deref_mut-member-items.result.now l.member-items l.member-index c.member-item.result _ c.loop-member-test.true l.invariant c.member-item.is
+          (member_pruned nodes _ None _ (sym (rw w.in_default.is at found)) refl)
     ]
 
 -- ---- what is pruned is a tree, and is what the node makes of it
