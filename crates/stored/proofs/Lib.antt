@@ -1,3 +1,6 @@
 -- Laws of the definitions of this crate.
 pub mod TestLemmas
 pub mod CountLemmas
+pub mod FindingLemmas
+pub mod JoinedLemmas
+pub mod LevelLemmas

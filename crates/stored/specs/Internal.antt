@@ -1,2 +1,3 @@
 -- What private contracts cite.
 pub mod ValidByLevel
+pub mod FailuresByLevel
