@@ -76,6 +76,32 @@ among_whole repeated N v bs r f a = elim (among_parts (own repeated N v) (joined
 pub own_among : (repeated : Bool) (N : Node) (v : Data) (bs : List Below) (t : Test) → asks repeated t N v ≡ true → Among (whole repeated N v bs) (here t)
 own_among repeated N v bs t e = among_left (own repeated N v) (joined bs) (here t) (failing_among (λ u. asks repeated u N v) own_tests t (listed repeated N v t e) e)
 
+own_or : (N : Node) (v : Data) (bs : List Below) (p : Path) (t : Test) → p ≡ [] → asks true t N v ≡ true → ((p ≡ []) × (t ≡ F13) × (true ≡ true)) ⊎ Among (whole false N v bs) (failure p t)
+own_or N v bs p F13 e h = inl (e, refl, refl)
+own_or N v bs p t e h = inr (subst (λ q. Among (whole false N v bs) (failure q t)) (sym e) (own_among false N v bs t h))
+
+still : (N : Node) (v : Data) (t : Test) → asks false t N v ≡ true → asks true t N v ≡ true
+still N v F13 h = refl
+still N v _ h = h
+
+-- of what repeats an earlier item, and of what does not
+pub repeat_or : (repeated : Bool) (N : Node) (v : Data) (bs : List Below) (p : Path) (t : Test) → Among (whole repeated N v bs) (failure p t)
+    → ((p ≡ []) × (t ≡ F13) × (repeated ≡ true)) ⊎ Among (whole false N v bs) (failure p t)
+repeat_or false N v bs p t a = inr a
+repeat_or true N v bs p t a = elim (among_parts (own true N v) (joined bs) (failure p t) a) [
+  | inl o ↦ let x = among_failing (λ u. asks true u N v) own_tests (failure p t) o in own_or N v bs p t x.0 x.1
+  | inr b ↦ inr (among_right (own false N v) (joined bs) (failure p t) b)
+]
+
+pub or_repeat : (repeated : Bool) (N : Node) (v : Data) (bs : List Below) (f : Failure) → Among (whole false N v bs) f → Among (whole repeated N v bs) f
+or_repeat false N v bs f a = a
+or_repeat true N v bs f a = elim (among_parts (own false N v) (joined bs) f a) [
+  | inl o ↦
+      let x = among_failing (λ u. asks false u N v) own_tests f o in
+      subst (λ p. Among (whole true N v bs) (failure p f.test)) (sym x.0) (own_among true N v bs f.test (still N v f.test x.1))
+  | inr b ↦ among_right (own true N v) (joined bs) f b
+]
+
 rising_whole : (repeated : Bool) (N : Node) (v : Data) (bs : List Below) → AreRising bs → Rising Precedes (whole repeated N v bs)
 rising_whole repeated N v bs r = rising_join Precedes (own repeated N v) (joined bs) (rising_failing (λ t. asks repeated t N v) 0 own_tests in_order) (rising_joined bs r)
     (λ f g a b. let x = among_failing (λ t. asks repeated t N v) own_tests f a in let y = stands bs r g b in rw (x.0, y.is) refl)

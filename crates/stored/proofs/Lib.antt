@@ -4,3 +4,4 @@ pub mod CountLemmas
 pub mod FindingLemmas
 pub mod JoinedLemmas
 pub mod LevelLemmas
+pub mod FaultLemmas
