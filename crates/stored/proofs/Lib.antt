@@ -5,3 +5,4 @@ pub mod FindingLemmas
 pub mod JoinedLemmas
 pub mod LevelLemmas
 pub mod FaultLemmas
+pub mod RepetitionLemmas

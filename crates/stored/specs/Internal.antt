@@ -1,3 +1,4 @@
 -- What private contracts cite.
 pub mod ValidByLevel
 pub mod FailuresByLevel
+pub mod ItemKeys
