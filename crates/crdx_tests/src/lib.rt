@@ -26,6 +26,8 @@ mod node_rows;
 #[cfg(test)]
 mod node_text;
 #[cfg(test)]
+mod object_rows;
+#[cfg(test)]
 mod page_rows;
 #[cfg(test)]
 mod pool_rows;

@@ -11,7 +11,7 @@ use Rattle.schema.specs.Internal.PlaceView.{place_of}
 use Rattle.schema.specs.Internal.Subschemas.{AreSubschemas}
 use Rattle.schema.specs.Rules.Defaults.{HasDefault, HasDefaultAt}
 use Rattle.schema.specs.declared.listing.Subschema.{Subschema}
-use Rattle.schema.proofs.Rising.{index_of, all_pairs}
+use Rattle.jtree.specs.Internal.Rising.{index_of, all_pairs}
 use Rattle.schema.proofs.LimitLemmas.{not_before_itself, not_both}
 use Rattle.schema.proofs.JudgedLemmas.{Earlier, place_entered, subschemas_earlier}
 

@@ -20,7 +20,7 @@ use Rattle.schema.specs.declared.listing.Subschema.{Subschema}
 use Rattle.schema.specs.declared.violation.Rule.{Rule}
 use Rattle.schema.specs.declared.violation.Rule.TheVariants.{V01, V02, V03, V04, V05, V06, V07, V08, V09, V10, V11, V12, V13, V15, V16, V17}
 use Rattle.schema.specs.declared.violation.Violation.{Violation}
-use Rattle.schema.proofs.Rising.{Among, Rising, contains, each_of, all_pairs, among_left, among_right, among_parts, rising_join}
+use Rattle.jtree.specs.Internal.Rising.{Among, Rising, contains, each_of, all_pairs, among_left, among_right, among_parts, rising_join}
 use Rattle.schema.proofs.LimitLemmas.{path_total}
 use Rattle.schema.proofs.EventLemmas.{schema_events_are}
 

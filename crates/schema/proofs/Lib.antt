@@ -3,7 +3,6 @@ pub mod CrdLemmas
 pub mod FormLemmas
 pub mod FormFirst
 pub mod PlaceLemmas
-pub mod Rising
 pub mod LimitLemmas
 pub mod ListingLemmas
 pub mod EventParts

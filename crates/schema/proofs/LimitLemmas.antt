@@ -15,7 +15,7 @@ use Rattle.schema.specs.Document.Limits.{most_places, most_steps, ComeBefore, Pa
 use Rattle.schema.specs.Document.Limits as limits
 use Rattle.schema.specs.Internal.Events.{Event, entered, too_long, event_path, IsIn, Ascend, AreEventsOf, limit_break}
 use Rattle.schema.proofs.FormFirst.{IsFound}
-use Rattle.schema.proofs.Rising.{Among, Rising, contained, contains, rising, all_pairs}
+use Rattle.jtree.specs.Internal.Rising.{Among, Rising, contained, contains, rising, all_pairs}
 
 -- ---- path order is total
 

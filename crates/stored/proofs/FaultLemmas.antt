@@ -9,11 +9,13 @@ use Rattle.jtree.specs.Path.{Step, name, index, Path, part_by, member_at, item_a
 use Rattle.jtree.specs.Internal.Lookups.{bool_cases, option_cases}
 use Rattle.schema.specs.Nodes.Node.{Node, node, object, map as map_of, list, Fields, no_fields, field, IsNode, AreOrdered}
 use Rattle.schema.specs.Nodes.ByPlace.{Declared, field_at}
-use Rattle.schema.proofs.Rising.{Among, among_left, among_right, among_parts, contains, each_of, all_pairs}
+use Rattle.jtree.specs.Internal.Rising.{Among, among_left, among_right, among_parts, contains, each_of, all_pairs}
 use Rattle.stored.specs.Objects.Parts.{Pair, fields, values, items, whole, pair, node_by, Part, at, free, part_of, part_by_path, leads}
 use Rattle.stored.specs.Objects.Fault.{Test, F12, F13, fails, lacks_name, is_required, repeats, are_alike, has_alike_before, finds, HasFault}
 use Rattle.stored.specs.Objects.AllFaults.{Failure, AreFailures, Told, told_of}
 use Rattle.stored.specs.Internal.FailuresByLevel.{asks, here, own_tests, own, Below, joined, value_parts, item_parts, parts, field_parts, found, whole as whole_of, at_field, told_at}
+use Rattle.stored.proofs.FieldLemmas.{field_node}
+use Rattle.stored.proofs.PartLemmas.{stays_free}
 use Rattle.stored.proofs.JoinedLemmas.{failure, Precedes, lookup, Stands, standing}
 use Rattle.stored.proofs.LevelLemmas.{among_whole, own_among, repeat_or, or_repeat, member_tree, of_field, lookup_fields, lookup_values, lookup_items, no_index_of_fields, no_index_of_values, no_name_of_items, parts_rising, found_rising}
 
@@ -67,13 +69,6 @@ repeated_there : (N : Node) (v : Data) (i : ℕ) → repeats N v i ≡ true → 
 repeated_there (node nullable description (list N type keys bounds)) (tree.list ds) i e = let w = item_there ds true i (are_alike type keys) e in (N, w.0, refl, w.1)
 repeated_there _ _ i e = cc
 
-field_node : (fs : Fields) → AreOrdered fs → (k : List ℕ) (f : Declared) → field_at k fs ≡ Some f → IsNode f.node
-field_node no_fields o k f e = cc
-field_node (field l N required default fs) o k f e = elim (bool_cases (bytes_eq k l)) [
-  | inl h ↦ subst (λ g. IsNode g.node) (same_Some (record { node = N; required = required; default = default }) f (rw h at e)) o.0
-  | inr h ↦ field_node fs o.2 k f (rw h at e)
-]
-
 item_tree : (i : ℕ) (ds : Items) (w : Data) → AreTrees ds → item_at i ds ≡ Some w → IsTree w
 item_tree i no_items w t e = cc
 item_tree zero (item d ds) w t e = subst IsTree (same_Some d w e) t.0
@@ -82,7 +77,7 @@ item_tree (suc i) (item d ds) w t e = item_tree i ds w t.1 e
 sound_below : (P : Pair) → IsSound P → (s : Step) (M : Node) (w : Data) → node_by P s ≡ Some M → part_in P s ≡ Some w → IsNode M × IsTree w
 sound_below (fields fs preserves ms) h (name k) M w e p = elim (option_cases (field_at k fs)) [
   | inl none ↦ let x = rw none at e in cc
-  | inr f ↦ let x = rw f.1 at e in (subst IsNode (same_Some f.0.node M x) (field_node fs h.0 k f.0 f.1), member_tree k ms w h.1 p)
+  | inr f ↦ let x = rw f.1 at e in (subst IsNode (same_Some f.0.node M x) (field_node k fs f.0 h.0 f.1), member_tree k ms w h.1 p)
 ]
 sound_below (values N ms) h (name k) M w e p = (subst IsNode (same_Some N M e) h.0, member_tree k ms w h.1 p)
 sound_below (items N ds) h (index i) M w e p = (subst IsNode (same_Some N M e) h.0, item_tree i ds w h.1 p)
@@ -193,19 +188,12 @@ leads_both N v s M w e = elim (option_cases (part_by v s)) [
 both_lead : (N : Node) (v : Data) (s : Step) (M : Node) (w : Data) → node_by (pair N v) s ≡ Some M → part_in (pair N v) s ≡ Some w → leads N v s ≡ Some (at M w)
 both_lead N v s M w e d = let there = part_is N v s M e ∙ d in rw (there, e) refl
 
-free_none : (v : Data) (path : Path) (M : Node) (w : Data) → part_by_path leads (free v) path ≡ Some (at M w) → ⊥
-free_none v [] M w e = cc
-free_none v (s ∷ path) M w e = elim (option_cases (part_by v s)) [
-  | inl none ↦ let x = rw none at e in cc
-  | inr u ↦ free_none u.0 path M w (rw u.1 at e)
-]
-
 abbrev LedOn : Node → Data → Step → Path → Node → Data → Type 0
 LedOn N v s path M w = (L : Node) × (u : Data) × (leads N v s ≡ Some (at L u)) × (part_by_path leads (at L u) path ≡ Some (at M w))
 
 led_by : (N : Node) (v : Data) (s : Step) (path : Path) (M : Node) (w : Data) (q : Part) → leads N v s ≡ Some q → part_by_path leads q path ≡ Some (at M w) → LedOn N v s path M w
 led_by N v s path M w (at L u) e f = (L, u, e, f)
-led_by N v s path M w (free u) e f = absurd (free_none u path M w f)
+led_by N v s path M w (free u) e f = absurd (stays_free u path M w f)
 
 led_on : (N : Node) (v : Data) (s : Step) (path : Path) (M : Node) (w : Data) → part_by_path leads (at N v) (s ∷ path) ≡ Some (at M w) → LedOn N v s path M w
 led_on N v s path M w e = elim (option_cases (leads N v s)) [

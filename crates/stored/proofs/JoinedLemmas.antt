@@ -10,7 +10,7 @@ use Rattle.jtree.specs.Path.{Step, name, index, Path}
 use Rattle.jtree.specs.PathOrder.{step_cmp, path_cmp}
 use Rattle.jtree.specs.Internal.Lookups.{bool_cases, same_name, own_name, later_name}
 use Rattle.jtree.specs.Internal.PathLaws.{same_step}
-use Rattle.schema.proofs.Rising.{Among, Rising, among_left, among_right, among_parts, rising_join}
+use Rattle.jtree.specs.Internal.Rising.{Among, Rising, among_left, among_right, among_parts, rising_join}
 use Rattle.stored.specs.Objects.Fault.{Test}
 use Rattle.stored.specs.Objects.AllFaults.{Failure, failure_cmp}
 use Rattle.stored.specs.Internal.FailuresByLevel.{Below, under, joined}

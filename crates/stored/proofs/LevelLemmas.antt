@@ -17,10 +17,11 @@ use Rattle.jtree.specs.Internal.OrderLaws.{text_same}
 use Rattle.jtree.specs.Internal.Lookups.{bool_cases, option_cases, ordering_cases, same_name, own_name, later_name, not_itself, before_none, IsNameBefore-trans}
 use Rattle.schema.specs.Nodes.Node.{Node, node, object, map, list, Fields, no_fields, field, IsNode, AreOrdered, IsBeforeFields}
 use Rattle.schema.specs.Nodes.ByPlace.{Declared, field_at}
-use Rattle.schema.proofs.Rising.{Among, Rising, among_left, among_right, among_parts, rising_join}
+use Rattle.jtree.specs.Internal.Rising.{Among, Rising, among_left, among_right, among_parts, rising_join}
 use Rattle.stored.specs.Objects.Fault.{Test, F01, F02, F03, F04, F05, F06, F07, F08, F09, F10, F11, F12, F13, F14, number, are_alike, has_alike_before}
 use Rattle.stored.specs.Objects.AllFaults.{Failure}
 use Rattle.stored.specs.Internal.FailuresByLevel.{asks, own_tests, here, failing, own, Below, joined, value_parts, item_parts, members_from, first_at, at_field, whole, parts, field_parts, found}
+use Rattle.stored.proofs.FieldLemmas.{field_after}
 use Rattle.stored.proofs.JoinedLemmas.{failure, Precedes, is_step, lookup, IsStepBefore, AreRising, Stands, stands, rising_joined}
 
 -- ---- of the value itself
@@ -156,17 +157,6 @@ member_tree k (member l c ms) d m e = elim (bool_cases (bytes_eq k l)) [
 
 -- ---- the parts by their steps
 
-fields_before : (k l : List ℕ) (fs : Fields) → text_cmp k l ≡ Less → IsBeforeFields l fs → IsBeforeFields k fs
-fields_before k l no_fields kl h = tt
-fields_before k l (field m N required default fs) kl h = nat_list_cmp_total.trans k l m kl h
-
-field_after : (l : List ℕ) (fs : Fields) → IsBeforeFields l fs → AreOrdered fs → (k : List ℕ) (f : Declared) → field_at k fs ≡ Some f → text_cmp l k ≡ Less
-field_after l no_fields b o k f e = cc
-field_after l (field m N required default fs) b o k f e = elim (bool_cases (bytes_eq k m)) [
-  | inl h ↦ subst (λ n. text_cmp l n ≡ Less) (sym (same_name k m h)) b
-  | inr h ↦ field_after l fs (fields_before l m fs b o.1) o.2 k f (rw h at e)
-]
-
 -- what is wrong at the field of a name
 abbrev pub of_field : Members → List ℕ → Declared → List Failure
 of_field ms k f = at_field f.required (λ d. found false f.node d) (member_at k ms)
@@ -177,7 +167,7 @@ lookup_fields (field l N required default fs) ms o m k = elim (bool_cases (bytes
   | inl e ↦ rw e (ap (λ v. Some (at_field required (λ d. found false N d) v)) (first_is l ms m ∙ ap (λ n. member_at n ms) (sym (same_name k l e))))
   | inr e ↦ rw (e, lookup_fields fs (members_from l ms) o.2 (ordered_from l ms m) k) (elim (option_cases (field_at k fs)) [
       | inl none ↦ rw none refl
-      | inr some ↦ rw (some.1, member_after l k ms (field_after l fs o.1 o.2 k some.0 some.1)) refl
+      | inr some ↦ rw (some.1, member_after l k ms (field_after l fs k some.0 o.1 o.2 some.1)) refl
     ])
 ]
 

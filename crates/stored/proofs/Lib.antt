@@ -1,6 +1,17 @@
 -- Laws of the definitions of this crate.
 pub mod TestLemmas
 pub mod CountLemmas
+pub mod PartLemmas
+pub mod ValidLemmas
+pub mod DefaultLemmas
+pub mod DefaultListLemmas
+pub mod FieldLemmas
+pub mod BecomingLemmas
+pub mod PrunedTrees
+pub mod Passing
+pub mod FilledParts
+pub mod FilledWalks
+pub mod PrunedPaths
 pub mod FindingLemmas
 pub mod JoinedLemmas
 pub mod LevelLemmas

@@ -2,3 +2,8 @@
 pub mod ValidByLevel
 pub mod FailuresByLevel
 pub mod ItemKeys
+pub mod DefaultList
+pub mod Becoming
+pub mod Fields
+pub mod Pruning
+pub mod Filling

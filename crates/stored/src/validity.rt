@@ -24,7 +24,7 @@ pub fn valid(node: &Node, tree: &Tree) -> bool
 }
 
 #[cycle(valid)]
-fn is_valid(node: &Node, tree: &Tree) -> bool
+pub(crate) fn is_valid(node: &Node, tree: &Tree) -> bool
     ensures { result ≡ is_valid_of (node_of node.now) (data_of tree.now) }
 {
     match (&node.sort, tree) {
@@ -60,13 +60,13 @@ fn is_within(bounds: Bounds, count: usize) -> bool
 pub(crate) fn members_count(members: &Members) -> usize
     ensures { result ≡ members_count_of members.now }
 {
-    members.members.len()
+    members.members.as_slice().len()
 }
 
 pub(crate) fn items_count(items: &Items) -> usize
     ensures { result ≡ items_count_of items.now }
 {
-    items.items.len()
+    items.items.as_slice().len()
 }
 
 /// Whether no required field is absent.
@@ -134,11 +134,12 @@ fn are_items_valid(node: &Node, items: &Items) -> bool
 fn are_apart(list: &ListNode, items: &Items) -> bool
     ensures { result ≡ are_apart_of (are_alike_of list.now.list_type list.now.keys.items) items.now }
 {
-    let items = items.items.as_slice();
-    for index in 0..items.len() {
-        if is_repeated(list, &items[index], &items[index + 1..]) {
+    let mut rest = items.items.as_slice();
+    while let [item, later @ ..] = rest {
+        if is_repeated(list, item, later) {
             return false;
         }
+        rest = later;
     }
     true
 }

@@ -1,28 +1,26 @@
 -- Which schemas are accepted: those that break none of the rules V01 to V17. V14 is asked where the sixteen others are unbroken
 -- (apiextensions.k8s.io/v1, structural schemas and defaulting; the profile is this project's own).
-use Rattle.std.specs.Prelude.{◌≡◌, ◌≢◌, ◌⊎◌, [], true, Some, codes}
+use Rattle.std.specs.Prelude.{◌≡◌, ◌≢◌, ◌⊎◌, [], true}
 use Rattle.jtree.specs.Data.{Data}
-use Rattle.jtree.specs.Path.{under}
 use Rattle.schema.specs.Document.Places.{Place}
 use Rattle.schema.specs.Document.ReadFault.{IsSound}
-use Rattle.schema.specs.Rules.Broken.{Broken, At}
+use Rattle.schema.specs.Rules.Broken.{Broken}
 use Rattle.schema.specs.Rules.Breaks.{IsUnbroken, BreaksNone, AreViolations}
 use Rattle.schema.specs.Nodes.Node.{Node}
-use Rattle.schema.specs.Nodes.ByPlace.{node_at, AreNodesOf}
+use Rattle.schema.specs.Nodes.ByPlace.{AreNodesOf}
 use Rattle.schema.specs.declared.refused.Refused.{Refused}
 use Rattle.schema.specs.declared.refused.Refused.TheVariants.{Violations, NoMemory}
 use Rattle.schema.specs.declared.violation.Rule.{Rule}
 use Rattle.schema.specs.declared.violation.Rule.TheVariants.{V14}
-use Rattle.stored.specs.Schemas.Defaults.{IsGoodDefault, HasGoodDefaults}
+use Rattle.stored.specs.Schemas.Defaults.{IsGoodDefault, HasDefault, HasGoodDefaults}
 
--- the default of a place is not good at the node of the place
+-- V14: the field at the place has a default that is not good. Fields have the defaults of their places.
 pub record HasBadDefault (raw : Data) (p : Place) : Type 0 where
   pub root : Node
   pub nodes : AreNodesOf true root raw
   pub node : Node
-  pub node_is : node_at root p ≡ Some node
   pub default : Data
-  pub default_is : At raw p (λ s. under s (codes "default") ≡ Some default)
+  pub is : HasDefault root p node default
   pub bad : IsGoodDefault node default → ⊥
 
 -- the place breaks the rule

@@ -1,7 +1,7 @@
 -- Which defaults are good (apiextensions.k8s.io/v1, "defaulting": defaults are pruned, and must be valid).
-use Rattle.std.specs.Prelude.{◌≡◌, ℕ, List, Option, Some, None}
+use Rattle.std.specs.Prelude.{◌≡◌, ℕ, List, [], ◌∷◌, ◌++◌, Option, Some, None}
 use Rattle.jtree.specs.Data.{Data, IsTree}
-use Rattle.schema.specs.Document.Places.{Place}
+use Rattle.schema.specs.Document.Places.{Place, property}
 use Rattle.schema.specs.Nodes.Node.{Node, node, object}
 use Rattle.schema.specs.Nodes.ByPlace.{Declared, field_at, node_at}
 use Rattle.stored.specs.Objects.Fault.{IsValid}
@@ -20,7 +20,17 @@ abbrev pub field_of : Node → List ℕ → Option Declared
 field_of (node nullable description (object fs preserves type bounds)) k = field_at k fs
 field_of _ k = None
 
--- all defaults of a tree of nodes are good
+-- in a tree of nodes, the field at this place has this node and this default
+pub record HasDefault (root : Node) (p : Place) (N : Node) (d : Data) : Type 0 where
+  pub before : Place
+  pub name : List ℕ
+  pub place_is : p ≡ before ++ (property name ∷ [])
+  pub object : Node
+  pub object_is : node_at root before ≡ Some object
+  pub field : Declared
+  pub field_is : field_of object name ≡ Some field
+  pub node_is : field.node ≡ N
+  pub default_is : field.default ≡ Some d
+
 abbrev pub HasGoodDefaults : Node → Type 0
-HasGoodDefaults N =
-    (p : Place) (M : Node) (k : List ℕ) (f : Declared) (d : Data) → node_at N p ≡ Some M → field_of M k ≡ Some f → f.default ≡ Some d → IsGoodDefault f.node d
+HasGoodDefaults root = (p : Place) (N : Node) (d : Data) → HasDefault root p N d → IsGoodDefault N d

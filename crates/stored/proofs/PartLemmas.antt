@@ -1,0 +1,53 @@
+-- What holds of all parts of an object: it holds of the object, and below each step.
+use Rattle.std.proofs.Common.{◌≡◌, [], ◌∷◌, Option, Some, None, refl, ap, sym, ◌∙◌, subst, inl, inr, ◌⊎◌}
+use Rattle.std.specs.Prelude.{option_map, option_and_then}
+use Rattle.jtree.specs.Data.{Data}
+use Rattle.jtree.specs.Path.{Step, Path, part_by}
+use Rattle.jtree.specs.Internal.Lookups.{option_cases}
+use Rattle.schema.specs.Nodes.Node.{Node}
+use Rattle.stored.specs.Objects.Parts.{Part, at, free, part_of, Leading, part_by_step, part_by_path, leads, Everywhere}
+
+same_node : (N M : Node) (v w : Data) → ◌≡◌ {A = Option Part} (Some (at N v)) (Some (at M w)) → N ≡ M
+same_node N M v w e = cc
+
+same_value : (N M : Node) (v w : Data) → ◌≡◌ {A = Option Part} (Some (at N v)) (Some (at M w)) → v ≡ w
+same_value N M v w e = cc
+
+-- no node stands for a free part
+pub never_free : (o : Option Data) (M : Node) (w : Data) → option_map (part_of None) o ≡ Some (at M w) → ⊥
+never_free None M w e = cc
+never_free (Some v) M w e = cc
+
+-- nor for a part below one
+pub stays_free : (v : Data) (path : Path) (M : Node) (w : Data) → part_by_path leads (free v) path ≡ Some (at M w) → ⊥
+stays_free v [] M w e = cc
+stays_free v (s ∷ path) M w e = elim (option_cases (part_by v s)) [
+  | inl none ↦ let e' = rw none at e in cc
+  | inr x ↦ stays_free x.0 path M w (rw x.1 at e)
+]
+
+part_cases : (o : Option Part) → (o ≡ None) ⊎ (((N : Node) × (v : Data) × (o ≡ Some (at N v))) ⊎ ((v : Data) × (o ≡ Some (free v))))
+part_cases None = inl refl
+part_cases (Some (at N v)) = inr (inl (N, v, refl))
+part_cases (Some (free v)) = inr (inr (v, refl))
+
+-- a step leads nowhere, to a part with a node, or to a free one
+pub step_cases : (N : Node) (v : Data) (s : Step) → (leads N v s ≡ None) ⊎ (((M : Node) × (w : Data) × (leads N v s ≡ Some (at M w))) ⊎ ((w : Data) × (leads N v s ≡ Some (free w))))
+step_cases N v s = part_cases (leads N v s)
+
+-- what a step keeps, each path keeps
+pub kept_everywhere : (Holds : Node → Data → Type 0) → ((N : Node) (v : Data) (s : Step) (M : Node) (w : Data) → Holds N v → leads N v s ≡ Some (at M w) → Holds M w)
+    → (N : Node) (v : Data) → Holds N v → Everywhere Holds N v
+kept_everywhere Holds step N v h [] M w e = subst (λ K. Holds K w) (same_node N M v w e) (subst (Holds N) (same_value N M v w e) h)
+kept_everywhere Holds step N v h (s ∷ path) M w e = elim (step_cases N v s) [
+  | inl none ↦ let e' = rw none at e in cc
+  | inr (inl part) ↦ kept_everywhere Holds step part.0 part.1 (step N v s part.0 part.1 h part.2) path M w (rw part.2 at e)
+  | inr (inr part) ↦ absurd (stays_free part.0 path M w (rw part.1 at e))
+]
+
+-- what holds everywhere holds here, and everywhere below a step
+pub holds_here : (Holds : Node → Data → Type 0) (N : Node) (v : Data) → Everywhere Holds N v → Holds N v
+holds_here Holds N v h = h [] N v refl
+
+pub holds_below : (Holds : Node → Data → Type 0) (N : Node) (v : Data) (s : Step) (M : Node) (w : Data) → Everywhere Holds N v → leads N v s ≡ Some (at M w) → Everywhere Holds M w
+holds_below Holds N v s M w h is path K x e = h (s ∷ path) K x (rw is e)

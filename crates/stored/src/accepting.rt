@@ -1,0 +1,89 @@
+//! Which schemas are accepted.
+ghost use Rattle.std.specs.Prelude.{◌≡◌, OnOk, IfOk, IfErr, map};
+ghost use Rattle.schema.specs.Nodes.View.{node_of};
+ghost use Rattle.schema.specs.Nodes.ByPlace.{AreNodesOf};
+ghost use Rattle.schema.specs.Rules.Breaks.{IsUnbroken, AreViolations, told};
+ghost use Rattle.stored.specs.Schemas.Accepted.{IsBroken, IsSchema, IsRefusal};
+ghost use Rattle.stored.specs.Internal.DefaultList.{defaults_of, AreAdded};
+
+use crate::defaults::find_bad;
+use schema::{Node, RawSchema, Refused, Shape, Violation, nodes_are_unique, shape};
+use std::alloc::{AllocError, Global};
+use std::marker::Model;
+
+/// A schema that breaks none of the rules V01 to V17, which a contract sees as the node of the root.
+#[derive(Drop)]
+pub struct Schema {
+    shape: Shape,
+}
+
+impl Model for Schema {
+    ghost use Rattle.schema.specs.Nodes.Node.{Node as NodeData};
+
+    ghost Value = { NodeData };
+
+    ghost view = { λ a. a.shape };
+
+    ghost use Rattle.stored.specs.Schemas.Accepted.{IsSchema};
+
+    ghost invariant = { λ a. IsSchema a.shape };
+}
+
+impl Schema {
+    /// The node of the body of a resource.
+    pub fn root(&self) -> &Node
+        ensures node { node_of result.now ≡ self.now }
+        ensures schema { IsSchema self.now }
+    {
+        self.shape.root()
+    }
+}
+
+/// All that is broken of the rules V01 to V17 (apiextensions.k8s.io/v1, "specifying a structural schema" and "defaulting", and
+/// this project's profile), each once, in path order of the places and then by number. V14 is judged only where none of the
+/// other sixteen is broken. `AllocError` where an allocation fails.
+pub fn violations(alloc: Global, raw: &RawSchema) -> Result<Vec<Violation>, AllocError>
+    ensures { IfOk result (λ vs. AreViolations (IsBroken raw.now) vs.items) }
+{
+    match shape(alloc, raw) {
+        Ok(shape) => {
+            nodes_are_unique();
+            bad_defaults(alloc, shape.root())
+        }
+        Err(Refused::Violations(violations)) => Ok(violations),
+        Err(Refused::NoMemory) => Err(AllocError),
+    }
+}
+
+/// The schema, where it breaks none of the rules V01 to V17 (apiextensions.k8s.io/v1, "specifying a structural schema" and
+/// "defaulting", and this project's profile). The raw schema is moved in.
+///
+/// `Violations` with all that is broken, as `violations` answers it, where some rule is. `NoMemory` where an allocation fails.
+pub fn accept(alloc: Global, raw: RawSchema) -> Result<Schema, Refused>
+    ensures nodes { IfOk result (λ s. AreNodesOf true s raw) }
+    ensures unbroken { OnOk result (IsUnbroken (IsBroken raw)) }
+    ensures refused { IfErr result (IsRefusal raw) }
+{
+    let _tree = raw.tree();
+    match shape(alloc, &raw) {
+        Ok(shape) => {
+            nodes_are_unique();
+            let found = bad_defaults(alloc, shape.root())?;
+            if found.as_slice().is_empty() {
+                Ok(Schema { shape })
+            } else {
+                Err(Refused::Violations(found))
+            }
+        }
+        Err(refused) => Err(refused),
+    }
+}
+
+/// The places below a node whose defaults are not good, as violations.
+fn bad_defaults(alloc: Global, node: &Node) -> Result<Vec<Violation>, AllocError>
+    ensures { IfOk result (λ found. AreAdded [] (defaults_of (node_of node.now)) [] (map told found.items)) }
+{
+    let mut found = Vec::new(alloc);
+    find_bad(alloc, node, "", &mut found)?;
+    Ok(found)
+}
