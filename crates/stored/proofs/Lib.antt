@@ -16,3 +16,8 @@ pub mod Passing
 pub mod FilledParts
 pub mod FilledWalks
 pub mod PrunedPaths
+pub mod FindingLemmas
+pub mod JoinedLemmas
+pub mod LevelLemmas
+pub mod FaultLemmas
+pub mod RepetitionLemmas

@@ -1,5 +1,7 @@
 -- What private contracts cite.
 pub mod ValidByLevel
+pub mod FailuresByLevel
+pub mod ItemKeys
 pub mod DefaultList
 pub mod Becoming
 pub mod Fields

@@ -2,4 +2,5 @@
 pub mod Parts
 pub mod Tests
 pub mod Fault
+pub mod AllFaults
 pub mod Becomes

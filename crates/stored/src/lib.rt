@@ -1,17 +1,22 @@
-//! What becomes of an object under an accepted schema: whether it is valid, and how it is pruned and completed.
+//! What becomes of an object under an accepted schema: whether it is valid and why not, how it is pruned, and how it is completed.
 #![tactic(auto)]
 
 mod accepting;
 mod completing;
 mod defaults;
+mod fault;
 mod fields;
 mod filling;
+mod finding;
 mod pruned;
 mod pruning;
+mod repetition;
 mod tests;
 mod validity;
 
 pub use accepting::{Schema, accept, violations};
 pub use completing::complete;
+pub use fault::Fault;
+pub use finding::faults;
 pub use pruning::prune;
 pub use validity::valid;

@@ -10,7 +10,7 @@ use Rattle.jtree.specs.PathOrder.{path_cmp}
 use Rattle.jtree.specs.Pointer.{pointer}
 use Rattle.schema.specs.Nodes.Node.{Node}
 use Rattle.stored.specs.Objects.Fault.{Test, number, HasFault}
-use Rattle.stored.specs.declared.faults.Fault.{Fault}
+use Rattle.stored.specs.declared.fault.Fault.{Fault}
 
 -- a path and the test that fails there
 pub record Failure : Type 0 where

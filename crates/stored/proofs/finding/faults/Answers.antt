@@ -1,0 +1,18 @@
+use Rattle.std.proofs.Common.{false, ap, map, ◌++◌, ◌∙◌, string_bytes}
+use Rattle.jtree.specs.View.{data_of}
+use Rattle.schema.specs.Nodes.View.{node_of}
+use Rattle.stored.specs.Objects.AllFaults.{told}
+use Rattle.stored.specs.Internal.FailuresByLevel.{found, told_at}
+use Rattle.stored.proofs.FaultLemmas.{all_failures}
+use Rattle.stored.proofs.finding.faults.Goals as goal
+
+pub returns : goal.returns
+returns c =
+    let N = node_of c.args.node.now in
+    let v = data_of c.args.tree.now in
+    let fs = found false N v in
+    (
+      fs,
+      all_failures N v c.reveal_invariant.ensures c.reveal_invariant-2.ensures,
+      ap (λ p. p.told) c.in_ok-find.ensures ∙ (ap (λ xs. map told xs ++ map (told_at (string_bytes c.new.result)) fs) c.new-2.ensures.items ∙ ap (λ at. map (told_at at) fs) c.new.ensures.bytes),
+    )

@@ -1,0 +1,80 @@
+//! Which items of a list repeat another.
+ghost use Rattle.std.specs.Prelude.{◌≡◌, ◌<◌, ◌||◌, ℕ, List, Bool, Option, IfOk, OnOk, length, map, option_map};
+ghost use Rattle.std.proofs.Common.{get_or};
+ghost use Rattle.jtree.specs.Path.{item_at, member_at};
+ghost use Rattle.jtree.specs.View.{data_of};
+ghost use Rattle.stored.specs.Objects.Fault.{are_alike, has_alike_before, items_count as items_count_of};
+ghost use Rattle.stored.specs.Internal.ItemKeys.{ItemKey, item_key, has_key, passes, key_of as view_of_key, HasKeys};
+
+use jtree::{Items, Members, Text, Tree};
+use schema::{ListNode, ListType};
+use std::alloc::{AllocError, Global};
+use std::collections::BTreeSet;
+
+/// Of each item of a list whether it may not stand beside one before it. The items are sorted by what tells them apart, in
+/// memory for a key of each.
+pub(crate) fn repeats(
+    alloc: Global,
+    list: &ListNode,
+    items: &Items,
+) -> Result<Vec<bool>, AllocError>
+    ensures count { IfOk result (λ v. length v.items ≡ items_count_of items.now) }
+    ensures each { IfOk result (λ v. (i : ℕ) (b : Bool) → i < items_count_of items.now → get_or v.items i b ≡ has_alike_before (are_alike list.now.list_type list.now.keys.items) i items.now (item_at i items.now)) }
+{
+    let mut seen = BTreeSet::new(alloc);
+    let mut repeated = Vec::with_capacity(alloc, items.items.len())?;
+    for item in &items.items {
+        repeated.push(is_seen(alloc, list, item, &mut seen)?)?;
+    }
+    Ok(repeated)
+}
+
+/// Whether the key of an item is among those of the items before it, to which it is added.
+fn is_seen<'a>(
+    alloc: Global,
+    list: &ListNode,
+    item: &'a Tree,
+    seen: &mut BTreeSet<Vec<Option<&'a Tree>>>,
+) -> Result<bool, AllocError>
+    ensures answer { IfOk result (λ found. (held : ItemKey → Bool) → HasKeys seen.old held → found ≡ passes held (item_key list.now.list_type list.now.keys.items (data_of item.now))) }
+    ensures added { OnOk result ((held : ItemKey → Bool) → HasKeys seen.old held → HasKeys seen.new (λ k. has_key (item_key list.now.list_type list.now.keys.items (data_of item.now)) k || held k)) }
+{
+    match key_of(alloc, list, item)? {
+        Some(key) => Ok(!seen.insert(key)?),
+        None => Ok(false),
+    }
+}
+
+/// What tells an item apart: in a set the item itself, in a map list the values of an object under the keys.
+fn key_of<'a>(
+    alloc: Global,
+    list: &ListNode,
+    item: &'a Tree,
+) -> Result<Option<Vec<Option<&'a Tree>>>, AllocError>
+    ensures { IfOk result (λ key. option_map view_of_key key ≡ item_key list.now.list_type list.now.keys.items (data_of item.now)) }
+{
+    match (list.list_type, item) {
+        (ListType::Set, _) => {
+            let mut key = Vec::with_capacity(alloc, 1)?;
+            key.push(Some(item))?;
+            Ok(Some(key))
+        }
+        (ListType::Map, Tree::Object(members)) => Ok(Some(values_at(alloc, &list.keys, members)?)),
+        _ => Ok(None),
+    }
+}
+
+/// The values of an object under the keys, in the order of the keys.
+fn values_at<'a>(
+    alloc: Global,
+    keys: &[Text],
+    members: &'a Members,
+) -> Result<Vec<Option<&'a Tree>>, AllocError>
+    ensures { IfOk result (λ values. view_of_key values ≡ map (λ k. member_at k members.now) keys.now) }
+{
+    let mut values = Vec::with_capacity(alloc, keys.len())?;
+    for key in keys {
+        values.push(members.get(key.as_str()))?;
+    }
+    Ok(values)
+}
