@@ -1,11 +1,9 @@
 // Which rules a place breaks.
-ghost use Rattle.std.specs.Prelude.{◌≡◌, ◌↔◌, ◌&&◌, IsTrue, codes};
+ghost use Rattle.std.specs.Prelude.{◌≡◌, ◌↔◌, IsTrue};
 ghost use Rattle.jtree.specs.Data.{Data, object};
 ghost use Rattle.schema.specs.Document.Places.{property, ends_with, is_inside as is_inside_of, is_envelope as is_envelope_of};
 ghost use Rattle.schema.specs.Internal.PlaceView.{step_of, place_of};
 ghost use Rattle.schema.specs.Rules.Broken.{Broken, metadata, is_field as is_field_of, ends_in_field as ends_in_field_of, metadata_names};
-ghost use Rattle.schema.specs.Rules.Keywords.{has as has_of};
-ghost use Rattle.schema.specs.Rules.Kinds.{is_int_or_string};
 ghost use Rattle.schema.specs.Rules.Lists.{has_bad_list_type, has_bad_keys, has_bad_set_items, has_bad_map_type};
 ghost use Rattle.schema.specs.Rules.Profile.{is_property as is_property_of, has_misplaced_default as has_misplaced_default_at, has_bad_junctor as has_bad_junctor_at, is_outside_profile as is_outside_profile_at, is_root as is_root_of};
 ghost use Rattle.schema.specs.Document.Texts.{is_among};
@@ -39,7 +37,11 @@ pub(crate) fn is_broken(subschema: &Subschema<'_>, rule: Rule) -> bool
         Rule::V07 => has_false(subschema.schema, "additionalProperties"),
         Rule::V08 => has(subschema.schema, "properties")
             && has(subschema.schema, "additionalProperties"),
-        Rule::V09 => !is_inside(place) && has_both_types(subschema.schema),
+        Rule::V09 => {
+            !is_inside(place)
+                && has_true(subschema.schema, "x-kubernetes-int-or-string")
+                && has(subschema.schema, "type")
+        }
         Rule::V10 => !is_inside(place) && bad_list_type(subschema.schema),
         Rule::V11 => !is_inside(place) && bad_keys(subschema.schema),
         Rule::V12 => !is_inside(place) && bad_set_items(subschema.schema),
@@ -78,13 +80,6 @@ fn restricts_metadata(subschema: &Subschema<'_>) -> bool
             || has_other_text(subschema.schema, "type", &["", "object"]);
     }
     is_other_field(place)
-}
-
-/// V09: an int-or-string has a type.
-fn has_both_types(schema: &Members) -> bool
-    ensures { result ≡ (is_int_or_string (object schema.now) && has_of (object schema.now) (codes "type")) }
-{
-    has_true(schema, "x-kubernetes-int-or-string") && has(schema, "type")
 }
 
 /// V15: a default stands where no field of the body does.

@@ -35,6 +35,7 @@ pub record IsCrd (d : Data) (group kind : List ℕ) (versions : Items) : Type 0 
 abbrev pub IsVersion : Items → List ℕ → Data → Type 0
 IsVersion versions s v = (i : ℕ) × (item_at i versions ≡ Some v) × IsNamed v s
 
+-- a schema is a JSON object; its members are its keywords, whatever their names (JSONSchemaProps)
 abbrev pub IsObject : Data → Type 0
 IsObject v = (ms : Members) × (v ≡ object ms)
 
