@@ -7,7 +7,7 @@ use Rattle.jtree.specs.Data.{Data, Members, no_members, member, AreMembers, IsTr
 use Rattle.jtree.specs.Data as tree
 use Rattle.jtree.specs.Path.{name, member_at, under, part_at}
 use Rattle.jtree.specs.Internal.Lookups.{bool_cases, same_name, member_later, member_tail}
-use Rattle.schema.specs.Document.Raw.{IsObject}
+use Rattle.schema.specs.Document.Crd.{IsObject}
 use Rattle.schema.specs.Document.Texts.{is_among}
 use Rattle.schema.specs.Document.Places.{Step, Place, property, map_value, items, step_path, only_object, schema_by, schema_at, IsPlace, is_inside, is_envelope_name}
 use Rattle.schema.specs.Rules.Kinds as kinds

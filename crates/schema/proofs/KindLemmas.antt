@@ -5,7 +5,8 @@ use Rattle.std.specs.Str.{bytes_eq}
 use Rattle.std.proofs.lemmas.Option.{same_Some}
 use Rattle.jtree.specs.Data.{Data, text, object}
 use Rattle.jtree.specs.Path.{under}
-use Rattle.schema.specs.Document.Raw.{HasObject, IsObject}
+use Rattle.schema.specs.Document.Crd.{IsObject}
+use Rattle.schema.specs.Internal.Building.{HasObject}
 use Rattle.schema.specs.Rules.Keywords.{has_other_text}
 use Rattle.schema.specs.Rules.Kinds as kinds
 use Rattle.schema.specs.Rules.Kinds.{Kind, IsOfKind, open_, map, is_object_kind, kind_of, typed_kind, named_kind, untyped_kind, object_kind, is_int_or_string, preserves, lacks_type}

@@ -5,33 +5,32 @@ use Rattle.std.specs.Str.{bytes_eq}
 use Rattle.jtree.specs.Data.{Data, object, Members, no_members, member}
 use Rattle.jtree.specs.Path.{under, member_at}
 use Rattle.jtree.specs.Internal.Lookups.{bool_cases, same_name}
-use Rattle.schema.specs.Document.Raw.{HasObject}
 use Rattle.schema.specs.Document.Places.{Place, schema_at, is_inside}
-use Rattle.schema.specs.Rules.Keywords.{has_other_name, has_other_keyword}
+use Rattle.schema.specs.Rules.Keywords.{has_name, has_keyword}
 use Rattle.schema.specs.Rules.Kinds as kinds
 use Rattle.schema.specs.Rules.Kinds.{Kind, IsOfKind, kind_of}
 use Rattle.schema.specs.Rules.Profile.{is_keyword_of, has_foreign_keyword, is_bad_root, is_bad_preserving, is_root, is_outside_profile}
 use Rattle.schema.specs.Rules.Breaks.{BreaksNone}
-use Rattle.schema.specs.Internal.Building.{HasOwnParts, HaveOwnParts}
+use Rattle.schema.specs.Internal.Building.{HasObject, HasOwnParts, HaveOwnParts}
 use Rattle.schema.specs.declared.violation.Rule.TheVariants.{V08, V17}
 use Rattle.schema.proofs.KindLemmas.{map_has_object, object_has_none}
 use Rattle.schema.proofs.ShapeLemmas.{or_right, or_left, some_kind}
 
--- a keyword that is not known is another keyword
-other_name : (is_known : List ℕ → Bool) (ms : Members) (w : List ℕ) → member_at w ms ≢ None → is_known w ≡ false → has_other_name is_known ms ≡ true
-other_name is_known no_members w has none = absurd (has refl)
-other_name is_known (member k d ms) w has none = elim (bool_cases (bytes_eq w k)) [
-  | inl same ↦ let unknown : is_known k ≡ false = subst (λ l. is_known l ≡ false) (same_name w k same) none in or_left (not (is_known k)) _ (rw unknown refl)
-  | inr other ↦ or_right (not (is_known k)) _ (other_name is_known ms w (λ no. has (rw other no)) none)
+-- a keyword that is there and passes a test
+named : (test : List ℕ → Bool) (ms : Members) (w : List ℕ) → member_at w ms ≢ None → test w ≡ true → has_name test ms ≡ true
+named test no_members w has is = absurd (has refl)
+named test (member k d ms) w has is = elim (bool_cases (bytes_eq w k)) [
+  | inl same ↦ or_left (test k) _ (subst (λ l. test l ≡ true) (same_name w k same) is)
+  | inr other ↦ or_right (test k) _ (named test ms w (λ no. has (rw other no)) is)
 ]
 
-other_keyword : (is_known : List ℕ → Bool) (s : Data) (w : List ℕ) (ms : Members) → under s w ≡ Some (object ms) → is_known w ≡ false → has_other_keyword is_known s ≡ true
-other_keyword is_known (object ns) w ms has none = other_name is_known ns w (λ no. cc) none
-other_keyword is_known s w ms has none = absurd (cc)
+keyword_named : (test : List ℕ → Bool) (s : Data) (w : List ℕ) (ms : Members) → under s w ≡ Some (object ms) → test w ≡ true → has_keyword test s ≡ true
+keyword_named test (object ns) w ms has is = named test ns w (λ no. cc) is
+keyword_named test s w ms has is = absurd (cc)
 
 foreign : (root : Bool) (s : Data) (kind : Kind) (w : List ℕ) → kind_of s ≡ Some kind → is_keyword_of kind w ≡ false → HasObject s w → is_outside_profile root s ≡ true
 foreign root s kind w is none at =
-    let stands : has_foreign_keyword (kind_of s) s ≡ true = rw is (other_keyword (is_keyword_of kind) s w at.0 at.1 none) in
+    let stands : has_foreign_keyword (kind_of s) s ≡ true = rw is (keyword_named (λ k. not (is_keyword_of kind k)) s w at.0 at.1 (rw none refl)) in
     or_left _ _ (or_right (root && is_bad_root s) _ (or_right _ _ (or_right (is_bad_preserving s) _ stands)))
 
 module _ (raw : Data) (none : BreaksNone raw) (p : Place) (s : Data) (outside : is_inside p ≡ false) (at : schema_at raw p ≡ Some s) where
@@ -39,7 +38,7 @@ module _ (raw : Data) (none : BreaksNone raw) (p : Place) (s : Data) (outside : 
   no_foreign kind w is unknown here = none p V17 (outside, (s, at, foreign (is_root p) s kind w is unknown here))
 
   no_map_properties : HasObject s (codes "properties") → HasObject s (codes "additionalProperties") → ⊥
-  no_map_properties one other = none p V08 (s, at, (λ no. let some = one.1 in cc, λ no. let some = other.1 in cc))
+  no_map_properties one other = none p V08 (s, at, rw (one.1, other.1) refl)
 
   own_properties : (kind : Kind) → kind_of s ≡ Some kind → HasObject s (codes "properties") → IsOfKind s kinds.object
   own_properties (kinds.scalar k) is here = absurd (no_foreign _ _ is refl here)

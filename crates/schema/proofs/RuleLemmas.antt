@@ -1,58 +1,17 @@
 -- What a subschema shows of the rules at its place.
-use Rattle.std.proofs.Common.{◌≡◌, ◌⊎◌, ℕ, List, [], ◌∷◌, ◌++◌, Bool, true, false, Some, refl, sym, ap, ◌∙◌, subst, inl, inr, zero, suc, ◌+◌, ◌-◌, ◌<◌, ◌≤◌, length, get_or, drop, arith}
-use Rattle.std.specs.Prelude.{◌↔◌, ◌||◌, not, IsTrue, codes, map}
-use Rattle.std.specs.Str.{bytes_eq}
+use Rattle.std.proofs.Common.{◌≡◌, ℕ, List, [], ◌∷◌, ◌++◌, Bool, true, false, Some, refl, sym, ap, ◌∙◌, subst, inl, inr, zero, suc, ◌-◌, ◌<◌, ◌≤◌, length, get_or, arith}
+use Rattle.std.specs.Prelude.{◌↔◌, not, IsTrue, codes}
 use Rattle.std.proofs.lemmas.Option.{same_Some}
-use Rattle.std.proofs.lemmas.List.{at_drop_more}
 use Rattle.jtree.specs.View.{items_of}
 use Rattle.jtree.specs.declared.value.Tree.{Tree}
 use Rattle.jtree.specs.Data.{Data}
-use Rattle.jtree.specs.Internal.Lookups.{same_name, own_name}
-use Rattle.schema.specs.Document.Raw.{Has}
 use Rattle.schema.specs.Document.Texts.{is_among}
 use Rattle.schema.specs.Document.Places.{Step, Place, property, is_junctor, is_inside, ends_with, schema_at}
 use Rattle.schema.specs.Internal.PlaceView.{step_of, place_of}
 use Rattle.schema.specs.declared.places.Step.{Step as CodeStep}
 use Rattle.schema.specs.Rules.Keywords.{is_empty}
-use Rattle.schema.specs.Rules.Broken.{metadata_names, HasOneOf, metadata, Passes, PassesOutside, RestrictsMetadata, metadata_keyword, metadata_type, metadata_field}
+use Rattle.schema.specs.Rules.Broken.{metadata_names, metadata, Passes, PassesOutside, RestrictsMetadata, metadata_keyword, metadata_type, metadata_field}
 use Rattle.schema.specs.Internal.RuleParts.{IsOtherName, IsOtherField, Restricts}
-
--- ---- one of several keywords
-
-or_cases : (a b : Bool) → (a || b) ≡ true → (a ≡ true) ⊎ (b ≡ true)
-or_cases true b h = inl refl
-or_cases false b h = inr h
-
-or_right : (a b : Bool) → b ≡ true → (a || b) ≡ true
-or_right true b h = refl
-or_right false b h = h
-
-pub one_of_first : (w : List ℕ) (ws : List (List ℕ)) (s : Data) → Has s w → HasOneOf (w ∷ ws) s
-one_of_first w ws s h = (w, rw own_name refl, h)
-
-pub one_of_next : (w : List ℕ) (ws : List (List ℕ)) (s : Data) → (Has s w → ⊥) → HasOneOf ws s ↔ HasOneOf (w ∷ ws) s
-one_of_next w ws s none = (
-  λ h. (h.0, or_right (bytes_eq h.0 w) (is_among h.0 ws) h.1, h.2),
-  λ h. elim (or_cases (bytes_eq h.0 w) (is_among h.0 ws) h.1) [
-    | inl first ↦ absurd (none (subst (Has s) (same_name h.0 w first) h.2))
-    | inr later ↦ (h.0, later, h.2)
-  ],
-)
-
-pub keywords_next : {X : Type 0} (f : X → List ℕ) (xs : List X) (i : ℕ) (d : X) (s : Data) (Whole : Type 0) → i < length xs
-    → IsTrue false ↔ Has s (f (get_or xs i d)) → HasOneOf (map f (drop i xs)) s ↔ Whole → HasOneOf (map f (drop (i + 1) xs)) s ↔ Whole
-keywords_next f xs i d s Whole within none all =
-    let split : map f (drop i xs) ≡ f (get_or xs i d) ∷ map f (drop (i + 1) xs) = at_drop_more (map f) xs i d within in
-    let next = one_of_next (f (get_or xs i d)) (map f (drop (i + 1) xs)) s (λ h. let no : false ≡ true = none.1 h in cc) in (
-      λ h. all.0 (subst (λ ws. HasOneOf ws s) (sym split) (next.0 h)),
-      λ w. next.1 (subst (λ ws. HasOneOf ws s) split (all.1 w)),
-    )
-
-pub keywords_found : {X : Type 0} (f : X → List ℕ) (xs : List X) (i : ℕ) (d : X) (s : Data) (Whole : Type 0) → i < length xs
-    → IsTrue true ↔ Has s (f (get_or xs i d)) → HasOneOf (map f (drop i xs)) s ↔ Whole → IsTrue true ↔ Whole
-keywords_found f xs i d s Whole within some all =
-    let split : map f (drop i xs) ≡ f (get_or xs i d) ∷ map f (drop (i + 1) xs) = at_drop_more (map f) xs i d within in
-    (λ e. all.0 (subst (λ ws. HasOneOf ws s) (sym split) (one_of_first (f (get_or xs i d)) (map f (drop (i + 1) xs)) s (some.0 refl))), λ w. refl)
 
 -- ---- what is left of members, items and texts
 

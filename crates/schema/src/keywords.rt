@@ -1,31 +1,28 @@
 // What a rule reads of the keywords of a schema.
-ghost use Rattle.std.specs.Prelude.{◌≡◌, ◌↔◌, map, option_map, option_and_then, IsTrue};
+ghost use Rattle.std.specs.Prelude.{◌≡◌, map, option_map, option_and_then};
 ghost use Rattle.jtree.specs.Data.{object, item, no_items};
-ghost use Rattle.jtree.specs.Path.{member_at};
+ghost use Rattle.jtree.specs.Path.{member_at, under};
 ghost use Rattle.jtree.specs.View.{data_of, items_of};
 ghost use Rattle.schema.specs.Document.Places.{only_object};
-ghost use Rattle.schema.specs.Document.Raw.{Has, HasTrue, HasFalse};
 ghost use Rattle.schema.specs.Document.Texts.{is_among};
-ghost use Rattle.schema.specs.Internal.KindView.{kind_view, is_known_in};
-ghost use Rattle.schema.specs.Rules.Broken.{HasOneOf, metadata_keywords};
+ghost use Rattle.schema.specs.Internal.KindView.{kind_view, is_asked as is_asked_by};
+ghost use Rattle.schema.specs.Rules.Broken.{metadata_keywords};
 ghost use Rattle.schema.specs.Rules.Profile.{is_branch_keyword as is_branch_keyword_of, is_common_keyword as is_common_keyword_of, own_keywords, keywords_of_all, junctor_keywords, outside_keywords, unsupported_keywords, keywords_of_scalars, keywords_of_objects, keywords_of_lists};
-ghost use Rattle.schema.specs.Rules.Keywords.{flag, has as has_keyword, has_text_among as has_text_of, has_other_text as has_other_text_than, has_other_name, is_empty as is_empty_list, texts_of, texts_under};
+ghost use Rattle.schema.specs.Rules.Keywords.{is_false, flag, has as has_of, has_text_among as has_text_of, has_other_text as has_other_text_than, has_name, is_empty as is_empty_list, texts_of, texts_under};
 
 use crate::kinds::Kind;
 use jtree::{Members, Tree};
 
 /// Whether a keyword is there.
 pub(crate) fn has(schema: &Members, keyword: &str) -> bool
-    ensures is { IsTrue result ↔ Has (object schema.now) keyword.now }
-    ensures value { result ≡ has_keyword (object schema.now) keyword.now }
+    ensures { result ≡ has_of (object schema.now) keyword.now }
 {
     schema.get(keyword).is_some()
 }
 
 /// Whether a keyword is there and is true.
 pub(crate) fn has_true(schema: &Members, keyword: &str) -> bool
-    ensures is { IsTrue result ↔ HasTrue (object schema.now) keyword.now }
-    ensures value { result ≡ flag (object schema.now) keyword.now }
+    ensures { result ≡ flag (object schema.now) keyword.now }
 {
     match schema.get(keyword) {
         Some(Tree::Bool(value)) => *value,
@@ -35,7 +32,7 @@ pub(crate) fn has_true(schema: &Members, keyword: &str) -> bool
 
 /// Whether a keyword is there and is false.
 pub(crate) fn has_false(schema: &Members, keyword: &str) -> bool
-    ensures { IsTrue result ↔ HasFalse (object schema.now) keyword.now }
+    ensures { result ≡ is_false (under (object schema.now) keyword.now) }
 {
     match schema.get(keyword) {
         Some(Tree::Bool(value)) => !*value,
@@ -43,48 +40,47 @@ pub(crate) fn has_false(schema: &Members, keyword: &str) -> bool
     }
 }
 
-/// Whether one of these keywords is there.
-pub(crate) fn has_one_of(schema: &Members, keywords: &[&str]) -> bool
-    ensures { IsTrue result ↔ HasOneOf (map (λ w. w.now) keywords.now) (object schema.now) }
-{
-    for keyword in keywords {
-        if has(schema, keyword) {
-            return true;
-        }
-    }
-    false
-}
-
-/// Which keywords are known.
+/// Which keywords are asked for.
 #[derive(Clone, Copy, Drop)]
 pub(crate) enum Keywords {
-    /// Those of the schema of `metadata`.
-    OfMetadata,
-    /// Those of a branch of a junctor.
-    OfBranch,
-    /// Those of a place of a kind.
-    OfKind(Kind),
+    /// Those with branches.
+    Junctors,
+    /// Those that no branch of a junctor may have, besides `type`.
+    Outside,
+    /// Those that no place may have.
+    Unsupported,
+    /// All but those of the schema of `metadata`.
+    BesideMetadata,
+    /// All but those of a branch of a junctor.
+    BesideBranch,
+    /// All but those of a place of a kind.
+    BesideKind(Kind),
 }
 
-/// Whether a keyword is there that is not known.
-pub(crate) fn has_other_keyword(schema: &Members, known: Keywords) -> bool
-    ensures { result ≡ has_other_name (is_known_in known) schema.now }
+/// Whether such a keyword is there.
+pub(crate) fn has_keyword(schema: &Members, keywords: Keywords) -> bool
+    ensures { result ≡ has_name (is_asked_by keywords) schema.now }
 {
     for member in &schema.members {
-        if !is_known(member.name.as_str(), known) {
+        if is_asked(member.name.as_str(), keywords) {
             return true;
         }
     }
     false
 }
 
-fn is_known(keyword: &str, known: Keywords) -> bool
-    ensures { result ≡ is_known_in known keyword.now }
+fn is_asked(keyword: &str, keywords: Keywords) -> bool
+    ensures { result ≡ is_asked_by keywords keyword.now }
 {
-    match known {
-        Keywords::OfMetadata => is_metadata_keyword(keyword),
-        Keywords::OfBranch => is_branch_keyword(keyword),
-        Keywords::OfKind(kind) => is_common_keyword(keyword) || is_own_keyword(keyword, kind),
+    match keywords {
+        Keywords::Junctors => is_junctor_keyword(keyword),
+        Keywords::Outside => is_outside_keyword(keyword),
+        Keywords::Unsupported => is_unsupported_keyword(keyword),
+        Keywords::BesideMetadata => !is_metadata_keyword(keyword),
+        Keywords::BesideBranch => !is_branch_keyword(keyword),
+        Keywords::BesideKind(kind) => {
+            !(is_common_keyword(keyword) || is_own_keyword(keyword, kind))
+        }
     }
 }
 

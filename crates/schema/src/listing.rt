@@ -7,7 +7,7 @@ ghost use Rattle.schema.specs.Document.Limits.{size as size_of, IsWithinLimits, 
 ghost use Rattle.schema.specs.Internal.Events.{Event, entered, part_of as part_of_keyword, is_past, part_events, member_events, item_events, schema_events, subschemas_of, limit_break, branch as branch_of, properties as properties_part, branches};
 ghost use Rattle.schema.specs.Internal.Faults.{IsLimitRefusal, IsLimitFaultOf};
 ghost use Rattle.schema.specs.Document.Places.{Place, only_object, schema_by};
-ghost use Rattle.schema.specs.Rules.Broken.{IsIntOrString, pattern, holder, typed, HasAnyPattern, HasAllPattern};
+ghost use Rattle.schema.specs.Rules.Broken.{pattern, holder, typed, HasAnyPattern, HasAllPattern};
 ghost use Rattle.schema.specs.Internal.Contexts.{is_any as is_any_step, is_first_of_all as is_first_of_all_step, outer_by, IsContext, StandsAs};
 ghost use Rattle.schema.specs.Internal.Subschemas.{IsSubschema, AreSubschemas};
 ghost use Rattle.schema.specs.Internal.PlaceView.{step_of, place_of, junctor_of, part_view, subschema_of};
@@ -187,7 +187,7 @@ fn has_any_pattern(schema: &Members) -> bool
     ensures { IsTrue result ↔ HasAnyPattern (object schema.now) }
 {
     match schema.get("anyOf") {
-        Some(any) => is_pattern(any) && is_int_or_string(schema),
+        Some(any) => is_pattern(any) && has_true(schema, "x-kubernetes-int-or-string"),
         None => false,
     }
 }
@@ -197,15 +197,9 @@ fn has_all_pattern(schema: &Members) -> bool
     ensures { IsTrue result ↔ HasAllPattern (object schema.now) }
 {
     match schema.get("allOf") {
-        Some(all) => begins_with_holder(all) && is_int_or_string(schema),
+        Some(all) => begins_with_holder(all) && has_true(schema, "x-kubernetes-int-or-string"),
         None => false,
     }
-}
-
-fn is_int_or_string(schema: &Members) -> bool
-    ensures { IsTrue result ↔ IsIntOrString (object schema.now) }
-{
-    has_true(schema, "x-kubernetes-int-or-string")
 }
 
 fn begins_with_holder(tree: &Tree) -> bool

@@ -1,11 +1,11 @@
 // Which rules a place breaks.
-ghost use Rattle.std.specs.Prelude.{◌≡◌, ◌↔◌, false, IsTrue};
+ghost use Rattle.std.specs.Prelude.{◌≡◌, ◌↔◌, IsTrue};
 ghost use Rattle.jtree.specs.Data.{Data, object};
 ghost use Rattle.schema.specs.Document.Places.{property, ends_with, is_inside as is_inside_of, is_envelope as is_envelope_of};
 ghost use Rattle.schema.specs.Internal.PlaceView.{step_of, place_of};
-ghost use Rattle.schema.specs.Rules.Broken.{Broken, metadata, is_field as is_field_of, ends_in_field as ends_in_field_of, HasOneOf, metadata_names, HasBothTypes};
+ghost use Rattle.schema.specs.Rules.Broken.{Broken, metadata, is_field as is_field_of, ends_in_field as ends_in_field_of, metadata_names};
 ghost use Rattle.schema.specs.Rules.Lists.{has_bad_list_type, has_bad_keys, has_bad_set_items, has_bad_map_type};
-ghost use Rattle.schema.specs.Rules.Profile.{unsupported_keywords, is_property as is_property_of, has_misplaced_default as has_misplaced_default_at, has_bad_junctor as has_bad_junctor_at, is_outside_profile as is_outside_profile_at, is_root as is_root_of};
+ghost use Rattle.schema.specs.Rules.Profile.{is_property as is_property_of, has_misplaced_default as has_misplaced_default_at, has_bad_junctor as has_bad_junctor_at, is_outside_profile as is_outside_profile_at, is_root as is_root_of};
 ghost use Rattle.schema.specs.Document.Texts.{is_among};
 ghost use Rattle.schema.specs.Internal.RuleParts.{IsOtherName, IsOtherField, IsUnspecified, HasOutsideKeyword, Restricts};
 ghost use Rattle.schema.specs.Internal.Subschemas.{IsSubschema};
@@ -13,14 +13,12 @@ ghost use Rattle.schema.specs.Internal.Subschemas.{IsSubschema};
 mod lists;
 mod profile;
 
-use crate::keywords::{
-    Keywords, has, has_false, has_one_of, has_other_keyword, has_other_text, has_true,
-};
-use crate::kinds::lacks_type;
+use crate::keywords::{Keywords, has, has_false, has_keyword, has_other_text, has_true};
+use crate::kinds::{is_scalar, lacks_type};
 use crate::listing::Subschema;
 use crate::places::{Step, is_envelope, is_junctor};
 use crate::rules::lists::{bad_keys, bad_list_type, bad_map_type, bad_set_items};
-use crate::rules::profile::{has_junctor_beside_scalar, is_bad_branch, is_outside_profile};
+use crate::rules::profile::{is_bad_branch, is_outside_profile};
 use crate::violation::Rule;
 use jtree::Members;
 
@@ -34,12 +32,16 @@ pub(crate) fn is_broken(subschema: &Subschema<'_>, rule: Rule) -> bool
         Rule::V02 => is_unspecified(subschema),
         Rule::V03 => has_outside_keyword(subschema),
         Rule::V04 => restricts_metadata(subschema),
-        Rule::V05 => has_unsupported_keyword(subschema),
+        Rule::V05 => has_keyword(subschema.schema, Keywords::Unsupported),
         Rule::V06 => has_true(subschema.schema, "uniqueItems"),
         Rule::V07 => has_false(subschema.schema, "additionalProperties"),
         Rule::V08 => has(subschema.schema, "properties")
             && has(subschema.schema, "additionalProperties"),
-        Rule::V09 => has_both_types(subschema),
+        Rule::V09 => {
+            !is_inside(place)
+                && has_true(subschema.schema, "x-kubernetes-int-or-string")
+                && has(subschema.schema, "type")
+        }
         Rule::V10 => !is_inside(place) && bad_list_type(subschema.schema),
         Rule::V11 => !is_inside(place) && bad_keys(subschema.schema),
         Rule::V12 => !is_inside(place) && bad_set_items(subschema.schema),
@@ -63,9 +65,8 @@ fn is_unspecified(subschema: &Subschema<'_>) -> bool
 fn has_outside_keyword(subschema: &Subschema<'_>) -> bool
     ensures { IsTrue result ↔ HasOutsideKeyword subschema.now }
 {
-    let keywords = ["description", "default", "additionalProperties", "nullable"];
     is_inside(subschema.place.as_slice())
-        && (has_one_of(subschema.schema, &keywords)
+        && (has_keyword(subschema.schema, Keywords::Outside)
             || (has(subschema.schema, "type") && !subschema.in_pattern))
 }
 
@@ -75,38 +76,10 @@ fn restricts_metadata(subschema: &Subschema<'_>) -> bool
 {
     let place = subschema.place.as_slice();
     if is_metadata(place) {
-        return has_other_keyword(subschema.schema, Keywords::OfMetadata)
+        return has_keyword(subschema.schema, Keywords::BesideMetadata)
             || has_other_text(subschema.schema, "type", &["", "object"]);
     }
     is_other_field(place)
-}
-
-/// V05: a keyword that is not supported.
-fn has_unsupported_keyword(subschema: &Subschema<'_>) -> bool
-    ensures { IsTrue result ↔ HasOneOf unsupported_keywords (object subschema.now.schema.now) }
-{
-    let keywords = [
-        "definitions",
-        "dependencies",
-        "deprecated",
-        "discriminator",
-        "id",
-        "patternProperties",
-        "readOnly",
-        "writeOnly",
-        "xml",
-        "$ref",
-    ];
-    has_one_of(subschema.schema, &keywords)
-}
-
-/// V09: an outside place that is int-or-string has a type.
-fn has_both_types(subschema: &Subschema<'_>) -> bool
-    ensures { IsTrue result ↔ ((is_inside_of (place_of subschema.now.place.items) ≡ false) × HasBothTypes (object subschema.now.schema.now)) }
-{
-    !is_inside(subschema.place.as_slice())
-        && has_true(subschema.schema, "x-kubernetes-int-or-string")
-        && has(subschema.schema, "type")
 }
 
 /// V15: a default stands where no field of the body does.
@@ -123,7 +96,7 @@ fn has_bad_junctor(place: &[Step<'_>], schema: &Members) -> bool
     if is_inside(place) {
         is_bad_branch(schema)
     } else {
-        has_junctor_beside_scalar(schema)
+        has_keyword(schema, Keywords::Junctors) && !is_scalar(schema)
     }
 }
 

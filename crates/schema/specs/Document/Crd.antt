@@ -1,8 +1,7 @@
 -- What is read of a CustomResourceDefinition in JSON (apiextensions.k8s.io/v1).
 use Rattle.std.specs.Prelude.{◌≡◌, ◌≢◌, ℕ, List, [], Some, codes}
-use Rattle.jtree.specs.Data.{Data, text, list, Items}
+use Rattle.jtree.specs.Data.{Data, Members, text, list, object, Items}
 use Rattle.jtree.specs.Path.{item_at, under, under2, under3}
-use Rattle.schema.specs.Document.Raw.{IsObject}
 
 -- a version has this name
 abbrev pub IsNamed : Data → List ℕ → Type 0
@@ -35,6 +34,10 @@ pub record IsCrd (d : Data) (group kind : List ℕ) (versions : Items) : Type 0 
 -- v is the version of this name
 abbrev pub IsVersion : Items → List ℕ → Data → Type 0
 IsVersion versions s v = (i : ℕ) × (item_at i versions ≡ Some v) × IsNamed v s
+
+-- a schema is a JSON object; its members are its keywords, whatever their names (JSONSchemaProps)
+abbrev pub IsObject : Data → Type 0
+IsObject v = (ms : Members) × (v ≡ object ms)
 
 -- s is the schema of a version
 abbrev pub IsSchemaOf : Data → Data → Type 0

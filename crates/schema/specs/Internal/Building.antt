@@ -1,11 +1,10 @@
 -- For private contracts: what is known of the schemas from which nodes are made.
 use Rattle.std.specs.Prelude.{◌≡◌, ◌⊎◌, ℕ, List, Bool, true, false, Some, None, option_map, codes}
-use Rattle.jtree.specs.Data.{Data, Members}
+use Rattle.jtree.specs.Data.{Data, Members, object}
 use Rattle.jtree.specs.Path.{member_at, under}
 use Rattle.jtree.specs.View.{data_of}
 use Rattle.jtree.specs.declared.value.Member.{Member}
 use Rattle.schema.specs.Document.Texts.{is_among}
-use Rattle.schema.specs.Document.Raw.{HasObject}
 use Rattle.schema.specs.Document.Places.{Place, items, schema_by, schema_at}
 use Rattle.schema.specs.Rules.Kinds as kinds
 use Rattle.schema.specs.Rules.Kinds.{kind_of, IsOfKind}
@@ -33,6 +32,10 @@ pub record IsFieldOf (f : Field) (schema : Data) (property : Member) : Type 0 wh
   pub node : IsNodeOf false (node_of f.node) (data_of property.tree)
   pub required : f.required ≡ is_among property.name (texts_under schema (codes "required"))
   pub default : option_map data_of f.default ≡ under (data_of property.tree) (codes "default")
+
+-- the keyword is there, and is an object
+abbrev pub HasObject : Data → List ℕ → Type 0
+HasObject s k = (ms : Members) × (under s k ≡ Some (object ms))
 
 -- keywords that hold schemas stand where the kind has them: `properties` in objects, a schema of values in maps, `items` in
 -- lists

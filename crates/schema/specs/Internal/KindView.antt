@@ -1,10 +1,10 @@
 -- For private contracts: which kind the kinds of the code stand for.
-use Rattle.std.specs.Prelude.{ℕ, List, Bool, Option, Some, None}
+use Rattle.std.specs.Prelude.{ℕ, List, Bool, Option, Some, None, not}
 use Rattle.jtree.specs.Data.{Data}
 use Rattle.schema.specs.Document.Texts.{is_among}
 use Rattle.schema.specs.Rules.Kinds as kinds
 use Rattle.schema.specs.Rules.Broken.{metadata_keywords}
-use Rattle.schema.specs.Rules.Profile.{is_branch_keyword, is_keyword_of, accepts, is_scalar_value}
+use Rattle.schema.specs.Rules.Profile.{junctor_keywords, outside_keywords, unsupported_keywords, is_branch_keyword, is_keyword_of, accepts, is_scalar_value}
 use Rattle.schema.specs.declared.kinds.Kind.{Kind}
 use Rattle.schema.specs.declared.kinds.Kind.TheVariants as kind
 use Rattle.schema.specs.declared.keywords.Keywords.{Keywords}
@@ -18,11 +18,14 @@ kind_view kind.List = kinds.list
 kind_view kind.Map = kinds.map
 kind_view kind.Object = kinds.object
 
--- the keywords that are known where the code says so
-abbrev pub is_known_in : Keywords → List ℕ → Bool
-is_known_in keywords.OfMetadata k = is_among k metadata_keywords
-is_known_in keywords.OfBranch k = is_branch_keyword k
-is_known_in (keywords.OfKind kind) k = is_keyword_of (kind_view kind) k
+-- the keywords that the code asks for
+abbrev pub is_asked : Keywords → List ℕ → Bool
+is_asked keywords.Junctors k = is_among k junctor_keywords
+is_asked keywords.Outside k = is_among k outside_keywords
+is_asked keywords.Unsupported k = is_among k unsupported_keywords
+is_asked keywords.BesideMetadata k = not (is_among k metadata_keywords)
+is_asked keywords.BesideBranch k = not (is_branch_keyword k)
+is_asked (keywords.BesideKind kind) k = not (is_keyword_of (kind_view kind) k)
 
 -- the values that are accepted: of a kind, and without one in a branch
 abbrev pub is_accepted : Option ScalarKind → Data → Bool

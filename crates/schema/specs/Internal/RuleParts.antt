@@ -1,12 +1,11 @@
 -- For private contracts: what the rules ask of one place and its schema.
-use Rattle.std.specs.Prelude.{◌≡◌, ◌⊎◌, ℕ, List, [], ◌∷◌, ◌++◌, true, false, None, IsTrue, codes}
+use Rattle.std.specs.Prelude.{◌≡◌, ◌⊎◌, ℕ, List, [], ◌∷◌, ◌++◌, true, false, None, not, IsTrue, codes}
 use Rattle.jtree.specs.Data.{Data, object}
-use Rattle.schema.specs.Document.Raw.{Has}
 use Rattle.schema.specs.Document.Texts.{is_among}
 use Rattle.schema.specs.Document.Places.{Step, Place, property, is_inside}
 use Rattle.schema.specs.Internal.PlaceView.{place_of}
-use Rattle.schema.specs.Rules.Keywords.{has_other_keyword, has_other_text}
-use Rattle.schema.specs.Rules.Broken.{HasOneOf, metadata_keywords, metadata_types, metadata_names, metadata, ends_in_field}
+use Rattle.schema.specs.Rules.Keywords.{has, has_keyword, has_other_text}
+use Rattle.schema.specs.Rules.Broken.{metadata_keywords, metadata_types, metadata_names, metadata, ends_in_field}
 use Rattle.schema.specs.Rules.Profile.{outside_keywords}
 use Rattle.schema.specs.declared.listing.Subschema.{Subschema}
 
@@ -24,9 +23,10 @@ IsUnspecified v = (is_inside (place_of v.place.items) ≡ true) × (ends_in_fiel
 abbrev pub HasOutsideKeyword : Subschema → Type 0
 HasOutsideKeyword v =
     (is_inside (place_of v.place.items) ≡ true)
-    × (HasOneOf outside_keywords (object v.schema.now) ⊎ (Has (object v.schema.now) (codes "type") × (IsTrue v.in_pattern → ⊥)))
+    × ((has_keyword (λ k. is_among k outside_keywords) (object v.schema.now) ≡ true)
+    ⊎ ((has (object v.schema.now) (codes "type") ≡ true) × (IsTrue v.in_pattern → ⊥)))
 
 abbrev pub Restricts : Place → Data → Type 0
 Restricts p s =
-    ((p ≡ metadata) × ((has_other_keyword (λ k. is_among k metadata_keywords) s ≡ true) ⊎ (has_other_text metadata_types s (codes "type") ≡ true)))
+    ((p ≡ metadata) × ((has_keyword (λ k. not (is_among k metadata_keywords)) s ≡ true) ⊎ (has_other_text metadata_types s (codes "type") ≡ true)))
     ⊎ IsOtherField p

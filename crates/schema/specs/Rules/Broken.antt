@@ -1,14 +1,13 @@
 -- Which rules a schema breaks (apiextensions.k8s.io/v1, "specifying a structural schema", and merge strategies), as a relation
 -- between a schema, a place and a rule. The keyword lists of V03 to V05, and V15 to V17, are this project's profile.
-use Rattle.std.specs.Prelude.{◌≡◌, ◌⊎◌, ℕ, List, [], ◌∷◌, ◌++◌, Bool, true, false, Some, codes}
+use Rattle.std.specs.Prelude.{◌≡◌, ◌⊎◌, ℕ, List, [], ◌∷◌, ◌++◌, Bool, true, false, Some, not, ◌&&◌, codes}
 use Rattle.jtree.specs.Data.{Data}
 use Rattle.jtree.specs.Data as tree
 use Rattle.jtree.specs.Path.{under}
-use Rattle.schema.specs.Document.Raw.{Has, HasTrue, HasFalse}
 use Rattle.schema.specs.Document.Texts.{is_among}
 use Rattle.schema.specs.Document.Places.{Step, Place, property, items, all_of, any_of, schema_at, IsPlace, is_inside, core, ends_with}
-use Rattle.schema.specs.Rules.Keywords.{has_other_text, has_other_keyword}
-use Rattle.schema.specs.Rules.Kinds.{lacks_type}
+use Rattle.schema.specs.Rules.Keywords.{is_false, flag, has, has_other_text, has_keyword}
+use Rattle.schema.specs.Rules.Kinds.{is_int_or_string, lacks_type}
 use Rattle.schema.specs.Rules.Lists.{has_bad_list_type, has_bad_keys, has_bad_set_items, has_bad_map_type}
 use Rattle.schema.specs.Rules.Profile.{outside_keywords, unsupported_keywords, has_misplaced_default, has_bad_junctor, is_root, is_outside_profile}
 use Rattle.schema.specs.declared.violation.Rule.{Rule}
@@ -25,9 +24,6 @@ Passes raw p test = At raw p (λ s. test s ≡ true)
 abbrev pub PassesOutside : Data → Place → (Data → Bool) → Type 0
 PassesOutside raw p test = (is_inside p ≡ false) × Passes raw p test
 
-abbrev pub HasOneOf : List (List ℕ) → Data → Type 0
-HasOneOf keywords s = (w : List ℕ) × (is_among w keywords ≡ true) × Has s w
-
 -- the keywords that the schema of `metadata` may have
 abbrev pub metadata_keywords : List (List ℕ)
 metadata_keywords = codes "type" ∷ codes "description" ∷ codes "properties" ∷ []
@@ -40,9 +36,6 @@ is_field _ = false
 
 abbrev pub ends_in_field : Place → Bool
 ends_in_field p = ends_with is_field p
-
-abbrev pub IsIntOrString : Data → Type 0
-IsIntOrString s = HasTrue s (codes "x-kubernetes-int-or-string")
 
 -- `[{"type":"integer"},{"type":"string"}]`
 abbrev pub typed : List ℕ → Data
@@ -61,10 +54,10 @@ BeginsWithHolder s = (rest : tree.Items) × (under s (codes "allOf") ≡ Some (t
 
 -- with `x-kubernetes-int-or-string` true, the `anyOf` is that list, or the `allOf` begins so
 abbrev pub HasAnyPattern : Data → Type 0
-HasAnyPattern s = IsIntOrString s × (under s (codes "anyOf") ≡ Some pattern)
+HasAnyPattern s = (is_int_or_string s ≡ true) × (under s (codes "anyOf") ≡ Some pattern)
 
 abbrev pub HasAllPattern : Data → Type 0
-HasAllPattern s = IsIntOrString s × BeginsWithHolder s
+HasAllPattern s = (is_int_or_string s ≡ true) × BeginsWithHolder s
 
 -- a branch of the int-or-string pattern, at an outside place: of such an `anyOf`, or of that in the first entry of such an
 -- `allOf`
@@ -85,14 +78,10 @@ metadata_names = codes "name" ∷ codes "generateName" ∷ []
 
 -- `metadata` has another keyword, another type than `object`, or another field than `name` and `generateName`
 pub data RestrictsMetadata : Data → Place → Type 0 where
-  metadata_keyword : (raw : Data) → Passes raw metadata (has_other_keyword (λ k. is_among k metadata_keywords)) → RestrictsMetadata raw metadata
+  metadata_keyword : (raw : Data) → Passes raw metadata (has_keyword (λ k. not (is_among k metadata_keywords))) → RestrictsMetadata raw metadata
   metadata_type : (raw : Data) → Passes raw metadata (λ s. has_other_text metadata_types s (codes "type")) → RestrictsMetadata raw metadata
   metadata_field : (raw : Data) (k : List ℕ) → IsPlace raw (metadata ++ (property k ∷ [])) → is_among k metadata_names ≡ false
       → RestrictsMetadata raw (metadata ++ (property k ∷ []))
-
--- int-or-string with a type
-abbrev pub HasBothTypes : Data → Type 0
-HasBothTypes s = IsIntOrString s × Has s (codes "type")
 
 abbrev pub Broken : Data → Place → Rule → Type 0
 -- missing type
@@ -100,19 +89,19 @@ Broken raw p V01 = PassesOutside raw p lacks_type
 -- not specified outside the junctor
 Broken raw p V02 = (is_inside p ≡ true) × IsPlace raw p × (ends_in_field p ≡ true) × (IsPlace raw (core p) → ⊥)
 -- keyword not allowed in a junctor; `type` in the branches of the int-or-string pattern is excepted
-Broken raw p V03 = (is_inside p ≡ true) × At raw p (λ s. HasOneOf outside_keywords s ⊎ (Has s (codes "type") × (IsPatternBranch raw p → ⊥)))
+Broken raw p V03 = (is_inside p ≡ true) × At raw p (λ s. (has_keyword (λ k. is_among k outside_keywords) s ≡ true) ⊎ ((has s (codes "type") ≡ true) × (IsPatternBranch raw p → ⊥)))
 -- metadata restricted
 Broken raw p V04 = RestrictsMetadata raw p
 -- keyword not supported
-Broken raw p V05 = At raw p (HasOneOf unsupported_keywords)
+Broken raw p V05 = Passes raw p (has_keyword (λ k. is_among k unsupported_keywords))
 -- uniqueItems is true
-Broken raw p V06 = At raw p (λ s. HasTrue s (codes "uniqueItems"))
+Broken raw p V06 = Passes raw p (λ s. flag s (codes "uniqueItems"))
 -- additionalProperties is false
-Broken raw p V07 = At raw p (λ s. HasFalse s (codes "additionalProperties"))
+Broken raw p V07 = Passes raw p (λ s. is_false (under s (codes "additionalProperties")))
 -- properties with additionalProperties
-Broken raw p V08 = At raw p (λ s. Has s (codes "properties") × Has s (codes "additionalProperties"))
+Broken raw p V08 = Passes raw p (λ s. has s (codes "properties") && has s (codes "additionalProperties"))
 -- int-or-string with a type
-Broken raw p V09 = (is_inside p ≡ false) × At raw p HasBothTypes
+Broken raw p V09 = PassesOutside raw p (λ s. is_int_or_string s && has s (codes "type"))
 -- bad list type
 Broken raw p V10 = PassesOutside raw p has_bad_list_type
 -- bad map keys

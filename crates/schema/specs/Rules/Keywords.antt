@@ -27,6 +27,10 @@ abbrev pub is_true : Option Data → Bool
 is_true (Some (boolean b)) = b
 is_true _ = false
 
+abbrev pub is_false : Option Data → Bool
+is_false (Some (boolean b)) = not b
+is_false _ = false
+
 abbrev pub members_in : Option Data → Members
 members_in (Some (object ms)) = ms
 members_in _ = no_members
@@ -81,14 +85,14 @@ has_text_among values s k = is_text_among values (under s k)
 abbrev pub has_other_text : List (List ℕ) → Data → List ℕ → Bool
 has_other_text values s k = has s k && not (has_text_among values s k)
 
--- a member has a name that is not known
-abbrev pub has_other_name : (List ℕ → Bool) → Members → Bool
-has_other_name is_known no_members = false
-has_other_name is_known (member k d ms) = not (is_known k) || has_other_name is_known ms
+-- a member has a name that passes a test
+abbrev pub has_name : (List ℕ → Bool) → Members → Bool
+has_name test no_members = false
+has_name test (member k d ms) = test k || has_name test ms
 
--- a keyword is there that is not known
-abbrev pub has_other_keyword : (List ℕ → Bool) → Data → Bool
-has_other_keyword is_known s = has_other_name is_known (members_in (Some s))
+-- a keyword is there that passes a test
+abbrev pub has_keyword : (List ℕ → Bool) → Data → Bool
+has_keyword test s = has_name test (members_in (Some s))
 
 -- some item passes a test
 abbrev pub any_item : (Data → Bool) → Items → Bool

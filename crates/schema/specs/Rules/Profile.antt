@@ -8,7 +8,7 @@ use Rattle.jtree.specs.Kind.{is_boolean, is_integer, is_text}
 use Rattle.jtree.specs.Path.{under, member_at}
 use Rattle.schema.specs.Document.Texts.{is_among}
 use Rattle.schema.specs.Document.Places.{Step, Place, property, items, schema_by, ends_with, is_envelope_name, is_envelope}
-use Rattle.schema.specs.Rules.Keywords.{flag, has, has_other_text, has_other_keyword, any_item, is_empty, items_under, members_under}
+use Rattle.schema.specs.Rules.Keywords.{flag, has, has_other_text, has_keyword, any_item, is_empty, items_under, members_under}
 use Rattle.schema.specs.Rules.Kinds.{Kind, scalar, open_, kind_of, is_scalar_kind, is_list_kind, is_object_kind, is_open_kind, is_int_or_string, preserves, lacks_type}
 use Rattle.schema.specs.Rules.Kinds as kinds
 use Rattle.schema.specs.declared.node.ScalarKind.{ScalarKind}
@@ -71,7 +71,7 @@ is_keyword_of kind k = is_common_keyword k || is_among k (own_keywords kind)
 -- the place has a keyword that its kind has not
 abbrev pub has_foreign_keyword : Option Kind → Data → Bool
 has_foreign_keyword None s = false
-has_foreign_keyword (Some kind) s = has_other_keyword (is_keyword_of kind) s
+has_foreign_keyword (Some kind) s = has_keyword (λ k. not (is_keyword_of kind k)) s
 
 -- ---- the values of `enum`
 
@@ -98,7 +98,7 @@ has_bad_choices _ s = false
 -- ---- junctors
 
 abbrev pub has_junctor : Data → Bool
-has_junctor s = (has s (codes "allOf") || has s (codes "anyOf")) || (has s (codes "oneOf") || has s (codes "not"))
+has_junctor s = has_keyword (λ k. is_among k junctor_keywords) s
 
 -- the keywords of a branch, with those of which other rules speak
 abbrev pub is_branch_keyword : List ℕ → Bool
@@ -107,7 +107,7 @@ is_branch_keyword k = (is_among k keywords_of_scalars || is_among k junctor_keyw
 
 -- a branch has another keyword, or lists what is no scalar
 abbrev pub is_bad_branch : Data → Bool
-is_bad_branch s = has_other_keyword is_branch_keyword s || are_bad_choices is_scalar_value (under s (codes "enum"))
+is_bad_branch s = has_keyword (λ k. not (is_branch_keyword k)) s || are_bad_choices is_scalar_value (under s (codes "enum"))
 
 -- outside, a junctor stands at a place that is no scalar
 abbrev pub has_bad_junctor : Bool → Data → Bool

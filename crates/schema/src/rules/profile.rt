@@ -1,18 +1,18 @@
 // What a place of each kind, and a branch of a junctor, may have.
-ghost use Rattle.std.specs.Prelude.{◌≡◌, not, ◌&&◌, codes};
+ghost use Rattle.std.specs.Prelude.{◌≡◌, not, codes};
 ghost use Rattle.std.specs.Option.{is_some};
 ghost use Rattle.jtree.specs.Data.{object};
 ghost use Rattle.jtree.specs.Path.{member_at, under};
 ghost use Rattle.jtree.specs.View.{data_of, items_of};
 ghost use Rattle.schema.specs.Internal.KindView.{is_accepted};
 ghost use Rattle.schema.specs.Rules.Keywords.{members_under, any_item};
-ghost use Rattle.schema.specs.Rules.Kinds.{kind_of as kind_of_schema, is_scalar_kind};
-ghost use Rattle.schema.specs.Rules.Profile.{is_bad_branch as is_bad_branch_of, has_junctor as has_junctor_of, is_outside_profile as is_outside_profile_of, is_bad_root as is_bad_root_of, is_bad_preserving as is_bad_preserving_of, has_foreign_keyword as has_foreign_keyword_of, lacks_items as lacks_items_of, requires_undeclared as requires_undeclared_of, is_undeclared as is_undeclared_of, has_bad_choices as has_bad_choices_of, are_bad_choices as are_bad_choices_of};
+ghost use Rattle.schema.specs.Rules.Kinds.{kind_of as kind_of_schema};
+ghost use Rattle.schema.specs.Rules.Profile.{is_bad_branch as is_bad_branch_of, is_outside_profile as is_outside_profile_of, is_bad_root as is_bad_root_of, is_bad_preserving as is_bad_preserving_of, has_foreign_keyword as has_foreign_keyword_of, lacks_items as lacks_items_of, requires_undeclared as requires_undeclared_of, is_undeclared as is_undeclared_of, has_bad_choices as has_bad_choices_of, are_bad_choices as are_bad_choices_of};
 
 use crate::keywords::{
-    Keywords, has, has_other_keyword, has_other_text, has_true, is_empty, object_under,
+    Keywords, has, has_keyword, has_other_text, has_true, is_empty, object_under,
 };
-use crate::kinds::{Kind, is_list, is_object, is_open, is_scalar, kind_of_members, lacks_type};
+use crate::kinds::{Kind, is_list, is_object, is_open, kind_of_members, lacks_type};
 use crate::node::ScalarKind;
 use crate::places::is_envelope_name;
 use jtree::{Members, Tree};
@@ -21,20 +21,7 @@ use jtree::{Members, Tree};
 pub(crate) fn is_bad_branch(schema: &Members) -> bool
     ensures { result ≡ is_bad_branch_of (object schema.now) }
 {
-    has_other_keyword(schema, Keywords::OfBranch) || are_bad_choices(schema, None)
-}
-
-/// Whether a junctor stands at a place that is no scalar.
-pub(crate) fn has_junctor_beside_scalar(schema: &Members) -> bool
-    ensures { result ≡ (has_junctor_of (object schema.now) && not (is_scalar_kind (kind_of_schema (object schema.now)))) }
-{
-    has_junctor(schema) && !is_scalar(schema)
-}
-
-fn has_junctor(schema: &Members) -> bool
-    ensures { result ≡ has_junctor_of (object schema.now) }
-{
-    (has(schema, "allOf") || has(schema, "anyOf")) || (has(schema, "oneOf") || has(schema, "not"))
+    has_keyword(schema, Keywords::BesideBranch) || are_bad_choices(schema, None)
 }
 
 /// V17: a place that is in no branch is outside the profile.
@@ -76,7 +63,7 @@ fn has_foreign_keyword(schema: &Members) -> bool
     ensures { result ≡ has_foreign_keyword_of (kind_of_schema (object schema.now)) (object schema.now) }
 {
     match kind_of_members(schema) {
-        Some(kind) => has_other_keyword(schema, Keywords::OfKind(kind)),
+        Some(kind) => has_keyword(schema, Keywords::BesideKind(kind)),
         None => false,
     }
 }

@@ -17,7 +17,7 @@ loop-subschema-preserved c =
     let within : i < length subschemas = omega arith in
     λ raw all.
     let is : IsSubschema raw v = subst (IsSubschema raw) (sym c.subschema-item.is) (all i v within) in
-    let told = passes raw (place_of v.place.items) (object v.schema.now) (λ s. has s (codes "default")) false is.is c.if-has.ensures.value in
+    let told = passes raw (place_of v.place.items) (object v.schema.now) (λ s. has s (codes "default")) false is.is c.if-has.ensures in
     none_more raw subschemas i v within c.subschema-item.is (c.loop-subschema.invariant raw all) (λ held. let wrong = told.1 held in cc)
 
 pub returns-then-has-clause-some : goal.returns-then-has-clause-some
@@ -28,7 +28,7 @@ returns-then-has-clause-some c =
     let within : i < length subschemas = omega arith in
     λ ms o are.
     let is : IsSubschema (object ms) v = subst (IsSubschema (object ms)) (sym c.subschema-item.is) (are.each i v within) in
-    let told = passes (object ms) (place_of v.place.items) (object v.schema.now) (λ s. has s (codes "default")) true is.is c.if-has.ensures.value in (
+    let told = passes (object ms) (place_of v.place.items) (object v.schema.now) (λ s. has s (codes "default")) true is.is c.if-has.ensures in (
       place_path (place_of v.place.items),
       c.in_ok-pointer_of.ensures ∙ ap (λ steps. place_pointer (place_of steps)) c.as_slice.ensures.value,
       first_with_default ms subschemas i v o are within c.subschema-item.is (c.loop-subschema.invariant (object ms) are.each) (told.0 refl),

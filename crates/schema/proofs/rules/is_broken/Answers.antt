@@ -14,8 +14,8 @@ returns-in-V04 c = λ raw is.
     let b = c.restricts_metadata.result in
     subst (λ r. IsTrue b ↔ Broken raw (place_of v.place.items) r) (sym c.in-V04.is) (restricts raw (place_of v.place.items) (object v.schema.now) b is.is c.restricts_metadata.ensures)
 
-pub returns-then-not-is_inside-7 : goal.returns-then-not-is_inside-7
-returns-then-not-is_inside-7 c = λ raw is.
+pub returns-then-not-is_inside-8 : goal.returns-then-not-is_inside-8
+returns-then-not-is_inside-8 c = λ raw is.
     let v = c.args.subschema.now in
     let p = place_of v.place.items in
     let s = object v.schema.now in
@@ -23,5 +23,5 @@ returns-then-not-is_inside-7 c = λ raw is.
     let same = c.as_slice-place.ensures.value in
     let root = c.is_root.ensures ∙ ap (λ steps. is_root (place_of steps)) same in
     let told = c.is_outside_profile.ensures ∙ ap (λ r. is_outside_profile r s) root in
-    let out = sym (c.if-not-is_inside-7.ensures ∙ ap (λ steps. is_inside (place_of steps)) same) in
+    let out = sym (c.if-not-is_inside-8.ensures ∙ ap (λ steps. is_inside (place_of steps)) same) in
     subst (λ r. IsTrue b ↔ Broken raw p r) (sym c.in-V17.is) (passes_there raw p s (is_outside_profile (is_root p)) b is.is out told)
