@@ -22,7 +22,7 @@ before_of k l past = nat_list_cmp_total.antisymm l k ∙ ap ordering_reverse pas
 
 -- ---- one name replaced
 
-replaced_at : (k : List ℕ) (o : Option Data) (ms : Members) → AreMembers ms → member_at k (replaced k o ms) ≡ o
+pub replaced_at : (k : List ℕ) (o : Option Data) (ms : Members) → AreMembers ms → member_at k (replaced k o ms) ≡ o
 replaced_at k None no_members sorted = refl
 replaced_at k (Some e) no_members sorted = member_first k e no_members
 replaced_at k None (member l d ms) sorted = elim (ordering_cases (text_cmp k l)) [
@@ -39,7 +39,7 @@ replaced_at k (Some e) (member l d ms) sorted = elim (ordering_cases (text_cmp k
 same_later : (j l : List ℕ) (d : Data) (ms ns : Members) → member_at j ms ≡ member_at j ns → member_at j (member l d ms) ≡ member_at j (member l d ns)
 same_later j l d ms ns e = elim (bool_cases (bytes_eq j l)) [ inl t ↦ rw t refl | inr f ↦ rw f e ]
 
-replaced_elsewhere : (j k : List ℕ) (o : Option Data) (ms : Members) → bytes_eq j k ≡ false → member_at j (replaced k o ms) ≡ member_at j ms
+pub replaced_elsewhere : (j k : List ℕ) (o : Option Data) (ms : Members) → bytes_eq j k ≡ false → member_at j (replaced k o ms) ≡ member_at j ms
 replaced_elsewhere j k None no_members other = refl
 replaced_elsewhere j k (Some e) no_members other = member_later j k e no_members other
 replaced_elsewhere j k None (member l d ms) other = elim (ordering_cases (text_cmp k l)) [
@@ -67,7 +67,7 @@ replaced_before j k (Some e) (member l d ms) jk before sorted = elim (ordering_c
   | inr (inr past) ↦ rw past before
 ]
 
-replaced_sorted : (k : List ℕ) (o : Option Data) (ms : Members) → IfSome o IsTree → AreMembers ms → AreMembers (replaced k o ms)
+pub replaced_sorted : (k : List ℕ) (o : Option Data) (ms : Members) → IfSome o IsTree → AreMembers ms → AreMembers (replaced k o ms)
 replaced_sorted k None no_members t sorted = tt
 replaced_sorted k (Some e) no_members t sorted = (t, tt, tt)
 replaced_sorted k None (member l d ms) t sorted = elim (ordering_cases (text_cmp k l)) [

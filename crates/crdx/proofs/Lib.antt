@@ -16,3 +16,4 @@ pub mod ShapeLemmas
 pub mod AcceptanceLemmas
 pub mod RunLemmas
 pub mod CommandLineLemmas
+pub mod EnvelopeLemmas

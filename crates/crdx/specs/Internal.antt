@@ -9,3 +9,4 @@ pub mod Block
 pub mod PartialLines
 pub mod Cause
 pub mod ExitStatus
+pub mod MemberPlace

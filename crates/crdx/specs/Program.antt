@@ -5,3 +5,4 @@ pub mod InputFault
 pub mod Phrases
 pub mod Requested
 pub mod RunResult
+pub mod Envelope

@@ -3,6 +3,7 @@
 
 pub mod arguments;
 pub mod enumerate;
+mod envelope;
 pub mod inputs;
 pub mod phrases;
 pub mod plan;
@@ -11,4 +12,5 @@ pub mod sink;
 pub mod stored;
 pub mod walk;
 
+pub use envelope::{Parts, join, split};
 pub use running::run;

@@ -1,0 +1,33 @@
+use Rattle.std.proofs.Common.{◌≡◌, ◌∙◌, None, sym, ap, subst}
+use Rattle.jtree.specs.Data.{AreMembers}
+use Rattle.jtree.specs.Path.{member_at}
+use Rattle.jtree.specs.View.{members_of}
+use Rattle.crdx.specs.Objects.ByLevel.{in_front}
+use Rattle.crdx.specs.Objects.Filled.{without}
+use Rattle.crdx.proofs.EnvelopeLemmas.{removed, absent, taken}
+use Rattle.crdx.proofs.FilledNames.{replaced_at, replaced_sorted}
+use Rattle.crdx.proofs.envelope.take.Goals as goal
+
+pub returns-in-Ok-clause-rest : goal.returns-in-Ok-clause-rest
+returns-in-Ok-clause-rest c =
+    let place = rw c.deref.ensures.value at c.in-Ok.ensures.found in
+    ap members_of c.remove.ensures.items ∙ (removed c.args.name.now c.members.inside.members.items c.in-Ok.at place ∙ ap (without c.args.name.now) c.members.view_is)
+
+pub returns-in-Ok-clause-taken : goal.returns-in-Ok-clause-taken
+returns-in-Ok-clause-taken c = λ ms.
+    let place = rw c.deref.ensures.value at c.in-Ok.ensures.found in
+    taken c.args.name.now c.members.inside.members.items c.in-Ok.at c.remove.result ms place c.remove.ensures.value
+    ∙ ap (λ all. in_front c.args.name.now (member_at c.args.name.now all) ms) c.members.view_is
+
+pub invariant_of-members : goal.invariant_of-members
+invariant_of-members c = subst AreMembers (sym (returns-in-Ok-clause-rest c)) (replaced_sorted c.args.name.now None c.args.members.now tt c.reveal_invariant.ensures)
+
+pub returns-in-Err-clause-rest : goal.returns-in-Err-clause-rest
+returns-in-Err-clause-rest c =
+    let place = rw c.deref.ensures.value at c.in-Err.ensures.absent in
+    subst (λ ms. ms ≡ without c.args.name.now ms) c.members.view_is (sym (absent c.args.name.now c.members.inside.members.items c.in-Err.field-0 place))
+
+pub returns-in-Err-clause-taken : goal.returns-in-Err-clause-taken
+returns-in-Err-clause-taken c = λ ms.
+    let none = replaced_at c.args.name.now None c.args.members.now c.reveal_invariant.ensures in
+    ap (λ o. in_front c.args.name.now o ms) (sym none ∙ ap (member_at c.args.name.now) (sym (returns-in-Err-clause-rest c)))

@@ -1,0 +1,120 @@
+//! The envelope of a resource, which no schema has a say in: it is taken off an object, and put back.
+ghost use Rattle.std.specs.Prelude.{◌≡◌, ◌+◌, ◌<◌, ◌≤◌, length, true, false, IfOk, IfErr, OnOk, OnErr};
+ghost use Rattle.std.specs.Vec.{vec_len, vec_capacity};
+ghost use Rattle.jtree.specs.Data.{Data, Members as MembersData, no_members, IsTree, AreMembers};
+ghost use Rattle.jtree.specs.Path.{member_at};
+ghost use Rattle.jtree.specs.View.{data_of, members_of};
+ghost use Rattle.crdx.specs.Objects.ByLevel.{in_front};
+ghost use Rattle.crdx.specs.Objects.Filled.{without};
+ghost use Rattle.crdx.specs.Program.Envelope.{body_of, envelope_in, joined as joined_of, merged, onto};
+ghost use Rattle.crdx.specs.Internal.MemberPlace.{IsPlace};
+
+use jtree::{Member, Members, Tree};
+use std::alloc::AllocError;
+use std::cmp::Ordering;
+use std::marker::Model;
+
+/// The envelope of a resource: its members `apiVersion`, `kind` and `metadata`, as far as they were there.
+#[derive(Drop)]
+pub struct Parts {
+    api_version: Option<Member>,
+    kind: Option<Member>,
+    metadata: Option<Member>,
+}
+
+impl Model for Parts {
+    ghost use Rattle.jtree.specs.Data.{Members as MembersData, no_members};
+    ghost use Rattle.jtree.specs.Internal.Code.{members_coded};
+
+    ghost Value = { MembersData };
+
+    ghost coded = { members_coded };
+
+    ghost use Rattle.crdx.specs.Program.Envelope.{onto};
+
+    ghost view = { λ a. onto a.api_version (onto a.kind (onto a.metadata no_members)) };
+}
+
+/// Takes the envelope, names and values, off an object; nothing off another tree. Takes no memory.
+pub fn split(tree: &mut Tree) -> Parts
+    ensures body { data_of tree.new ≡ body_of (data_of tree.old) }
+    ensures parts { result ≡ envelope_in (data_of tree.old) }
+{
+    match tree {
+        Tree::Object(members) => Parts {
+            api_version: take(members, "apiVersion"),
+            kind: take(members, "kind"),
+            metadata: take(members, "metadata"),
+        },
+        _ => Parts {
+            api_version: None,
+            kind: None,
+            metadata: None,
+        },
+    }
+}
+
+/// Puts an envelope into an object, in place of what it has under the same names; another tree stays as it is. So a tree
+/// that was split is joined to what it was. `AllocError` where an allocation fails, and the tree is then as it was.
+pub fn join(tree: &mut Tree, parts: Parts) -> Result<(), AllocError>
+    ensures joined { OnOk result (data_of tree.new ≡ joined_of (data_of tree.old) parts) }
+    ensures again { OnOk result ((v : Data) → IsTree v → body_of v ≡ data_of tree.old → envelope_in v ≡ parts → data_of tree.new ≡ v) }
+    ensures refused { OnErr result (data_of tree.new ≡ data_of tree.old) }
+{
+    if let Tree::Object(members) = tree {
+        members.reveal_invariant();
+        members.members.reserve(3)?;
+        put(&mut members.members, parts.metadata);
+        put(&mut members.members, parts.kind);
+        put(&mut members.members, parts.api_version);
+    }
+    Ok(())
+}
+
+/// Takes the member of a name off.
+fn take(members: &mut Members, name: &str) -> Option<Member>
+    ensures rest { members.new ≡ without name.now members.old }
+    ensures taken { (ms : MembersData) → onto result ms ≡ in_front name.now (member_at name.now members.old) ms }
+{
+    members.reveal_invariant();
+    match search(&members.members, name) {
+        Ok(at) => Some(members.members.remove(at)),
+        Err(_) => None,
+    }
+}
+
+/// Puts a member in, in place of the one of its name. There is room for one more.
+fn put(members: &mut Vec<Member>, part: Option<Member>)
+    requires { vec_len members.old < vec_capacity members.old }
+    ensures put { members_of members.new.items ≡ merged (onto part no_members) (members_of members.old.items) }
+    ensures sorted { AreMembers (members_of members.old.items) → AreMembers (members_of members.new.items) }
+    ensures len { vec_len members.new ≤ vec_len members.old + 1 }
+    ensures capacity { vec_capacity members.old ≤ vec_capacity members.new }
+{
+    if let Some(member) = part {
+        member.tree.reveal_invariant();
+        match search(members, member.name.as_str()) {
+            Ok(at) => members[at] = member,
+            Err(at) => {
+                let _ = members.insert(at, member);
+            }
+        }
+    }
+}
+
+/// The index of the member of a name, or else, as `Err`, the one at which it belongs.
+fn search(members: &[Member], name: &str) -> Result<usize, usize>
+    ensures found { IfOk result (λ i. IsPlace true name.now members.now i) }
+    ensures absent { IfErr result (λ i. IsPlace false name.now members.now i) }
+    ensures within { IfOk result (λ i. i < length members.now) }
+    ensures belongs { IfErr result (λ i. i ≤ length members.now) }
+{
+    for (i, member) in members.iter().enumerate() {
+        match name.cmp(member.name.as_str()) {
+            Ordering::Less => return Err(i),
+            Ordering::Equal => return Ok(i),
+            Ordering::Greater => {}
+        }
+    }
+    Err(members.len())
+}
