@@ -1,10 +1,10 @@
 //! What becomes of objects under a schema: whether they are valid, and how they are pruned and completed.
-use crate::harness::{is_text, shape_of, shape_of_field};
+use crate::harness::{crd_of, is_text, shape_of, shape_of_field};
 use jtree::{JFault, Tree};
-use schema::{Node, Sort};
-use std::alloc::Global;
+use schema::{Node, RawSchema, Refused, Sort, Violation};
+use std::alloc::{AllocError, Global};
 use std::test::Fail;
-use stored::{complete, prune, valid};
+use stored::{Fault, accept, complete, faults, prune, valid, violations};
 
 // A name, the schema of a field `x`, and values of the field: those that are valid there, and those that are not.
 static VALUES: [(&str, &str, &str, &str); 24] = [
@@ -270,6 +270,141 @@ static FORMS: [(&str, &str, &str, &str, &str); 16] = [
     ),
 ];
 
+// A name, a schema, an object, and its faults: a number and a pointer a line.
+static FAULTS: [(&str, &str, &str, &str); 12] = [
+    (
+        "a map list",
+        r#"{"type":"object","properties":{"m":{"type":"array","x-kubernetes-list-type":"map","x-kubernetes-list-map-keys":["k"],"items":{"type":"object","required":["k"],"properties":{"k":{"type":"string"},"v":{"type":"integer"}}}}}}"#,
+        r#"{"m":[{"k":"a"},{"k":"a","v":"q"},{"v":1}]}"#,
+        "13 /m/1\n1 /m/1/v\n12 /m/2/k\n",
+    ),
+    (
+        "a junctor",
+        r#"{"type":"object","required":["n"],"properties":{"n":{"type":"integer","oneOf":[{"minimum":1},{"maximum":3}]}}}"#,
+        r#"{"n":2}"#,
+        "14 /n\n",
+    ),
+    (
+        "a required field",
+        r#"{"type":"object","required":["n"],"properties":{"n":{"type":"integer"}}}"#,
+        "{}",
+        "12 /n\n",
+    ),
+    (
+        "too few members",
+        r#"{"type":"object","properties":{"o":{"type":"object","minProperties":2,"properties":{"a":{"type":"boolean"},"b":{"type":"boolean"},"c":{"type":"boolean"}}}}}"#,
+        r#"{"o":{"a":true}}"#,
+        "10 /o\n",
+    ),
+    (
+        "null",
+        r#"{"type":"object","properties":{"m":{"type":"array","items":{"type":"string"}}}}"#,
+        "null",
+        "2 \n",
+    ),
+    (
+        "a list in place of an object",
+        r#"{"type":"object","required":["m"],"properties":{"m":{"type":"array","items":{"type":"string"}}}}"#,
+        "[]",
+        "1 \n",
+    ),
+    (
+        "a null field",
+        r#"{"type":"object","properties":{"m":{"type":"array","items":{"type":"string"}}}}"#,
+        r#"{"m":null}"#,
+        "2 /m\n",
+    ),
+    (
+        "all that is asked of a text, and of an integer",
+        r#"{"type":"object","properties":{"i":{"type":"integer","enum":[5],"minimum":2,"maximum":0,"not":{}},"s":{"type":"string","enum":["x"],"minLength":3,"maxLength":1,"anyOf":[{"minLength":3}]}}}"#,
+        r#"{"i":1,"s":"ab"}"#,
+        "3 /i\n4 /i\n5 /i\n14 /i\n3 /s\n6 /s\n7 /s\n14 /s\n",
+    ),
+    (
+        "items of a set that are of no kind that it takes, and that repeat others",
+        r#"{"type":"object","properties":{"s":{"type":"array","x-kubernetes-list-type":"set","minItems":9,"maxItems":1,"items":{"type":"integer","maximum":5,"not":{"minimum":7}}}}}"#,
+        r#"{"s":[8,null,8,null,"x",8]}"#,
+        "8 /s\n9 /s\n5 /s/0\n14 /s/0\n2 /s/1\n5 /s/2\n13 /s/2\n14 /s/2\n2 /s/3\n13 /s/3\n1 /s/4\n5 /s/5\n13 /s/5\n14 /s/5\n",
+    ),
+    (
+        "names between fields, and names with a slash and a tilde",
+        r#"{"type":"object","required":["b","d"],"properties":{"a":{"type":"integer"},"b":{"type":"integer"},"c":{"type":"object","required":["x/y"],"properties":{"x/y":{"type":"integer"},"~":{"type":"integer"}}},"d":{"type":"integer"}}}"#,
+        r#"{"a":"","aa":null,"c":{"~":""},"e":0}"#,
+        "1 /a\n12 /b\n12 /c/x~1y\n1 /c/~0\n12 /d\n",
+    ),
+    (
+        "the values of a map, and what is free",
+        r#"{"type":"object","properties":{"m":{"type":"object","maxProperties":1,"additionalProperties":{"type":"object","required":["a"],"properties":{"a":{"type":"integer"}}}},"x":{"x-kubernetes-preserve-unknown-fields":true}}}"#,
+        r#"{"m":{"p":{"a":"","z":null},"q":{}},"x":{"a":null},"y":null}"#,
+        "11 /m\n1 /m/p/a\n12 /m/q/a\n",
+    ),
+    (
+        "more than ten items",
+        r#"{"type":"object","properties":{"l":{"type":"array","items":{"type":"integer"}}}}"#,
+        r#"{"l":[0,1,null,3,4,5,6,7,8,9,null,11]}"#,
+        "2 /l/2\n2 /l/10\n",
+    ),
+];
+
+// A name, a schema, and all that is broken in it: a rule and a pointer a line.
+static DEFAULTS: [(&str, &str, &str); 11] = [
+    (
+        "a default of another kind",
+        r#"{"type":"object","properties":{"n":{"type":"integer","default":"x"}}}"#,
+        "V14 /properties/n\n",
+    ),
+    (
+        "a default of another kind beside a field without a type",
+        r#"{"type":"object","properties":{"n":{"type":"integer","default":"x"},"z":{}}}"#,
+        "V01 /properties/z\n",
+    ),
+    (
+        "a default that pruning changes",
+        r#"{"type":"object","properties":{"spec":{"type":"object","default":{"z":1},"properties":{"f":{"type":"integer","default":7}}}}}"#,
+        "V14 /properties/spec\n",
+    ),
+    (
+        "a default that is completed below",
+        r#"{"type":"object","properties":{"spec":{"type":"object","default":{},"required":["f"],"properties":{"f":{"type":"integer","default":7}}}}}"#,
+        "",
+    ),
+    (
+        "a default with a bad one below",
+        r#"{"type":"object","properties":{"spec":{"type":"object","default":{},"required":["f"],"properties":{"f":{"type":"integer","maximum":6,"default":7}}}}}"#,
+        "V14 /properties/spec\nV14 /properties/spec/properties/f\n",
+    ),
+    (
+        "a null",
+        r#"{"type":"object","properties":{"a":{"type":"integer","default":null},"b":{"type":"integer","nullable":true,"default":null}}}"#,
+        "V14 /properties/a\n",
+    ),
+    (
+        "defaults below a map and a list",
+        r#"{"type":"object","properties":{"m":{"type":"object","additionalProperties":{"type":"object","properties":{"x/y":{"type":"string","default":1}}}},"n":{"type":"array","items":{"type":"object","properties":{"k":{"type":"boolean","default":true},"l":{"type":"boolean","default":[]}}}}}}"#,
+        "V14 /properties/m/additionalProperties/properties/x~1y\nV14 /properties/n/items/properties/l\n",
+    ),
+    (
+        "a list and a set that repeats an item",
+        r#"{"type":"object","properties":{"l":{"type":"array","items":{"type":"integer"},"default":[1,1]},"s":{"type":"array","items":{"type":"integer"},"x-kubernetes-list-type":"set","default":[1,2,1]}}}"#,
+        "V14 /properties/s\n",
+    ),
+    (
+        "fields that are kept, and any value",
+        r#"{"type":"object","properties":{"o":{"type":"object","x-kubernetes-preserve-unknown-fields":true,"default":{"z":null}},"x":{"x-kubernetes-preserve-unknown-fields":true,"default":{"a":[null]}}}}"#,
+        "",
+    ),
+    (
+        "a null below that is filled",
+        r#"{"type":"object","properties":{"o":{"type":"object","default":{"f":null,"g":null},"properties":{"f":{"type":"integer","default":7},"g":{"type":"integer"}}}}}"#,
+        "",
+    ),
+    (
+        "no default",
+        r#"{"type":"object","properties":{"default":{"type":"integer"}}}"#,
+        "",
+    ),
+];
+
 /// The node of the first field.
 fn first_field(root: &Node) -> &Node {
     match &root.sort {
@@ -324,6 +459,58 @@ fn forms(rt: HostRuntime) -> Result<(), Fail> {
         let shape = shape_of(rt.alloc(), schema)?;
         is_text(&rt, pruned(rt.alloc(), shape.root(), object)?.as_str(), wanted_pruned, "the pruned form", name);
         is_text(&rt, completed(rt.alloc(), shape.root(), object)?.as_str(), wanted_completed, "the completed form", name);
+    }
+    Ok(())
+}
+
+/// The faults of an object: a number and a pointer a line.
+fn faulty(alloc: Global, node: &Node, object: &str) -> Result<String, Fail> {
+    let tree = Tree::from_bytes(alloc, object.as_bytes())?;
+    let mut lines = String::new(alloc);
+    for fault in &faults(alloc, node, &tree)? {
+        let Fault { path, number } = fault;
+        let line = format!(in alloc; "{number} {path}\n")?;
+        lines.push_str(line.as_str())?;
+    }
+    Ok(lines)
+}
+
+#[test]
+fn all_faults(rt: HostRuntime) -> Result<(), Fail> {
+    for (name, schema, object, wanted) in &FAULTS {
+        let shape = shape_of(rt.alloc(), schema)?;
+        is_text(&rt, faulty(rt.alloc(), shape.root(), object)?.as_str(), wanted, "the faults", name);
+    }
+    Ok(())
+}
+
+/// All that is broken: a rule and a pointer a line.
+fn lines_of(alloc: Global, broken: &[Violation]) -> Result<String, AllocError> {
+    let mut lines = String::new(alloc);
+    for violation in broken {
+        let Violation { pointer, rule } = violation;
+        let line = format!(in alloc; "{rule} {pointer}\n")?;
+        lines.push_str(line.as_str())?;
+    }
+    Ok(lines)
+}
+
+/// What `accept` answers of a schema.
+fn answer(alloc: Global, raw: RawSchema) -> Result<String, AllocError> {
+    match accept(alloc, raw) {
+        Ok(_schema) => Ok(String::new(alloc)),
+        Err(Refused::Violations(broken)) => lines_of(alloc, broken.as_slice()),
+        Err(Refused::NoMemory) => Err(AllocError),
+    }
+}
+
+#[test]
+fn defaults(rt: HostRuntime) -> Result<(), Fail> {
+    for (name, schema, wanted) in &DEFAULTS {
+        let raw = crd_of(rt.alloc(), schema)??.raw;
+        let broken = violations(rt.alloc(), &raw)?;
+        is_text(&rt, lines_of(rt.alloc(), broken.as_slice())?.as_str(), wanted, "what is broken", name);
+        is_text(&rt, answer(rt.alloc(), raw)?.as_str(), wanted, "the answer", name);
     }
     Ok(())
 }

@@ -20,4 +20,5 @@ pub mod FindingLemmas
 pub mod JoinedLemmas
 pub mod LevelLemmas
 pub mod FaultLemmas
+pub mod FaultlessLemmas
 pub mod RepetitionLemmas

@@ -4,12 +4,13 @@ ghost use Rattle.jtree.specs.Pointer.{name_token};
 ghost use Rattle.jtree.specs.View.{data_of};
 ghost use Rattle.schema.specs.Nodes.View.{node_of};
 ghost use Rattle.schema.specs.Rules.Breaks.{told};
+ghost use Rattle.stored.specs.Objects.Fault.{IsValid};
 ghost use Rattle.stored.specs.Schemas.Defaults.{IsGoodDefault};
 ghost use Rattle.stored.specs.Internal.DefaultList.{own_default, defaults_of, defaults_in_fields, defaults_in_field, AreAdded};
 
 use crate::filling::{copy_tree, fill};
+use crate::finding::faults;
 use crate::pruned::is_pruned;
-use crate::validity::valid;
 use jtree::{Tree, push_name};
 use schema::{Below, Field, Fields, Node, Rule, Sort, Violation};
 use std::alloc::{AllocError, Global};
@@ -108,7 +109,14 @@ fn is_good(alloc: Global, node: &Node, default: &Tree) -> Result<bool, AllocErro
     }
     let value = fill(alloc, node, copy_tree(alloc, default)?)?;
     value.reveal_invariant();
-    Ok(valid(node, &value))
+    Ok(is_faultless(alloc, node, &value)?)
+}
+
+/// Whether an object is valid, in time that is close to linear.
+fn is_faultless(alloc: Global, node: &Node, tree: &Tree) -> Result<bool, AllocError>
+    ensures { IfOk result (λ b. Decides b (IsValid (node_of node.now) (data_of tree.now))) }
+{
+    Ok(faults(alloc, node, tree)?.as_slice().is_empty())
 }
 
 /// The pointer of a member, by the pointer of its object.
