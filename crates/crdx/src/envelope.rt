@@ -63,10 +63,15 @@ pub fn join(tree: &mut Tree, parts: Parts) -> Result<(), AllocError>
 {
     if let Tree::Object(members) = tree {
         members.reveal_invariant();
-        members.members.reserve(3)?;
+        if let Err(error) = members.members.reserve(3) {
+            drop(parts);
+            return Err(error);
+        }
         put(&mut members.members, parts.metadata);
         put(&mut members.members, parts.kind);
         put(&mut members.members, parts.api_version);
+    } else {
+        drop(parts);
     }
     Ok(())
 }

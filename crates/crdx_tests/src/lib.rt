@@ -12,6 +12,8 @@ mod default_rows;
 #[cfg(test)]
 mod documents;
 #[cfg(test)]
+mod envelope_rows;
+#[cfg(test)]
 mod fakes;
 #[cfg(test)]
 mod harness;
