@@ -104,11 +104,7 @@ fn fill_fields(alloc: Global, fields: &Fields, members: Members) -> Result<Membe
 }
 
 #[cycle(fill)]
-fn fill_field(
-    alloc: Global,
-    field: &Field,
-    found: Option<Member>,
-) -> Result<Option<Member>, AllocError>
+fn fill_field(alloc: Global, field: &Field, found: Option<Member>) -> Result<Option<Member>, AllocError>
     requires { IfSome found (λ m. m.name ≡ field.now.name) }
     ensures { IfOk result (λ m. IsFilledAt field.now.name (filled_under (Some (declared_of field.now)) (tree_in found)) m) }
 {
@@ -164,11 +160,7 @@ pub(crate) fn copy_tree(alloc: Global, tree: &Tree) -> Result<Tree, AllocError>
 }
 
 /// Passes the members before a name on, and takes out the one of the name.
-fn pass_to(
-    members: &mut VecDeque<Member>,
-    name: &str,
-    passed: &mut Vec<Member>,
-) -> Result<Option<Member>, AllocError>
+fn pass_to(members: &mut VecDeque<Member>, name: &str, passed: &mut Vec<Member>) -> Result<Option<Member>, AllocError>
     ensures { IfOk result (λ found. IsPassed name.now members.old.items members.new.items passed.old.items passed.new.items found) }
 {
     while let Some(member) = members.pop_front() {
