@@ -1,22 +1,21 @@
 -- The failures by level are all faults, in order.
-use Rattle.std.specs.Prelude.{◌≡◌, ◌++◌, ◌&&◌, ℕ, zero, suc, List, [], ◌∷◌, Bool, true, false, Option, Some, None, option_map, map, if◌then◌else◌, is_none, All, Contains}
+use Rattle.std.specs.Prelude.{◌≡◌, ◌++◌, ◌&&◌, ℕ, zero, suc, List, [], ◌∷◌, Bool, true, false, Option, Some, None, option_map, if◌then◌else◌, is_none}
 use Rattle.std.proofs.Common.{◌⊎◌, arith, refl, sym, ap, subst, ◌∙◌, inl, inr}
-use Rattle.std.specs.Str.{bytes_eq}
 use Rattle.std.proofs.lemmas.Option.{same_Some}
 use Rattle.jtree.specs.Data.{Data, Items, no_items, item, IsTree, AreMembers, AreTrees}
 use Rattle.jtree.specs.Data as tree
 use Rattle.jtree.specs.Path.{Step, name, index, Path, part_by, member_at, item_at}
 use Rattle.jtree.specs.Internal.Lookups.{bool_cases, option_cases}
-use Rattle.schema.specs.Nodes.Node.{Node, node, object, map as map_of, list, Fields, no_fields, field, IsNode, AreOrdered}
+use Rattle.schema.specs.Nodes.Node.{Node, node, object, map as map_of, list, Fields, IsNode, AreOrdered}
 use Rattle.schema.specs.Nodes.ByPlace.{Declared, field_at}
-use Rattle.jtree.specs.Internal.Rising.{Among, among_left, among_right, among_parts, contains, each_of, all_pairs}
-use Rattle.stored.specs.Objects.Parts.{Pair, fields, values, items, whole, pair, node_by, Part, at, free, part_of, part_by_path, leads}
-use Rattle.stored.specs.Objects.Fault.{Test, F12, F13, fails, lacks_name, is_required, repeats, are_alike, has_alike_before, finds, HasFault}
-use Rattle.stored.specs.Objects.AllFaults.{Failure, AreFailures, Told, told_of}
-use Rattle.stored.specs.Internal.FailuresByLevel.{asks, here, own_tests, own, Below, joined, value_parts, item_parts, parts, field_parts, found, whole as whole_of, at_field, told_at}
+use Rattle.jtree.specs.Internal.Rising.{Among, among_right, contains, each_of, all_pairs}
+use Rattle.stored.specs.Objects.Parts.{Pair, fields, values, items, whole, pair, node_by, Part, at, free, part_by_path, leads}
+use Rattle.stored.specs.Objects.Fault.{Test, F12, F13, fails, lacks_name, repeats, are_alike, has_alike_before, finds, HasFault}
+use Rattle.stored.specs.Objects.AllFaults.{Failure, AreFailures}
+use Rattle.stored.specs.Internal.FailuresByLevel.{asks, here, own, Below, joined, value_parts, item_parts, parts, field_parts, found}
 use Rattle.stored.proofs.FieldLemmas.{field_node}
 use Rattle.stored.proofs.PartLemmas.{stays_free}
-use Rattle.stored.proofs.JoinedLemmas.{failure, Precedes, lookup, Stands, standing}
+use Rattle.stored.proofs.JoinedLemmas.{failure, Precedes, lookup, standing}
 use Rattle.stored.proofs.LevelLemmas.{among_whole, own_among, repeat_or, or_repeat, member_tree, of_field, lookup_fields, lookup_values, lookup_items, no_index_of_fields, no_index_of_values, no_name_of_items, parts_rising, found_rising}
 
 -- ---- a value beside its node
@@ -94,12 +93,12 @@ at_a_field : (fs : Fields) (preserves : Bool) (ms : tree.Members) (again : ℕ �
     → Among (of_field ms k f) (failure p t) → IsFound (fields fs preserves ms) again (name k) p t
 at_a_field fs preserves ms again k p t f e a = elim (option_cases (member_at k ms)) [
   | inl none ↦ let b : Among (if f.required then here F12 ∷ [] else []) (failure p t) = rw none at a in elim (bool_cases f.required) [
-      | inl h ↦ let c : (here F12 ≡ failure p t) ⊎ ⊥ = rw h at b in elim c [
-          | inl same ↦ missing k refl (ap (λ x. x.path) (sym same)) (ap (λ x. x.test) (sym same)) (rw (e, h, none) refl)
-          | inr no_more ↦ elim no_more [ ]
-        ]
-      | inr h ↦ let c : ⊥ = rw h at b in elim c [ ]
+    | inl h ↦ let c : (here F12 ≡ failure p t) ⊎ ⊥ = rw h at b in elim c [
+      | inl same ↦ missing k refl (ap (λ x. x.path) (sym same)) (ap (λ x. x.test) (sym same)) (rw (e, h, none) refl)
+      | inr no_more ↦ elim no_more [ ]
     ]
+    | inr h ↦ let c : ⊥ = rw h at b in elim c [ ]
+  ]
   | inr d ↦ below f.node d.0 (rw e refl) d.1 (rw d.1 at a)
 ]
 
@@ -144,12 +143,12 @@ lacking : (P : Pair) (again : ℕ → Bool) → IsSound P → (k : List ℕ) →
 lacking (fields fs preserves ms) again h k e = elim (option_cases (field_at k fs)) [
   | inl none ↦ let x = rw none at e in cc
   | inr f ↦ let x : f.0.required && is_none (member_at k ms) ≡ true = rw f.1 at e in elim (option_cases (member_at k ms)) [
-      | inl none ↦ elim (bool_cases f.0.required) [
-          | inl r ↦ (here F12 ∷ [], lookup_fields fs ms h.0 h.1 k ∙ rw (f.1, none, r) refl, inl refl)
-          | inr r ↦ let y = rw r at x in cc
-        ]
-      | inr d ↦ let y = rw d.1 at x in let z = never f.0.required y in elim z [ ]
+    | inl none ↦ elim (bool_cases f.0.required) [
+      | inl r ↦ (here F12 ∷ [], lookup_fields fs ms h.0 h.1 k ∙ rw (f.1, none, r) refl, inl refl)
+      | inr r ↦ let y = rw r at x in cc
     ]
+    | inr d ↦ let y = rw d.1 at x in let z = never f.0.required y in elim z [ ]
+  ]
 ]
 lacking _ again h k e = cc
 
@@ -176,13 +175,13 @@ leads_both : (N : Node) (v : Data) (s : Step) (M : Node) (w : Data) → leads N 
 leads_both N v s M w e = elim (option_cases (part_by v s)) [
   | inl none ↦ let x = rw none at e in cc
   | inr u ↦ elim (option_cases (node_by (pair N v) s)) [
-      | inl none ↦ let x = rw (u.1, none) at e in cc
-      | inr L ↦
-          let x = rw (u.1, L.1) at e in
-          let n : L.0 ≡ M = cc in
-          let d : u.0 ≡ w = cc in
-          (L.1 ∙ ap Some n, sym (part_is N v s L.0 L.1) ∙ (u.1 ∙ ap Some d))
-    ]
+    | inl none ↦ let x = rw (u.1, none) at e in cc
+    | inr L ↦
+        let x = rw (u.1, L.1) at e in
+        let n : L.0 ≡ M = cc in
+        let d : u.0 ≡ w = cc in
+        (L.1 ∙ ap Some n, sym (part_is N v s L.0 L.1) ∙ (u.1 ∙ ap Some d))
+  ]
 ]
 
 both_lead : (N : Node) (v : Data) (s : Step) (M : Node) (w : Data) → node_by (pair N v) s ≡ Some M → part_in (pair N v) s ≡ Some w → leads N v s ≡ Some (at M w)

@@ -1,13 +1,13 @@
 -- The failures of a value's parts, joined: which they are, and that they ascend.
-use Rattle.std.specs.Prelude.{◌≡◌, ◌==◌, ℕ, List, [], ◌∷◌, ◌++◌, Bool, true, false, Option, Some, None, if◌then◌else◌}
+use Rattle.std.specs.Prelude.{◌≡◌, ◌==◌, List, [], ◌∷◌, Bool, true, false, Option, Some, None, if◌then◌else◌}
 use Rattle.std.proofs.Common.{refl, sym, ap, subst, inl, inr}
 use Rattle.std.specs.Str.{bytes_eq}
 use Rattle.std.specs.Ordering.{nat_cmp}
-use Rattle.std.specs.declared.cmp.Ordering.TheVariants.{Less, Equal}
+use Rattle.std.specs.declared.cmp.Ordering.TheVariants.{Less}
 use Rattle.std.proofs.lemmas.Bool.{eq-eqb, eqb-true}
 use Rattle.std.proofs.lemmas.Cmp.{nat_list_cmp_total, nat_cmp_total, tied_itself}
 use Rattle.jtree.specs.Path.{Step, name, index, Path}
-use Rattle.jtree.specs.PathOrder.{step_cmp, path_cmp}
+use Rattle.jtree.specs.PathOrder.{step_cmp}
 use Rattle.jtree.specs.Internal.Lookups.{bool_cases, same_name, own_name, later_name}
 use Rattle.jtree.specs.Internal.PathLaws.{same_step}
 use Rattle.jtree.specs.Internal.Rising.{Among, Rising, among_left, among_right, among_parts, rising_join}
@@ -134,6 +134,6 @@ pub rising_joined : (bs : List Below) → AreRising bs → Rising Precedes (join
 rising_joined [] r = tt
 rising_joined (b ∷ bs) r = rising_join Precedes (under b.step b.failures) (joined bs) (rising_under b.step b.failures r.0) (rising_joined bs r.2)
     (λ v w a c.
-      let x = among_under b.step b.failures v a in
-      let y = stands bs r.2 w c in
-      earlier v w b.step y.step x.0 y.rest x.1 y.is (after b.step bs r.1 r.2 y.step y.failures y.there))
+    let x = among_under b.step b.failures v a in
+    let y = stands bs r.2 w c in
+    earlier v w b.step y.step x.0 y.rest x.1 y.is (after b.step bs r.1 r.2 y.step y.failures y.there))

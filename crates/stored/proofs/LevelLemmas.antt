@@ -1,9 +1,9 @@
 -- The failures by level ascend, and are what the nodes find.
-use Rattle.std.specs.Prelude.{◌≡◌, ◌==◌, ◌+◌, ℕ, zero, suc, List, [], ◌∷◌, ◌++◌, Bool, true, false, Option, Some, None, option_map, if◌then◌else◌}
+use Rattle.std.specs.Prelude.{◌≡◌, ◌==◌, ◌+◌, ℕ, zero, suc, List, [], ◌∷◌, Bool, true, false, Option, Some, None, option_map, if◌then◌else◌}
 use Rattle.std.proofs.Common.{◌⊎◌, rules, refl, sym, ap, subst, ◌∙◌, inl, inr, arith}
 use Rattle.std.specs.Str.{bytes_eq}
 use Rattle.std.specs.Ordering.{nat_cmp, is_lt}
-use Rattle.std.specs.declared.cmp.Ordering.TheVariants.{Less, Equal, Greater}
+use Rattle.std.specs.declared.cmp.Ordering.TheVariants.{Less}
 use Rattle.std.proofs.lemmas.Cmp.{nat_list_cmp_total, nat_cmp_total}
 use Rattle.std.proofs.lemmas.Bool.{eq-eqb, eqb-true}
 use Rattle.std.proofs.lemmas.Option.{same_Some}
@@ -11,18 +11,17 @@ use Rattle.std.specs.Cmp.{nat_cmp_is}
 use Rattle.jtree.specs.Data.{Data, Items, no_items, item, Members, no_members, member, IsTree, IsNameBefore, AreMembers, AreTrees}
 use Rattle.jtree.specs.Data as tree
 use Rattle.jtree.specs.Order.{text_cmp}
-use Rattle.jtree.specs.Path.{Step, name, index, Path, member_at, item_at}
-use Rattle.jtree.specs.PathOrder.{step_cmp}
+use Rattle.jtree.specs.Path.{name, index, Path, member_at, item_at}
 use Rattle.jtree.specs.Internal.OrderLaws.{text_same}
-use Rattle.jtree.specs.Internal.Lookups.{bool_cases, option_cases, ordering_cases, same_name, own_name, later_name, not_itself, before_none, IsNameBefore-trans}
+use Rattle.jtree.specs.Internal.Lookups.{bool_cases, option_cases, ordering_cases, same_name, own_name, later_name, before_none, IsNameBefore-trans}
 use Rattle.schema.specs.Nodes.Node.{Node, node, object, map, list, Fields, no_fields, field, IsNode, AreOrdered, IsBeforeFields}
 use Rattle.schema.specs.Nodes.ByPlace.{Declared, field_at}
 use Rattle.jtree.specs.Internal.Rising.{Among, Rising, among_left, among_right, among_parts, rising_join}
-use Rattle.stored.specs.Objects.Fault.{Test, F01, F02, F03, F04, F05, F06, F07, F08, F09, F10, F11, F12, F13, F14, number, are_alike, has_alike_before}
+use Rattle.stored.specs.Objects.Fault.{Test, F12, F13, number, are_alike, has_alike_before}
 use Rattle.stored.specs.Objects.AllFaults.{Failure}
 use Rattle.stored.specs.Internal.FailuresByLevel.{asks, own_tests, here, failing, own, Below, joined, value_parts, item_parts, members_from, first_at, at_field, whole, parts, field_parts, found}
 use Rattle.stored.proofs.FieldLemmas.{field_after}
-use Rattle.stored.proofs.JoinedLemmas.{failure, Precedes, is_step, lookup, IsStepBefore, AreRising, Stands, stands, rising_joined}
+use Rattle.stored.proofs.JoinedLemmas.{failure, Precedes, lookup, IsStepBefore, AreRising, Stands, stands, rising_joined}
 
 -- ---- of the value itself
 
@@ -30,9 +29,9 @@ among_failing : (test : Test → Bool) (ts : List Test) (f : Failure) → Among 
 among_failing test [] f a = elim a [ ]
 among_failing test (t ∷ ts) f a = elim (bool_cases (test t)) [
   | inl e ↦ let b : (here t ≡ f) ⊎ Among (failing test ts) f = rw e at a in elim b [
-      | inl h ↦ (ap (λ x. x.path) (sym h), subst (λ x. test x ≡ true) (ap (λ x. x.test) h) e, inl (ap (λ x. x.test) h))
-      | inr h ↦ let r = among_failing test ts f h in (r.0, r.1, inr r.2)
-    ]
+    | inl h ↦ (ap (λ x. x.path) (sym h), subst (λ x. test x ≡ true) (ap (λ x. x.test) h) e, inl (ap (λ x. x.test) h))
+    | inr h ↦ let r = among_failing test ts f h in (r.0, r.1, inr r.2)
+  ]
   | inr e ↦ let r = among_failing test ts f (rw e at a) in (r.0, r.1, inr r.2)
 ]
 
@@ -136,9 +135,9 @@ first_is k no_members m = refl
 first_is k (member l d ms) m = elim (bool_cases (is_lt (text_cmp l k))) [
   | inl e ↦ let other = later_name k l (less l k e) in rw (e, other) (first_is k ms m.2)
   | inr e ↦ rw e (elim (bool_cases (bytes_eq k l)) [
-      | inl f ↦ rw f refl
-      | inr f ↦ rw (f, before_none k ms (IsNameBefore-trans k l ms (greater k l e f) m.1) m.2) refl
-    ])
+    | inl f ↦ rw f refl
+    | inr f ↦ rw (f, before_none k ms (IsNameBefore-trans k l ms (greater k l e f) m.1) m.2) refl
+  ])
 ]
 
 member_after : (k l : List ℕ) (ms : Members) → text_cmp k l ≡ Less → member_at l (members_from k ms) ≡ member_at l ms
@@ -166,9 +165,9 @@ lookup_fields no_fields ms o m k = refl
 lookup_fields (field l N required default fs) ms o m k = elim (bool_cases (bytes_eq k l)) [
   | inl e ↦ rw e (ap (λ v. Some (at_field required (λ d. found false N d) v)) (first_is l ms m ∙ ap (λ n. member_at n ms) (sym (same_name k l e))))
   | inr e ↦ rw (e, lookup_fields fs (members_from l ms) o.2 (ordered_from l ms m) k) (elim (option_cases (field_at k fs)) [
-      | inl none ↦ rw none refl
-      | inr some ↦ rw (some.1, member_after l k ms (field_after l fs k some.0 o.1 o.2 some.1)) refl
-    ])
+    | inl none ↦ rw none refl
+    | inr some ↦ rw (some.1, member_after l k ms (field_after l fs k some.0 o.1 o.2 some.1)) refl
+  ])
 ]
 
 pub lookup_values : (failures : Data → List Failure) (ms : Members) (k : List ℕ) → lookup (name k) (value_parts failures ms) ≡ option_map failures (member_at k ms)
@@ -236,7 +235,7 @@ mutual
   fields_rising no_fields ms o m = tt
   fields_rising (field k N required default fs) ms o m = (
     at_field_rising required (λ d. found false N d) (first_at k (members_from k ms))
-    (λ d e. rising_whole false N d (parts N d) (parts_rising N d o.0 (member_tree k ms d m (sym (first_is k ms m) ∙ e)))),
+        (λ d e. rising_whole false N d (parts N d) (parts_rising N d o.0 (member_tree k ms d m (sym (first_is k ms m) ∙ e)))),
     fields_step k fs (members_from k ms) o.1,
     fields_rising fs (members_from k ms) o.2 (ordered_from k ms m),
   )

@@ -15,7 +15,7 @@ use Rattle.jtree.specs.Order.{tree_cmp}
 use Rattle.jtree.specs.Path.{member_at, item_at}
 use Rattle.jtree.specs.View.{data_of, items_of}
 use Rattle.jtree.specs.declared.value.Tree.{Tree}
-use Rattle.jtree.specs.Internal.Lookups.{bool_cases, ordering_cases}
+use Rattle.jtree.specs.Internal.Lookups.{ordering_cases}
 use Rattle.schema.specs.declared.node.ListType.{ListType}
 use Rattle.schema.specs.declared.node.ListType.TheVariants.{Atomic, Set, Map}
 use Rattle.stored.specs.Objects.Tests.{is_same}
@@ -140,8 +140,8 @@ seen_more type keys ds i d xs ys r old new here pushed answer added s =
     let before : ItemKey → Bool = λ k. any_before (λ e. has_key (item_key type keys e) k) i ds in
     let next : suc i ≡ i + 1 = omega arith in
     let here_too : (b : Bool) → get_or (xs ++ (r ∷ [])) i b ≡ has_alike_before (are_alike type keys) i ds (item_at i ds) = λ b.
-        subst (λ n. get_or (xs ++ (r ∷ [])) n b ≡ r) s.count (get_or-append_seam xs r [] b)
-        ∙ (answer before s.held ∙ (repeats_by_key type keys i ds d ∙ ap (has_alike_before (are_alike type keys) i ds) (sym here))) in
+    subst (λ n. get_or (xs ++ (r ∷ [])) n b ≡ r) s.count (get_or-append_seam xs r [] b)
+    ∙ (answer before s.held ∙ (repeats_by_key type keys i ds d ∙ ap (has_alike_before (are_alike type keys) i ds) (sym here))) in
     record {
       count = rw pushed (omega (arith, s.count, length-append xs (r ∷ [])));
       each = rw pushed (λ j b. below_more (λ n. get_or (xs ++ (r ∷ [])) n b ≡ has_alike_before (are_alike type keys) n ds (item_at n ds)) i

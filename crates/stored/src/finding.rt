@@ -211,11 +211,7 @@ fn fails_junctors(node: &Node, tree: &Tree) -> bool
 
 /// Adds the faults below an object with declared fields, whose members are merged with the fields by name.
 #[cycle(find)]
-fn find_in_fields(
-    report: &mut Report,
-    fields: &Fields,
-    members: &Members,
-) -> Result<(), AllocError>
+fn find_in_fields(report: &mut Report, fields: &Fields, members: &Members) -> Result<(), AllocError>
     ensures { OnOk result (progress report.new ≡ added (progress report.old) (joined (field_parts fields.now members.now))) }
 {
     let mut rest = members.members.as_slice();

@@ -1,5 +1,5 @@
 -- For private contracts: all failures of a value at its node in order, level by level, and how a walk tells them.
-use Rattle.std.specs.Prelude.{ℕ, suc, List, [], ◌∷◌, ◌++◌, map, Bool, true, false, Option, Some, None, if◌then◌else◌, string_bytes}
+use Rattle.std.specs.Prelude.{ℕ, suc, List, [], ◌∷◌, ◌++◌, map, Bool, false, Option, Some, None, if◌then◌else◌, string_bytes}
 use Rattle.std.specs.Str.{bytes_eq}
 use Rattle.std.specs.Ordering.{is_lt}
 use Rattle.jtree.specs.Data.{Data, Items, no_items, item, Members, no_members, member}

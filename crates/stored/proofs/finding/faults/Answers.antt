@@ -10,8 +10,7 @@ pub returns : goal.returns
 returns c =
     let N = node_of c.args.node.now in
     let v = data_of c.args.tree.now in
-    let fs = found false N v in
-    (
+    let fs = found false N v in (
       fs,
       all_failures N v c.reveal_invariant.ensures c.reveal_invariant-2.ensures,
       ap (λ p. p.told) c.in_ok-find.ensures ∙ (ap (λ xs. map told xs ++ map (told_at (string_bytes c.new.result)) fs) c.new-2.ensures.items ∙ ap (λ at. map (told_at at) fs) c.new.ensures.bytes),

@@ -1,7 +1,7 @@
 use Rattle.std.proofs.Common.{[], ◌∷◌}
 use Rattle.jtree.specs.View.{data_of}
 use Rattle.schema.specs.Nodes.View.{node_of}
-use Rattle.stored.specs.Objects.Fault.{Test, F01, F02, F03, F04, F05, F06, F07, F08, F09, F10, F11, F13, F14}
+use Rattle.stored.specs.Objects.Fault.{F01, F02, F03, F04, F05, F06, F07, F08, F09, F10, F11, F13, F14}
 use Rattle.stored.specs.Internal.FailuresByLevel.{asks, progress}
 use Rattle.stored.proofs.FindingLemmas.{told_own}
 use Rattle.stored.proofs.finding.find_own.Goals as goal
