@@ -434,8 +434,20 @@ fn values(rt: HostRuntime) -> Result<(), Fail> {
     for (name, field, good, bad) in &VALUES {
         let shape = shape_of_field(rt.alloc(), field)?;
         let node = first_field(shape.root());
-        is_text(&rt, misjudged(rt.alloc(), node, good, true)?.as_str(), "", "valid values", name);
-        is_text(&rt, misjudged(rt.alloc(), node, bad, false)?.as_str(), "", "other values", name);
+        is_text(
+            &rt,
+            misjudged(rt.alloc(), node, good, true)?.as_str(),
+            "",
+            "valid values",
+            name,
+        );
+        is_text(
+            &rt,
+            misjudged(rt.alloc(), node, bad, false)?.as_str(),
+            "",
+            "other values",
+            name,
+        );
     }
     Ok(())
 }
@@ -457,8 +469,20 @@ fn completed(alloc: Global, node: &Node, object: &str) -> Result<String, Fail> {
 fn forms(rt: HostRuntime) -> Result<(), Fail> {
     for (name, schema, object, wanted_pruned, wanted_completed) in &FORMS {
         let shape = shape_of(rt.alloc(), schema)?;
-        is_text(&rt, pruned(rt.alloc(), shape.root(), object)?.as_str(), wanted_pruned, "the pruned form", name);
-        is_text(&rt, completed(rt.alloc(), shape.root(), object)?.as_str(), wanted_completed, "the completed form", name);
+        is_text(
+            &rt,
+            pruned(rt.alloc(), shape.root(), object)?.as_str(),
+            wanted_pruned,
+            "the pruned form",
+            name,
+        );
+        is_text(
+            &rt,
+            completed(rt.alloc(), shape.root(), object)?.as_str(),
+            wanted_completed,
+            "the completed form",
+            name,
+        );
     }
     Ok(())
 }
@@ -479,7 +503,13 @@ fn faulty(alloc: Global, node: &Node, object: &str) -> Result<String, Fail> {
 fn all_faults(rt: HostRuntime) -> Result<(), Fail> {
     for (name, schema, object, wanted) in &FAULTS {
         let shape = shape_of(rt.alloc(), schema)?;
-        is_text(&rt, faulty(rt.alloc(), shape.root(), object)?.as_str(), wanted, "the faults", name);
+        is_text(
+            &rt,
+            faulty(rt.alloc(), shape.root(), object)?.as_str(),
+            wanted,
+            "the faults",
+            name,
+        );
     }
     Ok(())
 }
@@ -509,8 +539,20 @@ fn defaults(rt: HostRuntime) -> Result<(), Fail> {
     for (name, schema, wanted) in &DEFAULTS {
         let raw = crd_of(rt.alloc(), schema)??.raw;
         let broken = violations(rt.alloc(), &raw)?;
-        is_text(&rt, lines_of(rt.alloc(), broken.as_slice())?.as_str(), wanted, "what is broken", name);
-        is_text(&rt, answer(rt.alloc(), raw)?.as_str(), wanted, "the answer", name);
+        is_text(
+            &rt,
+            lines_of(rt.alloc(), broken.as_slice())?.as_str(),
+            wanted,
+            "what is broken",
+            name,
+        );
+        is_text(
+            &rt,
+            answer(rt.alloc(), raw)?.as_str(),
+            wanted,
+            "the answer",
+            name,
+        );
     }
     Ok(())
 }

@@ -1,7 +1,7 @@
 -- The defaults that are not good, found by a walk over the nodes.
-use Rattle.std.proofs.Common.{◌≡◌, ◌⊎◌, ℕ, List, [], ◌∷◌, ◌++◌, Option, Some, None, refl, ap, sym, ◌∙◌, subst, inl, inr, ◌+◌, ◌<◌, length, get_or, take}
-use Rattle.std.specs.Prelude.{map, option_map, codes}
-use Rattle.std.proofs.lemmas.List.{map-append, append-nil, take_more}
+use Rattle.std.proofs.Common.{◌≡◌, ℕ, List, [], ◌∷◌, ◌++◌, Option, Some, refl, ap, sym, ◌∙◌, subst, inl, inr, ◌+◌, ◌<◌, length, get_or, take}
+use Rattle.std.specs.Prelude.{map, codes}
+use Rattle.std.proofs.lemmas.List.{map-append, append-nil, append_assoc, take_more}
 use Rattle.std.proofs.lemmas.Grind.{flat_map-append}
 use Rattle.jtree.specs.Data.{Data}
 use Rattle.jtree.specs.Pointer.{token, name_token, pointer}
@@ -12,11 +12,7 @@ use Rattle.schema.specs.Rules.Breaks.{Told}
 use Rattle.schema.specs.declared.node.Field.{Field}
 use Rattle.schema.specs.declared.violation.Rule.TheVariants.{V14}
 use Rattle.stored.specs.Schemas.Defaults.{IsGoodDefault}
-use Rattle.stored.specs.Internal.DefaultList.{Default, behind, own_default, defaults_of, defaults_in_fields, defaults_in_field, AreBadOf, told_below, AreAdded}
-
-append-assoc : {A : Type 0} (xs ys zs : List A) → (xs ++ ys) ++ zs ≡ xs ++ (ys ++ zs)
-append-assoc [] ys zs = refl
-append-assoc (x ∷ xs) ys zs = ap (λ l. x ∷ l) (append-assoc xs ys zs)
+use Rattle.stored.specs.Internal.DefaultList.{Default, behind, own_default, defaults_in_fields, defaults_in_field, AreBadOf, told_below, AreAdded}
 
 bad_join : (xs ys us vs : List Default) → AreBadOf xs us → AreBadOf ys vs → AreBadOf (xs ++ ys) (us ++ vs)
 bad_join [] ys us vs s t = subst (λ ws. AreBadOf ys (ws ++ vs)) (sym s) t
@@ -28,7 +24,7 @@ pub added_join : (pointer : List ℕ) (xs ys : List Default) (before between aft
 added_join pointer xs ys before between after a b = record {
   bad = a.bad ++ b.bad;
   are_bad = bad_join xs ys a.bad b.bad a.are_bad b.are_bad;
-  told = b.told ∙ (ap (λ ts. ts ++ told_below pointer b.bad) a.told ∙ (append-assoc before (told_below pointer a.bad) (told_below pointer b.bad)
+  told = b.told ∙ (ap (λ ts. ts ++ told_below pointer b.bad) a.told ∙ (append_assoc before (told_below pointer a.bad) (told_below pointer b.bad)
       ∙ ap (λ ts. before ++ ts) (sym (map-append (λ d. record { pointer = pointer ++ place_pointer d.place; rule = V14 }) a.bad b.bad))));
 }
 
@@ -45,7 +41,7 @@ pointer_behind s p = flat_map-append token (step_path s) (place_path p)
 told_behind : (before text : List ℕ) (s : Step) (ds : List Default) → text ≡ pointer (step_path s) → told_below (before ++ text) ds ≡ told_below before (map (behind s) ds)
 told_behind before text s [] is = refl
 told_behind before text s (d ∷ ds) is = λ i.
-    record { pointer = (append-assoc before text (place_pointer d.place) ∙ ap (λ t. before ++ t) (ap (λ t. t ++ place_pointer d.place) is ∙ sym (pointer_behind s d.place))) i; rule = V14 }
+    record { pointer = (append_assoc before text (place_pointer d.place) ∙ ap (λ t. before ++ t) (ap (λ t. t ++ place_pointer d.place) is ∙ sym (pointer_behind s d.place))) i; rule = V14 }
     ∷ told_behind before text s ds is i
 
 pub added_behind : (before text : List ℕ) (s : Step) (ds : List Default) (old now : List Told) → text ≡ pointer (step_path s)
@@ -73,21 +69,21 @@ pub added_field : (before k text more : List ℕ) (own ds : List Default) (old b
     → AreAdded before (map (behind (property k)) (own ++ ds)) old now
 added_field before k text more own ds old between now is same first then =
     added_behind before (name_token (codes "properties") ++ name_token k) (property k) (own ++ ds) old now (property_tokens k)
-        (subst (λ t. AreAdded t (own ++ ds) old now) (is ∙ append-assoc before (name_token (codes "properties")) (name_token k))
-            (added_join text own ds old between now first (subst (λ t. AreAdded t ds between now) same then)))
+    (subst (λ t. AreAdded t (own ++ ds) old now) (is ∙ append_assoc before (name_token (codes "properties")) (name_token k))
+    (added_join text own ds old between now first (subst (λ t. AreAdded t ds between now) same then)))
 
 in_more_fields : (fs : List Field) (f : Field) → defaults_in_fields (fields_of (fs ++ f ∷ [])) ≡ defaults_in_fields (fields_of fs) ++ defaults_in_field f
 in_more_fields [] f = append-nil (defaults_in_field f)
 in_more_fields (g ∷ fs) f =
-    ap (λ ds. defaults_in_field g ++ ds) (in_more_fields fs f) ∙ sym (append-assoc (defaults_in_field g) (defaults_in_fields (fields_of fs)) (defaults_in_field f))
+    ap (λ ds. defaults_in_field g ++ ds) (in_more_fields fs f) ∙ sym (append_assoc (defaults_in_field g) (defaults_in_fields (fields_of fs)) (defaults_in_field f))
 
 pub added_more : (before : List ℕ) (fs : List Field) (i : ℕ) (f : Field) (old between now : List Told) → i < length fs → f ≡ get_or fs i f
     → AreAdded before (defaults_in_fields (fields_of (take i fs))) old between → AreAdded before (defaults_in_field f) between now
     → AreAdded before (defaults_in_fields (fields_of (take (i + 1) fs))) old now
 added_more before fs i f old between now within is first then =
     subst (λ ds. AreAdded before ds old now)
-        (sym (in_more_fields (take i fs) f) ∙ ap (λ gs. defaults_in_fields (fields_of gs)) (ap (λ g. take i fs ++ g ∷ []) is ∙ sym (take_more fs i f within)))
-        (added_join before (defaults_in_fields (fields_of (take i fs))) (defaults_in_field f) old between now first then)
+    (sym (in_more_fields (take i fs) f) ∙ ap (λ gs. defaults_in_fields (fields_of gs)) (ap (λ g. take i fs ++ g ∷ []) is ∙ sym (take_more fs i f within)))
+    (added_join before (defaults_in_fields (fields_of (take i fs))) (defaults_in_field f) old between now first then)
 
 -- ---- one default
 

@@ -1,6 +1,6 @@
 -- The walk over the nodes finds all defaults, no others, and in path order of their places.
-use Rattle.std.proofs.Common.{◌≡◌, ◌≢◌, ◌⊎◌, arith, ℕ, List, [], ◌∷◌, ◌++◌, Bool, true, false, Option, Some, None, refl, ap, sym, ◌∙◌, subst, inl, inr}
-use Rattle.std.specs.Prelude.{map, option_map, codes, All, AllPairs, Contains}
+use Rattle.std.proofs.Common.{◌≡◌, ◌≢◌, arith, ℕ, List, [], ◌∷◌, ◌++◌, true, Option, Some, None, refl, ap, sym, ◌∙◌, subst, inl, inr}
+use Rattle.std.specs.Prelude.{map, option_map, codes, All, Contains}
 use Rattle.std.specs.Str.{bytes_eq}
 use Rattle.std.specs.declared.cmp.Ordering.TheVariants.{Less}
 use Rattle.std.proofs.lemmas.Option.{same_Some}
@@ -12,9 +12,9 @@ use Rattle.jtree.specs.Internal.Lookups.{bool_cases, option_cases, same_name, ow
 use Rattle.jtree.specs.Internal.PathLaws.{same_step}
 use Rattle.jtree.specs.Internal.Rising.{Among, Rising, among_left, among_right, among_parts, rising_join, each_of, contains, all_pairs}
 use Rattle.schema.specs.Document.Places.{Step, Place, property, map_value, items, all_of, any_of, one_of, negation, step_path, place_path, place_pointer}
-use Rattle.schema.specs.Nodes.Node.{Node, node, Sort, scalar, object, map as map_node, list, open_, Fields, no_fields, field, IsNode, AreOrdered, IsBeforeFields}
+use Rattle.schema.specs.Nodes.Node.{Node, node, scalar, object, map as map_node, list, open_, Fields, no_fields, field, IsNode, AreOrdered, IsBeforeFields}
 use Rattle.schema.specs.Nodes.ByPlace.{Declared, field_at, node_below, node_at, AreNodesOf}
-use Rattle.schema.specs.Rules.Breaks.{Break, AreBreaks, BreaksNone, AreViolations, break_cmp, told, told_of}
+use Rattle.schema.specs.Rules.Breaks.{Break, BreaksNone, AreViolations, break_cmp, told, told_of}
 use Rattle.schema.specs.Document.ReadFault.{IsSound}
 use Rattle.schema.specs.Nodes.Shape.{IsShapeRefusal}
 use Rattle.schema.specs.declared.refused.Refused.{Refused}
@@ -22,8 +22,8 @@ use Rattle.schema.specs.declared.refused.Refused.TheVariants.{Violations, NoMemo
 use Rattle.schema.specs.Rules.Broken.{Broken}
 use Rattle.schema.specs.declared.violation.Violation.{Violation}
 use Rattle.schema.specs.declared.violation.Rule.TheVariants.{V14}
-use Rattle.stored.specs.Schemas.Defaults.{IsGoodDefault, HasDefault, HasGoodDefaults, field_of}
-use Rattle.stored.specs.Schemas.Accepted.{HasBadDefault, IsBroken, IsRootOf, IsRefusal}
+use Rattle.stored.specs.Schemas.Defaults.{HasDefault, HasGoodDefaults, field_of}
+use Rattle.stored.specs.Schemas.Accepted.{IsBroken, IsRootOf, IsRefusal}
 use Rattle.stored.specs.Internal.DefaultList.{Default, behind, own_default, defaults_of, defaults_in_fields, IsGood, AreBadOf, told_below, AreAdded}
 use Rattle.stored.proofs.FieldLemmas.{fields_before, later_field}
 
@@ -121,8 +121,8 @@ field_among (field l M required default fs) k f x is a = elim (bool_cases (bytes
   | inl t ↦
       let same : record { node = M; required = required; default = default } ≡ f = same_Some _ f (rw t at is) in
       among_left _ (defaults_in_fields fs) (behind (property k) x)
-          (subst (λ n. Among (map (behind (property l)) (own_default M default ++ defaults_of M)) (behind (property n) x)) (sym (same_name k l t))
-              (among_image (behind (property l)) (own_default M default ++ defaults_of M) x (subst (λ g. Among (own_default g.node g.default ++ defaults_of g.node) x) (sym same) a)))
+      (subst (λ n. Among (map (behind (property l)) (own_default M default ++ defaults_of M)) (behind (property n) x)) (sym (same_name k l t))
+      (among_image (behind (property l)) (own_default M default ++ defaults_of M) x (subst (λ g. Among (own_default g.node g.default ++ defaults_of g.node) x) (sym same) a)))
   | inr o ↦ among_right _ (defaults_in_fields fs) (behind (property k) x) (field_among fs k f x (rw o at is) a)
 ]
 
@@ -158,7 +158,7 @@ found_from (s ∷ before) N O k f d there is has = elim (option_cases (node_belo
 all_listed : (N : Node) (p : Place) (M : Node) (d : Data) → HasDefault N p M d → Among (defaults_of N) (record { place = p; node = M; value = d })
 all_listed N p M d h = subst (λ q. Among (defaults_of N) (record { place = q; node = M; value = d })) (sym h.place_is)
     (subst (λ K. Among (defaults_of N) (record { place = h.before ++ (property h.name ∷ []); node = K; value = d })) h.node_is
-        (found_from h.before N h.object h.name h.field d h.object_is h.field_is h.default_is))
+    (found_from h.before N h.object h.name h.field d h.object_is h.field_is h.default_is))
 
 -- ---- in path order
 
@@ -214,13 +214,13 @@ mutual
   rising_fields no_fields ordered = tt
   rising_fields (field k M required default fs) ordered =
       rising_join IsEarlier (map (behind (property k)) (own_default M default ++ defaults_of M)) (defaults_in_fields fs)
-          (rising_behind (property k) (own_default M default ++ defaults_of M) (rising_own M default ordered.0 (rising_node M ordered.0)))
-          (rising_fields fs ordered.2)
-          (λ v w a b.
-              let here = image (behind (property k)) (own_default M default ++ defaults_of M) v a in
-              let later = later_names fs k ordered.1 ordered.2 w b in
-              subst (λ p. path_cmp p (place_path w.place) ≡ Less) (sym (ap (λ y. place_path y.place) here.1))
-                  (subst (λ q. path_cmp (place_path (property k ∷ here.0.place)) (place_path q) ≡ Less) (sym later.2) (earlier_field k later.0 here.0.place later.1 later.3)))
+      (rising_behind (property k) (own_default M default ++ defaults_of M) (rising_own M default ordered.0 (rising_node M ordered.0)))
+      (rising_fields fs ordered.2)
+      (λ v w a b.
+      let here = image (behind (property k)) (own_default M default ++ defaults_of M) v a in
+      let later = later_names fs k ordered.1 ordered.2 w b in
+      subst (λ p. path_cmp p (place_path w.place) ≡ Less) (sym (ap (λ y. place_path y.place) here.1))
+      (subst (λ q. path_cmp (place_path (property k ∷ here.0.place)) (place_path q) ≡ Less) (sym later.2) (earlier_field k later.0 here.0.place later.1 later.3)))
 
 -- ---- those that are not good
 
@@ -271,8 +271,11 @@ bad_violations raw N bad found unbroken nodes only are_bad is = (
     each = each_of (λ b. IsBroken raw b.place b.rule) (map break_of bad) (λ b a.
         let x = image break_of bad b a in
         let parts = bad_parts (defaults_of N) bad are_bad x.0 x.2 in
-        subst (λ c. IsBroken raw c.place c.rule) (sym x.1) (inr (refl, unbroken,
-            record { root = N; nodes = nodes; node = x.0.node; default = x.0.value; is = node_listed N nodes.ordered x.0 parts.0; bad = parts.1 })));
+        subst (λ c. IsBroken raw c.place c.rule) (sym x.1) (inr (
+          refl,
+          unbroken,
+          record { root = N; nodes = nodes; node = x.0.node; default = x.0.value; is = node_listed N nodes.ordered x.0 parts.0; bad = parts.1 },
+        )));
     all = λ p r b. elim b [
       | inl other ↦ absurd (unbroken p r other)
       | inr own ↦

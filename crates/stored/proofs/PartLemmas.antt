@@ -1,11 +1,11 @@
 -- What holds of all parts of an object: it holds of the object, and below each step.
-use Rattle.std.proofs.Common.{◌≡◌, [], ◌∷◌, Option, Some, None, refl, ap, sym, ◌∙◌, subst, inl, inr, ◌⊎◌}
-use Rattle.std.specs.Prelude.{option_map, option_and_then}
+use Rattle.std.proofs.Common.{◌≡◌, [], ◌∷◌, Option, Some, None, refl, subst, inl, inr, ◌⊎◌}
+use Rattle.std.specs.Prelude.{option_map}
 use Rattle.jtree.specs.Data.{Data}
 use Rattle.jtree.specs.Path.{Step, Path, part_by}
 use Rattle.jtree.specs.Internal.Lookups.{option_cases}
 use Rattle.schema.specs.Nodes.Node.{Node}
-use Rattle.stored.specs.Objects.Parts.{Part, at, free, part_of, Leading, part_by_step, part_by_path, leads, Everywhere}
+use Rattle.stored.specs.Objects.Parts.{Part, at, free, part_of, part_by_path, leads, Everywhere}
 
 same_node : (N M : Node) (v w : Data) → ◌≡◌ {A = Option Part} (Some (at N v)) (Some (at M w)) → N ≡ M
 same_node N M v w e = cc

@@ -1,5 +1,5 @@
 -- Pruning what was pruned changes nothing, and so pruning what was filled, where defaults are good.
-use Rattle.std.proofs.Common.{◌≡◌, ℕ, List, [], ◌∷◌, ◌++◌, Bool, true, false, Option, Some, None, refl, sym, ap, ◌∙◌, subst, inl, inr}
+use Rattle.std.proofs.Common.{◌≡◌, ℕ, List, [], ◌∷◌, ◌++◌, Bool, true, false, Option, Some, None, refl, sym, ◌∙◌, subst, inl, inr}
 use Rattle.std.specs.Prelude.{option_map, option_and_then}
 use Rattle.jtree.specs.Data.{Data, Items, Members}
 use Rattle.jtree.specs.Data as tree
@@ -12,11 +12,11 @@ use Rattle.schema.specs.Nodes.ByPlace.{Declared, field_at, node_at}
 use Rattle.schema.specs.declared.node.Bounds.{Bounds}
 use Rattle.schema.specs.declared.node.MapType.{MapType}
 use Rattle.schema.specs.declared.node.ListType.{ListType}
-use Rattle.stored.specs.Objects.Parts.{Part, at, free, value_of, part_by_path, Leading, pair, whole}
-use Rattle.stored.specs.Objects.Becomes.{label, Becomes, leads_uncut, leads_filled, filled_under, admitted, or_default, is_nullable, IsPruned, IsFilled}
+use Rattle.stored.specs.Objects.Parts.{at, value_of, part_by_path, Leading}
+use Rattle.stored.specs.Objects.Becomes.{label, Becomes, leads_uncut, leads_filled, admitted, or_default, is_nullable, IsPruned, IsFilled}
 use Rattle.stored.specs.Schemas.Defaults.{IsGoodDefault, HasGoodDefaults, field_of}
 use Rattle.stored.specs.Internal.Becoming.{PartBecomes}
-use Rattle.stored.proofs.BecomingLemmas.{free_stays, by_steps}
+use Rattle.stored.proofs.BecomingLemmas.{free_stays}
 use Rattle.stored.proofs.Again.{same_label, list_only, object_only, absent}
 
 abbrev IsPrunedAgain : Node → Data → Path → Type 0
@@ -64,8 +64,8 @@ step R P (node n t (object fs true type bounds)) v (tree.object ns) r (name k) p
 step R P (node n t (object fs false type bounds)) v (tree.object ns) r (name k) path again =
     let o = of_object R P (node n t (object fs false type bounds)) v ns r in
     elim (option_cases (field_at k fs)) [
-    | inl none ↦ rw (none, P.cut n t fs type bounds o.0 ns k o.1 none) refl
-    | inr f ↦ rw f.1 (each f.0.node (member_at k ns) path (λ e is. let d = P.field n t fs false type bounds o.0 ns k f.0 e o.1 f.1 is in again f.0.node d.0 e d.1))
+      | inl none ↦ rw (none, P.cut n t fs type bounds o.0 ns k o.1 none) refl
+      | inr f ↦ rw f.1 (each f.0.node (member_at k ns) path (λ e is. let d = P.field n t fs false type bounds o.0 ns k f.0 e o.1 f.1 is in again f.0.node d.0 e d.1))
     ]
 step R P (node n t (map M type bounds)) v (tree.object ns) r (index i) path again = refl
 step R P (node n t (map M type bounds)) v (tree.object ns) r (name k) path again =
@@ -138,21 +138,25 @@ filled_below = record {
       let gone = absent leads_uncut None (member_at k ms) (λ p. rw none at (b.pruned (name k ∷ p))) refl in
       absent leads_filled None (member_at k ns) (λ p. rw (none, gone) at (b.filled (name k ∷ p))) refl;
   field = λ n t fs preserves type bounds ms ns k f e b found is.
-      let o = of_part leads_filled f.node (or_default (admitted f.node (member_at k ms)) f.default) (member_at k ns) (λ p. rw found at (b.filled (name k ∷ p))) e is in
-      (o.0, record {
-        good = λ p M j g d leads. b.good (places.property k ∷ p) M j g d (rw found leads);
-        pruned = filled_from f.node (member_at k ms) f.default o.0 o.1
-            (pruned_part f.node (member_at k ms) o.0 (uncut n t fs preserves type bounds ms ms k f b.pruned found))
-            (λ default. (b.good [] (node n t (object fs preserves type bounds)) k f o.0 refl found default).pruned);
-        filled = o.2;
-      });
+      let o = of_part leads_filled f.node (or_default (admitted f.node (member_at k ms)) f.default) (member_at k ns) (λ p. rw found at (b.filled (name k ∷ p))) e is in (
+        o.0,
+        record {
+          good = λ p M j g d leads. b.good (places.property k ∷ p) M j g d (rw found leads);
+          pruned = filled_from f.node (member_at k ms) f.default o.0 o.1
+              (pruned_part f.node (member_at k ms) o.0 (uncut n t fs preserves type bounds ms ms k f b.pruned found))
+              (λ default. (b.good [] (node n t (object fs preserves type bounds)) k f o.0 refl found default).pruned);
+          filled = o.2;
+        },
+      );
   value = λ n t M type bounds ms ns k e b is.
-      let o = of_part leads_filled M (admitted M (member_at k ms)) (member_at k ns) (λ p. b.filled (name k ∷ p)) e is in
-      (o.0, record {
-        good = λ p. b.good (places.map_value ∷ p);
-        pruned = pruned_part M (member_at k ms) o.0 (λ p. b.pruned (name k ∷ p)) (admitted_only M (member_at k ms) o.0 o.1);
-        filled = o.2;
-      });
+      let o = of_part leads_filled M (admitted M (member_at k ms)) (member_at k ns) (λ p. b.filled (name k ∷ p)) e is in (
+        o.0,
+        record {
+          good = λ p. b.good (places.map_value ∷ p);
+          pruned = pruned_part M (member_at k ms) o.0 (λ p. b.pruned (name k ∷ p)) (admitted_only M (member_at k ms) o.0 o.1);
+          filled = o.2;
+        },
+      );
   item = λ n t M type keys bounds ds es i e b is.
       let o = of_part leads_filled M (item_at i ds) (item_at i es) (λ p. b.filled (index i ∷ p)) e is in
       (o.0, record { good = λ p. b.good (places.items ∷ p); pruned = pruned_part M (item_at i ds) o.0 (λ p. b.pruned (index i ∷ p)) o.1; filled = o.2 });
@@ -163,4 +167,6 @@ pub filled_pruned : (N : Node) (u v w : Data) → HasGoodDefaults N → IsPruned
 filled_pruned N u v w good pruned filled = prunes IsGoodFilling filled_below N v w (record {
   good = λ p M k f d there is has. good (p ++ (places.property k ∷ [])) f.node d
       (record { before = p; name = k; place_is = refl; object = M; object_is = there; field = f; field_is = is; node_is = refl; default_is = has });
-  pruned = pruned_again N u v pruned; filled = filled })
+  pruned = pruned_again N u v pruned;
+  filled = filled;
+})

@@ -1,6 +1,6 @@
 -- Validity level by level says the same as: no place has a fault.
-use Rattle.std.proofs.Common.{◌≡◌, ◌≢◌, ◌⊎◌, ℕ, zero, suc, List, [], ◌∷◌, ◌++◌, Bool, true, false, Option, Some, None, refl, ap, sym, ◌∙◌, subst, inl, inr}
-use Rattle.std.specs.Prelude.{option_map, option_and_then, not, ◌&&◌, ◌||◌, is_some, is_none}
+use Rattle.std.proofs.Common.{◌≡◌, ℕ, zero, suc, List, [], ◌∷◌, ◌++◌, Bool, true, false, Option, Some, None, refl, ap, sym, subst, inl, inr}
+use Rattle.std.specs.Prelude.{option_map, not, ◌&&◌, ◌||◌, is_some, is_none}
 use Rattle.std.specs.Str.{bytes_eq}
 use Rattle.std.proofs.lemmas.Bool.{and_parts, and_from, false_from_ne_true}
 use Rattle.std.proofs.lemmas.Option.{same_Some}
@@ -9,17 +9,13 @@ use Rattle.schema.specs.declared.node.ScalarKind.TheVariants.{Boolean, Integer, 
 use Rattle.jtree.specs.Data.{Data, Items, no_items, item, Members, no_members, member, IsTree, AreTrees, AreMembers}
 use Rattle.jtree.specs.Data as tree
 use Rattle.jtree.specs.Path.{Step, name, index, Path, member_at, item_at, part_by}
-use Rattle.jtree.specs.Internal.Lookups.{bool_cases, option_cases, same_name, own_name, member_first, later_name, member_tail}
-use Rattle.schema.specs.Nodes.Node.{Node, node, Sort, scalar, object, map, list, open_, Fields, no_fields, field, Validations, validations, IsNode, IsBeforeFields, AreOrdered}
-use Rattle.jtree.specs.Order.{text_cmp}
-use Rattle.std.specs.declared.cmp.Ordering.TheVariants.{Less}
-use Rattle.std.proofs.lemmas.Cmp.{nat_list_cmp_total}
+use Rattle.jtree.specs.Internal.Lookups.{bool_cases, option_cases, same_name, own_name, member_first, member_tail}
+use Rattle.schema.specs.Nodes.Node.{Node, node, scalar, object, map, list, open_, Fields, no_fields, field, Validations, validations, IsNode, AreOrdered}
 use Rattle.schema.specs.Nodes.ByPlace.{Declared, field_at}
 use Rattle.schema.specs.declared.node.Bounds.{Bounds}
-use Rattle.schema.specs.declared.node.ListType.{ListType}
-use Rattle.stored.specs.Objects.Parts.{Pair, fields, pair, Part, at, part_of, part_by_path, leads, Everywhere}
-use Rattle.stored.specs.Objects.Tests.{accepts_scalar, is_below, is_above, is_other_value, is_below_minimum, is_above_maximum, is_too_short, is_too_long, holds, meets_junctors}
-use Rattle.stored.specs.Objects.Fault.{Test, F01, F02, F03, F04, F05, F06, F07, F08, F09, F10, F11, F12, F13, F14, is_null, constraints_of, fails_scalar, fails_items, fails_members, are_few, are_many, fails, is_required, lacks_name, has_alike_before, any_before, are_alike, repeats, finds, HasFault, IsValid}
+use Rattle.stored.specs.Objects.Parts.{pair, at, part_of, leads, Everywhere}
+use Rattle.stored.specs.Objects.Tests.{accepts_scalar, is_other_value, is_below_minimum, is_above_maximum, is_too_short, is_too_long, holds, meets_junctors}
+use Rattle.stored.specs.Objects.Fault.{Test, F01, F02, F03, F04, F05, F06, F07, F08, F09, F10, F11, F12, F13, F14, is_null, constraints_of, fails_scalar, fails_items, fails_members, are_few, are_many, fails, is_required, lacks_name, has_alike_before, any_before, are_alike, repeats, finds, IsValid}
 use Rattle.stored.specs.Internal.ValidByLevel.{is_within, has_required, any_item, are_apart, true_if_any, is_valid, are_fields_valid, are_values_valid, are_items_valid}
 use Rattle.stored.proofs.FieldLemmas.{later_field, field_node}
 use Rattle.stored.proofs.PartLemmas.{never_free, kept_everywhere, holds_below}
@@ -120,7 +116,7 @@ met : (cs : Validations) (v : Data) → holds cs v ≡ true
     × (is_too_short (constraints_of cs).lengths.least v ≡ false) × (is_too_long (constraints_of cs).lengths.most v ≡ false)
 met (validations t all any one negated) v h =
     five_parts (is_other_value t.choices v) (is_below_minimum t.minimum t.exclusive_minimum v) (is_above_maximum t.maximum t.exclusive_maximum v)
-        (is_too_short t.lengths.least v) (is_too_long t.lengths.most v) (and_parts _ _ h).0
+    (is_too_short t.lengths.least v) (is_too_long t.lengths.most v) (and_parts _ _ h).0
 
 junctors_met : (cs : Validations) (v : Data) → holds cs v ≡ true → not (meets_junctors cs v) ≡ false
 junctors_met (validations t all any one negated) v h = ap not (and_parts _ _ h).1
@@ -241,10 +237,10 @@ holds_from : (nullable : Bool) (description : Option (List ℕ)) (kind : ScalarK
     → ((t : Test) → fails t (node nullable description (scalar kind cs)) v ≡ false) → holds cs v ≡ true
 holds_from nullable description kind (validations t all any one negated) v a f =
     and_from _ _
-        (five_from (is_other_value t.choices v) (is_below_minimum t.minimum t.exclusive_minimum v) (is_above_maximum t.maximum t.exclusive_maximum v)
-            (is_too_short t.lengths.least v) (is_too_long t.lengths.most v)
-            (second_false _ _ a (f F03)) (second_false _ _ a (f F04)) (second_false _ _ a (f F05)) (second_false _ _ a (f F06)) (second_false _ _ a (f F07)))
-        (not_true _ (second_false _ _ a (f F14)))
+    (five_from (is_other_value t.choices v) (is_below_minimum t.minimum t.exclusive_minimum v) (is_above_maximum t.maximum t.exclusive_maximum v)
+    (is_too_short t.lengths.least v) (is_too_long t.lengths.most v)
+    (second_false _ _ a (f F03)) (second_false _ _ a (f F04)) (second_false _ _ a (f F05)) (second_false _ _ a (f F06)) (second_false _ _ a (f F07)))
+    (not_true _ (second_false _ _ a (f F14)))
 
 -- of a value that is not null
 scalar_valid : (nullable : Bool) (description : Option (List ℕ)) (kind : ScalarKind) (cs : Validations) (v : Data) → not (accepts_scalar kind v) ≡ false
@@ -260,10 +256,10 @@ names_from : (fs : Fields) (ms : Members) → AreOrdered fs → ((k : List ℕ) 
 names_from no_fields ms ordered h = refl
 names_from (field l N required default fs) ms ordered h =
     and_from _ _ (stands_if_required required (member_at l ms) (rw (own_name l) at (h l)))
-        (names_from fs ms ordered.2 (λ k. elim (option_cases (field_at k fs)) [
-          | inl none ↦ rw none refl
-          | inr f ↦ rw f.1 (rw (later_field k l N required default fs f.0 ordered f.1) at (h k))
-        ]))
+    (names_from fs ms ordered.2 (λ k. elim (option_cases (field_at k fs)) [
+      | inl none ↦ rw none refl
+      | inr f ↦ rw f.1 (rw (later_field k l N required default fs f.0 ordered f.1) at (h k))
+    ]))
 
 none_alike : (alike : Data → Data → Bool) (d : Data) (ds : Items) → ((i : ℕ) (e : Data) → item_at i ds ≡ Some e → alike d e ≡ false) → any_item (alike d) ds ≡ false
 none_alike alike d no_items h = refl
@@ -280,12 +276,12 @@ mutual
   valid_from (node nullable description (scalar kind cs)) v n t h = scalar_valid nullable description kind cs v (h [] _ _ refl [] F01) (h [] _ _ refl [])
   valid_from (node nullable description (object fs preserves type bounds)) (tree.object ms) n t h =
       and_from _ _ (is_within_bounds bounds _ (h [] _ _ refl [] F10) (h [] _ _ refl [] F11))
-          (and_from _ _ (names_from fs ms n (λ k. h [] _ _ refl (name k ∷ []) F12)) (fields_from fs ms n t (λ k f d is found. faultless_below _ _ (name k) f.node d h (rw (is, found) refl))))
+      (and_from _ _ (names_from fs ms n (λ k. h [] _ _ refl (name k ∷ []) F12)) (fields_from fs ms n t (λ k f d is found. faultless_below _ _ (name k) f.node d h (rw (is, found) refl))))
   valid_from (node nullable description (map N type bounds)) (tree.object ms) n t h =
       and_from _ _ (is_within_bounds bounds _ (h [] _ _ refl [] F10) (h [] _ _ refl [] F11)) (values_from N ms n t (λ k d found. faultless_below _ _ (name k) N d h (rw found refl)))
   valid_from (node nullable description (list N type keys bounds)) (tree.list ds) n t h =
       and_from _ _ (is_within_bounds bounds _ (h [] _ _ refl [] F08) (h [] _ _ refl [] F09))
-          (and_from _ _ (apart_from (are_alike type keys) ds (λ i e is. rw is at (h [] _ _ refl (index i ∷ []) F13))) (items_from N ds n t (λ i d found. faultless_below _ _ (index i) N d h (rw found refl))))
+      (and_from _ _ (apart_from (are_alike type keys) ds (λ i e is. rw is at (h [] _ _ refl (index i ∷ []) F13))) (items_from N ds n t (λ i d found. faultless_below _ _ (index i) N d h (rw found refl))))
   valid_from (node nullable description open_) v n t h = refl
   valid_from N v n t h = let none = h [] N v refl [] F01 in cc
 

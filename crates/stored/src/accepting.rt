@@ -19,7 +19,6 @@ pub struct Schema {
 
 impl Model for Schema {
     ghost use Rattle.schema.specs.Nodes.Node.{Node as NodeData};
-
     ghost use Rattle.schema.specs.Internal.NodeCode.{node_coded};
 
     ghost Value = { NodeData };

@@ -1,20 +1,13 @@
 -- Validity level by level, as a walk over an object finds it.
-use Rattle.std.specs.Prelude.{ℕ, List, Bool, true, false, Option, Some, None, option_map, not, ◌&&◌, ◌||◌, is_some}
+use Rattle.std.specs.Prelude.{ℕ, Bool, true, false, Option, Some, None, option_map, not, ◌&&◌, ◌||◌, is_some}
 use Rattle.jtree.specs.Data.{Data, Items, no_items, item, Members, no_members, member}
 use Rattle.jtree.specs.Data as tree
 use Rattle.jtree.specs.Path.{member_at}
-use Rattle.jtree.specs.View.{data_of}
 use Rattle.schema.specs.Nodes.Node.{Node, node, scalar, object, map, list, open_, Fields, no_fields, field}
-use Rattle.schema.specs.Nodes.ByPlace.{Declared, field_at}
-use Rattle.schema.specs.Nodes.View.{node_of}
+use Rattle.schema.specs.Nodes.ByPlace.{field_at}
 use Rattle.schema.specs.declared.node.Bounds.{Bounds}
-use Rattle.schema.specs.declared.node.Field.{Field}
 use Rattle.stored.specs.Objects.Tests.{accepts_scalar, is_below, is_above, holds}
 use Rattle.stored.specs.Objects.Fault.{items_count, members_count, are_alike}
-
--- what a field of the code says
-abbrev pub declared_by : Field → Declared
-declared_by f = record { node = node_of f.node; required = f.required; default = option_map data_of f.default }
 
 abbrev pub is_within : Bounds → ℕ → Bool
 is_within b n = not (is_below b.least n) && not (is_above b.most n)

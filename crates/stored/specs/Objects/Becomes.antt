@@ -1,6 +1,6 @@
 -- What becomes of an object: pruned, filled with defaults, stored (apiextensions.k8s.io/v1, "field pruning", "defaulting" and
 -- "nullable"). Each is said by what stands at each path of the result.
-use Rattle.std.specs.Prelude.{◌≡◌, ℕ, ℤ, List, Bool, true, false, Option, Some, None, option_map, if◌then◌else◌, not, ◌&&◌, is_none}
+use Rattle.std.specs.Prelude.{◌≡◌, ℕ, ℤ, List, Bool, false, Option, Some, None, option_map, if◌then◌else◌, not, ◌&&◌, is_none}
 use Rattle.jtree.specs.Data.{Data, IsTree}
 use Rattle.jtree.specs.Data as tree
 use Rattle.jtree.specs.Path.{Step, name, Path, part_at, member_at}

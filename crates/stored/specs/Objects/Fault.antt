@@ -4,14 +4,14 @@ use Rattle.std.specs.Prelude.{◌≡◌, ℕ, zero, suc, List, [], ◌∷◌, �
 use Rattle.jtree.specs.Data.{Data, Items, no_items, item, Members, no_members, member}
 use Rattle.jtree.specs.Data as tree
 use Rattle.jtree.specs.Kind.{is_list, is_object}
-use Rattle.jtree.specs.Path.{Step, name, index, Path, member_at, item_at}
-use Rattle.schema.specs.Nodes.Node.{Node, node, Sort, scalar, object, map, list, open_, Fields, Validations, validations}
+use Rattle.jtree.specs.Path.{name, index, Path, member_at, item_at}
+use Rattle.schema.specs.Nodes.Node.{Node, node, Sort, scalar, object, map, list, open_, Validations, validations}
 use Rattle.schema.specs.Nodes.ByPlace.{Declared, field_at}
 use Rattle.schema.specs.declared.node.Bounds.{Bounds}
 use Rattle.schema.specs.declared.node.Constraints.{Constraints}
 use Rattle.schema.specs.declared.node.ListType.{ListType}
-use Rattle.schema.specs.declared.node.ListType.TheVariants.{Atomic, Set, Map}
-use Rattle.stored.specs.Objects.Parts.{Pair, fields, pair, Part, at, part_by_path, leads}
+use Rattle.schema.specs.declared.node.ListType.TheVariants.{Set, Map}
+use Rattle.stored.specs.Objects.Parts.{Pair, fields, pair, at, part_by_path, leads}
 use Rattle.stored.specs.Objects.Tests.{accepts_scalar, is_same, is_below, is_above, is_other_value, is_below_minimum, is_above_maximum, is_too_short, is_too_long, meets_junctors}
 
 pub data Test : Type 0 where

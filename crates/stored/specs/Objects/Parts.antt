@@ -1,6 +1,6 @@
 -- Which node of a schema stands for a part of an object. Where none does the part is free: under a name that is not declared,
 -- below an open node, and where a value is not of its node's kind (apiextensions.k8s.io/v1, structural schemas).
-use Rattle.std.specs.Prelude.{◌≡◌, List, [], ◌∷◌, Bool, Option, Some, None, option_map, option_and_then}
+use Rattle.std.specs.Prelude.{◌≡◌, [], ◌∷◌, Bool, Option, Some, None, option_map, option_and_then}
 use Rattle.jtree.specs.Data.{Data, Items, Members}
 use Rattle.jtree.specs.Data as tree
 use Rattle.jtree.specs.Path.{Step, name, index, Path, part_by}

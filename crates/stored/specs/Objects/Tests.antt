@@ -1,13 +1,12 @@
 -- What is asked of a scalar (OpenAPI 3.0, Schema Object). Bounds say nothing of texts and truth values, and lengths nothing of
 -- integers and truth values. An exclusive flag without its bound says nothing.
-use Rattle.std.specs.Prelude.{ℕ, ℤ, List, length, Bool, true, false, Option, Some, None, if◌then◌else◌, not, ◌&&◌, ◌||◌, ◌+◌, nat_lt, nat_eq, int_lt, int_le, chars}
+use Rattle.std.specs.Prelude.{ℕ, ℤ, length, Bool, true, false, Option, Some, None, if◌then◌else◌, not, ◌&&◌, ◌||◌, ◌+◌, nat_lt, nat_eq, int_lt, int_le, chars}
 use Rattle.std.specs.Ordering.{is_eq}
 use Rattle.jtree.specs.Data.{Data, Items, no_items, item}
 use Rattle.jtree.specs.Data as tree
 use Rattle.jtree.specs.Kind.{is_boolean, is_integer, is_text}
 use Rattle.jtree.specs.Order.{tree_cmp}
 use Rattle.schema.specs.Nodes.Node.{Validations, validations, Branches, no_branches, branch}
-use Rattle.schema.specs.declared.node.Bounds.{Bounds}
 use Rattle.schema.specs.declared.node.Constraints.{Constraints}
 use Rattle.schema.specs.declared.node.ScalarKind.{ScalarKind}
 use Rattle.schema.specs.declared.node.ScalarKind.TheVariants.{Boolean, Integer, String, IntOrString}

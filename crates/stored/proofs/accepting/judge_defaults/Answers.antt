@@ -1,4 +1,4 @@
-use Rattle.std.proofs.Common.{subst, sym, rules}
+use Rattle.std.proofs.Common.{subst, rules}
 use Rattle.std.proofs.lemmas.List.{nil_from_length}
 use Rattle.std.specs.Prelude.{map, [], true}
 use Rattle.schema.specs.Rules.Breaks.{told}

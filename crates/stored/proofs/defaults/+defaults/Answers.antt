@@ -1,4 +1,4 @@
-use Rattle.std.proofs.Common.{◌≡◌, ◌++◌, ◌∙◌, sym, ap, subst}
+use Rattle.std.proofs.Common.{◌++◌, ◌∙◌, sym, ap, subst}
 use Rattle.std.specs.Prelude.{map, codes}
 use Rattle.std.proofs.lemmas.Result.{on_ok_weaker}
 use Rattle.jtree.specs.Pointer.{name_token}
@@ -18,16 +18,16 @@ find_bad-returns-in-List t c = rw c.in-List.is (on_ok_weaker c.find_bad_below-in
 pub find_bad_below-returns : goal.find_bad_below-returns
 find_bad_below-returns t c = on_ok_weaker c.find_bad.result
     (λ a. subst (λ N. AreAdded (c.args.pointer.now ++ name_token c.args.keyword.now) (defaults_of N) (map told c.args.found.now.items) (map told c.find_bad.new.found.items)) (ap node_of c.deref.ensures ∙ c.node.view_is)
-        (subst (λ text. AreAdded text (defaults_of (node_of c.deref.result.now)) (map told c.args.found.now.items) (map told c.find_bad.new.found.items)) (c.as_str.ensures.value ∙ c.in_ok-place.ensures) a))
+    (subst (λ text. AreAdded text (defaults_of (node_of c.deref.result.now)) (map told c.args.found.now.items) (map told c.find_bad.new.found.items)) (c.as_str.ensures.value ∙ c.in_ok-place.ensures) a))
     c.find_bad.ensures
 
 pub find_bad_field-returns : goal.find_bad_field-returns
 find_bad_field-returns t c = on_ok_weaker c.find_bad.result
     (added_field c.args.pointer.now c.args.field.now.name c.as_str-3.result.now c.as_str-4.result.now _ _ _ _ _
-        (c.as_str-3.ensures.value ∙ (c.in_ok-place.ensures
-            ∙ (ap (λ x. x ++ name_token c.as_str-2.result.now) (c.as_str.ensures.value ∙ c.in_ok-properties.ensures)
-            ∙ ap (λ x. (c.args.pointer.now ++ name_token (codes "properties")) ++ name_token x) c.as_str-2.ensures)))
-        (c.as_str-4.ensures.value ∙ sym c.as_str-3.ensures.value) c.in_ok-add_bad.ensures)
+    (c.as_str-3.ensures.value ∙ (c.in_ok-place.ensures
+    ∙ (ap (λ x. x ++ name_token c.as_str-2.result.now) (c.as_str.ensures.value ∙ c.in_ok-properties.ensures)
+    ∙ ap (λ x. (c.args.pointer.now ++ name_token (codes "properties")) ++ name_token x) c.as_str-2.ensures)))
+    (c.as_str-4.ensures.value ∙ sym c.as_str-3.ensures.value) c.in_ok-add_bad.ensures)
     c.find_bad.ensures
 
 pub find_bad_fields-loop-field-preserved : goal.find_bad_fields-loop-field-preserved

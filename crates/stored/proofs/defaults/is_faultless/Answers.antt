@@ -9,8 +9,7 @@ pub returns : goal.returns
 returns c =
     let N = node_of c.args.node.now in
     let v = data_of c.args.tree.now in
-    let found = c.in_ok-faults.field-0.items in
-    (
+    let found = c.in_ok-faults.field-0.items in (
       λ t. none_is_valid N v found c.in_ok-faults.ensures (search (rules, nil_from_length)),
       λ valid. c.is_empty.ensures ∙ ap (λ xs. length xs == 0) (c.as_slice.ensures.value ∙ valid_has_none N v found c.in_ok-faults.ensures valid),
     )
