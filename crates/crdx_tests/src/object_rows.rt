@@ -3,8 +3,9 @@ use crate::harness::{crd_of, is_text, shape_of, shape_of_field};
 use jtree::{JFault, Tree};
 use schema::{Node, RawSchema, Refused, Sort, Violation};
 use std::alloc::{AllocError, Global};
+use std::process::Abort;
 use std::test::Fail;
-use stored::{Fault, accept, complete, faults, prune, valid, violations};
+use stored::{Fault, accept, complete, faults, is_stored, prune, valid, violations};
 
 // A name, the schema of a field `x`, and values of the field: those that are valid there, and those that are not.
 static VALUES: [(&str, &str, &str, &str); 24] = [
@@ -151,6 +152,40 @@ static VALUES: [(&str, &str, &str, &str); 24] = [
         r#"{"type":"array","items":{"type":"object","nullable":true,"properties":{"a":{"type":"integer"}}}}"#,
         r#"[[null,{}],[{"a":1}]]"#,
         r#"[[{"a":null}],[[]]]"#,
+    ),
+];
+
+// A name, the schema of a field `x`, and values of the field: those that are stored as they are, and those that are not.
+static STORED: [(&str, &str, &str, &str); 5] = [
+    (
+        "a default",
+        r#"{"type":"object","properties":{"f":{"type":"integer","default":7}}}"#,
+        r#"[{"f":7},{"f":0}]"#,
+        r#"[{},{"f":null},{"f":7,"z":1},{"f":""},null]"#,
+    ),
+    (
+        "nulls that are accepted and others",
+        r#"{"type":"object","properties":{"a":{"type":"integer"},"b":{"type":"integer","nullable":true,"default":1}}}"#,
+        r#"[{"b":null},{"a":1,"b":1}]"#,
+        r#"[{},{"a":null,"b":1}]"#,
+    ),
+    (
+        "a default below a map and a list",
+        r#"{"type":"object","additionalProperties":{"type":"array","items":{"type":"object","properties":{"f":{"type":"integer","default":7}}}}}"#,
+        r#"[{},{"m":[]},{"m":[{"f":7}]}]"#,
+        r#"[{"m":[{}]},{"m":[{"f":7},{"f":7,"z":1}]},{"m":null}]"#,
+    ),
+    (
+        "fields that are kept",
+        r#"{"type":"object","x-kubernetes-preserve-unknown-fields":true,"properties":{"a":{"type":"object","properties":{}}}}"#,
+        r#"[{"z":null,"a":{}}]"#,
+        r#"[{"a":{"z":1}}]"#,
+    ),
+    (
+        "a set",
+        r#"{"type":"array","items":{"type":"integer"},"x-kubernetes-list-type":"set"}"#,
+        "[[1,2]]",
+        "[[1,1]]",
     ),
 ];
 
@@ -416,38 +451,55 @@ fn first_field(root: &Node) -> &Node {
     }
 }
 
-/// The values of a list, one behind another, for which `valid` answers otherwise than is wanted.
-fn misjudged(alloc: Global, node: &Node, values: &str, wanted: bool) -> Result<String, Fail> {
-    let mut found = String::new(alloc);
+/// The values of a list, one behind another, of which a test answers otherwise than is wanted: whether they are stored as they
+/// are, or valid.
+fn misjudged(
+    alloc: Global,
+    node: &Node,
+    values: &str,
+    stored: bool,
+    wanted: bool,
+) -> Result<String, Fail> {
+    let mut others = String::new(alloc);
     if let Tree::List(items) = Tree::from_bytes(alloc, values.as_bytes())? {
         for item in &items.items {
-            if valid(node, item) != wanted {
-                found.push_str(item.to_text(alloc)?.as_str())?;
+            let found = if stored {
+                is_stored(node, item)
+            } else {
+                valid(node, item)
+            };
+            if found != wanted {
+                others.push_str(item.to_text(alloc)?.as_str())?;
             }
         }
     }
-    Ok(found)
+    Ok(others)
+}
+
+/// Fails unless the test answers so of these values of a field.
+fn try_values(
+    rt: &impl Abort,
+    alloc: Global,
+    row: &(&str, &str, &str, &str),
+    stored: bool,
+) -> Result<(), Fail> {
+    let (name, field, good, bad) = *row;
+    let shape = shape_of_field(alloc, field)?;
+    let node = first_field(shape.root());
+    let others = misjudged(alloc, node, good, stored, true)?;
+    is_text(rt, others.as_str(), "", "values that pass", name);
+    let others = misjudged(alloc, node, bad, stored, false)?;
+    is_text(rt, others.as_str(), "", "other values", name);
+    Ok(())
 }
 
 #[test]
 fn values(rt: HostRuntime) -> Result<(), Fail> {
-    for (name, field, good, bad) in &VALUES {
-        let shape = shape_of_field(rt.alloc(), field)?;
-        let node = first_field(shape.root());
-        is_text(
-            &rt,
-            misjudged(rt.alloc(), node, good, true)?.as_str(),
-            "",
-            "valid values",
-            name,
-        );
-        is_text(
-            &rt,
-            misjudged(rt.alloc(), node, bad, false)?.as_str(),
-            "",
-            "other values",
-            name,
-        );
+    for row in &VALUES {
+        try_values(&rt, rt.alloc(), row, false)?;
+    }
+    for row in &STORED {
+        try_values(&rt, rt.alloc(), row, true)?;
     }
     Ok(())
 }

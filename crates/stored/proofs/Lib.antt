@@ -22,3 +22,4 @@ pub mod LevelLemmas
 pub mod FaultLemmas
 pub mod FaultlessLemmas
 pub mod RepetitionLemmas
+pub mod FilledTest

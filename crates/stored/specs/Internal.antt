@@ -7,3 +7,4 @@ pub mod Becoming
 pub mod Fields
 pub mod Pruning
 pub mod Filling
+pub mod FilledTest
