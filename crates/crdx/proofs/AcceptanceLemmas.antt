@@ -14,7 +14,7 @@ use Rattle.jtree.specs.View.{data_of, members_of}
 use Rattle.jtree.specs.declared.value.Member.{Member}
 use Rattle.crdx.specs.Objects.Node.{Node, scalar, object, Fields, no_fields, field, IsNode, IsBeforeFields, AreOrdered}
 use Rattle.crdx.specs.Objects.NodeView.{node_of, fields_of}
-use Rattle.crdx.specs.declared.stored.node.Field.{Field}
+use Rattle.crdx.specs.declared.simple.node.Field.{Field}
 use Rattle.crdx.specs.Objects.Place.{Place, schema_at, place_cmp}
 use Rattle.crdx.specs.Objects.Accepted.{IsEnvelope, IsKnown, in_envelope, known_object, known_scalar, IsKnownScalar, IsKnownObject, AllKnown, IsNodeOf, IsNodeAt, AreFieldsOf, kept, properties_of}
 use Rattle.schema.specs.Document.Places.{envelope_names}
@@ -24,8 +24,8 @@ use Rattle.schema.specs.Rules.Broken.{Broken}
 use Rattle.schema.specs.Rules.Breaks.{AreViolations, BreaksNone, told, told_of}
 use Rattle.schema.specs.declared.violation.Violation.{Violation}
 use Rattle.crdx.specs.Objects.Refusal.{IsRefusal}
-use Rattle.crdx.specs.declared.stored.refused.Refused.{Refused}
-use Rattle.crdx.specs.declared.stored.refused.Refused.TheVariants.{Violations, NotYet, NoMemory}
+use Rattle.crdx.specs.declared.simple.refused.Refused.{Refused}
+use Rattle.crdx.specs.declared.simple.refused.Refused.TheVariants.{Violations, NotYet, NoMemory}
 use Rattle.jtree.specs.Internal.Lookups.{bool_cases, option_cases, same_name, own_name, member_first, member_tail, before_each, IsNameBefore-trans}
 
 -- ---- one place further from the root

@@ -18,7 +18,7 @@ use Rattle.clap.specs.declared.error.kind.ErrorKind.TheVariants.{OutOfMemory}
 use Rattle.clap.proofs.WalkLemmas.{first_value-rows}
 use Rattle.crdx.specs.Program.CommandLine.{crdx_app, entered, faults, value_of, decimal_value, IsCommand, IsHelp, IsRequestOf, Asks}
 use Rattle.crdx.specs.declared.arguments.request.Request.{Request}
-use Rattle.crdx.specs.declared.arguments.request.Request.TheVariants.{Check, Sample, Help, UsageError, NoMemory}
+use Rattle.crdx.specs.declared.arguments.request.Request.TheVariants.{Check, Object, Sample, Help, UsageError, NoMemory}
 
 -- the command that was met has this name and these rows
 pub met_as : {Z : Type 0} (s : Option (Box SubCommand Z)) (name : Text) (rows : List Row) → option_map (λ b. (out-SubCommand (box_value b)).name.now) s ≡ Some name
@@ -55,6 +55,7 @@ faults_are arguments = refl
 -- what is asked where `clap` takes the arguments, and where it refuses them
 pub asks_command : (arguments : List Text) (named : Option (Text × List Row)) (o : Request) → named ≡ entered arguments → faults arguments ≡ [] → IsCommand named o → Asks arguments o
 asks_command arguments named (Check w) same none is = (none, subst (λ n. IsCommand n (Check w)) same is)
+asks_command arguments named (Object w) same none is = (none, subst (λ n. IsCommand n (Object w)) same is)
 asks_command arguments named (Sample w) same none is = (none, subst (λ n. IsCommand n (Sample w)) same is)
 asks_command arguments named (Help text) same none is = absurd is
 asks_command arguments named (UsageError text) same none is = inr (none, subst (λ n. IsCommand n (UsageError text)) same is)
@@ -66,6 +67,7 @@ no_help k memory (inr version) = cc
 
 pub asks_refused : (arguments : List Text) (e : Error) (o : Request) → HasKind (faults arguments) e → IsRequestOf (kind_of e) o → Asks arguments o
 asks_refused arguments e (Check w) has is = absurd is
+asks_refused arguments e (Object w) has is = absurd is
 asks_refused arguments e (Sample w) has is = absurd is
 asks_refused arguments e (Help text) (inl memory) is = absurd (no_help (kind_of e) memory is)
 asks_refused arguments e (Help text) (inr among) is = (kind_of e, among, is)

@@ -2,7 +2,7 @@
 use Rattle.std.proofs.Common.{◌≡◌, ℕ, zero, suc, ◌-◌, ◌<◌, ◌≤◌, List, [], ◌∷◌, length, get_or, drop, sym, ap, ◌∙◌, subst, arith, drop-cons}
 use Rattle.crdx.specs.Objects.Node.{field, AreOrdered}
 use Rattle.crdx.specs.Objects.NodeView.{node_of, fields_of}
-use Rattle.crdx.specs.declared.stored.node.Field.{Field}
+use Rattle.crdx.specs.declared.simple.node.Field.{Field}
 
 pub dropped_ordered : (xs : List Field) (n : ℕ) → AreOrdered (fields_of xs) → AreOrdered (fields_of (drop n xs))
 dropped_ordered xs zero h = h

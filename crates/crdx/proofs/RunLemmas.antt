@@ -3,24 +3,29 @@ use Rattle.std.proofs.Common.{◌≡◌, ◌≢◌, ◌⊎◌, ℕ, List, [], �
 use Rattle.std.specs.Io.KnownBytes.{Appends, Keeps}
 use Rattle.jtree.specs.Data.{Data}
 use Rattle.jtree.specs.Internal.OrderLaws.{tree_total}
-use Rattle.schema.specs.Rules.Breaks.{Break, told, told_of}
+use Rattle.jtree.specs.Internal.Rising.{contained}
+use Rattle.schema.specs.Rules.Broken.{Broken}
+use Rattle.schema.specs.Rules.Breaks.{Break, Breaking, AreViolations, IsUnbroken, told, told_of}
+use Rattle.schema.specs.declared.refused.Refused.{Refused}
+use Rattle.schema.specs.declared.refused.Refused.TheVariants as refusal
+use Rattle.stored.specs.Schemas.Accepted.{IsBroken, IsRefusal}
 use Rattle.schema.specs.Document.ReadFault.{IsReadFault}
 use Rattle.schema.specs.declared.fault.SFault.{SFault}
 use Rattle.schema.specs.declared.fault.SFault.TheVariants as s
-use Rattle.crdx.specs.declared.stored.refused.Refused.{Refused}
-use Rattle.crdx.specs.declared.stored.refused.Refused.TheVariants as refusal
+use Rattle.crdx.specs.declared.simple.refused.Refused.{Refused as SimpleRefused}
+use Rattle.crdx.specs.declared.simple.refused.Refused.TheVariants as simple
 use Rattle.schema.specs.declared.violation.Violation.{Violation}
-use Rattle.crdx.specs.Program.RunResult.{IsRunResult, answered, refused, unread_input, unwritten, no_memory, IsInputRefused, IsAnswer, no_samples, HasBreaks, IsCutByMemory, IsCutByWrite}
+use Rattle.crdx.specs.Program.RunResult.{IsRunResult, answered, refused, unread_input, unwritten, no_memory, IsInputRefused, IsAnswer, structural, violations, no_object, no_samples, told_lines, HasBreaks, IsCutByMemory, IsCutByWrite}
 use Rattle.crdx.specs.Output.Line.{lines}
 use Rattle.crdx.specs.Output.PartialOutput.{IsPartialOutput}
 use Rattle.crdx.specs.Output.Walk.{WritesPage}
-use Rattle.crdx.specs.Program.Requested.{ArePools, IsRequested, NotYet, HasFirstDefault, HasFirstUnknown, IsRequestedSchema, HasAcceptedSchema, IsCrdRefused}
-use Rattle.crdx.specs.Program.Documents.{Documents, AreAmong}
-use Rattle.crdx.specs.Internal.ExitStatus.{status, cause_of_reading, cause_of_refusal, cause_of_pools, cause_of_walk, IsGiven}
-use Rattle.crdx.specs.Internal.Cause.{IsReadCause, IsRawCause, IsSchemaCause, IsPoolsCause, IsInputCause, IsSampleCause, IsWalkCause}
+use Rattle.crdx.specs.Program.Requested.{ArePools, IsRequested, IsRequestedSchema, IsUnbrokenSchema, HasUnbrokenSchema, HasAcceptedSchema, IsCrdRefused}
+use Rattle.crdx.specs.Program.Documents.{Documents, file_name, AreAmong}
+use Rattle.crdx.specs.Internal.ExitStatus.{status, cause_of_reading, cause_of_refusal, cause_of_simple_refusal, cause_of_pools, cause_of_walk, IsGiven}
+use Rattle.crdx.specs.Internal.Cause.{IsUnreadCause, IsReadCause, IsBrokenCause, IsUnknownCause, IsSchemaCause, IsPoolsCause, IsInputCause, IsSampleCause, IsWalkCause}
 use Rattle.crdx.specs.Samples.Over.{Pools}
 use Rattle.crdx.specs.Samples.Sample.{Question}
-use Rattle.crdx.specs.Objects.Refusal.{IsRefusal}
+use Rattle.crdx.specs.Objects.Refusal.{IsRefusal as IsSimpleRefusal}
 use Rattle.crdx.specs.declared.plan.fault.PFault.{PFault}
 use Rattle.crdx.specs.declared.plan.fault.PFault.TheVariants.{Form}
 use Rattle.crdx.specs.declared.plan.fault.PFault.TheVariants as p
@@ -29,11 +34,12 @@ use Rattle.crdx.specs.declared.running.causes.Input.TheVariants as input
 use Rattle.crdx.specs.declared.running.causes.PlaceCode.TheVariants as code
 use Rattle.crdx.specs.declared.running.causes.Cause.{Cause}
 use Rattle.crdx.specs.declared.running.causes.Cause.TheVariants.{Unread, Document, Crd, Pools as PoolsCause, Place, Violations, NotASample, Write, NoMemory}
-use Rattle.crdx.specs.declared.running.checking.Answer.{Answer}
+use Rattle.crdx.specs.declared.running.answer.Answer.{Answer}
 use Rattle.crdx.specs.declared.arguments.request.CheckArguments.{CheckArguments}
+use Rattle.crdx.specs.declared.arguments.request.ObjectArguments.{ObjectArguments}
 use Rattle.crdx.specs.declared.arguments.request.SampleArguments.{SampleArguments}
 use Rattle.crdx.specs.declared.arguments.request.Request.{Request}
-use Rattle.crdx.specs.declared.arguments.request.Request.TheVariants.{Check, Sample, Help, UsageError, NoMemory as NoRequest}
+use Rattle.crdx.specs.declared.arguments.request.Request.TheVariants.{Check, Object, Sample}
 use Rattle.crdx.specs.declared.walk.fault.WFault.{WFault}
 use Rattle.crdx.specs.declared.walk.fault.WFault.TheVariants as w
 use Rattle.crdx.specs.Output.Sink.{HasFailed, one_more}
@@ -48,24 +54,16 @@ module _ (has : Documents) (unread read : ℕ) (crd version : List ℕ) where
   cause_of_fault d (s.TooLarge p) at is = (d, at, λ e. cc, is)
   cause_of_fault d s.NoMemory at is = tt
 
-  -- why a request that names the schema has no answer, where violations are told apart
-  input_of_reading : (Unready : NotYet) (request : Request) (cause : Cause) → (IsCrdRefused has crd version Unready → IsInputRefused has request)
+  -- why a request that names the schema has no answer
+  pub input_of_reading : (request : Request) (cause : Cause) → (IsCrdRefused has crd version → IsInputRefused has request)
       → IsReadCause has unread read crd version cause → IsInputCause has unread read request cause
-  input_of_reading Unready request (Unread i) refuse why = why.1
-  input_of_reading Unready request (Document i fault) refuse why = refuse (inl (fault, why.1, why.2))
-  input_of_reading Unready request (Crd fault) refuse why = refuse (inr (inl (fault, why)))
-  input_of_reading Unready request (Place input.Crd code.KeywordForm p) refuse why = refuse (inr (inl (s.KeywordForm p, why)))
-  input_of_reading Unready request (Place input.Crd code.TooLarge p) refuse why = refuse (inr (inl (s.TooLarge p, why)))
-  input_of_reading Unready request NoMemory refuse why = tt
-  input_of_reading Unready request _ refuse why = absurd why
-
-  input_of_raw : (Unready : NotYet) (request : Request) (raw : Data) (cause : Cause) → IsRequestedSchema has crd version raw → (IsCrdRefused has crd version Unready → IsInputRefused has request)
-      → ((vs : Vec Violation Global) → cause ≡ Violations vs → IsRawCause raw Unready (Violations vs) → IsAnswer has request 1 [])
-      → IsRawCause raw Unready cause → IsInputCause has unread read request cause
-  input_of_raw Unready request raw (Place input.Crd code.NotYet p) asked refuse answer why = refuse (inr (inr (string_bytes p, (raw, asked, why))))
-  input_of_raw Unready request raw (Violations vs) asked refuse answer why = answer vs refl why
-  input_of_raw Unready request raw NoMemory asked refuse answer why = tt
-  input_of_raw Unready request raw _ asked refuse answer why = absurd why
+  input_of_reading request (Unread i) refuse why = why.1
+  input_of_reading request (Document i fault) refuse why = refuse (inl (fault, why.1, why.2))
+  input_of_reading request (Crd fault) refuse why = refuse (inr (fault, why))
+  input_of_reading request (Place input.Crd code.KeywordForm p) refuse why = refuse (inr (s.KeywordForm p, why))
+  input_of_reading request (Place input.Crd code.TooLarge p) refuse why = refuse (inr (s.TooLarge p, why))
+  input_of_reading request NoMemory refuse why = tt
+  input_of_reading request _ refuse why = absurd why
 
   some_break : (vs : List Violation) (breaks : List Break) → map told vs ≡ map told_of breaks → vs ≢ [] → breaks ≢ []
   some_break [] breaks same some none = some refl
@@ -73,35 +71,52 @@ module _ (has : Documents) (unread read : ℕ) (crd version : List ℕ) where
   some_break (v ∷ vs) (b ∷ breaks) same some none = cc
 
   -- the breaks that violations tell
-  broken_raw : (Unready : NotYet) (raw : Data) (vs : Vec Violation Global) → IsRequestedSchema has crd version raw → IsRawCause raw Unready (Violations vs)
-      → (breaks : List Break) × (map told vs.items ≡ map told_of breaks) × HasBreaks has crd version breaks
-  broken_raw Unready raw vs asked why = (why.0.0, why.0.2, (raw, asked, why.0.1, some_break vs.items why.0.0 why.0.2 why.1))
+  pub broken : (rules : Data → Breaking) (raw : Data) (vs : List Violation) → IsRequestedSchema has crd version raw → AreViolations (rules raw) vs → vs ≢ []
+      → (breaks : List Break) × (map told vs ≡ map told_of breaks) × HasBreaks rules has crd version breaks
+  broken rules raw vs asked are some = (are.0, are.2, (raw, asked, are.1, some_break vs are.0 are.2 some))
 
-  pub broken : (Unready : NotYet) (vs : Vec Violation Global) → IsSchemaCause has unread read crd version Unready (Violations vs) → (breaks : List Break) × (map told vs.items ≡ map told_of breaks) × HasBreaks has crd version breaks
-  broken Unready vs (inl why) = absurd why
-  broken Unready vs (inr why) = broken_raw Unready why.0 vs why.1 why.2
+-- where there are no violations, no rule is broken
+pub none_broken : (rules : Breaking) → AreViolations rules [] → IsUnbroken rules
+none_broken rules ([], are, same) p r is = absurd (contained [] _ (are.all p r is))
+none_broken rules (b ∷ breaks, are, same) p r is = cc
 
-pub refused_raw : (raw : Data) (r : Refused) → IsRefusal raw r → IsRawCause raw HasFirstUnknown (cause_of_refusal r)
-refused_raw raw (refusal.Violations vs) is = is
-refused_raw raw (refusal.NotYet p) is = is
-refused_raw raw refusal.NoMemory is = tt
+pub refused_schema : (raw : Data) (r : Refused) → IsRefusal raw r → IsBrokenCause raw (cause_of_refusal r)
+refused_schema raw (refusal.Violations vs) is = is
+refused_schema raw refusal.NoMemory is = tt
 
-pub check_input : (has : Documents) (unread read : ℕ) (arguments : CheckArguments) (cause : Cause) → ((vs : Vec Violation Global) → cause ≡ Violations vs → ⊥)
-    → IsSchemaCause has unread read arguments.crd.now arguments.version.now HasFirstDefault cause → IsInputCause has unread read (Check arguments) cause
-check_input has unread read arguments cause none (inl why) =
-    input_of_reading has unread read arguments.crd.now arguments.version.now HasFirstDefault (Check arguments) cause (λ r. r) why
-check_input has unread read arguments cause none (inr why) =
-    input_of_raw has unread read arguments.crd.now arguments.version.now HasFirstDefault (Check arguments) why.0 cause why.1 (λ r. r) (λ vs e is. absurd (none vs e)) why.2
+pub refused_simple : (raw : Data) (r : SimpleRefused) → IsSimpleRefusal raw r → IsUnknownCause raw (cause_of_simple_refusal r)
+refused_simple raw (simple.Violations vs) is = is
+refused_simple raw (simple.NotYet p) is = is
+refused_simple raw simple.NoMemory is = tt
 
-pub sample_input : (has : Documents) (unread read : ℕ) (arguments : SampleArguments) (cause : Cause)
-    → IsSchemaCause has unread read arguments.crd.now arguments.version.now HasFirstUnknown cause → IsInputCause has unread read (Sample arguments) cause
-sample_input has unread read arguments cause (inl why) =
-    input_of_reading has unread read arguments.crd.now arguments.version.now HasFirstUnknown (Sample arguments) cause (λ r. inl r) why
-sample_input has unread read arguments cause (inr why) =
-    let crd = arguments.crd.now in
-    let version = arguments.version.now in
-    input_of_raw has unread read crd version HasFirstUnknown (Sample arguments) why.0 cause why.1 (λ r. inl r)
-    (λ vs e is. let found = broken_raw has unread read crd version HasFirstUnknown why.0 vs why.1 is in no_samples arguments found.0 found.2) why.2
+module _ (has : Documents) (unread read : ℕ) (arguments : ObjectArguments) where
+  object_refused : (raw : Data) (cause : Cause) → IsRequestedSchema has arguments.crd.now arguments.version.now raw → IsBrokenCause raw cause → IsInputCause has unread read (Object arguments) cause
+  object_refused raw (Violations vs) asked why = let found = broken has unread read arguments.crd.now arguments.version.now IsBroken raw vs.items asked why.0 why.1 in no_object arguments found.0 found.2
+  object_refused raw NoMemory asked why = tt
+  object_refused raw _ asked why = absurd why
+
+  pub object_schema : (cause : Cause) → IsSchemaCause has unread read arguments.crd.now arguments.version.now IsBrokenCause cause → IsInputCause has unread read (Object arguments) cause
+  object_schema cause (inl why) = input_of_reading has unread read arguments.crd.now arguments.version.now (Object arguments) cause (λ r. inl r) why
+  object_schema cause (inr why) = object_refused why.0 cause why.1 why.2
+
+  -- the object is read of documents that were at hand before, where the schema breaks no rule
+  pub object_input : (later : Documents) (cause : Cause) → AreAmong later has → HasUnbrokenSchema has arguments.crd.now arguments.version.now
+      → IsUnreadCause later unread read input.Object (file_name arguments.object) cause → IsInputCause has unread read (Object arguments) cause
+  object_input later (Unread i) among unbroken why = why.1
+  object_input later (Document i fault) among unbroken why = inr (unbroken, (fault, why.1, among (file_name arguments.object) (Err fault) why.2))
+  object_input later NoMemory among unbroken why = tt
+  object_input later _ among unbroken why = absurd why
+
+module _ (has : Documents) (unread read : ℕ) (arguments : SampleArguments) where
+  sample_refused : (raw : Data) (cause : Cause) → IsRequestedSchema has arguments.crd.now arguments.version.now raw → IsUnknownCause raw cause → IsInputCause has unread read (Sample arguments) cause
+  sample_refused raw (Place input.Crd code.NotYet p) asked why = inr (inl (string_bytes p, (raw, asked, why)))
+  sample_refused raw (Violations vs) asked why = let found = broken has unread read arguments.crd.now arguments.version.now Broken raw vs.items asked why.0 why.1 in no_samples arguments found.0 found.2
+  sample_refused raw NoMemory asked why = tt
+  sample_refused raw _ asked why = absurd why
+
+  pub sample_schema : (cause : Cause) → IsSchemaCause has unread read arguments.crd.now arguments.version.now IsUnknownCause cause → IsInputCause has unread read (Sample arguments) cause
+  sample_schema cause (inl why) = input_of_reading has unread read arguments.crd.now arguments.version.now (Sample arguments) cause (λ r. inl r) why
+  sample_schema cause (inr why) = sample_refused why.0 cause why.1 why.2
 
 pub cause_of_pools_fault : (has : Documents) (unread read : ℕ) (name : Bor (List ℕ)) (d : Data) (fault : PFault) → has (Some name.now) (Ok d) → IsPoolsFault d fault
     → IsPoolsCause has unread read (Some name) (cause_of_pools fault)
@@ -119,20 +134,13 @@ pub pools_input : (has later : Documents) (unread read : ℕ) (arguments : Sampl
     → IsPoolsCause later unread read arguments.pools cause → IsInputCause has unread read (Sample arguments) cause
 pools_input has later unread read arguments (Unread i) among accepted why = why.1
 pools_input has later unread read arguments (Document i fault) among accepted why =
-    inr (accepted, inl (fault, why.1, among_some later has arguments.pools _ _ (λ n is. among (Some n.now) (Err fault) is) why.2))
-pools_input has later unread read arguments (Crd fault) among accepted why = absurd why
+    inr (inr (accepted, inl (fault, why.1, among_some later has arguments.pools _ _ (λ n is. among (Some n.now) (Err fault) is) why.2)))
 pools_input has later unread read arguments (PoolsCause fault) among accepted why =
-    inr (accepted, inr (fault, among_some later has arguments.pools _ _ (λ n is. (is.0, among (Some n.now) (Ok is.0) is.1, is.2, is.3)) why))
-pools_input has later unread read arguments (Place input.Crd c p) among accepted why = absurd why
-pools_input has later unread read arguments (Place input.Pools code.NotYet p) among accepted why = absurd why
-pools_input has later unread read arguments (Place input.Pools code.KeywordForm p) among accepted why = absurd why
-pools_input has later unread read arguments (Place input.Pools code.TooLarge p) among accepted why = absurd why
+    inr (inr (accepted, inr (fault, among_some later has arguments.pools _ _ (λ n is. (is.0, among (Some n.now) (Ok is.0) is.1, is.2, is.3)) why)))
 pools_input has later unread read arguments (Place input.Pools code.Form p) among accepted why =
-    inr (accepted, inr (Form p, among_some later has arguments.pools _ _ (λ n is. (is.0, among (Some n.now) (Ok is.0) is.1, is.2, is.3)) why))
-pools_input has later unread read arguments (Violations vs) among accepted why = absurd why
-pools_input has later unread read arguments NotASample among accepted why = absurd why
-pools_input has later unread read arguments (Write n) among accepted why = absurd why
+    inr (inr (accepted, inr (Form p, among_some later has arguments.pools _ _ (λ n is. (is.0, among (Some n.now) (Ok is.0) is.1, is.2, is.3)) why)))
 pools_input has later unread read arguments NoMemory among accepted why = tt
+pools_input has later unread read arguments _ among accepted why = absurd why
 
 Appends-nothing : (old new : Option (List ℕ)) → Keeps old new → Appends old new []
 Appends-nothing None new keeps = tt
@@ -141,11 +149,8 @@ Appends-nothing (Some x) (Some y) keeps = keeps ∙ sym (append-nil x)
 
 module _ (has : Documents) (unread read : ℕ) (request : Request) (old new : Option (List ℕ)) (before now : ℕ) where
   kept : Keeps old new → (r : Request) → IsCutByMemory has r old new
-  kept keeps (Check a) = keeps
   kept keeps (Sample a) = inl keeps
-  kept keeps (Help said) = keeps
-  kept keeps (UsageError said) = keeps
-  kept keeps NoRequest = keeps
+  kept keeps _ = keeps
 
   -- memory was wanting, and nothing is out
   pub result_of_nothing : (answer : ℕ) → Keeps old new → now ≡ before → answer ≡ 5 → IsRunResult has unread read request old new before now answer
@@ -190,13 +195,7 @@ module _ (has : Documents) (unread read : ℕ) (arguments : SampleArguments) (ol
   result_of_walk q (Write n) answer asked why is = unwritten answer is why.0 (q, asked, why.1)
   result_of_walk q NoMemory answer asked why (inl e) = rw e (no_memory (inr (q, asked, why.1.0, why.1.1)) why.0)
   result_of_walk q NoMemory answer asked why (inr e) = rw e (no_memory (inr (q, asked, why.1.0, why.1.1)) why.0)
-  result_of_walk q (Unread i) answer asked why is = absurd why
-  result_of_walk q (Document i fault) answer asked why is = absurd why
-  result_of_walk q (Crd fault) answer asked why is = absurd why
-  result_of_walk q (PoolsCause fault) answer asked why is = absurd why
-  result_of_walk q (Place i c p) answer asked why is = absurd why
-  result_of_walk q (Violations vs) answer asked why is = absurd why
-  result_of_walk q NotASample answer asked why is = absurd why
+  result_of_walk q _ answer asked why is = absurd why
 
   pub result_of_sample : (cause : Cause) (answer : ℕ) → IsSampleCause has unread read arguments old new before now cause → (answer ≡ status cause) ⊎ (answer ≡ 5)
       → IsRunResult has unread read (Sample arguments) old new before now answer
@@ -205,3 +204,15 @@ module _ (has : Documents) (unread read : ℕ) (arguments : SampleArguments) (ol
 
 pub failed_once : (before now : ℕ) → now ≡ one_more before → HasFailed before now
 failed_once before now is = grind (arith, nat_tests)
+
+-- what is said of the violations of the schema that is asked for
+pub verdict_answers : (has : Documents) (arguments : CheckArguments) (raw : Data) (vs : List Violation) (r : Result Answer AllocError)
+    → IsRequestedSchema has arguments.crd.now arguments.version.now raw → AreViolations (IsBroken raw) vs
+    → (vs ≡ [] → IfOk r (λ a. (a.status ≡ 0) × (string_bytes a.text ≡ codes "structural\n")))
+    → (vs ≢ [] → IfOk r (λ a. (a.status ≡ 1) × (string_bytes a.text ≡ told_lines (map told vs))))
+    → IfOk r (λ a. IsAnswer has (Check arguments) a.status (string_bytes a.text))
+verdict_answers has arguments raw [] r asked are none some =
+    IfOk-weaker r _ _ (λ a e. rw (e.0, e.1) (structural arguments (raw, record { asked = asked; unbroken = none_broken (IsBroken raw) are }))) (none refl)
+verdict_answers has arguments raw (v ∷ vs) r asked are none some =
+    let found = broken has 0 0 arguments.crd.now arguments.version.now IsBroken raw (v ∷ vs) asked are (λ e. cc) in
+    IfOk-weaker r _ _ (λ a e. rw (e.0, e.1, found.1) (violations arguments found.0 found.2)) (some (λ e. cc))

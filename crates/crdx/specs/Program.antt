@@ -3,6 +3,7 @@ pub mod CommandLine
 pub mod Documents
 pub mod InputFault
 pub mod Phrases
+pub mod Envelope
+pub mod ObjectAnswer
 pub mod Requested
 pub mod RunResult
-pub mod Envelope

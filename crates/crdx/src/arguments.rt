@@ -5,4 +5,4 @@ mod parsing;
 mod request;
 
 pub use parsing::{MOST_COUNT, MOST_LIMIT, parse_arguments};
-pub use request::{CheckArguments, Request, SampleArguments};
+pub use request::{CheckArguments, ObjectArguments, ObjectCommand, Request, SampleArguments};

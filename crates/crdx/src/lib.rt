@@ -8,8 +8,8 @@ pub mod inputs;
 pub mod phrases;
 pub mod plan;
 mod running;
+pub mod simple;
 pub mod sink;
-pub mod stored;
 pub mod walk;
 
 pub use envelope::{Parts, join, split};

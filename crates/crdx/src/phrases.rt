@@ -1,6 +1,6 @@
-//! What the program says of a rule that is broken.
+//! What the program says of a rule that is broken, and of a fault of an object.
 ghost use Rattle.std.specs.Prelude.{◌≡◌};
-ghost use Rattle.crdx.specs.Program.Phrases.{phrase_of};
+ghost use Rattle.crdx.specs.Program.Phrases.{phrase_of, fault_phrase_of};
 
 use schema::Rule;
 
@@ -26,5 +26,28 @@ pub fn phrase(rule: Rule) -> &'static str
         Rule::V15 => "misplaced default",
         Rule::V16 => "junctor outside the profile",
         Rule::V17 => "outside the profile",
+    }
+}
+
+/// What is wrong where an object has the fault of this number, 1 to 14.
+pub fn fault_phrase(number: u8) -> &'static str
+    ensures { result.now ≡ fault_phrase_of number }
+{
+    match number {
+        1 => "kind",
+        2 => "null",
+        3 => "enum",
+        4 => "minimum",
+        5 => "maximum",
+        6 => "minLength",
+        7 => "maxLength",
+        8 => "minItems",
+        9 => "maxItems",
+        10 => "minProperties",
+        11 => "maxProperties",
+        12 => "required",
+        13 => "duplicate",
+        14 => "junctor",
+        _ => "",
     }
 }

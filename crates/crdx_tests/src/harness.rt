@@ -1,7 +1,7 @@
 //! Runs of the program over documents of memory, and what comes of them.
 use crate::fakes::{FailingSink, FakeInputs, Reads};
 use crdx::plan::{Plan, Pools};
-use crdx::stored::{Schema, accept};
+use crdx::simple::{Schema, accept};
 use jtree::Tree;
 use schema::{Crd, SFault, Shape, read_crd, shape};
 use std::alloc::{AllocError, Global};

@@ -4,7 +4,7 @@ use crate::fakes::FailingSink;
 use crate::harness::{definition, is_number, is_text, plan_of, schema_of};
 use crdx::enumerate::{EFault, page, pages_agree};
 use crdx::plan::Plan;
-use crdx::stored::{
+use crdx::simple::{
     Node, ScalarKind, filling_by_name, fits_are_stored_over, pruning_by_level, validity_by_level,
 };
 use crdx::walk::{WFault, walk};

@@ -278,7 +278,7 @@ subschemas_rising [] h = tt
 subschemas_rising (v ∷ subschemas) h = (λ w a. h.0 (subschema_of w) (in_map subschemas w a), subschemas_rising subschemas h.1)
 
 -- each place is that of a subschema
-pub place_entered : (ms : Members) (subschemas : List Subschema) → AreMembers ms → AreSubschemas ms subschemas → (p : Place) → IsPlace (object ms) p
+place_entered : (ms : Members) (subschemas : List Subschema) → AreMembers ms → AreSubschemas ms subschemas → (p : Place) → IsPlace (object ms) p
     → (v : Subschema) × Among subschemas v × (place_of v.place.items ≡ p)
 place_entered ms subschemas o are p at =
     let events = schema_events_are ms o in
@@ -287,7 +287,7 @@ place_entered ms subschemas o are p at =
     (v.0, v.1, let e = v.2 in cc)
 
 -- and the places of the subschemas ascend
-pub subschemas_earlier : (ms : Members) (subschemas : List Subschema) → AreMembers ms → AreSubschemas ms subschemas → Rising Earlier subschemas
+subschemas_earlier : (ms : Members) (subschemas : List Subschema) → AreMembers ms → AreSubschemas ms subschemas → Rising Earlier subschemas
 subschemas_earlier ms subschemas o are = subschemas_rising subschemas (subst Ascend (sym are.whole) (subschemas_ascend (schema_events [] ms) (schema_events_are ms o).ascending))
 
 pub violations_of : (ms : Members) (subschemas : List Subschema) (violations : List Violation) → AreMembers ms → AreSubschemas ms subschemas

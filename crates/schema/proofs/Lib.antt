@@ -16,7 +16,6 @@ pub mod JudgedLemmas
 pub mod NodeLemmas
 pub mod KindLemmas
 pub mod ShapeLemmas
-pub mod DefaultLemmas
 pub mod OwnParts
 pub mod OneNode
 pub mod ByPlaceLemmas

@@ -5,4 +5,3 @@ pub mod Lists
 pub mod Profile
 pub mod Broken
 pub mod Breaks
-pub mod Defaults

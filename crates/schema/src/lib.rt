@@ -2,7 +2,6 @@
 #![tactic(auto)]
 
 mod by_place;
-mod defaults;
 mod definition;
 mod fault;
 mod forms;
@@ -23,7 +22,6 @@ mod versions;
 mod violation;
 
 pub use by_place::nodes_are_unique;
-pub use defaults::first_default;
 pub use definition::{Crd, read_crd};
 pub use fault::SFault;
 pub use judging::breaks;

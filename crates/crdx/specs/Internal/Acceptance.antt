@@ -9,10 +9,10 @@ use Rattle.crdx.specs.Objects.Node.{ScalarKind, boolean, integer, Fields, no_fie
 use Rattle.crdx.specs.Objects.NodeView.{kind_of}
 use Rattle.crdx.specs.Objects.Place.{Place, schema_at, place_pointer, place_cmp}
 use Rattle.crdx.specs.Objects.Accepted.{HasType, IsKnown, IsKnownScalar, IsKnownObject, known_keywords}
-use Rattle.crdx.specs.declared.stored.refused.Refused.{Refused}
-use Rattle.crdx.specs.declared.stored.refused.Refused.TheVariants.{Violations, NotYet, NoMemory}
-use Rattle.crdx.specs.declared.stored.shape.Shape.{Shape}
-use Rattle.crdx.specs.declared.stored.shape.Shape.TheVariants as shape
+use Rattle.crdx.specs.declared.simple.refused.Refused.{Refused}
+use Rattle.crdx.specs.declared.simple.refused.Refused.TheVariants.{Violations, NotYet, NoMemory}
+use Rattle.crdx.specs.declared.simple.shape.Shape.{Shape}
+use Rattle.crdx.specs.declared.simple.shape.Shape.TheVariants as shape
 
 -- the schemas at the places below some members
 abbrev pub members_at : Members → Place → Option Data

@@ -1,16 +1,18 @@
 -- Why a run has no answer, said of the documents at hand; the counts are those of the reads that failed, before and now.
-use Rattle.std.specs.Prelude.{◌≡◌, ◌≢◌, ◌⊎◌, ℕ, List, [], Bool, Option, Some, None, IsSomeAnd, Err, string_bytes}
+use Rattle.std.specs.Prelude.{◌≡◌, ◌≢◌, ◌⊎◌, ℕ, List, [], Bool, true, Option, Some, None, IsSomeAnd, Err, string_bytes}
 use Rattle.std.specs.Borrow.{Bor}
 use Rattle.std.specs.Io.KnownBytes.{Keeps}
 use Rattle.jtree.specs.Data.{Data}
 use Rattle.jtree.specs.declared.fault.JFault.TheVariants as j
 use Rattle.schema.specs.Rules.Broken.{Broken}
-use Rattle.schema.specs.Rules.Breaks.{AreViolations}
+use Rattle.schema.specs.Rules.Breaks.{AreViolations, BreaksNone}
 use Rattle.schema.specs.declared.fault.SFault.TheVariants as s
+use Rattle.stored.specs.Schemas.Accepted.{IsBroken}
+use Rattle.crdx.specs.Objects.Accepted.{IsUnknownAt}
 use Rattle.crdx.specs.Output.PartialOutput.{IsCutBetweenLines, IsCutByFailure}
 use Rattle.crdx.specs.Output.Sink.{HasFailed}
 use Rattle.crdx.specs.Program.Documents.{Documents}
-use Rattle.crdx.specs.Program.Requested.{IsRequestedSchema, HasReadFault, NotYet, HasPoolsFault, IsRequested}
+use Rattle.crdx.specs.Program.Requested.{IsRequestedSchema, HasReadFault, HasPoolsFault, IsRequested}
 use Rattle.crdx.specs.Program.RunResult.{IsAnswer, IsInputRefused}
 use Rattle.crdx.specs.Samples.Page.{IsPage}
 use Rattle.crdx.specs.Samples.Sample.{Question}
@@ -25,18 +27,24 @@ use Rattle.crdx.specs.declared.running.causes.Cause.{Cause}
 use Rattle.crdx.specs.declared.running.causes.Cause.TheVariants.{Unread, Document, Crd, Pools, Place, Violations, NotASample, Write, NoMemory}
 
 -- why an input gives no document
-abbrev pub IsUnreadCause : Documents → ℕ → ℕ → Input → List ℕ → Cause → Type 0
+abbrev pub IsUnreadCause : Documents → ℕ → ℕ → Input → Option (List ℕ) → Cause → Type 0
 IsUnreadCause has before now input name (Unread i) = (i ≡ input) × HasFailed before now
-IsUnreadCause has before now input name (Document i fault) = (i ≡ input) × (fault ≢ j.NoMemory) × has (Some name) (Err fault)
+IsUnreadCause has before now input name (Document i fault) = (i ≡ input) × (fault ≢ j.NoMemory) × has name (Err fault)
 IsUnreadCause has before now input name NoMemory = Unit {0}
 IsUnreadCause has before now input name _ = ⊥
 
--- why a schema is refused that was read
-abbrev pub IsRawCause : Data → NotYet → Cause → Type 0
-IsRawCause raw Unready (Place input.Crd code.NotYet p) = Unready raw (string_bytes p)
-IsRawCause raw Unready (Violations vs) = AreViolations (Broken raw) vs.items × (vs.items ≢ [])
-IsRawCause raw Unready NoMemory = Unit {0}
-IsRawCause raw Unready _ = ⊥
+-- why a schema that was read is refused: it breaks rules
+abbrev pub IsBrokenCause : Data → Cause → Type 0
+IsBrokenCause raw (Violations vs) = AreViolations (IsBroken raw) vs.items × (vs.items ≢ [])
+IsBrokenCause raw NoMemory = Unit {0}
+IsBrokenCause raw _ = ⊥
+
+-- or, under `sample`, it has something that is not known
+abbrev pub IsUnknownCause : Data → Cause → Type 0
+IsUnknownCause raw (Place input.Crd code.NotYet p) = BreaksNone raw × IsUnknownAt true raw (string_bytes p)
+IsUnknownCause raw (Violations vs) = AreViolations (Broken raw) vs.items × (vs.items ≢ [])
+IsUnknownCause raw NoMemory = Unit {0}
+IsUnknownCause raw _ = ⊥
 
 -- why no schema is read
 abbrev pub IsReadCause : Documents → ℕ → ℕ → List ℕ → List ℕ → Cause → Type 0
@@ -49,9 +57,9 @@ IsReadCause has before now crd version NoMemory = Unit {0}
 IsReadCause has before now crd version _ = ⊥
 
 -- why there is no schema that is taken
-abbrev pub IsSchemaCause : Documents → ℕ → ℕ → List ℕ → List ℕ → NotYet → Cause → Type 0
-IsSchemaCause has before now crd version Unready cause =
-    IsReadCause has before now crd version cause ⊎ ((raw : Data) × IsRequestedSchema has crd version raw × IsRawCause raw Unready cause)
+abbrev pub IsSchemaCause : Documents → ℕ → ℕ → List ℕ → List ℕ → (Data → Cause → Type 0) → Cause → Type 0
+IsSchemaCause has before now crd version Refuses cause =
+    IsReadCause has before now crd version cause ⊎ ((raw : Data) × IsRequestedSchema has crd version raw × Refuses raw cause)
 
 -- why there are no pools
 abbrev pub IsPoolsCause : Documents → ℕ → ℕ → Option (Bor (List ℕ)) → Cause → Type 0

@@ -3,7 +3,7 @@
 use Rattle.std.specs.Prelude.{◌≡◌, ◌⊎◌, ℕ, List, take, Option, string_bytes, codes}
 use Rattle.std.specs.Io.KnownBytes.{Appends}
 use Rattle.crdx.specs.Output.Sink.{HasFailed}
-use Rattle.crdx.specs.declared.running.checking.Answer.{Answer}
+use Rattle.crdx.specs.declared.running.answer.Answer.{Answer}
 use Rattle.crdx.specs.declared.running.causes.Input.{Input}
 use Rattle.crdx.specs.declared.running.causes.Input.TheVariants as input
 use Rattle.crdx.specs.declared.running.causes.PlaceCode.{PlaceCode}
@@ -12,8 +12,10 @@ use Rattle.crdx.specs.declared.running.causes.Cause.{Cause}
 use Rattle.crdx.specs.declared.running.causes.Cause.TheVariants as cause
 use Rattle.schema.specs.declared.fault.SFault.{SFault}
 use Rattle.schema.specs.declared.fault.SFault.TheVariants as s
-use Rattle.crdx.specs.declared.stored.refused.Refused.{Refused}
-use Rattle.crdx.specs.declared.stored.refused.Refused.TheVariants as refused
+use Rattle.schema.specs.declared.refused.Refused.{Refused}
+use Rattle.schema.specs.declared.refused.Refused.TheVariants as refused
+use Rattle.crdx.specs.declared.simple.refused.Refused.{Refused as SimpleRefused}
+use Rattle.crdx.specs.declared.simple.refused.Refused.TheVariants as simple
 use Rattle.crdx.specs.declared.plan.fault.PFault.{PFault}
 use Rattle.crdx.specs.declared.plan.fault.PFault.TheVariants as p
 use Rattle.crdx.specs.declared.walk.fault.WFault.{WFault}
@@ -21,6 +23,7 @@ use Rattle.crdx.specs.declared.walk.fault.WFault.TheVariants as w
 
 abbrev pub input_name : Input → List ℕ
 input_name input.Crd = codes "crd"
+input_name input.Object = codes "object"
 input_name input.Pools = codes "pools"
 
 abbrev pub code_name : PlaceCode → List ℕ
@@ -39,8 +42,12 @@ cause_of_reading s.NoMemory = cause.NoMemory
 
 abbrev pub cause_of_refusal : Refused → Cause
 cause_of_refusal (refused.Violations violations) = cause.Violations violations
-cause_of_refusal (refused.NotYet pointer) = cause.Place input.Crd code.NotYet pointer
 cause_of_refusal refused.NoMemory = cause.NoMemory
+
+abbrev pub cause_of_simple_refusal : SimpleRefused → Cause
+cause_of_simple_refusal (simple.Violations violations) = cause.Violations violations
+cause_of_simple_refusal (simple.NotYet pointer) = cause.Place input.Crd code.NotYet pointer
+cause_of_simple_refusal simple.NoMemory = cause.NoMemory
 
 abbrev pub cause_of_pools : PFault → Cause
 cause_of_pools (p.Form pointer) = cause.Place input.Pools code.Form pointer

@@ -3,10 +3,10 @@ use Rattle.std.specs.Prelude.{◌≤◌, max, List, [], ◌∷◌}
 use Rattle.std.proofs.Common.{arith}
 use Rattle.crdx.specs.Objects.Node.{node_depth, fields_depth}
 use Rattle.crdx.specs.Objects.NodeView.{node_of, fields_of}
-use Rattle.crdx.specs.declared.stored.node.Node.{Node}
-use Rattle.crdx.specs.declared.stored.node.Node.TheVariants as node
-use Rattle.crdx.specs.declared.stored.node.Field.{Field}
-use Rattle.crdx.specs.declared.stored.node.Fields.TheDeep.{deep-Node, deep-Field}
+use Rattle.crdx.specs.declared.simple.node.Node.{Node}
+use Rattle.crdx.specs.declared.simple.node.Node.TheVariants as node
+use Rattle.crdx.specs.declared.simple.node.Field.{Field}
+use Rattle.crdx.specs.declared.simple.node.Fields.TheDeep.{deep-Node, deep-Field}
 use denote.Param.Weighed.{most}
 
 node_decreases : (N : Node) → deep-Node N ≤ node_depth (node_of N)

@@ -1,11 +1,11 @@
 -- What a node of the code stands for.
 use Rattle.std.specs.Prelude.{List, [], ◌∷◌}
 use Rattle.crdx.specs.Objects.Node.{Node, boolean, integer, ScalarKind, scalar, object, Fields, no_fields, field}
-use Rattle.crdx.specs.declared.stored.node.ScalarKind.{ScalarKind as CodeKind}
-use Rattle.crdx.specs.declared.stored.node.ScalarKind.TheVariants as kind
-use Rattle.crdx.specs.declared.stored.node.Node.{Node as CodeNode}
-use Rattle.crdx.specs.declared.stored.node.Node.TheVariants as node
-use Rattle.crdx.specs.declared.stored.node.Field.{Field as CodeField}
+use Rattle.crdx.specs.declared.simple.node.ScalarKind.{ScalarKind as CodeKind}
+use Rattle.crdx.specs.declared.simple.node.ScalarKind.TheVariants as kind
+use Rattle.crdx.specs.declared.simple.node.Node.{Node as CodeNode}
+use Rattle.crdx.specs.declared.simple.node.Node.TheVariants as node
+use Rattle.crdx.specs.declared.simple.node.Field.{Field as CodeField}
 
 abbrev pub kind_of : CodeKind → ScalarKind
 kind_of kind.Boolean = boolean

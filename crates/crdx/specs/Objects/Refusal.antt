@@ -5,8 +5,8 @@ use Rattle.jtree.specs.Data.{Data}
 use Rattle.schema.specs.Rules.Broken.{Broken}
 use Rattle.schema.specs.Rules.Breaks.{AreViolations, BreaksNone}
 use Rattle.crdx.specs.Objects.Accepted.{IsUnknownAt}
-use Rattle.crdx.specs.declared.stored.refused.Refused.{Refused}
-use Rattle.crdx.specs.declared.stored.refused.Refused.TheVariants.{Violations, NotYet, NoMemory}
+use Rattle.crdx.specs.declared.simple.refused.Refused.{Refused}
+use Rattle.crdx.specs.declared.simple.refused.Refused.TheVariants.{Violations, NotYet, NoMemory}
 
 abbrev pub IsRefusal : Data → Refused → Type 0
 IsRefusal raw (Violations vs) = AreViolations (Broken raw) vs.items × (vs.items ≢ [])

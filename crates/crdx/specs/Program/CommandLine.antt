@@ -1,5 +1,5 @@
 -- The command line as `clap` reads it, and what its arguments ask for (this project's own).
-use Rattle.std.specs.Prelude.{◌≡◌, ◌≢◌, ◌⊎◌, ◌≤◌, ℕ, List, [], ◌∷◌, true, Option, Some, pos, option_map, unwrap_or, codes}
+use Rattle.std.specs.Prelude.{◌≡◌, ◌≢◌, ◌⊎◌, ◌≤◌, ℕ, List, [], ◌∷◌, All, true, Option, Some, pos, option_map, unwrap_or, codes}
 use Rattle.std.specs.Str.Parse.{IsNumeral, digits_value, without_leading_plus}
 use Rattle.clap.specs.Walk.{Row, Rule, Text, first_of, one_of}
 use Rattle.clap.specs.Simple.{App, new_app, new_rule, with_rule, with_subcommand, on_top, subcommand_of}
@@ -9,9 +9,12 @@ use Rattle.clap.specs.declared.builder.value_parser.ValueParser.TheVariants.{Sig
 use Rattle.clap.specs.declared.error.kind.ErrorKind.{ErrorKind}
 use Rattle.clap.specs.declared.error.kind.ErrorKind.TheVariants.{DisplayHelp, DisplayVersion, OutOfMemory}
 use Rattle.crdx.specs.declared.arguments.request.CheckArguments.{CheckArguments}
+use Rattle.crdx.specs.declared.arguments.request.ObjectArguments.{ObjectArguments}
+use Rattle.crdx.specs.declared.arguments.request.ObjectCommand.{ObjectCommand}
+use Rattle.crdx.specs.declared.arguments.request.ObjectCommand.TheVariants.{Validate, Prune, Default}
 use Rattle.crdx.specs.declared.arguments.request.SampleArguments.{SampleArguments}
 use Rattle.crdx.specs.declared.arguments.request.Request.{Request}
-use Rattle.crdx.specs.declared.arguments.request.Request.TheVariants.{Check, Sample, Help, UsageError, NoMemory}
+use Rattle.crdx.specs.declared.arguments.request.Request.TheVariants.{Check, Object, Sample, Help, UsageError, NoMemory}
 
 -- a word that has to be there
 abbrev pub required_rule : Text → Rule
@@ -28,12 +31,16 @@ number_rule id most usual = record (option_rule id) { parser = Some (Signed (pos
 abbrev pub check_app : App
 check_app = with_rule (with_rule (new_app (codes "check")) (required_rule (codes "CRD"))) (required_rule (codes "VERSION"))
 
+abbrev pub object_app : Text → App
+object_app name = with_rule (with_rule (with_rule (new_app name) (required_rule (codes "CRD"))) (required_rule (codes "VERSION"))) (new_rule (codes "OBJECT"))
+
 abbrev pub sample_app : App
 sample_app = with_rule (with_rule (with_rule (with_rule (with_rule (new_app (codes "sample")) (required_rule (codes "CRD"))) (required_rule (codes "VERSION")))
     (option_rule (codes "pools"))) (number_rule (codes "limit") 63 (codes "8"))) (number_rule (codes "count") 10000 (codes "100"))
 
 abbrev pub crdx_app : App
-crdx_app = with_subcommand (with_subcommand (on_top (λ s. record s { has_version = true; subcommand_required = true }) (new_app (codes "crdx"))) check_app.top) sample_app.top
+crdx_app = with_subcommand (with_subcommand (with_subcommand (with_subcommand (with_subcommand (on_top (λ s. record s { has_version = true; subcommand_required = true }) (new_app (codes "crdx")))
+    check_app.top) (object_app (codes "validate")).top) (object_app (codes "prune")).top) (object_app (codes "default")).top) sample_app.top
 
 -- what `clap` refuses of the arguments after the program's name, and the command that they name with what stands for each of its arguments
 unfoldable pub faults : List Text → Kinds
@@ -56,17 +63,30 @@ IsNumberOf id most rows n = (t : Text) → one_of id rows ≡ Some t → IsNumer
 abbrev pub AreCheckArguments : List Row → CheckArguments → Type 0
 AreCheckArguments rows arguments = (arguments.crd.now ≡ value_of (codes "CRD") rows) × (arguments.version.now ≡ value_of (codes "VERSION") rows)
 
+abbrev pub AreObjectArguments : ObjectCommand → List Row → ObjectArguments → Type 0
+AreObjectArguments command rows arguments = (arguments.command ≡ command) × (arguments.crd.now ≡ value_of (codes "CRD") rows) × (arguments.version.now ≡ value_of (codes "VERSION") rows)
+    × (option_map (λ s. s.now) arguments.object ≡ first_of (codes "OBJECT") rows)
+
 abbrev pub AreSampleArguments : List Row → SampleArguments → Type 0
 AreSampleArguments rows arguments = (arguments.crd.now ≡ value_of (codes "CRD") rows) × (arguments.version.now ≡ value_of (codes "VERSION") rows)
     × (option_map (λ s. s.now) arguments.pools ≡ first_of (codes "pools") rows)
     × IsNumberOf (codes "limit") 63 rows arguments.limit × IsNumberOf (codes "count") 10000 rows arguments.count
 
+abbrev pub object_command_name : ObjectCommand → Text
+object_command_name Validate = codes "validate"
+object_command_name Prune = codes "prune"
+object_command_name Default = codes "default"
+
+abbrev pub command_names : List Text
+command_names = codes "check" ∷ codes "validate" ∷ codes "prune" ∷ codes "default" ∷ codes "sample" ∷ []
+
 -- what a command that was named asks for
 abbrev pub IsCommand : Option (Text × List Row) → Request → Type 0
 IsCommand named (Check arguments) = (rows : List Row) × (named ≡ Some (codes "check", rows)) × AreCheckArguments rows arguments
+IsCommand named (Object arguments) = (rows : List Row) × (named ≡ Some (object_command_name arguments.command, rows)) × AreObjectArguments arguments.command rows arguments
 IsCommand named (Sample arguments) = (rows : List Row) × (named ≡ Some (codes "sample", rows)) × AreSampleArguments rows arguments
 IsCommand named (Help text) = ⊥
-IsCommand named (UsageError text) = (rows : List Row) → (named ≢ Some (codes "check", rows)) × (named ≢ Some (codes "sample", rows))
+IsCommand named (UsageError text) = All (λ name. (rows : List Row) → named ≢ Some (name, rows)) command_names
 IsCommand named NoMemory = Unit {0}
 
 abbrev pub IsHelp : ErrorKind → Type 0
@@ -87,6 +107,7 @@ IsUsageErrorOrMemory _ = ⊥
 -- what the arguments ask for; a want of memory says nothing of them
 abbrev pub Asks : List Text → Request → Type 0
 Asks arguments (Check w) = (faults arguments ≡ []) × IsCommand (entered arguments) (Check w)
+Asks arguments (Object w) = (faults arguments ≡ []) × IsCommand (entered arguments) (Object w)
 Asks arguments (Sample w) = (faults arguments ≡ []) × IsCommand (entered arguments) (Sample w)
 Asks arguments (Help text) = (k : ErrorKind) × IsAmong k (faults arguments) × IsHelp k
 Asks arguments (UsageError text) = ((k : ErrorKind) × IsAmong k (faults arguments) × (IsHelp k → ⊥)) ⊎ ((faults arguments ≡ []) × IsCommand (entered arguments) (UsageError text))

@@ -1,28 +1,27 @@
--- What the arguments of a command ask of the documents at hand: the schema of a version of a CustomResourceDefinition, and for
--- samples a question (this project's own).
+-- What the arguments of a command ask of the documents at hand: the schema of a version of a CustomResourceDefinition, for
+-- samples a question, and else an object (this project's own).
 use Rattle.std.specs.Prelude.{◌≡◌, ◌≢◌, ◌⊎◌, ℕ, List, [], true, Option, Some, None, IsSomeAnd, Ok, Err}
 use Rattle.std.specs.Borrow.{Bor}
 use Rattle.jtree.specs.Data.{Data}
-use Rattle.jtree.specs.Path.{Path}
-use Rattle.jtree.specs.PathOrder.{IsFirst}
-use Rattle.jtree.specs.Pointer.{pointer}
 use Rattle.jtree.specs.declared.fault.JFault.{JFault}
 use Rattle.jtree.specs.declared.fault.JFault.TheVariants as j
 use Rattle.schema.specs.Document.Crd.{IsRead}
 use Rattle.schema.specs.Document.ReadFault.{IsSound, IsReadFault}
-use Rattle.schema.specs.Document.Places.{Place}
-use Rattle.schema.specs.Rules.Breaks.{BreaksNone}
-use Rattle.schema.specs.Rules.Defaults.{HasDefault, HasDefaultAt}
+use Rattle.schema.specs.Rules.Breaks.{BreaksNone, IsUnbroken}
+use Rattle.schema.specs.Nodes.Node.{Node}
+use Rattle.schema.specs.Nodes.ByPlace.{AreNodesOf}
 use Rattle.schema.specs.declared.fault.SFault.{SFault}
 use Rattle.schema.specs.declared.fault.SFault.TheVariants as s
 use Rattle.crdx.specs.Objects.Accepted.{AllKnown, IsUnknownAt, IsNodeAt}
-use Rattle.crdx.specs.Program.Documents.{Documents}
+use Rattle.stored.specs.Schemas.Accepted.{IsBroken}
+use Rattle.crdx.specs.Program.Documents.{Documents, file_name}
 use Rattle.crdx.specs.Samples.Over.{Pools}
 use Rattle.crdx.specs.Samples.PoolFault.{IsPoolsFault}
 use Rattle.crdx.specs.Samples.Pools.{HasForm, pools_of}
 use Rattle.crdx.specs.Samples.Sample.{Question}
 use Rattle.crdx.specs.declared.plan.fault.PFault.{PFault}
 use Rattle.crdx.specs.declared.plan.fault.PFault.TheVariants as p
+use Rattle.crdx.specs.declared.arguments.request.ObjectArguments.{ObjectArguments}
 use Rattle.crdx.specs.declared.arguments.request.SampleArguments.{SampleArguments}
 
 -- the schema of this version of the CustomResourceDefinition of this name
@@ -34,16 +33,15 @@ pub record IsRequestedSchema (has : Documents) (crd version : List ℕ) (raw : D
   pub read : IsRead document version group kind raw
   pub sound : IsSound raw
 
--- it is structural: no rule is broken, and no place has a default, which is not judged yet
-pub record IsStructuralSchema (has : Documents) (crd version : List ℕ) (raw : Data) : Type 0 where
+-- it is structural: no rule is broken
+pub record IsUnbrokenSchema (has : Documents) (crd version : List ℕ) (raw : Data) : Type 0 where
   pub asked : IsRequestedSchema has crd version raw
-  pub unbroken : BreaksNone raw
-  pub no_default : (p : Place) → HasDefault raw p → ⊥
+  pub unbroken : IsUnbroken (IsBroken raw)
 
-abbrev pub HasStructuralSchema : Documents → List ℕ → List ℕ → Type 0
-HasStructuralSchema has crd version = (raw : Data) × IsStructuralSchema has crd version raw
+abbrev pub HasUnbrokenSchema : Documents → List ℕ → List ℕ → Type 0
+HasUnbrokenSchema has crd version = (raw : Data) × IsUnbrokenSchema has crd version raw
 
--- it is accepted: no rule is broken, and each place is known
+-- `sample` takes it: none of the rules but V14 is broken, and each place is known
 pub record IsAcceptedSchema (has : Documents) (crd version : List ℕ) (raw : Data) : Type 0 where
   pub asked : IsRequestedSchema has crd version raw
   pub unbroken : BreaksNone raw
@@ -56,25 +54,13 @@ HasAcceptedSchema has crd version = (raw : Data) × IsAcceptedSchema has crd ver
 abbrev pub HasReadFault : Documents → List ℕ → List ℕ → SFault → Type 0
 HasReadFault has crd version fault = (document : Data) × has (Some crd) (Ok document) × (fault ≢ s.NoMemory) × IsReadFault document version fault
 
--- a schema, and the pointer of a place at which it is not taken yet
-abbrev pub NotYet : Type 1
-NotYet = Data → List ℕ → Type 0
+-- there is no document of this name, or it has a fault
+abbrev pub IsCrdRefused : Documents → List ℕ → List ℕ → Type 0
+IsCrdRefused has crd version = ((fault : JFault) × (fault ≢ j.NoMemory) × has (Some crd) (Err fault)) ⊎ ((fault : SFault) × HasReadFault has crd version fault)
 
--- for `sample`: the first place that is not known, in a schema that breaks no rule
-abbrev pub HasFirstUnknown : NotYet
-HasFirstUnknown raw p = BreaksNone raw × IsUnknownAt true raw p
-
--- for `check`: the first place in path order that has a default, in a schema that breaks no rule
-abbrev pub HasFirstDefault : NotYet
-HasFirstDefault raw p = BreaksNone raw × ((path : Path) × (p ≡ pointer path) × IsFirst (HasDefaultAt raw) path)
-
-abbrev pub IsNotYet : Documents → List ℕ → List ℕ → NotYet → List ℕ → Type 0
-IsNotYet has crd version Unready p = (raw : Data) × IsRequestedSchema has crd version raw × Unready raw p
-
--- there is no document of this name, or it has a fault, or its schema for this version is not taken yet
-abbrev pub IsCrdRefused : Documents → List ℕ → List ℕ → NotYet → Type 0
-IsCrdRefused has crd version Unready =
-    ((fault : JFault) × (fault ≢ j.NoMemory) × has (Some crd) (Err fault)) ⊎ (((fault : SFault) × HasReadFault has crd version fault) ⊎ ((p : List ℕ) × IsNotYet has crd version Unready p))
+-- `sample` does not know the place of this pointer, the first such one, in a schema that breaks none of the rules but V14
+abbrev pub HasFirstUnknown : Documents → List ℕ → List ℕ → List ℕ → Type 0
+HasFirstUnknown has crd version p = (raw : Data) × IsRequestedSchema has crd version raw × BreaksNone raw × IsUnknownAt true raw p
 
 -- the pools of the document of this name, and empty ones without a name
 abbrev pub ArePools : Documents → Option (Bor (List ℕ)) → Pools → Type 0
@@ -96,3 +82,14 @@ pub record IsRequested (has : Documents) (arguments : SampleArguments) (q : Ques
   pub root : IsNodeAt true q.root raw
   pub pools : ArePools has arguments.pools q.pools
   pub limit : q.limit ≡ arguments.limit
+
+-- the document whose body is asked about, and the node of that
+pub record IsRequestedObject (has : Documents) (arguments : ObjectArguments) (N : Node) (document : Data) : Type 0 where
+  pub raw : Data
+  pub accepted : IsUnbrokenSchema has arguments.crd.now arguments.version.now raw
+  pub nodes : AreNodesOf true N raw
+  pub at_hand : has (file_name arguments.object) (Ok document)
+
+-- there is no document of this name
+abbrev pub IsObjectRefused : Documents → ObjectArguments → Type 0
+IsObjectRefused has arguments = (fault : JFault) × (fault ≢ j.NoMemory) × has (file_name arguments.object) (Err fault)

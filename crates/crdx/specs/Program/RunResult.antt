@@ -4,20 +4,24 @@ use Rattle.std.specs.Global.{Global}
 use Rattle.std.specs.Io.KnownBytes.{Appends, Keeps}
 use Rattle.jtree.specs.Data.{Data, text}
 use Rattle.jtree.specs.Text.{compact}
+use Rattle.schema.specs.Nodes.Node.{Node}
 use Rattle.schema.specs.Rules.Broken.{Broken}
-use Rattle.schema.specs.Rules.Breaks.{Break, AreBreaks, Told, told_of, rule_name}
+use Rattle.schema.specs.Rules.Breaks.{Break, Breaking, AreBreaks, Told, told_of, rule_name}
+use Rattle.stored.specs.Schemas.Accepted.{IsBroken}
 use Rattle.crdx.specs.Output.Line.{lines}
 use Rattle.crdx.specs.Output.PartialOutput.{IsCutBetweenLines, IsCutByFailure}
 use Rattle.crdx.specs.Output.Sink.{HasFailed}
 use Rattle.crdx.specs.Program.Documents.{Documents}
+use Rattle.crdx.specs.Program.ObjectAnswer.{IsObjectAnswer}
 use Rattle.crdx.specs.Program.Phrases.{phrase_of}
-use Rattle.crdx.specs.Program.Requested.{IsRequestedSchema, HasStructuralSchema, HasAcceptedSchema, HasFirstDefault, HasFirstUnknown, IsCrdRefused, IsRequested, ArePoolsRefused}
+use Rattle.crdx.specs.Program.Requested.{IsRequestedSchema, HasUnbrokenSchema, HasAcceptedSchema, HasFirstUnknown, IsCrdRefused, IsRequested, ArePoolsRefused, IsRequestedObject, IsObjectRefused}
 use Rattle.crdx.specs.Samples.Page.{IsPage}
 use Rattle.crdx.specs.Samples.Sample.{Question}
 use Rattle.crdx.specs.declared.arguments.request.CheckArguments.{CheckArguments}
+use Rattle.crdx.specs.declared.arguments.request.ObjectArguments.{ObjectArguments}
 use Rattle.crdx.specs.declared.arguments.request.SampleArguments.{SampleArguments}
 use Rattle.crdx.specs.declared.arguments.request.Request.{Request}
-use Rattle.crdx.specs.declared.arguments.request.Request.TheVariants.{Check, Sample, Help, UsageError}
+use Rattle.crdx.specs.declared.arguments.request.Request.TheVariants.{Check, Object, Sample, Help, UsageError}
 
 -- the line of a violation: the rule, the pointer of the place as a JSON text, and what is wrong there
 abbrev pub told_line : Told → List ℕ
@@ -26,27 +30,33 @@ told_line t = rule_name t.rule ++ (codes " " ++ (compact (text t.pointer) ++ (co
 abbrev pub told_lines : List Told → List ℕ
 told_lines ts = flat_map told_line ts
 
--- these are all breaks of the schema that is asked for, and there are some
-abbrev pub HasBreaks : Documents → List ℕ → List ℕ → List Break → Type 0
-HasBreaks has crd version breaks = (raw : Data) × IsRequestedSchema has crd version raw × AreBreaks (Broken raw) breaks × (breaks ≢ [])
+-- these are all breaks of some rules in the schema that is asked for, and there are some
+abbrev pub HasBreaks : (Data → Breaking) → Documents → List ℕ → List ℕ → List Break → Type 0
+HasBreaks rules has crd version breaks = (raw : Data) × IsRequestedSchema has crd version raw × AreBreaks (rules raw) breaks × (breaks ≢ [])
 
 -- the answer to a request: the exit status, and the whole text on standard output
 pub data IsAnswer (has : Documents) : Request → ℕ → List ℕ → Type 0 where
-  structural : (arguments : CheckArguments) → HasStructuralSchema has arguments.crd.now arguments.version.now → IsAnswer has (Check arguments) 0 (codes "structural\n")
-  violations : (arguments : CheckArguments) (breaks : List Break) → HasBreaks has arguments.crd.now arguments.version.now breaks
+  structural : (arguments : CheckArguments) → HasUnbrokenSchema has arguments.crd.now arguments.version.now → IsAnswer has (Check arguments) 0 (codes "structural\n")
+  violations : (arguments : CheckArguments) (breaks : List Break) → HasBreaks IsBroken has arguments.crd.now arguments.version.now breaks
       → IsAnswer has (Check arguments) 1 (told_lines (map told_of breaks))
+  object : (arguments : ObjectArguments) (N : Node) (document : Data) (status : ℕ) (answer : List ℕ) → IsRequestedObject has arguments N document
+      → IsObjectAnswer N document arguments.command status answer → IsAnswer has (Object arguments) status answer
+  -- the violations are on standard error
+  no_object : (arguments : ObjectArguments) (breaks : List Break) → HasBreaks IsBroken has arguments.crd.now arguments.version.now breaks → IsAnswer has (Object arguments) 1 []
   samples : (arguments : SampleArguments) (q : Question) (items : List Data) (end : Bool) → IsRequested has arguments q → IsPage q None arguments.count items end
       → IsAnswer has (Sample arguments) 0 (lines items)
-  -- the violations are on standard error
-  no_samples : (arguments : SampleArguments) (breaks : List Break) → HasBreaks has arguments.crd.now arguments.version.now breaks → IsAnswer has (Sample arguments) 1 []
+  -- those of the rules but V14, on standard error
+  no_samples : (arguments : SampleArguments) (breaks : List Break) → HasBreaks Broken has arguments.crd.now arguments.version.now breaks → IsAnswer has (Sample arguments) 1 []
   help : (said : String Global) → IsAnswer has (Help said) 0 (string_bytes said)
   usage_error : (said : String Global) → IsAnswer has (UsageError said) 2 []
 
--- an input of the request is refused; pools only where the schema is accepted
+-- an input of the request is refused; an object or pools only where the schema is taken
 abbrev pub IsInputRefused : Documents → Request → Type 0
-IsInputRefused has (Check arguments) = IsCrdRefused has arguments.crd.now arguments.version.now HasFirstDefault
-IsInputRefused has (Sample arguments) = IsCrdRefused has arguments.crd.now arguments.version.now HasFirstUnknown
-    ⊎ (HasAcceptedSchema has arguments.crd.now arguments.version.now × ArePoolsRefused has arguments.pools)
+IsInputRefused has (Check arguments) = IsCrdRefused has arguments.crd.now arguments.version.now
+IsInputRefused has (Object arguments) = IsCrdRefused has arguments.crd.now arguments.version.now
+    ⊎ (HasUnbrokenSchema has arguments.crd.now arguments.version.now × IsObjectRefused has arguments)
+IsInputRefused has (Sample arguments) = IsCrdRefused has arguments.crd.now arguments.version.now
+    ⊎ (((p : List ℕ) × HasFirstUnknown has arguments.crd.now arguments.version.now p) ⊎ (HasAcceptedSchema has arguments.crd.now arguments.version.now × ArePoolsRefused has arguments.pools))
 IsInputRefused has _ = ⊥
 
 -- what is out where standard output failed: a beginning of the answer, as a walk leaves it

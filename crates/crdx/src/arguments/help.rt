@@ -4,34 +4,38 @@
 pub(super) const VERSION: &str = "0.1.0";
 
 pub(super) const PROGRAM: &str =
-    "Checks the schema of a Kubernetes custom resource and lists samples of it";
+    "Checks the schema of a Kubernetes custom resource, and its objects";
 
 pub(super) const PROGRAM_LONG: &str =
-    "Checks the schema of a Kubernetes custom resource and lists samples of it.
+    "Checks the schema of a Kubernetes custom resource, and its objects.
 
 crdx reads a JSON file with a CustomResourceDefinition of
 apiextensions.k8s.io/v1, and looks at the schema of one of its versions.
 `crdx check` says which rules that schema breaks and where, or that it is
-structural. `crdx sample` lists its small objects, each once and in order.
+structural. `crdx validate` says what is wrong with an object. `crdx prune` and
+`crdx default` print what the API server makes of it. `crdx sample` lists small
+objects, each once and in order.
 
-So far `crdx check` does not judge defaults, and `crdx sample` knows integers,
-booleans and objects with `properties` alone. A schema that breaks no rule and
-needs more is refused with the code S0.";
+So far `crdx sample` knows integers, booleans and objects with `properties`
+alone. A schema that breaks no rule and needs more is refused with the code S0.";
 
 /// What stands at the end of `crdx --help`.
 pub(super) const PROGRAM_END: &str = r#"Examples, at the top of the repository:
-  ./crdx check examples/alert-rule/crd.json v1
+  ./crdx check examples/workflow/crd.json v1
+  ./crdx validate examples/issuer/crd.json v1 examples/issuer/faulty.json
+  ./crdx default examples/issuer/crd.json v1 examples/issuer/object.json
   ./crdx sample examples/widget/crd.json v1 \
       --pools examples/widget/pools.json --limit 4
 
 Exit status:
   0  The whole answer is on standard output.
-  1  The schema breaks rules. They are on standard output under `check`, and
-     on standard error under `sample`.
+  1  The schema breaks rules: they are on standard output under `check`, and
+     on standard error under the other commands. Or the object has faults:
+     they are on standard output under `validate`.
   2  The command line is refused. Standard error says why.
-  3  A file is refused. Standard error has a line with its code, such as
-     `crdx: crd: S2` or `crdx: pools: P1 "/integers/0"`.
-  4  A file could not be read, or standard output could not be written.
+  3  An input is refused. Standard error has a line with its code, such as
+     `crdx: crd: S2`, `crdx: object: J3` or `crdx: pools: P1 "/integers/0"`.
+  4  An input could not be read, or standard output could not be written.
      Standard error says which.
   5  There was not enough memory.
 
@@ -52,18 +56,37 @@ Rules that a schema can break, where allOf, anyOf, oneOf and not are junctors:
        apart, or there are keys where there is no map list.
   V12  The items of a set are not scalars, or are nullable.
   V13  x-kubernetes-map-type is not granular or atomic, or is not at an object.
+  V14  A default is not pruned, or is not valid once it is completed. This is
+       judged where no other rule is broken.
   V15  A default is not at a property, or is in apiVersion, kind or metadata.
   V16  A junctor is not at a scalar, or has keywords or values beyond scalars.
   V17  The schema is outside the profile of crdx: a keyword that does not go
        with the type, a type that crdx does not know, a list without items, a
        required name that is no property, or the like.
 
-Codes of a file that is refused:
+Faults that an object can have:
+  F01  kind: the value is not of the type.
+  F02  null: the value is null, and the schema is not nullable.
+  F03  enum: the value is none of the enum.
+  F04  minimum: the integer is below it, or equal to an exclusive one.
+  F05  maximum: the integer is above it, or equal to an exclusive one.
+  F06  minLength: the text has fewer characters.
+  F07  maxLength: the text has more characters.
+  F08  minItems: the list has fewer items.
+  F09  maxItems: the list has more items.
+  F10  minProperties: the object has fewer members.
+  F11  maxProperties: the object has more members.
+  F12  required: the member that the path names is missing.
+  F13  duplicate: an earlier item of a set is the same, or an earlier item of
+       a map list has the same keys.
+  F14  junctor: allOf, anyOf, oneOf or not fails.
+
+Codes of an input that is refused:
   J1   A number is not an integer of 64 bits.
   J3   The file is not UTF-8 or not JSON, or nests deeper than 127.
   J4   The file has more than 1,048,576 bytes.
-  S0   The schema breaks no rule, and has something that the command does not
-       know yet: under `check` a default.
+  S0   The schema breaks no rule, and has something that `sample` does not
+       know yet.
   S1   The file is no CustomResourceDefinition of apiextensions.k8s.io/v1, or
        the version has no schema.
   S2   There is no version of that name.
@@ -73,8 +96,9 @@ Codes of a file that is refused:
   P1   The pools have the wrong form.
   P2   The pools have more than 64 integers.
 
-A rule, S0, S3, S4 and P1 come with a JSON pointer to the place. Of a schema it
-begins at openAPIV3Schema, and "" is the whole schema."#;
+A rule, a fault, S0, S3, S4 and P1 come with a JSON pointer to the place. Of a
+schema it begins at openAPIV3Schema, of an object at the object, and "" is the
+whole."#;
 
 pub(super) const CHECK: &str =
     "Says which rules a schema breaks and where, or that it is structural";
@@ -87,16 +111,64 @@ rule, a JSON pointer to the place, and what is wrong there, such as
 
     V04 "/properties/metadata/properties/labels" metadata restricted
 
-Of a schema that breaks none it prints `structural`. Whether a default is valid
-is not judged yet: a schema that breaks no rule and has a default is refused
-with S0 and the place of the first."#;
+Of a schema that breaks none it prints `structural`. Whether defaults are good
+is judged where no other rule is broken."#;
 
 pub(super) const CHECK_END: &str = "Examples, at the top of the repository:
   ./crdx check examples/widget/crd.json v1
-  ./crdx check examples/alert-rule/crd.json v1
+  ./crdx check examples/workflow/crd.json v1
 
-`crdx --help` explains the rules, the codes of files that are refused, and the
+`crdx --help` explains the rules, the codes of inputs that are refused, and the
 exit status.";
+
+pub(super) const VALIDATE: &str = "Says what is wrong with an object, or that it is valid";
+
+pub(super) const VALIDATE_LONG: &str = r#"Says what is wrong with an object, or that it is valid.
+
+Of an object with faults it prints a line for each: the number, a JSON pointer
+to the place, and which keyword fails there, such as
+
+    F12 "/spec/acme/server" required
+
+Of an object without faults it prints `valid`. The apiVersion, kind and metadata
+of the object are not judged, and neither are members that the schema does not
+declare. The object is judged as it is, and not completed with defaults first."#;
+
+pub(super) const VALIDATE_END: &str = "Example, at the top of the repository:
+  ./crdx validate examples/issuer/crd.json v1 examples/issuer/faulty.json
+
+`crdx --help` explains the faults, the codes of inputs that are refused, and the
+exit status.";
+
+pub(super) const PRUNE: &str = "Prints an object without the members that pruning drops";
+
+pub(super) const PRUNE_LONG: &str =
+    "Prints an object without the members that pruning drops, as one line of JSON.
+
+The API server drops the members that the schema does not declare, but for those
+of objects with x-kubernetes-preserve-unknown-fields. The apiVersion, kind and
+metadata of the object stay as they are.";
+
+pub(super) const PRUNE_END: &str = "Example, at the top of the repository:
+  ./crdx prune examples/issuer/crd.json v1 examples/issuer/object.json
+
+`crdx --help` explains the codes of inputs that are refused, and the exit status.";
+
+pub(super) const DEFAULT: &str = "Prints an object as it is stored: pruned, and with its defaults";
+
+pub(super) const DEFAULT_LONG: &str =
+    "Prints an object as it is stored: pruned, and with its defaults, as one line of
+JSON.
+
+A member that is missing, or is null where the schema is not nullable, becomes
+the default of its schema, which is completed in turn. Such a null goes where
+there is no default. The apiVersion, kind and metadata of the object stay as
+they are. Whether the object is valid is not asked.";
+
+pub(super) const DEFAULT_END: &str = "Example, at the top of the repository:
+  ./crdx default examples/issuer/crd.json v1 examples/issuer/object.json
+
+`crdx --help` explains the codes of inputs that are refused, and the exit status.";
 
 pub(super) const SAMPLE: &str = "Lists sample objects of a schema, one on each line";
 
@@ -116,12 +188,14 @@ pub(super) const SAMPLE_END: &str = r#"Example, at the top of the repository:
 
 It lists ten objects, from {} to {"spec":{"a":1,"b":true}}.
 
-`crdx --help` explains the rules, the codes of files that are refused, and the
+`crdx --help` explains the rules, the codes of inputs that are refused, and the
 exit status."#;
 
 pub(super) const CRD: &str = "A JSON file with a CustomResourceDefinition";
 
 pub(super) const CRD_VERSION: &str = "The name of one of its versions, such as v1";
+
+pub(super) const OBJECT: &str = "A JSON file with the object; without it standard input is read";
 
 pub(super) const POOLS: &str = "A JSON file with the integers that samples may have";
 

@@ -1,15 +1,17 @@
 // Reads the arguments by `clap`.
-ghost use Rattle.std.specs.Prelude.{◌≡◌, ◌≤◌, false, map, IfOk, string_bytes, codes};
+ghost use Rattle.std.specs.Prelude.{◌≡◌, ◌≤◌, false, Some, map, IfOk, string_bytes, codes};
 ghost use Rattle.clap.specs.Words.{found_of};
 ghost use Rattle.clap.specs.Kinds.{FailsBy};
 ghost use Rattle.clap.specs.Values.{kind_of};
 ghost use Rattle.clap.specs.Walk.{rule_of, rows_of};
-ghost use Rattle.clap.specs.Simple.{app_of, subcommand_rows_of};
+ghost use Rattle.clap.specs.Simple.{app_of, new_rule, subcommand_rows_of};
 ghost use Rattle.clap.specs.declared.builder.command.Command.TheViews.{out-Command};
-ghost use Rattle.crdx.specs.Program.CommandLine.{required_rule, option_rule, number_rule, check_app, sample_app, faults, entered, IsCommand, AreSampleArguments, Asks, IsRequestOf, IsUsageErrorOrMemory, IsNumberOf};
+ghost use Rattle.crdx.specs.Program.CommandLine.{required_rule, option_rule, number_rule, check_app, object_app, sample_app, faults, entered, IsCommand, AreCheckArguments, AreObjectArguments, AreSampleArguments, Asks, IsRequestOf, IsUsageErrorOrMemory, IsNumberOf};
 
 use crate::arguments::help;
-use crate::arguments::request::{CheckArguments, Request, SampleArguments};
+use crate::arguments::request::{
+    CheckArguments, ObjectArguments, ObjectCommand, Request, SampleArguments,
+};
 use clap::error::ErrorKind;
 use clap::{Arg, ArgMatches, Command, Error};
 use std::alloc::{AllocError, Global};
@@ -37,15 +39,22 @@ pub fn parse_arguments<'a>(alloc: Global, arguments: &'a [String]) -> Request<'a
 fn request_of_command<'a>(alloc: Global, matches: &ArgMatches<'a>) -> Request<'a>
     ensures { IsCommand (subcommand_rows_of matches.now) result }
 {
-    if let Some(check) = matches.subcommand_matches("check") {
-        return Request::Check(CheckArguments {
-            crd: check.get_str("CRD").unwrap_or(""),
-            version: check.get_str("VERSION").unwrap_or(""),
-        });
-    }
-    match matches.subcommand_matches("sample") {
-        Some(sample) => Request::Sample(sample_arguments(sample)),
+    match matches.subcommand() {
+        Some((name, found)) => request_of_named(alloc, name, found),
         None => usage_error(alloc, "error: no command\n"),
+    }
+}
+
+fn request_of_named<'a>(alloc: Global, name: &str, found: &ArgMatches<'a>) -> Request<'a>
+    ensures { IsCommand (Some (name.now, rows_of (found_of found.now))) result }
+{
+    match name {
+        "check" => Request::Check(check_arguments(found)),
+        "validate" => Request::Object(object_arguments(ObjectCommand::Validate, found)),
+        "prune" => Request::Object(object_arguments(ObjectCommand::Prune, found)),
+        "default" => Request::Object(object_arguments(ObjectCommand::Default, found)),
+        "sample" => Request::Sample(sample_arguments(found)),
+        _ => usage_error(alloc, "error: no such command\n"),
     }
 }
 
@@ -61,6 +70,27 @@ fn matches_of<'a>(alloc: Global, arguments: &'a [String]) -> Result<ArgMatches<'
         .after_long_help(help::PROGRAM_END)
         .subcommand_required(true)
         .subcommand(check_command(alloc)?)?
+        .subcommand(object_command(
+            alloc,
+            "validate",
+            help::VALIDATE,
+            help::VALIDATE_LONG,
+            help::VALIDATE_END,
+        )?)?
+        .subcommand(object_command(
+            alloc,
+            "prune",
+            help::PRUNE,
+            help::PRUNE_LONG,
+            help::PRUNE_END,
+        )?)?
+        .subcommand(object_command(
+            alloc,
+            "default",
+            help::DEFAULT,
+            help::DEFAULT_LONG,
+            help::DEFAULT_END,
+        )?)?
         .subcommand(sample_command(alloc)?)?;
     command.try_get_matches_from(arguments)
 }
@@ -92,6 +122,33 @@ fn version_argument<'a>(alloc: Global) -> Arg<'a>
     Arg::new(alloc, "VERSION")
         .required(true)
         .help(help::CRD_VERSION)
+}
+
+/// The command of this name, with the arguments that `validate`, `prune` and `default` take.
+fn object_command<'a>(
+    alloc: Global,
+    name: &'a str,
+    about: &'a str,
+    long_about: &'a str,
+    end: &'a str,
+) -> Result<Command<'a>, AllocError>
+    ensures app { IfOk result (λ c. app_of c ≡ object_app name.now) }
+    ensures local { IfOk result (λ c. (out-Command c).has_globals ≡ false) }
+{
+    Command::new(alloc, name)
+        .about(about)
+        .long_about(long_about)
+        .after_long_help(end)
+        .arg(crd_argument(alloc))?
+        .arg(version_argument(alloc))?
+        .arg(object_argument(alloc))
+}
+
+fn object_argument<'a>(alloc: Global) -> Arg<'a>
+    ensures rule { rule_of result ≡ new_rule (codes "OBJECT") }
+    ensures local { result.global ≡ false }
+{
+    Arg::new(alloc, "OBJECT").help(help::OBJECT)
 }
 
 /// The arguments that `sample` takes.
@@ -144,6 +201,26 @@ fn count_option<'a>(alloc: Global) -> Arg<'a>
         .help(help::COUNT)
         .value_parser(clap::value_parser!(u32).range(1..=10_000))
         .default_value("100")
+}
+
+fn check_arguments<'a>(matches: &ArgMatches<'a>) -> CheckArguments<'a>
+    ensures { AreCheckArguments (rows_of (found_of matches.now)) result }
+{
+    CheckArguments {
+        crd: matches.get_str("CRD").unwrap_or(""),
+        version: matches.get_str("VERSION").unwrap_or(""),
+    }
+}
+
+fn object_arguments<'a>(command: ObjectCommand, matches: &ArgMatches<'a>) -> ObjectArguments<'a>
+    ensures { AreObjectArguments command (rows_of (found_of matches.now)) result }
+{
+    ObjectArguments {
+        command,
+        crd: matches.get_str("CRD").unwrap_or(""),
+        version: matches.get_str("VERSION").unwrap_or(""),
+        object: matches.get_str("OBJECT"),
+    }
 }
 
 fn sample_arguments<'a>(matches: &ArgMatches<'a>) -> SampleArguments<'a>

@@ -29,11 +29,36 @@ pub struct CheckArguments<'a> {
     pub version: &'a str,
 }
 
+/// What is asked about an object.
+#[derive(Clone, Copy, Drop)]
+pub enum ObjectCommand {
+    /// Whether it is valid, and what is wrong with it.
+    Validate,
+    /// The object without what pruning drops.
+    Prune,
+    /// The object pruned, and with its defaults.
+    Default,
+}
+
+/// The arguments of `validate`, `prune` and `default`.
+#[derive(Drop)]
+pub struct ObjectArguments<'a> {
+    pub command: ObjectCommand,
+    /// The file of the CustomResourceDefinition.
+    pub crd: &'a str,
+    /// The version whose schema is asked for.
+    pub version: &'a str,
+    /// The file of the object; without one it is read from standard input.
+    pub object: Option<&'a str>,
+}
+
 /// What the arguments ask for.
 #[derive(Drop)]
 pub enum Request<'a> {
     /// To judge a schema.
     Check(CheckArguments<'a>),
+    /// To say what becomes of an object.
+    Object(ObjectArguments<'a>),
     /// To list samples.
     Sample(SampleArguments<'a>),
     /// To print this text of help or of the version on standard output, with status 0.

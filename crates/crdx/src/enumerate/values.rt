@@ -11,7 +11,7 @@ ghost use Rattle.crdx.specs.declared.enumerate.fault.EFault.TheVariants.{NoMemor
 use crate::enumerate::fault::EFault;
 use crate::enumerate::rows::extended_rows;
 use crate::plan::{Plan, Pools};
-use crate::stored::{Fields, Node, ScalarKind};
+use crate::simple::{Fields, Node, ScalarKind};
 use jtree::{Members, Tree};
 use std::alloc::Global;
 

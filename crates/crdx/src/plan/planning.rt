@@ -1,6 +1,6 @@
 use crate::plan::fault::PFault;
 use crate::plan::pool_lists::Pools;
-use crate::stored::{Node, Schema};
+use crate::simple::{Node, Schema};
 use std::marker::Model;
 
 /// The greatest node limit.

@@ -3,10 +3,10 @@ ghost use Rattle.std.specs.Prelude.{◌≡◌};
 ghost use Rattle.crdx.specs.Internal.ExitStatus.{status};
 
 use crate::plan::PFault;
-use crate::stored::Refused;
+use crate::simple;
 use crate::walk::WFault;
 use jtree::JFault;
-use schema::{SFault, Violation};
+use schema::{Refused, SFault, Violation};
 use std::alloc::AllocError;
 use std::fmt;
 
@@ -14,6 +14,7 @@ use std::fmt;
 #[derive(Clone, Copy, Drop)]
 pub(crate) enum Input {
     Crd,
+    Object,
     Pools,
 }
 
@@ -26,6 +27,7 @@ impl fmt::Display for Input {
     fn fmt<W: fmt::Write>(&self, f: &mut fmt::Formatter<W>) -> fmt::Result {
         match self {
             Input::Crd => write!(f, "crd"),
+            Input::Object => write!(f, "object"),
             Input::Pools => write!(f, "pools"),
         }
     }
@@ -126,13 +128,31 @@ impl From<Refused> for Cause {
     ghost use Rattle.std.specs.Prelude.{◌≡◌};
     ghost use Rattle.crdx.specs.Internal.ExitStatus.{cause_of_refusal};
 
-    ghost from_gives = { λ fault cause. cause ≡ cause_of_refusal fault };
+    ghost from_gives = { λ refused cause. cause ≡ cause_of_refusal refused };
 
     fn from(refused: Refused) -> Cause {
         match refused {
             Refused::Violations(violations) => Cause::Violations(violations),
-            Refused::NotYet(pointer) => Cause::Place(Input::Crd, PlaceCode::NotYet, pointer),
             Refused::NoMemory => Cause::NoMemory,
+        }
+    }
+}
+
+impl From<simple::Refused> for Cause {
+    ghost use Rattle.std.specs.Prelude.{◌≡◌};
+    ghost use Rattle.crdx.specs.Internal.ExitStatus.{cause_of_simple_refusal};
+
+    ghost from_gives = { λ refused cause. cause ≡ cause_of_simple_refusal refused };
+
+    fn from(refused: simple::Refused) -> Cause {
+        match refused {
+            simple::Refused::Violations(violations) => Cause::Violations(violations),
+            simple::Refused::NotYet(pointer) => Cause::Place(
+                Input::Crd,
+                PlaceCode::NotYet,
+                pointer,
+            ),
+            simple::Refused::NoMemory => Cause::NoMemory,
         }
     }
 }

@@ -1,32 +1,21 @@
 // What `check` answers.
-ghost use Rattle.std.specs.Prelude.{◌≡◌, map, OnOk, IfOk, IfErr, string_bytes};
-ghost use Rattle.jtree.specs.Data as tree;
-ghost use Rattle.jtree.specs.Text.{compact};
-ghost use Rattle.schema.specs.Document.Places.{Place};
-ghost use Rattle.schema.specs.Rules.Breaks.{BreaksNone, told};
-ghost use Rattle.schema.specs.Rules.Defaults.{HasDefault};
-ghost use Rattle.crdx.specs.Internal.Cause.{IsRawCause, IsSchemaCause, IsInputCause};
-ghost use Rattle.crdx.specs.Program.Requested.{HasFirstDefault, HasStructuralSchema};
+ghost use Rattle.std.specs.Prelude.{◌≡◌, ◌≢◌, [], map, IfOk, IfErr, string_bytes, codes};
+ghost use Rattle.schema.specs.Rules.Breaks.{told};
+ghost use Rattle.crdx.specs.Internal.Cause.{IsInputCause};
 ghost use Rattle.crdx.specs.Program.RunResult.{IsAnswer, told_line, told_lines};
 ghost use Rattle.crdx.specs.declared.arguments.request.Request.TheVariants.{Check};
 
 use crate::arguments::CheckArguments;
 use crate::inputs::Inputs;
 use crate::phrases::phrase;
-use crate::running::causes::{Cause, Input, PlaceCode};
+use crate::running::answer::{Answer, json_text};
+use crate::running::causes::Cause;
 use crate::running::documents::raw_of;
-use jtree::{Text, Tree};
-use schema::{RawSchema, Refused, Violation, first_default, shape};
+use schema::Violation;
 use std::alloc::{AllocError, Global};
+use stored::violations;
 
-/// A whole answer: the exit status, and the text for standard output.
-#[derive(Drop)]
-pub(crate) struct Answer {
-    pub status: u8,
-    pub text: String,
-}
-
-/// `structural` of a schema that breaks no rule and has no default, and the lines of all that is broken in one that breaks rules.
+/// `structural` of a schema that breaks no rule, and else a line for each rule and place.
 pub(crate) fn check<I: Inputs>(
     alloc: Global,
     arguments: &CheckArguments<'_>,
@@ -35,55 +24,25 @@ pub(crate) fn check<I: Inputs>(
     ensures answer { IfOk result (λ a. IsAnswer (I.has inputs.old) (Check arguments.now) a.status (string_bytes a.text)) }
     ensures cause { IfErr result (IsInputCause (I.has inputs.old) (I.failures inputs.old) (I.failures inputs.new) (Check arguments.now)) }
 {
-    let cause = match find_structural(alloc, arguments, inputs) {
-        Ok(()) => {
-            return Ok(Answer {
-                status: 0,
-                text: String::from_str(alloc, "structural\n")?,
-            });
-        }
-        Err(cause) => cause,
-    };
-    match cause {
-        Cause::Violations(violations) => Ok(Answer {
-            status: 1,
-            text: violation_lines(alloc, &violations)?,
-        }),
-        other => Err(other),
-    }
-}
-
-/// Whether the schema that is asked for is structural.
-fn find_structural<I: Inputs>(
-    alloc: Global,
-    arguments: &CheckArguments<'_>,
-    inputs: &mut I,
-) -> Result<(), Cause>
-    ensures ok { OnOk result (HasStructuralSchema (I.has inputs.old) arguments.now.crd.now arguments.now.version.now) }
-    ensures cause { IfErr result (IsSchemaCause (I.has inputs.old) (I.failures inputs.old) (I.failures inputs.new) arguments.now.crd.now arguments.now.version.now HasFirstDefault) }
-{
     let raw = raw_of(alloc, arguments.crd, arguments.version, inputs)?;
-    match judge(alloc, &raw) {
-        Ok(()) => Ok(()),
-        Err(cause) => Err(cause),
-    }
+    Ok(verdict(alloc, violations(alloc, &raw)?.as_slice())?)
 }
 
-/// Whether a schema breaks no rule, and has no default: what a default becomes is not judged yet.
-fn judge(alloc: Global, raw: &RawSchema) -> Result<(), Cause>
-    ensures unbroken { OnOk result (BreaksNone raw.now) }
-    ensures no_default { OnOk result ((p : Place) → HasDefault raw.now p → ⊥) }
-    ensures cause { IfErr result (IsRawCause raw.now HasFirstDefault) }
+/// What is said of a schema with these violations.
+fn verdict(alloc: Global, violations: &[Violation]) -> Result<Answer, AllocError>
+    ensures none { violations.now ≡ [] → IfOk result (λ a. (a.status ≡ 0) × (string_bytes a.text ≡ codes "structural\n")) }
+    ensures some { violations.now ≢ [] → IfOk result (λ a. (a.status ≡ 1) × (string_bytes a.text ≡ told_lines (map told violations.now))) }
 {
-    match shape(alloc, raw) {
-        Ok(_shape) => {}
-        Err(Refused::Violations(violations)) => return Err(Cause::Violations(violations)),
-        Err(Refused::NoMemory) => return Err(Cause::NoMemory),
-    }
-    match first_default(alloc, raw) {
-        Ok(None) => Ok(()),
-        Ok(Some(pointer)) => Err(Cause::Place(Input::Crd, PlaceCode::NotYet, pointer)),
-        Err(_fault) => Err(Cause::NoMemory),
+    if violations.is_empty() {
+        Ok(Answer {
+            status: 0,
+            text: String::from_str(alloc, "structural\n")?,
+        })
+    } else {
+        Ok(Answer {
+            status: 1,
+            text: violation_lines(alloc, violations)?,
+        })
     }
 }
 
@@ -104,13 +63,4 @@ fn violation_line(alloc: Global, violation: &Violation) -> Result<String, AllocE
     let pointer = json_text(alloc, violation.pointer.as_str())?;
     let rule = violation.rule;
     format!(in alloc; "{rule} {pointer} {}\n", phrase(rule))
-}
-
-/// A text as JSON, quoted (RFC 8259).
-pub(crate) fn json_text(alloc: Global, text: &str) -> Result<String, AllocError>
-    ensures { IfOk result (λ s. string_bytes s ≡ compact (tree.text text.now)) }
-{
-    Tree::Text(Text::from_str(alloc, text)?)
-        .to_text(alloc)
-        .map_err(|_| AllocError)
 }

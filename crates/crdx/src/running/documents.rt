@@ -1,34 +1,53 @@
 // The schema and the pools that a request names.
-ghost use Rattle.std.specs.Prelude.{◌≡◌, true, Some, Ok, IfOk, IfErr, OnOk};
+ghost use Rattle.std.specs.Prelude.{◌≡◌, true, Ok, IfOk, IfErr, OnOk};
 ghost use Rattle.jtree.specs.Data.{Data};
 ghost use Rattle.jtree.specs.View.{data_of};
 ghost use Rattle.crdx.specs.Objects.Accepted.{IsNodeAt};
-ghost use Rattle.crdx.specs.Internal.Cause.{IsUnreadCause, IsReadCause, IsSchemaCause, IsPoolsCause};
-ghost use Rattle.crdx.specs.Program.Requested.{HasFirstUnknown, IsRequestedSchema, IsAcceptedSchema, ArePools};
-ghost use Rattle.crdx.specs.Program.Documents.{AreAmong};
+ghost use Rattle.schema.specs.Nodes.ByPlace.{AreNodesOf};
+ghost use Rattle.crdx.specs.Internal.Cause.{IsUnreadCause, IsReadCause, IsBrokenCause, IsUnknownCause, IsSchemaCause, IsPoolsCause};
+ghost use Rattle.crdx.specs.Program.Requested.{IsRequestedSchema, IsUnbrokenSchema, IsAcceptedSchema, ArePools};
+ghost use Rattle.crdx.specs.Program.Documents.{AreAmong, file_name};
+ghost use Rattle.crdx.specs.declared.running.causes.Input.TheVariants as input;
 
 use crate::inputs::{InFault, Inputs};
 use crate::plan::Pools;
 use crate::running::causes::{Cause, Input};
-use crate::stored::{Schema, accept};
+use crate::simple;
 use jtree::{JFault, Tree};
 use schema::{RawSchema, read_crd};
 use std::alloc::Global;
+use stored::{Schema, accept};
 
-/// The accepted schema of a version of the CustomResourceDefinition of this name.
-pub(crate) fn schema_of<I: Inputs>(
+/// The schema of a version of the CustomResourceDefinition of this name, where it breaks no rule.
+pub(crate) fn accepted_schema<I: Inputs>(
     alloc: Global,
     crd: &str,
     version: &str,
     inputs: &mut I,
 ) -> Result<Schema, Cause>
-    ensures accepted { IfOk result (λ schema. (raw : Data) × IsAcceptedSchema (I.has inputs.old) crd.now version.now raw × IsNodeAt true schema raw) }
-    ensures cause { IfErr result (IsSchemaCause (I.has inputs.old) (I.failures inputs.old) (I.failures inputs.new) crd.now version.now HasFirstUnknown) }
+    ensures accepted { IfOk result (λ schema. (raw : Data) × IsUnbrokenSchema (I.has inputs.old) crd.now version.now raw × AreNodesOf true schema raw) }
+    ensures cause { IfErr result (IsSchemaCause (I.has inputs.old) (I.failures inputs.old) (I.failures inputs.new) crd.now version.now IsBrokenCause) }
     ensures stays { AreAmong (I.has inputs.new) (I.has inputs.old) }
     ensures unfailed { OnOk result (I.failures inputs.new ≡ I.failures inputs.old) }
 {
     let raw = raw_of(alloc, crd, version, inputs)?;
     Ok(accept(alloc, raw)?)
+}
+
+/// The schema of a version of the CustomResourceDefinition of this name, where `sample` knows all of it.
+pub(crate) fn simple_schema<I: Inputs>(
+    alloc: Global,
+    crd: &str,
+    version: &str,
+    inputs: &mut I,
+) -> Result<simple::Schema, Cause>
+    ensures accepted { IfOk result (λ schema. (raw : Data) × IsAcceptedSchema (I.has inputs.old) crd.now version.now raw × IsNodeAt true schema raw) }
+    ensures cause { IfErr result (IsSchemaCause (I.has inputs.old) (I.failures inputs.old) (I.failures inputs.new) crd.now version.now IsUnknownCause) }
+    ensures stays { AreAmong (I.has inputs.new) (I.has inputs.old) }
+    ensures unfailed { OnOk result (I.failures inputs.new ≡ I.failures inputs.old) }
+{
+    let raw = raw_of(alloc, crd, version, inputs)?;
+    Ok(simple::accept(alloc, raw)?)
 }
 
 /// The schema of a version of the CustomResourceDefinition of this name, as written.
@@ -43,7 +62,7 @@ pub(crate) fn raw_of<I: Inputs>(
     ensures stays { AreAmong (I.has inputs.new) (I.has inputs.old) }
     ensures unfailed { OnOk result (I.failures inputs.new ≡ I.failures inputs.old) }
 {
-    let document = document(inputs, Input::Crd, crd)?;
+    let document = document(inputs, Input::Crd, Some(crd))?;
     Ok(read_crd(alloc, &document, version)?.raw)
 }
 
@@ -57,18 +76,26 @@ pub(crate) fn pools_of<I: Inputs>(
     ensures cause { IfErr result (IsPoolsCause (I.has inputs.old) (I.failures inputs.old) (I.failures inputs.new) name.entry) }
 {
     match name {
-        Some(name) => Ok(Pools::read(alloc, &document(inputs, Input::Pools, name)?)?),
+        Some(name) => Ok(Pools::read(alloc, &document(inputs, Input::Pools, Some(name))?)?),
         None => Ok(Pools::new(alloc)),
     }
 }
 
-fn document<I: Inputs>(inputs: &mut I, input: Input, name: &str) -> Result<Tree, Cause>
-    ensures ok { IfOk result (λ t. I.has inputs.old (Some name.now) (Ok (data_of t))) }
-    ensures cause { IfErr result (IsUnreadCause (I.has inputs.old) (I.failures inputs.old) (I.failures inputs.new) input name.now) }
+/// The object of the document of this name, or of the standard input where there is no name.
+pub(crate) fn object_of<I: Inputs>(name: Option<&str>, inputs: &mut I) -> Result<Tree, Cause>
+    ensures ok { IfOk result (λ t. I.has inputs.old (file_name name.entry) (Ok (data_of t))) }
+    ensures cause { IfErr result (IsUnreadCause (I.has inputs.old) (I.failures inputs.old) (I.failures inputs.new) input.Object (file_name name.entry)) }
+{
+    document(inputs, Input::Object, name)
+}
+
+fn document<I: Inputs>(inputs: &mut I, input: Input, name: Option<&str>) -> Result<Tree, Cause>
+    ensures ok { IfOk result (λ t. I.has inputs.old (file_name name.entry) (Ok (data_of t))) }
+    ensures cause { IfErr result (IsUnreadCause (I.has inputs.old) (I.failures inputs.old) (I.failures inputs.new) input (file_name name.entry)) }
     ensures stays { AreAmong (I.has inputs.new) (I.has inputs.old) }
     ensures unfailed { OnOk result (I.failures inputs.new ≡ I.failures inputs.old) }
 {
-    match inputs.tree(Some(name)) {
+    match inputs.tree(name) {
         Ok(tree) => Ok(tree),
         Err(InFault::Failed) => Err(Cause::Unread(input)),
         Err(InFault::Document(JFault::NoMemory)) => Err(Cause::NoMemory),

@@ -2,8 +2,9 @@
 ghost use Rattle.std.specs.Prelude.{◌≡◌, ◌⊎◌};
 ghost use Rattle.crdx.specs.Internal.ExitStatus.{status, IsGiven};
 
+use crate::running::answer::{Answer, json_text};
 use crate::running::causes::Cause;
-use crate::running::checking::{Answer, json_text, violation_lines};
+use crate::running::checking::violation_lines;
 use crate::sink::{Sink, put_all};
 use crate::walk::Walked;
 use std::alloc::{AllocError, Global};

@@ -10,7 +10,7 @@ use crate::arguments::SampleArguments;
 use crate::inputs::Inputs;
 use crate::plan::Plan;
 use crate::running::causes::Cause;
-use crate::running::documents::{pools_of, schema_of};
+use crate::running::documents::{pools_of, simple_schema};
 use crate::sink::Sink;
 use crate::walk::{Walked, walk};
 use std::alloc::Global;
@@ -45,7 +45,7 @@ fn plan_of<I: Inputs>(
     ensures plan { IfOk result (λ plan. IsRequested (I.has inputs.old) arguments.now plan) }
     ensures cause { IfErr result (IsInputCause (I.has inputs.old) (I.failures inputs.old) (I.failures inputs.new) (Sample arguments.now)) }
 {
-    let schema = match schema_of(alloc, arguments.crd, arguments.version, inputs) {
+    let schema = match simple_schema(alloc, arguments.crd, arguments.version, inputs) {
         Ok(schema) => schema,
         Err(cause) => return Err(cause),
     };

@@ -14,10 +14,12 @@ command_is c =
     let versioned = ap app_of_fields c.version.ensures ∙ ap (on_top (λ s. record s { has_version = true })) named in
     let texts = ap app_of_fields c.after_long_help.ensures ∙ (ap app_of_fields c.long_about.ensures ∙ (ap app_of_fields c.about.ensures ∙ versioned)) in
     let top = ap app_of_fields c.subcommand_required.ensures ∙ ap (on_top (λ s. record s { subcommand_required = true })) texts in
-    let first = c.in_ok-subcommand.ensures.shape c.in_ok-check_command.ensures.local
-    ∙ ap₂ with_subcommand top (ap (λ (a : App). a.top) c.in_ok-check_command.ensures.app) in
+    let first = c.in_ok-subcommand.ensures.shape c.in_ok-check_command.ensures.local ∙ ap₂ with_subcommand top (ap (λ (a : App). a.top) c.in_ok-check_command.ensures.app) in
+    let second = c.in_ok-subcommand-2.ensures.shape c.in_ok-object_command.ensures.local ∙ ap₂ with_subcommand first (ap (λ (a : App). a.top) c.in_ok-object_command.ensures.app) in
+    let third = c.in_ok-subcommand-3.ensures.shape c.in_ok-object_command-2.ensures.local ∙ ap₂ with_subcommand second (ap (λ (a : App). a.top) c.in_ok-object_command-2.ensures.app) in
+    let fourth = c.in_ok-subcommand-4.ensures.shape c.in_ok-object_command-3.ensures.local ∙ ap₂ with_subcommand third (ap (λ (a : App). a.top) c.in_ok-object_command-3.ensures.app) in
     c.in_ok-command.ensures.shape c.in_ok-sample_command.ensures.local
-    ∙ ap₂ with_subcommand first (ap (λ (a : App). a.top) c.in_ok-sample_command.ensures.app)
+    ∙ ap₂ with_subcommand fourth (ap (λ (a : App). a.top) c.in_ok-sample_command.ensures.app)
 
 pub returns-clause-command : goal.returns-clause-command
 returns-clause-command c =

@@ -1,0 +1,27 @@
+-- What `validate`, `prune` and `default` answer of a document at the node of its body (this project's own words).
+use Rattle.std.specs.Prelude.{◌≢◌, ◌/◌, ◌%◌, ℕ, List, [], ◌++◌, map, flat_map, codes, decimal}
+use Rattle.jtree.specs.Data.{Data, text}
+use Rattle.jtree.specs.Text.{compact}
+use Rattle.schema.specs.Nodes.Node.{Node}
+use Rattle.stored.specs.Objects.Fault.{IsValid}
+use Rattle.stored.specs.Objects.AllFaults.{Failure, AreFailures, Told, told_of}
+use Rattle.stored.specs.Objects.Becomes.{IsPruned, IsCompleted}
+use Rattle.crdx.specs.Output.Line.{line}
+use Rattle.crdx.specs.Program.Envelope.{body_of, envelope_in, joined}
+use Rattle.crdx.specs.Program.Phrases.{fault_phrase_of}
+use Rattle.crdx.specs.declared.arguments.request.ObjectCommand.{ObjectCommand}
+use Rattle.crdx.specs.declared.arguments.request.ObjectCommand.TheVariants.{Validate, Prune, Default}
+
+-- the line of a fault: its number in two digits, the path of the place as a JSON text, and what is wrong there
+abbrev pub fault_line : Told → List ℕ
+fault_line t = codes "F" ++ (decimal (t.number / 10) ++ (decimal (t.number % 10) ++ (codes " " ++ (compact (text t.path) ++ (codes " " ++ (fault_phrase_of t.number ++ codes "\n"))))))
+
+abbrev pub fault_lines : List Told → List ℕ
+fault_lines ts = flat_map fault_line ts
+
+-- the exit status, and the whole text on standard output
+pub data IsObjectAnswer (N : Node) (document : Data) : ObjectCommand → ℕ → List ℕ → Type 0 where
+  valid : IsValid N (body_of document) → IsObjectAnswer N document Validate 0 (codes "valid\n")
+  faulty : (fs : List Failure) → AreFailures N (body_of document) fs → fs ≢ [] → IsObjectAnswer N document Validate 1 (fault_lines (map told_of fs))
+  pruned : (body : Data) → IsPruned N (body_of document) body → IsObjectAnswer N document Prune 0 (line (joined body (envelope_in document)))
+  completed : (body : Data) → IsCompleted N (body_of document) body → IsObjectAnswer N document Default 0 (line (joined body (envelope_in document)))

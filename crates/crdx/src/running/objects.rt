@@ -1,0 +1,112 @@
+// What `validate`, `prune` and `default` answer.
+ghost use Rattle.std.specs.Prelude.{◌≡◌, map, IfOk, IfErr, string_bytes};
+ghost use Rattle.jtree.specs.Data.{Data};
+ghost use Rattle.jtree.specs.View.{data_of};
+ghost use Rattle.schema.specs.Nodes.View.{node_of};
+ghost use Rattle.stored.specs.Objects.AllFaults.{told};
+ghost use Rattle.crdx.specs.Internal.Cause.{IsInputCause};
+ghost use Rattle.crdx.specs.Output.Line.{line};
+ghost use Rattle.crdx.specs.Program.Envelope.{body_of, joined};
+ghost use Rattle.crdx.specs.Program.ObjectAnswer.{IsObjectAnswer, fault_line as fault_line_of, fault_lines as fault_lines_of};
+ghost use Rattle.crdx.specs.Program.RunResult.{IsAnswer};
+ghost use Rattle.crdx.specs.declared.arguments.request.ObjectCommand.TheVariants.{Validate};
+ghost use Rattle.crdx.specs.declared.arguments.request.Request.TheVariants.{Object};
+
+use crate::arguments::{ObjectArguments, ObjectCommand};
+use crate::envelope::{Parts, join, split};
+use crate::inputs::Inputs;
+use crate::phrases::fault_phrase;
+use crate::running::answer::{Answer, json_text};
+use crate::running::causes::Cause;
+use crate::running::documents::{accepted_schema, object_of};
+use jtree::Tree;
+use schema::Node;
+use std::alloc::{AllocError, Global};
+use stored::{Fault, complete, faults, prune};
+
+/// What is asked about an object, whose envelope is taken off before it is judged, and put back where it is printed. Inputs are
+/// judged in the order CustomResourceDefinition, its schema, object, and the first refusal ends the run.
+pub(crate) fn judge_object<I: Inputs>(
+    alloc: Global,
+    arguments: &ObjectArguments<'_>,
+    inputs: &mut I,
+) -> Result<Answer, Cause>
+    ensures answer { IfOk result (λ a. IsAnswer (I.has inputs.old) (Object arguments.now) a.status (string_bytes a.text)) }
+    ensures cause { IfErr result (IsInputCause (I.has inputs.old) (I.failures inputs.old) (I.failures inputs.new) (Object arguments.now)) }
+{
+    let schema = accepted_schema(alloc, arguments.crd, arguments.version, inputs)?;
+    let document = object_of(arguments.object, inputs)?;
+    Ok(answer_of(alloc, arguments.command, schema.root(), document)?)
+}
+
+/// What is said of a document at the node of its body.
+fn answer_of(
+    alloc: Global,
+    command: ObjectCommand,
+    node: &Node,
+    mut document: Tree,
+) -> Result<Answer, AllocError>
+    ensures { IfOk result (λ a. IsObjectAnswer (node_of node.now) (data_of document) command a.status (string_bytes a.text)) }
+{
+    let envelope = split(&mut document);
+    match command {
+        ObjectCommand::Validate => validate(alloc, node, &document),
+        ObjectCommand::Prune => {
+            prune(node, &mut document);
+            print(alloc, document, envelope)
+        }
+        ObjectCommand::Default => print(alloc, complete(alloc, node, &document)?, envelope),
+    }
+}
+
+/// `valid`, or a line for each fault.
+fn validate(alloc: Global, node: &Node, body: &Tree) -> Result<Answer, AllocError>
+    ensures { IfOk result (λ a. (document : Data) → body_of document ≡ data_of body.now → IsObjectAnswer (node_of node.now) document Validate a.status (string_bytes a.text)) }
+{
+    let found = faults(alloc, node, body)?;
+    if found.as_slice().is_empty() {
+        Ok(Answer {
+            status: 0,
+            text: String::from_str(alloc, "valid\n")?,
+        })
+    } else {
+        Ok(Answer {
+            status: 1,
+            text: fault_lines(alloc, found.as_slice())?,
+        })
+    }
+}
+
+/// The line of a body with its envelope.
+fn print(alloc: Global, mut body: Tree, envelope: Parts) -> Result<Answer, AllocError>
+    ensures { IfOk result (λ a. (a.status ≡ 0) × (string_bytes a.text ≡ line (joined (data_of body) envelope))) }
+{
+    join(&mut body, envelope)?;
+    let mut text = body.to_text(alloc).map_err(|_| AllocError)?;
+    text.push_str("\n")?;
+    Ok(Answer { status: 0, text })
+}
+
+/// A line for each fault: its number, the path of the place as a JSON text, and what is wrong there.
+fn fault_lines(alloc: Global, faults: &[Fault]) -> Result<String, AllocError>
+    ensures { IfOk result (λ s. string_bytes s ≡ fault_lines_of (map told faults.now)) }
+{
+    let mut lines = String::new(alloc);
+    for fault in faults {
+        lines.push_str(fault_line(alloc, fault)?.as_str())?;
+    }
+    Ok(lines)
+}
+
+fn fault_line(alloc: Global, fault: &Fault) -> Result<String, AllocError>
+    ensures { IfOk result (λ s. string_bytes s ≡ fault_line_of (told fault.now)) }
+{
+    let path = json_text(alloc, fault.path.as_str())?;
+    let number = fault.number;
+    format!(in alloc;
+        "F{}{} {path} {}\n",
+        number / 10,
+        number % 10,
+        fault_phrase(number)
+    )
+}
