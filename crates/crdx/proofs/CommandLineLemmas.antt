@@ -1,6 +1,6 @@
 -- What the matches of `clap` say of a command and its arguments.
 use Rattle.std.proofs.Common.{◌≡◌, ℕ, List, [], Option, Some, None, Bor, Box, refl, ap, subst, ◌∙◌, inl, inr, true}
-use Rattle.std.specs.Prelude.{◌<◌, ◌^◌, Result, Ok, Err, option_map, unwrap_or}
+use Rattle.std.specs.Prelude.{◌≢◌, ◌<◌, ◌^◌, Result, Ok, Err, option_map, unwrap_or}
 use Rattle.std.specs.Str.Parse.{IsNumeral, ParsesUnsigned, without_leading_plus}
 use Rattle.std.specs.Box.{box_value}
 use Rattle.clap.specs.Matches.{first_value, ReadsOne}
@@ -15,8 +15,9 @@ use Rattle.clap.specs.declared.parser.matches.ArgMatches.TheViews.{out-SubComman
 use Rattle.clap.specs.declared.error.Error.{Error}
 use Rattle.clap.specs.declared.error.kind.ErrorKind.{ErrorKind}
 use Rattle.clap.specs.declared.error.kind.ErrorKind.TheVariants.{OutOfMemory}
+use Rattle.std.proofs.lemmas.List.Elements.{All-from_recursion}
 use Rattle.clap.proofs.WalkLemmas.{first_value-rows}
-use Rattle.crdx.specs.Program.CommandLine.{crdx_app, entered, faults, value_of, decimal_value, IsCommand, IsHelp, IsRequestOf, Asks}
+use Rattle.crdx.specs.Program.CommandLine.{crdx_app, entered, faults, value_of, decimal_value, command_names, IsCommand, IsHelp, IsRequestOf, IsUsageErrorOrMemory, Asks}
 use Rattle.crdx.specs.declared.arguments.request.Request.{Request}
 use Rattle.crdx.specs.declared.arguments.request.Request.TheVariants.{Check, Object, Sample, Help, UsageError, NoMemory}
 
@@ -25,6 +26,13 @@ pub met_as : {Z : Type 0} (s : Option (Box SubCommand Z)) (name : Text) (rows : 
     → option_map (λ p. p.1) (subcommand_rows s) ≡ Some rows → subcommand_rows s ≡ Some (name, rows)
 met_as None name rows named listed = cc
 met_as (Some b) name rows named listed = cc
+
+-- no command was met
+pub none_met : {Z : Type 0} (s : Option (Box SubCommand Z)) (o : Request) → option_map (λ b. (out-SubCommand (box_value b)).name.now) s ≡ None → IsUsageErrorOrMemory o → IsCommand (subcommand_rows s) o
+none_met None (UsageError text) none is = All-from_recursion (λ name. (rows : List Row) → ◌≢◌ {A = Option (Text × List Row)} None (Some (name, rows))) command_names (λ rows e. cc, (λ rows e. cc, (λ rows e. cc, (λ rows e. cc, (λ rows e. cc, tt)))))
+none_met None NoMemory none is = tt
+none_met None _ none is = absurd is
+none_met (Some b) o none is = cc
 
 -- the value of a word that has to be there, from what `get_str` gives
 pub value_text : (f : Found) (id : Text) (v : Option (Bor Text)) (word other : Bor Text) → option_map (λ s. s.now) v ≡ first_value f id → word ≡ unwrap_or v other → other.now ≡ []

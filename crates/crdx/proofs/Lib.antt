@@ -14,6 +14,7 @@ pub mod PoolLemmas
 pub mod InputLemmas
 pub mod ShapeLemmas
 pub mod AcceptanceLemmas
+pub mod ObjectLemmas
 pub mod RunLemmas
 pub mod CommandLineLemmas
 pub mod EnvelopeLemmas

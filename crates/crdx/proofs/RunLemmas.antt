@@ -1,5 +1,5 @@
 -- How the causes of a run and its status go together with what is asked of the documents at hand.
-use Rattle.std.proofs.Common.{◌≡◌, ◌≢◌, ◌⊎◌, ℕ, List, [], ◌∷◌, Option, Some, None, Bor, Ok, Err, Vec, Global, refl, sym, subst, inl, inr, take, map, string_bytes, IsSomeAnd, Bool, ◌∙◌, append-nil, arith}
+use Rattle.std.proofs.Common.{◌≡◌, ◌≢◌, ◌⊎◌, ℕ, List, [], ◌∷◌, Option, Some, None, Bor, Ok, Err, Vec, Global, refl, sym, ap, subst, inl, inr, take, map, string_bytes, IsSomeAnd, Bool, codes, ◌∙◌, append-nil, arith}
 use Rattle.std.specs.Io.KnownBytes.{Appends, Keeps}
 use Rattle.jtree.specs.Data.{Data}
 use Rattle.jtree.specs.Internal.OrderLaws.{tree_total}
@@ -109,7 +109,7 @@ module _ (has : Documents) (unread read : ℕ) (arguments : ObjectArguments) whe
 
 module _ (has : Documents) (unread read : ℕ) (arguments : SampleArguments) where
   sample_refused : (raw : Data) (cause : Cause) → IsRequestedSchema has arguments.crd.now arguments.version.now raw → IsUnknownCause raw cause → IsInputCause has unread read (Sample arguments) cause
-  sample_refused raw (Place input.Crd code.NotYet p) asked why = inr (inl (string_bytes p, (raw, asked, why)))
+  sample_refused raw (Place input.Crd code.NotYet p) asked why = inr (inl (string_bytes p, (raw, asked, why.0, why.1)))
   sample_refused raw (Violations vs) asked why = let found = broken has unread read arguments.crd.now arguments.version.now Broken raw vs.items asked why.0 why.1 in no_samples arguments found.0 found.2
   sample_refused raw NoMemory asked why = tt
   sample_refused raw _ asked why = absurd why
@@ -206,13 +206,15 @@ pub failed_once : (before now : ℕ) → now ≡ one_more before → HasFailed b
 failed_once before now is = grind (arith, nat_tests)
 
 -- what is said of the violations of the schema that is asked for
-pub verdict_answers : (has : Documents) (arguments : CheckArguments) (raw : Data) (vs : List Violation) (r : Result Answer AllocError)
+pub verdict_answers : (has : Documents) (arguments : CheckArguments) (raw : Data) (vs : List Violation) (a : Answer)
     → IsRequestedSchema has arguments.crd.now arguments.version.now raw → AreViolations (IsBroken raw) vs
-    → (vs ≡ [] → IfOk r (λ a. (a.status ≡ 0) × (string_bytes a.text ≡ codes "structural\n")))
-    → (vs ≢ [] → IfOk r (λ a. (a.status ≡ 1) × (string_bytes a.text ≡ told_lines (map told vs))))
-    → IfOk r (λ a. IsAnswer has (Check arguments) a.status (string_bytes a.text))
-verdict_answers has arguments raw [] r asked are none some =
-    IfOk-weaker r _ _ (λ a e. rw (e.0, e.1) (structural arguments (raw, record { asked = asked; unbroken = none_broken (IsBroken raw) are }))) (none refl)
-verdict_answers has arguments raw (v ∷ vs) r asked are none some =
+    → (vs ≡ [] → (a.status ≡ 0) × (string_bytes a.text ≡ codes "structural\n"))
+    → (vs ≢ [] → (a.status ≡ 1) × (string_bytes a.text ≡ told_lines (map told vs)))
+    → IsAnswer has (Check arguments) a.status (string_bytes a.text)
+verdict_answers has arguments raw [] a asked are none some =
+    let is = none refl in
+    rw (is.0, is.1) (structural arguments (raw, record { asked = asked; unbroken = none_broken (IsBroken raw) are }))
+verdict_answers has arguments raw (v ∷ vs) a asked are none some =
+    let is = some (λ e. cc) in
     let found = broken has 0 0 arguments.crd.now arguments.version.now IsBroken raw (v ∷ vs) asked are (λ e. cc) in
-    IfOk-weaker r _ _ (λ a e. rw (e.0, e.1, found.1) (violations arguments found.0 found.2)) (some (λ e. cc))
+    rw (is.0, is.1 ∙ ap told_lines found.1) (violations arguments found.0 found.2)

@@ -7,7 +7,6 @@ ghost use Rattle.schema.specs.Nodes.ByPlace.{AreNodesOf};
 ghost use Rattle.crdx.specs.Internal.Cause.{IsUnreadCause, IsReadCause, IsBrokenCause, IsUnknownCause, IsSchemaCause, IsPoolsCause};
 ghost use Rattle.crdx.specs.Program.Requested.{IsRequestedSchema, IsUnbrokenSchema, IsAcceptedSchema, ArePools};
 ghost use Rattle.crdx.specs.Program.Documents.{AreAmong, file_name};
-ghost use Rattle.crdx.specs.declared.running.causes.Input.TheVariants as input;
 
 use crate::inputs::{InFault, Inputs};
 use crate::plan::Pools;
@@ -81,15 +80,12 @@ pub(crate) fn pools_of<I: Inputs>(
     }
 }
 
-/// The object of the document of this name, or of the standard input where there is no name.
-pub(crate) fn object_of<I: Inputs>(name: Option<&str>, inputs: &mut I) -> Result<Tree, Cause>
-    ensures ok { IfOk result (λ t. I.has inputs.old (file_name name.entry) (Ok (data_of t))) }
-    ensures cause { IfErr result (IsUnreadCause (I.has inputs.old) (I.failures inputs.old) (I.failures inputs.new) input.Object (file_name name.entry)) }
-{
-    document(inputs, Input::Object, name)
-}
-
-fn document<I: Inputs>(inputs: &mut I, input: Input, name: Option<&str>) -> Result<Tree, Cause>
+/// The document of this name, or that of the standard input where there is no name.
+pub(crate) fn document<I: Inputs>(
+    inputs: &mut I,
+    input: Input,
+    name: Option<&str>,
+) -> Result<Tree, Cause>
     ensures ok { IfOk result (λ t. I.has inputs.old (file_name name.entry) (Ok (data_of t))) }
     ensures cause { IfErr result (IsUnreadCause (I.has inputs.old) (I.failures inputs.old) (I.failures inputs.new) input (file_name name.entry)) }
     ensures stays { AreAmong (I.has inputs.new) (I.has inputs.old) }

@@ -1,24 +1,26 @@
 // What `validate`, `prune` and `default` answer.
-ghost use Rattle.std.specs.Prelude.{◌≡◌, map, IfOk, IfErr, string_bytes};
+ghost use Rattle.std.specs.Prelude.{◌≡◌, map, Ok, IfOk, IfErr, string_bytes};
 ghost use Rattle.jtree.specs.Data.{Data};
 ghost use Rattle.jtree.specs.View.{data_of};
 ghost use Rattle.schema.specs.Nodes.View.{node_of};
 ghost use Rattle.stored.specs.Objects.AllFaults.{told};
-ghost use Rattle.crdx.specs.Internal.Cause.{IsInputCause};
+ghost use Rattle.crdx.specs.Internal.Cause.{IsInputCause, IsUnreadCause};
 ghost use Rattle.crdx.specs.Output.Line.{line};
+ghost use Rattle.crdx.specs.Program.Documents.{file_name};
 ghost use Rattle.crdx.specs.Program.Envelope.{body_of, joined};
 ghost use Rattle.crdx.specs.Program.ObjectAnswer.{IsObjectAnswer, fault_line as fault_line_of, fault_lines as fault_lines_of};
 ghost use Rattle.crdx.specs.Program.RunResult.{IsAnswer};
 ghost use Rattle.crdx.specs.declared.arguments.request.ObjectCommand.TheVariants.{Validate};
 ghost use Rattle.crdx.specs.declared.arguments.request.Request.TheVariants.{Object};
+ghost use Rattle.crdx.specs.declared.running.causes.Input.TheVariants as input;
 
 use crate::arguments::{ObjectArguments, ObjectCommand};
 use crate::envelope::{Parts, join, split};
 use crate::inputs::Inputs;
 use crate::phrases::fault_phrase;
 use crate::running::answer::{Answer, json_text};
-use crate::running::causes::Cause;
-use crate::running::documents::{accepted_schema, object_of};
+use crate::running::causes::{Cause, Input};
+use crate::running::documents::{accepted_schema, document};
 use jtree::Tree;
 use schema::Node;
 use std::alloc::{AllocError, Global};
@@ -35,8 +37,25 @@ pub(crate) fn judge_object<I: Inputs>(
     ensures cause { IfErr result (IsInputCause (I.has inputs.old) (I.failures inputs.old) (I.failures inputs.new) (Object arguments.now)) }
 {
     let schema = accepted_schema(alloc, arguments.crd, arguments.version, inputs)?;
-    let document = object_of(arguments.object, inputs)?;
-    Ok(answer_of(alloc, arguments.command, schema.root(), document)?)
+    match judge_at(alloc, arguments, schema.root(), inputs) {
+        Ok(answer) => Ok(answer),
+        Err(cause) => Err(cause),
+    }
+}
+
+/// What is said of the document that is asked about, at the node of its body.
+fn judge_at<I: Inputs>(
+    alloc: Global,
+    arguments: &ObjectArguments<'_>,
+    node: &Node,
+    inputs: &mut I,
+) -> Result<Answer, Cause>
+    ensures answer { IfOk result (λ a. (document : Data) × I.has inputs.old (file_name arguments.now.object) (Ok document)
+        × IsObjectAnswer (node_of node.now) document arguments.now.command a.status (string_bytes a.text)) }
+    ensures cause { IfErr result (IsUnreadCause (I.has inputs.old) (I.failures inputs.old) (I.failures inputs.new) input.Object (file_name arguments.now.object)) }
+{
+    let document = document(inputs, Input::Object, arguments.object)?;
+    Ok(answer_of(alloc, arguments.command, node, document)?)
 }
 
 /// What is said of a document at the node of its body.

@@ -1,0 +1,40 @@
+-- What faults, pruning and completing say of the answer about a document.
+use Rattle.std.proofs.Common.{◌≡◌, List, [], ◌∷◌, length, map, true, false, arith, sym, subst, string_bytes}
+use Rattle.std.specs.Prelude.{◌==◌, codes}
+use Rattle.std.proofs.lemmas.Bool.Decides.{nat_tests}
+use Rattle.jtree.specs.Data.{Data, Members}
+use Rattle.jtree.specs.Internal.Rising.{contained}
+use Rattle.schema.specs.Nodes.Node.{Node}
+use Rattle.stored.specs.Objects.Fault.{IsValid}
+use Rattle.stored.specs.Objects.AllFaults.{AreFailures, AreFaults, told}
+use Rattle.stored.specs.Objects.Becomes.{IsPruned, IsCompleted}
+use Rattle.stored.specs.declared.fault.Fault.{Fault}
+use Rattle.crdx.specs.Output.Line.{line}
+use Rattle.crdx.specs.Program.Envelope.{body_of, envelope_in, joined}
+use Rattle.crdx.specs.Program.ObjectAnswer.{IsObjectAnswer, valid, faulty, pruned, completed, fault_lines}
+use Rattle.crdx.specs.declared.arguments.request.ObjectCommand.TheVariants.{Validate, Prune, Default}
+use Rattle.crdx.specs.declared.running.answer.Answer.{Answer}
+
+-- where no fault is found, the object is valid
+no_fault : (N : Node) (v : Data) → AreFaults N v [] → IsValid N v
+no_fault N v ([], are, same) path t is = absurd (contained [] _ (are.all path t is))
+no_fault N v (f ∷ fs, are, same) path t is = cc
+
+module _ (N : Node) (document : Data) where
+  pub valid_answer : (v : Data) (faults : List Fault) → body_of document ≡ v → AreFaults N v faults → (length faults == 0) ≡ true → IsObjectAnswer N document Validate 0 (codes "valid\n")
+  valid_answer v [] is are none = valid (subst (IsValid N) (sym is) (no_fault N v are))
+  valid_answer v (f ∷ faults) is are none = absurd (grind (arith, nat_tests))
+
+  pub faulty_answer : (v : Data) (faults : List Fault) → body_of document ≡ v → AreFaults N v faults → (length faults == 0) ≡ false → IsObjectAnswer N document Validate 1 (fault_lines (map told faults))
+  faulty_answer v [] is are some = cc
+  faulty_answer v (f ∷ faults) is ([], are, same) some = cc
+  faulty_answer v (f ∷ faults) is (g ∷ fs, are, same) some =
+      subst (λ ts. IsObjectAnswer N document Validate 1 (fault_lines ts)) (sym same) (faulty (g ∷ fs) (subst (λ w. AreFailures N w (g ∷ fs)) (sym is) are) (λ e. cc))
+
+  pub pruned_answer : (v w : Data) (parts : Members) (a : Answer) → v ≡ body_of document → parts ≡ envelope_in document → IsPruned N v w
+      → (a.status ≡ 0) × (string_bytes a.text ≡ line (joined w parts)) → IsObjectAnswer N document Prune a.status (string_bytes a.text)
+  pruned_answer v w parts a body envelope is said = rw (said.0, said.1, envelope) (pruned w (subst (λ u. IsPruned N u w) body is))
+
+  pub completed_answer : (v w : Data) (parts : Members) (a : Answer) → v ≡ body_of document → parts ≡ envelope_in document → IsCompleted N v w
+      → (a.status ≡ 0) × (string_bytes a.text ≡ line (joined w parts)) → IsObjectAnswer N document Default a.status (string_bytes a.text)
+  completed_answer v w parts a body envelope is said = rw (said.0, said.1, envelope) (completed w (subst (λ u. IsCompleted N u w) body is))
