@@ -1,22 +1,24 @@
 -- The members of some names taken off and put back.
-use Rattle.std.proofs.Common.{◌≡◌, ◌<◌, ℕ, zero, suc, List, [], ◌∷◌, Bool, true, false, Option, Some, None, refl, sym, ap, ◌∙◌, inl, inr, length, take, get_or, set, arith}
-use Rattle.std.specs.Prelude.{All, if◌then◌else◌}
+use Rattle.std.proofs.Common.{◌≡◌, ◌<◌, ℕ, zero, suc, List, [], ◌∷◌, Bool, true, false, Option, Some, None, refl, sym, ap, ap₂, subst, ◌∙◌, inl, inr, length, take, get_or, set, arith}
+use Rattle.std.specs.Prelude.{All, if◌then◌else◌, not, ◌||◌, codes}
 use Rattle.std.specs.List.{insert, remove}
 use Rattle.std.specs.Str.{bytes_eq}
 use Rattle.std.specs.declared.cmp.Ordering.TheVariants.{Less, Equal, Greater}
 use Rattle.std.proofs.lemmas.Map.Lookups.{exact_bytes}
+use Rattle.std.proofs.lemmas.Option.{same_Some}
 use Rattle.jtree.specs.Data.{Data, null, boolean, integer, text, list, object, Members, no_members, member, IsNameBefore, AreMembers, IsTree}
 use Rattle.jtree.specs.Order.{text_cmp}
 use Rattle.jtree.specs.Path.{member_at}
 use Rattle.jtree.specs.View.{data_of, members_of}
 use Rattle.jtree.specs.declared.value.Member.{Member}
-use Rattle.jtree.specs.Internal.Lookups.{ordering_cases, own_name, before_none, member_later, past_name}
-use Rattle.schema.specs.Document.Places.{envelope_names}
+use Rattle.jtree.specs.Internal.Lookups.{bool_cases, option_cases, ordering_cases, same_name, own_name, IsNameBefore-trans, before_none, member_first, member_later, past_name}
+use Rattle.schema.specs.Document.Places.{is_envelope_name}
 use Rattle.crdx.specs.Objects.ByLevel.{in_front}
 use Rattle.crdx.specs.Objects.Filled.{without, with_member}
-use Rattle.crdx.specs.Program.Envelope.{without_names, of_names, body_of, envelope_in, merged, joined, onto}
+use Rattle.crdx.specs.Program.Envelope.{members_where, body_of, envelope_in, first_of, IsJoined, onto}
 use Rattle.crdx.specs.Internal.MemberPlace.{IsPlace}
-use Rattle.crdx.proofs.FilledNames.{replaced_elsewhere, replaced_sorted}
+use Rattle.crdx.proofs.FilledNames.{before_of, replaced_at, replaced_elsewhere, replaced_sorted}
+use Rattle.crdx.proofs.FitsLemmas.{member_tree}
 
 -- ---- the place of a name
 
@@ -58,62 +60,197 @@ inserted m [] (suc i) p = let e = p.1 in cc
 inserted m (x ∷ xs) zero p = rw p refl
 inserted m (x ∷ xs) (suc i) p = rw p.0 (ap (member x.name (data_of x.tree)) (inserted m xs i p.1))
 
--- ---- the members of some names
-
--- none of the names is this one
-abbrev AreOthers : List ℕ → List (List ℕ) → Type 0
-AreOthers k [] = Unit {0}
-AreOthers k (j ∷ ks) = (bytes_eq j k ≡ false) × AreOthers k ks
-
-other_names : (k : List ℕ) (ks : List (List ℕ)) (ms : Members) → AreOthers k ks → of_names ks (without k ms) ≡ of_names ks ms
-other_names k [] ms others = refl
-other_names k (j ∷ ks) ms others = rw (replaced_elsewhere j k None ms others.0) (ap (in_front j (member_at j ms)) (other_names k ks ms others.1))
-
--- with a member that is taken off from others
-pub names_more : (k : List ℕ) (ks : List (List ℕ)) (ms rest ps : Members) → AreOthers k ks → rest ≡ without k ms → ps ≡ of_names ks rest → in_front k (member_at k ms) ps ≡ of_names (k ∷ ks) ms
-names_more k ks ms rest ps others e is = ap (in_front k (member_at k ms)) (is ∙ (ap (of_names ks) e ∙ other_names k ks ms others))
-
-merged_front : (k : List ℕ) (o : Option Data) (ps ms : Members) → merged (in_front k o ps) ms ≡ merged (in_front k o no_members) (merged ps ms)
-merged_front k None ps ms = refl
-merged_front k (Some d) ps ms = refl
-
-front_first : (k : List ℕ) (d : Data) (ms : Members) → IsNameBefore k ms → with_member k d ms ≡ member k d ms
-front_first k d no_members before = refl
-front_first k d (member l e ms) before = rw before refl
-
-front_later : (k l : List ℕ) (o : Option Data) (d : Data) (ms : Members) → text_cmp k l ≡ Greater → merged (in_front k o no_members) (member l d ms) ≡ member l d (merged (in_front k o no_members) ms)
-front_later k l None d ms past = refl
-front_later k l (Some e) d ms past = rw past refl
-
--- a member that is taken off and put back
-one_back : (k : List ℕ) (ms : Members) → AreMembers ms → merged (in_front k (member_at k ms) no_members) (without k ms) ≡ ms
-one_back k no_members sorted = refl
-one_back k (member l d ms) sorted = elim (ordering_cases (text_cmp k l)) [
-  | inl before ↦ rw (before_none k (member l d ms) before sorted, before) refl
-  | inr (inl same) ↦ rw (exact_bytes k l same, own_name l) (rw (rw (exact_bytes k l same) at same) (front_first l d ms sorted.1))
-  | inr (inr past) ↦ rw (member_later k l d ms (past_name k l past), past) (front_later k l (member_at k ms) d (without k ms) past ∙ ap (member l d) (one_back k ms sorted.2))
+-- what stands under a name once a member is taken off, or put in
+pub taken_at : (k : List ℕ) (ms : Members) → AreMembers ms → (j : List ℕ) → member_at j (without k ms) ≡ (if bytes_eq j k then None else member_at j ms)
+taken_at k ms sorted j = elim (bool_cases (bytes_eq j k)) [
+  | inl t ↦ rw t (rw (same_name j k t) (replaced_at k None ms sorted))
+  | inr f ↦ rw f (replaced_elsewhere j k None ms f)
 ]
 
--- each name stands once
-abbrev AreDistinct : List (List ℕ) → Type 0
-AreDistinct [] = Unit {0}
-AreDistinct (k ∷ ks) = AreOthers k ks × AreDistinct ks
+put_here : (k : List ℕ) (d : Data) (ms : Members) → member_at k (with_member k d ms) ≡ Some d
+put_here k d no_members = member_first k d no_members
+put_here k d (member l e ms) = elim (ordering_cases (text_cmp k l)) [
+  | inl before ↦ rw before (member_first k d (member l e ms))
+  | inr (inl same) ↦ rw same (member_first k d ms)
+  | inr (inr past) ↦ rw past (member_later k l e (with_member k d ms) (past_name k l past) ∙ put_here k d ms)
+]
 
-names_back : (ks : List (List ℕ)) (ms : Members) → AreDistinct ks → AreMembers ms → merged (of_names ks ms) (without_names ks ms) ≡ ms
-names_back [] ms distinct sorted = refl
-names_back (k ∷ ks) ms distinct sorted =
-    let front = merged (in_front k (member_at k ms) no_members) in
-    merged_front k (member_at k ms) (of_names ks ms) (without_names ks (without k ms))
-    ∙ (ap (λ ps. front (merged ps (without_names ks (without k ms)))) (sym (other_names k ks ms distinct.0))
-    ∙ (ap front (names_back ks (without k ms) distinct.1 (replaced_sorted k None ms tt sorted)) ∙ one_back k ms sorted))
+pub put_at : (m : Member) (ms : Members) (j : List ℕ) → member_at j (with_member m.name (data_of m.tree) ms) ≡ first_of (member_at j (onto (Some m) no_members)) (member_at j ms)
+put_at m ms j = elim (bool_cases (bytes_eq j m.name)) [
+  | inl t ↦ rw t (rw (same_name j m.name t) (put_here m.name (data_of m.tree) ms))
+  | inr f ↦ rw f (replaced_elsewhere j m.name (Some (data_of m.tree)) ms f)
+]
 
-joined_back : (v : Data) → IsTree v → joined (body_of v) (envelope_in v) ≡ v
-joined_back null t = refl
-joined_back (boolean b) t = refl
-joined_back (integer z) t = refl
-joined_back (text s) t = refl
-joined_back (list ds) t = refl
-joined_back (object ms) t = ap object (names_back envelope_names ms ((refl, (refl, tt)), ((refl, tt), (tt, tt))) t)
+onto_at : (o : Option Member) (ms : Members) (j : List ℕ) → member_at j (onto o ms) ≡ first_of (member_at j (onto o no_members)) (member_at j ms)
+onto_at None ms j = refl
+onto_at (Some m) ms j = elim (bool_cases (bytes_eq j m.name)) [ inl t ↦ rw t refl | inr f ↦ rw f refl ]
 
-pub tree_back : (old new : Data) (ps : Members) → new ≡ joined old ps → (v : Data) → IsTree v → body_of v ≡ old → envelope_in v ≡ ps → new ≡ v
-tree_back old new ps is v t body envelope = is ∙ rw (← body, ← envelope) (joined_back v t)
+first_again : (a b c : Option Data) → first_of (first_of a b) c ≡ first_of a (first_of b c)
+first_again None b c = refl
+first_again (Some d) b c = refl
+
+-- three members that are put in one after the other
+pub three_put : (a k m : Option Member) (old one two three : Members)
+    → ((j : List ℕ) → member_at j one ≡ first_of (member_at j (onto m no_members)) (member_at j old))
+    → ((j : List ℕ) → member_at j two ≡ first_of (member_at j (onto k no_members)) (member_at j one))
+    → ((j : List ℕ) → member_at j three ≡ first_of (member_at j (onto a no_members)) (member_at j two))
+    → (j : List ℕ) → member_at j three ≡ first_of (member_at j (onto a (onto k (onto m no_members)))) (member_at j old)
+three_put a k m old one two three first second third j =
+    let first_at = λ (o : Option Member). member_at j (onto o no_members) in
+    let split = ap (λ v. first_of v (member_at j old)) (onto_at a (onto k (onto m no_members)) j ∙ ap (first_of (first_at a)) (onto_at k (onto m no_members) j)) in
+    third j ∙ (ap (first_of (first_at a)) (second j ∙ (ap (first_of (first_at k)) (first j) ∙ sym (first_again (first_at k) (first_at m) (member_at j old))))
+    ∙ (sym (first_again (first_at a) (first_of (first_at k) (first_at m)) (member_at j old)) ∙ sym split))
+
+-- ---- objects by what stands under each name
+
+-- behind the same first name
+same_rest : (k l : List ℕ) (d e : Data) (ms ns : Members) → k ≡ l → AreMembers (member k d ms) → AreMembers (member l e ns) → (j : List ℕ)
+    → member_at j (member k d ms) ≡ member_at j (member l e ns) → member_at j ms ≡ member_at j ns
+same_rest k l d e ms ns is t u j h = elim (bool_cases (bytes_eq j k)) [
+  | inl same ↦
+      let j_is = same_name j k same in
+      rw j_is (before_none k ms t.1 t.2 ∙ sym (before_none k ns (subst (λ n. IsNameBefore n ns) (sym is) u.1) u.2))
+  | inr other ↦ sym (member_later j k d ms other) ∙ (h ∙ member_later j l e ns (subst (λ n. bytes_eq j n ≡ false) is other))
+]
+
+-- objects with the same under each name are the same
+same_members : (ms ns : Members) → AreMembers ms → AreMembers ns → ((k : List ℕ) → member_at k ms ≡ member_at k ns) → ms ≡ ns
+same_members no_members no_members t u h = refl
+same_members no_members (member l e ns) t u h = let n = rw (member_first l e ns) at (h l) in cc
+same_members (member k d ms) no_members t u h = let n = rw (member_first k d ms) at (h k) in cc
+same_members (member k d ms) (member l e ns) t u h = elim (ordering_cases (text_cmp k l)) [
+  | inl before ↦ let n = rw (member_first k d ms, before_none k (member l e ns) before u) at (h k) in cc
+  | inr (inl same) ↦
+      let is : k ≡ l = exact_bytes k l same in
+      let second : member_at k (member l e ns) ≡ Some e = subst (λ n. member_at n (member l e ns) ≡ Some e) (sym is) (member_first l e ns) in
+      let first : d ≡ e = same_Some d e (rw (member_first k d ms, second) at (h k)) in
+      let rest = same_members ms ns t.2 u.2 (λ j. same_rest k l d e ms ns is t u j (h j)) in
+      λ i. member (is i) (first i) (rest i)
+  | inr (inr past) ↦ let n = rw (member_first l e ns, before_none l (member k d ms) (before_of k l past) t) at (h l) in cc
+]
+
+where_at : (test : List ℕ → Bool) (ms : Members) (j : List ℕ) → member_at j (members_where test ms) ≡ (if test j then member_at j ms else None)
+where_at test no_members j = elim (bool_cases (test j)) [ inl t ↦ rw t refl | inr f ↦ rw f refl ]
+where_at test (member l d ms) j = elim (bool_cases (bytes_eq j l)) [
+  | inl same ↦ elim (bool_cases (test l)) [
+    | inl t ↦ rw (same_name j l same, t, own_name l) refl
+    | inr f ↦ rw (same_name j l same, f) (where_at test ms l ∙ rw f refl)
+  ]
+  | inr other ↦ elim (bool_cases (test l)) [
+    | inl t ↦ rw (t, other) (where_at test ms j)
+    | inr f ↦ rw (f, other) (where_at test ms j)
+  ]
+]
+
+where_before : (test : List ℕ → Bool) (k : List ℕ) (ms : Members) → IsNameBefore k ms → AreMembers ms → IsNameBefore k (members_where test ms)
+where_before test k no_members before sorted = tt
+where_before test k (member l d ms) before sorted = elim (bool_cases (test l)) [
+  | inl t ↦ rw t before
+  | inr f ↦ rw f (where_before test k ms (IsNameBefore-trans k l ms before sorted.1) sorted.2)
+]
+
+where_sorted : (test : List ℕ → Bool) (ms : Members) → AreMembers ms → AreMembers (members_where test ms)
+where_sorted test no_members sorted = tt
+where_sorted test (member l d ms) sorted = elim (bool_cases (test l)) [
+  | inl t ↦ rw t (sorted.0, where_before test l ms sorted.1 sorted.2, where_sorted test ms sorted.2)
+  | inr f ↦ rw f (where_sorted test ms sorted.2)
+]
+
+-- ---- the envelope
+
+abbrev pub api_version : List ℕ
+api_version = codes "apiVersion"
+
+abbrev pub kind : List ℕ
+kind = codes "kind"
+
+abbrev pub metadata : List ℕ
+metadata = codes "metadata"
+
+beside_three : (a k m : Bool) (v : Option Data) → (if m then None else (if k then None else (if a then None else v))) ≡ (if not (a || (k || (m || false))) then v else None)
+beside_three true true true v = refl
+beside_three true true false v = refl
+beside_three true false true v = refl
+beside_three true false false v = refl
+beside_three false true true v = refl
+beside_three false true false v = refl
+beside_three false false true v = refl
+beside_three false false false v = refl
+
+pub body_is : (ms : Members) → AreMembers ms → without metadata (without kind (without api_version ms)) ≡ members_where (λ k. not (is_envelope_name k)) ms
+body_is ms sorted =
+    let one = replaced_sorted api_version None ms tt sorted in
+    let two = replaced_sorted kind None (without api_version ms) tt one in
+    let three = replaced_sorted metadata None (without kind (without api_version ms)) tt two in
+    same_members _ _ three (where_sorted _ ms sorted) (λ j.
+      taken_at metadata (without kind (without api_version ms)) two j
+      ∙ (ap (λ v. if bytes_eq j metadata then None else v) (taken_at kind (without api_version ms) one j ∙ ap (λ v. if bytes_eq j kind then None else v) (taken_at api_version ms sorted j))
+      ∙ (beside_three (bytes_eq j api_version) (bytes_eq j kind) (bytes_eq j metadata) (member_at j ms) ∙ sym (where_at (λ k. not (is_envelope_name k)) ms j))))
+
+front_at : (k : List ℕ) (o : Option Data) (ms : Members) (j : List ℕ) → member_at j (in_front k o ms) ≡ (if bytes_eq j k then first_of o (member_at j ms) else member_at j ms)
+front_at k None ms j = elim (bool_cases (bytes_eq j k)) [ inl t ↦ rw t refl | inr f ↦ rw f refl ]
+front_at k (Some d) ms j = elim (bool_cases (bytes_eq j k)) [ inl t ↦ rw t refl | inr f ↦ rw f refl ]
+
+front_before : (j k : List ℕ) (o : Option Data) (ms : Members) → text_cmp j k ≡ Less → IsNameBefore j ms → IsNameBefore j (in_front k o ms)
+front_before j k None ms less before = before
+front_before j k (Some d) ms less before = less
+
+front_sorted : (k : List ℕ) (ms ns : Members) → AreMembers ms → IsNameBefore k ns → AreMembers ns → AreMembers (in_front k (member_at k ms) ns)
+front_sorted k ms ns all before sorted = elim (option_cases (member_at k ms)) [
+  | inl none ↦ rw none sorted
+  | inr some ↦ rw some.1 (member_tree ms k some.0 all some.1, before, sorted)
+]
+
+first_alone : (o : Option Data) → first_of o None ≡ o
+first_alone None = refl
+first_alone (Some d) = refl
+
+-- under a name of the envelope stands what the members have there
+three_names : (ms : Members) (j : List ℕ)
+    → (if bytes_eq j api_version then first_of (member_at api_version ms) (if bytes_eq j kind then first_of (member_at kind ms) (if bytes_eq j metadata then first_of (member_at metadata ms) None else None)
+        else (if bytes_eq j metadata then first_of (member_at metadata ms) None else None)) else (if bytes_eq j kind then first_of (member_at kind ms) (if bytes_eq j metadata then first_of (member_at metadata ms) None else None)
+        else (if bytes_eq j metadata then first_of (member_at metadata ms) None else None)))
+    ≡ (if is_envelope_name j then member_at j ms else None)
+three_names ms j = elim (bool_cases (bytes_eq j api_version)) [
+  | inl a ↦ rw (same_name j api_version a) (first_alone (member_at api_version ms))
+  | inr a ↦ elim (bool_cases (bytes_eq j kind)) [
+    | inl k ↦ rw (same_name j kind k) (first_alone (member_at kind ms))
+    | inr k ↦ elim (bool_cases (bytes_eq j metadata)) [
+      | inl m ↦ rw (same_name j metadata m) (first_alone (member_at metadata ms))
+      | inr m ↦ rw (a, k, m) refl
+    ]
+  ]
+]
+
+pub envelope_is : (ms : Members) → AreMembers ms
+    → in_front api_version (member_at api_version ms) (in_front kind (member_at kind ms) (in_front metadata (member_at metadata ms) no_members)) ≡ members_where is_envelope_name ms
+envelope_is ms sorted =
+    let last = in_front metadata (member_at metadata ms) no_members in
+    let later = in_front kind (member_at kind ms) last in
+    let all = in_front api_version (member_at api_version ms) later in
+    let last_sorted = front_sorted metadata ms no_members sorted tt tt in
+    let later_sorted = front_sorted kind ms last sorted (front_before kind metadata (member_at metadata ms) no_members refl tt) last_sorted in
+    let before = front_before api_version kind (member_at kind ms) last refl (front_before api_version metadata (member_at metadata ms) no_members refl tt) in
+    let at_last = λ (j : List ℕ). front_at metadata (member_at metadata ms) no_members j in
+    let at_later = λ (j : List ℕ). front_at kind (member_at kind ms) last j ∙ ap (λ v. if bytes_eq j kind then first_of (member_at kind ms) v else v) (at_last j) in
+    let at_all = λ (j : List ℕ). front_at api_version (member_at api_version ms) later j ∙ ap (λ v. if bytes_eq j api_version then first_of (member_at api_version ms) v else v) (at_later j) in
+    same_members all _ (front_sorted api_version ms later sorted before later_sorted) (where_sorted is_envelope_name ms sorted) (λ j.
+      at_all j ∙ (three_names ms j ∙ sym (where_at is_envelope_name ms j)))
+
+-- ---- joined
+
+one_of : (b : Bool) (v : Option Data) → first_of (if b then v else None) (if not b then v else None) ≡ v
+one_of true v = first_alone v
+one_of false v = refl
+
+-- an object that is joined with its envelope is whole again
+back : (v w : Data) → IsTree v → IsJoined (body_of v) (envelope_in v) w → w ≡ v
+back (object ms) w t is = is.1 ∙ ap object (same_members is.0 ms is.2 t (λ j. is.3 j ∙ (ap₂ first_of (where_at is_envelope_name ms j) (where_at (λ k. not (is_envelope_name k)) ms j) ∙ one_of (is_envelope_name j) (member_at j ms))))
+back null w t is = is
+back (boolean b) w t is = is
+back (integer z) w t is = is
+back (text s) w t is = is
+back (list ds) w t is = is
+
+pub tree_back : (old new : Data) (ps : Members) → IsJoined old ps new → (v : Data) → IsTree v → body_of v ≡ old → envelope_in v ≡ ps → new ≡ v
+tree_back old new ps is v t body envelope = back v new t (subst (λ b. IsJoined b (envelope_in v) new) (sym body) (subst (λ e. IsJoined old e new) (sym envelope) is))

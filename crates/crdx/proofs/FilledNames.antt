@@ -17,7 +17,7 @@ use Rattle.jtree.specs.Internal.Lookups.{bool_cases, option_cases, ordering_case
 use Rattle.crdx.proofs.Names.{declared_later}
 use Rattle.crdx.proofs.FitsLemmas.{member_tree}
 
-before_of : (k l : List ℕ) → text_cmp k l ≡ Greater → text_cmp l k ≡ Less
+pub before_of : (k l : List ℕ) → text_cmp k l ≡ Greater → text_cmp l k ≡ Less
 before_of k l past = nat_list_cmp_total.antisymm l k ∙ ap ordering_reverse past
 
 -- ---- one name replaced

@@ -10,7 +10,7 @@ use Rattle.stored.specs.Objects.AllFaults.{AreFailures, AreFaults, told}
 use Rattle.stored.specs.Objects.Becomes.{IsPruned, IsCompleted}
 use Rattle.stored.specs.declared.fault.Fault.{Fault}
 use Rattle.crdx.specs.Output.Line.{line}
-use Rattle.crdx.specs.Program.Envelope.{body_of, envelope_in, joined}
+use Rattle.crdx.specs.Program.Envelope.{body_of, envelope_in, IsJoined}
 use Rattle.crdx.specs.Program.ObjectAnswer.{IsObjectAnswer, valid, faulty, pruned, completed, fault_lines}
 use Rattle.crdx.specs.declared.arguments.request.ObjectCommand.TheVariants.{Validate, Prune, Default}
 use Rattle.crdx.specs.declared.running.answer.Answer.{Answer}
@@ -19,6 +19,10 @@ use Rattle.crdx.specs.declared.running.answer.Answer.{Answer}
 no_fault : (N : Node) (v : Data) → AreFaults N v [] → IsValid N v
 no_fault N v ([], are, same) path t is = absurd (contained [] _ (are.all path t is))
 no_fault N v (f ∷ fs, are, same) path t is = cc
+
+-- the line of a body with its envelope
+abbrev pub IsPrinted : Data → Members → Answer → Type 0
+IsPrinted body envelope a = (a.status ≡ 0) × ((whole : Data) × IsJoined body envelope whole × (string_bytes a.text ≡ line whole))
 
 module _ (N : Node) (document : Data) where
   pub valid_answer : (v : Data) (faults : List Fault) → body_of document ≡ v → AreFaults N v faults → (length faults == 0) ≡ true → IsObjectAnswer N document Validate 0 (codes "valid\n")
@@ -32,9 +36,11 @@ module _ (N : Node) (document : Data) where
       subst (λ ts. IsObjectAnswer N document Validate 1 (fault_lines ts)) (sym same) (faulty (g ∷ fs) (subst (λ w. AreFailures N w (g ∷ fs)) (sym is) are) (λ e. cc))
 
   pub pruned_answer : (v w : Data) (parts : Members) (a : Answer) → v ≡ body_of document → parts ≡ envelope_in document → IsPruned N v w
-      → (a.status ≡ 0) × (string_bytes a.text ≡ line (joined w parts)) → IsObjectAnswer N document Prune a.status (string_bytes a.text)
-  pruned_answer v w parts a body envelope is said = rw (said.0, said.1, envelope) (pruned w (subst (λ u. IsPruned N u w) body is))
+      → IsPrinted w parts a → IsObjectAnswer N document Prune a.status (string_bytes a.text)
+  pruned_answer v w parts a body envelope is said =
+      rw (said.0, said.1.2) (pruned w said.1.0 (subst (λ u. IsPruned N u w) body is) (subst (λ ps. IsJoined w ps said.1.0) envelope said.1.1))
 
   pub completed_answer : (v w : Data) (parts : Members) (a : Answer) → v ≡ body_of document → parts ≡ envelope_in document → IsCompleted N v w
-      → (a.status ≡ 0) × (string_bytes a.text ≡ line (joined w parts)) → IsObjectAnswer N document Default a.status (string_bytes a.text)
-  completed_answer v w parts a body envelope is said = rw (said.0, said.1, envelope) (completed w (subst (λ u. IsCompleted N u w) body is))
+      → IsPrinted w parts a → IsObjectAnswer N document Default a.status (string_bytes a.text)
+  completed_answer v w parts a body envelope is said =
+      rw (said.0, said.1.2) (completed w said.1.0 (subst (λ u. IsCompleted N u w) body is) (subst (λ ps. IsJoined w ps said.1.0) envelope said.1.1))

@@ -1,12 +1,12 @@
 //! The envelope of a resource, which no schema has a say in: it is taken off an object, and put back.
-ghost use Rattle.std.specs.Prelude.{◌≡◌, ◌+◌, ◌<◌, ◌≤◌, length, true, false, IfOk, IfErr, OnOk, OnErr};
+ghost use Rattle.std.specs.Prelude.{◌≡◌, ◌+◌, ◌<◌, ◌≤◌, ℕ, List, length, true, false, IfOk, IfErr, OnOk, OnErr};
 ghost use Rattle.std.specs.Vec.{vec_len, vec_capacity};
 ghost use Rattle.jtree.specs.Data.{Data, Members as MembersData, no_members, IsTree, AreMembers};
 ghost use Rattle.jtree.specs.Path.{member_at};
 ghost use Rattle.jtree.specs.View.{data_of, members_of};
 ghost use Rattle.crdx.specs.Objects.ByLevel.{in_front};
 ghost use Rattle.crdx.specs.Objects.Filled.{without};
-ghost use Rattle.crdx.specs.Program.Envelope.{body_of, envelope_in, joined as joined_of, merged, onto};
+ghost use Rattle.crdx.specs.Program.Envelope.{body_of, envelope_in, first_of, IsJoined, onto};
 ghost use Rattle.crdx.specs.Internal.MemberPlace.{IsPlace};
 
 use jtree::{Member, Members, Tree};
@@ -41,11 +41,14 @@ pub fn split(tree: &mut Tree) -> Parts
     ensures parts { result ≡ envelope_in (data_of tree.old) }
 {
     match tree {
-        Tree::Object(members) => Parts {
-            api_version: take(members, "apiVersion"),
-            kind: take(members, "kind"),
-            metadata: take(members, "metadata"),
-        },
+        Tree::Object(members) => {
+            members.reveal_invariant();
+            Parts {
+                api_version: take(members, "apiVersion"),
+                kind: take(members, "kind"),
+                metadata: take(members, "metadata"),
+            }
+        }
         _ => Parts {
             api_version: None,
             kind: None,
@@ -57,7 +60,7 @@ pub fn split(tree: &mut Tree) -> Parts
 /// Puts an envelope into an object, in place of what it has under the same names; another tree stays as it is. So a tree
 /// that was split is joined to what it was. `AllocError` where an allocation fails, and the tree is then as it was.
 pub fn join(tree: &mut Tree, parts: Parts) -> Result<(), AllocError>
-    ensures joined { OnOk result (data_of tree.new ≡ joined_of (data_of tree.old) parts) }
+    ensures joined { OnOk result (IsJoined (data_of tree.old) parts (data_of tree.new)) }
     ensures again { OnOk result ((v : Data) → IsTree v → body_of v ≡ data_of tree.old → envelope_in v ≡ parts → data_of tree.new ≡ v) }
     ensures refused { OnErr result (data_of tree.new ≡ data_of tree.old) }
 {
@@ -91,7 +94,7 @@ fn take(members: &mut Members, name: &str) -> Option<Member>
 /// Puts a member in, in place of the one of its name. There is room for one more.
 fn put(members: &mut Vec<Member>, part: Option<Member>)
     requires { vec_len members.old < vec_capacity members.old }
-    ensures put { members_of members.new.items ≡ merged (onto part no_members) (members_of members.old.items) }
+    ensures put { (k : List ℕ) → member_at k (members_of members.new.items) ≡ first_of (member_at k (onto part no_members)) (member_at k (members_of members.old.items)) }
     ensures sorted { AreMembers (members_of members.old.items) → AreMembers (members_of members.new.items) }
     ensures len { vec_len members.new ≤ vec_len members.old + 1 }
     ensures capacity { vec_capacity members.old ≤ vec_capacity members.new }

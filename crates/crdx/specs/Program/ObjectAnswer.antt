@@ -7,7 +7,7 @@ use Rattle.stored.specs.Objects.Fault.{IsValid}
 use Rattle.stored.specs.Objects.AllFaults.{Failure, AreFailures, Told, told_of}
 use Rattle.stored.specs.Objects.Becomes.{IsPruned, IsCompleted}
 use Rattle.crdx.specs.Output.Line.{line}
-use Rattle.crdx.specs.Program.Envelope.{body_of, envelope_in, joined}
+use Rattle.crdx.specs.Program.Envelope.{body_of, envelope_in, IsJoined}
 use Rattle.crdx.specs.Program.Phrases.{fault_phrase_of}
 use Rattle.crdx.specs.declared.arguments.request.ObjectCommand.{ObjectCommand}
 use Rattle.crdx.specs.declared.arguments.request.ObjectCommand.TheVariants.{Validate, Prune, Default}
@@ -23,5 +23,5 @@ fault_lines ts = flat_map fault_line ts
 pub data IsObjectAnswer (N : Node) (document : Data) : ObjectCommand → ℕ → List ℕ → Type 0 where
   valid : IsValid N (body_of document) → IsObjectAnswer N document Validate 0 (codes "valid\n")
   faulty : (fs : List Failure) → AreFailures N (body_of document) fs → fs ≢ [] → IsObjectAnswer N document Validate 1 (fault_lines (map told_of fs))
-  pruned : (body : Data) → IsPruned N (body_of document) body → IsObjectAnswer N document Prune 0 (line (joined body (envelope_in document)))
-  completed : (body : Data) → IsCompleted N (body_of document) body → IsObjectAnswer N document Default 0 (line (joined body (envelope_in document)))
+  pruned : (body whole : Data) → IsPruned N (body_of document) body → IsJoined body (envelope_in document) whole → IsObjectAnswer N document Prune 0 (line whole)
+  completed : (body whole : Data) → IsCompleted N (body_of document) body → IsJoined body (envelope_in document) whole → IsObjectAnswer N document Default 0 (line whole)

@@ -7,7 +7,7 @@ ghost use Rattle.stored.specs.Objects.AllFaults.{told};
 ghost use Rattle.crdx.specs.Internal.Cause.{IsInputCause, IsUnreadCause};
 ghost use Rattle.crdx.specs.Output.Line.{line};
 ghost use Rattle.crdx.specs.Program.Documents.{file_name};
-ghost use Rattle.crdx.specs.Program.Envelope.{body_of, joined};
+ghost use Rattle.crdx.specs.Program.Envelope.{body_of, IsJoined};
 ghost use Rattle.crdx.specs.Program.ObjectAnswer.{IsObjectAnswer, fault_line as fault_line_of, fault_lines as fault_lines_of};
 ghost use Rattle.crdx.specs.Program.RunResult.{IsAnswer};
 ghost use Rattle.crdx.specs.declared.arguments.request.ObjectCommand.TheVariants.{Validate};
@@ -98,7 +98,7 @@ fn validate(alloc: Global, node: &Node, body: &Tree) -> Result<Answer, AllocErro
 
 /// The line of a body with its envelope.
 fn print(alloc: Global, mut body: Tree, envelope: Parts) -> Result<Answer, AllocError>
-    ensures { IfOk result (λ a. (a.status ≡ 0) × (string_bytes a.text ≡ line (joined (data_of body) envelope))) }
+    ensures { IfOk result (λ a. (a.status ≡ 0) × ((whole : Data) × IsJoined (data_of body) envelope whole × (string_bytes a.text ≡ line whole))) }
 {
     join(&mut body, envelope)?;
     let mut text = body.to_text(alloc).map_err(|_| AllocError)?;

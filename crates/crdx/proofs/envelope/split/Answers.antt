@@ -1,18 +1,25 @@
-use Rattle.std.proofs.Common.{[], ◌∷◌, ◌∙◌, refl}
-use Rattle.std.specs.Prelude.{codes}
-use Rattle.jtree.specs.Data.{no_members}
+use Rattle.std.proofs.Common.{None, refl, ap, ◌∙◌}
+use Rattle.jtree.specs.Data.{object, no_members}
+use Rattle.jtree.specs.Path.{member_at}
+use Rattle.crdx.specs.Objects.ByLevel.{in_front}
+use Rattle.crdx.specs.Objects.Filled.{without}
 use Rattle.crdx.specs.Program.Envelope.{onto}
-use Rattle.crdx.proofs.EnvelopeLemmas.{names_more}
+use Rattle.crdx.proofs.EnvelopeLemmas.{api_version, kind, metadata, body_is, envelope_is}
+use Rattle.crdx.proofs.FilledNames.{replaced_elsewhere}
 use Rattle.crdx.proofs.envelope.split.Goals as goal
+
+pub returns-in-Object-clause-body : goal.returns-in-Object-clause-body
+returns-in-Object-clause-body c =
+    rw c.in-Object.is (ap object (c.take-in-Object-2.ensures.rest ∙ (ap (without metadata) (c.take-in-Object.ensures.rest ∙ ap (without kind) c.take.ensures.rest) ∙ body_is c.in-Object.members c.reveal_invariant.ensures)))
 
 pub returns-in-Object-clause-parts : goal.returns-in-Object-clause-parts
 returns-in-Object-clause-parts c =
-    let one = c.take.ensures in
-    let two = c.take-in-Object.ensures in
-    let three = c.take-in-Object-2.ensures in
+    let ms = c.in-Object.members in
     let last = onto c.take-in-Object-2.result no_members in
     let later = onto c.take-in-Object.result last in
-    rw c.in-Object.is (one.taken later
-    ∙ names_more (codes "apiVersion") (codes "kind" ∷ codes "metadata" ∷ []) c.in-Object.members c.take.new.members later (refl, (refl, tt)) one.rest (two.taken last
-    ∙ names_more (codes "kind") (codes "metadata" ∷ []) c.take.new.members c.take-in-Object.new.members last (refl, tt) two.rest (three.taken no_members
-    ∙ names_more (codes "metadata") [] c.take-in-Object.new.members c.take-in-Object-2.new.members no_members tt three.rest refl)))
+    let one = ap (member_at kind) c.take.ensures.rest ∙ replaced_elsewhere kind api_version None ms refl in
+    let two = ap (member_at metadata) (c.take-in-Object.ensures.rest ∙ ap (without kind) c.take.ensures.rest)
+    ∙ (replaced_elsewhere metadata kind None (without api_version ms) refl ∙ replaced_elsewhere metadata api_version None ms refl) in
+    let last_is = c.take-in-Object-2.ensures.taken no_members ∙ ap (λ v. in_front metadata v no_members) two in
+    let later_is = c.take-in-Object.ensures.taken last ∙ (ap (λ v. in_front kind v last) one ∙ ap (in_front kind (member_at kind ms)) last_is) in
+    rw c.in-Object.is (c.take.ensures.taken later ∙ (ap (in_front api_version (member_at api_version ms)) later_is ∙ envelope_is ms c.reveal_invariant.ensures))
