@@ -183,9 +183,9 @@ body_is ms sorted =
     let two = replaced_sorted kind None (without api_version ms) tt one in
     let three = replaced_sorted metadata None (without kind (without api_version ms)) tt two in
     same_members _ _ three (where_sorted _ ms sorted) (λ j.
-      taken_at metadata (without kind (without api_version ms)) two j
-      ∙ (ap (λ v. if bytes_eq j metadata then None else v) (taken_at kind (without api_version ms) one j ∙ ap (λ v. if bytes_eq j kind then None else v) (taken_at api_version ms sorted j))
-      ∙ (beside_three (bytes_eq j api_version) (bytes_eq j kind) (bytes_eq j metadata) (member_at j ms) ∙ sym (where_at (λ k. not (is_envelope_name k)) ms j))))
+    taken_at metadata (without kind (without api_version ms)) two j
+    ∙ (ap (λ v. if bytes_eq j metadata then None else v) (taken_at kind (without api_version ms) one j ∙ ap (λ v. if bytes_eq j kind then None else v) (taken_at api_version ms sorted j))
+    ∙ (beside_three (bytes_eq j api_version) (bytes_eq j kind) (bytes_eq j metadata) (member_at j ms) ∙ sym (where_at (λ k. not (is_envelope_name k)) ms j))))
 
 front_at : (k : List ℕ) (o : Option Data) (ms : Members) (j : List ℕ) → member_at j (in_front k o ms) ≡ (if bytes_eq j k then first_of o (member_at j ms) else member_at j ms)
 front_at k None ms j = elim (bool_cases (bytes_eq j k)) [ inl t ↦ rw t refl | inr f ↦ rw f refl ]
@@ -208,8 +208,8 @@ first_alone (Some d) = refl
 -- under a name of the envelope stands what the members have there
 three_names : (ms : Members) (j : List ℕ)
     → (if bytes_eq j api_version then first_of (member_at api_version ms) (if bytes_eq j kind then first_of (member_at kind ms) (if bytes_eq j metadata then first_of (member_at metadata ms) None else None)
-        else (if bytes_eq j metadata then first_of (member_at metadata ms) None else None)) else (if bytes_eq j kind then first_of (member_at kind ms) (if bytes_eq j metadata then first_of (member_at metadata ms) None else None)
-        else (if bytes_eq j metadata then first_of (member_at metadata ms) None else None)))
+    else (if bytes_eq j metadata then first_of (member_at metadata ms) None else None)) else (if bytes_eq j kind then first_of (member_at kind ms) (if bytes_eq j metadata then first_of (member_at metadata ms) None else None)
+    else (if bytes_eq j metadata then first_of (member_at metadata ms) None else None)))
     ≡ (if is_envelope_name j then member_at j ms else None)
 three_names ms j = elim (bool_cases (bytes_eq j api_version)) [
   | inl a ↦ rw (same_name j api_version a) (first_alone (member_at api_version ms))
@@ -235,7 +235,7 @@ envelope_is ms sorted =
     let at_later = λ (j : List ℕ). front_at kind (member_at kind ms) last j ∙ ap (λ v. if bytes_eq j kind then first_of (member_at kind ms) v else v) (at_last j) in
     let at_all = λ (j : List ℕ). front_at api_version (member_at api_version ms) later j ∙ ap (λ v. if bytes_eq j api_version then first_of (member_at api_version ms) v else v) (at_later j) in
     same_members all _ (front_sorted api_version ms later sorted before later_sorted) (where_sorted is_envelope_name ms sorted) (λ j.
-      at_all j ∙ (three_names ms j ∙ sym (where_at is_envelope_name ms j)))
+    at_all j ∙ (three_names ms j ∙ sym (where_at is_envelope_name ms j)))
 
 -- ---- joined
 

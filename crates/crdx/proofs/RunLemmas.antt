@@ -19,7 +19,7 @@ use Rattle.crdx.specs.Program.RunResult.{IsRunResult, answered, refused, unread_
 use Rattle.crdx.specs.Output.Line.{lines}
 use Rattle.crdx.specs.Output.PartialOutput.{IsPartialOutput}
 use Rattle.crdx.specs.Output.Walk.{WritesPage}
-use Rattle.crdx.specs.Program.Requested.{ArePools, IsRequested, IsRequestedSchema, IsUnbrokenSchema, HasUnbrokenSchema, HasAcceptedSchema, IsCrdRefused}
+use Rattle.crdx.specs.Program.Requested.{ArePools, IsRequested, IsRequestedSchema, IsAcceptedSchema, HasAcceptedSchema, HasSimpleSchema, IsCrdRefused}
 use Rattle.crdx.specs.Program.Documents.{Documents, file_name, AreAmong}
 use Rattle.crdx.specs.Internal.ExitStatus.{status, cause_of_reading, cause_of_refusal, cause_of_simple_refusal, cause_of_pools, cause_of_walk, IsGiven}
 use Rattle.crdx.specs.Internal.Cause.{IsUnreadCause, IsReadCause, IsBrokenCause, IsUnknownCause, IsSchemaCause, IsPoolsCause, IsInputCause, IsSampleCause, IsWalkCause}
@@ -100,7 +100,7 @@ module _ (has : Documents) (unread read : ℕ) (arguments : ObjectArguments) whe
   object_schema cause (inr why) = object_refused why.0 cause why.1 why.2
 
   -- the object is read of documents that were at hand before, where the schema breaks no rule
-  pub object_input : (later : Documents) (cause : Cause) → AreAmong later has → HasUnbrokenSchema has arguments.crd.now arguments.version.now
+  pub object_input : (later : Documents) (cause : Cause) → AreAmong later has → HasAcceptedSchema has arguments.crd.now arguments.version.now
       → IsUnreadCause later unread read input.Object (file_name arguments.object) cause → IsInputCause has unread read (Object arguments) cause
   object_input later (Unread i) among unbroken why = why.1
   object_input later (Document i fault) among unbroken why = inr (unbroken, (fault, why.1, among (file_name arguments.object) (Err fault) why.2))
@@ -130,7 +130,7 @@ among_some first second None r q f is = is
 among_some first second (Some n) r q f is = f n is
 
 -- the pools are read of documents that were at hand before, where the schema is accepted
-pub pools_input : (has later : Documents) (unread read : ℕ) (arguments : SampleArguments) (cause : Cause) → AreAmong later has → HasAcceptedSchema has arguments.crd.now arguments.version.now
+pub pools_input : (has later : Documents) (unread read : ℕ) (arguments : SampleArguments) (cause : Cause) → AreAmong later has → HasSimpleSchema has arguments.crd.now arguments.version.now
     → IsPoolsCause later unread read arguments.pools cause → IsInputCause has unread read (Sample arguments) cause
 pools_input has later unread read arguments (Unread i) among accepted why = why.1
 pools_input has later unread read arguments (Document i fault) among accepted why =

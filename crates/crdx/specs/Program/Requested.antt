@@ -34,21 +34,21 @@ pub record IsRequestedSchema (has : Documents) (crd version : List ℕ) (raw : D
   pub sound : IsSound raw
 
 -- it is structural: no rule is broken
-pub record IsUnbrokenSchema (has : Documents) (crd version : List ℕ) (raw : Data) : Type 0 where
+pub record IsAcceptedSchema (has : Documents) (crd version : List ℕ) (raw : Data) : Type 0 where
   pub asked : IsRequestedSchema has crd version raw
   pub unbroken : IsUnbroken (IsBroken raw)
 
-abbrev pub HasUnbrokenSchema : Documents → List ℕ → List ℕ → Type 0
-HasUnbrokenSchema has crd version = (raw : Data) × IsUnbrokenSchema has crd version raw
+abbrev pub HasAcceptedSchema : Documents → List ℕ → List ℕ → Type 0
+HasAcceptedSchema has crd version = (raw : Data) × IsAcceptedSchema has crd version raw
 
 -- `sample` takes it: none of the rules but V14 is broken, and each place is known
-pub record IsAcceptedSchema (has : Documents) (crd version : List ℕ) (raw : Data) : Type 0 where
+pub record IsSimpleSchema (has : Documents) (crd version : List ℕ) (raw : Data) : Type 0 where
   pub asked : IsRequestedSchema has crd version raw
   pub unbroken : BreaksNone raw
   pub known : AllKnown true raw
 
-abbrev pub HasAcceptedSchema : Documents → List ℕ → List ℕ → Type 0
-HasAcceptedSchema has crd version = (raw : Data) × IsAcceptedSchema has crd version raw
+abbrev pub HasSimpleSchema : Documents → List ℕ → List ℕ → Type 0
+HasSimpleSchema has crd version = (raw : Data) × IsSimpleSchema has crd version raw
 
 -- a fault of the document of this name, read for this version
 abbrev pub HasReadFault : Documents → List ℕ → List ℕ → SFault → Type 0
@@ -78,7 +78,7 @@ ArePoolsRefused has pools = ((fault : JFault) × (fault ≢ j.NoMemory) × IsSom
 -- the question that the arguments of `sample` ask
 pub record IsRequested (has : Documents) (arguments : SampleArguments) (q : Question) : Type 0 where
   pub raw : Data
-  pub accepted : IsAcceptedSchema has arguments.crd.now arguments.version.now raw
+  pub accepted : IsSimpleSchema has arguments.crd.now arguments.version.now raw
   pub root : IsNodeAt true q.root raw
   pub pools : ArePools has arguments.pools q.pools
   pub limit : q.limit ≡ arguments.limit
@@ -86,7 +86,7 @@ pub record IsRequested (has : Documents) (arguments : SampleArguments) (q : Ques
 -- the document whose body is asked about, and the node of that
 pub record IsRequestedObject (has : Documents) (arguments : ObjectArguments) (N : Node) (document : Data) : Type 0 where
   pub raw : Data
-  pub accepted : IsUnbrokenSchema has arguments.crd.now arguments.version.now raw
+  pub accepted : IsAcceptedSchema has arguments.crd.now arguments.version.now raw
   pub nodes : AreNodesOf true N raw
   pub at_hand : has (file_name arguments.object) (Ok document)
 

@@ -14,7 +14,7 @@ use Rattle.crdx.specs.Output.Sink.{HasFailed}
 use Rattle.crdx.specs.Program.Documents.{Documents}
 use Rattle.crdx.specs.Program.ObjectAnswer.{IsObjectAnswer}
 use Rattle.crdx.specs.Program.Phrases.{phrase_of}
-use Rattle.crdx.specs.Program.Requested.{IsRequestedSchema, HasUnbrokenSchema, HasAcceptedSchema, HasFirstUnknown, IsCrdRefused, IsRequested, ArePoolsRefused, IsRequestedObject, IsObjectRefused}
+use Rattle.crdx.specs.Program.Requested.{IsRequestedSchema, HasAcceptedSchema, HasSimpleSchema, HasFirstUnknown, IsCrdRefused, IsRequested, ArePoolsRefused, IsRequestedObject, IsObjectRefused}
 use Rattle.crdx.specs.Samples.Page.{IsPage}
 use Rattle.crdx.specs.Samples.Sample.{Question}
 use Rattle.crdx.specs.declared.arguments.request.CheckArguments.{CheckArguments}
@@ -36,7 +36,7 @@ HasBreaks rules has crd version breaks = (raw : Data) × IsRequestedSchema has c
 
 -- the answer to a request: the exit status, and the whole text on standard output
 pub data IsAnswer (has : Documents) : Request → ℕ → List ℕ → Type 0 where
-  structural : (arguments : CheckArguments) → HasUnbrokenSchema has arguments.crd.now arguments.version.now → IsAnswer has (Check arguments) 0 (codes "structural\n")
+  structural : (arguments : CheckArguments) → HasAcceptedSchema has arguments.crd.now arguments.version.now → IsAnswer has (Check arguments) 0 (codes "structural\n")
   violations : (arguments : CheckArguments) (breaks : List Break) → HasBreaks IsBroken has arguments.crd.now arguments.version.now breaks
       → IsAnswer has (Check arguments) 1 (told_lines (map told_of breaks))
   object : (arguments : ObjectArguments) (N : Node) (document : Data) (status : ℕ) (answer : List ℕ) → IsRequestedObject has arguments N document
@@ -54,9 +54,9 @@ pub data IsAnswer (has : Documents) : Request → ℕ → List ℕ → Type 0 wh
 abbrev pub IsInputRefused : Documents → Request → Type 0
 IsInputRefused has (Check arguments) = IsCrdRefused has arguments.crd.now arguments.version.now
 IsInputRefused has (Object arguments) = IsCrdRefused has arguments.crd.now arguments.version.now
-    ⊎ (HasUnbrokenSchema has arguments.crd.now arguments.version.now × IsObjectRefused has arguments)
+    ⊎ (HasAcceptedSchema has arguments.crd.now arguments.version.now × IsObjectRefused has arguments)
 IsInputRefused has (Sample arguments) = IsCrdRefused has arguments.crd.now arguments.version.now
-    ⊎ (((p : List ℕ) × HasFirstUnknown has arguments.crd.now arguments.version.now p) ⊎ (HasAcceptedSchema has arguments.crd.now arguments.version.now × ArePoolsRefused has arguments.pools))
+    ⊎ (((p : List ℕ) × HasFirstUnknown has arguments.crd.now arguments.version.now p) ⊎ (HasSimpleSchema has arguments.crd.now arguments.version.now × ArePoolsRefused has arguments.pools))
 IsInputRefused has _ = ⊥
 
 -- what is out where standard output failed: a beginning of the answer, as a walk leaves it

@@ -5,7 +5,7 @@ ghost use Rattle.jtree.specs.View.{data_of};
 ghost use Rattle.crdx.specs.Objects.Accepted.{IsNodeAt};
 ghost use Rattle.schema.specs.Nodes.ByPlace.{AreNodesOf};
 ghost use Rattle.crdx.specs.Internal.Cause.{IsUnreadCause, IsReadCause, IsBrokenCause, IsUnknownCause, IsSchemaCause, IsPoolsCause};
-ghost use Rattle.crdx.specs.Program.Requested.{IsRequestedSchema, IsUnbrokenSchema, IsAcceptedSchema, ArePools};
+ghost use Rattle.crdx.specs.Program.Requested.{IsRequestedSchema, IsAcceptedSchema, IsSimpleSchema, ArePools};
 ghost use Rattle.crdx.specs.Program.Documents.{AreAmong, file_name};
 
 use crate::inputs::{InFault, Inputs};
@@ -24,7 +24,7 @@ pub(crate) fn accepted_schema<I: Inputs>(
     version: &str,
     inputs: &mut I,
 ) -> Result<Schema, Cause>
-    ensures accepted { IfOk result (λ schema. (raw : Data) × IsUnbrokenSchema (I.has inputs.old) crd.now version.now raw × AreNodesOf true schema raw) }
+    ensures accepted { IfOk result (λ schema. (raw : Data) × IsAcceptedSchema (I.has inputs.old) crd.now version.now raw × AreNodesOf true schema raw) }
     ensures cause { IfErr result (IsSchemaCause (I.has inputs.old) (I.failures inputs.old) (I.failures inputs.new) crd.now version.now IsBrokenCause) }
     ensures stays { AreAmong (I.has inputs.new) (I.has inputs.old) }
     ensures unfailed { OnOk result (I.failures inputs.new ≡ I.failures inputs.old) }
@@ -40,7 +40,7 @@ pub(crate) fn simple_schema<I: Inputs>(
     version: &str,
     inputs: &mut I,
 ) -> Result<simple::Schema, Cause>
-    ensures accepted { IfOk result (λ schema. (raw : Data) × IsAcceptedSchema (I.has inputs.old) crd.now version.now raw × IsNodeAt true schema raw) }
+    ensures accepted { IfOk result (λ schema. (raw : Data) × IsSimpleSchema (I.has inputs.old) crd.now version.now raw × IsNodeAt true schema raw) }
     ensures cause { IfErr result (IsSchemaCause (I.has inputs.old) (I.failures inputs.old) (I.failures inputs.new) crd.now version.now IsUnknownCause) }
     ensures stays { AreAmong (I.has inputs.new) (I.has inputs.old) }
     ensures unfailed { OnOk result (I.failures inputs.new ≡ I.failures inputs.old) }

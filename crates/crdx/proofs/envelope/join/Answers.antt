@@ -11,9 +11,14 @@ returns-in_default-reserve-clause-joined c =
     let parts = c.parts.inside in
     let old = ap members_of c.reserve.ensures.items ∙ c.members.view_is in
     let sorted = c.put-in-Object-2.ensures.sorted (c.put-in-Object.ensures.sorted (c.put.ensures.sorted (subst AreMembers (sym old) c.reveal_invariant.ensures))) in
-    rw c.in-Object.is (members_of c.put-in-Object-2.new.members.items, refl, sorted, λ k.
-      three_put parts.api_version parts.kind parts.metadata _ _ _ _ c.put.ensures.put c.put-in-Object.ensures.put c.put-in-Object-2.ensures.put k
-      ∙ (ap (λ ps. first_of (member_at k ps) (member_at k (members_of c.reserve.new.self.items))) c.parts.view_is ∙ ap (λ ms. first_of (member_at k c.args.parts) (member_at k ms)) old))
+    rw c.in-Object.is (
+      members_of c.put-in-Object-2.new.members.items,
+      refl,
+      sorted,
+      λ k.
+          three_put parts.api_version parts.kind parts.metadata _ _ _ _ c.put.ensures.put c.put-in-Object.ensures.put c.put-in-Object-2.ensures.put k
+          ∙ (ap (λ ps. first_of (member_at k ps) (member_at k (members_of c.reserve.new.self.items))) c.parts.view_is ∙ ap (λ ms. first_of (member_at k c.args.parts) (member_at k ms)) old),
+    )
 
 pub returns-in_default-reserve-clause-again : goal.returns-in_default-reserve-clause-again
 returns-in_default-reserve-clause-again c = tree_back _ _ c.args.parts (returns-in_default-reserve-clause-joined c)
