@@ -5,7 +5,7 @@ use Rattle.std.proofs.lemmas.Option.{same_Some}
 use Rattle.std.proofs.lemmas.List.Elements.{Contains-append_left, Contains-append_right, Contains-push, Contains-push_cases, Contains-append_cases}
 use Rattle.jtree.specs.Data.{Data, Members, no_members, member, IsNameBefore, AreMembers}
 use Rattle.jtree.specs.Nodes.{node_count, members_count}
-use Rattle.crdx.specs.Objects.Node.{Node, Fields, no_fields, field, declared, IsBeforeFields, AreOrdered}
+use Rattle.crdx.specs.Objects.Node.{Node, Fields, field, declared, IsBeforeFields, AreOrdered}
 use Rattle.crdx.specs.Samples.Over.{Pools}
 use Rattle.crdx.specs.Objects.Fits.{Fits, MembersFit}
 use Rattle.crdx.specs.Internal.Values.{AreValuesOf, IsRowOf, AreRowsOf, IsExtendedRow, AreExtendedRows}

@@ -1,5 +1,5 @@
 -- How the causes of a run and its status go together with what is asked of the documents at hand.
-use Rattle.std.proofs.Common.{◌≡◌, ◌≢◌, ◌⊎◌, ℕ, List, [], ◌∷◌, Option, Some, None, Bor, Ok, Err, Vec, Global, refl, sym, ap, subst, inl, inr, take, map, string_bytes, IsSomeAnd, Bool, codes, ◌∙◌, append-nil, arith}
+use Rattle.std.proofs.Common.{◌≡◌, ◌≢◌, ◌⊎◌, ℕ, List, [], ◌∷◌, Option, Some, None, Bor, Ok, Err, refl, sym, ap, subst, inl, inr, take, map, string_bytes, IsSomeAnd, Bool, codes, ◌∙◌, append-nil, arith}
 use Rattle.std.specs.Io.KnownBytes.{Appends, Keeps}
 use Rattle.jtree.specs.Data.{Data}
 use Rattle.jtree.specs.Internal.OrderLaws.{tree_total}
@@ -19,11 +19,10 @@ use Rattle.crdx.specs.Program.RunResult.{IsRunResult, answered, refused, unread_
 use Rattle.crdx.specs.Output.Line.{lines}
 use Rattle.crdx.specs.Output.PartialOutput.{IsPartialOutput}
 use Rattle.crdx.specs.Output.Walk.{WritesPage}
-use Rattle.crdx.specs.Program.Requested.{ArePools, IsRequested, IsRequestedSchema, IsAcceptedSchema, HasAcceptedSchema, HasSimpleSchema, IsCrdRefused}
+use Rattle.crdx.specs.Program.Requested.{IsRequested, IsRequestedSchema, HasAcceptedSchema, HasSimpleSchema, IsCrdRefused}
 use Rattle.crdx.specs.Program.Documents.{Documents, file_name, AreAmong}
 use Rattle.crdx.specs.Internal.ExitStatus.{status, cause_of_reading, cause_of_refusal, cause_of_simple_refusal, cause_of_pools, cause_of_walk, IsGiven}
 use Rattle.crdx.specs.Internal.Cause.{IsUnreadCause, IsReadCause, IsBrokenCause, IsUnknownCause, IsSchemaCause, IsPoolsCause, IsInputCause, IsSampleCause, IsWalkCause}
-use Rattle.crdx.specs.Samples.Over.{Pools}
 use Rattle.crdx.specs.Samples.Sample.{Question}
 use Rattle.crdx.specs.Objects.Refusal.{IsRefusal as IsSimpleRefusal}
 use Rattle.crdx.specs.declared.plan.fault.PFault.{PFault}
