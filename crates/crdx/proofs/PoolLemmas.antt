@@ -346,6 +346,3 @@ form_items d ds form at = elim (option_cases (other_item ds)) [
   | inl none ↦ none
   | inr n ↦ let other = others_some ds n.0 n.1 in absurd (form _ (no_integer d ds n.0 other.value at other.at other.other))
 ]
-
-pub integers_of_list : (d : Data) (ds : Items) → under d name_integers ≡ Some (tree.list ds) → pools_of d ≡ record { integers = integers_of_items ds }
-integers_of_list d ds at = let P : Option Data → Pools = λ o. record { integers = integers_of o } in ap P at

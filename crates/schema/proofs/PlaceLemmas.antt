@@ -1,14 +1,11 @@
 -- Sizes of lists and objects, and pointers of joined places.
-use Rattle.std.proofs.Common.{◌≡◌, suc, List, [], ◌∷◌, ◌++◌, length, refl, ap, ◌∙◌}
+use Rattle.std.proofs.Common.{◌≡◌, suc, List, [], ◌∷◌, ◌++◌, length, refl, ap}
 use Rattle.std.proofs.lemmas.Grind.{flat_map-append}
-use Rattle.std.proofs.lemmas.List.{append-nil}
-use Rattle.jtree.specs.Path.{Path}
-use Rattle.jtree.specs.Pointer.{token, pointer}
 use Rattle.jtree.specs.View.{items_of, members_of}
 use Rattle.jtree.specs.declared.value.Tree.{Tree}
 use Rattle.jtree.specs.declared.value.Member.{Member}
 use Rattle.schema.specs.Document.Limits.{items_len, members_len}
-use Rattle.schema.specs.Document.Places.{Step, Place, step_path, place_path}
+use Rattle.schema.specs.Document.Places.{Place, step_path, place_path}
 
 pub items_size : (ts : List Tree) → length ts ≡ items_len (items_of ts)
 items_size [] = refl
@@ -18,11 +15,5 @@ pub members_size : (ms : List Member) → length ms ≡ members_len (members_of 
 members_size [] = refl
 members_size (m ∷ ms) = ap suc (members_size ms)
 
-pub pointer-append : (p q : Path) → pointer (p ++ q) ≡ pointer p ++ pointer q
-pointer-append p q = flat_map-append token p q
-
 pub place_path-append : (p q : Place) → place_path (p ++ q) ≡ place_path p ++ place_path q
 place_path-append p q = flat_map-append step_path p q
-
-pub place_path-more : (p : Place) (s : Step) → place_path (p ++ (s ∷ [])) ≡ place_path p ++ step_path s
-place_path-more p s = place_path-append p (s ∷ []) ∙ ap (λ x. place_path p ++ x) (append-nil (step_path s))
