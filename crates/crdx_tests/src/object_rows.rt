@@ -155,6 +155,14 @@ static VALUES: [(&str, &str, &str, &str); 24] = [
     ),
 ];
 
+// As these, of a whole schema and the body of a resource, to which the envelope's names do not belong.
+static BODY: (&str, &str, &str, &str) = (
+    "the root of an accepted schema",
+    r#"{"type":"object","required":["n"],"properties":{"kind":{"type":"integer"},"n":{"type":"integer","maximum":7,"default":7}}}"#,
+    r#"[{"n":7},{"kind":"","n":0,"z":null}]"#,
+    r#"[{},{"n":8},{"n":null},[7],7,null]"#,
+);
+
 // A name, the schema of a field `x`, and values of the field: those that are stored as they are, and those that are not.
 static STORED: [(&str, &str, &str, &str); 5] = [
     (
@@ -476,16 +484,15 @@ fn misjudged(
     Ok(others)
 }
 
-/// Fails unless the test answers so of these values of a field.
+/// Fails unless the test answers so of the values of a row at a node.
 fn try_values(
     rt: &impl Abort,
     alloc: Global,
+    node: &Node,
     row: &(&str, &str, &str, &str),
     stored: bool,
 ) -> Result<(), Fail> {
-    let (name, field, good, bad) = *row;
-    let shape = shape_of_field(alloc, field)?;
-    let node = first_field(shape.root());
+    let (name, _schema, good, bad) = *row;
     let others = misjudged(alloc, node, good, stored, true)?;
     is_text(rt, others.as_str(), "", "values that pass", name);
     let others = misjudged(alloc, node, bad, stored, false)?;
@@ -496,12 +503,21 @@ fn try_values(
 #[test]
 fn values(rt: HostRuntime) -> Result<(), Fail> {
     for row in &VALUES {
-        try_values(&rt, rt.alloc(), row, false)?;
+        let shape = shape_of_field(rt.alloc(), row.1)?;
+        try_values(&rt, rt.alloc(), first_field(shape.root()), row, false)?;
     }
     for row in &STORED {
-        try_values(&rt, rt.alloc(), row, true)?;
+        let shape = shape_of_field(rt.alloc(), row.1)?;
+        try_values(&rt, rt.alloc(), first_field(shape.root()), row, true)?;
     }
     Ok(())
+}
+
+#[test]
+fn accepted_root(rt: HostRuntime) -> Result<(), Fail> {
+    let raw = crd_of(rt.alloc(), BODY.1)??.raw;
+    let schema = accept(rt.alloc(), raw)?;
+    try_values(&rt, rt.alloc(), schema.root(), &BODY, false)
 }
 
 /// The pruned form of an object.

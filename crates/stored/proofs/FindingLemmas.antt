@@ -12,9 +12,6 @@ use Rattle.stored.specs.Objects.Fault.{Test, number}
 use Rattle.stored.specs.Objects.AllFaults.{Failure, Told}
 use Rattle.stored.specs.Internal.FailuresByLevel.{joined, item_parts, under, here, failing, Progress, told_at, noted, added, outcomes, failed}
 
-pub noted_more : (p : Progress) (ts us : List Told) → noted (noted p ts) us ≡ noted p (ts ++ us)
-noted_more p ts us = rw append_assoc refl
-
 pub added_more : (p : Progress) (fs gs : List Failure) → added (added p fs) gs ≡ added p (fs ++ gs)
 added_more p fs gs = rw (append_assoc, map-append) refl
 

@@ -45,9 +45,6 @@ kept_everywhere Holds step N v h (s ∷ path) M w e = elim (step_cases N v s) [
   | inr (inr part) ↦ absurd (stays_free part.0 path M w (rw part.1 at e))
 ]
 
--- what holds everywhere holds here, and everywhere below a step
-pub holds_here : (Holds : Node → Data → Type 0) (N : Node) (v : Data) → Everywhere Holds N v → Holds N v
-holds_here Holds N v h = h [] N v refl
-
+-- what holds everywhere holds everywhere below a step
 pub holds_below : (Holds : Node → Data → Type 0) (N : Node) (v : Data) (s : Step) (M : Node) (w : Data) → Everywhere Holds N v → leads N v s ≡ Some (at M w) → Everywhere Holds M w
 holds_below Holds N v s M w h is path K x e = h (s ∷ path) K x (rw is e)

@@ -117,9 +117,6 @@ admitted_only : (N : Node) (v : Option Data) (d : Data) → admitted N v ≡ Som
 admitted_only N (Some tree.null) d e = elim (bool_cases (is_nullable N)) [ inl t ↦ rw t at e | inr f ↦ let g = rw f at e in absurd (cc) ]
 admitted_only N v d e = e
 
-default_only : (a default : Option Data) (d : Data) → a ≡ None → or_default a default ≡ Some d → default ≡ Some d
-default_only a default d none e = rw none at e
-
 -- what is filled under a declared name stands there already, and is pruned, or is the default
 filled_from : (N : Node) (v default : Option Data) (d : Data) → or_default (admitted N v) default ≡ Some d → (v ≡ Some d → IsPruned N d d) → (default ≡ Some d → IsPruned N d d) → IsPruned N d d
 filled_from N v default d e stands by_default = elim (option_cases (admitted N v)) [
