@@ -1,7 +1,8 @@
 #!/usr/bin/env bash
-# What judging large schemas costs: the time and the peak memory of `crdx check` for each.
+# What judging large schemas and objects costs: the time and the peak memory of a run for each.
 set -euo pipefail
 cd "$(dirname "$0")/.."
+root=$PWD
 folder=$(mktemp -d)
 trap 'rm -rf "$folder"' EXIT
 
@@ -63,13 +64,83 @@ map_lists() {
     }'
 }
 
-objects 30 16 2000 | define >"$folder/511-places-1-MiB"
-objects 1 1 500000 | define >"$folder/descriptions-of-1000000-bytes"
-objects 32 16 0 | define >"$folder/32-by-16-properties"
-nested 24 | define >"$folder/24-steps"
-enums 510 | define >"$folder/511-enums-of-64"
-map_lists 3 28 | define >"$folder/84-map-lists-of-4-keys"
-for schema in "$folder"/*; do
-    /usr/bin/time -f '%e s, %M KiB' -o "$folder/.cost" ./crdx check "$schema" v1 >"$folder/.said" 2>&1 || true
-    printf '%s, %s bytes: %s (%s)\n' "$(basename "$schema")" "$(stat -c %s "$schema")" "$(tail -n 1 "$folder/.cost")" "$(head -c 60 "$folder/.said" | head -n 1)"
+# so many integers from 0 on, which begin again where there are no more values
+integers() {
+    awk -v count="$1" -v values="$2" 'BEGIN {
+        printf "["
+        for (i = 0; i < count; i++) printf "%s%d", i ? "," : "", i % values
+        printf "]"
+    }'
+}
+
+# so many items with the same under three keys, and each with another value under the fourth
+items() {
+    awk -v count="$1" 'BEGIN {
+        printf "["
+        for (i = 0; i < count; i++) printf "%s{\"a\":0,\"b\":0,\"c\":0,\"d\":%d}", i ? "," : "", i
+        printf "]"
+    }'
+}
+
+# so many members
+members() {
+    awk -v count="$1" 'BEGIN {
+        printf "{"
+        for (i = 0; i < count; i++) printf "%s\"m%d\":0", i ? "," : "", i
+        printf "}"
+    }'
+}
+
+# what standard input has, between two texts
+between() {
+    printf '%s' "$1"
+    cat
+    printf '%s' "$2"
+}
+
+# a definition of an object with one field, `x`, whose schema standard input has
+field_of() {
+    between '{"type":"object","properties":{"x":' '}}' | define
+}
+
+# measure NAME FILE WORD..: what a run of these words costs, with the size of the document that is large
+measure() {
+    local name=$1 file=$2
+    shift 2
+    /usr/bin/time -f '%e s, %M KiB' -o "$folder/cost" ./crdx "$@" >"$folder/said" 2>&1 || true
+    printf '%s, %s bytes: %s (%s)\n' "$name" "$(stat -c %s "$file")" "$(tail -n 1 "$folder/cost")" "$(head -c 60 "$folder/said" | head -n 1)"
+}
+
+mkdir "$folder/schemas" "$folder/objects"
+cd "$folder/schemas"
+objects 30 16 2000 | define >511-places-1-MiB
+objects 1 1 500000 | define >descriptions-of-1000000-bytes
+objects 32 16 0 | define >32-by-16-properties
+nested 24 | define >24-steps
+enums 510 | define >511-enums-of-64
+map_lists 3 28 | define >84-map-lists-of-4-keys
+integers 160000 160000 | between '{"type":"array","x-kubernetes-list-type":"set","items":{"type":"integer"},"default":' '}' | field_of >default-of-160000-integers-in-a-set
+cd "$folder/objects"
+integers 160000 160000 | between '{"x":' '}' >160000-integers
+integers 200000 10000 | between '{"x":' '}' >200000-integers-of-10000-values
+integers 500000 10 | between '{"x":' '}' >500000-digits
+items 10000 | between '{"x":' '}' >10000-items-of-4-keys
+members 90000 | between '{"x":' '}' >90000-members
+cd "$folder"
+echo '{"type":"array","x-kubernetes-list-type":"set","items":{"type":"integer"}}' | field_of >set
+echo '{"type":"array","items":{"type":"integer"}}' | field_of >list
+echo '{"type":"array","x-kubernetes-list-type":"map","x-kubernetes-list-map-keys":["a","b","c","d"],"items":{"type":"object","required":["a","b","c","d"],"properties":{"a":{"type":"integer"},"b":{"type":"integer"},"c":{"type":"integer"},"d":{"type":"integer"}}}}' | field_of >map-list
+echo '{"type":"object","additionalProperties":{"type":"integer"}}' | field_of >map
+echo '{"type":"object"}' | field_of >object
+echo '{"type":"object","x-kubernetes-preserve-unknown-fields":true}' | define >preserving
+cd "$root"
+
+for schema in "$folder"/schemas/*; do
+    measure "check of $(basename "$schema")" "$schema" check "$schema" v1
+done
+for row in validate:set:160000-integers validate:set:200000-integers-of-10000-values validate:list:500000-digits validate:map-list:10000-items-of-4-keys \
+    validate:preserving:500000-digits prune:preserving:500000-digits default:preserving:500000-digits \
+    validate:map:90000-members prune:object:90000-members default:map:90000-members; do
+    IFS=: read -r command schema object <<<"$row"
+    measure "$command of $object by $schema" "$folder/objects/$object" "$command" "$folder/$schema" v1 "$folder/objects/$object"
 done

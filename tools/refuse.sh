@@ -27,6 +27,7 @@ failures=0
 #   PARTIAL: what may be on standard output at status 5: `nothing`, or `lines`, with which OUT begins
 #   STATUS, OUT, ERR: the row's own answer, the last two as files
 #   WORD..: the words behind the program's name
+# Standard input is the file that the variable `input` names, where it is set before the row, and else empty.
 row() {
     local name=$1 partial=$2 status=$3 out=$4 err=$5 ended request
     shift 5
@@ -38,7 +39,7 @@ row() {
             ulimit -t 10 -c 0
             export LD_PRELOAD=$folder/refuse.so REFUSE_REQUEST=$request REFUSE_REPORT=$folder/refused
             exec "$program" "$@"
-        ) </dev/null >"$folder/out" 2>"$folder/err" || ended=$?
+        ) <"${input:-/dev/null}" >"$folder/out" 2>"$folder/err" || ended=$?
         if ! is_own && ! { [ -s "$folder/refused" ] && is_want; }; then
             echo "refuse.sh: $name: $(refusal): status $ended, $(told out output), $(told err error)" >&2
             failures=$((failures + 1))
@@ -80,20 +81,40 @@ told() {
 
 echo 'crdx: end' >"$folder/end"
 echo 'structural' >"$folder/structural"
-cat >"$folder/broken.json" <<'JSON'
-{"apiVersion":"apiextensions.k8s.io/v1","kind":"CustomResourceDefinition","spec":{"group":"example.org","names":{"kind":"Widget"},
-"versions":[{"name":"v1","schema":{"openAPIV3Schema":{"type":"object","properties":{"a":{},"b":{"type":"string","uniqueItems":true}}}}}]}}
-JSON
+# a definition with this schema
+define() {
+    printf '{"apiVersion":"apiextensions.k8s.io/v1","kind":"CustomResourceDefinition","spec":{"group":"example.org","names":{"kind":"Widget"},"versions":[{"name":"v1","schema":{"openAPIV3Schema":%s}}]}}\n' "$1"
+}
+define '{"type":"object","properties":{"a":{},"b":{"type":"string","uniqueItems":true}}}' >"$folder/broken.json"
 cat >"$folder/broken" <<'LINES'
 V01 "/properties/a" missing type
 V06 "/properties/b" uniqueItems is true
 LINES
+define '{"type":"object","properties":{"a":{"type":"object","default":{},"properties":{"f":{"type":"integer","maximum":6,"default":7}}}}}' >"$folder/bad-default.json"
+cat >"$folder/bad-default" <<'LINES'
+V14 "/properties/a" bad default
+V14 "/properties/a/properties/f" bad default
+LINES
+define '{"type":"object","required":["r"],"properties":{"a":{"type":"object","default":{},"properties":{"f":{"type":"integer","default":7}}},"r":{"type":"string"},"s":{"type":"array","x-kubernetes-list-type":"set","items":{"type":"integer","oneOf":[{"minimum":1},{"maximum":3}]}}}}' >"$folder/crd.json"
+echo '{"kind":"Widget","metadata":{"name":"w"},"s":[0,4,0,2],"z":1}' >"$folder/object.json"
+cat >"$folder/faults" <<'LINES'
+F12 "/r" required
+F13 "/s/2" duplicate
+F14 "/s/3" junctor
+LINES
+echo '{"kind":"Widget","metadata":{"name":"w"},"s":[0,4,0,2]}' >"$folder/pruned"
+echo '{"a":{"f":7},"kind":"Widget","metadata":{"name":"w"},"s":[0,4,0,2]}' >"$folder/completed"
 widget=examples/widget
 
 row 'sample of the widget' lines 0 $widget/samples-of-4-nodes.txt "$folder/end" \
     sample $widget/crd.json v1 --pools $widget/pools.json --limit 4
 row 'check of two violations' nothing 1 "$folder/broken" /dev/null check "$folder/broken.json" v1
 row 'check of the widget' nothing 0 "$folder/structural" /dev/null check $widget/crd.json v1
+row 'check of two bad defaults' nothing 1 "$folder/bad-default" /dev/null check "$folder/bad-default.json" v1
+row 'validate of three faults' nothing 1 "$folder/faults" /dev/null validate "$folder/crd.json" v1 "$folder/object.json"
+input=$folder/object.json row 'prune of the standard input' nothing 0 "$folder/pruned" /dev/null prune "$folder/crd.json" v1
+row 'default of an object' nothing 0 "$folder/completed" /dev/null default "$folder/crd.json" v1 "$folder/object.json"
+row 'validate by a schema that breaks rules' nothing 1 /dev/null "$folder/broken" validate "$folder/broken.json" v1
 
 printf '%s\n' "${counts[@]}"
 [ "$failures" -eq 0 ] || stop "$failures runs gave another answer"

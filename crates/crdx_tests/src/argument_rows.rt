@@ -2,19 +2,36 @@
 use crate::documents::{WIDGET, ZERO_AND_ONE};
 use crate::fakes::{FailingSink, FakeInputs};
 use crate::harness::{Output, is_number, is_text, run_on, words_of};
-use crdx::arguments::{CheckArguments, Request, SampleArguments, parse_arguments};
+use crdx::arguments::{
+    CheckArguments, ObjectArguments, ObjectCommand, Request, SampleArguments, parse_arguments,
+};
 use std::alloc::{AllocError, Global};
 use std::process::Abort;
 use std::test::Fail;
 
-// A name, a command line, and what it asks for: the file, the version, the pools, the limit and the count.
-static REQUESTS: [(&str, &str, &str); 4] = [
+// A name, a command line, and what it asks for: the file, the version, and the object or the pools, the limit and the count.
+static REQUESTS: [(&str, &str, &str); 7] = [
     (
         "a sample",
         "crdx sample c.json v1",
         "sample c.json v1 - 8 100",
     ),
     ("a check", "crdx check c.json v1", "check c.json v1"),
+    (
+        "faults of an object in a file",
+        "crdx validate c.json v1 o.json",
+        "validate c.json v1 o.json",
+    ),
+    (
+        "what is pruned of the standard input",
+        "crdx prune c.json v1",
+        "prune c.json v1 -",
+    ),
+    (
+        "the defaults of an object",
+        "crdx default c.json v1 ./o",
+        "default c.json v1 ./o",
+    ),
     (
         "the least limit and count",
         "crdx sample c.json v1 --pools p.json --limit 1 --count 1",
@@ -30,7 +47,7 @@ static REQUESTS: [(&str, &str, &str); 4] = [
 const MISSING: &str = "error: the following required arguments were not provided:\n";
 
 // A name, a command line, and the first line of standard error. The status is 2.
-static MISTAKES: [(&str, &str, &str); 13] = [
+static MISTAKES: [(&str, &str, &str); 16] = [
     (
         "no command",
         "crdx",
@@ -44,6 +61,17 @@ static MISTAKES: [(&str, &str, &str); 13] = [
     ("a sample of nothing", "crdx sample", MISSING),
     ("a sample of no version", "crdx sample crd.json", MISSING),
     ("a check of no version", "crdx check crd.json", MISSING),
+    ("no version", "crdx validate crd.json", MISSING),
+    (
+        "a fourth word",
+        "crdx prune crd.json v1 object.json w",
+        "error: unexpected argument 'w' found\n",
+    ),
+    (
+        "an option of another command",
+        "crdx default crd.json v1 --pools pools.json",
+        "error: unexpected argument '--pools' found\n",
+    ),
     (
         "a third word",
         "crdx sample crd.json v1 w",
@@ -87,7 +115,7 @@ static MISTAKES: [(&str, &str, &str); 13] = [
 ];
 
 // A name, a command line, and a line of the help, or the version. The status is 0.
-static HELP: [(&str, &str, &str); 8] = [
+static HELP: [(&str, &str, &str); 11] = [
     ("an option", "crdx --help", "Usage: crdx <COMMAND>\n"),
     ("a command", "crdx help", "Usage: crdx <COMMAND>\n"),
     (
@@ -110,23 +138,47 @@ static HELP: [(&str, &str, &str); 8] = [
         "crdx check -h",
         "Usage: crdx check <CRD> <VERSION>\n",
     ),
+    (
+        "an option of another command",
+        "crdx validate --help",
+        "Usage: crdx validate <CRD> <VERSION> [OBJECT]\n",
+    ),
+    (
+        "a command of another command",
+        "crdx help prune",
+        "Usage: crdx prune <CRD> <VERSION> [OBJECT]\n",
+    ),
+    (
+        "a short option of another command",
+        "crdx default -h",
+        "Usage: crdx default <CRD> <VERSION> [OBJECT]\n",
+    ),
     ("the version", "crdx --version", "crdx 0.1.0\n"),
     ("the version, for short", "bin/crdx_cli -V", "crdx 0.1.0\n"),
 ];
 
-// What a run can answer, and the rules and codes that it can print: each begins a line of the help.
-static ANSWERS: [&str; 32] = [
-    "0", "1", "2", "3", "4", "5", "V01", "V02", "V03", "V04", "V05", "V06", "V07", "V08", "V09",
-    "V10", "V11", "V12", "V13", "V15", "V16", "V17", "J1", "J3", "J4", "S0", "S1", "S2", "S3",
-    "S4", "P1", "P2",
+// What a run can answer, and the codes that it can print: each begins a line of the help.
+static ANSWERS: [&str; 16] = [
+    "0", "1", "2", "3", "4", "5", "J1", "J3", "J4", "S0", "S1", "S2", "S3", "S4", "P1", "P2",
+];
+
+// The rules and the faults that a run can print: each begins a line of the help.
+static NUMBERS: [&str; 31] = [
+    "V01", "V02", "V03", "V04", "V05", "V06", "V07", "V08", "V09", "V10", "V11", "V12", "V13",
+    "V14", "V15", "V16", "V17", "F01", "F02", "F03", "F04", "F05", "F06", "F07", "F08", "F09",
+    "F10", "F11", "F12", "F13", "F14",
 ];
 
 // Command lines whose help is shown on a screen of 80 columns.
-static SHOWN: [&str; 6] = [
+static SHOWN: [&str; 10] = [
     "crdx -h",
     "crdx --help",
     "crdx check -h",
     "crdx check --help",
+    "crdx validate -h",
+    "crdx validate --help",
+    "crdx prune -h",
+    "crdx default -h",
     "crdx sample -h",
     "crdx sample --help",
 ];
@@ -148,10 +200,27 @@ fn said_of_check(alloc: Global, asked: &CheckArguments<'_>) -> Result<String, Al
     format!(in alloc; "check {crd} {version}")
 }
 
+fn said_of_object(alloc: Global, asked: &ObjectArguments<'_>) -> Result<String, AllocError> {
+    let ObjectArguments {
+        command,
+        crd,
+        version,
+        object,
+    } = asked;
+    let command = match command {
+        ObjectCommand::Validate => "validate",
+        ObjectCommand::Prune => "prune",
+        ObjectCommand::Default => "default",
+    };
+    let object = object.unwrap_or("-");
+    format!(in alloc; "{command} {crd} {version} {object}")
+}
+
 fn said(alloc: Global, request: &Request<'_>) -> Result<String, AllocError> {
     match request {
         Request::Sample(asked) => said_of_sample(alloc, asked),
         Request::Check(asked) => said_of_check(alloc, asked),
+        Request::Object(asked) => said_of_object(alloc, asked),
         _ => String::from_str(alloc, "another request"),
     }
 }
@@ -222,14 +291,18 @@ fn is_explained(text: &str, answer: &str) -> bool {
     false
 }
 
+fn is_line(rt: &impl Abort, text: &str, answer: &str) {
+    assert!(rt; is_explained(text, answer), "no line for {answer}");
+}
+
 #[test]
 fn help_explains_each_answer(rt: HostRuntime) -> Result<(), Fail> {
     let output = run_of(rt.alloc(), "crdx --help")?;
     for answer in ANSWERS {
-        assert!(rt;
-            is_explained(output.out.text(), answer),
-            "no line for {answer}"
-        );
+        is_line(&rt, output.out.text(), answer);
+    }
+    for number in NUMBERS {
+        is_line(&rt, output.out.text(), number);
     }
     Ok(())
 }

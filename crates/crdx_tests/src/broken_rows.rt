@@ -14,8 +14,16 @@ use std::test::Fail;
 const SOUND: &str =
     r#"{"apiVersion":"apiextensions.k8s.io/v1","kind":"CustomResourceDefinition","spec":{"group":"example.com","names":{"kind":"Widget"},"versions":[{"name":"v1","schema":{"openAPIV3Schema":{"type":"object"}}}]}}"#;
 
+const LIST_OF_TEXTS: &str =
+    r#"{"apiVersion":"apiextensions.k8s.io/v1","kind":"CustomResourceDefinition","spec":{"group":"example.com","names":{"kind":"Widget"},"versions":[{"name":"v1","schema":{"openAPIV3Schema":{"type":"object","properties":{"integers":{"type":"array","items":{"type":"string"}}}}}}]}}"#;
+
+/// The faults of `ZERO_AND_ONE` by `LIST_OF_TEXTS`.
+const TWO_FAULTS: &str = r#"F01 "/integers/0" kind
+F01 "/integers/1" kind
+"#;
+
 // A name, a command line, a definition, standard output, standard error and the status.
-static RUNS: [(&str, &str, &str, &str, &str, u8); 3] = [
+static RUNS: [(&str, &str, &str, &str, &str, u8); 5] = [
     (
         "a sample",
         "crdx sample crd.json v1 --pools pools.json --limit 4",
@@ -37,6 +45,22 @@ static RUNS: [(&str, &str, &str, &str, &str, u8); 3] = [
         "crdx check crd.json v1",
         SOUND,
         "structural\n",
+        "",
+        0,
+    ),
+    (
+        "an object with two faults, on the standard input",
+        "crdx validate crd.json v1",
+        LIST_OF_TEXTS,
+        TWO_FAULTS,
+        "",
+        1,
+    ),
+    (
+        "an object without what is pruned",
+        "crdx prune crd.json v1 object.json",
+        SOUND,
+        "{}\n",
         "",
         0,
     ),

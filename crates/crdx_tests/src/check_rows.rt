@@ -250,46 +250,16 @@ V05 "/properties/b" keyword not supported
 ];
 
 // A name, a schema that is refused, and standard error. The status is 3.
-static REFUSED: [(&str, &str, &str); 8] = [
+static REFUSED: [(&str, &str, &str); 2] = [
     (
         "a required name that is a number",
         r#"{"type":"object","properties":{"a":{"type":"string","required":[1]}}}"#,
         "crdx: crd: S3 \"/properties/a/required/0\"\n",
     ),
     (
-        "a default",
-        r#"{"type":"object","properties":{"n":{"type":"integer","default":7}}}"#,
-        "crdx: crd: S0 \"/properties/n\"\n",
-    ),
-    (
-        "a default of null at a name with a slash",
-        r#"{"type":"object","properties":{"x/y":{"type":"string","default":null}}}"#,
-        "crdx: crd: S0 \"/properties/x~1y\"\n",
-    ),
-    (
-        "a default above another",
-        r#"{"type":"object","properties":{"spec":{"type":"object","default":{},"properties":{"f":{"type":"integer","default":7}}}}}"#,
-        "crdx: crd: S0 \"/properties/spec\"\n",
-    ),
-    (
-        "a default behind one whose name begins so",
-        r#"{"type":"object","properties":{"spec-b":{"type":"string","default":""},"spec":{"type":"object","properties":{"z":{"type":"string","default":""}}}}}"#,
-        "crdx: crd: S0 \"/properties/spec/properties/z\"\n",
-    ),
-    (
-        "a default within a property",
-        r#"{"type":"object","properties":{"b":{"type":"string","default":""},"a":{"type":"object","properties":{"d":{"type":"string","default":""},"c":{"type":"string","default":""}}}}}"#,
-        "crdx: crd: S0 \"/properties/a/properties/c\"\n",
-    ),
-    (
-        "a default below items, of a field named as one of the envelope",
-        r#"{"type":"object","properties":{"l":{"type":"array","items":{"type":"object","properties":{"kind":{"type":"string","default":"x"}}}}}}"#,
-        "crdx: crd: S0 \"/properties/l/items/properties/kind\"\n",
-    ),
-    (
-        "a key of a map list with a default",
-        r#"{"type":"object","properties":{"m":{"type":"array","x-kubernetes-list-type":"map","x-kubernetes-list-map-keys":["k"],"items":{"type":"object","properties":{"k":{"type":"string","default":"x"}}}}}}"#,
-        "crdx: crd: S0 \"/properties/m/items/properties/k\"\n",
+        "five keys of a map list",
+        r#"{"properties":{"a":{"x-kubernetes-list-map-keys":["a","b","c","d","e"]}}}"#,
+        "crdx: crd: S4 \"/properties/a/x-kubernetes-list-map-keys\"\n",
     ),
 ];
 

@@ -1,10 +1,9 @@
-//! Defaults: where `check` says that one is misplaced (V15), and which place of a schema is the first with one.
-use crate::harness::{crd_of, is_text, try_judged};
-use schema::first_default;
+//! Defaults: where `check` says that one is misplaced (V15), and where that one is bad (V14).
+use crate::harness::try_judged;
 use std::test::Fail;
 
 // A name, a schema, and standard output.
-static MISPLACED: [(&str, &str, &str); 7] = [
+static MISPLACED: [(&str, &str, &str); 8] = [
     (
         "a default of the root",
         r#"{"type":"object","default":{}}"#,
@@ -44,6 +43,11 @@ V15 "/properties/metadata" misplaced default
         r#"{"type":"object","properties":{"x":{"type":"integer","not":{"default":1}}}}"#,
         "V03 \"/properties/x/not\" keyword not allowed in a junctor\n",
     ),
+    (
+        "a misplaced default beside a bad one, which is not judged",
+        r#"{"type":"object","default":{},"properties":{"n":{"type":"integer","default":"x"}}}"#,
+        "V15 \"\" misplaced default\n",
+    ),
 ];
 
 #[test]
@@ -54,50 +58,100 @@ fn misplaced(rt: HostRuntime) -> Result<(), Fail> {
     Ok(())
 }
 
-// A name, a schema, and the pointer of the first place in path order that has a default, if there is one.
-static FIRST: [(&str, &str, &str); 6] = [
+// A name, a schema whose defaults are in their places, and standard output.
+static JUDGED: [(&str, &str, &str); 16] = [
     (
-        "no default, but a field of that name",
-        r#"{"properties":{"default":{"type":"integer","example":{"default":1}}}}"#,
-        "no default",
+        "a default of its kind",
+        r#"{"type":"object","properties":{"n":{"type":"integer","default":7}}}"#,
+        "structural\n",
     ),
     (
-        "the root before all below",
-        r#"{"default":{},"properties":{"a":{"default":1}}}"#,
-        "",
+        "a default of another kind",
+        r#"{"type":"object","properties":{"n":{"type":"integer","default":"x"}}}"#,
+        "V14 \"/properties/n\" bad default\n",
     ),
     (
-        "a property behind one whose name begins so",
-        r#"{"properties":{"a-b":{"default":1},"a":{"properties":{"b/c":{"default":1}}}}}"#,
-        "/properties/a/properties/b~1c",
+        "a null where it is accepted and where it is not, at a name with a slash",
+        r#"{"type":"object","properties":{"x":{"type":"string","nullable":true,"default":null},"x/y":{"type":"string","default":null}}}"#,
+        "V14 \"/properties/x~1y\" bad default\n",
     ),
     (
-        "null, in a branch",
-        r#"{"properties":{"x":{"not":{"items":{"default":null}}},"y":{"default":1}}}"#,
-        "/properties/x/not/items",
+        "a default that fails a junctor",
+        r#"{"type":"object","properties":{"n":{"type":"integer","default":2,"oneOf":[{"minimum":1},{"maximum":3}]}}}"#,
+        "V14 \"/properties/n\" bad default\n",
     ),
     (
-        "the third and the eleventh branch",
-        r#"{"anyOf":[{},{},{"default":1},{},{},{},{},{},{},{},{"default":1}]}"#,
-        "/anyOf/2",
+        "a default above another",
+        r#"{"type":"object","properties":{"spec":{"type":"object","default":{},"properties":{"f":{"type":"integer","default":7}}}}}"#,
+        "structural\n",
     ),
     (
-        "a value of a map before a property",
-        r#"{"properties":{"a":{"default":1}},"additionalProperties":{"default":1}}"#,
-        "/additionalProperties",
+        "a default with a member that is not declared",
+        r#"{"type":"object","properties":{"spec":{"type":"object","default":{"z":1},"properties":{"f":{"type":"integer","default":7}}}}}"#,
+        "V14 \"/properties/spec\" bad default\n",
+    ),
+    (
+        "members that are not declared, and are kept, above one that is pruned",
+        r#"{"type":"object","properties":{"o":{"type":"object","x-kubernetes-preserve-unknown-fields":true,"default":{"z":null}},"p":{"type":"object","x-kubernetes-preserve-unknown-fields":true,"default":{"a":{"z":1}},"properties":{"a":{"type":"object"}}}}}"#,
+        "V14 \"/properties/p\" bad default\n",
+    ),
+    (
+        "a default that is valid once it is completed",
+        r#"{"type":"object","properties":{"spec":{"type":"object","default":{},"required":["f"],"properties":{"f":{"type":"integer","default":7}}}}}"#,
+        "structural\n",
+    ),
+    (
+        "a default that is valid until it is completed",
+        r#"{"type":"object","properties":{"spec":{"type":"object","default":{},"maxProperties":0,"properties":{"f":{"type":"integer","default":7}}}}}"#,
+        "V14 \"/properties/spec\" bad default\n",
+    ),
+    (
+        "items that repeat one another once they are completed",
+        r#"{"type":"object","properties":{"m":{"type":"array","x-kubernetes-list-type":"map","x-kubernetes-list-map-keys":["k"],"default":[{},{"k":"x"}],"items":{"type":"object","properties":{"k":{"type":"string","default":"x"}}}}}}"#,
+        "V14 \"/properties/m\" bad default\n",
+    ),
+    (
+        "a default that is completed by a bad one",
+        r#"{"type":"object","properties":{"spec":{"type":"object","default":{},"properties":{"f":{"type":"integer","maximum":6,"default":7}}}}}"#,
+        r#"V14 "/properties/spec" bad default
+V14 "/properties/spec/properties/f" bad default
+"#,
+    ),
+    (
+        "a default that leaves no place for a bad one",
+        r#"{"type":"object","properties":{"spec":{"type":"object","default":{"f":1},"properties":{"f":{"type":"integer","maximum":6,"default":7}}}}}"#,
+        "V14 \"/properties/spec/properties/f\" bad default\n",
+    ),
+    (
+        "below the values of a map, and below items",
+        r#"{"type":"object","properties":{"l":{"type":"array","items":{"type":"object","properties":{"kind":{"type":"string","default":"x"},"name":{"type":"string","default":1}}}},"m":{"type":"object","additionalProperties":{"type":"object","properties":{"b":{"type":"boolean","default":"true"}}}}}}"#,
+        r#"V14 "/properties/l/items/properties/name" bad default
+V14 "/properties/m/additionalProperties/properties/b" bad default
+"#,
+    ),
+    (
+        "places in path order",
+        r#"{"type":"object","properties":{"spec-b":{"type":"string","default":1},"spec":{"type":"object","properties":{"z":{"type":"string","default":1}}}}}"#,
+        r#"V14 "/properties/spec/properties/z" bad default
+V14 "/properties/spec-b" bad default
+"#,
+    ),
+    (
+        "a bad default of a key of a map list",
+        r#"{"type":"object","properties":{"m":{"type":"array","x-kubernetes-list-type":"map","x-kubernetes-list-map-keys":["k","l"],"items":{"type":"object","properties":{"k":{"type":"string","default":"x"},"l":{"type":"integer","default":"x"}}}}}}"#,
+        "V14 \"/properties/m/items/properties/l\" bad default\n",
+    ),
+    (
+        "a bad default beside a keyword outside the profile",
+        r#"{"type":"object","properties":{"n":{"type":"integer","pattern":"x","default":"x"}}}"#,
+        "V17 \"/properties/n\" outside the profile\n",
     ),
 ];
 
 #[test]
-fn first(rt: HostRuntime) -> Result<(), Fail> {
-    for (name, schema, wanted) in &FIRST {
-        let crd = crd_of(rt.alloc(), schema)??;
-        let found = first_default(rt.alloc(), &crd.raw)?;
-        let found = match &found {
-            Some(pointer) => pointer.as_str(),
-            None => "no default",
-        };
-        is_text(&rt, found, wanted, "the first default", name);
+fn judged(rt: HostRuntime) -> Result<(), Fail> {
+    for (name, schema, out) in &JUDGED {
+        try_judged(&rt, rt.alloc(), name, schema, out)?;
     }
     Ok(())
 }

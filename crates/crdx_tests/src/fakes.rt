@@ -98,29 +98,32 @@ impl Sink for FailingSink {
 pub struct Reads {
     pub crd: u64,
     pub pools: u64,
+    pub object: u64,
     /// The standard input, or a file of another name.
     pub other: u64,
 }
 
-/// Two documents by name. Another name cannot be opened, and the standard input cannot be read.
+/// Two documents: a definition, and a second one that the file of pools, that of an object and the standard input have. A
+/// file of another name cannot be opened.
 #[derive(Drop)]
 pub struct FakeInputs<'a> {
     pub alloc: Global,
     pub crd: &'a str,
-    pub pools: &'a str,
+    pub second: &'a str,
     pub reads: Reads,
     pub failures: u64,
 }
 
 impl<'a> FakeInputs<'a> {
-    pub fn new(alloc: Global, crd: &'a str, pools: &'a str) -> FakeInputs<'a> {
+    pub fn new(alloc: Global, crd: &'a str, second: &'a str) -> FakeInputs<'a> {
         FakeInputs {
             alloc,
             crd,
-            pools,
+            second,
             reads: Reads {
                 crd: 0,
                 pools: 0,
+                object: 0,
                 other: 0,
             },
             failures: 0,
@@ -129,7 +132,7 @@ impl<'a> FakeInputs<'a> {
 }
 
 impl Inputs for FakeInputs<'_> {
-    ghost has = { λ s name read. IsReading s.crd.now read ⊎ IsReading s.pools.now read };
+    ghost has = { λ s name read. IsReading s.crd.now read ⊎ IsReading s.second.now read };
 
     ghost failures = { λ s. s.failures };
 
@@ -141,9 +144,17 @@ impl Inputs for FakeInputs<'_> {
             }
             Some("pools.json") => {
                 self.reads.pools = self.reads.pools.saturating_add(1);
-                self.pools
+                self.second
             }
-            _ => {
+            Some("object.json") => {
+                self.reads.object = self.reads.object.saturating_add(1);
+                self.second
+            }
+            None => {
+                self.reads.other = self.reads.other.saturating_add(1);
+                self.second
+            }
+            Some(_) => {
                 self.reads.other = self.reads.other.saturating_add(1);
                 self.failures = self.failures.saturating_add(1);
                 return Err(InFault::Failed);

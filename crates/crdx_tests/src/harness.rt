@@ -183,3 +183,21 @@ pub fn try_field(
     let root = format!(in alloc; r#"{{"type":"object","properties":{{"x":{schema}}}}}"#)?;
     try_judged(rt, alloc, name, root.as_str(), out)
 }
+
+/// Fails unless a command says so of an object on the standard input, by a schema, and ends with this status.
+pub fn try_object(
+    rt: &impl Abort,
+    alloc: Global,
+    name: &str,
+    command: &str,
+    schema: &str,
+    object: &str,
+    out: &str,
+    status: u8,
+) -> Result<(), AllocError> {
+    let crd = definition(alloc, schema)?;
+    let inputs = FakeInputs::new(alloc, crd.as_str(), object);
+    let output = run_on(alloc, command, inputs, FailingSink::endless(alloc))?;
+    is_answer(rt, &output, out, "", status, name);
+    Ok(())
+}

@@ -1,5 +1,5 @@
 //! Documents in files, and which inputs a run reads.
-use crate::documents::{WIDGET, ZERO_AND_ONE};
+use crate::documents::{BROKEN, WIDGET, ZERO_AND_ONE};
 use crate::fakes::{FailingSink, FakeInputs};
 use crate::harness::{is_number, is_text, run_on};
 use crdx::inputs::{InFault, Inputs, Outside};
@@ -25,7 +25,8 @@ fn said(alloc: Global, read: Result<Tree, InFault>) -> Result<String, Fail> {
     }
 }
 
-fn padded(alloc: Global, head: &str, spaces: usize) -> Result<String, Fail> {
+/// A text with so many spaces behind it.
+pub fn padded(alloc: Global, head: &str, spaces: usize) -> Result<String, Fail> {
     let mut text = String::from_str(alloc, head)?;
     for _ in 0..spaces {
         text.push(' ')?;
@@ -67,14 +68,15 @@ fn files_that_fail(rt: HostRuntime) -> Result<(), Fail> {
     Ok(())
 }
 
-// A name, a command line, a definition, and how often the definition, the pools and any other input are read.
-static READS: [(&str, &str, &str, u64, u64, u64); 6] = [
-    ("a check", "crdx check crd.json v1", WIDGET, 1, 0, 0),
+// A name, a command line, a definition, and how often the definition, the pools, the object and any other input are read.
+static READS: [(&str, &str, &str, u64, u64, u64, u64); 9] = [
+    ("a check", "crdx check crd.json v1", WIDGET, 1, 0, 0, 0),
     (
         "a sample without pools",
         "crdx sample crd.json v1",
         WIDGET,
         1,
+        0,
         0,
         0,
     ),
@@ -85,6 +87,7 @@ static READS: [(&str, &str, &str, u64, u64, u64); 6] = [
         1,
         1,
         0,
+        0,
     ),
     (
         "a sample of a definition that is refused",
@@ -93,17 +96,45 @@ static READS: [(&str, &str, &str, u64, u64, u64); 6] = [
         1,
         0,
         0,
+        0,
     ),
-    ("help", "crdx --help", WIDGET, 0, 0, 0),
-    ("no command", "crdx", WIDGET, 0, 0, 0),
+    (
+        "an object in a file",
+        "crdx prune crd.json v1 object.json",
+        WIDGET,
+        1,
+        0,
+        1,
+        0,
+    ),
+    (
+        "an object on the standard input",
+        "crdx default crd.json v1",
+        WIDGET,
+        1,
+        0,
+        0,
+        1,
+    ),
+    (
+        "an object of a schema that breaks rules",
+        "crdx validate crd.json v1 object.json",
+        BROKEN,
+        1,
+        0,
+        0,
+        0,
+    ),
+    ("help", "crdx --help", WIDGET, 0, 0, 0, 0),
+    ("no command", "crdx", WIDGET, 0, 0, 0, 0),
 ];
 
 fn try_reads(
     rt: &impl Abort,
     alloc: Global,
-    row: &(&str, &str, &str, u64, u64, u64),
+    row: &(&str, &str, &str, u64, u64, u64, u64),
 ) -> Result<(), Fail> {
-    let (name, line, crd, crds, pools, others) = *row;
+    let (name, line, crd, crds, pools, objects, others) = *row;
     let inputs = FakeInputs::new(alloc, crd, ZERO_AND_ONE);
     let output = run_on(alloc, line, inputs, FailingSink::endless(alloc))?;
     is_number(
@@ -118,6 +149,13 @@ fn try_reads(
         output.reads.pools,
         pools,
         "the reads of the pools",
+        name,
+    );
+    is_number(
+        rt,
+        output.reads.object,
+        objects,
+        "the reads of the object",
         name,
     );
     is_number(rt, output.reads.other, others, "the other reads", name);

@@ -36,8 +36,14 @@ mod pool_rows;
 #[cfg(test)]
 mod profile_rows;
 #[cfg(test)]
+mod prune_rows;
+#[cfg(test)]
 mod reading_rows;
+#[cfg(test)]
+mod refusal_rows;
 #[cfg(test)]
 mod sample_rows;
 #[cfg(test)]
 mod tree_rows;
+#[cfg(test)]
+mod validate_rows;
