@@ -1,5 +1,6 @@
 -- How the causes of a run and its status go together with what is asked of the documents at hand.
-use Rattle.std.proofs.Common.{◌≡◌, ◌≢◌, ◌⊎◌, ℕ, List, [], ◌∷◌, Option, Some, None, Bor, Ok, Err, refl, sym, ap, subst, inl, inr, take, map, string_bytes, IsSomeAnd, Bool, codes, ◌∙◌, append-nil, arith}
+use Rattle.std.proofs.Common.{◌≡◌, ◌≢◌, ◌⊎◌, ℕ, List, [], ◌∷◌, Option, Some, None, Bor, Ok, Err, refl, sym, ap, subst, inl, inr, take, map, string_bytes, IsSomeAnd, Bool, true, length, codes, ◌∙◌, append-nil, arith}
+use Rattle.std.specs.Prelude.{◌==◌}
 use Rattle.std.specs.Io.KnownBytes.{Appends, Keeps}
 use Rattle.jtree.specs.Data.{Data}
 use Rattle.jtree.specs.Internal.OrderLaws.{tree_total}
@@ -70,9 +71,9 @@ module _ (has : Documents) (unread read : ℕ) (crd version : List ℕ) where
   some_break (v ∷ vs) (b ∷ breaks) same some none = cc
 
   -- the breaks that violations tell
-  pub broken : (rules : Data → Breaking) (raw : Data) (vs : List Violation) → IsRequestedSchema has crd version raw → AreViolations (rules raw) vs → vs ≢ []
-      → (breaks : List Break) × (map told vs ≡ map told_of breaks) × HasBreaks rules has crd version breaks
-  broken rules raw vs asked are some = (are.0, are.2, (raw, asked, are.1, some_break vs are.0 are.2 some))
+  pub broken : (raw : Data) (vs : List Violation) → IsRequestedSchema has crd version raw → AreViolations (IsBroken raw) vs → vs ≢ []
+      → (breaks : List Break) × (map told vs ≡ map told_of breaks) × HasBreaks has crd version breaks
+  broken raw vs asked are some = (are.0, are.2, (raw, asked, are.1, some_break vs are.0 are.2 some))
 
 -- where there are no violations, no rule is broken
 pub none_broken : (rules : Breaking) → AreViolations rules [] → IsUnbroken rules
@@ -83,14 +84,24 @@ pub refused_schema : (raw : Data) (r : Refused) → IsRefusal raw r → IsBroken
 refused_schema raw (refusal.Violations vs) is = is
 refused_schema raw refusal.NoMemory is = tt
 
-pub refused_simple : (raw : Data) (r : SimpleRefused) → IsSimpleRefusal raw r → IsUnknownCause raw (cause_of_simple_refusal r)
-refused_simple raw (simple.Violations vs) is = is
-refused_simple raw (simple.NotYet p) is = is
-refused_simple raw simple.NoMemory is = tt
+pub none_found : (raw : Data) (vs : List Violation) → AreViolations (IsBroken raw) vs → (length vs == 0) ≡ true → IsUnbroken (IsBroken raw)
+none_found raw [] are none = none_broken (IsBroken raw) are
+none_found raw (v ∷ vs) are none = absurd (grind (arith, nat_tests))
+
+-- where no rule is broken, a refusal says no violations
+no_violations : (raw : Data) (vs : List Violation) → IsUnbroken (IsBroken raw) → AreViolations (Broken raw) vs → vs ≢ [] → ⊥
+no_violations raw [] unbroken are some = some refl
+no_violations raw (v ∷ vs) unbroken ([], are, same) some = cc
+no_violations raw (v ∷ vs) unbroken (b ∷ breaks, are, same) some = unbroken b.place b.rule (inl (are.each 0 b (omega arith)))
+
+pub refused_simple : (raw : Data) (r : SimpleRefused) → IsUnbroken (IsBroken raw) → IsSimpleRefusal raw r → IsUnknownCause raw (cause_of_simple_refusal r)
+refused_simple raw (simple.Violations vs) unbroken is = absurd (no_violations raw vs.items unbroken is.0 is.1)
+refused_simple raw (simple.NotYet p) unbroken is = (unbroken, is.1)
+refused_simple raw simple.NoMemory unbroken is = tt
 
 module _ (has : Documents) (unread read : ℕ) (arguments : ObjectArguments) where
   object_refused : (raw : Data) (cause : Cause) → IsRequestedSchema has arguments.crd.now arguments.version.now raw → IsBrokenCause raw cause → IsInputCause has unread read (Object arguments) cause
-  object_refused raw (Violations vs) asked why = let found = broken has unread read arguments.crd.now arguments.version.now IsBroken raw vs.items asked why.0 why.1 in no_object arguments found.0 found.2
+  object_refused raw (Violations vs) asked why = let found = broken has unread read arguments.crd.now arguments.version.now raw vs.items asked why.0 why.1 in no_object arguments found.0 found.2
   object_refused raw NoMemory asked why = tt
   object_refused raw _ asked why = absurd why
 
@@ -109,7 +120,7 @@ module _ (has : Documents) (unread read : ℕ) (arguments : ObjectArguments) whe
 module _ (has : Documents) (unread read : ℕ) (arguments : SampleArguments) where
   sample_refused : (raw : Data) (cause : Cause) → IsRequestedSchema has arguments.crd.now arguments.version.now raw → IsUnknownCause raw cause → IsInputCause has unread read (Sample arguments) cause
   sample_refused raw (Place input.Crd code.NotYet p) asked why = inr (inl (string_bytes p, (raw, asked, why.0, why.1)))
-  sample_refused raw (Violations vs) asked why = let found = broken has unread read arguments.crd.now arguments.version.now Broken raw vs.items asked why.0 why.1 in no_samples arguments found.0 found.2
+  sample_refused raw (Violations vs) asked why = let found = broken has unread read arguments.crd.now arguments.version.now raw vs.items asked why.0 why.1 in no_samples arguments found.0 found.2
   sample_refused raw NoMemory asked why = tt
   sample_refused raw _ asked why = absurd why
 
@@ -215,5 +226,5 @@ verdict_answers has arguments raw [] a asked are none some =
     rw (is.0, is.1) (structural arguments (raw, record { asked = asked; unbroken = none_broken (IsBroken raw) are }))
 verdict_answers has arguments raw (v ∷ vs) a asked are none some =
     let is = some (λ e. cc) in
-    let found = broken has 0 0 arguments.crd.now arguments.version.now IsBroken raw (v ∷ vs) asked are (λ e. cc) in
+    let found = broken has 0 0 arguments.crd.now arguments.version.now raw (v ∷ vs) asked are (λ e. cc) in
     rw (is.0, is.1 ∙ ap told_lines found.1) (violations arguments found.0 found.2)

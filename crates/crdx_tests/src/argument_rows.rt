@@ -170,7 +170,7 @@ static NUMBERS: [&str; 31] = [
 ];
 
 // Command lines whose help is shown on a screen of 80 columns.
-static SHOWN: [&str; 10] = [
+static SHOWN: [&str; 12] = [
     "crdx -h",
     "crdx --help",
     "crdx check -h",
@@ -178,7 +178,9 @@ static SHOWN: [&str; 10] = [
     "crdx validate -h",
     "crdx validate --help",
     "crdx prune -h",
+    "crdx prune --help",
     "crdx default -h",
+    "crdx default --help",
     "crdx sample -h",
     "crdx sample --help",
 ];

@@ -15,7 +15,7 @@ const FRACTION: &str = r#"{"spec":{"a":1.5}}"#;
 const CUT: &str = r#"{"spec":{"a""#;
 
 // A name, a command line, a definition, an object, standard output, standard error and the status.
-static ROWS: [(&str, &str, &str, &str, &str, &str, u8); 12] = [
+static ROWS: [(&str, &str, &str, &str, &str, &str, u8); 13] = [
     (
         "an object in a file",
         "crdx validate crd.json v1 object.json",
@@ -118,6 +118,15 @@ static ROWS: [(&str, &str, &str, &str, &str, &str, u8); 12] = [
     (
         "a bad default",
         "crdx default crd.json v1 object.json",
+        BAD_DEFAULT,
+        "{}",
+        "",
+        "V14 \"/properties/n\" bad default\n",
+        1,
+    ),
+    (
+        "a bad default, judged before what `sample` does not know",
+        "crdx sample crd.json v1",
         BAD_DEFAULT,
         "{}",
         "",

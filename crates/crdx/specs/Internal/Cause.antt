@@ -4,8 +4,7 @@ use Rattle.std.specs.Borrow.{Bor}
 use Rattle.std.specs.Io.KnownBytes.{Keeps}
 use Rattle.jtree.specs.Data.{Data}
 use Rattle.jtree.specs.declared.fault.JFault.TheVariants as j
-use Rattle.schema.specs.Rules.Broken.{Broken}
-use Rattle.schema.specs.Rules.Breaks.{AreViolations, BreaksNone}
+use Rattle.schema.specs.Rules.Breaks.{AreViolations, IsUnbroken}
 use Rattle.schema.specs.declared.fault.SFault.TheVariants as s
 use Rattle.stored.specs.Schemas.Accepted.{IsBroken}
 use Rattle.crdx.specs.Objects.Accepted.{IsUnknownAt}
@@ -41,8 +40,8 @@ IsBrokenCause raw _ = ⊥
 
 -- or, under `sample`, it has something that is not known
 abbrev pub IsUnknownCause : Data → Cause → Type 0
-IsUnknownCause raw (Place input.Crd code.NotYet p) = BreaksNone raw × IsUnknownAt true raw (string_bytes p)
-IsUnknownCause raw (Violations vs) = AreViolations (Broken raw) vs.items × (vs.items ≢ [])
+IsUnknownCause raw (Place input.Crd code.NotYet p) = IsUnbroken (IsBroken raw) × IsUnknownAt true raw (string_bytes p)
+IsUnknownCause raw (Violations vs) = AreViolations (IsBroken raw) vs.items × (vs.items ≢ [])
 IsUnknownCause raw NoMemory = Unit {0}
 IsUnknownCause raw _ = ⊥
 

@@ -7,7 +7,7 @@ use Rattle.jtree.specs.declared.fault.JFault.{JFault}
 use Rattle.jtree.specs.declared.fault.JFault.TheVariants as j
 use Rattle.schema.specs.Document.Crd.{IsRead}
 use Rattle.schema.specs.Document.ReadFault.{IsSound, IsReadFault}
-use Rattle.schema.specs.Rules.Breaks.{BreaksNone, IsUnbroken}
+use Rattle.schema.specs.Rules.Breaks.{IsUnbroken}
 use Rattle.schema.specs.Nodes.Node.{Node}
 use Rattle.schema.specs.Nodes.ByPlace.{AreNodesOf}
 use Rattle.schema.specs.declared.fault.SFault.{SFault}
@@ -41,10 +41,10 @@ pub record IsAcceptedSchema (has : Documents) (crd version : List ℕ) (raw : Da
 abbrev pub HasAcceptedSchema : Documents → List ℕ → List ℕ → Type 0
 HasAcceptedSchema has crd version = (raw : Data) × IsAcceptedSchema has crd version raw
 
--- `sample` takes it: none of the rules but V14 is broken, and each place is known
+-- `sample` takes it: no rule is broken, and each place is known
 pub record IsSimpleSchema (has : Documents) (crd version : List ℕ) (raw : Data) : Type 0 where
   pub asked : IsRequestedSchema has crd version raw
-  pub unbroken : BreaksNone raw
+  pub unbroken : IsUnbroken (IsBroken raw)
   pub known : AllKnown true raw
 
 abbrev pub HasSimpleSchema : Documents → List ℕ → List ℕ → Type 0
@@ -58,9 +58,9 @@ HasReadFault has crd version fault = (document : Data) × has (Some crd) (Ok doc
 abbrev pub IsCrdRefused : Documents → List ℕ → List ℕ → Type 0
 IsCrdRefused has crd version = ((fault : JFault) × (fault ≢ j.NoMemory) × has (Some crd) (Err fault)) ⊎ ((fault : SFault) × HasReadFault has crd version fault)
 
--- `sample` does not know the place of this pointer, the first such one, in a schema that breaks none of the rules but V14
+-- `sample` does not know the place of this pointer, the first such one, in a schema that breaks no rule
 abbrev pub HasFirstUnknown : Documents → List ℕ → List ℕ → List ℕ → Type 0
-HasFirstUnknown has crd version p = (raw : Data) × IsRequestedSchema has crd version raw × BreaksNone raw × IsUnknownAt true raw p
+HasFirstUnknown has crd version p = (raw : Data) × IsRequestedSchema has crd version raw × IsUnbroken (IsBroken raw) × IsUnknownAt true raw p
 
 -- the pools of the document of this name, and empty ones without a name
 abbrev pub ArePools : Documents → Option (Bor (List ℕ)) → Pools → Type 0

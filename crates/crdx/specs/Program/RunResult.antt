@@ -5,8 +5,7 @@ use Rattle.std.specs.Io.KnownBytes.{Appends, Keeps}
 use Rattle.jtree.specs.Data.{Data, text}
 use Rattle.jtree.specs.Text.{compact}
 use Rattle.schema.specs.Nodes.Node.{Node}
-use Rattle.schema.specs.Rules.Broken.{Broken}
-use Rattle.schema.specs.Rules.Breaks.{Break, Breaking, AreBreaks, Told, told_of, rule_name}
+use Rattle.schema.specs.Rules.Breaks.{Break, AreBreaks, Told, told_of, rule_name}
 use Rattle.stored.specs.Schemas.Accepted.{IsBroken}
 use Rattle.crdx.specs.Output.Line.{lines}
 use Rattle.crdx.specs.Output.PartialOutput.{IsCutBetweenLines, IsCutByFailure}
@@ -30,23 +29,22 @@ told_line t = rule_name t.rule ++ (codes " " ++ (compact (text t.pointer) ++ (co
 abbrev pub told_lines : List Told → List ℕ
 told_lines ts = flat_map told_line ts
 
--- these are all breaks of some rules in the schema that is asked for, and there are some
-abbrev pub HasBreaks : (Data → Breaking) → Documents → List ℕ → List ℕ → List Break → Type 0
-HasBreaks rules has crd version breaks = (raw : Data) × IsRequestedSchema has crd version raw × AreBreaks (rules raw) breaks × (breaks ≢ [])
+-- these are all breaks of the schema that is asked for, and there are some
+abbrev pub HasBreaks : Documents → List ℕ → List ℕ → List Break → Type 0
+HasBreaks has crd version breaks = (raw : Data) × IsRequestedSchema has crd version raw × AreBreaks (IsBroken raw) breaks × (breaks ≢ [])
 
 -- the answer to a request: the exit status, and the whole text on standard output
 pub data IsAnswer (has : Documents) : Request → ℕ → List ℕ → Type 0 where
   structural : (arguments : CheckArguments) → HasAcceptedSchema has arguments.crd.now arguments.version.now → IsAnswer has (Check arguments) 0 (codes "structural\n")
-  violations : (arguments : CheckArguments) (breaks : List Break) → HasBreaks IsBroken has arguments.crd.now arguments.version.now breaks
+  violations : (arguments : CheckArguments) (breaks : List Break) → HasBreaks has arguments.crd.now arguments.version.now breaks
       → IsAnswer has (Check arguments) 1 (told_lines (map told_of breaks))
   object : (arguments : ObjectArguments) (N : Node) (document : Data) (status : ℕ) (answer : List ℕ) → IsRequestedObject has arguments N document
       → IsObjectAnswer N document arguments.command status answer → IsAnswer has (Object arguments) status answer
   -- the violations are on standard error
-  no_object : (arguments : ObjectArguments) (breaks : List Break) → HasBreaks IsBroken has arguments.crd.now arguments.version.now breaks → IsAnswer has (Object arguments) 1 []
+  no_object : (arguments : ObjectArguments) (breaks : List Break) → HasBreaks has arguments.crd.now arguments.version.now breaks → IsAnswer has (Object arguments) 1 []
   samples : (arguments : SampleArguments) (q : Question) (items : List Data) (end : Bool) → IsRequested has arguments q → IsPage q None arguments.count items end
       → IsAnswer has (Sample arguments) 0 (lines items)
-  -- those of the rules but V14, on standard error
-  no_samples : (arguments : SampleArguments) (breaks : List Break) → HasBreaks Broken has arguments.crd.now arguments.version.now breaks → IsAnswer has (Sample arguments) 1 []
+  no_samples : (arguments : SampleArguments) (breaks : List Break) → HasBreaks has arguments.crd.now arguments.version.now breaks → IsAnswer has (Sample arguments) 1 []
   help : (said : String Global) → IsAnswer has (Help said) 0 (string_bytes said)
   usage_error : (said : String Global) → IsAnswer has (UsageError said) 2 []
 

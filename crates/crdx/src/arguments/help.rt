@@ -152,7 +152,8 @@ metadata of the object stay as they are.";
 pub(super) const PRUNE_END: &str = "Example, at the top of the repository:
   ./crdx prune examples/issuer/crd.json v1 examples/issuer/object.json
 
-`crdx --help` explains the codes of inputs that are refused, and the exit status.";
+`crdx --help` explains the codes of inputs that are refused, and the exit
+status.";
 
 pub(super) const DEFAULT: &str = "Prints an object as it is stored: pruned, and with its defaults";
 
@@ -168,7 +169,8 @@ they are. Whether the object is valid is not asked.";
 pub(super) const DEFAULT_END: &str = "Example, at the top of the repository:
   ./crdx default examples/issuer/crd.json v1 examples/issuer/object.json
 
-`crdx --help` explains the codes of inputs that are refused, and the exit status.";
+`crdx --help` explains the codes of inputs that are refused, and the exit
+status.";
 
 pub(super) const SAMPLE: &str = "Lists sample objects of a schema, one on each line";
 

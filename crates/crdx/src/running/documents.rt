@@ -2,8 +2,10 @@
 ghost use Rattle.std.specs.Prelude.{◌≡◌, true, Ok, IfOk, IfErr, OnOk};
 ghost use Rattle.jtree.specs.Data.{Data};
 ghost use Rattle.jtree.specs.View.{data_of};
-ghost use Rattle.crdx.specs.Objects.Accepted.{IsNodeAt};
+ghost use Rattle.crdx.specs.Objects.Accepted.{AllKnown, IsNodeAt};
 ghost use Rattle.schema.specs.Nodes.ByPlace.{AreNodesOf};
+ghost use Rattle.schema.specs.Rules.Breaks.{IsUnbroken};
+ghost use Rattle.stored.specs.Schemas.Accepted.{IsBroken};
 ghost use Rattle.crdx.specs.Internal.Cause.{IsUnreadCause, IsReadCause, IsBrokenCause, IsUnknownCause, IsSchemaCause, IsPoolsCause};
 ghost use Rattle.crdx.specs.Program.Requested.{IsRequestedSchema, IsAcceptedSchema, IsSimpleSchema, ArePools};
 ghost use Rattle.crdx.specs.Program.Documents.{AreAmong, file_name};
@@ -15,7 +17,7 @@ use crate::simple;
 use jtree::{JFault, Tree};
 use schema::{RawSchema, read_crd};
 use std::alloc::Global;
-use stored::{Schema, accept};
+use stored::{Schema, accept, violations};
 
 /// The schema of a version of the CustomResourceDefinition of this name, where it breaks no rule.
 pub(crate) fn accepted_schema<I: Inputs>(
@@ -46,7 +48,25 @@ pub(crate) fn simple_schema<I: Inputs>(
     ensures unfailed { OnOk result (I.failures inputs.new ≡ I.failures inputs.old) }
 {
     let raw = raw_of(alloc, crd, version, inputs)?;
-    Ok(simple::accept(alloc, raw)?)
+    match simple_of(alloc, raw) {
+        Ok(schema) => Ok(schema),
+        Err(cause) => Err(cause),
+    }
+}
+
+/// The schema, where it breaks no rule and `sample` knows all of it.
+fn simple_of(alloc: Global, raw: RawSchema) -> Result<simple::Schema, Cause>
+    ensures unbroken { OnOk result (IsUnbroken (IsBroken raw)) }
+    ensures known { OnOk result (AllKnown true raw) }
+    ensures node { IfOk result (λ schema. IsNodeAt true schema raw) }
+    ensures cause { IfErr result (IsUnknownCause raw) }
+{
+    let found = violations(alloc, &raw)?;
+    if found.as_slice().is_empty() {
+        Ok(simple::accept(alloc, raw)?)
+    } else {
+        Err(Cause::Violations(found))
+    }
 }
 
 /// The schema of a version of the CustomResourceDefinition of this name, as written.
