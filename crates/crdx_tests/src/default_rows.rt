@@ -1,6 +1,8 @@
 //! Defaults: where `check` says that one is misplaced (V15), and which place of a schema is the first with one.
-use crate::harness::{crd_of, is_text, try_judged};
-use schema::first_default;
+use crate::harness::{all_judged, crd_of, is_said};
+use schema::{RawSchema, first_default};
+use std::alloc::Global;
+use std::process::Abort;
 use std::test::Fail;
 
 // A name, a schema, and standard output.
@@ -48,10 +50,7 @@ V15 "/properties/metadata" misplaced default
 
 #[test]
 fn misplaced(rt: HostRuntime) -> Result<(), Fail> {
-    for (name, schema, out) in &MISPLACED {
-        try_judged(&rt, rt.alloc(), name, schema, out)?;
-    }
-    Ok(())
+    Ok(all_judged(&rt, rt.alloc(), &MISPLACED)?)
 }
 
 // A name, a schema, and the pointer of the first place in path order that has a default, if there is one.
@@ -88,16 +87,23 @@ static FIRST: [(&str, &str, &str); 6] = [
     ),
 ];
 
+fn said(alloc: Global, raw: &RawSchema) -> Result<String, Fail> {
+    match first_default(alloc, raw)? {
+        Some(pointer) => Ok(pointer),
+        None => Ok(String::from_str(alloc, "no default")?),
+    }
+}
+
+fn try_first(rt: &impl Abort, alloc: Global, row: &(&str, &str, &str)) -> Result<(), Fail> {
+    let (name, schema, wanted) = *row;
+    let crd = crd_of(alloc, schema)??;
+    is_said(rt, said(alloc, &crd.raw), wanted, "the first default", name)
+}
+
 #[test]
 fn first(rt: HostRuntime) -> Result<(), Fail> {
-    for (name, schema, wanted) in &FIRST {
-        let crd = crd_of(rt.alloc(), schema)??;
-        let found = first_default(rt.alloc(), &crd.raw)?;
-        let found = match &found {
-            Some(pointer) => pointer.as_str(),
-            None => "no default",
-        };
-        is_text(&rt, found, wanted, "the first default", name);
+    for row in &FIRST {
+        try_first(&rt, rt.alloc(), row)?;
     }
     Ok(())
 }
