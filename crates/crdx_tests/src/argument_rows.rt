@@ -1,7 +1,7 @@
 //! The words of the command line: what they ask for, mistakes, and help.
 use crate::documents::{WIDGET, ZERO_AND_ONE};
 use crate::fakes::{FailingSink, FakeInputs};
-use crate::harness::{Output, is_number, is_text, run_on, words_of};
+use crate::harness::{Output, holds, is_number, is_said, is_text, run_on, words_of};
 use crdx::arguments::{
     CheckArguments, ObjectArguments, ObjectCommand, Request, SampleArguments, parse_arguments,
 };
@@ -227,12 +227,14 @@ fn said(alloc: Global, request: &Request<'_>) -> Result<String, AllocError> {
     }
 }
 
-fn try_request(rt: &impl Abort, alloc: Global, row: &(&str, &str, &str)) -> Result<(), AllocError> {
-    let (name, line, wanted) = *row;
+fn asked(alloc: Global, line: &str) -> Result<String, Fail> {
     let words = words_of(alloc, line)?;
-    let found = said(alloc, &parse_arguments(alloc, words.as_slice()))?;
-    is_text(rt, found.as_str(), wanted, "what is asked", name);
-    Ok(())
+    Ok(said(alloc, &parse_arguments(alloc, words.as_slice()))?)
+}
+
+fn try_request(rt: &impl Abort, alloc: Global, row: &(&str, &str, &str)) -> Result<(), Fail> {
+    let (name, line, wanted) = *row;
+    is_said(rt, asked(alloc, line), wanted, "what is asked", name)
 }
 
 #[test]
@@ -248,13 +250,16 @@ fn run_of(alloc: Global, line: &str) -> Result<Output, AllocError> {
     run_on(alloc, line, inputs, FailingSink::endless(alloc))
 }
 
-fn try_mistake(rt: &impl Abort, alloc: Global, row: &(&str, &str, &str)) -> Result<(), AllocError> {
-    let (name, line, wanted) = *row;
-    let output = run_of(alloc, line)?;
+fn is_mistaken(rt: &impl Abort, output: &Output, wanted: &str, name: &str) {
     let err = output.err.text();
     assert!(rt; err.starts_with(wanted), "standard error of {name}: {err}");
     is_text(rt, output.out.text(), "", "standard output", name);
     is_number(rt, output.status as u64, 2, "the status", name);
+}
+
+fn try_mistake(rt: &impl Abort, alloc: Global, row: &(&str, &str, &str)) -> Result<(), AllocError> {
+    let (name, line, wanted) = *row;
+    is_mistaken(rt, &run_of(alloc, line)?, wanted, name);
     Ok(())
 }
 
@@ -266,13 +271,16 @@ fn mistakes(rt: HostRuntime) -> Result<(), Fail> {
     Ok(())
 }
 
-fn try_help(rt: &impl Abort, alloc: Global, row: &(&str, &str, &str)) -> Result<(), AllocError> {
-    let (name, line, wanted) = *row;
-    let output = run_of(alloc, line)?;
+fn is_helped(rt: &impl Abort, output: &Output, wanted: &str, name: &str) {
     let out = output.out.text();
     assert!(rt; out.contains(wanted), "standard output of {name}: {out}");
     is_text(rt, output.err.text(), "", "standard error", name);
     is_number(rt, output.status as u64, 0, "the status", name);
+}
+
+fn try_help(rt: &impl Abort, alloc: Global, row: &(&str, &str, &str)) -> Result<(), AllocError> {
+    let (name, line, wanted) = *row;
+    is_helped(rt, &run_of(alloc, line)?, wanted, name);
     Ok(())
 }
 
@@ -293,19 +301,17 @@ fn is_explained(text: &str, answer: &str) -> bool {
     false
 }
 
-fn is_line(rt: &impl Abort, text: &str, answer: &str) {
-    assert!(rt; is_explained(text, answer), "no line for {answer}");
+fn are_explained(rt: &impl Abort, text: &str, answers: &[&str]) {
+    for answer in answers {
+        holds(rt, is_explained(text, answer), "a line", answer);
+    }
 }
 
 #[test]
 fn help_explains_each_answer(rt: HostRuntime) -> Result<(), Fail> {
     let output = run_of(rt.alloc(), "crdx --help")?;
-    for answer in ANSWERS {
-        is_line(&rt, output.out.text(), answer);
-    }
-    for number in NUMBERS {
-        is_line(&rt, output.out.text(), number);
-    }
+    are_explained(&rt, output.out.text(), &ANSWERS);
+    are_explained(&rt, output.out.text(), &NUMBERS);
     Ok(())
 }
 
@@ -318,11 +324,15 @@ fn is_narrow(rt: &impl Abort, text: &str) {
     }
 }
 
+fn try_shown(rt: &impl Abort, alloc: Global, line: &str) -> Result<(), AllocError> {
+    is_narrow(rt, run_of(alloc, line)?.out.text());
+    Ok(())
+}
+
 #[test]
 fn help_fits_80_columns(rt: HostRuntime) -> Result<(), Fail> {
-    for line in SHOWN {
-        let output = run_of(rt.alloc(), line)?;
-        is_narrow(&rt, output.out.text());
+    for line in &SHOWN {
+        try_shown(&rt, rt.alloc(), line)?;
     }
     Ok(())
 }

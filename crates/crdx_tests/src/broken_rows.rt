@@ -111,6 +111,29 @@ fn try_failing(
     try_sink(rt, alloc, row, sink, out, err.as_str(), 4)
 }
 
+/// The sink takes at most so many bytes a call, and is full behind so many.
+fn try_room(
+    rt: &impl Abort,
+    alloc: Global,
+    row: &(&str, &str, &str, &str, &str, u8),
+    room: usize,
+    step: usize,
+) -> Result<(), AllocError> {
+    let sink = FailingSink::new(alloc, room, step, false);
+    try_failing(rt, alloc, row, sink, beginning(row.3, room))
+}
+
+/// The sink takes at most so many bytes a call, and just all.
+fn try_whole(
+    rt: &impl Abort,
+    alloc: Global,
+    row: &(&str, &str, &str, &str, &str, u8),
+    step: usize,
+) -> Result<(), AllocError> {
+    let sink = FailingSink::new(alloc, row.3.len(), step, false);
+    try_sink(rt, alloc, row, sink, row.3, row.4, row.5)
+}
+
 /// The sink takes at most so many bytes a call, and is full behind each byte in turn; then it takes all.
 fn try_step(
     rt: &impl Abort,
@@ -118,13 +141,20 @@ fn try_step(
     row: &(&str, &str, &str, &str, &str, u8),
     step: usize,
 ) -> Result<(), AllocError> {
-    let (_name, _command, _crd, whole, err, status) = *row;
-    for room in 0..whole.len() {
-        let sink = FailingSink::new(alloc, room, step, false);
-        try_failing(rt, alloc, row, sink, beginning(whole, room))?;
+    for room in 0..row.3.len() {
+        try_room(rt, alloc, row, room, step)?;
     }
-    let sink = FailingSink::new(alloc, whole.len(), step, false);
-    try_sink(rt, alloc, row, sink, whole, err, status)
+    try_whole(rt, alloc, row, step)
+}
+
+fn try_steps(
+    rt: &impl Abort,
+    alloc: Global,
+    row: &(&str, &str, &str, &str, &str, u8),
+) -> Result<(), AllocError> {
+    try_step(rt, alloc, row, usize::MAX)?;
+    try_step(rt, alloc, row, 7)?;
+    try_step(rt, alloc, row, 1)
 }
 
 fn try_unflushed(
@@ -141,9 +171,7 @@ fn try_unflushed(
 #[test]
 fn cut_runs(rt: HostRuntime) -> Result<(), Fail> {
     for row in &RUNS {
-        for step in [usize::MAX, 7, 1] {
-            try_step(&rt, rt.alloc(), row, step)?;
-        }
+        try_steps(&rt, rt.alloc(), row)?;
     }
     Ok(())
 }
@@ -163,17 +191,41 @@ const ONE_INTEGER: &str =
 const MOST_INTEGERS: &str =
     r#"{"integers":[0,1,2,3,4,5,6,7,8,9,10,11,12,13,14,15,16,17,18,19,20,21,22,23,24,25,26,27,28,29,30,31,32,33,34,35,36,37,38,39,40,41,42,43,44,45,46,47,48,49,50,51,52,53,54,55,56,57,58,59,60,61,62,63]}"#;
 
+fn push_integer(alloc: Global, lines: &mut String, n: u32) -> Result<(), AllocError> {
+    let line = format!(in alloc; "{{\"a\":{n}}}\n")?;
+    lines.push_str(line.as_str())
+}
+
 /// The samples of `ONE_INTEGER` over `MOST_INTEGERS`: more lines than a sink is handed at once.
 fn many_lines(alloc: Global) -> Result<String, AllocError> {
     let mut lines = String::from_str(alloc, "{}\n")?;
     for n in 0..64 {
-        let line = format!(in alloc; "{{\"a\":{n}}}\n")?;
-        lines.push_str(line.as_str())?;
+        push_integer(alloc, &mut lines, n)?;
     }
     Ok(lines)
 }
 
 const MANY_LINES: u64 = 65;
+
+fn wanted_of(lines: &str, room: usize) -> Result<Walked, WFault> {
+    if room < lines.len() {
+        Err(WFault::Write(count_lines(beginning(lines, room))))
+    } else {
+        Ok(Walked {
+            lines: MANY_LINES,
+            end: true,
+        })
+    }
+}
+
+fn is_walk(
+    rt: &impl Abort,
+    found: Result<Walked, WFault>,
+    wanted: Result<Walked, WFault>,
+    name: &str,
+) {
+    assert_eq!(rt; found, wanted, "the answer of {name}");
+}
 
 /// Exactly what there is room for is out, and the whole lines of that are counted.
 fn try_walk(
@@ -181,23 +233,23 @@ fn try_walk(
     alloc: Global,
     plan: &Plan,
     lines: &str,
-    mut sink: FailingSink,
-    name: &str,
+    room: usize,
+    row: &(&str, usize, bool),
 ) {
-    let out = beginning(lines, sink.left);
-    let is_cut = sink.left < lines.len();
-    let wanted = if is_cut {
-        Err(WFault::Write(count_lines(out)))
-    } else {
-        Ok(Walked {
-            lines: MANY_LINES,
-            end: true,
-        })
-    };
+    let (name, step, answers_zero) = *row;
+    let mut sink = FailingSink::new(alloc, room, step, answers_zero);
     let walked = walk(alloc, plan, None, u32::MAX, &mut sink);
-    assert_eq!(rt; walked, wanted, "the answer of {name}");
-    is_text(rt, sink.text(), out, "the output", name);
-    is_number(rt, sink.failures, is_cut as u64, "the failures", name);
+    is_walk(rt, walked, wanted_of(lines, room), name);
+    is_text(rt, sink.text(), beginning(lines, room), "the output", name);
+    let failures = (room < lines.len()) as u64;
+    is_number(rt, sink.failures, failures, "the failures", name);
+}
+
+/// A sink is full behind each byte in turn.
+fn try_walks(rt: &impl Abort, alloc: Global, plan: &Plan, lines: &str, row: &(&str, usize, bool)) {
+    for room in 0..=lines.len() {
+        try_walk(rt, alloc, plan, lines, room, row);
+    }
 }
 
 // A name, how many bytes the sink takes a call, and whether it answers 0 when it is full, or fails.
@@ -207,17 +259,12 @@ static SINKS: [(&str, usize, bool); 3] = [
     ("a sink of a byte a call that takes no more", 1, true),
 ];
 
-/// A sink is full behind each byte in turn.
 #[test]
 fn walks(rt: HostRuntime) -> Result<(), Fail> {
-    let alloc = rt.alloc();
-    let plan = plan_of(alloc, ONE_INTEGER, MOST_INTEGERS, 2)?;
-    let lines = many_lines(alloc)?;
-    for (name, step, answers_zero) in SINKS {
-        for left in 0..=lines.len() {
-            let sink = FailingSink::new(alloc, left, step, answers_zero);
-            try_walk(&rt, alloc, &plan, lines.as_str(), sink, name);
-        }
+    let plan = plan_of(rt.alloc(), ONE_INTEGER, MOST_INTEGERS, 2)?;
+    let lines = many_lines(rt.alloc())?;
+    for row in &SINKS {
+        try_walks(&rt, rt.alloc(), &plan, lines.as_str(), row);
     }
     Ok(())
 }
@@ -229,11 +276,16 @@ static FAULTS: [(WFault, &str); 3] = [
     (WFault::Write(3), "W3"),
 ];
 
+fn try_code(rt: &impl Abort, alloc: Global, fault: &WFault, code: &str) -> Result<(), Fail> {
+    let text = fault.to_string(alloc)?;
+    is_text(rt, text.as_str(), code, "the code", "a fault of a walk");
+    Ok(())
+}
+
 #[test]
 fn codes_of_faults(rt: HostRuntime) -> Result<(), Fail> {
     for (fault, code) in &FAULTS {
-        let text = fault.to_string(rt.alloc())?;
-        is_text(&rt, text.as_str(), code, "the code", "a fault of a walk");
+        try_code(&rt, rt.alloc(), fault, code)?;
     }
     Ok(())
 }
@@ -274,31 +326,33 @@ fn is_flushed<W: Sink>(rt: &impl Abort, sink: &mut W, wanted: Result<(), SinkFau
     assert_eq!(rt; flushed, wanted, "a flush of {name}");
 }
 
+fn try_failing_writer(rt: &impl Abort) {
+    let mut sink = Plain::new(Broken {
+        answers_zero: false,
+    });
+    let name = "a writer that fails";
+    is_put(rt, &mut sink, b"x", Err(SinkFault::Failed), name);
+    is_flushed(rt, &mut sink, Err(SinkFault::Failed), name);
+}
+
+fn try_idle_writer(rt: &impl Abort) {
+    let mut sink = Plain::new(Broken { answers_zero: true });
+    is_put(rt, &mut sink, b"x", Ok(0), "a writer that takes nothing");
+    is_put(rt, &mut sink, b"", Ok(0), "a writer that takes nothing");
+}
+
+fn try_whole_writer(rt: &impl Abort, bytes: &mut Vec<u8>) {
+    let mut sink = Plain::new(bytes);
+    is_put(rt, &mut sink, b"xyz", Ok(3), "a writer that takes all");
+    is_flushed(rt, &mut sink, Ok(()), "a writer that takes all");
+}
+
 /// Sinks of writers that fail, that take nothing, and that take all.
 #[test]
 fn writers(rt: HostRuntime) {
-    let mut failing = Plain::new(Broken {
-        answers_zero: false,
-    });
-    is_put(
-        &rt,
-        &mut failing,
-        b"x",
-        Err(SinkFault::Failed),
-        "a writer that fails",
-    );
-    is_flushed(
-        &rt,
-        &mut failing,
-        Err(SinkFault::Failed),
-        "a writer that fails",
-    );
-    let mut idle = Plain::new(Broken { answers_zero: true });
-    is_put(&rt, &mut idle, b"x", Ok(0), "a writer that takes nothing");
-    is_put(&rt, &mut idle, b"", Ok(0), "a writer that takes nothing");
+    try_failing_writer(&rt);
+    try_idle_writer(&rt);
     let mut bytes = Vec::new(rt.alloc());
-    let mut whole = Plain::new(&mut bytes);
-    is_put(&rt, &mut whole, b"xyz", Ok(3), "a writer that takes all");
-    is_flushed(&rt, &mut whole, Ok(()), "a writer that takes all");
+    try_whole_writer(&rt, &mut bytes);
     assert_eq!(rt; bytes.as_slice(), b"xyz".as_slice(), "what is written");
 }

@@ -1,5 +1,5 @@
 //! Defaults: where `check` says that one is misplaced (V15), and where that one is bad (V14).
-use crate::harness::try_judged;
+use crate::harness::all_judged;
 use std::test::Fail;
 
 // A name, a schema, and standard output.
@@ -52,10 +52,7 @@ V15 "/properties/metadata" misplaced default
 
 #[test]
 fn misplaced(rt: HostRuntime) -> Result<(), Fail> {
-    for (name, schema, out) in &MISPLACED {
-        try_judged(&rt, rt.alloc(), name, schema, out)?;
-    }
-    Ok(())
+    Ok(all_judged(&rt, rt.alloc(), &MISPLACED)?)
 }
 
 // A name, a schema whose defaults are in their places, and standard output.
@@ -150,8 +147,5 @@ V14 "/properties/spec-b" bad default
 
 #[test]
 fn judged(rt: HostRuntime) -> Result<(), Fail> {
-    for (name, schema, out) in &JUDGED {
-        try_judged(&rt, rt.alloc(), name, schema, out)?;
-    }
-    Ok(())
+    Ok(all_judged(&rt, rt.alloc(), &JUDGED)?)
 }

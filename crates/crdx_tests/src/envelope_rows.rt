@@ -1,5 +1,9 @@
 //! The envelope of a resource, taken off and put back.
+use crate::harness::is_tree;
+use crdx::{join, split};
 use jtree::Tree;
+use std::alloc::Global;
+use std::process::Abort;
 use std::test::Fail;
 
 // A name, a tree, and what is left of it without the envelope.
@@ -45,33 +49,58 @@ static ROWS: [(&str, &str, &str); 11] = [
     ("a text", r#""kind""#, r#""kind""#),
 ];
 
+// The envelope is taken off a tree and put back.
+fn try_parts(
+    rt: &impl Abort,
+    alloc: Global,
+    tree: &mut Tree,
+    row: &(&str, &str, &str),
+) -> Result<(), Fail> {
+    let (name, whole, body) = *row;
+    let parts = split(tree);
+    is_tree(rt, alloc, tree, body, "the body", name)?;
+    join(tree, parts)?;
+    is_tree(rt, alloc, tree, whole, "the whole", name)
+}
+
+fn try_row(rt: &impl Abort, alloc: Global, row: &(&str, &str, &str)) -> Result<(), Fail> {
+    let mut tree = Tree::from_bytes(alloc, row.1.as_bytes())?;
+    try_parts(rt, alloc, &mut tree, row)
+}
+
 #[test]
 fn split_and_join(rt: HostRuntime) -> Result<(), Fail> {
-    let alloc = rt.alloc();
-    for (name, whole, body) in ROWS {
-        let mut tree = Tree::from_bytes(alloc, whole.as_bytes())?;
-        let parts = crdx::split(&mut tree);
-        let left = tree.to_text(alloc)?;
-        assert_eq!(rt; left.as_str(), body, "the body at {name}");
-        crdx::join(&mut tree, parts)?;
-        let again = tree.to_text(alloc)?;
-        assert_eq!(rt; again.as_str(), whole, "the whole at {name}");
+    for row in &ROWS {
+        try_row(&rt, rt.alloc(), row)?;
     }
     Ok(())
+}
+
+fn move_envelope(whole: &mut Tree, other: &mut Tree) -> Result<(), Fail> {
+    Ok(join(other, split(whole))?)
+}
+
+fn joined_over(alloc: Global, whole: &str, other: &str) -> Result<Tree, Fail> {
+    let mut whole = Tree::from_bytes(alloc, whole.as_bytes())?;
+    let mut other = Tree::from_bytes(alloc, other.as_bytes())?;
+    move_envelope(&mut whole, &mut other)?;
+    Ok(other)
 }
 
 // What is put back takes the place of what stands under the same names.
 #[test]
 fn join_over(rt: HostRuntime) -> Result<(), Fail> {
-    let alloc = rt.alloc();
-    let mut whole = Tree::from_bytes(alloc, br#"{"kind":"Widget","metadata":{},"spec":1}"#)?;
-    let parts = crdx::split(&mut whole);
-    let mut other = Tree::from_bytes(alloc, br#"{"apiVersion":"v1","kind":0,"spec":2}"#)?;
-    crdx::join(&mut other, parts)?;
-    let text = other.to_text(alloc)?;
-    assert_eq!(rt;
-        text.as_str(),
-        r#"{"apiVersion":"v1","kind":"Widget","metadata":{},"spec":2}"#
-    );
-    Ok(())
+    let tree = joined_over(
+        rt.alloc(),
+        r#"{"kind":"Widget","metadata":{},"spec":1}"#,
+        r#"{"apiVersion":"v1","kind":0,"spec":2}"#,
+    )?;
+    is_tree(
+        &rt,
+        rt.alloc(),
+        &tree,
+        r#"{"apiVersion":"v1","kind":"Widget","metadata":{},"spec":2}"#,
+        "the tree",
+        "an envelope over another",
+    )
 }

@@ -54,6 +54,38 @@ pub fn is_number(rt: &impl Abort, found: u64, wanted: u64, what: &str, name: &st
     assert_eq!(rt; found, wanted, "{what} of {name}");
 }
 
+/// Fails unless it holds.
+pub fn holds(rt: &impl Abort, is: bool, what: &str, name: &str) {
+    assert!(rt; is, "{what} of {name}");
+}
+
+/// Fails unless there is a text, and it is the one that is wanted.
+pub fn is_said(
+    rt: &impl Abort,
+    found: Result<String, Fail>,
+    wanted: &str,
+    what: &str,
+    name: &str,
+) -> Result<(), Fail> {
+    let found = found?;
+    is_text(rt, found.as_str(), wanted, what, name);
+    Ok(())
+}
+
+/// Fails unless the tree has the text that is wanted.
+pub fn is_tree(
+    rt: &impl Abort,
+    alloc: Global,
+    found: &Tree,
+    wanted: &str,
+    what: &str,
+    name: &str,
+) -> Result<(), Fail> {
+    let text = found.to_text(alloc)?;
+    is_text(rt, text.as_str(), wanted, what, name);
+    Ok(())
+}
+
 /// Fails unless a run wrote these texts and ended with this status.
 pub fn is_answer(rt: &impl Abort, output: &Output, out: &str, err: &str, status: u8, name: &str) {
     is_text(rt, output.out.text(), out, "standard output", name);
@@ -74,15 +106,19 @@ pub fn definition(alloc: Global, schema: &str) -> Result<String, AllocError> {
 
 /// The accepted schema of version `v1` of a CustomResourceDefinition.
 pub fn schema_of(alloc: Global, crd: &str) -> Result<Schema, Fail> {
-    let document = Tree::from_bytes(alloc, crd.as_bytes())?;
-    let crd = read_crd(alloc, &document, "v1")?;
+    let crd = read(alloc, crd)??;
     Ok(accept(alloc, crd.raw)?)
+}
+
+/// The pools of a document.
+pub fn pools_of(alloc: Global, pools: &str) -> Result<Pools, Fail> {
+    let document = Tree::from_bytes(alloc, pools.as_bytes())?;
+    Ok(Pools::read(alloc, &document)?)
 }
 
 /// The plan of two documents and a node limit.
 pub fn plan_of(alloc: Global, crd: &str, pools: &str, limit: u32) -> Result<Plan, Fail> {
-    let document = Tree::from_bytes(alloc, pools.as_bytes())?;
-    let pools = Pools::read(alloc, &document)?;
+    let pools = pools_of(alloc, pools)?;
     Ok(Plan::new(schema_of(alloc, crd)?, pools, limit)?)
 }
 
@@ -117,6 +153,13 @@ fn fault_text(alloc: Global, fault: &SFault) -> Result<String, AllocError> {
     }
 }
 
+fn said_of(alloc: Global, schema: &str) -> Result<String, Fail> {
+    match crd_of(alloc, schema)? {
+        Ok(_crd) => Ok(String::from_str(alloc, "read")?),
+        Err(fault) => Ok(fault_text(alloc, &fault)?),
+    }
+}
+
 /// Fails unless reading a schema says so: `read`, or the code and the pointer of the fault.
 pub fn try_schema(
     rt: &impl Abort,
@@ -125,17 +168,7 @@ pub fn try_schema(
     schema: &str,
     wanted: &str,
 ) -> Result<(), Fail> {
-    match crd_of(alloc, schema)? {
-        Ok(_crd) => is_text(rt, "read", wanted, "what is read", name),
-        Err(fault) => is_text(
-            rt,
-            fault_text(alloc, &fault)?.as_str(),
-            wanted,
-            "what is read",
-            name,
-        ),
-    }
-    Ok(())
+    is_said(rt, said_of(alloc, schema), wanted, "what is read", name)
 }
 
 /// Fails unless `check` says so of a schema, and ends with this status.
@@ -199,5 +232,41 @@ pub fn try_object(
     let inputs = FakeInputs::new(alloc, crd.as_str(), object);
     let output = run_on(alloc, command, inputs, FailingSink::endless(alloc))?;
     is_answer(rt, &output, out, "", status, name);
+    Ok(())
+}
+
+/// As `try_judged`, of each row: a name, a schema, and standard output.
+pub fn all_judged(
+    rt: &impl Abort,
+    alloc: Global,
+    rows: &[(&str, &str, &str)],
+) -> Result<(), AllocError> {
+    for (name, schema, out) in rows {
+        try_judged(rt, alloc, name, schema, out)?;
+    }
+    Ok(())
+}
+
+/// As `try_field`, of each row: a name, the schema of a field, and standard output.
+pub fn all_fields(
+    rt: &impl Abort,
+    alloc: Global,
+    rows: &[(&str, &str, &str)],
+) -> Result<(), AllocError> {
+    for (name, schema, out) in rows {
+        try_field(rt, alloc, name, schema, out)?;
+    }
+    Ok(())
+}
+
+/// As `try_schema`, of each row: a name, a schema, and what is answered.
+pub fn all_schemas(
+    rt: &impl Abort,
+    alloc: Global,
+    rows: &[(&str, &str, &str)],
+) -> Result<(), Fail> {
+    for (name, schema, wanted) in rows {
+        try_schema(rt, alloc, name, schema, wanted)?;
+    }
     Ok(())
 }

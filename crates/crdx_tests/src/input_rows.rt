@@ -1,10 +1,10 @@
 //! Documents in files, and which inputs a run reads.
 use crate::documents::{BROKEN, WIDGET, ZERO_AND_ONE};
-use crate::fakes::{FailingSink, FakeInputs};
-use crate::harness::{is_number, is_text, run_on};
+use crate::fakes::{FailingSink, FakeInputs, Reads};
+use crate::harness::{is_number, is_said, run_on};
 use crdx::inputs::{InFault, Inputs, Outside};
 use jtree::Tree;
-use std::alloc::Global;
+use std::alloc::{AllocError, Global};
 use std::process::Abort;
 use std::rt::Files;
 use std::test::Fail;
@@ -34,6 +34,21 @@ pub fn padded(alloc: Global, head: &str, spaces: usize) -> Result<String, Fail> 
     Ok(text)
 }
 
+fn said_of_file(rt: &(impl Files + Input + AllocGlobal), path: &str) -> Result<String, Fail> {
+    said(rt.alloc(), Outside::new(rt).tree(Some(path)))
+}
+
+fn said_of_text(
+    rt: &(impl Files + Input + AllocGlobal),
+    path: &str,
+    text: &str,
+) -> Result<String, Fail> {
+    fs::write(rt, path, text)?;
+    let found = said_of_file(rt, path)?;
+    fs::remove_file(rt, path)?;
+    Ok(found)
+}
+
 fn try_file(
     rt: &(impl Files + Input + AllocGlobal + Abort),
     path: &str,
@@ -41,11 +56,8 @@ fn try_file(
 ) -> Result<(), Fail> {
     let (name, head, spaces, wanted) = *row;
     let text = padded(rt.alloc(), head, spaces)?;
-    fs::write(rt, path, text.as_str())?;
-    let found = said(rt.alloc(), Outside::new(rt).tree(Some(path)))?;
-    fs::remove_file(rt, path)?;
-    is_text(rt, found.as_str(), wanted, "what is read", name);
-    Ok(())
+    let found = said_of_text(rt, path, text.as_str());
+    is_said(rt, found, wanted, "what is read", name)
 }
 
 #[test]
@@ -59,13 +71,20 @@ fn files(rt: HostRuntime) -> Result<(), Fail> {
     Ok(())
 }
 
+fn try_no_file(rt: &(impl Files + Input + AllocGlobal + Abort), name: &str) -> Result<(), Fail> {
+    is_said(
+        rt,
+        said_of_file(rt, name),
+        "read failed",
+        "what is read",
+        name,
+    )
+}
+
 #[test]
 fn files_that_fail(rt: HostRuntime) -> Result<(), Fail> {
-    for name in ["no such file", "/"] {
-        let found = said(rt.alloc(), Outside::new(&rt).tree(Some(name)))?;
-        is_text(&rt, found.as_str(), "read failed", "what is read", name);
-    }
-    Ok(())
+    try_no_file(&rt, "no such file")?;
+    try_no_file(&rt, "/")
 }
 
 // A name, a command line, a definition, and how often the definition, the pools, the object and any other input are read.
@@ -129,36 +148,22 @@ static READS: [(&str, &str, &str, u64, u64, u64, u64); 9] = [
     ("no command", "crdx", WIDGET, 0, 0, 0, 0),
 ];
 
+fn is_read(rt: &impl Abort, reads: Reads, row: &(&str, &str, &str, u64, u64, u64, u64)) {
+    let (name, _line, _crd, crds, pools, objects, others) = *row;
+    is_number(rt, reads.crd, crds, "the reads of the definition", name);
+    is_number(rt, reads.pools, pools, "the reads of the pools", name);
+    is_number(rt, reads.object, objects, "the reads of the object", name);
+    is_number(rt, reads.other, others, "the other reads", name);
+}
+
 fn try_reads(
     rt: &impl Abort,
     alloc: Global,
     row: &(&str, &str, &str, u64, u64, u64, u64),
-) -> Result<(), Fail> {
-    let (name, line, crd, crds, pools, objects, others) = *row;
-    let inputs = FakeInputs::new(alloc, crd, ZERO_AND_ONE);
-    let output = run_on(alloc, line, inputs, FailingSink::endless(alloc))?;
-    is_number(
-        rt,
-        output.reads.crd,
-        crds,
-        "the reads of the definition",
-        name,
-    );
-    is_number(
-        rt,
-        output.reads.pools,
-        pools,
-        "the reads of the pools",
-        name,
-    );
-    is_number(
-        rt,
-        output.reads.object,
-        objects,
-        "the reads of the object",
-        name,
-    );
-    is_number(rt, output.reads.other, others, "the other reads", name);
+) -> Result<(), AllocError> {
+    let inputs = FakeInputs::new(alloc, row.2, ZERO_AND_ONE);
+    let output = run_on(alloc, row.1, inputs, FailingSink::endless(alloc))?;
+    is_read(rt, output.reads, row);
     Ok(())
 }
 

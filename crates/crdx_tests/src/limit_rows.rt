@@ -1,7 +1,15 @@
 //! Schemas at the limits and past them.
 use crate::harness::try_schema;
 use std::alloc::{AllocError, Global};
+use std::process::Abort;
 use std::test::Fail;
+
+fn push_entry(text: &mut String, i: usize, entry: &str) -> Result<(), AllocError> {
+    if i > 0 {
+        text.push(',')?;
+    }
+    text.push_str(entry)
+}
 
 // A text, an entry so many times, with commas between, and another text.
 fn repeated(
@@ -13,10 +21,7 @@ fn repeated(
 ) -> Result<String, AllocError> {
     let mut text = String::from_str(alloc, head)?;
     for i in 0..count {
-        if i > 0 {
-            text.push(',')?;
-        }
-        text.push_str(entry)?;
+        push_entry(&mut text, i, entry)?;
     }
     text.push_str(tail)?;
     Ok(text)
@@ -94,24 +99,34 @@ static LISTS: [(&str, &str, &str, usize, &str, &str); 10] = [
     ),
 ];
 
+fn try_list(
+    rt: &impl Abort,
+    alloc: Global,
+    row: &(&str, &str, &str, usize, &str, &str),
+) -> Result<(), Fail> {
+    let (name, head, entry, count, tail, wanted) = *row;
+    let schema = repeated(alloc, head, entry, count, tail)?;
+    try_schema(rt, alloc, name, schema.as_str(), wanted)
+}
+
 #[test]
 fn lists(rt: HostRuntime) -> Result<(), Fail> {
-    for (name, head, entry, count, tail, wanted) in LISTS {
-        let schema = repeated(rt.alloc(), head, entry, count, tail)?;
-        try_schema(&rt, rt.alloc(), name, schema.as_str(), wanted)?;
+    for row in &LISTS {
+        try_list(&rt, rt.alloc(), row)?;
     }
     Ok(())
+}
+
+fn push_property(alloc: Global, text: &mut String, i: usize) -> Result<(), AllocError> {
+    let property = format!(in alloc; r#""p{i}":{{}}"#)?;
+    push_entry(text, i, property.as_str())
 }
 
 // Properties `p0`, `p1` and so on.
 fn properties(alloc: Global, count: usize) -> Result<String, AllocError> {
     let mut text = String::from_str(alloc, r#"{"properties":{"q":{"properties":{"#)?;
     for i in 0..count {
-        if i > 0 {
-            text.push(',')?;
-        }
-        let property = format!(in alloc; r#""p{i}":{{}}"#)?;
-        text.push_str(property.as_str())?;
+        push_property(alloc, &mut text, i)?;
     }
     text.push_str("}}}}")?;
     Ok(text)
@@ -123,11 +138,16 @@ static PROPERTIES: [(&str, usize, &str); 2] = [
     ("33 properties", 33, "S4 /properties/q/properties"),
 ];
 
+fn try_properties(rt: &impl Abort, alloc: Global, row: &(&str, usize, &str)) -> Result<(), Fail> {
+    let (name, count, wanted) = *row;
+    let schema = properties(alloc, count)?;
+    try_schema(rt, alloc, name, schema.as_str(), wanted)
+}
+
 #[test]
 fn properties_at_the_limit(rt: HostRuntime) -> Result<(), Fail> {
-    for (name, count, wanted) in PROPERTIES {
-        let schema = properties(rt.alloc(), count)?;
-        try_schema(&rt, rt.alloc(), name, schema.as_str(), wanted)?;
+    for row in &PROPERTIES {
+        try_properties(&rt, rt.alloc(), row)?;
     }
     Ok(())
 }
@@ -155,11 +175,16 @@ static DEPTHS: [(&str, usize, &str); 2] = [
     ),
 ];
 
+fn try_depth(rt: &impl Abort, alloc: Global, row: &(&str, usize, &str)) -> Result<(), Fail> {
+    let (name, depth, wanted) = *row;
+    let schema = nested(alloc, depth)?;
+    try_schema(rt, alloc, name, schema.as_str(), wanted)
+}
+
 #[test]
 fn steps_at_the_limit(rt: HostRuntime) -> Result<(), Fail> {
-    for (name, depth, wanted) in DEPTHS {
-        let schema = nested(rt.alloc(), depth)?;
-        try_schema(&rt, rt.alloc(), name, schema.as_str(), wanted)?;
+    for row in &DEPTHS {
+        try_depth(&rt, rt.alloc(), row)?;
     }
     Ok(())
 }

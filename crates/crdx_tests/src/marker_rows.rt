@@ -1,5 +1,5 @@
 //! `check` on the markers of lists and maps (V10 to V13): what breaks a rule, beside what does not.
-use crate::harness::{try_field, try_judged};
+use crate::harness::{all_fields, all_judged};
 use std::test::Fail;
 
 // List types: a name, the schema of a field, and standard output.
@@ -340,56 +340,35 @@ V13 "/properties/x" bad map type
 
 #[test]
 fn list_types(rt: HostRuntime) -> Result<(), Fail> {
-    for (name, schema, out) in &LIST_TYPES {
-        try_field(&rt, rt.alloc(), name, schema, out)?;
-    }
-    Ok(())
+    Ok(all_fields(&rt, rt.alloc(), &LIST_TYPES)?)
 }
 
 #[test]
 fn keys_elsewhere(rt: HostRuntime) -> Result<(), Fail> {
-    for (name, schema, out) in &KEYS_ELSEWHERE {
-        try_field(&rt, rt.alloc(), name, schema, out)?;
-    }
-    Ok(())
+    Ok(all_fields(&rt, rt.alloc(), &KEYS_ELSEWHERE)?)
 }
 
 #[test]
 fn map_lists(rt: HostRuntime) -> Result<(), Fail> {
-    for (name, schema, out) in &MAP_LISTS {
-        try_field(&rt, rt.alloc(), name, schema, out)?;
-    }
-    Ok(())
+    Ok(all_fields(&rt, rt.alloc(), &MAP_LISTS)?)
 }
 
 #[test]
 fn items(rt: HostRuntime) -> Result<(), Fail> {
-    for (name, schema, out) in &ITEMS {
-        try_field(&rt, rt.alloc(), name, schema, out)?;
-    }
-    Ok(())
+    Ok(all_fields(&rt, rt.alloc(), &ITEMS)?)
 }
 
 #[test]
 fn keys(rt: HostRuntime) -> Result<(), Fail> {
-    for (name, schema, out) in &KEYS {
-        try_field(&rt, rt.alloc(), name, schema, out)?;
-    }
-    Ok(())
+    Ok(all_fields(&rt, rt.alloc(), &KEYS)?)
 }
 
 #[test]
 fn sets(rt: HostRuntime) -> Result<(), Fail> {
-    for (name, schema, out) in &SETS {
-        try_field(&rt, rt.alloc(), name, schema, out)?;
-    }
-    Ok(())
+    Ok(all_fields(&rt, rt.alloc(), &SETS)?)
 }
 
 #[test]
 fn map_types(rt: HostRuntime) -> Result<(), Fail> {
-    for (name, schema, out) in &MAP_TYPES {
-        try_judged(&rt, rt.alloc(), name, schema, out)?;
-    }
-    Ok(())
+    Ok(all_judged(&rt, rt.alloc(), &MAP_TYPES)?)
 }

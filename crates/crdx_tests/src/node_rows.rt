@@ -1,8 +1,9 @@
 //! The node of a schema, or why it has none.
-use crate::harness::{crd_of, is_text};
+use crate::harness::{crd_of, is_said};
 use crate::node_text::node_text;
-use schema::{Node, Sort, nodes_are_unique, shape};
+use schema::{Node, RawSchema, Shape, Sort, nodes_are_unique, shape};
 use std::alloc::Global;
+use std::process::Abort;
 use std::test::Fail;
 
 // The node of the first field of an object.
@@ -16,16 +17,25 @@ fn first_field(root: &Node) -> Result<&Node, Fail> {
     }
 }
 
+fn shape_said(alloc: Global, shape: &Shape, is_field: bool) -> Result<String, Fail> {
+    if is_field {
+        node_text(alloc, first_field(shape.root())?)
+    } else {
+        node_text(alloc, shape.root())
+    }
+}
+
+fn raw_said(alloc: Global, raw: &RawSchema, is_field: bool) -> Result<String, Fail> {
+    match shape(alloc, raw) {
+        Ok(shape) => shape_said(alloc, &shape, is_field),
+        Err(refused) => Ok(refused.to_string(alloc)?),
+    }
+}
+
 // The text of the node of the root, or of its first field; or the refusal.
 fn said(alloc: Global, schema: &str, is_field: bool) -> Result<String, Fail> {
     let crd = crd_of(alloc, schema)??;
-    let shape = match shape(alloc, &crd.raw) {
-        Ok(shape) => shape,
-        Err(refused) => return Ok(refused.to_string(alloc)?),
-    };
-    let root = shape.root();
-    let node = if is_field { first_field(root)? } else { root };
-    node_text(alloc, node)
+    raw_said(alloc, &crd.raw, is_field)
 }
 
 // A name, the schema of a field, and its node or its refusal.
@@ -156,21 +166,35 @@ static ROOTS: [(&str, &str, &str); 6] = [
     ),
 ];
 
+fn try_field(rt: &impl Abort, alloc: Global, row: &(&str, &str, &str)) -> Result<(), Fail> {
+    let (name, schema, wanted) = *row;
+    let root = format!(in alloc; r#"{{"type":"object","properties":{{"x":{schema}}}}}"#)?;
+    is_said(
+        rt,
+        said(alloc, root.as_str(), true),
+        wanted,
+        "the node",
+        name,
+    )
+}
+
 #[test]
 fn nodes(rt: HostRuntime) -> Result<(), Fail> {
-    for (name, schema, wanted) in &NODES {
-        let root = format!(in rt.alloc(); r#"{{"type":"object","properties":{{"x":{schema}}}}}"#)?;
-        let found = said(rt.alloc(), root.as_str(), true)?;
-        is_text(&rt, found.as_str(), wanted, "the node", name);
+    for row in &NODES {
+        try_field(&rt, rt.alloc(), row)?;
     }
     Ok(())
 }
 
+fn try_root(rt: &impl Abort, alloc: Global, row: &(&str, &str, &str)) -> Result<(), Fail> {
+    let (name, schema, wanted) = *row;
+    is_said(rt, said(alloc, schema, false), wanted, "the node", name)
+}
+
 #[test]
 fn roots(rt: HostRuntime) -> Result<(), Fail> {
-    for (name, schema, wanted) in &ROOTS {
-        let found = said(rt.alloc(), schema, false)?;
-        is_text(&rt, found.as_str(), wanted, "the node", name);
+    for row in &ROOTS {
+        try_root(&rt, rt.alloc(), row)?;
     }
     Ok(())
 }

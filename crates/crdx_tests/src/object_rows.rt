@@ -1,11 +1,11 @@
 //! What becomes of objects under a schema: whether they are valid, and how they are pruned and completed.
-use crate::harness::{crd_of, is_text, shape_of, shape_of_field};
-use jtree::{JFault, Tree};
+use crate::harness::{crd_of, is_said, is_tree, shape_of, shape_of_field};
+use jtree::Tree;
 use schema::{Node, RawSchema, Refused, Sort, Violation};
 use std::alloc::{AllocError, Global};
 use std::process::Abort;
 use std::test::Fail;
-use stored::{Fault, accept, complete, faults, is_stored, prune, valid, violations};
+use stored::{Fault, Schema, accept, complete, faults, is_stored, prune, valid, violations};
 
 // A name, the schema of a field `x`, and values of the field: those that are valid there, and those that are not.
 static VALUES: [(&str, &str, &str, &str); 24] = [
@@ -459,168 +459,266 @@ fn first_field(root: &Node) -> &Node {
     }
 }
 
+fn passes(node: &Node, value: &Tree, stored: bool) -> bool {
+    if stored {
+        is_stored(node, value)
+    } else {
+        valid(node, value)
+    }
+}
+
+fn push_tree(alloc: Global, out: &mut String, tree: &Tree) -> Result<(), Fail> {
+    let text = tree.to_text(alloc)?;
+    Ok(out.push_str(text.as_str())?)
+}
+
 /// The values of a list, one behind another, of which a test answers otherwise than is wanted: whether they are stored as they
 /// are, or valid.
 fn misjudged(
     alloc: Global,
     node: &Node,
-    values: &str,
+    values: &Tree,
     stored: bool,
     wanted: bool,
 ) -> Result<String, Fail> {
     let mut others = String::new(alloc);
-    if let Tree::List(items) = Tree::from_bytes(alloc, values.as_bytes())? {
+    if let Tree::List(items) = values {
         for item in &items.items {
-            let found = if stored {
-                is_stored(node, item)
-            } else {
-                valid(node, item)
-            };
-            if found != wanted {
-                others.push_str(item.to_text(alloc)?.as_str())?;
+            if passes(node, item, stored) != wanted {
+                push_tree(alloc, &mut others, item)?;
             }
         }
     }
     Ok(others)
 }
 
+fn misjudged_of(
+    alloc: Global,
+    node: &Node,
+    values: &str,
+    stored: bool,
+    wanted: bool,
+) -> Result<String, Fail> {
+    let values = Tree::from_bytes(alloc, values.as_bytes())?;
+    misjudged(alloc, node, &values, stored, wanted)
+}
+
 /// Fails unless the test answers so of the values of a row at a node.
-fn try_values(
+fn try_node(
     rt: &impl Abort,
     alloc: Global,
     node: &Node,
     row: &(&str, &str, &str, &str),
     stored: bool,
 ) -> Result<(), Fail> {
-    let (name, _schema, good, bad) = *row;
-    let others = misjudged(alloc, node, good, stored, true)?;
-    is_text(rt, others.as_str(), "", "values that pass", name);
-    let others = misjudged(alloc, node, bad, stored, false)?;
-    is_text(rt, others.as_str(), "", "other values", name);
-    Ok(())
+    let (name, _field, good, bad) = *row;
+    let others = misjudged_of(alloc, node, good, stored, true);
+    is_said(rt, others, "", "values that pass", name)?;
+    let others = misjudged_of(alloc, node, bad, stored, false);
+    is_said(rt, others, "", "other values", name)
+}
+
+/// Fails unless the test answers so of the values of a row.
+fn try_values(
+    rt: &impl Abort,
+    alloc: Global,
+    row: &(&str, &str, &str, &str),
+    stored: bool,
+) -> Result<(), Fail> {
+    let shape = shape_of_field(alloc, row.1)?;
+    try_node(rt, alloc, first_field(shape.root()), row, stored)
 }
 
 #[test]
 fn values(rt: HostRuntime) -> Result<(), Fail> {
     for row in &VALUES {
-        let shape = shape_of_field(rt.alloc(), row.1)?;
-        try_values(&rt, rt.alloc(), first_field(shape.root()), row, false)?;
-    }
-    for row in &STORED {
-        let shape = shape_of_field(rt.alloc(), row.1)?;
-        try_values(&rt, rt.alloc(), first_field(shape.root()), row, true)?;
+        try_values(&rt, rt.alloc(), row, false)?;
     }
     Ok(())
+}
+
+#[test]
+fn stored_values(rt: HostRuntime) -> Result<(), Fail> {
+    for row in &STORED {
+        try_values(&rt, rt.alloc(), row, true)?;
+    }
+    Ok(())
+}
+
+fn accepted(alloc: Global, schema: &str) -> Result<Schema, Fail> {
+    let crd = crd_of(alloc, schema)??;
+    Ok(accept(alloc, crd.raw)?)
 }
 
 #[test]
 fn accepted_root(rt: HostRuntime) -> Result<(), Fail> {
-    let raw = crd_of(rt.alloc(), BODY.1)??.raw;
-    let schema = accept(rt.alloc(), raw)?;
-    try_values(&rt, rt.alloc(), schema.root(), &BODY, false)
+    let schema = accepted(rt.alloc(), BODY.1)?;
+    try_node(&rt, rt.alloc(), schema.root(), &BODY, false)
 }
 
-/// The pruned form of an object.
-fn pruned(alloc: Global, node: &Node, object: &str) -> Result<String, JFault> {
+fn pruned_tree(alloc: Global, node: &Node, object: &str) -> Result<Tree, Fail> {
     let mut tree = Tree::from_bytes(alloc, object.as_bytes())?;
     prune(node, &mut tree);
-    tree.to_text(alloc)
+    Ok(tree)
 }
 
-/// The completed form of an object.
-fn completed(alloc: Global, node: &Node, object: &str) -> Result<String, Fail> {
+fn completed_tree(alloc: Global, node: &Node, object: &str) -> Result<Tree, Fail> {
     let tree = Tree::from_bytes(alloc, object.as_bytes())?;
-    Ok(complete(alloc, node, &tree)?.to_text(alloc)?)
+    Ok(complete(alloc, node, &tree)?)
+}
+
+fn try_pruned(
+    rt: &impl Abort,
+    alloc: Global,
+    node: &Node,
+    object: &str,
+    wanted: &str,
+    name: &str,
+) -> Result<(), Fail> {
+    let tree = pruned_tree(alloc, node, object)?;
+    is_tree(rt, alloc, &tree, wanted, "the pruned form", name)
+}
+
+fn try_completed(
+    rt: &impl Abort,
+    alloc: Global,
+    node: &Node,
+    object: &str,
+    wanted: &str,
+    name: &str,
+) -> Result<(), Fail> {
+    let tree = completed_tree(alloc, node, object)?;
+    is_tree(rt, alloc, &tree, wanted, "the completed form", name)
+}
+
+fn try_forms(
+    rt: &impl Abort,
+    alloc: Global,
+    node: &Node,
+    row: &(&str, &str, &str, &str, &str),
+) -> Result<(), Fail> {
+    let (name, _schema, object, pruned, completed) = *row;
+    try_pruned(rt, alloc, node, object, pruned, name)?;
+    try_completed(rt, alloc, node, object, completed, name)
+}
+
+fn try_form(
+    rt: &impl Abort,
+    alloc: Global,
+    row: &(&str, &str, &str, &str, &str),
+) -> Result<(), Fail> {
+    let shape = shape_of(alloc, row.1)?;
+    try_forms(rt, alloc, shape.root(), row)
 }
 
 #[test]
 fn forms(rt: HostRuntime) -> Result<(), Fail> {
-    for (name, schema, object, wanted_pruned, wanted_completed) in &FORMS {
-        let shape = shape_of(rt.alloc(), schema)?;
-        is_text(
-            &rt,
-            pruned(rt.alloc(), shape.root(), object)?.as_str(),
-            wanted_pruned,
-            "the pruned form",
-            name,
-        );
-        is_text(
-            &rt,
-            completed(rt.alloc(), shape.root(), object)?.as_str(),
-            wanted_completed,
-            "the completed form",
-            name,
-        );
+    for row in &FORMS {
+        try_form(&rt, rt.alloc(), row)?;
     }
     Ok(())
 }
 
-/// The faults of an object: a number and a pointer a line.
-fn faulty(alloc: Global, node: &Node, object: &str) -> Result<String, Fail> {
+fn faults_of(alloc: Global, node: &Node, object: &str) -> Result<Vec<Fault>, Fail> {
     let tree = Tree::from_bytes(alloc, object.as_bytes())?;
+    Ok(faults(alloc, node, &tree)?)
+}
+
+fn push_fault(alloc: Global, lines: &mut String, fault: &Fault) -> Result<(), AllocError> {
+    let Fault { path, number } = fault;
+    let line = format!(in alloc; "{number} {path}\n")?;
+    lines.push_str(line.as_str())
+}
+
+fn fault_lines(alloc: Global, found: &[Fault]) -> Result<String, AllocError> {
     let mut lines = String::new(alloc);
-    for fault in &faults(alloc, node, &tree)? {
-        let Fault { path, number } = fault;
-        let line = format!(in alloc; "{number} {path}\n")?;
-        lines.push_str(line.as_str())?;
+    for fault in found {
+        push_fault(alloc, &mut lines, fault)?;
     }
     Ok(lines)
 }
 
+/// The faults of an object: a number and a pointer a line.
+fn faulty(alloc: Global, node: &Node, object: &str) -> Result<String, Fail> {
+    let found = faults_of(alloc, node, object)?;
+    Ok(fault_lines(alloc, found.as_slice())?)
+}
+
+fn try_object(
+    rt: &impl Abort,
+    alloc: Global,
+    node: &Node,
+    row: &(&str, &str, &str, &str),
+) -> Result<(), Fail> {
+    let (name, _schema, object, wanted) = *row;
+    is_said(rt, faulty(alloc, node, object), wanted, "the faults", name)
+}
+
+fn try_faults(rt: &impl Abort, alloc: Global, row: &(&str, &str, &str, &str)) -> Result<(), Fail> {
+    let shape = shape_of(alloc, row.1)?;
+    try_object(rt, alloc, shape.root(), row)
+}
+
 #[test]
 fn all_faults(rt: HostRuntime) -> Result<(), Fail> {
-    for (name, schema, object, wanted) in &FAULTS {
-        let shape = shape_of(rt.alloc(), schema)?;
-        is_text(
-            &rt,
-            faulty(rt.alloc(), shape.root(), object)?.as_str(),
-            wanted,
-            "the faults",
-            name,
-        );
+    for row in &FAULTS {
+        try_faults(&rt, rt.alloc(), row)?;
     }
     Ok(())
+}
+
+fn push_violation(
+    alloc: Global,
+    lines: &mut String,
+    violation: &Violation,
+) -> Result<(), AllocError> {
+    let Violation { pointer, rule } = violation;
+    let line = format!(in alloc; "{rule} {pointer}\n")?;
+    lines.push_str(line.as_str())
 }
 
 /// All that is broken: a rule and a pointer a line.
 fn lines_of(alloc: Global, broken: &[Violation]) -> Result<String, AllocError> {
     let mut lines = String::new(alloc);
     for violation in broken {
-        let Violation { pointer, rule } = violation;
-        let line = format!(in alloc; "{rule} {pointer}\n")?;
-        lines.push_str(line.as_str())?;
+        push_violation(alloc, &mut lines, violation)?;
     }
     Ok(lines)
 }
 
+fn broken_lines(alloc: Global, raw: &RawSchema) -> Result<String, Fail> {
+    let broken = violations(alloc, raw)?;
+    Ok(lines_of(alloc, broken.as_slice())?)
+}
+
 /// What `accept` answers of a schema.
-fn answer(alloc: Global, raw: RawSchema) -> Result<String, AllocError> {
+fn answer(alloc: Global, raw: RawSchema) -> Result<String, Fail> {
     match accept(alloc, raw) {
         Ok(_schema) => Ok(String::new(alloc)),
-        Err(Refused::Violations(broken)) => lines_of(alloc, broken.as_slice()),
-        Err(Refused::NoMemory) => Err(AllocError),
+        Err(Refused::Violations(broken)) => Ok(lines_of(alloc, broken.as_slice())?),
+        Err(Refused::NoMemory) => Err(Fail::from(AllocError)),
     }
+}
+
+fn try_broken(
+    rt: &impl Abort,
+    alloc: Global,
+    raw: &RawSchema,
+    row: &(&str, &str, &str),
+) -> Result<(), Fail> {
+    is_said(rt, broken_lines(alloc, raw), row.2, "what is broken", row.0)
+}
+
+fn try_default(rt: &impl Abort, alloc: Global, row: &(&str, &str, &str)) -> Result<(), Fail> {
+    let crd = crd_of(alloc, row.1)??;
+    try_broken(rt, alloc, &crd.raw, row)?;
+    is_said(rt, answer(alloc, crd.raw), row.2, "the answer", row.0)
 }
 
 #[test]
 fn defaults(rt: HostRuntime) -> Result<(), Fail> {
-    for (name, schema, wanted) in &DEFAULTS {
-        let raw = crd_of(rt.alloc(), schema)??.raw;
-        let broken = violations(rt.alloc(), &raw)?;
-        is_text(
-            &rt,
-            lines_of(rt.alloc(), broken.as_slice())?.as_str(),
-            wanted,
-            "what is broken",
-            name,
-        );
-        is_text(
-            &rt,
-            answer(rt.alloc(), raw)?.as_str(),
-            wanted,
-            "the answer",
-            name,
-        );
+    for row in &DEFAULTS {
+        try_default(&rt, rt.alloc(), row)?;
     }
     Ok(())
 }

@@ -1,9 +1,8 @@
 //! Documents of pools, and what is said of those that are refused.
 use crate::documents::{TEN_LINES, WIDGET};
 use crate::fakes::{FailingSink, FakeInputs};
-use crate::harness::{is_answer, run_on};
+use crate::harness::{is_answer, pools_of, run_on};
 use crdx::plan::Pools;
-use jtree::Tree;
 use std::alloc::{AllocError, Global};
 use std::process::Abort;
 use std::test::Fail;
@@ -67,7 +66,7 @@ fn try_pools(
 
 #[test]
 fn refused_pools(rt: HostRuntime) -> Result<(), Fail> {
-    for (name, pools, err) in REFUSED {
+    for (name, pools, err) in &REFUSED {
         try_pools(&rt, rt.alloc(), name, pools, "", err, 3)?;
     }
     Ok(())
@@ -97,25 +96,41 @@ fn zeros_and(alloc: Global, zeros: usize, last: &str) -> Result<String, AllocErr
     Ok(document)
 }
 
+fn try_long(
+    rt: &impl Abort,
+    alloc: Global,
+    row: &(&str, usize, &str, &str, &str, u8),
+) -> Result<(), AllocError> {
+    let (name, zeros, last, out, err, status) = *row;
+    let pools = zeros_and(alloc, zeros, last)?;
+    try_pools(rt, alloc, name, pools.as_str(), out, err, status)
+}
+
 #[test]
 fn long_pools(rt: HostRuntime) -> Result<(), Fail> {
-    for (name, zeros, last, out, err, status) in LONG {
-        let pools = zeros_and(rt.alloc(), zeros, last)?;
-        try_pools(&rt, rt.alloc(), name, pools.as_str(), out, err, status)?;
+    for row in &LONG {
+        try_long(&rt, rt.alloc(), row)?;
     }
+    Ok(())
+}
+
+fn is_pool(rt: &impl Abort, pools: &Pools, wanted: &[i64], document: &str) {
+    assert_eq!(rt; pools.integers(), wanted, "the integers of {document}");
+}
+
+fn try_integers(
+    rt: &impl Abort,
+    alloc: Global,
+    document: &str,
+    wanted: &[i64],
+) -> Result<(), Fail> {
+    is_pool(rt, &pools_of(alloc, document)?, wanted, document);
     Ok(())
 }
 
 /// Repeats and the order are kept.
 #[test]
 fn pools_as_written(rt: HostRuntime) -> Result<(), Fail> {
-    for (document, wanted) in [
-        ("{}", [].as_slice()),
-        (r#"{"integers":[0,-1,0]}"#, [0, -1, 0].as_slice()),
-    ] {
-        let tree = Tree::from_bytes(rt.alloc(), document.as_bytes())?;
-        let pools = Pools::read(rt.alloc(), &tree)?;
-        assert_eq!(rt; pools.integers(), wanted, "the integers of {document}");
-    }
-    Ok(())
+    try_integers(&rt, rt.alloc(), "{}", &[])?;
+    try_integers(&rt, rt.alloc(), r#"{"integers":[0,-1,0]}"#, &[0, -1, 0])
 }

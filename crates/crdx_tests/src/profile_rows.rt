@@ -1,5 +1,5 @@
 //! `check` on junctors and the profile (V16 and V17): what breaks a rule, beside what does not.
-use crate::harness::{try_field, try_judged};
+use crate::harness::{all_fields, all_judged};
 use std::test::Fail;
 
 // Junctors: a name, a schema, and standard output.
@@ -496,72 +496,45 @@ V17 "/properties/x" outside the profile
 
 #[test]
 fn junctors(rt: HostRuntime) -> Result<(), Fail> {
-    for (name, schema, out) in &JUNCTORS {
-        try_judged(&rt, rt.alloc(), name, schema, out)?;
-    }
-    Ok(())
+    Ok(all_judged(&rt, rt.alloc(), &JUNCTORS)?)
 }
 
 #[test]
 fn roots(rt: HostRuntime) -> Result<(), Fail> {
-    for (name, schema, out) in &ROOTS {
-        try_judged(&rt, rt.alloc(), name, schema, out)?;
-    }
-    Ok(())
+    Ok(all_judged(&rt, rt.alloc(), &ROOTS)?)
 }
 
 #[test]
 fn root_keywords(rt: HostRuntime) -> Result<(), Fail> {
-    for (name, schema, out) in &ROOT_KEYWORDS {
-        try_judged(&rt, rt.alloc(), name, schema, out)?;
-    }
-    Ok(())
+    Ok(all_judged(&rt, rt.alloc(), &ROOT_KEYWORDS)?)
 }
 
 #[test]
 fn types(rt: HostRuntime) -> Result<(), Fail> {
-    for (name, schema, out) in &TYPES {
-        try_judged(&rt, rt.alloc(), name, schema, out)?;
-    }
-    Ok(())
+    Ok(all_judged(&rt, rt.alloc(), &TYPES)?)
 }
 
 #[test]
 fn unknown_fields(rt: HostRuntime) -> Result<(), Fail> {
-    for (name, schema, out) in &UNKNOWN_FIELDS {
-        try_field(&rt, rt.alloc(), name, schema, out)?;
-    }
-    Ok(())
+    Ok(all_fields(&rt, rt.alloc(), &UNKNOWN_FIELDS)?)
 }
 
 #[test]
 fn keywords(rt: HostRuntime) -> Result<(), Fail> {
-    for (name, schema, out) in &KEYWORDS {
-        try_judged(&rt, rt.alloc(), name, schema, out)?;
-    }
-    Ok(())
+    Ok(all_judged(&rt, rt.alloc(), &KEYWORDS)?)
 }
 
 #[test]
 fn required(rt: HostRuntime) -> Result<(), Fail> {
-    for (name, schema, out) in &REQUIRED {
-        try_field(&rt, rt.alloc(), name, schema, out)?;
-    }
-    Ok(())
+    Ok(all_fields(&rt, rt.alloc(), &REQUIRED)?)
 }
 
 #[test]
 fn required_at_the_root(rt: HostRuntime) -> Result<(), Fail> {
-    for (name, schema, out) in &REQUIRED_AT_THE_ROOT {
-        try_judged(&rt, rt.alloc(), name, schema, out)?;
-    }
-    Ok(())
+    Ok(all_judged(&rt, rt.alloc(), &REQUIRED_AT_THE_ROOT)?)
 }
 
 #[test]
 fn values(rt: HostRuntime) -> Result<(), Fail> {
-    for (name, schema, out) in &VALUES {
-        try_judged(&rt, rt.alloc(), name, schema, out)?;
-    }
-    Ok(())
+    Ok(all_judged(&rt, rt.alloc(), &VALUES)?)
 }

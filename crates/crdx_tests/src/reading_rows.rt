@@ -1,5 +1,6 @@
 //! Definitions that are read or refused, and the forms of the keywords of their schemas.
-use crate::harness::{read, try_schema};
+use crate::harness::{all_schemas, is_said, read};
+use schema::Crd;
 use std::alloc::Global;
 use std::process::Abort;
 use std::test::Fail;
@@ -69,11 +70,7 @@ static DEFINITIONS: [(&str, &str, &str); 13] = [
     ("a list", "[]", "S1"),
 ];
 
-fn said(alloc: Global, document: &str) -> Result<String, Fail> {
-    let crd = match read(alloc, document)? {
-        Ok(crd) => crd,
-        Err(fault) => return Ok(fault.to_string(alloc)?),
-    };
+fn crd_text(alloc: Global, crd: &Crd) -> Result<String, Fail> {
     let schema = crd.raw.tree().to_text(alloc)?;
     let group = crd.group.as_str();
     let kind = crd.kind.as_str();
@@ -81,11 +78,16 @@ fn said(alloc: Global, document: &str) -> Result<String, Fail> {
     Ok(format!(in alloc; "{group} {kind} {version} {schema}")?)
 }
 
+fn said(alloc: Global, document: &str) -> Result<String, Fail> {
+    match read(alloc, document)? {
+        Ok(crd) => crd_text(alloc, &crd),
+        Err(fault) => Ok(fault.to_string(alloc)?),
+    }
+}
+
 fn try_definition(rt: &impl Abort, alloc: Global, row: &(&str, &str, &str)) -> Result<(), Fail> {
     let (name, document, wanted) = *row;
-    let found = said(alloc, document)?;
-    assert_eq!(rt; found.as_str(), wanted, "what is read of {name}");
-    Ok(())
+    is_said(rt, said(alloc, document), wanted, "what is read", name)
 }
 
 #[test]
@@ -258,40 +260,25 @@ static FIRST_BREAKS: [(&str, &str, &str); 6] = [
 
 #[test]
 fn forms(rt: HostRuntime) -> Result<(), Fail> {
-    for (name, schema, wanted) in &FORMS {
-        try_schema(&rt, rt.alloc(), name, schema, wanted)?;
-    }
-    Ok(())
+    all_schemas(&rt, rt.alloc(), &FORMS)
 }
 
 #[test]
 fn texts(rt: HostRuntime) -> Result<(), Fail> {
-    for (name, schema, wanted) in &TEXTS {
-        try_schema(&rt, rt.alloc(), name, schema, wanted)?;
-    }
-    Ok(())
+    all_schemas(&rt, rt.alloc(), &TEXTS)
 }
 
 #[test]
 fn schemas(rt: HostRuntime) -> Result<(), Fail> {
-    for (name, schema, wanted) in &SCHEMAS {
-        try_schema(&rt, rt.alloc(), name, schema, wanted)?;
-    }
-    Ok(())
+    all_schemas(&rt, rt.alloc(), &SCHEMAS)
 }
 
 #[test]
 fn numbers(rt: HostRuntime) -> Result<(), Fail> {
-    for (name, schema, wanted) in &NUMBERS {
-        try_schema(&rt, rt.alloc(), name, schema, wanted)?;
-    }
-    Ok(())
+    all_schemas(&rt, rt.alloc(), &NUMBERS)
 }
 
 #[test]
 fn first_breaks(rt: HostRuntime) -> Result<(), Fail> {
-    for (name, schema, wanted) in &FIRST_BREAKS {
-        try_schema(&rt, rt.alloc(), name, schema, wanted)?;
-    }
-    Ok(())
+    all_schemas(&rt, rt.alloc(), &FIRST_BREAKS)
 }
