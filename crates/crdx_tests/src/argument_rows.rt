@@ -232,7 +232,7 @@ fn is_explained(text: &str, answer: &str) -> bool {
 
 fn are_explained(rt: &impl Abort, text: &str) {
     for answer in &ANSWERS {
-        holds(rt, is_explained(text, answer), "a line", answer);
+        holds(rt, is_explained(text, answer), "the line", answer);
     }
 }
 
