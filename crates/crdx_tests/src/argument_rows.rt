@@ -303,7 +303,7 @@ fn is_explained(text: &str, answer: &str) -> bool {
 
 fn are_explained(rt: &impl Abort, text: &str, answers: &[&str]) {
     for answer in answers {
-        holds(rt, is_explained(text, answer), "a line", answer);
+        holds(rt, is_explained(text, answer), "the line", answer);
     }
 }
 

@@ -5,6 +5,7 @@ use crate::harness::{is_number, is_said, run_on};
 use crdx::inputs::{InFault, Inputs, Outside};
 use jtree::Tree;
 use std::alloc::{AllocError, Global};
+use std::env::Env;
 use std::process::Abort;
 use std::rt::Files;
 use std::test::Fail;
@@ -60,15 +61,22 @@ fn try_file(
     is_said(rt, found, wanted, "what is read", name)
 }
 
-#[test]
-fn files(rt: HostRuntime) -> Result<(), Fail> {
-    let folder = env::temp_dir(&rt)?;
-    let id = process::id(rt.process());
-    let path = format!(in rt.alloc(); "{}/crdx_tests_{id}.json", folder.display())?;
+fn path_of(rt: &(impl Env + AllocGlobal), id: u32) -> Result<String, Fail> {
+    let folder = env::temp_dir(rt)?;
+    Ok(format!(in rt.alloc(); "{}/crdx_tests_{id}.json", folder.display())?)
+}
+
+fn try_files(rt: &(impl Files + Input + AllocGlobal + Abort), path: &str) -> Result<(), Fail> {
     for row in &FILES {
-        try_file(&rt, path.as_str(), row)?;
+        try_file(rt, path, row)?;
     }
     Ok(())
+}
+
+#[test]
+fn files(rt: HostRuntime) -> Result<(), Fail> {
+    let path = path_of(&rt, process::id(rt.process()))?;
+    try_files(&rt, path.as_str())
 }
 
 fn try_no_file(rt: &(impl Files + Input + AllocGlobal + Abort), name: &str) -> Result<(), Fail> {

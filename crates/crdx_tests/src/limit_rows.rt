@@ -152,16 +152,19 @@ fn properties_at_the_limit(rt: HostRuntime) -> Result<(), Fail> {
     Ok(())
 }
 
+fn push_times(text: &mut String, part: &str, times: usize) -> Result<(), AllocError> {
+    for _ in 0..times {
+        text.push_str(part)?;
+    }
+    Ok(())
+}
+
 // A schema of lists in lists, so many deep.
 fn nested(alloc: Global, depth: usize) -> Result<String, AllocError> {
     let mut text = String::new(alloc);
-    for _ in 0..depth {
-        text.push_str(r#"{"items":"#)?;
-    }
+    push_times(&mut text, r#"{"items":"#, depth)?;
     text.push_str("{}")?;
-    for _ in 0..depth {
-        text.push('}')?;
-    }
+    push_times(&mut text, "}", depth)?;
     Ok(text)
 }
 

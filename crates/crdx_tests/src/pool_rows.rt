@@ -86,13 +86,17 @@ static LONG: [(&str, usize, &str, &str, &str, u8); 3] = [
     ),
 ];
 
-fn zeros_and(alloc: Global, zeros: usize, last: &str) -> Result<String, AllocError> {
-    let mut document = String::from_str(alloc, "{\"integers\":[")?;
+fn push_zeros_and(document: &mut String, zeros: usize, last: &str) -> Result<(), AllocError> {
     for _ in 0..zeros {
         document.push_str("0,")?;
     }
     document.push_str(last)?;
-    document.push_str("]}")?;
+    document.push_str("]}")
+}
+
+fn zeros_and(alloc: Global, zeros: usize, last: &str) -> Result<String, AllocError> {
+    let mut document = String::from_str(alloc, "{\"integers\":[")?;
+    push_zeros_and(&mut document, zeros, last)?;
     Ok(document)
 }
 

@@ -2,7 +2,7 @@
 use crate::harness::{holds, is_number, is_said, is_text, is_tree};
 use jtree::{JFault, Text, Tree, order_in_words, order_is_total, push_index, push_name};
 use serde_json::Value;
-use std::alloc::Global;
+use std::alloc::{AllocError, Global};
 use std::process::Abort;
 use std::test::Fail;
 
@@ -519,14 +519,18 @@ fn texts_of_a_list(rt: HostRuntime) -> Result<(), Fail> {
 }
 
 // A list of 500,000 times 0, and this digit.
-fn zeros_and(alloc: Global, last: u8) -> Result<Tree, Fail> {
-    let mut bytes = Vec::new(alloc);
+fn push_zeros_and(bytes: &mut Vec<u8>, last: u8) -> Result<(), AllocError> {
     bytes.push(b'[')?;
     for _ in 0..500_000 {
         bytes.extend_from_slice(b"0,")?;
     }
     bytes.push(last)?;
-    bytes.push(b']')?;
+    Ok(bytes.push(b']')?)
+}
+
+fn zeros_and(alloc: Global, last: u8) -> Result<Tree, Fail> {
+    let mut bytes = Vec::new(alloc);
+    push_zeros_and(&mut bytes, last)?;
     Ok(Tree::from_bytes(alloc, bytes.as_slice())?)
 }
 
