@@ -21,8 +21,7 @@ use Rattle.jtree.specs.declared.value.Tree.TheVariants as code
 use Rattle.jtree.specs.Kind.{is_integer, is_object}
 use Rattle.jtree.specs.PathOrder.{path_cmp, IsFirst}
 use Rattle.jtree.specs.Internal.PathLaws.{not_before_root}
-use Rattle.crdx.specs.Samples.Pools.{BreaksForm, no_object, other_member, no_list, no_integer, HasForm, integers_of_items, integers_of, pools_of}
-use Rattle.crdx.specs.Samples.Over.{Pools}
+use Rattle.crdx.specs.Samples.Pools.{BreaksForm, no_object, other_member, no_list, no_integer, HasForm, integers_of_items}
 use Rattle.crdx.specs.Internal.PoolForm.{other_item, pool_break, below_name, or_else, members_break, IsBreakFault}
 use Rattle.crdx.specs.Samples.PoolFault.{IsPoolsFault}
 use Rattle.crdx.specs.declared.plan.fault.PFault.{PFault}
