@@ -5,7 +5,10 @@ use schema::{Node, RawSchema, Refused, Sort, Violation};
 use std::alloc::{AllocError, Global};
 use std::process::Abort;
 use std::test::Fail;
-use stored::{Fault, Schema, accept, complete, faults, is_stored, prune, valid, violations};
+use stored::{
+    Fault, Schema, accept, complete, everywhere_by_steps, faults, is_stored, prune, valid,
+    violations,
+};
 
 // A name, the schema of a field `x`, and values of the field: those that are valid there, and those that are not.
 static VALUES: [(&str, &str, &str, &str); 24] = [
@@ -553,6 +556,7 @@ fn accepted(alloc: Global, schema: &str) -> Result<Schema, Fail> {
 #[test]
 fn accepted_root(rt: HostRuntime) -> Result<(), Fail> {
     let schema = accepted(rt.alloc(), BODY.1)?;
+    everywhere_by_steps();
     try_node(&rt, rt.alloc(), schema.root(), &BODY, false)
 }
 

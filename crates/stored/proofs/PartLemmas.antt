@@ -48,3 +48,18 @@ kept_everywhere Holds step N v h (s ∷ path) M w e = elim (step_cases N v s) [
 -- what holds everywhere holds everywhere below a step
 pub holds_below : (Holds : Node → Data → Type 0) (N : Node) (v : Data) (s : Step) (M : Node) (w : Data) → Everywhere Holds N v → leads N v s ≡ Some (at M w) → Everywhere Holds M w
 holds_below Holds N v s M w h is path K x e = h (s ∷ path) K x (rw is e)
+
+-- so what holds everywhere holds here, and everywhere below each step
+pub everywhere_down : (Holds : Node → Data → Type 0) (N : Node) (v : Data) → Everywhere Holds N v
+    → Holds N v × ((s : Step) (M : Node) (w : Data) → leads N v s ≡ Some (at M w) → Everywhere Holds M w)
+everywhere_down Holds N v h = (h [] N v refl, λ s M w is. holds_below Holds N v s M w h is)
+
+-- and the other way round
+pub everywhere_up : (Holds : Node → Data → Type 0) (N : Node) (v : Data) → Holds N v × ((s : Step) (M : Node) (w : Data) → leads N v s ≡ Some (at M w) → Everywhere Holds M w)
+    → Everywhere Holds N v
+everywhere_up Holds N v h [] M w e = subst (λ K. Holds K w) (same_node N M v w e) (subst (Holds N) (same_value N M v w e) h.0)
+everywhere_up Holds N v h (s ∷ path) M w e = elim (step_cases N v s) [
+  | inl none ↦ let e' = rw none at e in cc
+  | inr (inl part) ↦ h.1 s part.0 part.1 part.2 path M w (rw part.2 at e)
+  | inr (inr part) ↦ absurd (stays_free part.0 path M w (rw part.1 at e))
+]

@@ -1,5 +1,7 @@
 -- Pruning what was pruned changes nothing, and so pruning what was filled, where defaults are good.
-use Rattle.std.proofs.Common.{◌≡◌, ℕ, List, [], ◌∷◌, ◌++◌, Bool, true, false, Option, Some, None, refl, sym, ◌∙◌, subst, inl, inr}
+use Rattle.std.proofs.Common.{◌≡◌, ℕ, List, [], ◌∷◌, ◌++◌, Bool, true, false, Option, Some, None, refl, sym, ap, ◌∙◌, subst, inl, inr}
+use Rattle.std.proofs.lemmas.List.{append_assoc}
+use Rattle.std.proofs.lemmas.Option.{same_Some}
 use Rattle.std.specs.Prelude.{option_map, option_and_then}
 use Rattle.jtree.specs.Data.{Data, Items, Members}
 use Rattle.jtree.specs.Data as tree
@@ -8,7 +10,7 @@ use Rattle.jtree.specs.Internal.Lookups.{bool_cases, option_cases}
 use Rattle.schema.specs.Document.Places as places
 use Rattle.schema.specs.Document.Places.{Place}
 use Rattle.schema.specs.Nodes.Node.{Node, node, object, map, list, Fields}
-use Rattle.schema.specs.Nodes.ByPlace.{Declared, field_at, node_at}
+use Rattle.schema.specs.Nodes.ByPlace.{Declared, field_at, node_below, node_at}
 use Rattle.schema.specs.declared.node.Bounds.{Bounds}
 use Rattle.schema.specs.declared.node.MapType.{MapType}
 use Rattle.schema.specs.declared.node.ListType.{ListType}
@@ -166,4 +168,26 @@ filled_pruned N u v w good pruned filled = prunes IsGoodFilling filled_below N v
       (record { before = p; name = k; place_is = refl; object = M; object_is = there; field = f; field_is = is; node_is = refl; default_is = has });
   pruned = pruned_again N u v pruned;
   filled = filled;
+})
+
+-- ---- the defaults below a place of good ones
+
+below_place : (root : Node) (p : Place) (N : Node) (q : Place) → node_at root p ≡ Some N → node_at root (p ++ q) ≡ node_at N q
+below_place root [] N q there = ap (λ M. node_at M q) (same_Some root N there)
+below_place root (s ∷ p) N q there = elim (option_cases (node_below root s)) [
+  | inl none ↦ let e = rw none at there in cc
+  | inr step ↦ rw step.1 (below_place step.0 p N q (rw step.1 at there))
+]
+
+pub good_below : (root : Node) (p : Place) (N : Node) → HasGoodDefaults root → node_at root p ≡ Some N → HasGoodDefaults N
+good_below root p N good there q M d h = good (p ++ q) M d (record {
+  before = p ++ h.before;
+  name = h.name;
+  place_is = ap (λ r. p ++ r) h.place_is ∙ sym (append_assoc p h.before (places.property h.name ∷ []));
+  object = h.object;
+  object_is = below_place root p N h.before there ∙ h.object_is;
+  field = h.field;
+  field_is = h.field_is;
+  node_is = h.node_is;
+  default_is = h.default_is;
 })

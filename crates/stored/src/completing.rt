@@ -1,6 +1,9 @@
 //! Completing: pruning, and then defaulting.
-ghost use Rattle.std.specs.Prelude.{IfOk};
+ghost use Rattle.std.specs.Prelude.{◌≡◌, Some, IfOk};
 ghost use Rattle.jtree.specs.View.{data_of};
+ghost use Rattle.schema.specs.Document.Places.{Place};
+ghost use Rattle.schema.specs.Nodes.Node.{Node as NodeData};
+ghost use Rattle.schema.specs.Nodes.ByPlace.{node_at};
 ghost use Rattle.schema.specs.Nodes.View.{node_of};
 ghost use Rattle.stored.specs.Objects.Becomes.{IsPruned, IsFilled, IsCompleted};
 ghost use Rattle.stored.specs.Schemas.Defaults.{HasGoodDefaults};
@@ -14,11 +17,11 @@ use std::alloc::{AllocError, Global};
 /// What becomes of a value at its node where nothing refuses it: a copy, pruned as by `prune` and then filled with defaults
 /// ("field pruning", "defaulting" and "nullable" of apiextensions.k8s.io/v1). A declared name under which nothing stands, or
 /// a null that its node does not accept, has its default there, which is filled in turn. A null that is not accepted goes
-/// where there is no default for it, and so it does from a map. Where the defaults are good, pruning and filling leave the
-/// answer as it is. An `Err` says that an allocation failed.
+/// where there is no default for it, and so it does from a map. At each node of a schema whose defaults are good, pruning and
+/// filling leave the answer as it is. An `Err` says that an allocation failed.
 pub fn complete(alloc: Global, node: &Node, tree: &Tree) -> Result<Tree, AllocError>
     ensures completed { IfOk result (λ t. IsCompleted (node_of node.now) (data_of tree.now) (data_of t)) }
-    ensures stays { IfOk result (λ t. HasGoodDefaults (node_of node.now) → IsPruned (node_of node.now) (data_of t) (data_of t) × IsFilled (node_of node.now) (data_of t) (data_of t)) }
+    ensures stays { IfOk result (λ t. (root : NodeData) (p : Place) → HasGoodDefaults root → node_at root p ≡ Some (node_of node.now) → IsPruned (node_of node.now) (data_of t) (data_of t) × IsFilled (node_of node.now) (data_of t) (data_of t)) }
 {
     let mut pruned = copy_tree(alloc, tree)?;
     prune(node, &mut pruned);

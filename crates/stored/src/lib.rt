@@ -4,6 +4,7 @@
 mod accepting;
 mod completing;
 mod defaults;
+mod everywhere;
 mod fault;
 mod fields;
 mod filled;
@@ -18,6 +19,7 @@ mod validity;
 
 pub use accepting::{Schema, accept, violations};
 pub use completing::complete;
+pub use everywhere::everywhere_by_steps;
 pub use fault::Fault;
 pub use finding::faults;
 pub use pruning::prune;
