@@ -1,0 +1,2 @@
+//! What samples are made of: pools of values, and a plan that joins them with a schema and a node limit.
+#![tactic(auto)]
