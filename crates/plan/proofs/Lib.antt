@@ -1,0 +1,3 @@
+-- Laws of the definitions of this crate.
+pub mod SizeLemmas
+pub mod RowLemmas

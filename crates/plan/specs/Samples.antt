@@ -1,0 +1,8 @@
+-- What samples are made of.
+pub mod Over
+pub mod Part
+pub mod Sites
+pub mod Candidates
+pub mod Sizes
+pub mod RuleOfParts
+pub mod NoDeadEnd

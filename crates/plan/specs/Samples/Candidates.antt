@@ -1,0 +1,47 @@
+-- The candidates of a scalar or an open node, and how wide a plan is (this project's own).
+use Rattle.std.specs.Prelude.{◌≡◌, ℕ, ◌+◌, ◌*◌, ◌≤◌, ◌⊎◌, ◌↔◌, List, length, Contains, AllPairs}
+use Rattle.std.specs.declared.cmp.Ordering.TheVariants.{Less}
+use Rattle.jtree.specs.Data.{Data}
+use Rattle.jtree.specs.Order.{tree_cmp}
+use Rattle.schema.specs.Nodes.Node.{Node, node, scalar, list, open_}
+use Rattle.plan.specs.Pools.Pools.{Pools}
+use Rattle.plan.specs.Samples.Part.{IsPart}
+use Rattle.plan.specs.Samples.Sites.{Site, sites_of, slots}
+use Rattle.plan.specs.declared.sort.Sort.{Sort}
+use Rattle.plan.specs.declared.sort.Sort.TheVariants.{Leaf, Row, List as ListSort}
+
+-- a leaf holds one of its candidates, a row members under its slots
+abbrev pub sort_of : Node → Sort
+sort_of (node nullable description (scalar kind cs)) = Leaf
+sort_of (node nullable description open_) = Leaf
+sort_of (node nullable description (list N type keys bounds)) = ListSort
+sort_of _ = Row
+
+-- all parts of the node, in the tree order, each once
+pub record AreCandidates (P : Pools) (N : Node) (vs : List Data) : Type 0 where
+  pub each : (v : Data) → Contains vs v ↔ IsPart P N v
+  pub ascending : AllPairs (λ u v. tree_cmp u v ≡ Less) vs
+
+-- the node has so many candidates
+pub record HasCount (P : Pools) (N : Node) (count : ℕ) : Type 0 where
+  pub candidates : List Data
+  pub are : AreCandidates P N candidates
+  pub count_is : length candidates ≡ count
+
+-- how wide a site is: by the candidates of a leaf, by the slots of a row
+abbrev pub HasWidthBy : Sort → Pools → Site → ℕ → Type 0
+HasWidthBy Leaf P s width = HasCount P s.node width
+HasWidthBy Row P s width = length (slots P s) ≡ width
+HasWidthBy ListSort P s width = width ≡ 0
+
+abbrev pub HasWidth : Pools → Site → ℕ → Type 0
+HasWidth P s width = HasWidthBy (sort_of s.node) P s width
+
+-- the width of the widest site
+pub record IsWidth (P : Pools) (root : Node) (width : ℕ) : Type 0 where
+  pub each : (s : Site) (w : ℕ) → Contains (sites_of root) s → HasWidth P s w → w ≤ width
+  pub reached : (width ≡ 0) ⊎ ((s : Site) × (Contains (sites_of root) s × HasWidth P s width))
+
+-- the most steps that it takes to a sample
+abbrev pub delay : ℕ → ℕ → ℕ
+delay limit width = 4 * (limit + 1) * (width + 1)

@@ -1,0 +1,77 @@
+-- What was begun by the sizes that can follow can be completed (this project's own).
+use Rattle.std.specs.Prelude.{◌≡◌, ◌≢◌, ℕ, ◌+◌, ◌*◌, ◌≤◌, ◌<◌, ◌↔◌, List, [], ◌∷◌, ◌++◌, length, Bool, true, false, Option, Some, take, drop, filter, Contains, All, AllPairs, ◌&&◌}
+use Rattle.jtree.specs.Data.{Data, Items, no_items, item}
+use Rattle.jtree.specs.Data as tree
+use Rattle.jtree.specs.Nodes.{items_count}
+use Rattle.schema.specs.Nodes.Node.{Node}
+use Rattle.stored.specs.Objects.Fault as fault
+use Rattle.stored.specs.Objects.Tests.{is_same}
+use Rattle.plan.specs.Pools.Pools.{Pools}
+use Rattle.plan.specs.Samples.Part.{IsPart}
+use Rattle.plan.specs.Samples.Sites.{Site, item_site, Slot, slots}
+use Rattle.plan.specs.Samples.Candidates.{HasCount}
+use Rattle.plan.specs.Samples.Sizes.{AreFillings, filled_nodes, filled_count, HasRest, HasMore}
+use Rattle.plan.specs.Samples.RuleOfParts.{members_in, AreParts, alike_at, AreUnlike}
+
+-- ---- objects and maps
+
+-- the slots behind a place, filled with m nodes, complete those before it to a part
+pub record RowCompletes (P : Pools) (s : Site) (front : List (Option Data)) (m : ℕ) : Type 0 where
+  pub back : List (Option Data)
+  pub part : IsPart P s.node (tree.object (members_in (slots P s) (front ++ back)))
+  pub nodes_are : filled_nodes back ≡ m
+
+-- ---- lists
+
+abbrev pub items_then : Items → Items → Items
+items_then no_items es = es
+items_then (item d ds) es = item d (items_then ds es)
+
+-- items of m nodes complete those before them to a part
+pub record ListCompletes (P : Pools) (N : Node) (front : Items) (m : ℕ) : Type 0 where
+  pub back : Items
+  pub part : IsPart P N (tree.list (items_then front back))
+  pub nodes_are : items_count back ≡ m
+
+-- ---- the keys of a map list
+
+abbrev pub is_key : Slot → Bool
+is_key s = s.key
+
+-- a candidate for each of the slots
+abbrev pub IsTuple : Pools → List Slot → List Data → Type 0
+IsTuple P [] [] = Unit {0}
+IsTuple P (s ∷ ss) (v ∷ vs) = IsPart P s.node v × IsTuple P ss vs
+IsTuple P _ _ = ⊥
+
+-- the numbers of their candidates
+abbrev pub AreCounts : Pools → List Slot → List ℕ → Type 0
+AreCounts P [] [] = Unit {0}
+AreCounts P (s ∷ ss) (n ∷ ns) = HasCount P s.node n × AreCounts P ss ns
+AreCounts P _ _ = ⊥
+
+abbrev pub product : List ℕ → ℕ
+product [] = 1
+product (n ∷ ns) = n * product ns
+
+-- the tuple begins with these values
+abbrev pub begins : List Data → List Data → Bool
+begins [] t = true
+begins (v ∷ vs) [] = false
+begins (v ∷ vs) (w ∷ t) = is_same v w && begins vs t
+
+-- some tuple that begins with the chosen values is not used
+abbrev pub HasFree : Pools → List Slot → List (List Data) → List Data → Type 0
+HasFree P ss used chosen = (t : List Data) × (IsTuple P ss t × (Contains used (chosen ++ t) → ⊥))
+
+-- ---- all of it
+
+pub record NoDeadEnd (P : Pools) (limit : ℕ) (s : Site) : Type 0 where
+  pub rows : (front : List (Option Data)) (place m : ℕ) → AreFillings P (take place (slots P s)) front → place ≤ length (slots P s)
+      → HasRest P s place (filled_count front) m → RowCompletes P s front m
+  pub lists : (M : Site) (front : Items) (m : ℕ) → item_site s ≡ Some M → AreParts P M.node front → AreUnlike (alike_at s.node) front
+      → HasMore P limit s.node (fault.items_count front) m → ListCompletes P s.node front m
+  -- the first keys of an item, where other items use these tuples
+  pub keys : (first later : List Slot) (used : List (List Data)) (chosen : List Data) (counts : List ℕ)
+      → filter is_key (slots P s) ≡ first ++ later → IsTuple P first chosen → All (IsTuple P (first ++ later)) used → AllPairs (λ t u. t ≢ u) used
+      → AreCounts P later counts → HasFree P later used chosen ↔ (length (filter (begins chosen) used) < product counts)

@@ -1,0 +1,66 @@
+-- What the parts of a node are, by what the slots of a row and the items of a list can take (this project's own).
+use Rattle.std.specs.Prelude.{◌≡◌, ◌≤◌, ◌⊎◌, ◌↔◌, ℕ, List, ◌∷◌, length, Bool, true, false, Option, Some, None, Contains}
+use Rattle.jtree.specs.Data.{Data, Items, no_items, item, Members, no_members, member}
+use Rattle.jtree.specs.Data as tree
+use Rattle.jtree.specs.Nodes.{node_count}
+use Rattle.schema.specs.Nodes.Node.{Node, node, list}
+use Rattle.stored.specs.Objects.Fault as fault
+use Rattle.stored.specs.Objects.Fault.{are_alike}
+use Rattle.stored.specs.Objects.Becomes.{is_nullable}
+use Rattle.plan.specs.Pools.Pools.{Pools}
+use Rattle.plan.specs.Samples.Part.{IsPart}
+use Rattle.plan.specs.Samples.Sites.{Site, item_site, Slot, slots}
+use Rattle.plan.specs.Samples.Candidates.{sort_of, AreCandidates}
+use Rattle.plan.specs.Samples.Sizes.{AreFillings, filled_count, HasRest, HasMore}
+use Rattle.plan.specs.declared.sort.Sort.TheVariants.{Leaf, Row}
+
+-- the members that stand in the slots
+abbrev pub members_in : List Slot → List (Option Data) → Members
+members_in (s ∷ ss) (None ∷ gs) = members_in ss gs
+members_in (s ∷ ss) (Some v ∷ gs) = member s.name v (members_in ss gs)
+members_in _ _ = no_members
+
+-- each item is a part of the node
+abbrev pub AreParts : Pools → Node → Items → Type 0
+AreParts P N no_items = Unit {0}
+AreParts P N (item d ds) = IsPart P N d × AreParts P N ds
+
+-- the item is alike none of these
+abbrev pub IsUnlike : (Data → Data → Bool) → Data → Items → Type 0
+IsUnlike alike d no_items = Unit {0}
+IsUnlike alike d (item e es) = (alike d e ≡ false) × IsUnlike alike d es
+
+-- two items that may not stand in one list: in a set equal ones, in a map list those that agree on all keys
+abbrev pub alike_at : Node → Data → Data → Bool
+alike_at (node nullable description (list N type keys bounds)) v w = are_alike type keys v w
+alike_at N v w = false
+
+abbrev pub AreUnlike : (Data → Data → Bool) → Items → Type 0
+AreUnlike alike no_items = Unit {0}
+AreUnlike alike (item d ds) = IsUnlike alike d ds × AreUnlike alike ds
+
+abbrev pub IsNullPart : Node → Data → Type 0
+IsNullPart N v = (v ≡ tree.null) × (is_nullable N ≡ true)
+
+-- an object in whose slots parts stand, with as many members as it may have
+pub record IsRowPart (P : Pools) (s : Site) (v : Data) : Type 0 where
+  pub fillings : List (Option Data)
+  pub is : v ≡ tree.object (members_in (slots P s) fillings)
+  pub are : AreFillings P (slots P s) fillings
+  pub ends : HasRest P s (length (slots P s)) (filled_count fillings) 0
+
+-- a list of parts, no two alike, that may end where it does
+pub record IsListPart (P : Pools) (limit : ℕ) (N M : Node) (v : Data) : Type 0 where
+  pub items : Items
+  pub is : v ≡ tree.list items
+  pub are : AreParts P M items
+  pub unlike : AreUnlike (alike_at N) items
+  pub ends : HasMore P limit N (fault.items_count items) 0
+
+-- A value is a part exactly: at a leaf, where it is a candidate; at a row, where it is null and that is accepted, or where parts
+-- stand in its slots; at a list, where it is null and that is accepted, or a list of parts. A list has at most as many nodes as
+-- the limit.
+pub record RuleOfParts (P : Pools) (limit : ℕ) (s : Site) : Type 0 where
+  pub leaf : (v : Data) → sort_of s.node ≡ Leaf → IsPart P s.node v ↔ ((vs : List Data) × (AreCandidates P s.node vs × Contains vs v))
+  pub row : (v : Data) → sort_of s.node ≡ Row → IsPart P s.node v ↔ (IsNullPart s.node v ⊎ IsRowPart P s v)
+  pub list : (M : Site) (v : Data) → item_site s ≡ Some M → node_count v ≤ limit → IsPart P s.node v ↔ (IsNullPart s.node v ⊎ IsListPart P limit s.node M.node v)

@@ -1,0 +1,94 @@
+-- The nodes of a plan: those of the schema, each with the names that are keys where it is the item of a map list, and the slots of
+-- its objects and maps (this project's own).
+use Rattle.std.specs.Prelude.{ℕ, List, [], ◌∷◌, ◌++◌, Bool, false, Option, Some, None, map, ◌||◌, is_some}
+use Rattle.std.specs.declared.cmp.Ordering.{Ordering}
+use Rattle.std.specs.declared.cmp.Ordering.TheVariants.{Less, Equal, Greater}
+use Rattle.jtree.specs.Order.{text_cmp}
+use Rattle.schema.specs.Document.Texts.{is_among}
+use Rattle.schema.specs.Nodes.Node.{Node, node, Sort, object, list, Fields, no_fields, field}
+use Rattle.schema.specs.Nodes.Node as nodes
+use Rattle.schema.specs.declared.node.ListType.{ListType}
+use Rattle.schema.specs.declared.node.ListType.TheVariants.{Map}
+use Rattle.plan.specs.Pools.Pools.{Pools}
+
+pub record Site : Type 0 where
+  pub node : Node
+  pub keys : List (List ℕ)
+
+-- of a node that is not the item of a map list
+abbrev pub plain : Node → Site
+plain N = record { node = N; keys = [] }
+
+-- the names that tell the items of a list apart
+abbrev pub item_keys : ListType → List (List ℕ) → List (List ℕ)
+item_keys Map keys = keys
+item_keys _ keys = []
+
+-- the site of the items of a list
+abbrev pub item_site_at : Node → Option Site
+item_site_at (node nullable description (list N type keys bounds)) = Some (record { node = N; keys = item_keys type keys })
+item_site_at _ = None
+
+abbrev pub item_site : Site → Option Site
+item_site s = item_site_at s.node
+
+-- a site and all sites below it, those below a site before it
+abbrev mutual
+  pub sites_from : Node → List (List ℕ) → List Site
+  sites_from (node nullable description sort) keys = sites_below sort ++ record { node = node nullable description sort; keys = keys } ∷ []
+
+  pub sites_below : Sort → List Site
+  sites_below (object fs preserves type bounds) = sites_of_fields fs
+  sites_below (nodes.map N type bounds) = sites_from N []
+  sites_below (list N type keys bounds) = sites_from N (item_keys type keys)
+  sites_below _ = []
+
+  pub sites_of_fields : Fields → List Site
+  sites_of_fields no_fields = []
+  sites_of_fields (field k N required default fs) = sites_from N [] ++ sites_of_fields fs
+
+-- all sites of a schema
+abbrev pub sites_of : Node → List Site
+sites_of root = sites_from root []
+
+-- ---- slots
+
+-- a name under which a member may stand: the node of what stands there, whether something must stand there, and whether the name
+-- is a key
+pub record Slot : Type 0 where
+  pub name : List ℕ
+  pub node : Node
+  pub must : Bool
+  pub key : Bool
+
+-- something must stand under a field that is required or has a default
+abbrev pub field_slots : List (List ℕ) → Fields → List Slot
+field_slots keys no_fields = []
+field_slots keys (field k N required default fs) = record { name = k; node = N; must = required || is_some default; key = is_among k keys } ∷ field_slots keys fs
+
+-- a name put where it belongs by its bytes, once
+abbrev pub put : Ordering → List ℕ → List ℕ → List (List ℕ) → List (List ℕ) → List (List ℕ)
+put Less k l ls rest = k ∷ l ∷ ls
+put Equal k l ls rest = l ∷ ls
+put Greater k l ls rest = l ∷ rest
+
+abbrev pub with_name : List ℕ → List (List ℕ) → List (List ℕ)
+with_name k [] = k ∷ []
+with_name k (l ∷ ls) = put (text_cmp k l) k l ls (with_name k ls)
+
+-- the names in the order of their bytes, each once
+abbrev pub in_order : List (List ℕ) → List (List ℕ)
+in_order [] = []
+in_order (k ∷ ks) = with_name k (in_order ks)
+
+abbrev pub value_slot : Node → List ℕ → Slot
+value_slot N k = record { name = k; node = N; must = false; key = false }
+
+-- the declared names of an object, and the names of the pools at a map
+abbrev pub slots_at : Pools → Node → List (List ℕ) → List Slot
+slots_at P (node nullable description (object fs preserves type bounds)) keys = field_slots keys fs
+slots_at P (node nullable description (nodes.map N type bounds)) keys = map (value_slot N) (in_order P.names)
+slots_at P _ keys = []
+
+abbrev pub slots : Pools → Site → List Slot
+slots P s = slots_at P s.node s.keys

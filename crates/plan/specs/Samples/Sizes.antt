@@ -1,0 +1,83 @@
+-- The sizes of parts, and of what can still follow in an object, a map or a list that was begun: each said by existence (this
+-- project's own). A size is a number of nodes.
+use Rattle.std.specs.Prelude.{◌≡◌, ℕ, zero, suc, ◌+◌, ◌≤◌, ◌↔◌, List, [], ◌∷◌, Bool, false, Option, Some, None, drop}
+use Rattle.jtree.specs.Data.{Data, Items, no_items, item}
+use Rattle.jtree.specs.Data as tree
+use Rattle.jtree.specs.Nodes.{node_count, items_count}
+use Rattle.schema.specs.Nodes.Node.{Node, node, object, map, list}
+use Rattle.schema.specs.declared.node.Bounds.{Bounds}
+use Rattle.stored.specs.Objects.Fault as fault
+use Rattle.stored.specs.Objects.Fault.{are_few, are_many}
+use Rattle.plan.specs.Pools.Pools.{Pools}
+use Rattle.plan.specs.Samples.Part.{IsPart}
+use Rattle.plan.specs.Samples.Sites.{Site, Slot, slots}
+
+-- the set A holds exactly the numbers up to the limit for which P holds
+abbrev pub IsUpTo : ℕ → (ℕ → Type 0) → (ℕ → Type 0) → Type 0
+IsUpTo limit A P = (n : ℕ) → A n ↔ ((n ≤ limit) × P n)
+
+-- some part of the node has n nodes
+pub record HasSize (P : Pools) (N : Node) (n : ℕ) : Type 0 where
+  pub part : Data
+  pub is : IsPart P N part
+  pub nodes_are : node_count part ≡ n
+
+-- ---- objects and maps
+
+-- what stands in each slot: nothing where nothing must, or a part of the slot's node
+abbrev pub AreFillings : Pools → List Slot → List (Option Data) → Type 0
+AreFillings P [] [] = Unit {0}
+AreFillings P (s ∷ ss) (None ∷ gs) = (s.must ≡ false) × AreFillings P ss gs
+AreFillings P (s ∷ ss) (Some v ∷ gs) = IsPart P s.node v × AreFillings P ss gs
+AreFillings P _ _ = ⊥
+
+-- how many nodes stand in the slots
+abbrev pub filled_nodes : List (Option Data) → ℕ
+filled_nodes [] = 0
+filled_nodes (None ∷ gs) = filled_nodes gs
+filled_nodes (Some v ∷ gs) = node_count v + filled_nodes gs
+
+-- how many slots are filled
+abbrev pub filled_count : List (Option Data) → ℕ
+filled_count [] = 0
+filled_count (None ∷ gs) = filled_count gs
+filled_count (Some v ∷ gs) = 1 + filled_count gs
+
+-- neither too few nor too many
+abbrev pub IsWithin : Bounds → ℕ → Type 0
+IsWithin b n = (are_few b n ≡ false) × (are_many b n ≡ false)
+
+-- the slots can be filled so that m nodes stand in them, and that with t members more the bounds hold
+pub record CanFill (P : Pools) (ss : List Slot) (b : Bounds) (t m : ℕ) : Type 0 where
+  pub fillings : List (Option Data)
+  pub are : AreFillings P ss fillings
+  pub within : IsWithin b (t + filled_count fillings)
+  pub nodes_are : filled_nodes fillings ≡ m
+
+-- the bounds on the number of members or items
+abbrev pub bounds_of : Node → Bounds
+bounds_of (node nullable description (object fs preserves type bounds)) = bounds
+bounds_of (node nullable description (map N type bounds)) = bounds
+bounds_of (node nullable description (list N type keys bounds)) = bounds
+bounds_of _ = record { least = None; most = None }
+
+-- the slots from a place on can so be filled with m nodes where t slots before it are filled
+abbrev pub HasRest : Pools → Site → ℕ → ℕ → ℕ → Type 0
+HasRest P s place t m = CanFill P (drop place (slots P s)) (bounds_of s.node) t m
+
+-- ---- lists
+
+-- the items from an index on
+abbrev pub items_from : ℕ → Items → Items
+items_from zero ds = ds
+items_from (suc i) no_items = no_items
+items_from (suc i) (item d ds) = items_from i ds
+
+-- Some list that is a part of the node, with at most as many nodes as the limit, has at least t items, and those behind the first
+-- t have m nodes.
+pub record HasMore (P : Pools) (limit : ℕ) (N : Node) (t m : ℕ) : Type 0 where
+  pub items : Items
+  pub part : IsPart P N (tree.list items)
+  pub fits : node_count (tree.list items) ≤ limit
+  pub many : t ≤ fault.items_count items
+  pub nodes_are : items_count (items_from t items) ≡ m

@@ -1,0 +1,21 @@
+/// The sorts of node of a plan.
+#[derive(Clone, Copy, Debug, PartialEq, Eq, Drop)]
+pub enum Sort {
+    /// A scalar, or open to any value: it holds one of its candidates.
+    Leaf,
+    /// An object or a map: it has slots, each with a name.
+    Row,
+    /// A list: it has items.
+    List,
+}
+
+/// Which items may not stand in one list.
+#[derive(Clone, Copy, Debug, PartialEq, Eq, Drop)]
+pub enum Distinct {
+    /// Any may.
+    Free,
+    /// Equal ones may not: a set.
+    Whole,
+    /// Those that agree on all keys may not: a map list.
+    Keys,
+}
