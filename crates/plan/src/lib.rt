@@ -1,2 +1,7 @@
 //! What samples are made of: pools of values, and a plan that joins them with a schema and a node limit.
 #![tactic(auto)]
+
+mod size_set;
+mod word;
+
+pub use size_set::SizeSet;
