@@ -1,3 +1,4 @@
 -- Laws of the definitions of this crate.
 pub mod SizeLemmas
 pub mod RowLemmas
+pub mod WordLemmas

@@ -4,6 +4,7 @@
 mod rows;
 mod size_set;
 mod sort;
+mod word;
 
 pub use size_set::SizeSet;
 pub use sort::{Distinct, Sort};
