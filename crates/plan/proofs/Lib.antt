@@ -1,4 +1,5 @@
 -- Laws of the definitions of this crate.
 pub mod SizeLemmas
 pub mod RowLemmas
+pub mod ListLemmas
 pub mod WordLemmas

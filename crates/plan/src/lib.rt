@@ -1,6 +1,7 @@
 //! What samples are made of: pools of values, and a plan that joins them with a schema and a node limit.
 #![tactic(auto)]
 
+mod lists;
 mod rows;
 mod size_set;
 mod sort;
