@@ -2,4 +2,6 @@
 pub mod SizeLemmas
 pub mod RowLemmas
 pub mod ListLemmas
+pub mod FillingLemmas
+pub mod PartLemmas
 pub mod WordLemmas

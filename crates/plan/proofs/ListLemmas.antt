@@ -9,10 +9,11 @@ use Rattle.jtree.specs.Nodes.{node_count, items_count}
 use Rattle.schema.specs.Nodes.Node.{Node}
 use Rattle.schema.specs.declared.node.Bounds.{Bounds}
 use Rattle.stored.specs.Objects.Fault as fault
+use Rattle.stored.specs.Objects.StoredByParts.{IsWithin}
 use Rattle.plan.specs.Pools.Pools.{Pools}
 use Rattle.plan.specs.Sets.{IsSum, IsLeastFrom, IsEmptyFrom}
 use Rattle.plan.specs.Samples.Part.{IsPart}
-use Rattle.plan.specs.Samples.Sizes.{HasSize, IsWithin, items_from, IsUpTo}
+use Rattle.plan.specs.Samples.Sizes.{HasSize, items_from, IsUpTo}
 use Rattle.plan.specs.Samples.RuleOfParts.{AreParts}
 use Rattle.plan.specs.Internal.Lists.{CanFollow, HasMoreFree, IsLeastSize}
 

@@ -6,10 +6,11 @@ use Rattle.std.specs.declared.alloc.Global.{Global}
 use Rattle.jtree.specs.Data.{Data}
 use Rattle.jtree.specs.Nodes.{node_count}
 use Rattle.schema.specs.declared.node.Bounds.{Bounds}
+use Rattle.stored.specs.Objects.StoredByParts.{IsWithin}
 use Rattle.plan.specs.Pools.Pools.{Pools}
 use Rattle.plan.specs.Sets.{IsSum}
 use Rattle.plan.specs.Samples.Sites.{Slot}
-use Rattle.plan.specs.Samples.Sizes.{HasSize, AreFillings, filled_nodes, filled_count, IsWithin, CanFill, IsUpTo}
+use Rattle.plan.specs.Samples.Sizes.{HasSize, AreFillings, filled_nodes, filled_count, CanFill, IsUpTo}
 use Rattle.plan.specs.Internal.Tables.{IsLevel, AreChoices, AreShaped, AreLevels}
 use Rattle.plan.specs.declared.rows.Choice.{Choice}
 use Rattle.plan.proofs.SizeLemmas.{sum_up_to, each_push}

@@ -1,3 +1,4 @@
 -- What only private clauses cite.
 pub mod Tables
 pub mod Lists
+pub mod PartLaws

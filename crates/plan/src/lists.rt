@@ -1,9 +1,10 @@
 //! The tables of a list: the sizes that its items can still take, after each number of items.
 ghost use Rattle.std.specs.Prelude.{◌≡◌, ℕ, ◌+◌, ◌*◌, ◌≤◌, ◌<◌, ◌↔◌, ◌⊎◌, length, IfOk};
 ghost use Rattle.schema.specs.Nodes.Node.{Node};
+ghost use Rattle.stored.specs.Objects.StoredByParts.{IsWithin};
 ghost use Rattle.plan.specs.Pools.Pools.{Pools};
 ghost use Rattle.plan.specs.Sets.{IsSum};
-ghost use Rattle.plan.specs.Samples.Sizes.{HasSize, IsWithin, IsUpTo};
+ghost use Rattle.plan.specs.Samples.Sizes.{HasSize, IsUpTo};
 ghost use Rattle.plan.specs.Internal.Lists.{IsLeastSize, AreFollowing, AreMore};
 
 use crate::SizeSet;

@@ -1,9 +1,10 @@
 //! The tables of a row: the sizes that its slots can still take, from each of them on.
 ghost use Rattle.std.specs.Prelude.{◌≡◌, ℕ, ◌+◌, ◌≤◌, ◌<◌, ◌↔◌, ◌⊎◌, false, List, [], ◌∷◌, length, IfOk, Decides};
+ghost use Rattle.stored.specs.Objects.StoredByParts.{IsWithin};
 ghost use Rattle.plan.specs.Pools.Pools.{Pools};
 ghost use Rattle.plan.specs.Sets.{IsSum};
 ghost use Rattle.plan.specs.Samples.Sites.{Slot};
-ghost use Rattle.plan.specs.Samples.Sizes.{HasSize, CanFill, IsWithin, IsUpTo};
+ghost use Rattle.plan.specs.Samples.Sizes.{HasSize, CanFill, IsUpTo};
 ghost use Rattle.plan.specs.Internal.Tables.{IsLevel, AreChoices, AreShaped, AreLevels};
 
 use crate::SizeSet;

@@ -5,8 +5,9 @@ use Rattle.jtree.specs.Nodes.{items_count}
 use Rattle.schema.specs.Nodes.Node.{Node}
 use Rattle.schema.specs.declared.node.Bounds.{Bounds}
 use Rattle.stored.specs.Objects.Fault as fault
+use Rattle.stored.specs.Objects.StoredByParts.{IsWithin}
 use Rattle.plan.specs.Pools.Pools.{Pools}
-use Rattle.plan.specs.Samples.Sizes.{HasSize, IsWithin, items_from, IsUpTo}
+use Rattle.plan.specs.Samples.Sizes.{HasSize, items_from, IsUpTo}
 use Rattle.plan.specs.Samples.RuleOfParts.{AreParts}
 
 -- parts of the node can follow t items, m nodes in all, so that the bounds hold

@@ -6,12 +6,13 @@ use Rattle.jtree.specs.Nodes.{items_count}
 use Rattle.schema.specs.Nodes.Node.{Node}
 use Rattle.stored.specs.Objects.Fault as fault
 use Rattle.stored.specs.Objects.Tests.{is_same}
+use Rattle.stored.specs.Objects.StoredByParts.{are_apart}
 use Rattle.plan.specs.Pools.Pools.{Pools}
 use Rattle.plan.specs.Samples.Part.{IsPart}
 use Rattle.plan.specs.Samples.Sites.{Site, item_site, Slot, slots}
 use Rattle.plan.specs.Samples.Candidates.{HasCount}
 use Rattle.plan.specs.Samples.Sizes.{AreFillings, filled_nodes, filled_count, HasRest, HasMore}
-use Rattle.plan.specs.Samples.RuleOfParts.{members_in, AreParts, alike_at, AreUnlike}
+use Rattle.plan.specs.Samples.RuleOfParts.{members_in, AreParts, alike_at}
 
 -- ---- objects and maps
 
@@ -69,7 +70,7 @@ HasFree P ss used chosen = (t : List Data) × (IsTuple P ss t × (Contains used 
 pub record NoDeadEnd (P : Pools) (limit : ℕ) (s : Site) : Type 0 where
   pub rows : (front : List (Option Data)) (place m : ℕ) → AreFillings P (take place (slots P s)) front → place ≤ length (slots P s)
       → HasRest P s place (filled_count front) m → RowCompletes P s front m
-  pub lists : (M : Site) (front : Items) (m : ℕ) → item_site s ≡ Some M → AreParts P M.node front → AreUnlike (alike_at s.node) front
+  pub lists : (M : Site) (front : Items) (m : ℕ) → item_site s ≡ Some M → AreParts P M.node front → are_apart (alike_at s.node) front ≡ true
       → HasMore P limit s.node (fault.items_count front) m → ListCompletes P s.node front m
   -- the first keys of an item, where other items use these tuples
   pub keys : (first later : List Slot) (used : List (List Data)) (chosen : List Data) (counts : List ℕ)

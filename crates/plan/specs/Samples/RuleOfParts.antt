@@ -7,6 +7,7 @@ use Rattle.schema.specs.Nodes.Node.{Node, node, list}
 use Rattle.stored.specs.Objects.Fault as fault
 use Rattle.stored.specs.Objects.Fault.{are_alike}
 use Rattle.stored.specs.Objects.Becomes.{is_nullable}
+use Rattle.stored.specs.Objects.StoredByParts.{are_apart}
 use Rattle.plan.specs.Pools.Pools.{Pools}
 use Rattle.plan.specs.Samples.Part.{IsPart}
 use Rattle.plan.specs.Samples.Sites.{Site, item_site, Slot, slots}
@@ -25,19 +26,10 @@ abbrev pub AreParts : Pools → Node → Items → Type 0
 AreParts P N no_items = Unit {0}
 AreParts P N (item d ds) = IsPart P N d × AreParts P N ds
 
--- the item is alike none of these
-abbrev pub IsUnlike : (Data → Data → Bool) → Data → Items → Type 0
-IsUnlike alike d no_items = Unit {0}
-IsUnlike alike d (item e es) = (alike d e ≡ false) × IsUnlike alike d es
-
 -- two items that may not stand in one list: in a set equal ones, in a map list those that agree on all keys
 abbrev pub alike_at : Node → Data → Data → Bool
 alike_at (node nullable description (list N type keys bounds)) v w = are_alike type keys v w
 alike_at N v w = false
-
-abbrev pub AreUnlike : (Data → Data → Bool) → Items → Type 0
-AreUnlike alike no_items = Unit {0}
-AreUnlike alike (item d ds) = IsUnlike alike d ds × AreUnlike alike ds
 
 abbrev pub IsNullPart : Node → Data → Type 0
 IsNullPart N v = (v ≡ tree.null) × (is_nullable N ≡ true)
@@ -54,7 +46,7 @@ pub record IsListPart (P : Pools) (limit : ℕ) (N M : Node) (v : Data) : Type 0
   pub items : Items
   pub is : v ≡ tree.list items
   pub are : AreParts P M items
-  pub unlike : AreUnlike (alike_at N) items
+  pub apart : are_apart (alike_at N) items ≡ true
   pub ends : HasMore P limit N (fault.items_count items) 0
 
 -- A value is a part exactly: at a leaf, where it is a candidate; at a row, where it is null and that is accepted, or where parts

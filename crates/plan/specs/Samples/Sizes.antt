@@ -7,7 +7,7 @@ use Rattle.jtree.specs.Nodes.{node_count, items_count}
 use Rattle.schema.specs.Nodes.Node.{Node, node, object, map, list}
 use Rattle.schema.specs.declared.node.Bounds.{Bounds}
 use Rattle.stored.specs.Objects.Fault as fault
-use Rattle.stored.specs.Objects.Fault.{are_few, are_many}
+use Rattle.stored.specs.Objects.StoredByParts.{IsWithin}
 use Rattle.plan.specs.Pools.Pools.{Pools}
 use Rattle.plan.specs.Samples.Part.{IsPart}
 use Rattle.plan.specs.Samples.Sites.{Site, Slot, slots}
@@ -42,10 +42,6 @@ abbrev pub filled_count : List (Option Data) → ℕ
 filled_count [] = 0
 filled_count (None ∷ gs) = filled_count gs
 filled_count (Some v ∷ gs) = 1 + filled_count gs
-
--- neither too few nor too many
-abbrev pub IsWithin : Bounds → ℕ → Type 0
-IsWithin b n = (are_few b n ≡ false) × (are_many b n ≡ false)
 
 -- the slots can be filled so that m nodes stand in them, and that with t members more the bounds hold
 pub record CanFill (P : Pools) (ss : List Slot) (b : Bounds) (t m : ℕ) : Type 0 where

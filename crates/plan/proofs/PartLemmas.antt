@@ -1,0 +1,493 @@
+-- The parts of a node, one level at a time, from what stored objects are and from what is over the pools.
+use Rattle.std.proofs.Common.{◌≡◌, ◌⊎◌, ◌↔◌, ℕ, zero, suc, List, [], ◌∷◌, Bool, true, false, Option, Some, None, refl, ap, sym, ◌∙◌, subst, inl, inr}
+use Rattle.std.specs.Prelude.{option_map, option_and_then, ◌&&◌, ◌||◌, is_some, map}
+use Rattle.std.specs.Str.{bytes_eq}
+use Rattle.std.specs.declared.cmp.Ordering.{Ordering}
+use Rattle.std.specs.declared.cmp.Ordering.TheVariants.{Less, Equal, Greater}
+use Rattle.std.proofs.lemmas.Option.{same_Some}
+use Rattle.std.proofs.lemmas.Cmp.{nat_list_cmp_total}
+use Rattle.std.proofs.lemmas.Map.Lookups.{exact_bytes}
+use Rattle.jtree.specs.Data.{Data, Items, no_items, item, Members, no_members, member, IsTree, AreTrees, AreMembers}
+use Rattle.jtree.specs.Data as tree
+use Rattle.jtree.specs.Order.{text_cmp}
+use Rattle.jtree.specs.Path.{Step, name, index, member_at, item_at, part_by}
+use Rattle.jtree.specs.Internal.Lookups.{bool_cases, option_cases, same_name, own_name, member_first, member_later, member_tail, later_name, ordering_cases}
+use Rattle.jtree.specs.Internal.Rising.{Among, Rising}
+use Rattle.schema.specs.Document.Texts.{is_among}
+use Rattle.schema.specs.Nodes.Node.{Node, node, Sort, scalar, object, list, open_, Fields, no_fields, field, IsNode, IsBeforeFields, AreOrdered}
+use Rattle.schema.specs.Nodes.Node as nodes
+use Rattle.schema.specs.Nodes.ByPlace.{Declared, field_at}
+use Rattle.schema.specs.declared.node.Bounds.{Bounds}
+use Rattle.schema.specs.declared.node.MapType.{MapType}
+use Rattle.schema.specs.declared.node.ListType.{ListType}
+use Rattle.stored.specs.Objects.Parts.{Part, at, free, part_of, leads, Everywhere}
+use Rattle.stored.specs.Objects.Fault as fault
+use Rattle.stored.specs.Objects.Becomes.{IsStored, is_nullable}
+use Rattle.stored.specs.Objects.StoredByParts.{StoredByParts, IsStoredField, are_apart, IsWithin}
+use Rattle.plan.specs.Pools.Pools.{Pools}
+use Rattle.plan.specs.Samples.Over.{is_over_here, all_names, IsOver}
+use Rattle.plan.specs.Samples.Part.{IsPart}
+use Rattle.plan.specs.Samples.Sites.{Site, item_site, slots, Slot, field_slots, put, with_name, in_order, value_slot}
+use Rattle.plan.specs.Samples.RuleOfParts.{AreParts, alike_at, members_in, IsNullPart}
+use Rattle.plan.specs.Samples.Candidates.{sort_of}
+use Rattle.plan.specs.Samples.Sizes.{bounds_of, filled_count}
+use Rattle.plan.specs.Internal.PartLaws.{IsObjectPart, IsItemsPart, PartLaws}
+use Rattle.plan.specs.declared.sort.Sort.TheVariants.{Leaf, Row}
+use Rattle.plan.proofs.FillingLemmas.{AreInOrder, AreInSlots, in_members, in_slots, in_count, fill}
+
+-- ---- what the crates below say
+
+abbrev pub StoredLaw : Type 0
+StoredLaw = (N : Node) (v : Data) → IsStored N v ↔ StoredByParts N v
+
+abbrev pub EverywhereLaw : Type 0
+EverywhereLaw = (test : Node → Data → Bool) (N : Node) (v : Data) → Everywhere (λ M w. test M w ≡ true) N v
+    ↔ ((test N v ≡ true) × ((s : Step) (M : Node) (w : Data) → leads N v s ≡ Some (at M w) → Everywhere (λ K u. test K u ≡ true) M w))
+
+abbrev Below : Pools → Node → Data → Type 0
+Below P N v = (s : Step) (M : Node) (w : Data) → leads N v s ≡ Some (at M w) → IsOver P M w
+
+pub over_down : EverywhereLaw → (P : Pools) (N : Node) (v : Data) → IsOver P N v → (is_over_here P N v ≡ true) × Below P N v
+over_down law P N v h = (law (is_over_here P) N v).0 h
+
+pub over_up : EverywhereLaw → (P : Pools) (N : Node) (v : Data) → is_over_here P N v ≡ true → Below P N v → IsOver P N v
+over_up law P N v here below = (law (is_over_here P) N v).1 (here, below)
+
+-- ---- names
+
+or_true : (b : Bool) → (b || true) ≡ true
+or_true true = refl
+or_true false = refl
+
+both : (a b : Bool) → (a && b) ≡ true → (a ≡ true) × (b ≡ true)
+both true b e = (refl, e)
+both false b e = absurd (cc)
+
+pub each_name : (test : List ℕ → Bool) (ms : Members) → all_names test ms ≡ true → (k : List ℕ) (w : Data) → member_at k ms ≡ Some w → test k ≡ true
+each_name test no_members all k w is = absurd (cc)
+each_name test (member l d ms) all k w is =
+    let these = both (test l) (all_names test ms) all in
+    elim (bool_cases (bytes_eq k l)) [
+      | inl t ↦ rw (same_name k l t) these.0
+      | inr o ↦ each_name test ms these.1 k w (sym (member_later k l d ms o) ∙ is)
+    ]
+
+pub names_pass : (test : List ℕ → Bool) (ms : Members) → AreMembers ms → ((k : List ℕ) (w : Data) → member_at k ms ≡ Some w → test k ≡ true) → all_names test ms ≡ true
+names_pass test no_members members h = refl
+names_pass test (member l d ms) members h =
+    let first = h l d (member_first l d ms) in
+    let rest = names_pass test ms members.2 (λ k w is. h k w (member_tail l d ms k w members is)) in
+    rw (first, rest) refl
+
+pub member_tree : (k : List ℕ) (ms : Members) (w : Data) → AreMembers ms → member_at k ms ≡ Some w → IsTree w
+member_tree k no_members w members is = absurd (cc)
+member_tree k (member l d ms) w members is = elim (bool_cases (bytes_eq k l)) [
+  | inl t ↦ subst IsTree (same_Some d w (rw t at is)) members.0
+  | inr o ↦ member_tree k ms w members.2 (sym (member_later k l d ms o) ∙ is)
+]
+
+-- ---- the slots of an object
+
+abbrev IsSlotOf : List ℕ → Declared → Slot → Type 0
+IsSlotOf k f s = (s.name ≡ k) × (s.node ≡ f.node) × (s.must ≡ (f.required || is_some f.default))
+
+slot_of_field : (keys : List (List ℕ)) (fs : Fields) (k : List ℕ) (f : Declared) → field_at k fs ≡ Some f → (s : Slot) × (Among (field_slots keys fs) s × IsSlotOf k f s)
+slot_of_field keys no_fields k f is = absurd (cc)
+slot_of_field keys (field l N required default fs) k f is = elim (bool_cases (bytes_eq k l)) [
+  | inl t ↦
+      let same = same_Some (record { node = N; required = required; default = default }) f (rw t at is) in
+      (_, (inl refl, (sym (same_name k l t), ap (λ g. g.node) same, ap (λ g. g.required || is_some g.default) same)))
+  | inr o ↦ let r = slot_of_field keys fs k f (rw o at is) in (r.0, (inr r.1.0, r.1.1))
+]
+
+before_slots : (keys : List (List ℕ)) (k : List ℕ) (fs : Fields) → IsBeforeFields k fs → AreOrdered fs → (s : Slot) → Among (field_slots keys fs) s → text_cmp k s.name ≡ Less
+before_slots keys k no_fields before o s a = absurd a
+before_slots keys k (field l N required default fs) before o s (inl e) = subst (λ t. text_cmp k (Slot.name t) ≡ Less) e before
+before_slots keys k (field l N required default fs) before o s (inr a) = nat_list_cmp_total.trans k l s.name before (before_slots keys l fs o.1 o.2 s a)
+
+field_of_slot : (keys : List (List ℕ)) (fs : Fields) → AreOrdered fs → (s : Slot) → Among (field_slots keys fs) s → (f : Declared) × ((field_at s.name fs ≡ Some f) × IsSlotOf s.name f s)
+field_of_slot keys no_fields o s a = absurd a
+field_of_slot keys (field l N required default fs) o s (inl e) =
+    let own : bytes_eq s.name l ≡ true = subst (λ t. bytes_eq (Slot.name t) l ≡ true) e (own_name l) in
+    (record { node = N; required = required; default = default }, (rw own refl, (refl, ap (λ t. Slot.node t) (sym e), ap (λ t. Slot.must t) (sym e))))
+field_of_slot keys (field l N required default fs) o s (inr a) =
+    let r = field_of_slot keys fs o.2 s a in
+    let other = later_name s.name l (before_slots keys l fs o.1 o.2 s a) in
+    (r.0, (rw other r.1.0, r.1.1))
+
+pub fields_in_order : (keys : List (List ℕ)) (fs : Fields) → AreOrdered fs → AreInOrder (field_slots keys fs)
+fields_in_order keys no_fields o = tt
+fields_in_order keys (field l N required default fs) o = (before_slots keys l fs o.1 o.2, fields_in_order keys fs o.2)
+
+-- ---- objects
+
+-- what a name leads to
+leads_to_field : (n : Bool) (t : Option (List ℕ)) (fs : Fields) (preserves : Bool) (type : MapType) (b : Bounds) (ms : Members) (k : List ℕ) (f : Declared) (w : Data) → field_at k fs ≡ Some f → member_at k ms ≡ Some w
+    → leads (node n t (object fs preserves type b)) (tree.object ms) (name k) ≡ Some (at f.node w)
+leads_to_field n t fs preserves type b ms k f w is found = rw (is, found) refl
+
+part_from : (o : Option Node) (v : Option Data) (M : Node) (w : Data) → option_map (part_of o) v ≡ Some (at M w) → (o ≡ Some M) × (v ≡ Some w)
+part_from None None M w e = absurd (cc)
+part_from None (Some v) M w e = absurd (cc)
+part_from (Some N) None M w e = absurd (cc)
+part_from (Some N) (Some v) M w e = (cc, cc)
+
+node_from : (o : Option Declared) (M : Node) → option_map (λ f. f.node) o ≡ Some M → (f : Declared) × ((o ≡ Some f) × (f.node ≡ M))
+node_from None M e = absurd (cc)
+node_from (Some f) M e = (f, (refl, same_Some f.node M e))
+
+declared : (o : Option Declared) → is_some o ≡ true → (f : Declared) × (o ≡ Some f)
+declared None e = absurd (cc)
+declared (Some f) e = (f, refl)
+
+pub object_down : StoredLaw → EverywhereLaw → (P : Pools) (n : Bool) (t : Option (List ℕ)) (fs : Fields) (preserves : Bool) (type : MapType) (b : Bounds) (keys : List (List ℕ)) (ms : Members) → AreOrdered fs
+    → IsPart P (node n t (object fs preserves type b)) (tree.object ms) → AreMembers ms × AreInSlots P (field_slots keys fs) ms × IsWithin b (fault.members_count ms)
+object_down stored everywhere P n t fs preserves type b keys ms o h =
+    let parts = (stored _ _).0 h.stored in
+    let over = over_down everywhere P _ _ h.over in
+    (h.tree, record {
+      named = λ k w is.
+          let f = declared (field_at k fs) (each_name (λ l. is_some (field_at l fs)) ms over.0 k w is) in
+          let s = slot_of_field keys fs k f.0 f.1 in
+          let here : IsStored f.0.node w = rw is at (parts.1.1 k f.0 f.1) in
+          let part : IsPart P f.0.node w = record { tree = member_tree k ms w h.tree is; stored = here; over = over.1 (name k) f.0.node w (leads_to_field n t fs preserves type b ms k f.0 w f.1 is) } in
+          (s.0, s.1.0, s.1.1.0, subst (λ K. IsPart P K w) (sym s.1.1.1) part);
+      present = λ s a must none.
+          let f = field_of_slot keys fs o s a in
+          let free = rw none at (parts.1.1 s.name f.0 f.1.0) in
+          let no = f.1.1.2 in
+          let no' = rw (free.0, free.1, must) at no in
+          cc;
+    }, parts.0)
+
+-- what stands under the name of a field is a part of its node
+field_part : (P : Pools) (keys : List (List ℕ)) (fs : Fields) (ms : Members) → AreOrdered fs → AreInSlots P (field_slots keys fs) ms → (k : List ℕ) (w : Data) → member_at k ms ≡ Some w → (f : Declared) × ((field_at k fs ≡ Some f) × IsPart P f.node w)
+field_part P keys fs ms o h k w is =
+    let s = h.named k w is in
+    let f = field_of_slot keys fs o s.0 s.1 in
+    (f.0, (subst (λ l. field_at l fs ≡ Some f.0) s.2 f.1.0, subst (λ N. IsPart P N w) f.1.1.1 s.3))
+
+part_of_field : (P : Pools) (keys : List (List ℕ)) (fs : Fields) (ms : Members) → AreOrdered fs → AreInSlots P (field_slots keys fs) ms → (k : List ℕ) (f : Declared) (w : Data) → field_at k fs ≡ Some f → member_at k ms ≡ Some w → IsPart P f.node w
+part_of_field P keys fs ms o h k f w is found =
+    let g = field_part P keys fs ms o h k w found in
+    subst (λ x. IsPart P (Declared.node x) w) (same_Some g.0 f (sym g.1.0 ∙ is)) g.1.1
+
+neither : (a b : Bool) → (a || b) ≡ false → (a ≡ false) × (b ≡ false)
+neither true b e = absurd (cc)
+neither false b e = (refl, e)
+
+is_none_of : {A : Type 0} (o : Option A) → is_some o ≡ false → o ≡ None
+is_none_of None e = refl
+is_none_of (Some x) e = absurd (cc)
+
+field_stored : (P : Pools) (keys : List (List ℕ)) (fs : Fields) (ms : Members) → AreOrdered fs → AreInSlots P (field_slots keys fs) ms → (k : List ℕ) (f : Declared) → field_at k fs ≡ Some f → IsStoredField f (member_at k ms)
+field_stored P keys fs ms o h k f is = elim (option_cases (member_at k ms)) [
+  | inl none ↦
+      let s = slot_of_field keys fs k f is in
+      let free : (f.required || is_some f.default) ≡ false = elim (bool_cases s.0.must) [
+        | inl must ↦ absurd (h.present s.0 s.1.0 must (subst (λ l. member_at l ms ≡ None) (sym s.1.1.0) none))
+        | inr e ↦ sym s.1.1.2 ∙ e
+      ] in
+      let e = neither f.required (is_some f.default) free in
+      rw none (e.0, is_none_of f.default e.1)
+  | inr w ↦ rw w.1 (part_of_field P keys fs ms o h k f w.0 is w.1).stored
+]
+
+object_below : (P : Pools) (n : Bool) (t : Option (List ℕ)) (fs : Fields) (preserves : Bool) (type : MapType) (b : Bounds) (keys : List (List ℕ)) (ms : Members) → AreOrdered fs
+    → AreInSlots P (field_slots keys fs) ms → Below P (node n t (object fs preserves type b)) (tree.object ms)
+object_below P n t fs preserves type b keys ms o h (name k) M w is =
+    let q = part_from (option_map (λ f. f.node) (field_at k fs)) (member_at k ms) M w is in
+    let f = node_from (field_at k fs) M q.0 in
+    subst (λ K. IsOver P K w) f.1.1 (part_of_field P keys fs ms o h k f.0 w f.1.0 q.1).over
+object_below P n t fs preserves type b keys ms o h (index i) M w is = absurd (cc)
+
+pub object_up : StoredLaw → EverywhereLaw → (P : Pools) (n : Bool) (t : Option (List ℕ)) (fs : Fields) (preserves : Bool) (type : MapType) (b : Bounds) (keys : List (List ℕ)) (ms : Members) → AreOrdered fs
+    → AreMembers ms → AreInSlots P (field_slots keys fs) ms → IsWithin b (fault.members_count ms) → IsPart P (node n t (object fs preserves type b)) (tree.object ms)
+object_up stored everywhere P n t fs preserves type b keys ms o members h within = record {
+  tree = members;
+  stored = (stored _ _).1 (within, (
+    (λ k none others. elim (option_cases (member_at k ms)) [
+      | inl gone ↦ gone
+      | inr w ↦ let f = field_part P keys fs ms o h k w.0 w.1 in let no = sym none ∙ f.1.0 in absurd (cc)
+    ]),
+    field_stored P keys fs ms o h
+  ));
+  over = over_up everywhere P _ _ (names_pass (λ l. is_some (field_at l fs)) ms members (λ k w is. let f = field_part P keys fs ms o h k w is in rw f.1.0 refl)) (object_below P n t fs preserves type b keys ms o h);
+}
+
+-- ---- maps
+
+-- the names put in order are the same names, in the order of their bytes
+among_name : (k : List ℕ) (ls : List (List ℕ)) → is_among k ls ≡ true → Among ls k
+among_name k [] e = absurd (cc)
+among_name k (l ∷ ls) e = elim (bool_cases (bytes_eq k l)) [
+  | inl t ↦ inl (sym (same_name k l t))
+  | inr o ↦ inr (among_name k ls (rw o at e))
+]
+
+name_among : (k : List ℕ) (ls : List (List ℕ)) → Among ls k → is_among k ls ≡ true
+name_among k [] a = absurd a
+name_among k (l ∷ ls) (inl e) = rw (e, own_name k) refl
+name_among k (l ∷ ls) (inr a) = rw (name_among k ls a) (or_true (bytes_eq k l))
+
+abbrev AreNamesInOrder : List (List ℕ) → Type 0
+AreNamesInOrder ks = Rising (λ k l. text_cmp k l ≡ Less) ks
+
+-- putting in a name: it is there then, with the others, and the order is kept
+put_new : (k : List ℕ) (ls : List (List ℕ)) → Among (with_name k ls) k
+put_new k [] = inl refl
+put_new k (l ∷ ls) = elim (ordering_cases (text_cmp k l)) [
+  | inl less ↦ rw less (inl refl)
+  | inr (inl same) ↦ rw same (inl (sym (exact_bytes k l same)))
+  | inr (inr past) ↦ rw past (inr (put_new k ls))
+]
+
+put_old : (k : List ℕ) (ls : List (List ℕ)) (m : List ℕ) → Among ls m → Among (with_name k ls) m
+put_old k [] m a = absurd a
+put_old k (l ∷ ls) m a = elim (ordering_cases (text_cmp k l)) [
+  | inl less ↦ rw less (inr a)
+  | inr (inl same) ↦ rw same a
+  | inr (inr past) ↦ rw past (elim a as (λ _. (l ≡ m) ⊎ Among (with_name k ls) m) [ inl e ↦ inl e | inr b ↦ inr (put_old k ls m b) ])
+]
+
+put_only : (k : List ℕ) (ls : List (List ℕ)) (m : List ℕ) → Among (with_name k ls) m → (k ≡ m) ⊎ Among ls m
+put_only k [] m a = elim a [ inl e ↦ inl e | inr n ↦ absurd n ]
+put_only k (l ∷ ls) m a = elim (ordering_cases (text_cmp k l)) [
+  | inl less ↦ rw less at a
+  | inr (inl same) ↦ inr (rw same at a)
+  | inr (inr past) ↦
+      let b : (l ≡ m) ⊎ Among (with_name k ls) m = rw past at a in
+      elim b as (λ _. (k ≡ m) ⊎ ((l ≡ m) ⊎ Among ls m)) [
+        | inl e ↦ inr (inl e)
+        | inr c ↦ elim (put_only k ls m c) as (λ _. (k ≡ m) ⊎ ((l ≡ m) ⊎ Among ls m)) [ inl e ↦ inl e | inr d ↦ inr (inr d) ]
+      ]
+]
+
+turned : (k l : List ℕ) → text_cmp k l ≡ Greater → text_cmp l k ≡ Less
+turned k l past = let t = nat_list_cmp_total.antisymm l k in rw past at t
+
+put_in_order : (k : List ℕ) (ls : List (List ℕ)) → AreNamesInOrder ls → AreNamesInOrder (with_name k ls)
+put_in_order k [] o = ((λ v a. absurd a), tt)
+put_in_order k (l ∷ ls) o = elim (ordering_cases (text_cmp k l)) [
+  | inl less ↦ rw less ((λ v a. elim a as (λ _. text_cmp k v ≡ Less) [ inl e ↦ rw e at less | inr b ↦ nat_list_cmp_total.trans k l v less (o.0 v b) ]), o)
+  | inr (inl same) ↦ rw same o
+  | inr (inr past) ↦ rw past ((λ v a. elim (put_only k ls v a) as (λ _. text_cmp l v ≡ Less) [ inl e ↦ rw e at (turned k l past) | inr b ↦ o.0 v b ]), put_in_order k ls o.1)
+]
+
+pub in_order_rising : (ks : List (List ℕ)) → AreNamesInOrder (in_order ks)
+in_order_rising [] = tt
+in_order_rising (k ∷ ks) = put_in_order k (in_order ks) (in_order_rising ks)
+
+pub in_order_has : (ks : List (List ℕ)) (m : List ℕ) → Among ks m → Among (in_order ks) m
+in_order_has [] m a = absurd a
+in_order_has (k ∷ ks) m (inl e) = rw (← e) (put_new k (in_order ks))
+in_order_has (k ∷ ks) m (inr a) = put_old k (in_order ks) m (in_order_has ks m a)
+
+pub in_order_only : (ks : List (List ℕ)) (m : List ℕ) → Among (in_order ks) m → Among ks m
+in_order_only [] m a = a
+in_order_only (k ∷ ks) m a = elim (put_only k (in_order ks) m a) as (λ _. (k ≡ m) ⊎ Among ks m) [ inl e ↦ inl e | inr b ↦ inr (in_order_only ks m b) ]
+
+value_slot_of : (N : Node) (ks : List (List ℕ)) (k : List ℕ) → Among ks k → Among (map (value_slot N) ks) (value_slot N k)
+value_slot_of N [] k a = absurd a
+value_slot_of N (l ∷ ks) k (inl e) = inl (ap (value_slot N) e)
+value_slot_of N (l ∷ ks) k (inr a) = inr (value_slot_of N ks k a)
+
+name_of_value_slot : (N : Node) (ks : List (List ℕ)) (s : Slot) → Among (map (value_slot N) ks) s → (k : List ℕ) × (Among ks k × (value_slot N k ≡ s))
+name_of_value_slot N [] s a = absurd a
+name_of_value_slot N (l ∷ ks) s (inl e) = (l, (inl refl, e))
+name_of_value_slot N (l ∷ ks) s (inr a) = let r = name_of_value_slot N ks s a in (r.0, (inr r.1.0, r.1.1))
+
+value_slots_in_order : (N : Node) (ks : List (List ℕ)) → AreNamesInOrder ks → AreInOrder (map (value_slot N) ks)
+value_slots_in_order N [] o = tt
+value_slots_in_order N (k ∷ ks) o = ((λ s a. let r = name_of_value_slot N ks s a in subst (λ t. text_cmp k (Slot.name t) ≡ Less) r.1.1 (o.0 r.0 r.1.0)), value_slots_in_order N ks o.1)
+
+pub values_in_order : (N : Node) (ks : List (List ℕ)) → AreInOrder (map (value_slot N) (in_order ks))
+values_in_order N ks = value_slots_in_order N (in_order ks) (in_order_rising ks)
+
+abbrev MapSlots : Pools → Node → List Slot
+MapSlots P M = map (value_slot M) (in_order P.names)
+
+-- what stands under a name of the pools is a part of the node of values
+value_part : (P : Pools) (M : Node) (ms : Members) → AreInSlots P (MapSlots P M) ms → (k : List ℕ) (w : Data) → member_at k ms ≡ Some w → (is_among k P.names ≡ true) × IsPart P M w
+value_part P M ms h k w is =
+    let s = h.named k w is in
+    let r = name_of_value_slot M (in_order P.names) s.0 s.1 in
+    let same : r.0 ≡ k = ap (λ t. Slot.name t) r.1.1 ∙ s.2 in
+    (subst (λ l. is_among l P.names ≡ true) same (name_among r.0 P.names (in_order_only P.names r.0 r.1.0)), subst (λ t. IsPart P (Slot.node t) w) (sym r.1.1) s.3)
+
+pub map_down : StoredLaw → EverywhereLaw → (P : Pools) (n : Bool) (t : Option (List ℕ)) (M : Node) (type : MapType) (b : Bounds) (ms : Members)
+    → IsPart P (node n t (nodes.map M type b)) (tree.object ms) → AreMembers ms × AreInSlots P (map (value_slot M) (in_order P.names)) ms × IsWithin b (fault.members_count ms)
+map_down stored everywhere P n t M type b ms h =
+    let parts = (stored _ _).0 h.stored in
+    let over = over_down everywhere P _ _ h.over in
+    (h.tree, record {
+      named = λ k w is. (value_slot M k, value_slot_of M (in_order P.names) k (in_order_has P.names k (among_name k P.names (each_name (λ l. is_among l P.names) ms over.0 k w is))), refl,
+        record { tree = member_tree k ms w h.tree is; stored = parts.1 k w is; over = over.1 (name k) M w (rw is refl) });
+      present = λ s a must none. let r = name_of_value_slot M (in_order P.names) s a in let no : false ≡ true = ap (λ t. Slot.must t) r.1.1 ∙ must in cc;
+    }, parts.0)
+
+map_below : (P : Pools) (n : Bool) (t : Option (List ℕ)) (M : Node) (type : MapType) (b : Bounds) (ms : Members) → AreInSlots P (map (value_slot M) (in_order P.names)) ms → Below P (node n t (nodes.map M type b)) (tree.object ms)
+map_below P n t M type b ms h (name k) K w is =
+    let q = part_from (Some M) (member_at k ms) K w is in
+    subst (λ J. IsOver P J w) (same_Some M K q.0) (value_part P M ms h k w q.1).1.over
+map_below P n t M type b ms h (index i) K w is = absurd (cc)
+
+pub map_up : StoredLaw → EverywhereLaw → (P : Pools) (n : Bool) (t : Option (List ℕ)) (M : Node) (type : MapType) (b : Bounds) (ms : Members)
+    → AreMembers ms → AreInSlots P (map (value_slot M) (in_order P.names)) ms → IsWithin b (fault.members_count ms) → IsPart P (node n t (nodes.map M type b)) (tree.object ms)
+map_up stored everywhere P n t M type b ms members h within = record {
+  tree = members;
+  stored = (stored _ _).1 (within, λ k w is. (value_part P M ms h k w is).1.stored);
+  over = over_up everywhere P _ _ (names_pass (λ l. is_among l P.names) ms members (λ k w is. (value_part P M ms h k w is).0)) (map_below P n t M type b ms h);
+}
+
+-- ---- lists
+
+items_parts : (P : Pools) (M : Node) (ds : Items) → AreTrees ds → ((i : ℕ) (w : Data) → item_at i ds ≡ Some w → IsStored M w × IsOver P M w) → AreParts P M ds
+items_parts P M no_items trees h = tt
+items_parts P M (item d ds) trees h =
+    let first = h zero d refl in
+    (record { tree = trees.0; stored = first.0; over = first.1 }, items_parts P M ds trees.1 (λ i w is. h (suc i) w is))
+
+part_at_index : (P : Pools) (M : Node) (ds : Items) (i : ℕ) (w : Data) → AreParts P M ds → item_at i ds ≡ Some w → IsPart P M w
+part_at_index P M no_items i w h is = absurd (cc)
+part_at_index P M (item d ds) zero w h is = subst (IsPart P M) (same_Some d w is) h.0
+part_at_index P M (item d ds) (suc i) w h is = part_at_index P M ds i w h.1 is
+
+items_trees : (P : Pools) (M : Node) (ds : Items) → AreParts P M ds → AreTrees ds
+items_trees P M no_items h = tt
+items_trees P M (item d ds) h = (h.0.tree, items_trees P M ds h.1)
+
+pub list_down : StoredLaw → EverywhereLaw → (P : Pools) (n : Bool) (t : Option (List ℕ)) (M : Node) (type : ListType) (keys : List (List ℕ)) (b : Bounds) (ds : Items)
+    → IsPart P (node n t (list M type keys b)) (tree.list ds) → AreParts P M ds × (are_apart (fault.are_alike type keys) ds ≡ true) × IsWithin b (fault.items_count ds)
+list_down stored everywhere P n t M type keys b ds h =
+    let parts = (stored _ _).0 h.stored in
+    let over = over_down everywhere P _ _ h.over in
+    (items_parts P M ds h.tree (λ i w is. (parts.1 i w is, over.1 (index i) M w (rw is refl))), parts.0.1, parts.0.0)
+
+list_below : (P : Pools) (n : Bool) (t : Option (List ℕ)) (M : Node) (type : ListType) (keys : List (List ℕ)) (b : Bounds) (ds : Items) → AreParts P M ds → Below P (node n t (list M type keys b)) (tree.list ds)
+list_below P n t M type keys b ds h (name k) K w is = absurd (cc)
+list_below P n t M type keys b ds h (index i) K w is =
+    let q = part_from (Some M) (item_at i ds) K w is in
+    subst (λ J. IsOver P J w) (same_Some M K q.0) (part_at_index P M ds i w h q.1).over
+
+pub list_up : StoredLaw → EverywhereLaw → (P : Pools) (n : Bool) (t : Option (List ℕ)) (M : Node) (type : ListType) (keys : List (List ℕ)) (b : Bounds) (ds : Items)
+    → AreParts P M ds → are_apart (fault.are_alike type keys) ds ≡ true → IsWithin b (fault.items_count ds) → IsPart P (node n t (list M type keys b)) (tree.list ds)
+list_up stored everywhere P n t M type keys b ds h apart within = record {
+  tree = items_trees P M ds h;
+  stored = (stored _ _).1 ((within, apart), λ i w is. (part_at_index P M ds i w h is).stored);
+  over = over_up everywhere P _ _ refl (list_below P n t M type keys b ds h);
+}
+
+-- ---- all of it
+
+-- a null that is stored has no parts
+null_part : EverywhereLaw → (P : Pools) (N : Node) → IsStored N tree.null → is_over_here P N tree.null ≡ true → IsPart P N tree.null
+null_part everywhere P N here over = record { tree = tt; stored = here; over = over_up everywhere P N tree.null over (λ s M w is. absurd (cc)) }
+
+-- an object in whose slots parts stand
+filled_object : (P : Pools) (s : Site) (ms : Members) → AreInOrder (slots P s) → AreMembers ms → AreInSlots P (slots P s) ms → IsWithin (bounds_of s.node) (fault.members_count ms) → IsObjectPart P s (tree.object ms)
+filled_object P s ms o members h within =
+    let r = fill P (slots P s) ms o members h in
+    record { fillings = r.0; is = ap tree.object r.2; are = r.1; within = subst (IsWithin (bounds_of s.node)) (ap fault.members_count r.2 ∙ in_count P (slots P s) r.0 r.1) within }
+
+object_cases : StoredLaw → EverywhereLaw → (P : Pools) (keys : List (List ℕ)) (n : Bool) (t : Option (List ℕ)) (fs : Fields) (preserves : Bool) (type : MapType) (b : Bounds) (v : Data) → AreOrdered fs
+    → IsPart P (node n t (object fs preserves type b)) v → IsNullPart (node n t (object fs preserves type b)) v ⊎ IsObjectPart P (record { node = node n t (object fs preserves type b); keys = keys }) v
+object_cases stored everywhere P keys n t fs preserves type b tree.null o h = inl (refl, ((stored _ _).0 h.stored).0)
+object_cases stored everywhere P keys n t fs preserves type b (tree.object ms) o h =
+    let d = object_down stored everywhere P n t fs preserves type b keys ms o h in
+    inr (filled_object P (record { node = node n t (object fs preserves type b); keys = keys }) ms (fields_in_order keys fs o) d.0 d.1 d.2)
+object_cases stored everywhere P keys n t fs preserves type b (tree.boolean x) o h = absurd ((stored _ _).0 h.stored).0
+object_cases stored everywhere P keys n t fs preserves type b (tree.integer x) o h = absurd ((stored _ _).0 h.stored).0
+object_cases stored everywhere P keys n t fs preserves type b (tree.text x) o h = absurd ((stored _ _).0 h.stored).0
+object_cases stored everywhere P keys n t fs preserves type b (tree.list x) o h = absurd ((stored _ _).0 h.stored).0
+
+abbrev RowLaw : Pools → Site → Data → Type 0
+RowLaw P s v = IsPart P s.node v ↔ (IsNullPart s.node v ⊎ IsObjectPart P s v)
+
+object_row : StoredLaw → EverywhereLaw → (P : Pools) (keys : List (List ℕ)) (n : Bool) (t : Option (List ℕ)) (fs : Fields) (preserves : Bool) (type : MapType) (b : Bounds) (v : Data) → AreOrdered fs
+    → RowLaw P (record { node = node n t (object fs preserves type b); keys = keys }) v
+object_row stored everywhere P keys n t fs preserves type b v o =
+    let s : Site = record { node = node n t (object fs preserves type b); keys = keys } in
+    let up : (u : Data) → IsNullPart s.node u ⊎ IsObjectPart P s u → IsPart P s.node u = λ u h. elim h as (λ _. IsPart P s.node u) [
+      | inl null ↦ rw null.0 (null_part everywhere P s.node ((stored s.node tree.null).1 (null.1, tt)) refl)
+      | inr q ↦
+          let members = in_members P (slots P s) q.fillings (fields_in_order keys fs o) q.are in
+          let inside = in_slots P (slots P s) q.fillings (fields_in_order keys fs o) q.are in
+          rw q.is (object_up stored everywhere P n t fs preserves type b keys _ o members inside (rw (in_count P (slots P s) q.fillings q.are) q.within))
+    ] in
+    (object_cases stored everywhere P keys n t fs preserves type b v o, up v)
+
+map_cases : StoredLaw → EverywhereLaw → (P : Pools) (keys : List (List ℕ)) (n : Bool) (t : Option (List ℕ)) (M : Node) (type : MapType) (b : Bounds) (v : Data)
+    → IsPart P (node n t (nodes.map M type b)) v → IsNullPart (node n t (nodes.map M type b)) v ⊎ IsObjectPart P (record { node = node n t (nodes.map M type b); keys = keys }) v
+map_cases stored everywhere P keys n t M type b tree.null h = inl (refl, ((stored _ _).0 h.stored).0)
+map_cases stored everywhere P keys n t M type b (tree.object ms) h =
+    let d = map_down stored everywhere P n t M type b ms h in
+    inr (filled_object P (record { node = node n t (nodes.map M type b); keys = keys }) ms (values_in_order M P.names) d.0 d.1 d.2)
+map_cases stored everywhere P keys n t M type b (tree.boolean x) h = absurd ((stored _ _).0 h.stored).0
+map_cases stored everywhere P keys n t M type b (tree.integer x) h = absurd ((stored _ _).0 h.stored).0
+map_cases stored everywhere P keys n t M type b (tree.text x) h = absurd ((stored _ _).0 h.stored).0
+map_cases stored everywhere P keys n t M type b (tree.list x) h = absurd ((stored _ _).0 h.stored).0
+
+map_row : StoredLaw → EverywhereLaw → (P : Pools) (keys : List (List ℕ)) (n : Bool) (t : Option (List ℕ)) (M : Node) (type : MapType) (b : Bounds) (v : Data) → RowLaw P (record { node = node n t (nodes.map M type b); keys = keys }) v
+map_row stored everywhere P keys n t M type b v =
+    let s : Site = record { node = node n t (nodes.map M type b); keys = keys } in
+    let o = values_in_order M P.names in
+    let up : (u : Data) → IsNullPart s.node u ⊎ IsObjectPart P s u → IsPart P s.node u = λ u h. elim h as (λ _. IsPart P s.node u) [
+      | inl null ↦ rw null.0 (null_part everywhere P s.node ((stored s.node tree.null).1 (null.1, tt)) refl)
+      | inr q ↦ rw q.is (map_up stored everywhere P n t M type b _ (in_members P (slots P s) q.fillings o q.are) (in_slots P (slots P s) q.fillings o q.are) (rw (in_count P (slots P s) q.fillings q.are) q.within))
+    ] in
+    (map_cases stored everywhere P keys n t M type b v, up v)
+
+list_cases : StoredLaw → EverywhereLaw → (P : Pools) (n : Bool) (t : Option (List ℕ)) (M : Node) (type : ListType) (keys : List (List ℕ)) (b : Bounds) (v : Data)
+    → IsPart P (node n t (list M type keys b)) v → IsNullPart (node n t (list M type keys b)) v ⊎ IsItemsPart P (node n t (list M type keys b)) M v
+list_cases stored everywhere P n t M type keys b tree.null h = inl (refl, ((stored _ _).0 h.stored).0)
+list_cases stored everywhere P n t M type keys b (tree.list ds) h =
+    let d = list_down stored everywhere P n t M type keys b ds h in
+    inr (record { items = ds; is = refl; are = d.0; apart = d.1; within = d.2 })
+list_cases stored everywhere P n t M type keys b (tree.boolean x) h = absurd ((stored _ _).0 h.stored).0
+list_cases stored everywhere P n t M type keys b (tree.integer x) h = absurd ((stored _ _).0 h.stored).0
+list_cases stored everywhere P n t M type keys b (tree.text x) h = absurd ((stored _ _).0 h.stored).0
+list_cases stored everywhere P n t M type keys b (tree.object x) h = absurd ((stored _ _).0 h.stored).0
+
+list_up_cases : StoredLaw → EverywhereLaw → (P : Pools) (n : Bool) (t : Option (List ℕ)) (M : Node) (type : ListType) (keys : List (List ℕ)) (b : Bounds) (v : Data)
+    → IsNullPart (node n t (list M type keys b)) v ⊎ IsItemsPart P (node n t (list M type keys b)) M v → IsPart P (node n t (list M type keys b)) v
+list_up_cases stored everywhere P n t M type keys b v (inl null) = rw null.0 (null_part everywhere P _ ((stored _ tree.null).1 (null.1, tt)) refl)
+list_up_cases stored everywhere P n t M type keys b v (inr q) = rw q.is (list_up stored everywhere P n t M type keys b q.items q.are q.apart q.within)
+
+row_law : StoredLaw → EverywhereLaw → (P : Pools) (N : Node) (keys : List (List ℕ)) (v : Data) → IsNode N → sort_of N ≡ Row → RowLaw P (record { node = N; keys = keys }) v
+row_law stored everywhere P (node n t (object fs preserves type b)) keys v o is = object_row stored everywhere P keys n t fs preserves type b v o
+row_law stored everywhere P (node n t (nodes.map M type b)) keys v o is = map_row stored everywhere P keys n t M type b v
+row_law stored everywhere P (node n t (scalar kind cs)) keys v o is = absurd (cc)
+row_law stored everywhere P (node n t (list M type ks b)) keys v o is = absurd (cc)
+row_law stored everywhere P (node n t open_) keys v o is = absurd (cc)
+
+list_law : StoredLaw → EverywhereLaw → (P : Pools) (N : Node) (keys : List (List ℕ)) (M : Site) (v : Data) → item_site (record { node = N; keys = keys }) ≡ Some M → IsPart P N v ↔ (IsNullPart N v ⊎ IsItemsPart P N M.node v)
+list_law stored everywhere P (node n t (list K type ks b)) keys M v is =
+    let same : K ≡ M.node = ap (λ s. Site.node s) (same_Some _ M is) in
+    rw (← same) (list_cases stored everywhere P n t K type ks b v, list_up_cases stored everywhere P n t K type ks b v)
+list_law stored everywhere P (node n t (object fs preserves type b)) keys M v is = absurd (cc)
+list_law stored everywhere P (node n t (nodes.map K type b)) keys M v is = absurd (cc)
+list_law stored everywhere P (node n t (scalar kind cs)) keys M v is = absurd (cc)
+list_law stored everywhere P (node n t open_) keys M v is = absurd (cc)
+
+never_part : (o : Option Data) (M : Node) (w : Data) → option_map (part_of None) o ≡ Some (at M w) → ⊥
+never_part None M w e = cc
+never_part (Some v) M w e = cc
+
+-- a leaf has no parts but itself
+leaf_below : (P : Pools) (N : Node) (v : Data) → sort_of N ≡ Leaf → Below P N v
+leaf_below P (node n t (scalar kind cs)) v leaf s M w is = absurd (never_part (part_by v s) M w is)
+leaf_below P (node n t open_) v leaf s M w is = absurd (never_part (part_by v s) M w is)
+leaf_below P (node n t (object fs preserves type b)) v leaf s M w is = absurd (cc)
+leaf_below P (node n t (nodes.map K type b)) v leaf s M w is = absurd (cc)
+leaf_below P (node n t (list K type ks b)) v leaf s M w is = absurd (cc)
+
+pub part_laws : StoredLaw → EverywhereLaw → PartLaws
+part_laws stored everywhere = record {
+  leaf = λ P N v leaf. (
+    (λ h. (h.tree, h.stored, (over_down everywhere P N v h.over).0)),
+    λ h. record { tree = h.0; stored = h.1; over = over_up everywhere P N v h.2 (leaf_below P N v leaf) }
+  );
+  row = λ P s v o is. row_law stored everywhere P s.node s.keys v o is;
+  list = λ P s M v is. list_law stored everywhere P s.node s.keys M v is;
+}
