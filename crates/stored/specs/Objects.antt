@@ -4,3 +4,4 @@ pub mod Tests
 pub mod Fault
 pub mod AllFaults
 pub mod Becomes
+pub mod StoredByParts
