@@ -1,6 +1,6 @@
 -- The test by levels says whether filling leaves a value as it is.
-use Rattle.std.proofs.Common.{◌≡◌, ℕ, zero, suc, List, [], ◌∷◌, Bool, true, false, Option, Some, None, refl, ap, sym, ◌∙◌, subst, inl, inr}
-use Rattle.std.specs.Prelude.{option_map, option_and_then, ◌&&◌}
+use Rattle.std.proofs.Common.{◌≡◌, ℕ, zero, suc, List, [], ◌∷◌, true, Option, Some, None, refl, sym, subst, inl, inr}
+use Rattle.std.specs.Prelude.{option_map, option_and_then}
 use Rattle.std.specs.Str.{bytes_eq}
 use Rattle.std.proofs.lemmas.Bool.{and_parts, and_from}
 use Rattle.std.proofs.lemmas.Option.{same_Some}
@@ -14,7 +14,6 @@ use Rattle.stored.specs.Objects.Parts.{at, value_of, part_by_path}
 use Rattle.stored.specs.Objects.Becomes.{Label, label, leads_filled, filled_under, admitted, is_nullable, or_default, IsFilled}
 use Rattle.stored.specs.Objects.Becomes as labels
 use Rattle.stored.specs.Internal.FilledTest.{is_null_default, stays, all_values, all_items, is_filled, are_fields_filled}
-use Rattle.stored.proofs.Again.{null_only}
 use Rattle.stored.proofs.BecomingLemmas.{free_stays}
 use Rattle.stored.proofs.FilledParts.{whole_filled}
 use Rattle.stored.proofs.FieldLemmas.{later_field}

@@ -23,3 +23,4 @@ pub mod FaultLemmas
 pub mod FaultlessLemmas
 pub mod RepetitionLemmas
 pub mod FilledTest
+pub mod StoredLemmas

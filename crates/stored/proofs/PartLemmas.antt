@@ -13,6 +13,9 @@ same_node N M v w e = cc
 same_value : (N M : Node) (v w : Data) → ◌≡◌ {A = Option Part} (Some (at N v)) (Some (at M w)) → v ≡ w
 same_value N M v w e = cc
 
+pub same_part : (Holds : Node → Data → Type 0) (N : Node) (v : Data) → Holds N v → (M : Node) (w : Data) → ◌≡◌ {A = Option Part} (Some (at N v)) (Some (at M w)) → Holds M w
+same_part Holds N v h M w e = subst (λ K. Holds K w) (same_node N M v w e) (subst (Holds N) (same_value N M v w e) h)
+
 -- no node stands for a free part
 pub never_free : (o : Option Data) (M : Node) (w : Data) → option_map (part_of None) o ≡ Some (at M w) → ⊥
 never_free None M w e = cc
@@ -38,7 +41,7 @@ step_cases N v s = part_cases (leads N v s)
 -- what a step keeps, each path keeps
 pub kept_everywhere : (Holds : Node → Data → Type 0) → ((N : Node) (v : Data) (s : Step) (M : Node) (w : Data) → Holds N v → leads N v s ≡ Some (at M w) → Holds M w)
     → (N : Node) (v : Data) → Holds N v → Everywhere Holds N v
-kept_everywhere Holds step N v h [] M w e = subst (λ K. Holds K w) (same_node N M v w e) (subst (Holds N) (same_value N M v w e) h)
+kept_everywhere Holds step N v h [] M w e = same_part Holds N v h M w e
 kept_everywhere Holds step N v h (s ∷ path) M w e = elim (step_cases N v s) [
   | inl none ↦ let e' = rw none at e in cc
   | inr (inl part) ↦ kept_everywhere Holds step part.0 part.1 (step N v s part.0 part.1 h part.2) path M w (rw part.2 at e)
@@ -57,7 +60,7 @@ everywhere_down Holds N v h = (h [] N v refl, λ s M w is. holds_below Holds N v
 -- and the other way round
 pub everywhere_up : (Holds : Node → Data → Type 0) (N : Node) (v : Data) → Holds N v × ((s : Step) (M : Node) (w : Data) → leads N v s ≡ Some (at M w) → Everywhere Holds M w)
     → Everywhere Holds N v
-everywhere_up Holds N v h [] M w e = subst (λ K. Holds K w) (same_node N M v w e) (subst (Holds N) (same_value N M v w e) h.0)
+everywhere_up Holds N v h [] M w e = same_part Holds N v h.0 M w e
 everywhere_up Holds N v h (s ∷ path) M w e = elim (step_cases N v s) [
   | inl none ↦ let e' = rw none at e in cc
   | inr (inl part) ↦ h.1 s part.0 part.1 part.2 path M w (rw part.2 at e)

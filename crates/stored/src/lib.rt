@@ -2,6 +2,7 @@
 #![tactic(auto)]
 
 mod accepting;
+mod by_parts;
 mod completing;
 mod defaults;
 mod everywhere;
@@ -18,6 +19,7 @@ mod tests;
 mod validity;
 
 pub use accepting::{Schema, accept, violations};
+pub use by_parts::stored_by_parts;
 pub use completing::complete;
 pub use everywhere::everywhere_by_steps;
 pub use fault::Fault;

@@ -2,11 +2,13 @@
 ghost use Rattle.std.specs.Prelude.{◌≡◌, Decides, option_map};
 ghost use Rattle.jtree.specs.Path.{member_at};
 ghost use Rattle.jtree.specs.View.{data_of, items_of};
+ghost use Rattle.schema.specs.Rules.Keywords.{any_item};
 ghost use Rattle.schema.specs.Nodes.ByPlace.{field_at};
 ghost use Rattle.schema.specs.Nodes.View.{node_of};
 ghost use Rattle.stored.specs.Objects.Tests.{is_same};
 ghost use Rattle.stored.specs.Objects.Fault.{agree as agree_of, agree_at as agree_at_of, are_alike as are_alike_of, items_count as items_count_of, members_count as members_count_of, IsValid};
-ghost use Rattle.stored.specs.Internal.ValidByLevel.{true_if_any, is_valid as is_valid_of, is_within as is_within_of, has_required as has_required_of, any_item, are_apart as are_apart_of, are_fields_valid as are_fields_valid_of, are_values_valid as are_values_valid_of, are_items_valid as are_items_valid_of};
+ghost use Rattle.stored.specs.Objects.StoredByParts.{are_apart as are_apart_of};
+ghost use Rattle.stored.specs.Internal.ValidByLevel.{true_if_any, is_valid as is_valid_of, is_within as is_within_of, has_required as has_required_of, are_fields_valid as are_fields_valid_of, are_values_valid as are_values_valid_of, are_items_valid as are_items_valid_of};
 
 use crate::tests::{accepts_scalar, holds, is_above, is_below};
 use jtree::{Items, Member, Members, Text, Tree};

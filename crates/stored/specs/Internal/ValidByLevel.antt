@@ -8,6 +8,7 @@ use Rattle.schema.specs.Nodes.ByPlace.{field_at}
 use Rattle.schema.specs.declared.node.Bounds.{Bounds}
 use Rattle.stored.specs.Objects.Tests.{accepts_scalar, is_below, is_above, holds}
 use Rattle.stored.specs.Objects.Fault.{items_count, members_count, are_alike}
+use Rattle.stored.specs.Objects.StoredByParts.{are_apart}
 
 abbrev pub is_within : Bounds → ℕ → Bool
 is_within b n = not (is_below b.least n) && not (is_above b.most n)
@@ -16,15 +17,6 @@ is_within b n = not (is_below b.least n) && not (is_above b.most n)
 abbrev pub has_required : Fields → Members → Bool
 has_required no_fields ms = true
 has_required (field k N required default fs) ms = (not required || is_some (member_at k ms)) && has_required fs ms
-
-abbrev pub any_item : (Data → Bool) → Items → Bool
-any_item test no_items = false
-any_item test (item d ds) = test d || any_item test ds
-
--- no item repeats one before it
-abbrev pub are_apart : (Data → Data → Bool) → Items → Bool
-are_apart alike no_items = true
-are_apart alike (item d ds) = not (any_item (alike d) ds) && are_apart alike ds
 
 abbrev pub true_if_any : Option Bool → Bool
 true_if_any None = true

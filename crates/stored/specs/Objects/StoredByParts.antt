@@ -22,7 +22,7 @@ abbrev pub are_apart : (Data → Data → Bool) → Items → Bool
 are_apart alike no_items = true
 are_apart alike (item d ds) = not (any_item (alike d) ds) && are_apart alike ds
 
--- what the node asks of the value itself: of a null nothing else than that it is accepted
+-- What the node asks of the value itself. Of a null it asks only that nulls are accepted.
 abbrev pub IsValidHere : Node → Data → Type 0
 IsValidHere (node nullable description sort) tree.null = nullable ≡ true
 IsValidHere (node nullable description (scalar kind cs)) v = (accepts_scalar kind v ≡ true) × (holds cs v ≡ true)

@@ -1,7 +1,7 @@
 use Rattle.std.proofs.Common.{◌≡◌, drop}
 use Rattle.jtree.specs.View.{data_of, items_of}
+use Rattle.schema.specs.Rules.Keywords.{any_item}
 use Rattle.stored.specs.Objects.Fault.{are_alike}
-use Rattle.stored.specs.Internal.ValidByLevel.{any_item}
 use Rattle.stored.proofs.validity.is_repeated.Given as goal
 
 -- an item that follows is alike exactly where one of those that are left is
