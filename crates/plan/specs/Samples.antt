@@ -3,6 +3,7 @@ pub mod Over
 pub mod Part
 pub mod Sites
 pub mod Candidates
+pub mod Steps
 pub mod Sizes
 pub mod RuleOfParts
 pub mod NoDeadEnd

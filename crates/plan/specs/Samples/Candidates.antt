@@ -1,5 +1,5 @@
 -- The candidates of a scalar or an open node, and how wide a plan is (this project's own).
-use Rattle.std.specs.Prelude.{◌≡◌, ℕ, ◌+◌, ◌*◌, ◌≤◌, ◌⊎◌, ◌↔◌, List, length, Contains, AllPairs}
+use Rattle.std.specs.Prelude.{◌≡◌, ℕ, ◌≤◌, ◌⊎◌, ◌↔◌, List, length, Contains, AllPairs}
 use Rattle.std.specs.declared.cmp.Ordering.TheVariants.{Less}
 use Rattle.jtree.specs.Data.{Data}
 use Rattle.jtree.specs.Order.{tree_cmp}
@@ -41,7 +41,3 @@ HasWidth P s width = HasWidthBy (sort_of s.node) P s width
 pub record IsWidth (P : Pools) (root : Node) (width : ℕ) : Type 0 where
   pub each : (s : Site) (w : ℕ) → Contains (sites_of root) s → HasWidth P s w → w ≤ width
   pub reached : (width ≡ 0) ⊎ ((s : Site) × (Contains (sites_of root) s × HasWidth P s width))
-
--- the most steps that it takes to a sample
-abbrev pub delay : ℕ → ℕ → ℕ
-delay limit width = 4 * (limit + 1) * (width + 1)

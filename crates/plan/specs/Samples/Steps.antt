@@ -1,0 +1,10 @@
+-- Steps: slots, list places and candidates that were handed out (this project's own).
+use Rattle.std.specs.Prelude.{ℕ, ◌+◌, ◌*◌, ◌-◌, ◌^◌, min}
+
+-- so many steps more; the count stays at its greatest
+abbrev pub counted : ℕ → ℕ → ℕ
+counted before n = min (before + n) (2 ^ 64 - 1)
+
+-- the most steps that it takes to a sample, in a plan of this limit and width
+abbrev pub delay : ℕ → ℕ → ℕ
+delay limit width = 4 * (limit + 1) * (width + 1)

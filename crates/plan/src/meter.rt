@@ -1,0 +1,43 @@
+use std::marker::Model;
+
+/// Counts steps: the slots, list places and candidates that a plan has handed out. It stays at 2^64 - 1 once it is there.
+#[derive(Drop)]
+pub struct Meter {
+    steps: u64,
+}
+
+impl Model for Meter {
+    ghost use Rattle.std.specs.Prelude.{ℕ, ◌<◌, ◌^◌};
+
+    ghost Value = { ℕ };
+
+    ghost view = { λ m. m.steps };
+
+    ghost invariant = { λ m. m.steps < 2 ^ 64 };
+}
+
+impl Meter {
+    ghost use Rattle.std.specs.Prelude.{◌≡◌};
+    ghost use Rattle.plan.specs.Samples.Steps.{counted};
+
+    /// A meter at 0.
+    pub(crate) fn new() -> Meter
+        ensures { result ≡ 0 }
+    {
+        Meter { steps: 0 }
+    }
+
+    /// The number of steps.
+    pub fn steps(&self) -> u64
+        ensures { result ≡ self.now }
+    {
+        self.steps
+    }
+
+    /// Counts one step.
+    pub(crate) fn step(&mut self)
+        ensures { self.new ≡ counted self.old 1 }
+    {
+        self.steps = self.steps.saturating_add(1);
+    }
+}
