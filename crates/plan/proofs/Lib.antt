@@ -4,4 +4,6 @@ pub mod RowLemmas
 pub mod ListLemmas
 pub mod FillingLemmas
 pub mod PartLemmas
+pub mod SiteLemmas
+pub mod EntryLemmas
 pub mod WordLemmas

@@ -1,5 +1,5 @@
 -- Sets that hold the numbers up to a limit.
-use Rattle.std.specs.Prelude.{◌≡◌, ℕ, ◌+◌, ◌≤◌, ◌<◌, ◌↔◌, List}
+use Rattle.std.specs.Prelude.{◌≡◌, ℕ, ◌+◌, ◌≤◌, ◌<◌, ◌↔◌, ◌⊎◌, Bool, true, List}
 use Rattle.std.proofs.Common.{[], ◌∷◌, ◌++◌, length, get_or, inl, inr, arith}
 use Rattle.std.proofs.lemmas.Bool.{cases_lt}
 use Rattle.std.proofs.lemmas.List.{get_or_append_left, get_or_push, length_push}
@@ -33,3 +33,17 @@ each_push P xs x h here k d l =
           let e : length xs ≡ k = omega (arith, length_push xs x, l, g) in
           rw (get_or_push xs x d k e, ← e) here
     ]
+
+-- a set with 1, beside the sums of 1 and the members of another
+pub with_one : (limit : ℕ) (b : Bool) (O I S U : ℕ → Type 0) → b ≡ true → ((n : ℕ) → O n ↔ (n ≡ 1)) → ((n : ℕ) → S n ↔ ((n ≤ limit) × IsSum O I n)) → ((n : ℕ) → U n ↔ (S n ⊎ O n))
+    → (n : ℕ) → U n ↔ (((b ≡ true) × (n ≡ 1)) ⊎ ((n ≤ limit) × IsSum (λ i. i ≡ 1) I n))
+with_one limit b O I S U is one sums union n = (
+  (λ u. elim ((union n).0 u) as (λ _. ((b ≡ true) × (n ≡ 1)) ⊎ ((n ≤ limit) × IsSum (λ i. i ≡ 1) I n)) [
+    | inl s ↦ let x = (sums n).0 s in inr (x.0, (x.1.0, (x.1.1.0, ((one x.1.0).0 x.1.1.1.0, x.1.1.1.1, x.1.1.1.2))))
+    | inr o ↦ inl (is, (one n).0 o)
+  ]),
+  λ w. (union n).1 (elim w as (λ _. S n ⊎ O n) [
+    | inl e ↦ inr ((one n).1 e.1)
+    | inr x ↦ inl ((sums n).1 (x.0, (x.1.0, (x.1.1.0, ((one x.1.0).1 x.1.1.1.0, x.1.1.1.1, x.1.1.1.2)))))
+  ]),
+)

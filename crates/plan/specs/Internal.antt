@@ -3,3 +3,4 @@ pub mod Tables
 pub mod Lists
 pub mod PartLaws
 pub mod Values
+pub mod Arena

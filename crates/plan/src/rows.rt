@@ -53,12 +53,12 @@ fn slot_sizes<Z: SizeSet>(choice: &Choice<Z>, without: Z, with: Z, limit: u32) -
 /// The sizes after the last slot, at each number of members up to `count`.
 fn last_level<Z: SizeSet>(
     alloc: Global,
-    count: u32,
+    count: usize,
     bounds: Bounds,
     limit: u32,
 ) -> Result<Vec<Z>, AllocError>
     requires limit { limit < Z.BITS }
-    requires count { count < 4294967295 }
+    requires count { count < 18446744073709551615 }
     ensures whole { IfOk result (λ level. length level.items ≡ count + 1) }
     ensures level { IfOk result (λ level. (P : Pools) → IsLevel Z.holds limit bounds P [] level.items) }
 {
@@ -96,14 +96,14 @@ pub(crate) fn levels<Z: SizeSet>(
     limit: u32,
 ) -> Result<Vec<Vec<Z>>, AllocError>
     requires limit { limit < Z.BITS }
-    requires count { length choices.now < 4294967295 }
+    requires count { length choices.now < 18446744073709551615 }
     ensures whole { IfOk result (λ levels. length levels.items ≡ length choices.now + 1) }
     ensures shaped { IfOk result (λ levels. AreShaped (length choices.now) levels.items) }
     ensures levels { IfOk result (λ levels. (P : Pools) (ss : List Slot) → AreChoices Z.holds limit P choices.now ss → AreLevels Z.holds limit bounds P ss levels.items) }
 {
     let mut levels = Vec::new(alloc);
     let count = choices.len();
-    levels.push(last_level(alloc, count as u32, bounds, limit)?)?;
+    levels.push(last_level(alloc, count, bounds, limit)?)?;
     for done in 0..count {
         let level = slot_level(alloc, &choices[count - 1 - done], &levels[done], limit)?;
         levels.push(level)?;

@@ -4,9 +4,13 @@ use Rattle.std.specs.declared.cmp.Ordering.TheVariants.{Less}
 use Rattle.jtree.specs.Data.{Data}
 use Rattle.jtree.specs.Order.{tree_cmp}
 use Rattle.schema.specs.Nodes.Node.{Node, node, scalar, list, open_}
+use Rattle.schema.specs.declared.node.ListType.{ListType}
+use Rattle.schema.specs.declared.node.ListType.TheVariants as list_type
 use Rattle.plan.specs.Pools.Pools.{Pools}
 use Rattle.plan.specs.Samples.Part.{IsPart}
 use Rattle.plan.specs.Samples.Sites.{Site, sites_of, slots}
+use Rattle.plan.specs.declared.sort.Distinct.{Distinct}
+use Rattle.plan.specs.declared.sort.Distinct.TheVariants.{Free, Whole, Keys}
 use Rattle.plan.specs.declared.sort.Sort.{Sort}
 use Rattle.plan.specs.declared.sort.Sort.TheVariants.{Leaf, Row, List as ListSort}
 
@@ -16,6 +20,16 @@ sort_of (node nullable description (scalar kind cs)) = Leaf
 sort_of (node nullable description open_) = Leaf
 sort_of (node nullable description (list N type keys bounds)) = ListSort
 sort_of _ = Row
+
+-- which items may not stand in one list (`x-kubernetes-list-type`)
+abbrev pub distinct_by : ListType → Distinct
+distinct_by list_type.Set = Whole
+distinct_by list_type.Map = Keys
+distinct_by _ = Free
+
+abbrev pub distinct_of : Node → Distinct
+distinct_of (node nullable description (list N type keys bounds)) = distinct_by type
+distinct_of _ = Free
 
 -- all parts of the node, in the tree order, each once
 pub record AreCandidates (P : Pools) (N : Node) (vs : List Data) : Type 0 where

@@ -1,0 +1,84 @@
+-- What the entries of a plan stand for: each for the site of its number.
+use Rattle.std.specs.Prelude.{◌≡◌, ℕ, ◌+◌, ◌<◌, List, [], ◌∷◌, length, get_or, Bool, false, None, Option, Some}
+use Rattle.jtree.specs.Data.{Data}
+use Rattle.schema.specs.Nodes.Node.{Node, node, list, open_}
+use Rattle.schema.specs.declared.node.ListType.{ListType}
+use Rattle.schema.specs.declared.node.ListType.TheVariants as list_type
+use Rattle.stored.specs.Objects.Becomes.{is_nullable}
+use Rattle.plan.specs.Pools.Pools.{Pools}
+use Rattle.plan.specs.Samples.Sites.{Site, plain, item_site, Slot, slots}
+use Rattle.plan.specs.Samples.Candidates.{sort_of, distinct_of, AreCandidates}
+use Rattle.plan.specs.Samples.Sizes.{HasSize, HasMore, bounds_of, IsUpTo}
+use Rattle.plan.specs.Internal.Tables.{AreShaped, AreLevels}
+use Rattle.plan.specs.Internal.Values.{AreValues, candidates_of}
+use Rattle.plan.specs.declared.sort.Sort.TheVariants as sort
+use Rattle.plan.specs.declared.values.Values.{Values}
+use Rattle.plan.specs.declared.leaf.Leaf.{Leaf}
+use Rattle.plan.specs.declared.arena.SlotName.{SlotName}
+use Rattle.plan.specs.declared.arena.SlotName.TheVariants.{Field, Pool}
+use Rattle.plan.specs.declared.arena.SlotEntry.{SlotEntry}
+use Rattle.plan.specs.declared.arena.RowEntry.{RowEntry}
+use Rattle.plan.specs.declared.arena.ListEntry.{ListEntry}
+use Rattle.plan.specs.declared.arena.Content.{Content}
+use Rattle.plan.specs.declared.arena.Content.TheVariants as content
+use Rattle.plan.specs.declared.arena.Entry.{Entry}
+
+-- the entry of a number
+abbrev pub IsEntry : {Z : Type 0} → List (Entry Z) → ℕ → Entry Z → Type 0
+IsEntry es i e = e ≡ get_or es i e
+
+-- the site of a number
+abbrev pub site_at : List Site → ℕ → Site
+site_at sites i = get_or sites i (plain (node false None open_))
+
+abbrev pub name_of : List (List ℕ) → SlotName → List ℕ
+name_of names (Field t) = t
+name_of names (Pool i) = get_or names i []
+
+pub record IsSlot (names : List (List ℕ)) (sites : List Site) (i : ℕ) (e : SlotEntry) (s : Slot) : Type 0 where
+  pub name : name_of names e.name ≡ s.name
+  pub below : e.node < i
+  pub node : site_at sites e.node ≡ plain s.node
+  pub must : e.must ≡ s.must
+  pub key : e.key ≡ s.key
+
+abbrev pub AreSlots : List (List ℕ) → List Site → ℕ → List SlotEntry → List Slot → Type 0
+AreSlots names sites i [] [] = Unit {0}
+AreSlots names sites i (e ∷ es) (s ∷ ss) = IsSlot names sites i e s × AreSlots names sites i es ss
+AreSlots names sites i _ _ = ⊥
+
+pub record IsRow {Z : Type 0} (holds : Z → ℕ → Type 0) (limit : ℕ) (P : Pools) (names : List (List ℕ)) (sites : List Site) (i : ℕ) (r : RowEntry Z) : Type 0 where
+  pub sort : sort_of (site_at sites i).node ≡ sort.Row
+  pub are : AreSlots names sites i r.slots.items (slots P (site_at sites i))
+  pub whole : length r.levels.items ≡ length r.slots.items + 1
+  pub shaped : AreShaped (length r.slots.items) r.levels.items
+  pub levels : AreLevels holds limit (bounds_of (site_at sites i).node) P (slots P (site_at sites i)) r.levels.items
+
+pub record IsList {Z : Type 0} (holds : Z → ℕ → Type 0) (limit : ℕ) (P : Pools) (sites : List Site) (i : ℕ) (l : ListEntry Z) : Type 0 where
+  pub item : item_site (site_at sites i) ≡ Some (site_at sites l.item)
+  pub below : l.item < i
+  pub distinct : l.distinct ≡ distinct_of (site_at sites i).node
+  pub whole : length l.more.items ≡ limit
+  pub more : (t : ℕ) (z : Z) → t < length l.more.items → IsUpTo limit (holds (get_or l.more.items t z)) (HasMore P limit (site_at sites i).node t)
+
+pub record IsLeaf (P : Pools) (v : Values) (sites : List Site) (i : ℕ) (l : Leaf) : Type 0 where
+  pub sort : sort_of (site_at sites i).node ≡ sort.Leaf
+  pub candidates : AreCandidates P (site_at sites i).node (candidates_of v l)
+
+abbrev pub HasContent : {Z : Type 0} → (Z → ℕ → Type 0) → ℕ → Pools → Values → List Site → ℕ → Content Z → Type 0
+HasContent holds limit P v sites i (content.Leaf l) = IsLeaf P v sites i l
+HasContent holds limit P v sites i (content.Row r) = IsRow holds limit P v.names.items sites i r
+HasContent holds limit P v sites i (content.List l) = IsList holds limit P sites i l
+
+pub record IsRight {Z : Type 0} (holds : Z → ℕ → Type 0) (limit : ℕ) (P : Pools) (v : Values) (sites : List Site) (i : ℕ) (e : Entry Z) : Type 0 where
+  pub sizes : IsUpTo limit (holds e.sizes) (HasSize P (site_at sites i).node)
+  pub nullable : e.nullable ≡ is_nullable (site_at sites i).node
+  pub content : HasContent holds limit P v sites i e.content
+
+-- the entries stand for the first of these sites
+abbrev pub AreRight : {Z : Type 0} → (Z → ℕ → Type 0) → ℕ → Pools → Values → List Site → List (Entry Z) → Type 0
+AreRight {Z} holds limit P v sites es = (i : ℕ) (e : Entry Z) → i < length es → IsRight holds limit P v sites i (get_or es i e)
+
+-- these sites stand from a number on
+abbrev pub Stand : List Site → ℕ → List Site → Type 0
+Stand sites start xs = (j : ℕ) (s : Site) → j < length xs → site_at sites (start + j) ≡ get_or xs j s

@@ -1,0 +1,103 @@
+//! The nodes of a plan, each behind the nodes below it, with the sizes of what may stand there.
+ghost use Rattle.std.specs.Prelude.{◌≡◌, ◌<◌, ◌++◌, ◌∷◌, [], length, IfOk};
+
+use crate::leaf::Leaf;
+use crate::values::Values;
+use crate::{Distinct, SizeSet};
+use jtree::Text;
+use std::alloc::AllocError;
+use std::marker::Model;
+
+/// The number of a node of a plan.
+#[derive(Clone, Copy)]
+pub struct PlanNode {
+    number: usize,
+}
+
+impl Model for PlanNode {
+    ghost use Rattle.std.specs.Prelude.{ℕ};
+
+    ghost Value = { ℕ };
+
+    ghost view = { λ n. n.number };
+
+    ghost inverse = { λ n. record { number = n } };
+}
+
+/// The name of a slot: that of a field, or the place of a name of the pools.
+#[derive(Drop)]
+pub(crate) enum SlotName {
+    Field(Text),
+    Pool(usize),
+}
+
+/// A slot of a row: the node of what stands in it, whether something must stand there, and whether its name is a key.
+#[derive(Drop)]
+pub(crate) struct SlotEntry {
+    pub name: SlotName,
+    pub node: PlanNode,
+    pub must: bool,
+    pub key: bool,
+}
+
+/// The slots of a row, and the sizes that those from each place on can take, the last place first.
+#[derive(Drop)]
+pub(crate) struct RowEntry<Z> {
+    pub slots: Vec<SlotEntry>,
+    pub levels: Vec<Vec<Z>>,
+}
+
+/// The node of the items of a list, which of them may not stand together, and the sizes that items can still take after each
+/// number of items.
+#[derive(Drop)]
+pub(crate) struct ListEntry<Z> {
+    pub item: PlanNode,
+    pub distinct: Distinct,
+    pub more: Vec<Z>,
+}
+
+#[derive(Drop)]
+pub(crate) enum Content<Z> {
+    Leaf(Leaf),
+    Row(RowEntry<Z>),
+    List(ListEntry<Z>),
+}
+
+/// A node: the sizes of its parts, whether null is accepted, and what it holds.
+#[derive(Drop)]
+pub(crate) struct Entry<Z> {
+    pub sizes: Z,
+    pub nullable: bool,
+    pub content: Content<Z>,
+}
+
+#[derive(Drop)]
+pub(crate) struct Arena<Z> {
+    pub values: Values,
+    pub limit: u32,
+    pub entries: Vec<Entry<Z>>,
+}
+
+impl<Z: SizeSet> Arena<Z> {
+    ghost use Rattle.plan.specs.Internal.Arena.{IsEntry};
+
+    /// The entry of a node.
+    pub(crate) fn entry(&self, node: PlanNode) -> &Entry<Z>
+        requires { node < length self.now.entries.items }
+        ensures { IsEntry self.now.entries.items node result.now }
+    {
+        &self.entries[node.number]
+    }
+
+    /// Adds a node behind the others.
+    pub(crate) fn add(&mut self, entry: Entry<Z>) -> Result<PlanNode, AllocError>
+        ensures values { self.new.values ≡ self.old.values }
+        ensures limit { self.new.limit ≡ self.old.limit }
+        ensures number { IfOk result (λ n. n ≡ length self.old.entries.items) }
+        ensures added { IfOk result (λ _. self.new.entries.items ≡ self.old.entries.items ++ entry ∷ []) }
+    {
+        let number = self.entries.len();
+        self.entries.push(entry)?;
+        Ok(PlanNode { number })
+    }
+}

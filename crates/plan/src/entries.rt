@@ -1,0 +1,67 @@
+//! The entries of rows and lists, over the nodes that are there.
+ghost use Rattle.std.specs.Prelude.{◌≡◌, ℕ, ◌≤◌, ◌<◌, List, All, length, IfOk};
+ghost use Rattle.schema.specs.Nodes.Node.{IsNode};
+ghost use Rattle.stored.specs.Objects.Becomes.{is_nullable};
+ghost use Rattle.plan.specs.Pools.Pools.{Pools};
+ghost use Rattle.plan.specs.Samples.Sites.{Site, slots, Slot};
+ghost use Rattle.plan.specs.Samples.Candidates.{sort_of};
+ghost use Rattle.plan.specs.Samples.Sizes.{bounds_of};
+ghost use Rattle.plan.specs.Internal.Arena.{site_at, AreSlots, AreRight, IsRight};
+ghost use Rattle.plan.specs.Internal.Tables.{AreChoices};
+ghost use Rattle.plan.specs.declared.arena.SlotEntry.{SlotEntry};
+ghost use Rattle.plan.specs.declared.sort.Sort.TheVariants.{Row};
+
+use crate::SizeSet;
+use crate::arena::{Arena, Content, Entry, RowEntry, SlotEntry};
+use crate::laws::parts_one_level;
+use crate::rows::{Choice, levels};
+use crate::sizing::whole_sizes;
+use schema::Bounds;
+use std::alloc::{AllocError, Global};
+
+/// What may stand in each slot.
+fn choices<Z: SizeSet>(
+    arena: &Arena<Z>,
+    alloc: Global,
+    slots: &[SlotEntry],
+) -> Result<Vec<Choice<Z>>, AllocError>
+    requires { All (λ (s : SlotEntry). s.node < length arena.now.entries.items) slots.now }
+    ensures whole { IfOk result (λ choices. length choices.items ≡ length slots.now) }
+    ensures choices { IfOk result (λ choices. (P : Pools) (sites : List Site) (i : ℕ) (ss : List Slot) → AreRight Z.holds arena.now.limit P arena.now.values sites arena.now.entries.items
+        → AreSlots arena.now.values.names.items sites i slots.now ss → AreChoices Z.holds arena.now.limit P choices.items ss) }
+{
+    let mut choices = Vec::new(alloc);
+    for slot in slots {
+        choices.push(Choice {
+            sizes: arena.entry(slot.node).sizes,
+            must: slot.must,
+        })?;
+    }
+    Ok(choices)
+}
+
+/// The entry of a row with these slots.
+pub(crate) fn row_entry<Z: SizeSet>(
+    arena: &Arena<Z>,
+    alloc: Global,
+    slots: Vec<SlotEntry>,
+    bounds: Bounds,
+    nullable: bool,
+) -> Result<Entry<Z>, AllocError>
+    requires limit { arena.now.limit < Z.BITS }
+    requires room { 1 ≤ arena.now.limit }
+    requires below { All (λ (s : SlotEntry). s.node < length arena.now.entries.items) slots.items }
+    ensures { IfOk result (λ e. (P : Pools) (sites : List Site) (i : ℕ) → AreRight Z.holds arena.now.limit P arena.now.values sites arena.now.entries.items
+        → IsNode (site_at sites i).node → sort_of (site_at sites i).node ≡ Row → bounds_of (site_at sites i).node ≡ bounds → is_nullable (site_at sites i).node ≡ nullable
+        → AreSlots arena.now.values.names.items sites i slots.items (slots P (site_at sites i)) → IsRight Z.holds arena.now.limit P arena.now.values sites i e) }
+{
+    parts_one_level();
+    let choices = choices(arena, alloc, &slots)?;
+    let levels = levels(alloc, &choices, bounds, arena.limit)?;
+    let sizes = whole_sizes(levels[slots.len()][0], nullable, arena.limit);
+    Ok(Entry {
+        sizes,
+        nullable,
+        content: Content::Row(RowEntry { slots, levels }),
+    })
+}
