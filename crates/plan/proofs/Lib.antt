@@ -7,3 +7,4 @@ pub mod PartLemmas
 pub mod SiteLemmas
 pub mod EntryLemmas
 pub mod WordLemmas
+pub mod FirstBreak

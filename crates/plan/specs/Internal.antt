@@ -4,3 +4,5 @@ pub mod Lists
 pub mod PartLaws
 pub mod Values
 pub mod Arena
+pub mod PoolBreak
+pub mod PoolsCode

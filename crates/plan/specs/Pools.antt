@@ -1,1 +1,4 @@
+-- The values that samples may hold, and the documents that list them.
 pub mod Pools
+pub mod Document
+pub mod PoolsFault

@@ -3,10 +3,13 @@
 
 mod arena;
 mod entries;
+mod fault;
 mod laws;
 mod leaf;
 mod lists;
 mod meter;
+mod pool_form;
+mod pools;
 mod rows;
 mod size_set;
 mod sizing;
@@ -15,6 +18,8 @@ mod values;
 mod word;
 
 pub use arena::PlanNode;
+pub use fault::PFault;
 pub use meter::Meter;
+pub use pools::{MOST_ENTRIES, MOST_NAMES, Pools};
 pub use size_set::SizeSet;
 pub use sort::{Distinct, Sort};

@@ -1,0 +1,366 @@
+//! Documents of pools: their form, how many entries there may be, and what is read.
+use crate::harness::{is_number, is_said, is_text, is_tree};
+use jtree::{Text, Tree};
+use plan::{PFault, Pools};
+use std::alloc::{AllocError, Global};
+use std::process::Abort;
+use std::test::Fail;
+
+fn read(alloc: Global, document: &str) -> Result<Result<Pools, PFault>, Fail> {
+    let document = Tree::from_bytes(alloc, document.as_bytes())?;
+    Ok(Pools::read(alloc, &document))
+}
+
+// The code, and the pointer where there is one.
+fn said(alloc: Global, fault: &PFault) -> Result<String, AllocError> {
+    match fault {
+        PFault::Form(pointer) => format!(in alloc; "{fault} {pointer:?}"),
+        _ => fault.to_string(alloc),
+    }
+}
+
+// How many integers, strings, names and trees are read, or the fault.
+fn outcome(alloc: Global, document: &str) -> Result<String, Fail> {
+    match read(alloc, document)? {
+        Ok(pools) => Ok(format!(in alloc;
+            "{} {} {} {}",
+            pools.integers().len(),
+            pools.strings().len(),
+            pools.names().len(),
+            pools.any().len()
+        )?),
+        Err(fault) => Ok(said(alloc, &fault)?),
+    }
+}
+
+fn is_outcome(
+    rt: &impl Abort,
+    alloc: Global,
+    name: &str,
+    document: &str,
+    wanted: &str,
+) -> Result<(), Fail> {
+    is_said(rt, outcome(alloc, document), wanted, "what is read", name)
+}
+
+// A name, a document, and how many entries there are in each pool, or the fault.
+static DOCUMENTS: [(&str, &str, &str); 34] = [
+    ("no member", "{}", "0 0 0 0"),
+    (
+        "empty pools",
+        r#"{"any":[],"integers":[],"names":[],"strings":[]}"#,
+        "0 0 0 0",
+    ),
+    (
+        "each pool",
+        r#"{"any":[null],"integers":[1,1,1,1],"names":["n","n"],"strings":["a","b","a"]}"#,
+        "4 3 2 1",
+    ),
+    (
+        "trees of each kind",
+        r#"{"any":[null,true,-1,"t",[[]],{"q":1}]}"#,
+        "0 0 0 6",
+    ),
+    ("a list", "[]", r#"P1 """#),
+    ("null", "null", r#"P1 """#),
+    ("a text", r#""integers""#, r#"P1 """#),
+    (
+        "a text for integers",
+        r#"{"integers":"x"}"#,
+        r#"P1 "/integers""#,
+    ),
+    (
+        "an object for integers",
+        r#"{"integers":{"0":"x"}}"#,
+        r#"P1 "/integers""#,
+    ),
+    ("null for names", r#"{"names":null}"#, r#"P1 "/names""#),
+    (
+        "a text for strings",
+        r#"{"strings":"x"}"#,
+        r#"P1 "/strings""#,
+    ),
+    ("an object for trees", r#"{"any":{}}"#, r#"P1 "/any""#),
+    (
+        "a text among integers",
+        r#"{"integers":[0,"x"]}"#,
+        r#"P1 "/integers/1""#,
+    ),
+    (
+        "a truth value among integers",
+        r#"{"integers":[true]}"#,
+        r#"P1 "/integers/0""#,
+    ),
+    (
+        "an integer among strings",
+        r#"{"strings":["a",1]}"#,
+        r#"P1 "/strings/1""#,
+    ),
+    (
+        "an integer for a name",
+        r#"{"names":[1]}"#,
+        r#"P1 "/names/0""#,
+    ),
+    (
+        "a list among names",
+        r#"{"names":["a","b",["c"]]}"#,
+        r#"P1 "/names/2""#,
+    ),
+    (
+        "a break of index 2 before one of index 10",
+        r#"{"integers":[0,1,"x",3,4,5,6,7,8,9,"y"]}"#,
+        r#"P1 "/integers/2""#,
+    ),
+    (
+        "a break of index 10",
+        r#"{"integers":[0,1,2,3,4,5,6,7,8,9,"y"]}"#,
+        r#"P1 "/integers/10""#,
+    ),
+    (
+        "a pool of another name",
+        r#"{"floats":[]}"#,
+        r#"P1 "/floats""#,
+    ),
+    (
+        "another first letter",
+        r#"{"Integers":[]}"#,
+        r#"P1 "/Integers""#,
+    ),
+    (
+        "the beginning of a name",
+        r#"{"integer":[]}"#,
+        r#"P1 "/integer""#,
+    ),
+    ("more than a name", r#"{"any ":[]}"#, r#"P1 "/any ""#),
+    ("the empty name", r#"{"":[]}"#, r#"P1 "/""#),
+    (
+        "a slash and a tilde",
+        r#"{"a/b~c~1":[]}"#,
+        r#"P1 "/a~1b~0c~01""#,
+    ),
+    (
+        "trees before integers",
+        r#"{"integers":"x","any":"x"}"#,
+        r#"P1 "/any""#,
+    ),
+    (
+        "names before strings",
+        r#"{"strings":1,"names":1}"#,
+        r#"P1 "/names""#,
+    ),
+    (
+        "a capital letter before a small one",
+        r#"{"any":1,"Z":[]}"#,
+        r#"P1 "/Z""#,
+    ),
+    (
+        "an entry before another name",
+        r#"{"integers":[true],"j":[]}"#,
+        r#"P1 "/integers/0""#,
+    ),
+    (
+        "another name before an entry",
+        r#"{"integers":[true],"i":[]}"#,
+        r#"P1 "/i""#,
+    ),
+    (
+        "a longer name behind an entry",
+        r#"{"integers-":[],"integers":[true]}"#,
+        r#"P1 "/integers/0""#,
+    ),
+    (
+        "a good pool before another name",
+        r#"{"integers":[1],"reals":[]}"#,
+        r#"P1 "/reals""#,
+    ),
+    (
+        "any trees before an entry",
+        r#"{"any":["x",1],"integers":[1,"x"]}"#,
+        r#"P1 "/integers/1""#,
+    ),
+    (
+        "a pool of pools",
+        r#"{"any":[{"floats":1}],"pools":{"integers":[]}}"#,
+        r#"P1 "/pools""#,
+    ),
+];
+
+fn push_times(text: &mut String, part: &str, count: usize) -> Result<(), AllocError> {
+    for _ in 0..count {
+        text.push_str(part)?;
+    }
+    Ok(())
+}
+
+fn nested(alloc: Global, depth: usize) -> Result<String, AllocError> {
+    let mut text = String::new(alloc);
+    push_times(&mut text, "[", depth)?;
+    push_times(&mut text, "]", depth)?;
+    Ok(text)
+}
+
+fn try_nested(rt: &impl Abort, alloc: Global) -> Result<(), Fail> {
+    is_outcome(
+        rt,
+        alloc,
+        "127 lists",
+        nested(alloc, 127)?.as_str(),
+        r#"P1 """#,
+    )
+}
+
+#[test]
+fn forms(rt: HostRuntime) -> Result<(), Fail> {
+    for (name, document, wanted) in &DOCUMENTS {
+        is_outcome(&rt, rt.alloc(), name, document, wanted)?;
+    }
+    try_nested(&rt, rt.alloc())
+}
+
+// A name, a pool, an entry with its comma, how many there are, what stands behind them, and what is answered. Each
+// repeat counts, and the form is judged before the limits.
+static LONG: [(&str, &str, &str, usize, &str, &str); 13] = [
+    ("64 integers", "integers", "0,", 63, "0]}", "64 0 0 0"),
+    ("65 integers", "integers", "0,", 64, "0]}", "P2"),
+    (
+        "64 strings",
+        "strings",
+        r#""s","#,
+        63,
+        r#""s"]}"#,
+        "0 64 0 0",
+    ),
+    ("65 strings", "strings", r#""s","#, 64, r#""s"]}"#, "P2"),
+    ("32 names", "names", r#""n","#, 31, r#""n"]}"#, "0 0 32 0"),
+    ("33 names", "names", r#""n","#, 32, r#""n"]}"#, "P2"),
+    ("64 trees", "any", "{},", 63, "{}]}", "0 0 0 64"),
+    ("65 trees", "any", "{},", 64, "{}]}", "P2"),
+    (
+        "64 integers and a name",
+        "integers",
+        "0,",
+        63,
+        r#"0],"names":["n"]}"#,
+        "64 0 1 0",
+    ),
+    (
+        "64 names",
+        "names",
+        r#""n","#,
+        63,
+        r#""n"],"strings":["s"]}"#,
+        "P2",
+    ),
+    (
+        "an integer behind 64 strings",
+        "strings",
+        r#""s","#,
+        64,
+        "1]}",
+        r#"P1 "/strings/64""#,
+    ),
+    (
+        "a text for strings behind 65 integers",
+        "integers",
+        "0,",
+        64,
+        r#"0],"strings":"s"}"#,
+        r#"P1 "/strings""#,
+    ),
+    (
+        "another name behind 33 names",
+        "names",
+        r#""n","#,
+        32,
+        r#""n"],"titles":[]}"#,
+        r#"P1 "/titles""#,
+    ),
+];
+
+fn try_long(
+    rt: &impl Abort,
+    alloc: Global,
+    row: &(&str, &str, &str, usize, &str, &str),
+) -> Result<(), Fail> {
+    let (name, pool, entry, count, tail, wanted) = *row;
+    let mut document = format!(in alloc; "{{\"{pool}\":[")?;
+    push_times(&mut document, entry, count)?;
+    document.push_str(tail)?;
+    is_outcome(rt, alloc, name, document.as_str(), wanted)
+}
+
+#[test]
+fn limits(rt: HostRuntime) -> Result<(), Fail> {
+    for row in &LONG {
+        try_long(&rt, rt.alloc(), row)?;
+    }
+    Ok(())
+}
+
+fn are_texts(rt: &impl Abort, found: &[Text], wanted: &[&str], pool: &str) {
+    is_number(
+        rt,
+        found.len() as u64,
+        wanted.len() as u64,
+        "the length",
+        pool,
+    );
+    for (text, wanted) in found.iter().zip(wanted) {
+        is_text(rt, text.as_str(), wanted, "an entry", pool);
+    }
+}
+
+fn are_trees(rt: &impl Abort, alloc: Global, found: &[Tree], wanted: &[&str]) -> Result<(), Fail> {
+    is_number(
+        rt,
+        found.len() as u64,
+        wanted.len() as u64,
+        "the length",
+        "any",
+    );
+    for (tree, wanted) in found.iter().zip(wanted) {
+        is_tree(rt, alloc, tree, wanted, "an entry", "any")?;
+    }
+    Ok(())
+}
+
+static WRITTEN: &str =
+    r#"{"strings":["b","a","b"],"names":["","é"],"integers":[3,-1,3],"any":[{"q":[1]},null]}"#;
+
+/// The order and the repeats are kept.
+#[test]
+fn entries_as_written(rt: HostRuntime) -> Result<(), Fail> {
+    let pools = read(rt.alloc(), WRITTEN)??;
+    assert_eq!(rt; pools.integers(), [3, -1, 3].as_slice());
+    are_texts(&rt, pools.strings(), &["b", "a", "b"], "strings");
+    are_texts(&rt, pools.names(), &["", "é"], "names");
+    are_trees(&rt, rt.alloc(), pools.any(), &[r#"{"q":[1]}"#, "null"])
+}
+
+#[test]
+fn no_entries(rt: HostRuntime) {
+    let pools = Pools::new(rt.alloc());
+    is_number(&rt, pools.integers().len() as u64, 0, "integers", "none");
+    is_number(&rt, pools.strings().len() as u64, 0, "strings", "none");
+    is_number(&rt, pools.names().len() as u64, 0, "names", "none");
+    is_number(&rt, pools.any().len() as u64, 0, "trees", "none");
+}
+
+#[test]
+fn codes(rt: HostRuntime) -> Result<(), Fail> {
+    is_text(
+        &rt,
+        said(rt.alloc(), &PFault::NoMemory)?.as_str(),
+        "P3",
+        "the code",
+        "no memory",
+    );
+    is_text(
+        &rt,
+        said(rt.alloc(), &PFault::BadLimit)?.as_str(),
+        "P4",
+        "the code",
+        "a bad limit",
+    );
+    Ok(())
+}

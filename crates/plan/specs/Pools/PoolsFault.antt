@@ -1,0 +1,17 @@
+-- What a fault says of a pools document: its first break, or that a pool has too many entries. A bad limit is none of its faults
+-- (this project's own).
+use Rattle.std.specs.Prelude.{◌≡◌, string_bytes}
+use Rattle.jtree.specs.Data.{Data}
+use Rattle.jtree.specs.Path.{Path}
+use Rattle.jtree.specs.PathOrder.{IsFirst}
+use Rattle.jtree.specs.Pointer.{pointer}
+use Rattle.plan.specs.Pools.Pools.{AreSmall}
+use Rattle.plan.specs.Pools.Document.{BreaksForm, HasForm, pools_of}
+use Rattle.plan.specs.declared.fault.PFault.{PFault}
+use Rattle.plan.specs.declared.fault.PFault.TheVariants.{Form, TooLarge, NoMemory}
+
+abbrev pub IsPoolsFault : Data → PFault → Type 0
+IsPoolsFault d (Form p) = (path : Path) × (string_bytes p ≡ pointer path) × IsFirst (BreaksForm d) path
+IsPoolsFault d TooLarge = HasForm d × (AreSmall (pools_of d) → ⊥)
+IsPoolsFault d NoMemory = Unit {0}
+IsPoolsFault d _ = ⊥

@@ -1,0 +1,30 @@
+ghost use Rattle.std.specs.Prelude.{◌≡◌};
+ghost use Rattle.plan.specs.declared.fault.PFault.TheVariants.{NoMemory};
+
+use std::alloc::AllocError;
+use thiserror::Error;
+
+/// Why a pools document or a node limit was refused. Each is displayed as its code.
+#[derive(Debug, Drop, Error)]
+pub enum PFault {
+    /// What stands at the pointer (RFC 6901) has not the form that it has to have there.
+    #[error("P1")]
+    Form(String),
+    /// A pool has more entries than a pool may have.
+    #[error("P2")]
+    TooLarge,
+    /// An allocation failed.
+    #[error("P3")]
+    NoMemory,
+    /// The node limit is not 1 to 63.
+    #[error("P4")]
+    BadLimit,
+}
+
+impl From<AllocError> for PFault {
+    ghost from_gives = { λ _ e. e ≡ NoMemory };
+
+    fn from(_refused: AllocError) -> PFault {
+        PFault::NoMemory
+    }
+}
