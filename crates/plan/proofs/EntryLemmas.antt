@@ -1,5 +1,5 @@
 -- The entries of rows and lists.
-use Rattle.std.specs.Prelude.{◌≡◌, ℕ, zero, suc, ◌+◌, ◌-◌, ◌≤◌, ◌<◌, ◌⊎◌, ◌↔◌, true, List, All, drop}
+use Rattle.std.specs.Prelude.{◌≡◌, ℕ, zero, suc, ◌+◌, ◌-◌, ◌≤◌, ◌<◌, ◌⊎◌, ◌↔◌, Bool, true, List, All, drop}
 use Rattle.std.proofs.Common.{refl, ap, sym, ◌∙◌, subst, inl, inr, arith, [], ◌∷◌, ◌++◌, length, get_or}
 use Rattle.std.specs.declared.vec.Vec.{Vec}
 use Rattle.std.specs.declared.alloc.Global.{Global}
@@ -13,7 +13,7 @@ use Rattle.plan.specs.Samples.Candidates.{sort_of}
 use Rattle.plan.specs.Samples.Sizes.{HasSize, CanFill, bounds_of, IsUpTo}
 use Rattle.plan.specs.Internal.Tables.{IsLevel, AreChoices, AreShaped, AreLevels}
 use Rattle.plan.specs.Internal.PartLaws.{PartLaws}
-use Rattle.plan.specs.Internal.Arena.{site_at, IsSlot, AreSlots, IsRow, IsRight, AreRight}
+use Rattle.plan.specs.Internal.Arena.{site_at, IsSlot, AreSlots, IsChosen, AreChosen, IsRow, IsRight, AreRight}
 use Rattle.plan.specs.declared.sort.Sort.TheVariants.{Row}
 use Rattle.plan.specs.declared.values.Values.{Values}
 use Rattle.plan.specs.declared.rows.Choice.{Choice}
@@ -24,8 +24,60 @@ use Rattle.plan.specs.declared.arena.Entry.{Entry}
 use Rattle.plan.proofs.RowLemmas.{as_many, drop_all}
 use Rattle.plan.proofs.SiteLemmas.{whole_up_to, row_sizes}
 
--- one slot and its choice more
-pub choices_push : {Z : Type 0} (holds : Z → ℕ → Type 0) (limit : ℕ) (P : Pools) (v : Values) (sites : List Site) (es : List (Entry Z)) (i : ℕ) (cs : List (Choice Z)) (xs : List SlotEntry) (c : Choice Z) (x : SlotEntry) (e : Entry Z)
-    → AreRight holds limit P v sites es → x.node < length es → e ≡ get_or es x.node e → c.sizes ≡ e.sizes → c.must ≡ x.must
-    → ((ss : List Slot) → AreSlots v.names.items sites i xs ss → AreChoices holds limit P cs ss) → (ss : List Slot) → AreSlots v.names.items sites i (xs ++ x ∷ []) ss → AreChoices holds limit P (cs ++ c ∷ []) ss
-choices_push holds limit P v sites es i cs xs c x e right below is sizes must before ss h = ?
+pub chosen_push : {Z : Type 0} (es : List (Entry Z)) (cs : List (Choice Z)) (xs : List SlotEntry) (c : Choice Z) (x : SlotEntry) → AreChosen es cs xs → IsChosen es c x → AreChosen es (cs ++ c ∷ []) (xs ++ x ∷ [])
+chosen_push es [] [] c x h here = (here, tt)
+chosen_push es [] (y ∷ xs) c x h here = absurd h
+chosen_push es (d ∷ cs) [] c x h here = absurd h
+chosen_push es (d ∷ cs) (y ∷ xs) c x h here = (h.0, chosen_push es cs xs c x h.1 here)
+
+pub chosen_count : {Z : Type 0} (es : List (Entry Z)) (cs : List (Choice Z)) (xs : List SlotEntry) → AreChosen es cs xs → length cs ≡ length xs
+chosen_count es [] [] h = refl
+chosen_count es [] (y ∷ xs) h = absurd h
+chosen_count es (d ∷ cs) [] h = absurd h
+chosen_count es (d ∷ cs) (y ∷ xs) h = ap suc (chosen_count es cs xs h.1)
+
+pub chosen_choices : {Z : Type 0} (holds : Z → ℕ → Type 0) (limit : ℕ) (P : Pools) (v : Values) (sites : List Site) (es : List (Entry Z)) (i : ℕ) (cs : List (Choice Z)) (xs : List SlotEntry) (ss : List Slot)
+    → AreRight holds limit P v sites es → AreChosen es cs xs → AreSlots v.names.items sites i xs ss → AreChoices holds limit P cs ss
+chosen_choices holds limit P v sites es i [] [] [] right h s = tt
+chosen_choices holds limit P v sites es i [] [] (y ∷ ss) right h s = absurd s
+chosen_choices holds limit P v sites es i [] (x ∷ xs) ss right h s = absurd h
+chosen_choices holds limit P v sites es i (c ∷ cs) [] ss right h s = absurd h
+chosen_choices holds limit P v sites es i (c ∷ cs) (x ∷ xs) [] right h s = absurd s
+chosen_choices {Z = Z} holds limit P v sites es i (c ∷ cs) (x ∷ xs) (y ∷ ss) right h s =
+    let e = h.0.entry in
+    let r : IsRight holds limit P v sites x.node e = rw (← h.0.is) at (right x.node e h.0.below) in
+    let sizes : IsUpTo limit (holds c.sizes) (HasSize P y.node) = rw (h.0.sizes, ← ap (λ t. Site.node t) s.0.node) r.sizes in
+    (sizes, h.0.must ∙ s.0.must, chosen_choices holds limit P v sites es i cs xs ss right h.1 s.1)
+
+pub slot_count : (names : List (List ℕ)) (sites : List Site) (i : ℕ) (xs : List SlotEntry) (ss : List Slot) → AreSlots names sites i xs ss → length xs ≡ length ss
+slot_count names sites i [] [] h = refl
+slot_count names sites i [] (s ∷ ss) h = absurd h
+slot_count names sites i (x ∷ xs) [] h = absurd h
+slot_count names sites i (x ∷ xs) (s ∷ ss) h = ap suc (slot_count names sites i xs ss h.1)
+
+-- the level before the first slot is the last one made
+first_level : {Z : Type 0} (holds : Z → ℕ → Type 0) (limit : ℕ) (b : Bounds) (P : Pools) (ss : List Slot) (levels : List (Vec Z Global)) (level : Vec Z Global) (z : Z) (count : ℕ) → AreLevels holds limit b P ss levels → AreShaped count levels
+    → length levels ≡ count + 1 → count ≡ length ss → level ≡ get_or levels count level → z ≡ get_or level.items 0 z → IsUpTo limit (holds z) (CanFill P ss b 0)
+first_level holds limit b P ss levels level z count h shaped whole same is is_z =
+    let l = rw (← is) at (shaped count level (omega arith)) in
+    let m = rw (← is) at (h count level (omega arith)) in
+    let e : length ss - count ≡ 0 = omega arith in
+    let n = rw (← is_z) at (m 0 z (omega arith)) in
+    rw e at n
+
+-- the entry of a row, from the choices of its slots
+pub row_right : {Z : Type 0} (holds : Z → ℕ → Type 0) (limit : ℕ) (P : Pools) (v : Values) (sites : List Site) (i : ℕ) (slots' : Vec SlotEntry Global) (levels : Vec (Vec Z Global) Global) (b : Bounds) (nullable : Bool) (level : Vec Z Global) (z sizes : Z)
+    → PartLaws → 1 ≤ limit → IsNode (site_at sites i).node → sort_of (site_at sites i).node ≡ Row → bounds_of (site_at sites i).node ≡ b → is_nullable (site_at sites i).node ≡ nullable
+    → AreSlots v.names.items sites i slots'.items (slots P (site_at sites i)) → length levels.items ≡ length slots'.items + 1 → AreShaped (length slots'.items) levels.items → AreLevels holds limit b P (slots P (site_at sites i)) levels.items
+    → level ≡ get_or levels.items (length slots'.items) level → z ≡ get_or level.items 0 z
+    → ((n : ℕ) → holds sizes n ↔ (((nullable ≡ true) × (n ≡ 1)) ⊎ ((n ≤ limit) × IsSum (λ i. i ≡ 1) (holds z) n)))
+    → IsRight holds limit P v sites i (record { sizes = sizes; nullable = nullable; content = content.Row (record { slots = slots'; levels = levels }) })
+row_right holds limit P v sites i slots' levels b nullable level z sizes laws room o sort bounds null are whole shaped levels_are is is_z sized =
+    let s = site_at sites i in
+    let here = rw (← bounds) at levels_are in
+    let first = first_level holds limit (bounds_of s.node) P (slots P s) levels.items level z (length slots'.items) here shaped whole (slot_count v.names.items sites i slots'.items (slots P s) are) is is_z in
+    record {
+      sizes = whole_up_to limit s.node P (CanFill P (slots P s) (bounds_of s.node) 0) (holds z) (holds sizes) room (λ n l. row_sizes laws P s o sort n) first (rw (← null) at sized);
+      nullable = sym null;
+      content = record { sort = sort; are = are; whole = whole; shaped = shaped; levels = here };
+    }

@@ -3,11 +3,10 @@ ghost use Rattle.std.specs.Prelude.{◌≡◌, ℕ, ◌≤◌, ◌<◌, List, Al
 ghost use Rattle.schema.specs.Nodes.Node.{IsNode};
 ghost use Rattle.stored.specs.Objects.Becomes.{is_nullable};
 ghost use Rattle.plan.specs.Pools.Pools.{Pools};
-ghost use Rattle.plan.specs.Samples.Sites.{Site, slots, Slot};
+ghost use Rattle.plan.specs.Samples.Sites.{Site, slots as slots_of};
 ghost use Rattle.plan.specs.Samples.Candidates.{sort_of};
 ghost use Rattle.plan.specs.Samples.Sizes.{bounds_of};
-ghost use Rattle.plan.specs.Internal.Arena.{site_at, AreSlots, AreRight, IsRight};
-ghost use Rattle.plan.specs.Internal.Tables.{AreChoices};
+ghost use Rattle.plan.specs.Internal.Arena.{site_at, AreChosen, AreSlots, AreRight, IsRight};
 ghost use Rattle.plan.specs.declared.arena.SlotEntry.{SlotEntry};
 ghost use Rattle.plan.specs.declared.sort.Sort.TheVariants.{Row};
 
@@ -26,9 +25,7 @@ fn choices<Z: SizeSet>(
     slots: &[SlotEntry],
 ) -> Result<Vec<Choice<Z>>, AllocError>
     requires { All (λ (s : SlotEntry). s.node < length arena.now.entries.items) slots.now }
-    ensures whole { IfOk result (λ choices. length choices.items ≡ length slots.now) }
-    ensures choices { IfOk result (λ choices. (P : Pools) (sites : List Site) (i : ℕ) (ss : List Slot) → AreRight Z.holds arena.now.limit P arena.now.values sites arena.now.entries.items
-        → AreSlots arena.now.values.names.items sites i slots.now ss → AreChoices Z.holds arena.now.limit P choices.items ss) }
+    ensures { IfOk result (λ choices. AreChosen arena.now.entries.items choices.items slots.now) }
 {
     let mut choices = Vec::new(alloc);
     for slot in slots {
@@ -51,9 +48,10 @@ pub(crate) fn row_entry<Z: SizeSet>(
     requires limit { arena.now.limit < Z.BITS }
     requires room { 1 ≤ arena.now.limit }
     requires below { All (λ (s : SlotEntry). s.node < length arena.now.entries.items) slots.items }
+    requires few { length slots.items < 18446744073709551615 }
     ensures { IfOk result (λ e. (P : Pools) (sites : List Site) (i : ℕ) → AreRight Z.holds arena.now.limit P arena.now.values sites arena.now.entries.items
         → IsNode (site_at sites i).node → sort_of (site_at sites i).node ≡ Row → bounds_of (site_at sites i).node ≡ bounds → is_nullable (site_at sites i).node ≡ nullable
-        → AreSlots arena.now.values.names.items sites i slots.items (slots P (site_at sites i)) → IsRight Z.holds arena.now.limit P arena.now.values sites i e) }
+        → AreSlots arena.now.values.names.items sites i slots.items (slots_of P (site_at sites i)) → IsRight Z.holds arena.now.limit P arena.now.values sites i e) }
 {
     parts_one_level();
     let choices = choices(arena, alloc, &slots)?;

@@ -17,6 +17,7 @@ use Rattle.plan.specs.declared.leaf.Leaf.{Leaf}
 use Rattle.plan.specs.declared.arena.SlotName.{SlotName}
 use Rattle.plan.specs.declared.arena.SlotName.TheVariants.{Field, Pool}
 use Rattle.plan.specs.declared.arena.SlotEntry.{SlotEntry}
+use Rattle.plan.specs.declared.rows.Choice.{Choice}
 use Rattle.plan.specs.declared.arena.RowEntry.{RowEntry}
 use Rattle.plan.specs.declared.arena.ListEntry.{ListEntry}
 use Rattle.plan.specs.declared.arena.Content.{Content}
@@ -46,6 +47,19 @@ abbrev pub AreSlots : List (List ℕ) → List Site → ℕ → List SlotEntry �
 AreSlots names sites i [] [] = Unit {0}
 AreSlots names sites i (e ∷ es) (s ∷ ss) = IsSlot names sites i e s × AreSlots names sites i es ss
 AreSlots names sites i _ _ = ⊥
+
+-- the choice has the sizes of the slot's node
+pub record IsChosen {Z : Type 0} (es : List (Entry Z)) (c : Choice Z) (x : SlotEntry) : Type 0 where
+  pub entry : Entry Z
+  pub is : entry ≡ get_or es x.node entry
+  pub below : x.node < length es
+  pub sizes : c.sizes ≡ entry.sizes
+  pub must : c.must ≡ x.must
+
+abbrev pub AreChosen : {Z : Type 0} → List (Entry Z) → List (Choice Z) → List SlotEntry → Type 0
+AreChosen es [] [] = Unit {0}
+AreChosen es (c ∷ cs) (x ∷ xs) = IsChosen es c x × AreChosen es cs xs
+AreChosen es _ _ = ⊥
 
 pub record IsRow {Z : Type 0} (holds : Z → ℕ → Type 0) (limit : ℕ) (P : Pools) (names : List (List ℕ)) (sites : List Site) (i : ℕ) (r : RowEntry Z) : Type 0 where
   pub sort : sort_of (site_at sites i).node ≡ sort.Row
