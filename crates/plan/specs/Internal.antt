@@ -6,3 +6,4 @@ pub mod Values
 pub mod Arena
 pub mod PoolBreak
 pub mod PoolsCode
+pub mod Building

@@ -2,6 +2,7 @@
 #![tactic(auto)]
 
 mod arena;
+mod building;
 mod entries;
 mod fault;
 mod laws;

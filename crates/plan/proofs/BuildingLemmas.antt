@@ -1,0 +1,161 @@
+-- What is added to a plan, node by node.
+use Rattle.std.specs.Prelude.{◌≡◌, ℕ, zero, suc, ◌+◌, ◌≤◌, ◌<◌, List, All, Bool, true, false, Option, option_map, ◌||◌, is_some}
+use Rattle.std.specs.Str.{bytes_eq}
+use Rattle.std.proofs.Common.{refl, ap, sym, ◌∙◌, subst, inl, inr, arith, [], ◌∷◌, ◌++◌, length, get_or}
+use Rattle.std.proofs.lemmas.Bool.{cases_lt, cases_Bool}
+use Rattle.std.proofs.lemmas.List.{get_or_append_left, get_or_push, get_or-append-add, append_assoc, length_push, length-append}
+use Rattle.jtree.specs.Data.{Data}
+use Rattle.jtree.specs.View.{data_of}
+use Rattle.schema.specs.Document.Texts.{is_among}
+use Rattle.schema.specs.Nodes.Node.{Node, node, Sort, object, Fields, no_fields, field, IsNode}
+use Rattle.schema.specs.Nodes.View.{node_of, fields_of}
+use Rattle.schema.specs.declared.node.Field.{Field}
+use Rattle.plan.specs.Pools.Pools.{Pools}
+use Rattle.plan.specs.Samples.Sites.{Site, plain, sites_from, sites_below, sites_of_fields, Slot, slots, slots_at, field_slots}
+use Rattle.plan.specs.Samples.Candidates.{sort_of}
+use Rattle.plan.specs.Samples.Sizes.{bounds_of}
+use Rattle.plan.specs.declared.sort.Sort.TheVariants.{Row}
+use Rattle.schema.specs.declared.node.Bounds.{Bounds}
+use Rattle.stored.specs.Objects.Becomes.{is_nullable}
+use Rattle.plan.specs.Internal.Values.{AreValues}
+use Rattle.plan.specs.Internal.Arena.{site_at, IsSlot, AreSlots, IsRight, AreRight, Stand, name_of}
+use Rattle.plan.specs.Internal.Building.{IsSound, IsSortSound, AreFieldsSound, IsBuilt, AreBuilt, IsFieldSlot}
+use Rattle.plan.specs.declared.values.Values.{Values}
+use Rattle.plan.specs.declared.arena.SlotEntry.{SlotEntry}
+use Rattle.plan.specs.declared.arena.Entry.{Entry}
+use Rattle.plan.proofs.SizeLemmas.{each_push}
+
+-- ---- names
+
+or_true : (b : Bool) → (b || true) ≡ true
+or_true true = refl
+or_true false = refl
+
+pub among_push : (k : List ℕ) (ws : List (List ℕ)) (w : List ℕ) → is_among k ws ≡ false → bytes_eq k w ≡ false → is_among k (ws ++ w ∷ []) ≡ false
+among_push k [] w none other = rw other refl
+among_push k (x ∷ ws) w none other = elim (cases_Bool (bytes_eq k x)) [
+  | inl t ↦ let no = rw t at none in absurd (cc)
+  | inr f ↦ rw f (among_push k ws w (rw f at none) other)
+]
+
+pub among_at : (k : List ℕ) (ws : List (List ℕ)) (i : ℕ) (d : List ℕ) → i < length ws → bytes_eq k (get_or ws i d) ≡ true → is_among k ws ≡ true
+among_at k [] i d l same = absurd (omega arith)
+among_at k (x ∷ ws) zero d l same = rw same refl
+among_at k (x ∷ ws) (suc i) d l same = rw (among_at k ws i d (omega arith) same) (or_true (bytes_eq k x))
+
+-- ---- sites that stand one behind the other
+
+pub stand_left : (sites : List Site) (start : ℕ) (xs ys : List Site) → Stand sites start (xs ++ ys) → Stand sites start xs
+stand_left sites start xs ys h j s l = h j s (omega (arith, length-append xs ys)) ∙ get_or_append_left xs ys s j l
+
+pub stand_right : (sites : List Site) (start : ℕ) (xs ys : List Site) → Stand sites start (xs ++ ys) → Stand sites (start + length xs) ys
+stand_right sites start xs ys h j s l =
+    let e : start + length xs + j ≡ start + (length xs + j) = omega arith in
+    rw e (h (length xs + j) s (omega (arith, length-append xs ys)) ∙ get_or-append-add xs ys j s)
+
+pub stand_last : (sites : List Site) (start : ℕ) (xs : List Site) (s : Site) → Stand sites start (xs ++ s ∷ []) → site_at sites (start + length xs) ≡ s
+stand_last sites start xs s h = h (length xs) s (omega (arith, length_push xs s)) ∙ get_or_push xs s s (length xs) refl
+
+-- ---- fields
+
+append_none : {X : Type 0} (xs : List X) → xs ++ [] ≡ xs
+append_none [] = refl
+append_none (x ∷ xs) = ap (λ l. x ∷ l) (append_none xs)
+
+sites_push : (xs : List Field) (x : Field) → sites_of_fields (fields_of (xs ++ x ∷ [])) ≡ sites_of_fields (fields_of xs) ++ sites_from (node_of x.node) []
+sites_push [] x = append_none (sites_from (node_of x.node) [])
+sites_push (y ∷ xs) x =
+    ap (λ l. sites_from (node_of y.node) [] ++ l) (sites_push xs x) ∙ sym (append_assoc (sites_from (node_of y.node) []) (sites_of_fields (fields_of xs)) (sites_from (node_of x.node) []))
+
+slots_push : (keys : List (List ℕ)) (xs : List Field) (x : Field) → field_slots keys (fields_of (xs ++ x ∷ [])) ≡ field_slots keys (fields_of xs) ++ (record { name = x.name; node = node_of x.node; must = x.required || is_some (option_map data_of x.default); key = is_among x.name keys }) ∷ []
+slots_push keys [] x = refl
+slots_push keys (y ∷ xs) x = ap (λ l. record { name = y.name; node = node_of y.node; must = y.required || is_some (option_map data_of y.default); key = is_among y.name keys } ∷ l) (slots_push keys xs x)
+
+sound_push : (xs : List Field) (x : Field) → AreFieldsSound (fields_of (xs ++ x ∷ [])) → AreFieldsSound (fields_of xs) × IsSound (node_of x.node)
+sound_push [] x h = (tt, h.0)
+sound_push (y ∷ xs) x h = let r = sound_push xs x h.1 in ((h.0, r.0), r.1)
+
+-- the site of the node itself is the last of its sites
+pub last_site : (sites : List Site) (start n : ℕ) (N : Node) (keys : List (List ℕ)) → n + 1 ≡ start + length (sites_from N keys) → Stand sites start (sites_from N keys) → site_at sites n ≡ record { node = N; keys = keys }
+last_site sites start n (node nullable description sort) keys last stand =
+    let below = sites_below sort in
+    let s : Site = record { node = node nullable description sort; keys = keys } in
+    let e : start + length below ≡ n = omega (arith, last, length_push below s) in
+    rw e at (stand_last sites start below s stand)
+
+slots_are_push : (names : List (List ℕ)) (sites : List Site) (i : ℕ) (es : List SlotEntry) (ss : List Slot) (e : SlotEntry) (s : Slot) → AreSlots names sites i es ss → IsSlot names sites i e s → AreSlots names sites i (es ++ e ∷ []) (ss ++ s ∷ [])
+slots_are_push names sites i [] [] e s h here = (here, tt)
+slots_are_push names sites i [] (t ∷ ss) e s h here = absurd h
+slots_are_push names sites i (x ∷ es) [] e s h here = absurd h
+slots_are_push names sites i (x ∷ es) (t ∷ ss) e s h here = (h.0, slots_are_push names sites i es ss e s h.1 here)
+
+pub no_fields_built : {Z : Type 0} (holds : Z → ℕ → Type 0) (limit : ℕ) (v : Values) (es : List (Entry Z)) (keys : List (List ℕ)) → AreBuilt holds limit v es es no_fields keys []
+no_fields_built holds limit v es keys = record {
+  count = omega arith;
+  below = λ k d l. absurd (omega arith);
+  right = λ P sites values sound stand right. right;
+  slots_are = λ names sites i stand within. tt;
+}
+
+pub field_built : {Z : Type 0} (holds : Z → ℕ → Type 0) (limit : ℕ) (v : Values) (old mid new : List (Entry Z)) (xs : List Field) (x : Field) (keys : List (List ℕ)) (slots : List SlotEntry) (s : SlotEntry)
+    → AreBuilt holds limit v old mid (fields_of xs) keys slots → IsBuilt holds limit v mid new (node_of x.node) [] s.node → IsFieldSlot keys x.name x.required (option_map data_of x.default) s
+    → AreBuilt holds limit v old new (fields_of (xs ++ x ∷ [])) keys (slots ++ s ∷ [])
+field_built holds limit v old mid new xs x keys slots s a b f =
+    let before = sites_of_fields (fields_of xs) in
+    let here = sites_from (node_of x.node) [] in
+    let start : length old + length before ≡ length mid = sym a.count in
+    let first : (sites : List Site) → Stand sites (length old) (sites_of_fields (fields_of (xs ++ x ∷ []))) → Stand sites (length old) before × Stand sites (length mid) here = λ sites stand.
+        let both : Stand sites (length old) (before ++ here) = rw (sites_push xs x) at stand in
+        (stand_left sites (length old) before here both, rw start at (stand_right sites (length old) before here both))
+    in
+    record {
+      count = rw (sites_push xs x) (omega (arith, a.count, b.count, length-append before here));
+      below = each_push (λ k (e : SlotEntry). e.node < length new) slots s (λ k d l. let h = a.below k d l in omega (arith, b.count)) (omega (arith, b.last));
+      right = λ P sites values sound stand right.
+          let parts = sound_push xs x sound in
+          let stands = first sites stand in
+          b.right P sites values parts.1 stands.1 (a.right P sites values parts.0 stands.0 right);
+      slots_are = λ names sites i stand within.
+          let stands = first sites stand in
+          let site = last_site sites (length mid) s.node (node_of x.node) [] (omega (arith, b.last, b.count)) stands.1 in
+          rw (slots_push keys xs x)
+          (slots_are_push names sites i slots (field_slots keys (fields_of xs)) s _ (a.slots_are names sites i stands.0 (omega (arith, b.count))) (record { name = f.name_is names; below = omega (arith, b.last); node = site; must = f.must; key = f.key }));
+    }
+
+-- one entry more that is right
+pub right_push : {Z : Type 0} (holds : Z → ℕ → Type 0) (limit : ℕ) (P : Pools) (v : Values) (sites : List Site) (es : List (Entry Z)) (e : Entry Z) → AreRight holds limit P v sites es → IsRight holds limit P v sites (length es) e → AreRight holds limit P v sites (es ++ e ∷ [])
+right_push {Z = Z} holds limit P v sites es e h here = each_push (λ i (x : Entry Z). IsRight holds limit P v sites i x) es e h here
+
+-- a node whose sites below are there
+pub node_built : {Z : Type 0} (holds : Z → ℕ → Type 0) (limit : ℕ) (v : Values) (old mid new : List (Entry Z)) (nullable : Bool) (description : Option (List ℕ)) (sort : Sort) (keys : List (List ℕ)) (e : Entry Z) (n : ℕ)
+    → length mid ≡ length old + length (sites_below sort) → new ≡ mid ++ e ∷ [] → n ≡ length mid
+    → ((P : Pools) (sites : List Site) → AreValues P v → IsSound (node nullable description sort) → Stand sites (length old) (sites_below sort) → site_at sites (length mid) ≡ record { node = node nullable description sort; keys = keys }
+        → AreRight holds limit P v sites old → AreRight holds limit P v sites mid × IsRight holds limit P v sites (length mid) e)
+    → IsBuilt holds limit v old new (node nullable description sort) keys n
+node_built holds limit v old mid new nullable description sort keys e n count is number right =
+    let s : Site = record { node = node nullable description sort; keys = keys } in
+    let below = sites_below sort in
+    record {
+      count = rw is (omega (arith, count, length_push mid e, length_push below s));
+      last = rw is (omega (arith, number, length_push mid e));
+      right = λ P sites values sound stand before.
+          let left = stand_left sites (length old) below (s ∷ []) stand in
+          let here : site_at sites (length mid) ≡ s = rw (← count) at (stand_last sites (length old) below s stand) in
+          let r = right P sites values sound left here before in
+          rw is (right_push holds limit P v sites mid e r.0 r.1);
+    }
+
+-- a row whose slots' nodes are there
+pub row_built : {Z : Type 0} (holds : Z → ℕ → Type 0) (limit : ℕ) (v : Values) (old mid new : List (Entry Z)) (nullable : Bool) (description : Option (List ℕ)) (sort : Sort) (keys : List (List ℕ)) (b : Bounds) (es : List SlotEntry) (e : Entry Z) (n : ℕ)
+    → IsNode (node nullable description sort) → sort_of (node nullable description sort) ≡ Row → bounds_of (node nullable description sort) ≡ b
+    → length mid ≡ length old + length (sites_below sort) → new ≡ mid ++ e ∷ [] → n ≡ length mid
+    → ((P : Pools) (sites : List Site) → AreValues P v → IsSortSound sort → Stand sites (length old) (sites_below sort) → AreRight holds limit P v sites old → AreRight holds limit P v sites mid)
+    → ((P : Pools) (sites : List Site) → AreValues P v → Stand sites (length old) (sites_below sort) → AreSlots v.names.items sites (length mid) es (slots_at P (node nullable description sort) keys))
+    → ((P : Pools) (sites : List Site) (i : ℕ) → AreRight holds limit P v sites mid → IsNode (site_at sites i).node → sort_of (site_at sites i).node ≡ Row → bounds_of (site_at sites i).node ≡ b → is_nullable (site_at sites i).node ≡ nullable
+        → AreSlots v.names.items sites i es (slots P (site_at sites i)) → IsRight holds limit P v sites i e)
+    → IsBuilt holds limit v old new (node nullable description sort) keys n
+row_built holds limit v old mid new nullable description sort keys b es e n o row bounds count is number below are entry =
+    node_built holds limit v old mid new nullable description sort keys e n count is number
+    (λ P sites values sound stand here right.
+      let m = below P sites values sound.1 stand right in
+      (m, entry P sites (length mid) m (rw here o) (rw here row) (rw here bounds) (rw here refl) (rw here (are P sites values stand))))

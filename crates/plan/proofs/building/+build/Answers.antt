@@ -1,0 +1,35 @@
+use Rattle.std.proofs.Common.{◌≡◌, take, sym, refl, ◌∙◌, length, arith}
+use Rattle.std.proofs.lemmas.List.{take_more}
+use Rattle.schema.specs.Nodes.Node.{object}
+use Rattle.plan.specs.Internal.Arena.{AreRight}
+use Rattle.plan.proofs.BuildingLemmas.{field_built, row_built}
+use Rattle.plan.proofs.building.+build.Goals as goal
+
+pub build_fields-loop-field-preserved : goal.build_fields-loop-field-preserved
+build_fields-loop-field-preserved g t c =
+    let holds = g.Z.SizeSet.holds in
+    let inv = c.loop-field.invariant in
+    let items = c.deref-field-items.result.now in
+    let i = c.loop-field.field-index in
+    let field = c.field-item.result in
+    let built = rw (inv.limit, inv.values) at c.in_ok-slot.ensures.built in
+    record {
+      values = c.in_ok-slot.ensures.values ∙ inv.values;
+      limit = c.in_ok-slot.ensures.limit ∙ inv.limit;
+      built = rw (c.in_ok-push.ensures.items, take_more items i field c.loop-field-test.true, ← c.field-item.is)
+          (field_built holds c.args.arena.now.limit c.args.arena.now.values c.args.arena.now.entries.items c.loop-field.arena.entries.items c.build_field.new.arena.entries.items (take i items) field c.args.keys.now c.loop-field.slots.items c.in_ok-slot.slot inv.built built c.in_ok-slot.ensures.slot);
+    }
+
+pub build_object-returns-clause-built : goal.build_object-returns-clause-built
+build_object-returns-clause-built g t c = λ d.
+    let holds = g.Z.SizeSet.holds in
+    let limit = c.args.arena.now.limit in
+    let v = c.args.arena.now.values in
+    let o = c.args.object.now in
+    let mid = c.build_fields.new.arena.entries.items in
+    let b = c.in_ok-slots.ensures.built in
+    row_built holds limit v c.args.arena.now.entries.items mid c.add.new.self.entries.items c.args.nullable d (object o.fields o.preserves o.map_type o.bounds) c.args.keys.now o.bounds c.in_ok-slots.slots.items c.in_ok-entry.entry c.in_ok-node.node
+    c.reveal_invariant.ensures refl refl b.count c.in_ok-node.ensures.added c.in_ok-node.ensures.number
+    (λ P sites values sound stand right. b.right P sites values sound stand right)
+    (λ P sites values stand. b.slots_are v.names.items sites (length mid) stand (omega arith))
+    (rw (c.in_ok-slots.ensures.limit, c.in_ok-slots.ensures.values) at c.in_ok-entry.ensures)

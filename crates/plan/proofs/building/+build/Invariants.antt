@@ -1,0 +1,11 @@
+use Rattle.std.proofs.Common.{◌≡◌, take}
+use Rattle.schema.specs.Nodes.View.{fields_of}
+use Rattle.plan.specs.Internal.Building.{AreBuilt}
+use Rattle.plan.proofs.building.+build.Given as goal
+
+abbrev pub invariant-build_fields-loop-field : goal.invariant-build_fields-loop-field
+invariant-build_fields-loop-field g l = record {
+  values : l.arena.values ≡ l.fn.arena.values;
+  limit : l.arena.limit ≡ l.fn.arena.limit;
+  built : AreBuilt g.Z.SizeSet.holds l.fn.arena.limit l.fn.arena.values l.fn.arena.entries.items l.arena.entries.items (fields_of (take l.field-index l.field-items)) l.keys l.slots.items;
+}

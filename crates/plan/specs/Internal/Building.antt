@@ -1,0 +1,49 @@
+-- What is added to a plan for a node: entries for its sites, each behind those below it.
+use Rattle.std.specs.Prelude.{◌≡◌, ℕ, ◌+◌, ◌≤◌, ◌<◌, List, [], length, Bool, Option, All, ◌||◌, is_some}
+use Rattle.jtree.specs.Data.{Data}
+use Rattle.schema.specs.Document.Texts.{is_among}
+use Rattle.schema.specs.Nodes.Node.{Node, node, Sort, object, map, list, Fields, no_fields, field}
+use Rattle.schema.specs.Nodes.Items.{HasSoundItems}
+use Rattle.plan.specs.Pools.Pools.{Pools}
+use Rattle.plan.specs.Samples.Sites.{Site, sites_from, sites_of_fields, field_slots}
+use Rattle.plan.specs.Internal.Values.{AreValues}
+use Rattle.plan.specs.Internal.Arena.{Stand, AreRight, AreSlots, name_of}
+use Rattle.plan.specs.declared.values.Values.{Values}
+use Rattle.plan.specs.declared.arena.Entry.{Entry}
+use Rattle.plan.specs.declared.arena.SlotEntry.{SlotEntry}
+
+-- the items of each list can be told apart where that is asked
+abbrev mutual
+  pub IsSound : Node → Type 0
+  IsSound (node nullable description sort) = HasSoundItems (node nullable description sort) × IsSortSound sort
+
+  pub IsSortSound : Sort → Type 0
+  IsSortSound (object fs preserves type bounds) = AreFieldsSound fs
+  IsSortSound (map N type bounds) = IsSound N
+  IsSortSound (list N type keys bounds) = IsSound N
+  IsSortSound _ = Unit {0}
+
+  pub AreFieldsSound : Fields → Type 0
+  AreFieldsSound no_fields = Unit {0}
+  AreFieldsSound (field k N required default fs) = IsSound N × AreFieldsSound fs
+
+-- a node and all below it; the node is the last
+pub record IsBuilt {Z : Type 0} (holds : Z → ℕ → Type 0) (limit : ℕ) (v : Values) (old new : List (Entry Z)) (N : Node) (keys : List (List ℕ)) (n : ℕ) : Type 0 where
+  pub count : length new ≡ length old + length (sites_from N keys)
+  pub last : n + 1 ≡ length new
+  pub right : (P : Pools) (sites : List Site) → AreValues P v → IsSound N → Stand sites (length old) (sites_from N keys)
+      → AreRight holds limit P v sites old → AreRight holds limit P v sites new
+
+-- the slot of a field
+pub record IsFieldSlot (keys : List (List ℕ)) (name : List ℕ) (required : Bool) (default : Option Data) (s : SlotEntry) : Type 0 where
+  pub name_is : (names : List (List ℕ)) → name_of names s.name ≡ name
+  pub must : s.must ≡ (required || is_some default)
+  pub key : s.key ≡ is_among name keys
+
+-- fields and all below them
+pub record AreBuilt {Z : Type 0} (holds : Z → ℕ → Type 0) (limit : ℕ) (v : Values) (old new : List (Entry Z)) (fs : Fields) (keys : List (List ℕ)) (slots : List SlotEntry) : Type 0 where
+  pub count : length new ≡ length old + length (sites_of_fields fs)
+  pub below : All (λ (s : SlotEntry). s.node < length new) slots
+  pub right : (P : Pools) (sites : List Site) → AreValues P v → AreFieldsSound fs → Stand sites (length old) (sites_of_fields fs)
+      → AreRight holds limit P v sites old → AreRight holds limit P v sites new
+  pub slots_are : (names : List (List ℕ)) (sites : List Site) (i : ℕ) → Stand sites (length old) (sites_of_fields fs) → length new ≤ i → AreSlots names sites i slots (field_slots keys fs)

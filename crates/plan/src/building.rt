@@ -1,0 +1,113 @@
+//! The entries of a schema's nodes, those below a node before it.
+ghost use Rattle.std.specs.Prelude.{◌≡◌, ℕ, ◌≤◌, ◌<◌, ◌+◌, List, [], Option, length, IfOk};
+ghost use Rattle.schema.specs.Nodes.Node.{node as node_with};
+ghost use Rattle.schema.specs.Nodes.View.{node_of, object_of};
+ghost use Rattle.schema.specs.Document.Texts.{is_among};
+ghost use Rattle.jtree.specs.View.{data_of};
+ghost use Rattle.std.specs.Prelude.{option_map};
+ghost use Rattle.plan.specs.Internal.Building.{IsBuilt, AreBuilt, IsFieldSlot};
+
+use crate::SizeSet;
+use crate::arena::{Arena, PlanNode, SlotEntry, SlotName};
+use crate::entries::row_entry;
+use jtree::Text;
+use schema::{Field, Fields, Node, ObjectNode, Sort};
+use std::alloc::{AllocError, Global};
+
+/// Adds the entries of a node and of all nodes below it; `keys` are the keys of the map list whose item it is.
+#[cycle(build)]
+pub(crate) fn build<Z: SizeSet>(
+    arena: &mut Arena<Z>,
+    alloc: Global,
+    node: &Node,
+    keys: &[Text],
+) -> Result<PlanNode, AllocError>
+    requires limit { arena.old.limit < Z.BITS }
+    requires room { 1 ≤ arena.old.limit }
+    ensures values { arena.new.values ≡ arena.old.values }
+    ensures limit { arena.new.limit ≡ arena.old.limit }
+    ensures built { IfOk result (λ n. IsBuilt Z.holds arena.old.limit arena.old.values arena.old.entries.items arena.new.entries.items (node_of node.now) keys.now n) }
+{
+    match &node.sort {
+        Sort::Object(object) => build_object(arena, alloc, object, node.nullable, keys),
+        _ => Err(AllocError),
+    }
+}
+
+#[cycle(build)]
+fn build_object<Z: SizeSet>(
+    arena: &mut Arena<Z>,
+    alloc: Global,
+    object: &ObjectNode,
+    nullable: bool,
+    keys: &[Text],
+) -> Result<PlanNode, AllocError>
+    requires limit { arena.old.limit < Z.BITS }
+    requires room { 1 ≤ arena.old.limit }
+    ensures values { arena.new.values ≡ arena.old.values }
+    ensures limit { arena.new.limit ≡ arena.old.limit }
+    ensures built { IfOk result (λ n. (d : Option (List ℕ)) → IsBuilt Z.holds arena.old.limit arena.old.values arena.old.entries.items arena.new.entries.items (node_with nullable d (object_of object.now)) keys.now n) }
+{
+    object.fields.reveal_invariant();
+    let slots = build_fields(arena, alloc, &object.fields, keys)?;
+    let entry = row_entry(arena, alloc, slots, object.bounds, nullable)?;
+    let node = arena.add(entry)?;
+    Ok(node)
+}
+
+/// Adds the entries of the fields' nodes, and answers their slots.
+#[cycle(build)]
+fn build_fields<Z: SizeSet>(
+    arena: &mut Arena<Z>,
+    alloc: Global,
+    fields: &Fields,
+    keys: &[Text],
+) -> Result<Vec<SlotEntry>, AllocError>
+    requires limit { arena.old.limit < Z.BITS }
+    requires room { 1 ≤ arena.old.limit }
+    ensures values { arena.new.values ≡ arena.old.values }
+    ensures limit { arena.new.limit ≡ arena.old.limit }
+    ensures built { IfOk result (λ slots. AreBuilt Z.holds arena.old.limit arena.old.values arena.old.entries.items arena.new.entries.items fields.now keys.now slots.items) }
+{
+    let mut slots = Vec::new(alloc);
+    for field in &fields.fields {
+        let slot = build_field(arena, alloc, field, keys)?;
+        slots.push(slot)?;
+    }
+    Ok(slots)
+}
+
+#[cycle(build)]
+fn build_field<Z: SizeSet>(
+    arena: &mut Arena<Z>,
+    alloc: Global,
+    field: &Field,
+    keys: &[Text],
+) -> Result<SlotEntry, AllocError>
+    requires limit { arena.old.limit < Z.BITS }
+    requires room { 1 ≤ arena.old.limit }
+    ensures values { arena.new.values ≡ arena.old.values }
+    ensures limit { arena.new.limit ≡ arena.old.limit }
+    ensures built { IfOk result (λ s. IsBuilt Z.holds arena.old.limit arena.old.values arena.old.entries.items arena.new.entries.items (node_of field.now.node) [] s.node) }
+    ensures slot { IfOk result (λ s. IsFieldSlot keys.now field.now.name field.now.required (option_map data_of field.now.default) s) }
+{
+    let name = field.name.copy(alloc)?;
+    let node = build(arena, alloc, &field.node, &[])?;
+    Ok(SlotEntry {
+        name: SlotName::Field(name),
+        node,
+        must: field.required || field.default.is_some(),
+        key: is_key(&field.name, keys),
+    })
+}
+
+fn is_key(name: &Text, keys: &[Text]) -> bool
+    ensures { result ≡ is_among name.now keys.now }
+{
+    for key in keys {
+        if name == key {
+            return true;
+        }
+    }
+    false
+}
