@@ -5,3 +5,5 @@ pub mod ListLemmas
 pub mod FillingLemmas
 pub mod PartLemmas
 pub mod WordLemmas
+pub mod ApartLemmas
+pub mod TupleLemmas

@@ -2,3 +2,4 @@
 pub mod Tables
 pub mod Lists
 pub mod PartLaws
+pub mod Keyed
