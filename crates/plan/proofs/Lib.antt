@@ -7,3 +7,4 @@ pub mod PartLemmas
 pub mod WordLemmas
 pub mod ApartLemmas
 pub mod TupleLemmas
+pub mod KeyedLemmas
