@@ -29,10 +29,13 @@ object_by : (o : Option Data) (d : Data) → option_and_then only_object (option
 object_by None d h = cc
 object_by (Some e) d h = let is = object_only e d h in (is.0, ap Some is.1, is.2)
 
-schema_tree : (s d : Data) (step : Step) → IsTree s → schema_by s step ≡ Some d → IsTree d
-schema_tree s d step is by = option_and_then_some only_object (part_at s (step_path step)) d by (λ e found only.
+pub step_part : (s d : Data) (step : Step) → schema_by s step ≡ Some d → part_at s (step_path step) ≡ Some d
+step_part s d step by = option_and_then_some only_object (part_at s (step_path step)) d by (λ e found only.
     let o = object_only e d only in
-    subst IsTree (o.1 ∙ sym o.2) (part_tree (step_path step) s e is found))
+    found ∙ ap Some (o.1 ∙ sym o.2))
+
+schema_tree : (s d : Data) (step : Step) → IsTree s → schema_by s step ≡ Some d → IsTree d
+schema_tree s d step is by = part_tree (step_path step) s d is (step_part s d step by)
 
 property_in : (o : Option Data) (k : List ℕ) (d : Data) → option_and_then only_object (option_and_then (λ e. part_at e (name k ∷ [])) o) ≡ Some d
     → (ms : Members) × (o ≡ Some (tree.object ms)) × (member_at k (members_in o) ≡ Some d) × IsObject d

@@ -19,3 +19,4 @@ pub mod ShapeLemmas
 pub mod OwnParts
 pub mod OneNode
 pub mod ByPlaceLemmas
+pub mod ItemLemmas

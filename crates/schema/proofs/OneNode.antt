@@ -111,7 +111,7 @@ AreOfOne N M = (root : Bool) × (s : Data) × AreNodesOf root N s × AreNodesOf 
 turned : (N M : Node) → AreOfOne N M → AreOfOne M N
 turned N M h = (h.0, h.1, h.3, h.2)
 
-here : (root : Bool) (N : Node) (s : Data) → AreNodesOf root N s → IsNodeHere N s × AreFieldsHere N s
+pub here : (root : Bool) (N : Node) (s : Data) → AreNodesOf root N s → IsNodeHere N s × AreFieldsHere N s
 here root N s h =
     let first = h.each [] s (refl, λ is e. absurd (cc)) refl in
     subst (λ M. IsNodeHere M s × AreFieldsHere M s) (sym (same_Some N first.0 first.1)) (first.2, first.3)
@@ -128,15 +128,26 @@ nodes_below root N M s d step h place leads by = record {
       (place_rest root step p got.0, (got.1.0, rw by at got.1.1));
 }
 
+-- the schema of the node to which a step leads
+pub schema_below : (root : Bool) (N M : Node) (s : Data) (step : Step) → AreNodesOf root N s → node_below N step ≡ Some M
+    → (d : Data) × IsNodePlace root (step ∷ []) × (schema_by s step ≡ Some d) × AreNodesOf false M d
+schema_below root N M s step h leads =
+    let first = h.only (step ∷ []) M (rw leads refl) in
+    option_and_then_some (λ t. Some t) (schema_by s step) first.1.0 first.1.1 (λ d by _. (d, first.0, by, nodes_below root N M s d step h first.0 leads by))
+
+-- the node of the schema to which a step leads
+pub node_of_below : (root : Bool) (N : Node) (s d : Data) (step : Step) → AreNodesOf root N s → IsNodePlace root (step ∷ []) → schema_by s step ≡ Some d
+    → (M : Node) × (node_below N step ≡ Some M) × AreNodesOf false M d
+node_of_below root N s d step h place by =
+    let first = h.each (step ∷ []) d place (rw by refl) in
+    option_and_then_some (λ K. Some K) (node_below N step) first.0 first.1 (λ M leads _. (M, leads, nodes_below root N M s d step h place leads by))
+
 -- where a step leads in one tree, it leads in the other
 both_below : (N M K : Node) (step : Step) → AreOfOne N M → node_below N step ≡ Some K → (L : Node) × (node_below M step ≡ Some L) × AreOfOne K L
 both_below N M K step both leads =
-    let s = both.1 in
-    let first = both.2.only (step ∷ []) K (rw leads refl) in
-    option_and_then_some (λ t. Some t) (schema_by s step) first.1.0 first.1.1 (λ d by same_d.
-    let other = both.3.each (step ∷ []) d first.0 (rw by refl) in
-    option_and_then_some (λ J. Some J) (node_below M step) other.0 other.1 (λ L there same_L.
-    (L, there, (false, d, nodes_below both.0 N K s d step both.2 first.0 leads by, nodes_below both.0 M L s d step both.3 first.0 there by))))
+    let d = schema_below both.0 N K both.1 step both.2 leads in
+    let L = node_of_below both.0 M both.1 d.0 step both.3 d.1 d.2 in
+    (L.0, L.1, (false, d.0, d.3, L.2))
 
 -- ---- fields one by one
 

@@ -2,5 +2,6 @@
 pub mod Node
 pub mod Validations
 pub mod ByPlace
+pub mod Items
 pub mod Shape
 pub mod View
