@@ -8,3 +8,4 @@ pub mod WordLemmas
 pub mod ApartLemmas
 pub mod TupleLemmas
 pub mod KeyedLemmas
+pub mod SetLemmas
