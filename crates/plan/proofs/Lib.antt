@@ -9,3 +9,7 @@ pub mod EntryLemmas
 pub mod BuildingLemmas
 pub mod WordLemmas
 pub mod FirstBreak
+pub mod ApartLemmas
+pub mod TupleLemmas
+pub mod KeyedLemmas
+pub mod SetLemmas

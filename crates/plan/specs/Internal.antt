@@ -7,3 +7,4 @@ pub mod Arena
 pub mod PoolBreak
 pub mod PoolsCode
 pub mod Building
+pub mod Keyed

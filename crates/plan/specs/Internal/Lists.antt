@@ -1,11 +1,11 @@
--- The lists of parts of one node, without regard to items that are alike, and what the tables of a list hold.
-use Rattle.std.specs.Prelude.{◌≡◌, ℕ, ◌+◌, ◌-◌, ◌≤◌, ◌<◌, List, length, Option, Some, None, get_or, min}
+-- The lists of parts of one node, with and without regard to items that are alike, and what the tables of a list hold.
+use Rattle.std.specs.Prelude.{◌≡◌, ℕ, ◌+◌, ◌-◌, ◌≤◌, ◌<◌, List, length, Bool, true, Option, Some, None, get_or, min}
 use Rattle.jtree.specs.Data.{Data, Items}
 use Rattle.jtree.specs.Nodes.{items_count}
 use Rattle.schema.specs.Nodes.Node.{Node}
 use Rattle.schema.specs.declared.node.Bounds.{Bounds}
 use Rattle.stored.specs.Objects.Fault as fault
-use Rattle.stored.specs.Objects.StoredByParts.{IsWithin}
+use Rattle.stored.specs.Objects.StoredByParts.{are_apart, IsWithin}
 use Rattle.plan.specs.Pools.Pools.{Pools}
 use Rattle.plan.specs.Samples.Sizes.{HasSize, items_from, IsUpTo}
 use Rattle.plan.specs.Samples.RuleOfParts.{AreParts}
@@ -21,6 +21,16 @@ pub record CanFollow (P : Pools) (M : Node) (b : Bounds) (t m : ℕ) : Type 0 wh
 pub record HasMoreFree (P : Pools) (limit : ℕ) (M : Node) (b : Bounds) (t m : ℕ) : Type 0 where
   pub items : Items
   pub are : AreParts P M items
+  pub within : IsWithin b (fault.items_count items)
+  pub fits : 1 + items_count items ≤ limit
+  pub many : t ≤ fault.items_count items
+  pub nodes_are : items_count (items_from t items) ≡ m
+
+-- the same of lists in which no two items are alike
+pub record HasMoreApart (P : Pools) (limit : ℕ) (M : Node) (alike : Data → Data → Bool) (b : Bounds) (t m : ℕ) : Type 0 where
+  pub items : Items
+  pub are : AreParts P M items
+  pub apart : are_apart alike items ≡ true
   pub within : IsWithin b (fault.items_count items)
   pub fits : 1 + items_count items ≤ limit
   pub many : t ≤ fault.items_count items

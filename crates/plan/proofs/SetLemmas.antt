@@ -1,0 +1,58 @@
+-- The items of a set: scalars, each its own key.
+use Rattle.std.specs.Prelude.{◌≡◌, ℕ, List, [], ◌∷◌, length, map, true}
+use Rattle.std.proofs.Common.{refl, ap, sym, ◌∙◌}
+use Rattle.std.proofs.lemmas.List.{length-map}
+use Rattle.jtree.specs.Data.{Data}
+use Rattle.jtree.specs.Data as tree
+use Rattle.jtree.specs.Nodes.{node_count}
+use Rattle.jtree.specs.Internal.Rising.{contained, contains}
+use Rattle.schema.specs.Nodes.Node.{Node, node, scalar}
+use Rattle.schema.specs.Nodes.Items.{IsPlainScalar}
+use Rattle.schema.specs.declared.node.ScalarKind.{ScalarKind}
+use Rattle.schema.specs.declared.node.ScalarKind.TheVariants.{Boolean, Integer, String, IntOrString}
+use Rattle.stored.specs.Objects.Tests.{accepts_scalar, is_same}
+use Rattle.stored.specs.Objects.StoredByParts.{IsValidHere}
+use Rattle.plan.specs.Pools.Pools.{Pools}
+use Rattle.plan.specs.Samples.Part.{IsPart}
+use Rattle.plan.specs.Samples.Candidates.{HasCount}
+use Rattle.plan.specs.Internal.Keyed.{Keyed}
+use Rattle.plan.proofs.ApartLemmas.{map_among, among_map, map_apart}
+use Rattle.plan.proofs.TupleLemmas.{same_tree, candidates_apart}
+use Rattle.plan.proofs.PartLemmas.{StoredLaw}
+
+one_node : (kind : ScalarKind) (v : Data) → accepts_scalar kind v ≡ true → node_count v ≡ 1
+one_node Boolean (tree.boolean b) e = refl
+one_node Integer (tree.integer z) e = refl
+one_node String (tree.text s) e = refl
+one_node IntOrString (tree.integer z) e = refl
+one_node IntOrString (tree.text s) e = refl
+one_node kind v e = absurd (cc)
+
+valid_one : (N : Node) (v : Data) → IsPlainScalar N → IsValidHere N v → node_count v ≡ 1
+valid_one (node n t (scalar kind cs)) tree.null plain h = refl
+valid_one (node n t (scalar kind cs)) v plain h = one_node kind v h.0
+valid_one N v plain h = absurd plain
+
+-- a part of a scalar is one node
+pub scalar_one : StoredLaw → (P : Pools) (N : Node) → IsPlainScalar N → (v : Data) → IsPart P N v → node_count v ≡ 1
+scalar_one stored P N plain v h = valid_one N v plain ((stored N v).0 h.stored).0
+
+pub set_keyed : StoredLaw → (P : Pools) (M : Node) (count : ℕ) → IsPlainScalar M → HasCount P M count → (K : Keyed P M is_same) × (length K.keys ≡ count)
+set_keyed stored P M count plain h =
+    let vs = h.candidates in
+    let one : Data → List Data = λ v. v ∷ [] in
+    let size = scalar_one stored P M plain in (
+      record {
+        key = one;
+        keys = map one vs;
+        apart = map_apart one vs (λ v w e. cc) (candidates_apart P M vs h.are);
+        known = λ v p. map_among one vs v (contained vs v ((h.are.each v).1 p));
+        given = λ v k p a.
+            let w = among_map one vs k a in
+            let q = (h.are.each w.0).0 (contains vs w.0 w.1.0) in
+            (w.0, (q, w.1.1, size w.0 q ∙ sym (size v p)));
+        tells = λ v w p q e. ap one ((same_tree v w).0 e);
+        told = λ v w p q e. (same_tree v w).1 (cc);
+      },
+      length-map vs one ∙ h.count_is,
+    )
