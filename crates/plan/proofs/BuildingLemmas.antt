@@ -1,9 +1,9 @@
 -- What is added to a plan, node by node.
-use Rattle.std.specs.Prelude.{◌≡◌, ℕ, zero, suc, ◌+◌, ◌≤◌, ◌<◌, List, All, Bool, true, false, Option, option_map, ◌||◌, is_some}
+use Rattle.std.specs.Prelude.{◌≡◌, ℕ, zero, suc, ◌+◌, ◌≤◌, ◌<◌, List, All, map, take, Bool, true, false, Option, option_map, ◌||◌, is_some}
 use Rattle.std.specs.Str.{bytes_eq}
 use Rattle.std.proofs.Common.{refl, ap, sym, ◌∙◌, subst, inl, inr, arith, [], ◌∷◌, ◌++◌, length, get_or}
 use Rattle.std.proofs.lemmas.Bool.{cases_lt, cases_Bool}
-use Rattle.std.proofs.lemmas.List.{get_or_append_left, get_or_push, get_or-append-add, append_assoc, length_push, length-append}
+use Rattle.std.proofs.lemmas.List.{get_or_append_left, get_or_push, get_or-append-add, append_assoc, length_push, length-append, take_more}
 use Rattle.jtree.specs.Data.{Data}
 use Rattle.jtree.specs.View.{data_of}
 use Rattle.schema.specs.Document.Texts.{is_among}
@@ -11,7 +11,7 @@ use Rattle.schema.specs.Nodes.Node.{Node, node, Sort, object, Fields, no_fields,
 use Rattle.schema.specs.Nodes.View.{node_of, fields_of}
 use Rattle.schema.specs.declared.node.Field.{Field}
 use Rattle.plan.specs.Pools.Pools.{Pools}
-use Rattle.plan.specs.Samples.Sites.{Site, plain, sites_from, sites_below, sites_of_fields, Slot, slots, slots_at, field_slots}
+use Rattle.plan.specs.Samples.Sites.{Site, plain, sites_from, sites_below, sites_of_fields, Slot, slots, slots_at, field_slots, value_slot}
 use Rattle.plan.specs.Samples.Candidates.{sort_of}
 use Rattle.plan.specs.Samples.Sizes.{bounds_of}
 use Rattle.plan.specs.declared.sort.Sort.TheVariants.{Row}
@@ -21,6 +21,8 @@ use Rattle.plan.specs.Internal.Values.{AreValues}
 use Rattle.plan.specs.Internal.Arena.{site_at, IsSlot, AreSlots, IsRight, AreRight, Stand, name_of}
 use Rattle.plan.specs.Internal.Building.{IsSound, IsSortSound, AreFieldsSound, IsBuilt, AreBuilt, IsFieldSlot}
 use Rattle.plan.specs.declared.values.Values.{Values}
+use Rattle.plan.specs.declared.arena.SlotName.TheVariants.{Pool}
+use Rattle.plan.specs.declared.arena.PlanNode.{PlanNode}
 use Rattle.plan.specs.declared.arena.SlotEntry.{SlotEntry}
 use Rattle.plan.specs.declared.arena.Entry.{Entry}
 use Rattle.plan.proofs.SizeLemmas.{each_push}
@@ -88,6 +90,18 @@ slots_are_push names sites i [] [] e s h here = (here, tt)
 slots_are_push names sites i [] (t ∷ ss) e s h here = absurd h
 slots_are_push names sites i (x ∷ es) [] e s h here = absurd h
 slots_are_push names sites i (x ∷ es) (t ∷ ss) e s h here = (h.0, slots_are_push names sites i es ss e s h.1 here)
+
+map_push : {X Y : Type 0} (f : X → Y) (xs : List X) (x : X) → map f (xs ++ x ∷ []) ≡ map f xs ++ f x ∷ []
+map_push f [] x = refl
+map_push f (y ∷ xs) x = ap (λ l. f y ∷ l) (map_push f xs x)
+
+-- the slot of one name of the pools more
+pub value_slots_push : (names : List (List ℕ)) (sites : List Site) (i k : ℕ) (p : PlanNode) (M : Node) (es : List SlotEntry) → k < length names → p < i → site_at sites p ≡ plain M
+    → AreSlots names sites i es (map (value_slot M) (take k names)) → AreSlots names sites i (es ++ record { name = Pool k; node = p; must = false; key = false } ∷ []) (map (value_slot M) (take (k + 1) names))
+value_slots_push names sites i k p M es l below site h =
+    let x = get_or names k [] in
+    rw (take_more names k [] l, map_push (value_slot M) (take k names) x)
+    (slots_are_push names sites i es (map (value_slot M) (take k names)) _ (value_slot M x) h (record { name = refl; below = below; node = site; must = refl; key = refl }))
 
 pub no_fields_built : {Z : Type 0} (holds : Z → ℕ → Type 0) (limit : ℕ) (v : Values) (es : List (Entry Z)) (keys : List (List ℕ)) → AreBuilt holds limit v es es no_fields keys []
 no_fields_built holds limit v es keys = record {

@@ -1,17 +1,20 @@
 //! The entries of a schema's nodes, those below a node before it.
 ghost use Rattle.std.specs.Prelude.{◌≡◌, ℕ, ◌≤◌, ◌<◌, ◌+◌, List, [], Option, length, IfOk};
-ghost use Rattle.schema.specs.Nodes.Node.{node as node_with};
-ghost use Rattle.schema.specs.Nodes.View.{node_of, object_of};
+ghost use Rattle.schema.specs.Nodes.Node.{Node as NodeData, node as node_with};
+ghost use Rattle.schema.specs.Nodes.View.{node_of, object_of, map_of};
 ghost use Rattle.schema.specs.Document.Texts.{is_among};
 ghost use Rattle.jtree.specs.View.{data_of};
-ghost use Rattle.std.specs.Prelude.{option_map};
+ghost use Rattle.std.specs.Prelude.{option_map, All, map as map_list};
+ghost use Rattle.plan.specs.Samples.Sites.{Site, plain, value_slot};
+ghost use Rattle.plan.specs.Internal.Arena.{site_at, AreSlots};
+ghost use Rattle.plan.specs.declared.arena.SlotEntry.{SlotEntry as SlotDeclared};
 ghost use Rattle.plan.specs.Internal.Building.{IsBuilt, AreBuilt, IsFieldSlot};
 
 use crate::SizeSet;
 use crate::arena::{Arena, PlanNode, SlotEntry, SlotName};
 use crate::entries::row_entry;
 use jtree::Text;
-use schema::{Field, Fields, Node, ObjectNode, Sort};
+use schema::{Below, Field, Fields, MapNode, Node, ObjectNode, Sort};
 use std::alloc::{AllocError, Global};
 
 /// Adds the entries of a node and of all nodes below it; `keys` are the keys of the map list whose item it is.
@@ -30,6 +33,7 @@ pub(crate) fn build<Z: SizeSet>(
 {
     match &node.sort {
         Sort::Object(object) => build_object(arena, alloc, object, node.nullable, keys),
+        Sort::Map(map) => build_map(arena, alloc, map, node.nullable, keys),
         _ => Err(AllocError),
     }
 }
@@ -99,6 +103,53 @@ fn build_field<Z: SizeSet>(
         must: field.required || field.default.is_some(),
         key: is_key(&field.name, keys),
     })
+}
+
+#[cycle(build)]
+fn build_map<Z: SizeSet>(
+    arena: &mut Arena<Z>,
+    alloc: Global,
+    map: &MapNode,
+    nullable: bool,
+    keys: &[Text],
+) -> Result<PlanNode, AllocError>
+    requires limit { arena.old.limit < Z.BITS }
+    requires room { 1 ≤ arena.old.limit }
+    ensures values { arena.new.values ≡ arena.old.values }
+    ensures limit { arena.new.limit ≡ arena.old.limit }
+    ensures built { IfOk result (λ n. (d : Option (List ℕ)) → IsBuilt Z.holds arena.old.limit arena.old.values arena.old.entries.items arena.new.entries.items (node_with nullable d (map_of map.now)) keys.now n) }
+{
+    map.value.reveal_invariant();
+    let value = build(arena, alloc, node_below(&map.value), &[])?;
+    let slots = value_slots(alloc, arena.values.names.len(), value)?;
+    let entry = row_entry(arena, alloc, slots, map.bounds, nullable)?;
+    let node = arena.add(entry)?;
+    Ok(node)
+}
+
+/// The node below another.
+fn node_below(below: &Below) -> &Node
+    ensures { node_of result.now ≡ below.now }
+{
+    &below.node
+}
+
+/// A slot for each name of the pools, all of one node.
+fn value_slots(alloc: Global, count: usize, node: PlanNode) -> Result<Vec<SlotEntry>, AllocError>
+    ensures below { IfOk result (λ slots. All (λ (s : SlotDeclared). s.node ≡ node) slots.items) }
+    ensures slots { IfOk result (λ slots. (names : List (List ℕ)) (sites : List Site) (i : ℕ) (M : NodeData) → count ≡ length names → node < i → site_at sites node ≡ plain M
+        → AreSlots names sites i slots.items (map_list (value_slot M) names)) }
+{
+    let mut slots = Vec::new(alloc);
+    for place in 0..count {
+        slots.push(SlotEntry {
+            name: SlotName::Pool(place),
+            node,
+            must: false,
+            key: false,
+        })?;
+    }
+    Ok(slots)
 }
 
 fn is_key(name: &Text, keys: &[Text]) -> bool

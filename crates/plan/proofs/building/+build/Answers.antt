@@ -1,8 +1,8 @@
-use Rattle.std.proofs.Common.{◌≡◌, take, sym, refl, ◌∙◌, length, arith}
+use Rattle.std.proofs.Common.{◌≡◌, take, sym, refl, [], ◌∙◌, length, arith}
 use Rattle.std.proofs.lemmas.List.{take_more}
-use Rattle.schema.specs.Nodes.Node.{object}
+use Rattle.schema.specs.Nodes.Node.{object, map as map_sort}
 use Rattle.plan.specs.Internal.Arena.{AreRight}
-use Rattle.plan.proofs.BuildingLemmas.{field_built, row_built}
+use Rattle.plan.proofs.BuildingLemmas.{field_built, row_built, last_site}
 use Rattle.plan.proofs.building.+build.Goals as goal
 
 pub build_fields-loop-field-preserved : goal.build_fields-loop-field-preserved
@@ -33,3 +33,19 @@ build_object-returns-clause-built g t c = λ d.
     (λ P sites values sound stand right. b.right P sites values sound stand right)
     (λ P sites values stand. b.slots_are v.names.items sites (length mid) stand (omega arith))
     (rw (c.in_ok-slots.ensures.limit, c.in_ok-slots.ensures.values) at c.in_ok-entry.ensures)
+
+pub build_map-returns-clause-built : goal.build_map-returns-clause-built
+build_map-returns-clause-built g t c = λ d.
+    let holds = g.Z.SizeSet.holds in
+    let limit = c.args.arena.now.limit in
+    let v = c.args.arena.now.values in
+    let m = c.args.map.now in
+    let mid = c.build.new.arena.entries.items in
+    let b = rw c.node_below.ensures at c.in_ok-value.ensures.built in
+    let p = c.in_ok-value.value in
+    let count = rw c.in_ok-value.ensures.values at c.len.ensures in
+    row_built holds limit v c.args.arena.now.entries.items mid c.add.new.self.entries.items c.args.nullable d (map_sort m.value m.map_type m.bounds) c.args.keys.now m.bounds c.in_ok-slots.slots.items c.in_ok-entry.entry c.in_ok-node.node
+    c.reveal_invariant.ensures refl refl b.count c.in_ok-node.ensures.added c.in_ok-node.ensures.number
+    (λ P sites values sound stand right. b.right P sites values sound stand right)
+    (λ P sites values stand. rw (← values.names) (c.in_ok-slots.ensures.slots v.names.items sites (length mid) m.value (omega (arith, count)) (omega (arith, b.last)) (last_site sites (length c.args.arena.now.entries.items) p m.value [] (omega (arith, b.last, b.count)) stand)))
+    (rw (c.in_ok-value.ensures.limit, c.in_ok-value.ensures.values) at c.in_ok-entry.ensures)

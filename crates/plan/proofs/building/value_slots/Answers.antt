@@ -1,0 +1,20 @@
+use Rattle.std.proofs.Common.{◌≡◌, ◌≤◌, ◌∷◌, length, map, take, arith, refl}
+use Rattle.std.proofs.lemmas.List.{take_all}
+use Rattle.plan.specs.Samples.Sites.{value_slot}
+use Rattle.plan.specs.declared.arena.SlotEntry.{SlotEntry}
+use Rattle.plan.proofs.SizeLemmas.{each_push}
+use Rattle.plan.proofs.BuildingLemmas.{value_slots_push}
+use Rattle.plan.proofs.building.value_slots.Goals as goal
+
+pub loop-place-preserved : goal.loop-place-preserved
+loop-place-preserved c =
+    rw c.in_ok-push.ensures.items
+    (record {
+      below = each_push (λ k (s : SlotEntry). s.node ≡ c.args.node) c.loop-place.slots.items _ c.loop-place.invariant.below refl;
+      slots = λ names sites i M l within site. value_slots_push names sites i c.loop-place.place c.args.node M c.loop-place.slots.items (omega arith) within site (c.loop-place.invariant.slots names sites i M (omega arith) within site);
+    })
+
+pub returns-clause-slots : goal.returns-clause-slots
+returns-clause-slots c = λ names sites i M same within site.
+    let e : take c.loop-place.place names ≡ names = take_all c.loop-place.place names (omega (arith, same)) in
+    rw e at (c.loop-place.invariant.slots names sites i M (omega (arith, same)) within site)
