@@ -6,5 +6,6 @@ pub mod FillingLemmas
 pub mod PartLemmas
 pub mod SiteLemmas
 pub mod EntryLemmas
+pub mod ValueLemmas
 pub mod WordLemmas
 pub mod FirstBreak
