@@ -1,5 +1,14 @@
 //! The values that samples may hold, in the tree order, each once: shared by all leaves of a plan.
+ghost use Rattle.std.specs.Prelude.{◌≡◌, ◌∷◌, ◌++◌, map, IfOk, OnOk};
+ghost use Rattle.std.specs.declared.cmp.Ordering.TheVariants.{Equal};
+ghost use Rattle.jtree.specs.Data.{null, integer, text};
+ghost use Rattle.plan.specs.Samples.Over.{scalars_of};
+ghost use Rattle.plan.specs.Samples.Sites.{in_order};
+ghost use Rattle.plan.specs.Internal.Values.{trees_of, IsInOrder, IsBase};
+
+use crate::Pools;
 use jtree::{Text, Tree};
+use std::alloc::{AllocError, Global};
 
 /// The values of the pools, in order, each once; null is among the trees.
 #[derive(Drop)]
@@ -10,4 +19,82 @@ pub(crate) struct Values {
     pub any: Vec<Tree>,
     /// The names at maps.
     pub names: Vec<Text>,
+}
+
+impl Values {
+    ghost use Rattle.plan.specs.Internal.Values.{AreValues};
+
+    /// The values of these pools.
+    pub(crate) fn new(alloc: Global, pools: &Pools) -> Result<Values, AllocError>
+        ensures { IfOk result (λ v. AreValues pools.now v) }
+    {
+        Ok(Values {
+            scalars: scalars(alloc, pools)?,
+            any: with_null(alloc, pools.any())?,
+            names: names(alloc, pools.names())?,
+        })
+    }
+}
+
+/// Null, both truth values, the integers and the texts, in order, each once.
+fn scalars(alloc: Global, pools: &Pools) -> Result<Vec<Tree>, AllocError>
+    ensures { IfOk result (λ v. IsBase (null ∷ scalars_of pools.now) v.items) }
+{
+    let mut trees = vec![in alloc; Tree::Null, Tree::Bool(false), Tree::Bool(true)]?;
+    push_integers(&mut trees, pools.integers())?;
+    push_texts(alloc, &mut trees, pools.strings())?;
+    put_in_order(&mut trees);
+    Ok(trees)
+}
+
+/// Adds these integers.
+fn push_integers(trees: &mut Vec<Tree>, integers: &[i64]) -> Result<(), AllocError>
+    ensures { OnOk result (trees_of trees.new.items ≡ trees_of trees.old.items ++ map (λ z. integer z) integers.now) }
+{
+    for number in integers {
+        trees.push(Tree::Int(*number))?;
+    }
+    Ok(())
+}
+
+/// Adds these texts.
+fn push_texts(alloc: Global, trees: &mut Vec<Tree>, texts: &[Text]) -> Result<(), AllocError>
+    ensures { OnOk result (trees_of trees.new.items ≡ trees_of trees.old.items ++ map (λ t. text t) texts.now) }
+{
+    for text in texts {
+        trees.push(Tree::Text(text.copy(alloc)?))?;
+    }
+    Ok(())
+}
+
+/// Null and these trees, in order, each once.
+pub(crate) fn with_null(alloc: Global, trees: &[Tree]) -> Result<Vec<Tree>, AllocError>
+    ensures { IfOk result (λ v. IsBase (null ∷ trees_of trees.now) v.items) }
+{
+    let mut copies = vec![in alloc; Tree::Null]?;
+    for tree in trees {
+        copies.push(tree.copy(alloc).map_err(|_| AllocError)?)?;
+    }
+    put_in_order(&mut copies);
+    Ok(copies)
+}
+
+/// The names in the order of their bytes, each once.
+fn names(alloc: Global, names: &[Text]) -> Result<Vec<Text>, AllocError>
+    ensures { IfOk result (λ v. v.items ≡ in_order names.now) }
+{
+    let mut copies = Vec::new(alloc);
+    for name in names {
+        copies.push(name.copy(alloc)?)?;
+    }
+    put_in_order(&mut copies);
+    Ok(copies)
+}
+
+/// Puts the elements in order, each once.
+fn put_in_order<T: Ord + Drop>(list: &mut Vec<T>)
+    ensures { ((x y : T) → T.cmp x y ≡ Equal → x ≡ y) → IsInOrder T.cmp list.old.items list.new.items }
+{
+    list.sort_unstable();
+    list.dedup();
 }

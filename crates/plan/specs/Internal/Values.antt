@@ -1,5 +1,6 @@
 -- The values of the pools, and the candidates of a leaf, as a plan keeps them.
-use Rattle.std.specs.Prelude.{◌≡◌, ◌↔◌, ℕ, List, ◌∷◌, map, get_or, Contains, AllPairs}
+use Rattle.std.specs.Prelude.{◌≡◌, ◌↔◌, List, ◌∷◌, map, get_or, Contains, AllPairs}
+use Rattle.std.specs.declared.cmp.Ordering.{Ordering}
 use Rattle.std.specs.declared.cmp.Ordering.TheVariants.{Less}
 use Rattle.jtree.specs.Data.{Data, null}
 use Rattle.jtree.specs.Order.{tree_cmp}
@@ -17,10 +18,14 @@ use Rattle.plan.specs.declared.leaf.Leaf.{Leaf}
 abbrev pub trees_of : List Tree → List Data
 trees_of ts = map (λ t. data_of t) ts
 
+-- the same elements, in order, each once
+pub record IsInOrder {X : Type 0} (cmp : X → X → Ordering) (xs ys : List X) : Type 0 where
+  pub each : (x : X) → Contains ys x ↔ Contains xs x
+  pub ascending : AllPairs (λ x y. cmp x y ≡ Less) ys
+
 -- the same trees, in the tree order, each once
-pub record IsBase (xs : List Data) (ts : List Tree) : Type 0 where
-  pub each : (v : Data) → Contains (trees_of ts) v ↔ Contains xs v
-  pub ascending : AllPairs (λ u v. tree_cmp u v ≡ Less) (trees_of ts)
+abbrev pub IsBase : List Data → List Tree → Type 0
+IsBase xs ts = IsInOrder tree_cmp xs (trees_of ts)
 
 pub record AreValues (P : Pools) (v : Values) : Type 0 where
   pub scalars : IsBase (null ∷ scalars_of P) v.scalars.items
