@@ -7,6 +7,7 @@ pub mod PartLemmas
 pub mod SiteLemmas
 pub mod EntryLemmas
 pub mod BuildingLemmas
+pub mod PlanLemmas
 pub mod ValueLemmas
 pub mod WordLemmas
 pub mod FirstBreak

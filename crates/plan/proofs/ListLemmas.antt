@@ -197,7 +197,7 @@ least_missing limit P N A a h = record {
 }
 
 -- as many items as the limit leave no room for the list
-count_nodes : (ds : Items) → fault.items_count ds ≤ items_count ds
+pub count_nodes : (ds : Items) → fault.items_count ds ≤ items_count ds
 count_nodes no_items = omega arith
 count_nodes (item d ds) = omega (arith, count_nodes ds, tree_positive d)
 

@@ -8,3 +8,4 @@ pub mod PoolBreak
 pub mod PoolsCode
 pub mod Building
 pub mod Keyed
+pub mod Plan

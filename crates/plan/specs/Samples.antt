@@ -2,6 +2,7 @@
 pub mod Over
 pub mod Part
 pub mod Sites
+pub mod Question
 pub mod Candidates
 pub mod Steps
 pub mod Sizes

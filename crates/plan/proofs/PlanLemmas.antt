@@ -1,0 +1,93 @@
+-- What is known of an entry of a plan.
+use Rattle.std.specs.Prelude.{◌≡◌, ℕ, ◌+◌, ◌-◌, ◌≤◌, ◌<◌, ◌↔◌, ◌⊎◌, List, length, get_or, Some}
+use Rattle.std.specs.declared.vec.Vec.{Vec}
+use Rattle.std.specs.declared.alloc.Global.{Global}
+use Rattle.std.proofs.Common.{refl, ap, sym, ◌∙◌, subst, inl, inr, arith}
+use Rattle.schema.specs.Nodes.Node.{Node, node, scalar, object, list, open_}
+use Rattle.schema.specs.Nodes.Node as nodes
+use Rattle.plan.specs.Pools.Pools.{Pools}
+use Rattle.plan.specs.Samples.Question.{Question}
+use Rattle.plan.specs.Samples.Sites.{Site, plain, sites_of, item_site, item_site_at, slots}
+use Rattle.plan.specs.Samples.Candidates.{sort_of, distinct_of}
+use Rattle.plan.specs.Samples.Sizes.{HasRest, HasMore, IsUpTo}
+use Rattle.plan.specs.declared.sort.Distinct.TheVariants.{Free}
+use Rattle.plan.specs.declared.sort.Sort.TheVariants.{Leaf as LeafSort, Row as RowSort, List as ListSort}
+use Rattle.plan.specs.declared.leaf.Leaf.{Leaf}
+use Rattle.plan.specs.declared.arena.ListEntry.{ListEntry}
+use Rattle.plan.specs.declared.arena.Content.TheVariants as content
+use Rattle.plan.specs.declared.arena.RowEntry.{RowEntry}
+use Rattle.plan.specs.Internal.Arena.{site_at, IsEntry, IsRow, IsRight}
+use Rattle.plan.specs.Internal.Plan.{IsPlan}
+use Rattle.plan.specs.declared.values.Values.{Values}
+use Rattle.plan.specs.declared.arena.Entry.{Entry}
+use Rattle.plan.proofs.EntryLemmas.{slot_count}
+use Rattle.plan.proofs.ListLemmas.{count_nodes}
+
+-- the entry of a number, in the words of the plan's view
+pub entry_right : {Z : Type 0} (holds : Z → ℕ → Type 0) (BITS : ℕ) (root : Node) (P : Pools) (limit : ℕ) (v : Values) (es : List (Entry Z)) (first : ℕ) (q : Question) (i : ℕ) (e : Entry Z)
+    → IsPlan holds BITS root P limit v es first → record { root = root; pools = P; limit = limit } ≡ q → i < length (sites_of q.root) → IsEntry es i e → IsRight holds q.limit q.pools v (sites_of q.root) i e
+entry_right {Z = Z} holds BITS root P limit v es first q i e plan view within is =
+    let r : i < length (sites_of root) → IsRight holds limit P v (sites_of root) i e = λ l. rw (← is) at (plan.right i e (omega (arith, plan.count))) in
+    subst (λ (x : Question). i < length (sites_of x.root) → IsRight holds x.limit x.pools v (sites_of x.root) i e) view r within
+
+-- the level of a place is long enough, and its set is that of the sizes
+pub level_long : {Z : Type 0} (holds : Z → ℕ → Type 0) (limit : ℕ) (P : Pools) (names : List (List ℕ)) (sites : List Site) (i : ℕ) (r : RowEntry Z) (k place taken : ℕ) (level : Vec Z Global)
+    → IsRow holds limit P names sites i r → k + place ≡ length r.slots.items → taken ≤ place → level ≡ get_or r.levels.items k level → taken < length level.items
+level_long holds limit P names sites i r k place taken level row at within is =
+    let s = rw (← is) at (row.shaped k level (omega (arith, row.whole))) in
+    omega arith
+
+pub level_rest : {Z : Type 0} (holds : Z → ℕ → Type 0) (limit : ℕ) (P : Pools) (names : List (List ℕ)) (sites : List Site) (i : ℕ) (r : RowEntry Z) (k place taken : ℕ) (level : Vec Z Global) (z : Z)
+    → IsRow holds limit P names sites i r → k + place ≡ length r.slots.items → taken ≤ place → level ≡ get_or r.levels.items k level → z ≡ get_or level.items taken z → IsUpTo limit (holds z) (HasRest P (site_at sites i) place taken)
+level_rest holds limit P names sites i r k place taken level z row at within is is_z =
+    let long = level_long holds limit P names sites i r k place taken level row at within is in
+    let count = slot_count names sites i r.slots.items (slots P (site_at sites i)) row.are in
+    let m = rw (← is) at (row.levels k level (omega (arith, row.whole))) in
+    let e : length (slots P (site_at sites i)) - k ≡ place = omega arith in
+    let n = rw (← is_z) at (m taken z long) in
+    rw e at n
+
+-- as many items as the limit leave no room for the list
+pub more_ends : (limit : ℕ) (P : Pools) (N : Node) (t m : ℕ) → limit ≤ t → HasMore P limit N t m → ⊥
+more_ends limit P N t m l h = let c = count_nodes h.items in omega (arith, h.fits, h.many)
+
+pub none_more : (limit : ℕ) (P : Pools) (N : Node) (t : ℕ) (S : ℕ → Type 0) → limit ≤ t → ((n : ℕ) → S n → ⊥) → IsUpTo limit S (HasMore P limit N t)
+none_more limit P N t S l none n = ((λ s. absurd (none n s)), λ h. absurd (more_ends limit P N t n l h.1))
+
+-- a node of another sort is none of lists
+pub not_list : (N : Node) → (sort_of N ≡ ListSort → ⊥) → distinct_of N ≡ Free
+not_list (node n t (scalar kind cs)) h = refl
+not_list (node n t (object fs preserves type b)) h = refl
+not_list (node n t (nodes.map M type b)) h = refl
+not_list (node n t (list M type keys b)) h = absurd (h refl)
+not_list (node n t open_) h = refl
+
+-- the sort of a node, from what its entry holds
+pub leaf_sort : {Z : Type 0} (holds : Z → ℕ → Type 0) (limit : ℕ) (P : Pools) (v : Values) (sites : List Site) (i : ℕ) (e : Entry Z) (l : Leaf) → IsRight holds limit P v sites i e → e.content ≡ content.Leaf l → sort_of (site_at sites i).node ≡ LeafSort
+leaf_sort holds limit P v sites i e l right is = let h = rw is at right.content in h.sort
+
+pub row_sort : {Z : Type 0} (holds : Z → ℕ → Type 0) (limit : ℕ) (P : Pools) (v : Values) (sites : List Site) (i : ℕ) (e : Entry Z) (r : RowEntry Z) → IsRight holds limit P v sites i e → e.content ≡ content.Row r → sort_of (site_at sites i).node ≡ RowSort
+row_sort holds limit P v sites i e r right is = let h = rw is at right.content in h.sort
+
+node_item_sort : (N : Node) (M : Site) → item_site_at N ≡ Some M → sort_of N ≡ ListSort
+node_item_sort (node n t (scalar kind cs)) M is = absurd (cc)
+node_item_sort (node n t (object fs preserves type b)) M is = absurd (cc)
+node_item_sort (node n t (nodes.map N type b)) M is = absurd (cc)
+node_item_sort (node n t (list N type keys b)) M is = refl
+node_item_sort (node n t open_) M is = absurd (cc)
+
+item_sort : (s M : Site) → item_site s ≡ Some M → sort_of s.node ≡ ListSort
+item_sort s M is = node_item_sort s.node M is
+
+pub list_sort : {Z : Type 0} (holds : Z → ℕ → Type 0) (limit : ℕ) (P : Pools) (v : Values) (sites : List Site) (i : ℕ) (e : Entry Z) (l : ListEntry Z) → IsRight holds limit P v sites i e → e.content ≡ content.List l → sort_of (site_at sites i).node ≡ ListSort
+list_sort holds limit P v sites i e l right is = let h = rw is at right.content in item_sort (site_at sites i) (site_at sites l.item) h.item
+
+pub no_list : {Z : Type 0} (holds : Z → ℕ → Type 0) (limit : ℕ) (P : Pools) (v : Values) (sites : List Site) (i : ℕ) (e : Entry Z) → IsRight holds limit P v sites i e → ((l : Leaf) × (e.content ≡ content.Leaf l)) ⊎ ((r : RowEntry Z) × (e.content ≡ content.Row r))
+    → distinct_of (site_at sites i).node ≡ Free
+no_list holds limit P v sites i e right (inl l) = let s = leaf_sort holds limit P v sites i e l.0 right l.1 in not_list (site_at sites i).node (λ t. let no = sym s ∙ t in cc)
+no_list holds limit P v sites i e right (inr r) = let s = row_sort holds limit P v sites i e r.0 right r.1 in not_list (site_at sites i).node (λ t. let no = sym s ∙ t in cc)
+
+pub no_row : {Z : Type 0} (holds : Z → ℕ → Type 0) (limit : ℕ) (P : Pools) (v : Values) (sites : List Site) (i : ℕ) (e : Entry Z) → IsRight holds limit P v sites i e → ((l : Leaf) × (e.content ≡ content.Leaf l)) ⊎ ((l : ListEntry Z) × (e.content ≡ content.List l))
+    → sort_of (site_at sites i).node ≡ RowSort → ⊥
+no_row holds limit P v sites i e right (inl l) row = let s = leaf_sort holds limit P v sites i e l.0 right l.1 in let no = sym s ∙ row in cc
+no_row holds limit P v sites i e right (inr l) row = let s = list_sort holds limit P v sites i e l.0 right l.1 in let no = sym s ∙ row in cc

@@ -1,0 +1,134 @@
+ghost use Rattle.std.specs.Prelude.{ℕ};
+
+use crate::arena::{Arena, Content, PlanNode};
+use crate::{Distinct, Meter, Pools, SizeSet, Sort};
+use std::marker::Model;
+use stored::Schema;
+
+/// The nodes of a schema over pools and within a node limit, with the sizes of what may stand at each of them.
+#[derive(Drop)]
+pub struct Plan<Z: SizeSet> {
+    schema: Schema,
+    pools: Pools,
+    arena: Arena<Z>,
+    root: PlanNode,
+}
+
+impl<Z: SizeSet> Model for Plan<Z> {
+    ghost use Rattle.plan.specs.Samples.Question.{Question, question_coded};
+
+    ghost Value = { Question };
+
+    ghost coded = { question_coded };
+
+    ghost use Rattle.plan.specs.Internal.Plan.{IsPlan};
+
+    ghost view = { λ p. record { root = p.schema; pools = p.pools; limit = p.arena.limit } };
+
+    ghost invariant = { λ p. IsPlan Z.holds Z.BITS p.schema p.pools p.arena.limit p.arena.values p.arena.entries.items p.root };
+}
+
+impl<Z: SizeSet> Plan<Z> {
+    ghost use Rattle.std.specs.Prelude.{◌≡◌, ◌≤◌, ◌<◌, length};
+    ghost use Rattle.stored.specs.Objects.Becomes.{is_nullable};
+    ghost use Rattle.plan.specs.Samples.Sites.{sites_of, plain, slots as slots_of};
+    ghost use Rattle.plan.specs.Samples.Candidates.{sort_of, distinct_of, HasCount};
+    ghost use Rattle.plan.specs.Samples.Sizes.{HasSize, HasRest, HasMore, IsUpTo};
+    ghost use Rattle.plan.specs.Internal.Arena.{site_at};
+    ghost use Rattle.plan.specs.declared.sort.Sort.TheVariants as sort;
+
+    /// The node of the body of a resource.
+    pub fn root(&self) -> PlanNode
+        ensures number { result < length (sites_of self.now.root) }
+        ensures site { site_at (sites_of self.now.root) result ≡ plain self.now.root }
+    {
+        self.root
+    }
+
+    /// The most nodes of a sample.
+    pub fn limit(&self) -> u32
+        ensures { result ≡ self.now.limit }
+    {
+        self.arena.limit
+    }
+
+    /// What the node holds.
+    pub fn sort(&self, node: PlanNode) -> Sort
+        requires { node < length (sites_of self.now.root) }
+        ensures { result ≡ sort_of (site_at (sites_of self.now.root) node).node }
+    {
+        match &self.arena.entry(node).content {
+            Content::Leaf(_) => Sort::Leaf,
+            Content::Row(_) => Sort::Row,
+            Content::List(_) => Sort::List,
+        }
+    }
+
+    /// Whether null is accepted.
+    pub fn null_ok(&self, node: PlanNode) -> bool
+        requires { node < length (sites_of self.now.root) }
+        ensures { result ≡ is_nullable (site_at (sites_of self.now.root) node).node }
+    {
+        self.arena.entry(node).nullable
+    }
+
+    /// The sizes up to the limit of the parts at the node.
+    pub fn sizes(&self, node: PlanNode) -> Z
+        requires { node < length (sites_of self.now.root) }
+        ensures { IsUpTo self.now.limit (Z.holds result) (HasSize self.now.pools (site_at (sites_of self.now.root) node).node) }
+    {
+        self.arena.entry(node).sizes
+    }
+
+    /// The sizes up to the limit that the slots of a row from `place` on can still take, where `taken` slots before it are
+    /// filled.
+    pub fn rest(&self, node: PlanNode, place: u32, taken: u32) -> Z
+        requires node { node < length (sites_of self.now.root) }
+        requires row { sort_of (site_at (sites_of self.now.root) node).node ≡ sort.Row }
+        requires place { place ≤ length (slots_of self.now.pools (site_at (sites_of self.now.root) node)) }
+        requires taken { taken ≤ place }
+        ensures { IsUpTo self.now.limit (Z.holds result) (HasRest self.now.pools (site_at (sites_of self.now.root) node) place taken) }
+    {
+        match &self.arena.entry(node).content {
+            Content::Row(row) => row.levels[row.slots.len() - place as usize][taken as usize],
+            Content::Leaf(_) | Content::List(_) => Z::empty(),
+        }
+    }
+
+    /// The sizes up to the limit that the items of a list can still take after `taken` items.
+    pub fn more(&self, node: PlanNode, taken: u32) -> Z
+        requires node { node < length (sites_of self.now.root) }
+        requires list { sort_of (site_at (sites_of self.now.root) node).node ≡ sort.List }
+        ensures { IsUpTo self.now.limit (Z.holds result) (HasMore self.now.pools self.now.limit (site_at (sites_of self.now.root) node).node taken) }
+    {
+        match &self.arena.entry(node).content {
+            Content::List(list) => {
+                if (taken as usize) < list.more.len() {
+                    list.more[taken as usize]
+                } else {
+                    Z::empty()
+                }
+            }
+            _ => Z::empty(),
+        }
+    }
+
+    /// Which items may not stand in one list.
+    pub fn distinct(&self, node: PlanNode) -> Distinct
+        requires { node < length (sites_of self.now.root) }
+        ensures { result ≡ distinct_of (site_at (sites_of self.now.root) node).node }
+    {
+        match &self.arena.entry(node).content {
+            Content::List(list) => list.distinct,
+            Content::Leaf(_) | Content::Row(_) => Distinct::Free,
+        }
+    }
+
+    /// A meter at 0. It takes the plan for writing, so that who is lent a plan for reading makes none.
+    pub fn meter(&mut self) -> Meter
+        ensures fresh { result ≡ 0 }
+        ensures same { self.new ≡ self.old }
+    {
+        Meter::new()
+    }
+}
