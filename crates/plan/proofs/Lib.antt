@@ -9,3 +9,4 @@ pub mod ApartLemmas
 pub mod TupleLemmas
 pub mod KeyedLemmas
 pub mod SetLemmas
+pub mod MapListLemmas
