@@ -52,6 +52,15 @@ pub map_apart : {X Y : Type 0} (f : X → Y) (xs : List X) → ((x y : X) → f 
 map_apart f [] one a = tt
 map_apart f (x ∷ xs) one a = (λ v m e. let r = among_map f xs v m in a.0 r.0 r.1.0 (one x r.0 (e ∙ sym r.1.1)), map_apart f xs one a.1)
 
+pub map_same : {X Y : Type 0} (f g : X → Y) (xs : List X) → ((x : X) → Among xs x → f x ≡ g x) → map f xs ≡ map g xs
+map_same f g [] h = refl
+map_same f g (x ∷ xs) h = rw (h x (inl refl), map_same f g xs (λ y a. h y (inr a))) refl
+
+pub same_map : {X Y : Type 0} (f g : X → Y) (xs : List X) → map f xs ≡ map g xs → (x : X) → Among xs x → f x ≡ g x
+same_map f g [] e x a = absurd a
+same_map f g (y ∷ ys) e x (inl s) = rw (← s) (cc)
+same_map f g (y ∷ ys) e x (inr a) = same_map f g ys (cc) x a
+
 -- ---- filtered lists
 
 pub among_filter : {X : Type 0} (test : X → Bool) (xs : List X) (v : X) → Among (filter test xs) v → Among xs v × (test v ≡ true)

@@ -15,3 +15,4 @@ pub mod ApartLemmas
 pub mod TupleLemmas
 pub mod KeyedLemmas
 pub mod SetLemmas
+pub mod MapListLemmas

@@ -91,7 +91,7 @@ member_tree k (member l d ms) w members is = elim (bool_cases (bytes_eq k l)) [
 abbrev IsSlotOf : List ℕ → Declared → Slot → Type 0
 IsSlotOf k f s = (s.name ≡ k) × (s.node ≡ f.node) × (s.must ≡ (f.required || is_some f.default))
 
-slot_of_field : (keys : List (List ℕ)) (fs : Fields) (k : List ℕ) (f : Declared) → field_at k fs ≡ Some f → (s : Slot) × (Among (field_slots keys fs) s × IsSlotOf k f s)
+pub slot_of_field : (keys : List (List ℕ)) (fs : Fields) (k : List ℕ) (f : Declared) → field_at k fs ≡ Some f → (s : Slot) × (Among (field_slots keys fs) s × IsSlotOf k f s)
 slot_of_field keys no_fields k f is = absurd (cc)
 slot_of_field keys (field l N required default fs) k f is = elim (bool_cases (bytes_eq k l)) [
   | inl t ↦
@@ -105,7 +105,7 @@ before_slots keys k no_fields before o s a = absurd a
 before_slots keys k (field l N required default fs) before o s (inl e) = subst (λ t. text_cmp k (Slot.name t) ≡ Less) e before
 before_slots keys k (field l N required default fs) before o s (inr a) = nat_list_cmp_total.trans k l s.name before (before_slots keys l fs o.1 o.2 s a)
 
-field_of_slot : (keys : List (List ℕ)) (fs : Fields) → AreOrdered fs → (s : Slot) → Among (field_slots keys fs) s → (f : Declared) × ((field_at s.name fs ≡ Some f) × IsSlotOf s.name f s)
+pub field_of_slot : (keys : List (List ℕ)) (fs : Fields) → AreOrdered fs → (s : Slot) → Among (field_slots keys fs) s → (f : Declared) × ((field_at s.name fs ≡ Some f) × IsSlotOf s.name f s)
 field_of_slot keys no_fields o s a = absurd a
 field_of_slot keys (field l N required default fs) o s (inl e) =
     let own : bytes_eq s.name l ≡ true = subst (λ t. bytes_eq (Slot.name t) l ≡ true) e (own_name l) in
@@ -218,14 +218,14 @@ object_up stored everywhere P n t fs preserves type b keys ms o members h within
 -- ---- maps
 
 -- the names put in order are the same names, in the order of their bytes
-among_name : (k : List ℕ) (ls : List (List ℕ)) → is_among k ls ≡ true → Among ls k
+pub among_name : (k : List ℕ) (ls : List (List ℕ)) → is_among k ls ≡ true → Among ls k
 among_name k [] e = absurd (cc)
 among_name k (l ∷ ls) e = elim (bool_cases (bytes_eq k l)) [
   | inl t ↦ inl (sym (same_name k l t))
   | inr o ↦ inr (among_name k ls (rw o at e))
 ]
 
-name_among : (k : List ℕ) (ls : List (List ℕ)) → Among ls k → is_among k ls ≡ true
+pub name_among : (k : List ℕ) (ls : List (List ℕ)) → Among ls k → is_among k ls ≡ true
 name_among k [] a = absurd a
 name_among k (l ∷ ls) (inl e) = rw (e, own_name k) refl
 name_among k (l ∷ ls) (inr a) = rw (name_among k ls a) (or_true (bytes_eq k l))

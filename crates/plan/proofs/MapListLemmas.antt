@@ -1,0 +1,207 @@
+-- The items of a map list: objects, of which the values under the keys are the key.
+use Rattle.std.specs.Prelude.{◌≡◌, ◌↔◌, ℕ, ◌+◌, List, true, false, Option, Some, None, All, filter, map, unwrap_or}
+use Rattle.std.specs.Bool.{Decides}
+use Rattle.std.proofs.Common.{refl, ap, sym, ◌∙◌, subst, inl, inr, arith, [], ◌∷◌, length}
+use Rattle.std.proofs.lemmas.Bool.{cases_Bool}
+use Rattle.std.proofs.lemmas.Bool.Decides.{Decides-by_and}
+use Rattle.std.proofs.lemmas.List.Elements.{All-contains}
+use Rattle.std.proofs.lemmas.Option.{same_Some}
+use Rattle.jtree.specs.Data.{Data, Members, member}
+use Rattle.jtree.specs.Data as tree
+use Rattle.jtree.specs.Nodes.{node_count}
+use Rattle.jtree.specs.Path.{member_at}
+use Rattle.jtree.specs.Internal.Lookups.{option_cases, member_first, member_later, later_name}
+use Rattle.jtree.specs.Internal.Rising.{Among, contains, each_of}
+use Rattle.schema.specs.Document.Texts.{is_among}
+use Rattle.schema.specs.Nodes.Node.{Node, node, object, Fields, no_fields, field, IsNode, AreOrdered}
+use Rattle.schema.specs.Nodes.ByPlace.{Declared}
+use Rattle.schema.specs.Nodes.Items.{IsPlainScalar, IsKey, AreKeys, HasKeys}
+use Rattle.schema.specs.declared.node.ListType.TheVariants.{Map}
+use Rattle.stored.specs.Objects.Fault.{agree_at, agree, are_alike}
+use Rattle.stored.specs.Objects.StoredByParts.{IsWithin}
+use Rattle.plan.specs.Pools.Pools.{Pools}
+use Rattle.plan.specs.Samples.Part.{IsPart}
+use Rattle.plan.specs.Samples.Sites.{Site, Slot, slots, field_slots}
+use Rattle.plan.specs.Samples.Sizes.{AreFillings, filled_nodes, filled_count, bounds_of}
+use Rattle.plan.specs.Samples.RuleOfParts.{members_in}
+use Rattle.plan.specs.Samples.NoDeadEnd.{is_key, IsTuple, AreCounts, product}
+use Rattle.plan.specs.Internal.PartLaws.{IsObjectPart, PartLaws}
+use Rattle.plan.specs.Internal.Keyed.{Keyed}
+use Rattle.plan.proofs.ApartLemmas.{map_same, same_map, among_filter, filter_among}
+use Rattle.plan.proofs.TupleLemmas.{same_tree, all_tuples}
+use Rattle.plan.proofs.FillingLemmas.{AreInOrder, in_slots, in_nodes}
+use Rattle.plan.proofs.PartLemmas.{StoredLaw, slot_of_field, field_of_slot, fields_in_order, among_name, name_among}
+use Rattle.plan.proofs.SetLemmas.{scalar_one}
+
+-- ---- the slots of keys
+
+-- something must stand there, of one node
+abbrev pub AreKeySlots : Pools → List Slot → Type 0
+AreKeySlots P ss = (s : Slot) → Among ss s → s.key ≡ true → (s.must ≡ true) × ((v : Data) → IsPart P s.node v → node_count v ≡ 1)
+
+-- there is one for each key, and for no other name
+record HaveKeys (P : Pools) (keys : List (List ℕ)) (ss : List Slot) : Type 0 where
+  pub order : AreInOrder ss
+  pub are : AreKeySlots P ss
+  pub named : (s : Slot) → Among ss s → s.key ≡ true → Among keys s.name
+  pub each : (k : List ℕ) → Among keys k → (s : Slot) × (Among ss s × (s.name ≡ k) × (s.key ≡ true))
+
+slot_key : (keys : List (List ℕ)) (fs : Fields) (s : Slot) → Among (field_slots keys fs) s → s.key ≡ is_among s.name keys
+slot_key keys no_fields s a = absurd a
+slot_key keys (field l N required default fs) s (inl e) = subst (λ t. Slot.key t ≡ is_among (Slot.name t) keys) e refl
+slot_key keys (field l N required default fs) s (inr a) = slot_key keys fs s a
+
+key_field : (fs : Fields) (keys : List (List ℕ)) → AreKeys fs keys → (k : List ℕ) → Among keys k → IsKey fs k
+key_field fs [] h k a = absurd a
+key_field fs (l ∷ ls) h k (inl e) = subst (IsKey fs) e h.0
+key_field fs (l ∷ ls) h k (inr a) = key_field fs ls h.2 k a
+
+have_keys : StoredLaw → (P : Pools) (fs : Fields) (keys : List (List ℕ)) → AreOrdered fs → AreKeys fs keys → HaveKeys P keys (field_slots keys fs)
+have_keys stored P fs keys o h =
+    let named : (s : Slot) → Among (field_slots keys fs) s → s.key ≡ true → Among keys s.name = λ s a key. among_name s.name keys (sym (slot_key keys fs s a) ∙ key) in
+    record {
+      order = fields_in_order keys fs o;
+      are = λ s a key.
+          let f = field_of_slot keys fs o s a in
+          let g = key_field fs keys h s.name (named s a key) in
+          let same : f.0 ≡ g.0 = same_Some f.0 g.0 (sym f.1.0 ∙ g.1) in
+          (f.1.1.2 ∙ rw same g.3, scalar_one stored P s.node (subst IsPlainScalar (ap (λ d. Declared.node d) (sym same) ∙ sym f.1.1.1) g.2));
+      named = named;
+      each = λ k a.
+          let f = key_field fs keys h k a in
+          let s = slot_of_field keys fs k f.0 f.1 in
+          (s.0, (s.1.0, s.1.1.0, slot_key keys fs s.0 s.1.0 ∙ rw s.1.1.0 (name_among k keys a)));
+    }
+
+-- ---- the key of an object
+
+abbrev under : Members → Slot → Data
+under ms s = unwrap_or (member_at s.name ms) tree.null
+
+-- what stands under the names of these slots
+abbrev pub key_under : List Slot → Data → List Data
+key_under ss (tree.object ms) = map (under ms) (filter is_key ss)
+key_under ss _ = []
+
+behind : (s : Slot) (ss : List Slot) (v : Data) (ms : Members) → AreInOrder (s ∷ ss) → map (under (member s.name v ms)) (filter is_key ss) ≡ map (under ms) (filter is_key ss)
+behind s ss v ms o = map_same (under (member s.name v ms)) (under ms) (filter is_key ss) (λ t a. ap (λ w. unwrap_or w tree.null) (member_later t.name s.name v ms (later_name t.name s.name (o.0 t (among_filter is_key ss t a).0))))
+
+pub known_key : (P : Pools) (ss : List Slot) (gs : List (Option Data)) → AreInOrder ss → AreKeySlots P ss → AreFillings P ss gs → IsTuple P (filter is_key ss) (key_under ss (tree.object (members_in ss gs)))
+known_key P [] gs o q h = tt
+known_key P (s ∷ ss) [] o q h = absurd h
+known_key P (s ∷ ss) (None ∷ gs) o q h = elim (cases_Bool s.key) [
+  | inl key ↦ let must = (q s (inl refl) key).0 in let free = h.0 in absurd (cc)
+  | inr other ↦ rw other (known_key P ss gs o.1 (λ u a. q u (inr a)) h.1)
+]
+known_key P (s ∷ ss) (Some v ∷ gs) o q h =
+    let r = known_key P ss gs o.1 (λ u a. q u (inr a)) h.1 in
+    let ms = members_in ss gs in
+    elim (cases_Bool s.key) [
+      | inl key ↦ rw (key, member_first s.name v ms, behind s ss v ms o) (h.0, r)
+      | inr other ↦ rw (other, behind s ss v ms o) r
+    ]
+
+-- the slots with another key, and as many nodes
+pub record Refilled (P : Pools) (ss : List Slot) (gs : List (Option Data)) (k : List Data) : Type 0 where
+  pub fillings : List (Option Data)
+  pub are : AreFillings P ss fillings
+  pub key_is : key_under ss (tree.object (members_in ss fillings)) ≡ k
+  pub nodes_are : filled_nodes fillings ≡ filled_nodes gs
+  pub count_is : filled_count fillings ≡ filled_count gs
+
+key_given : (P : Pools) (s : Slot) (ss : List Slot) (v : Data) (gs : List (Option Data)) (k : List Data) → AreInOrder (s ∷ ss) → s.key ≡ true → ((w : Data) → IsPart P s.node w → node_count w ≡ 1) → IsPart P s.node v
+    → IsTuple P (s ∷ filter is_key ss) k → ((l : List Data) → IsTuple P (filter is_key ss) l → Refilled P ss gs l) → Refilled P (s ∷ ss) (Some v ∷ gs) k
+key_given P s ss v gs [] o key one p t rest = absurd t
+key_given P s ss v gs (x ∷ k) o key one p t rest =
+    let r = rest k t.1 in
+    let ms = members_in ss r.fillings in
+    record {
+      fillings = Some x ∷ r.fillings;
+      are = (t.0, r.are);
+      key_is = rw (key, member_first s.name x ms, behind s ss x ms o, r.key_is) refl;
+      nodes_are = omega (arith, one x t.0, one v p, r.nodes_are);
+      count_is = ap (λ n. 1 + n) r.count_is;
+    }
+
+pub refilled : (P : Pools) (ss : List Slot) (gs : List (Option Data)) (k : List Data) → AreInOrder ss → AreKeySlots P ss → AreFillings P ss gs → IsTuple P (filter is_key ss) k → Refilled P ss gs k
+refilled P [] [] [] o q h t = record { fillings = []; are = tt; key_is = refl; nodes_are = refl; count_is = refl }
+refilled P [] [] (x ∷ k) o q h t = absurd t
+refilled P [] (g ∷ gs) k o q h t = absurd h
+refilled P (s ∷ ss) [] k o q h t = absurd h
+refilled P (s ∷ ss) (None ∷ gs) k o q h t = elim (cases_Bool s.key) [
+  | inl key ↦ let must = (q s (inl refl) key).0 in let free = h.0 in absurd (cc)
+  | inr other ↦
+      let r = refilled P ss gs k o.1 (λ u a. q u (inr a)) h.1 (rw other at t) in
+      record { fillings = None ∷ r.fillings; are = (h.0, r.are); key_is = rw other r.key_is; nodes_are = r.nodes_are; count_is = r.count_is }
+]
+refilled P (s ∷ ss) (Some v ∷ gs) k o q h t = elim (cases_Bool s.key) [
+  | inl key ↦ key_given P s ss v gs k o key (q s (inl refl) key).1 h.0 (rw key at t) (λ l is. refilled P ss gs l o.1 (λ u a. q u (inr a)) h.1 is)
+  | inr other ↦
+      let r = refilled P ss gs k o.1 (λ u a. q u (inr a)) h.1 (rw other at t) in
+      record { fillings = Some v ∷ r.fillings; are = (h.0, r.are); key_is = rw (other, behind s ss v (members_in ss r.fillings) o) r.key_is; nodes_are = ap (λ n. node_count v + n) r.nodes_are; count_is = ap (λ n. 1 + n) r.count_is }
+]
+
+-- ---- objects that agree on all keys
+
+same_at : (o p : Option Data) → Decides (agree_at o p) (o ≡ p)
+same_at None None = ((λ t. refl), λ e. refl)
+same_at (Some v) (Some w) = ((λ t. ap Some ((same_tree v w).0 t)), λ e. (same_tree v w).1 (same_Some v w e))
+same_at _ _ = ((λ t. absurd (cc)), λ e. absurd (cc))
+
+agree_decides : (ms ns : Members) (keys : List (List ℕ)) → Decides (agree keys ms ns) (All (λ k. member_at k ms ≡ member_at k ns) keys)
+agree_decides ms ns keys = Decides-by_and (λ k. agree_at (member_at k ms) (member_at k ns)) (λ k. member_at k ms ≡ member_at k ns) (λ ks. agree ks ms ns) (λ k. same_at (member_at k ms) (member_at k ns)) refl (λ k ks. refl) keys
+
+module _ {P : Pools} {keys : List (List ℕ)} {ss : List Slot} (h : HaveKeys P keys ss) where
+  key_tells : (ms ns : Members) → agree keys ms ns ≡ true → key_under ss (tree.object ms) ≡ key_under ss (tree.object ns)
+  key_tells ms ns e = map_same (under ms) (under ns) (filter is_key ss) (λ s a.
+      let f = among_filter is_key ss s a in
+      ap (λ w. unwrap_or w tree.null) (All-contains (λ k. member_at k ms ≡ member_at k ns) keys s.name ((agree_decides ms ns keys).0 e) (contains keys s.name (h.named s f.0 f.1))))
+
+  found : (gs : List (Option Data)) → AreFillings P ss gs → (s : Slot) → Among ss s → s.key ≡ true → (v : Data) × (member_at s.name (members_in ss gs) ≡ Some v)
+  found gs are s a key = elim (option_cases (member_at s.name (members_in ss gs))) [ inl none ↦ absurd ((in_slots P ss gs h.order are).present s a (h.are s a key).0 none) | inr v ↦ v ]
+
+  key_told : (gs hs : List (Option Data)) → AreFillings P ss gs → AreFillings P ss hs → key_under ss (tree.object (members_in ss gs)) ≡ key_under ss (tree.object (members_in ss hs)) → agree keys (members_in ss gs) (members_in ss hs) ≡ true
+  key_told gs hs g i e =
+      let ms = members_in ss gs in
+      let ns = members_in ss hs in
+      (agree_decides ms ns keys).1 (each_of (λ k. member_at k ms ≡ member_at k ns) keys (λ k a.
+      let s = h.each k a in
+      let v = found gs g s.0 s.1.0 s.1.2 in
+      let w = found hs i s.0 s.1.0 s.1.2 in
+      let same = same_map (under ms) (under ns) (filter is_key ss) e s.0 (filter_among is_key ss s.0 s.1.0 s.1.2) in
+      subst (λ l. member_at l ms ≡ member_at l ns) s.1.1 (v.1 ∙ ap Some (rw (v.1, w.1) at same) ∙ sym w.1)))
+
+-- ---- all of it
+
+-- where each part is an object
+module _ (P : Pools) (s : Site) (row : (v : Data) → IsPart P s.node v ↔ IsObjectPart P s v) (keys : List (List ℕ)) (h : HaveKeys P keys (slots P s)) where
+  object_given : (gs : List (Option Data)) (k : List Data) → AreFillings P (slots P s) gs → IsWithin (bounds_of s.node) (filled_count gs) → IsTuple P (filter is_key (slots P s)) k
+      → (w : Data) × (IsPart P s.node w × (key_under (slots P s) w ≡ k) × (node_count w ≡ node_count (tree.object (members_in (slots P s) gs))))
+  object_given gs k are within is =
+      let r = refilled P (slots P s) gs k h.order h.are are is in
+      let w = tree.object (members_in (slots P s) r.fillings) in
+      let part = (row w).1 (record { fillings = r.fillings; is = refl; are = r.are; within = rw r.count_is within }) in
+      (w, (part, r.key_is, ap (λ m. 1 + m) (in_nodes P (slots P s) r.fillings r.are ∙ r.nodes_are ∙ sym (in_nodes P (slots P s) gs are))))
+
+  objects_keyed : (counts : List ℕ) → AreCounts P (filter is_key (slots P s)) counts → (K : Keyed P s.node (are_alike Map keys)) × (length K.keys ≡ product counts)
+  objects_keyed counts count =
+      let all = all_tuples P (filter is_key (slots P s)) counts count in (
+        record {
+          key = key_under (slots P s);
+          keys = all.0;
+          apart = all.1.0.apart;
+          known = λ v p. let x = (row v).0 p in (all.1.0.each (key_under (slots P s) v)).1 (rw x.is (known_key P (slots P s) x.fillings h.order h.are x.are));
+          given = λ v k p a. let x = (row v).0 p in rw x.is (object_given x.fillings k x.are x.within ((all.1.0.each k).0 a));
+          tells = λ v w p r e. let x = (row v).0 p in let y = (row w).0 r in rw (x.is, y.is) (key_tells h (members_in (slots P s) x.fillings) (members_in (slots P s) y.fillings) (rw (x.is, y.is) at e));
+          told = λ v w p r e. let x = (row v).0 p in let y = (row w).0 r in rw (x.is, y.is) (key_told h x.fillings y.fillings x.are y.are (rw (x.is, y.is) at e));
+        },
+        all.1.1,
+      )
+
+pub map_keyed : StoredLaw → PartLaws → (P : Pools) (N : Node) (keys : List (List ℕ)) (counts : List ℕ) → IsNode N → HasKeys N keys → AreCounts P (filter is_key (slots P (record { node = N; keys = keys }))) counts
+    → (K : Keyed P N (are_alike Map keys)) × (length K.keys ≡ product counts)
+map_keyed stored laws P (node n t (object fs preserves type b)) keys counts o h count =
+    let s : Site = record { node = node n t (object fs preserves type b); keys = keys } in
+    let never : n ≡ false = h.0 in
+    objects_keyed P s (λ v. ((λ p. elim ((laws.row P s v o refl).0 p) [ inl null ↦ let no = null.1 in absurd (cc) | inr x ↦ x ]), λ x. (laws.row P s v o refl).1 (inr x))) keys (have_keys stored P fs keys o h.2) counts count
+map_keyed stored laws P N keys counts o h count = absurd h
