@@ -60,7 +60,7 @@ stand_last sites start xs s h = h (length xs) s (omega (arith, length_push xs s)
 
 -- ---- fields
 
-append_none : {X : Type 0} (xs : List X) → xs ++ [] ≡ xs
+pub append_none : {X : Type 0} (xs : List X) → xs ++ [] ≡ xs
 append_none [] = refl
 append_none (x ∷ xs) = ap (λ l. x ∷ l) (append_none xs)
 

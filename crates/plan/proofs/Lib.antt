@@ -8,6 +8,7 @@ pub mod SiteLemmas
 pub mod EntryLemmas
 pub mod BuildingLemmas
 pub mod PlanLemmas
+pub mod ListEntryLemmas
 pub mod ValueLemmas
 pub mod WordLemmas
 pub mod FirstBreak

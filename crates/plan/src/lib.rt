@@ -7,6 +7,7 @@ mod entries;
 mod fault;
 mod laws;
 mod leaf;
+mod list_entries;
 mod lists;
 mod meter;
 mod plan;

@@ -1,0 +1,58 @@
+//! The entries of lists, over the nodes that are there.
+ghost use Rattle.std.specs.Prelude.{◌≡◌, ◌<◌, ◌≤◌, ℕ, List, Bool, Option, Some, All, length, IfOk};
+ghost use Rattle.schema.specs.Nodes.Node.{IsNode, node as node_with};
+ghost use Rattle.schema.specs.Nodes.Items.{HasSoundItems};
+ghost use Rattle.schema.specs.Nodes.View.{list_of};
+ghost use Rattle.plan.specs.Pools.Pools.{Pools};
+ghost use Rattle.plan.specs.Samples.Sites.{Site, item_site, slots, Slot};
+ghost use Rattle.plan.specs.Samples.Candidates.{sort_of, HasCount};
+ghost use Rattle.plan.specs.Internal.Arena.{site_at, AreSlots, AreRight, IsRight};
+ghost use Rattle.plan.specs.Internal.Tuples.{AreKeysLeaves, HasTuples, IsCutTo};
+ghost use Rattle.plan.specs.Internal.Lists.{cut};
+ghost use Rattle.plan.specs.declared.arena.SlotEntry.{SlotEntry as SlotDeclared};
+ghost use Rattle.plan.specs.declared.sort.Sort.TheVariants.{Leaf, Row};
+
+use crate::SizeSet;
+use crate::arena::{Arena, Content, PlanNode, SlotEntry};
+use schema::Bounds;
+
+/// How many candidates the leaf has.
+fn count<Z: SizeSet>(arena: &Arena<Z>, node: PlanNode) -> u64
+    requires { node < length arena.now.entries.items }
+    ensures { (P : Pools) (sites : List Site) → AreRight Z.holds arena.now.limit P arena.now.values sites arena.now.entries.items
+        → sort_of (site_at sites node).node ≡ Leaf → HasCount P (site_at sites node).node result }
+{
+    match &arena.entry(node).content {
+        Content::Leaf(leaf) => leaf.places.len() as u64,
+        Content::Row(_) | Content::List(_) => 0,
+    }
+}
+
+/// How many tuples of keys there are, at most 2^64 - 1.
+fn tuples<Z: SizeSet>(arena: &Arena<Z>, slots: &[SlotEntry]) -> u64
+    requires { All (λ (s : SlotDeclared). s.node < length arena.now.entries.items) slots.now }
+    ensures { (P : Pools) (sites : List Site) (i : ℕ) (ss : List Slot) → AreRight Z.holds arena.now.limit P arena.now.values sites arena.now.entries.items
+        → AreSlots arena.now.values.names.items sites i slots.now ss → AreKeysLeaves ss → HasTuples P ss result }
+{
+    let mut tuples: u64 = 1;
+    for slot in slots {
+        if slot.key {
+            tuples = tuples.saturating_mul(count(arena, slot.node));
+        }
+    }
+    tuples
+}
+
+/// The bounds with at most so many items.
+fn cut_bounds(bounds: Bounds, most: u64) -> Bounds
+    ensures { result ≡ cut most bounds }
+{
+    let most = match bounds.most {
+        Some(bound) => bound.min(most),
+        None => most,
+    };
+    Bounds {
+        least: bounds.least,
+        most: Some(most),
+    }
+}
