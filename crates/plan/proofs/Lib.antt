@@ -9,6 +9,7 @@ pub mod EntryLemmas
 pub mod BuildingLemmas
 pub mod PlanLemmas
 pub mod ListEntryLemmas
+pub mod CutLemmas
 pub mod ValueLemmas
 pub mod WordLemmas
 pub mod FirstBreak

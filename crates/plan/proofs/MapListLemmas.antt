@@ -56,6 +56,14 @@ key_field fs [] h k a = absurd a
 key_field fs (l ∷ ls) h k (inl e) = subst (IsKey fs) e h.0
 key_field fs (l ∷ ls) h k (inr a) = key_field fs ls h.2 k a
 
+-- the node of a key is a scalar that takes no null
+pub key_of_slot : (fs : Fields) (keys : List (List ℕ)) → AreOrdered fs → AreKeys fs keys → (s : Slot) → Among (field_slots keys fs) s → s.key ≡ true → IsPlainScalar s.node
+key_of_slot fs keys o h s a key =
+    let f = field_of_slot keys fs o s a in
+    let g = key_field fs keys h s.name (among_name s.name keys (sym (slot_key keys fs s a) ∙ key)) in
+    let same : f.0 ≡ g.0 = same_Some f.0 g.0 (sym f.1.0 ∙ g.1) in
+    subst IsPlainScalar (ap (λ d. Declared.node d) (sym same) ∙ sym f.1.1.1) g.2
+
 have_keys : StoredLaw → (P : Pools) (fs : Fields) (keys : List (List ℕ)) → AreOrdered fs → AreKeys fs keys → HaveKeys P keys (field_slots keys fs)
 have_keys stored P fs keys o h =
     let named : (s : Slot) → Among (field_slots keys fs) s → s.key ≡ true → Among keys s.name = λ s a key. among_name s.name keys (sym (slot_key keys fs s a) ∙ key) in

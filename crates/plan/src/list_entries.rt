@@ -14,7 +14,9 @@ ghost use Rattle.plan.specs.declared.sort.Sort.TheVariants.{Leaf, Row};
 
 use crate::SizeSet;
 use crate::arena::{Arena, Content, PlanNode, SlotEntry};
-use schema::Bounds;
+use crate::laws::parts_one_level;
+use schema::{Bounds, ListNode, ListType};
+use stored::stored_by_parts;
 
 /// How many candidates the leaf has.
 fn count<Z: SizeSet>(arena: &Arena<Z>, node: PlanNode) -> u64
@@ -54,5 +56,35 @@ fn cut_bounds(bounds: Bounds, most: u64) -> Bounds
     Bounds {
         least: bounds.least,
         most: Some(most),
+    }
+}
+
+/// The bounds that the items keep where no two may be alike: a set has at most as many as its items have candidates, a map list
+/// as many as there are tuples of keys.
+fn item_bounds<Z: SizeSet>(arena: &Arena<Z>, item: PlanNode, list: &ListNode) -> Bounds
+    requires item { item < length arena.now.entries.items }
+    requires limit { arena.now.limit < 18446744073709551615 }
+    ensures { (P : Pools) (sites : List Site) (s : Site) → AreRight Z.holds arena.now.limit P arena.now.values sites arena.now.entries.items
+        → (n : Bool) (d : Option (List ℕ)) → s.node ≡ node_with n d (list_of list.now) → item_site s ≡ Some (site_at sites item) → IsNode s.node → HasSoundItems s.node
+        → IsCutTo P arena.now.limit s.node (site_at sites item).node result }
+{
+    parts_one_level();
+    stored_by_parts();
+    match list.list_type {
+        ListType::Atomic => list.bounds,
+        ListType::Set => cut_bounds(list.bounds, count(arena, item)),
+        ListType::Map => cut_bounds(list.bounds, item_tuples(arena, item)),
+    }
+}
+
+/// How many tuples of keys the row has; none where the node is no row.
+fn item_tuples<Z: SizeSet>(arena: &Arena<Z>, node: PlanNode) -> u64
+    requires { node < length arena.now.entries.items }
+    ensures { (P : Pools) (sites : List Site) → AreRight Z.holds arena.now.limit P arena.now.values sites arena.now.entries.items
+        → sort_of (site_at sites node).node ≡ Row → AreKeysLeaves (slots P (site_at sites node)) → HasTuples P (slots P (site_at sites node)) result }
+{
+    match &arena.entry(node).content {
+        Content::Row(row) => tuples(arena, &row.slots),
+        Content::Leaf(_) | Content::List(_) => 0,
     }
 }

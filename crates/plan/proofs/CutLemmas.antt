@@ -1,0 +1,126 @@
+-- The bounds of lists of which no two items may be alike.
+use Rattle.std.specs.Prelude.{◌≡◌, ℕ, ◌-◌, ◌^◌, ◌≤◌, ◌<◌, ◌↔◌, Bool, true, false, List, [], ◌∷◌, Option, Some, None, min, nat_lt, length, filter}
+use Rattle.std.proofs.Common.{refl, ap, sym, ◌∙◌, subst, inl, inr, arith}
+use Rattle.std.proofs.lemmas.Option.{same_Some}
+use Rattle.std.proofs.lemmas.Bool.{le-ltb, ltb-false}
+use Rattle.jtree.specs.Data.{Items}
+use Rattle.jtree.specs.Data as tree
+use Rattle.schema.specs.declared.node.ListType.{ListType}
+use Rattle.jtree.specs.Internal.Rising.{Among}
+use Rattle.schema.specs.Nodes.Node.{Node, node, scalar, object, list, open_, Fields, IsNode, AreOrdered}
+use Rattle.schema.specs.Nodes.Node as nodes
+use Rattle.schema.specs.Nodes.ByPlace.{Declared}
+use Rattle.schema.specs.Nodes.Items.{IsPlainScalar, IsKey, AreKeys, HasKeys}
+use Rattle.schema.specs.declared.node.Bounds.{Bounds}
+use Rattle.schema.specs.declared.node.ListType.TheVariants.{Atomic, Set, Map}
+use Rattle.stored.specs.Objects.Fault as fault
+use Rattle.stored.specs.Objects.StoredByParts.{IsWithin}
+use Rattle.plan.specs.Pools.Pools.{Pools}
+use Rattle.plan.specs.Samples.Sites.{Site, item_site, item_site_at, item_keys, Slot, slots, slots_at, field_slots}
+use Rattle.plan.specs.Samples.Candidates.{sort_of, HasCount}
+use Rattle.plan.specs.Samples.Sizes.{HasMore, bounds_of}
+use Rattle.plan.specs.Samples.RuleOfParts.{alike_at}
+use Rattle.plan.specs.Samples.NoDeadEnd.{is_key, AreCounts, product}
+use Rattle.plan.specs.Internal.Lists.{HasMoreFree, HasMoreApart, cut, most_or}
+use Rattle.plan.specs.Internal.PartLaws.{PartLaws}
+use Rattle.plan.specs.Internal.Tuples.{AreKeysLeaves, HasTuples, IsCutTo}
+use Rattle.plan.specs.declared.sort.Sort.TheVariants.{Leaf, Row}
+use Rattle.plan.proofs.PartLemmas.{StoredLaw, field_of_slot}
+use Rattle.plan.proofs.ListLemmas.{count_nodes}
+use Rattle.plan.proofs.KeyedLemmas.{more_free, more_apart}
+use Rattle.plan.proofs.SetLemmas.{set_keyed}
+use Rattle.plan.proofs.MapListLemmas.{map_keyed, key_of_slot}
+
+pub plain_leaf : (N : Node) → IsPlainScalar N → sort_of N ≡ Leaf
+plain_leaf (node n t (scalar kind cs)) plain = refl
+plain_leaf (node n t (object fs preserves type b)) plain = absurd plain
+plain_leaf (node n t (nodes.map M type b)) plain = absurd plain
+plain_leaf (node n t (list M type keys b)) plain = absurd plain
+plain_leaf (node n t open_) plain = absurd plain
+
+-- the keys of the items of a map list are leaves of a row
+pub keys_leaves : (P : Pools) (M : Node) (keys : List (List ℕ)) → IsNode M → HasKeys M keys → AreKeysLeaves (slots P (record { node = M; keys = keys }))
+keys_leaves P (node n t (object fs preserves type b)) keys o h = λ s a key.
+    let g = key_of_slot fs keys o h.2 s a key in
+    plain_leaf s.node g
+keys_leaves P M keys o h = absurd h
+
+pub keys_row : (M : Node) (keys : List (List ℕ)) → HasKeys M keys → sort_of M ≡ Row
+keys_row (node n t (object fs preserves type b)) keys h = refl
+keys_row M keys h = absurd h
+
+below_cut : (most : Option ℕ) (p q n : ℕ) → (n ≤ p → n ≤ q) → nat_lt (most_or most p) n ≡ false → nat_lt (most_or most q) n ≡ false
+below_cut None p q n h e = le-ltb q n (h (ltb-false p n e))
+below_cut (Some m) p q n h e =
+    let l = ltb-false (min m p) n e in
+    let r = h (omega arith) in
+    le-ltb (min m q) n (omega arith)
+
+-- a bound above the limit is as good as another
+same_cut : (P : Pools) (limit : ℕ) (M : Node) (b : Bounds) (p q t m : ℕ) → ((n : ℕ) → n ≤ limit → n ≤ p → n ≤ q) → HasMoreFree P limit M (cut p b) t m → HasMoreFree P limit M (cut q b) t m
+same_cut P limit M b p q t m less h =
+    let n = fault.items_count h.items in
+    let c = count_nodes h.items in
+    record { items = h.items; are = h.are; within = (h.within.0, below_cut b.most p q n (λ l. less n (omega (arith, h.fits)) l) h.within.1); fits = h.fits; many = h.many; nodes_are = h.nodes_are }
+
+-- the lists of a node are those of parts of which no two are alike
+same_items : (ds es : Items) → tree.list ds ≡ tree.list es → ds ≡ es
+same_items ds es e = cc
+
+more_down : PartLaws → (P : Pools) (s M : Site) → item_site s ≡ Some M → (limit t m : ℕ) → HasMore P limit s.node t m → HasMoreApart P limit M.node (alike_at s.node) (bounds_of s.node) t m
+more_down laws P s M is limit t m h = elim ((laws.list P s M (tree.list h.items) is).0 h.part) [
+  | inl null ↦ absurd (let no = null.0 in cc)
+  | inr q ↦
+      let e = sym (same_items h.items q.items q.is) in
+      record {
+        items = h.items;
+        are = rw e at q.are;
+        apart = rw e at q.apart;
+        within = rw e at q.within;
+        fits = h.fits;
+        many = h.many;
+        nodes_are = h.nodes_are;
+      }
+]
+
+more_up : PartLaws → (P : Pools) (s M : Site) → item_site s ≡ Some M → (limit t m : ℕ) → HasMoreApart P limit M.node (alike_at s.node) (bounds_of s.node) t m → HasMore P limit s.node t m
+more_up laws P s M is limit t m h = record {
+  items = h.items;
+  part = (laws.list P s M (tree.list h.items) is).1 (inr (record { items = h.items; is = refl; are = h.are; apart = h.apart; within = h.within }));
+  fits = h.fits;
+  many = h.many;
+  nodes_are = h.nodes_are;
+}
+
+-- ---- by the list type
+
+abbrev Cuts : Pools → ℕ → Site → Site → Bounds → Type 0
+Cuts P limit s M b = (t m : ℕ) → HasMoreApart P limit M.node (alike_at s.node) (bounds_of s.node) t m ↔ HasMoreFree P limit M.node b t m
+
+cut_by : PartLaws → (P : Pools) (limit : ℕ) (s M : Site) (b : Bounds) → item_site s ≡ Some M → Cuts P limit s M b → IsCutTo P limit s.node M.node b
+cut_by laws P limit s M b is cuts t m = ((λ h. (cuts t m).0 (more_down laws P s M is limit t m h)), λ h. more_up laws P s M is limit t m ((cuts t m).1 h))
+
+pub free_cut : PartLaws → (P : Pools) (limit : ℕ) (s M : Site) (n : Bool) (d : Option (List ℕ)) (K : Node) (keys : List (List ℕ)) (b : Bounds) → s.node ≡ node n d (list K Atomic keys b) → item_site s ≡ Some M → IsCutTo P limit s.node M.node b
+free_cut laws P limit s M n d K keys b is item = cut_by laws P limit s M b item (rw is (λ t m. more_free P limit M.node (alike_at (node n d (list K Atomic keys b))) b t m (λ v w. refl)))
+
+item_is : (s M : Site) (n : Bool) (d : Option (List ℕ)) (K : Node) (type : ListType) (keys : List (List ℕ)) (b : Bounds) → s.node ≡ node n d (list K type keys b) → item_site s ≡ Some M → record { node = K; keys = item_keys type keys } ≡ M
+item_is s M n d K type keys b is item = same_Some _ M (sym (ap item_site_at is) ∙ item)
+
+pub set_cut : StoredLaw → PartLaws → (P : Pools) (limit : ℕ) (s M : Site) (n : Bool) (d : Option (List ℕ)) (K : Node) (keys : List (List ℕ)) (b : Bounds) (count : ℕ) → s.node ≡ node n d (list K Set keys b) → item_site s ≡ Some M
+    → IsPlainScalar M.node → HasCount P M.node count → IsCutTo P limit s.node M.node (cut count b)
+set_cut stored laws P limit s M n d K keys b count is item plain has =
+    let k = set_keyed stored P M.node count plain has in
+    cut_by laws P limit s M (cut count b) item (rw (is, ← k.1) (λ t m. more_apart k.0 limit b t m))
+
+pub map_cut : StoredLaw → PartLaws → (P : Pools) (limit : ℕ) (s M : Site) (n : Bool) (d : Option (List ℕ)) (K : Node) (keys : List (List ℕ)) (b : Bounds) (count : ℕ) → limit < 2 ^ 64 - 1 → s.node ≡ node n d (list K Map keys b) → item_site s ≡ Some M
+    → IsNode M.node → HasKeys M.node keys → HasTuples P (slots P M) count → IsCutTo P limit s.node M.node (cut count b)
+map_cut stored laws P limit s M n d K keys b count room is item o h has =
+    let e = item_is s M n d K Map keys b is item in
+    let same : keys ≡ M.keys = ap (λ x. Site.keys x) e in
+    let counts = subst (λ ks. AreCounts P (filter is_key (slots_at P M.node ks)) has.0) (sym same) has.1.0 in
+    let k = map_keyed stored laws P M.node keys has.0 o h counts in
+    let tuples = length k.0.keys in
+    let capped : count ≡ min tuples (2 ^ 64 - 1) = has.1.1 ∙ ap (λ x. min x (2 ^ 64 - 1)) (sym k.1) in
+    cut_by laws P limit s M (cut count b) item (rw is (λ t m.
+      let x = more_apart k.0 limit b t m in
+      ((λ a. same_cut P limit M.node b tuples count t m (λ i l below. omega arith) (x.0 a)), λ f. x.1 (same_cut P limit M.node b count tuples t m (λ i l below. omega arith) f))))
