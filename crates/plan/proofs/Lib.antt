@@ -7,5 +7,6 @@ pub mod PartLemmas
 pub mod SiteLemmas
 pub mod EntryLemmas
 pub mod ValueLemmas
+pub mod LeafLemmas
 pub mod WordLemmas
 pub mod FirstBreak
