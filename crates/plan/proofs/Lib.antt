@@ -11,6 +11,7 @@ pub mod PlanLemmas
 pub mod ListEntryLemmas
 pub mod CutLemmas
 pub mod ValueLemmas
+pub mod LeafLemmas
 pub mod WordLemmas
 pub mod FirstBreak
 pub mod ApartLemmas
