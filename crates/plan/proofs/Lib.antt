@@ -5,6 +5,7 @@ pub mod ListLemmas
 pub mod FillingLemmas
 pub mod PartLemmas
 pub mod SiteLemmas
+pub mod MoreLemmas
 pub mod EntryLemmas
 pub mod BuildingLemmas
 pub mod PlanLemmas
