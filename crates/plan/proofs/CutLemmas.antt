@@ -3,14 +3,12 @@ use Rattle.std.specs.Prelude.{◌≡◌, ℕ, ◌-◌, ◌^◌, ◌≤◌, ◌<�
 use Rattle.std.proofs.Common.{refl, ap, sym, ◌∙◌, subst, inl, inr, arith}
 use Rattle.std.proofs.lemmas.Option.{same_Some}
 use Rattle.std.proofs.lemmas.Bool.{le-ltb, ltb-false}
-use Rattle.jtree.specs.Data.{Items}
-use Rattle.jtree.specs.Data as tree
 use Rattle.schema.specs.declared.node.ListType.{ListType}
 use Rattle.jtree.specs.Internal.Rising.{Among}
 use Rattle.schema.specs.Nodes.Node.{Node, node, scalar, object, list, open_, Fields, IsNode, AreOrdered}
 use Rattle.schema.specs.Nodes.Node as nodes
 use Rattle.schema.specs.Nodes.ByPlace.{Declared}
-use Rattle.schema.specs.Nodes.Items.{IsPlainScalar, IsKey, AreKeys, HasKeys}
+use Rattle.schema.specs.Nodes.Items.{IsPlainScalar, IsKey, AreKeys, HasKeys, HasSoundItems}
 use Rattle.schema.specs.declared.node.Bounds.{Bounds}
 use Rattle.schema.specs.declared.node.ListType.TheVariants.{Atomic, Set, Map}
 use Rattle.stored.specs.Objects.Fault as fault
@@ -27,6 +25,7 @@ use Rattle.plan.specs.Internal.Tuples.{AreKeysLeaves, HasTuples, IsCutTo}
 use Rattle.plan.specs.declared.sort.Sort.TheVariants.{Leaf, Row}
 use Rattle.plan.proofs.PartLemmas.{StoredLaw, field_of_slot}
 use Rattle.plan.proofs.ListLemmas.{count_nodes}
+use Rattle.plan.proofs.MoreLemmas.{more_parts}
 use Rattle.plan.proofs.KeyedLemmas.{more_free, more_apart}
 use Rattle.plan.proofs.SetLemmas.{set_keyed}
 use Rattle.plan.proofs.MapListLemmas.{map_keyed, key_of_slot}
@@ -63,47 +62,18 @@ same_cut P limit M b p q t m less h =
     let c = count_nodes h.items in
     record { items = h.items; are = h.are; within = (h.within.0, below_cut b.most p q n (λ l. less n (omega (arith, h.fits)) l) h.within.1); fits = h.fits; many = h.many; nodes_are = h.nodes_are }
 
--- the lists of a node are those of parts of which no two are alike
-same_items : (ds es : Items) → tree.list ds ≡ tree.list es → ds ≡ es
-same_items ds es e = cc
-
-more_down : PartLaws → (P : Pools) (s M : Site) → item_site s ≡ Some M → (limit t m : ℕ) → HasMore P limit s.node t m → HasMoreApart P limit M.node (alike_at s.node) (bounds_of s.node) t m
-more_down laws P s M is limit t m h = elim ((laws.list P s M (tree.list h.items) is).0 h.part) [
-  | inl null ↦ absurd (let no = null.0 in cc)
-  | inr q ↦
-      let e = sym (same_items h.items q.items q.is) in
-      record {
-        items = h.items;
-        are = rw e at q.are;
-        apart = rw e at q.apart;
-        within = rw e at q.within;
-        fits = h.fits;
-        many = h.many;
-        nodes_are = h.nodes_are;
-      }
-]
-
-more_up : PartLaws → (P : Pools) (s M : Site) → item_site s ≡ Some M → (limit t m : ℕ) → HasMoreApart P limit M.node (alike_at s.node) (bounds_of s.node) t m → HasMore P limit s.node t m
-more_up laws P s M is limit t m h = record {
-  items = h.items;
-  part = (laws.list P s M (tree.list h.items) is).1 (inr (record { items = h.items; is = refl; are = h.are; apart = h.apart; within = h.within }));
-  fits = h.fits;
-  many = h.many;
-  nodes_are = h.nodes_are;
-}
-
 -- ---- by the list type
 
 abbrev Cuts : Pools → ℕ → Site → Site → Bounds → Type 0
 Cuts P limit s M b = (t m : ℕ) → HasMoreApart P limit M.node (alike_at s.node) (bounds_of s.node) t m ↔ HasMoreFree P limit M.node b t m
 
 cut_by : PartLaws → (P : Pools) (limit : ℕ) (s M : Site) (b : Bounds) → item_site s ≡ Some M → Cuts P limit s M b → IsCutTo P limit s.node M.node b
-cut_by laws P limit s M b is cuts t m = ((λ h. (cuts t m).0 (more_down laws P s M is limit t m h)), λ h. more_up laws P s M is limit t m ((cuts t m).1 h))
+cut_by laws P limit s M b is cuts t m = let x = more_parts laws P s M is limit t m in ((λ h. (cuts t m).0 (x.0 h)), λ h. x.1 ((cuts t m).1 h))
 
 pub free_cut : PartLaws → (P : Pools) (limit : ℕ) (s M : Site) (n : Bool) (d : Option (List ℕ)) (K : Node) (keys : List (List ℕ)) (b : Bounds) → s.node ≡ node n d (list K Atomic keys b) → item_site s ≡ Some M → IsCutTo P limit s.node M.node b
 free_cut laws P limit s M n d K keys b is item = cut_by laws P limit s M b item (rw is (λ t m. more_free P limit M.node (alike_at (node n d (list K Atomic keys b))) b t m (λ v w. refl)))
 
-item_is : (s M : Site) (n : Bool) (d : Option (List ℕ)) (K : Node) (type : ListType) (keys : List (List ℕ)) (b : Bounds) → s.node ≡ node n d (list K type keys b) → item_site s ≡ Some M → record { node = K; keys = item_keys type keys } ≡ M
+pub item_is : (s M : Site) (n : Bool) (d : Option (List ℕ)) (K : Node) (type : ListType) (keys : List (List ℕ)) (b : Bounds) → s.node ≡ node n d (list K type keys b) → item_site s ≡ Some M → record { node = K; keys = item_keys type keys } ≡ M
 item_is s M n d K type keys b is item = same_Some _ M (sym (ap item_site_at is) ∙ item)
 
 pub set_cut : StoredLaw → PartLaws → (P : Pools) (limit : ℕ) (s M : Site) (n : Bool) (d : Option (List ℕ)) (K : Node) (keys : List (List ℕ)) (b : Bounds) (count : ℕ) → s.node ≡ node n d (list K Set keys b) → item_site s ≡ Some M
@@ -124,3 +94,15 @@ map_cut stored laws P limit s M n d K keys b count room is item o h has =
     cut_by laws P limit s M (cut count b) item (rw is (λ t m.
       let x = more_apart k.0 limit b t m in
       ((λ a. same_cut P limit M.node b tuples count t m (λ i l below. omega arith) (x.0 a)), λ f. x.1 (same_cut P limit M.node b count tuples t m (λ i l below. omega arith) f))))
+
+-- what the schema grants of the items
+pub set_items : (s M : Site) (n : Bool) (d : Option (List ℕ)) (K : Node) (keys : List (List ℕ)) (b : Bounds) → s.node ≡ node n d (list K Set keys b) → item_site s ≡ Some M → HasSoundItems s.node → IsPlainScalar M.node
+set_items s M n d K keys b is item sound = subst IsPlainScalar (ap (λ x. Site.node x) (item_is s M n d K Set keys b is item)) (subst HasSoundItems is sound)
+
+pub map_items : (s M : Site) (n : Bool) (d : Option (List ℕ)) (K : Node) (keys : List (List ℕ)) (b : Bounds) → s.node ≡ node n d (list K Map keys b) → item_site s ≡ Some M → IsNode s.node → HasSoundItems s.node
+    → IsNode M.node × HasKeys M.node keys × (sort_of M.node ≡ Row) × ((P : Pools) → AreKeysLeaves (slots P M))
+map_items s M n d K keys b is item o sound =
+    let e = item_is s M n d K Map keys b is item in
+    let here : IsNode K = subst IsNode is o in
+    let has : HasKeys K keys = subst HasSoundItems is sound in
+    (subst (λ x. IsNode (Site.node x)) e here, subst (λ x. HasKeys (Site.node x) keys) e has, subst (λ x. sort_of (Site.node x) ≡ Row) e (keys_row K keys has), λ P. subst (λ x. AreKeysLeaves (slots P x)) e (keys_leaves P K keys here has))

@@ -84,7 +84,7 @@ other_more P ss s n key h =
 -- one slot more
 pub tuples_step : (P : Pools) (names : List (List ℕ)) (sites : List Site) (i : ℕ) (xs : List SlotEntry) (x : SlotEntry) (ss : List Slot) (n m c : ℕ) → AreSlots names sites i (xs ++ x ∷ []) ss → AreKeysLeaves ss
     → ((ts : List Slot) → AreSlots names sites i xs ts → AreKeysLeaves ts → HasTuples P ts n)
-    → ((x.key ≡ true) × (sort_of (site_at sites x.node).node ≡ Leaf → HasCount P (site_at sites x.node).node c) × (m ≡ min (n * c) (2 ^ 64 - 1))) ⊎ ((x.key ≡ false) × (m ≡ n)) → HasTuples P ss m
+    → ((x.key ≡ true) × (x.node < i → sort_of (site_at sites x.node).node ≡ Leaf → HasCount P (site_at sites x.node).node c) × (m ≡ min (n * c) (2 ^ 64 - 1))) ⊎ ((x.key ≡ false) × (m ≡ n)) → HasTuples P ss m
 tuples_step P names sites i xs x ss n m c slots leaves before step =
     let r = slots_last names sites i xs x ss slots in
     let s = r.1.0 in
@@ -95,7 +95,7 @@ tuples_step P names sites i xs x ss n m c slots leaves before step =
     let result : HasTuples P (r.0 ++ s ∷ []) m = elim step [
       | inl k ↦
           let leaf : sort_of s.node ≡ Leaf = all s (among_right r.0 (s ∷ []) s (inl refl)) (sym is.key ∙ k.0) in
-          let count : HasCount P s.node c = rw site at (k.1 (rw site leaf)) in
+          let count : HasCount P s.node c = rw site at (k.1 is.below (rw site leaf)) in
           rw k.2 (key_more P r.0 s n c (sym is.key ∙ k.0) left count)
       | inr o ↦ rw o.1 (other_more P r.0 s n (sym is.key ∙ o.0) left)
     ] in

@@ -1,5 +1,5 @@
 //! The entries of lists, over the nodes that are there.
-ghost use Rattle.std.specs.Prelude.{◌≡◌, ◌<◌, ◌≤◌, ℕ, List, Bool, Option, Some, All, length, IfOk};
+ghost use Rattle.std.specs.Prelude.{◌≡◌, ◌<◌, ◌≤◌, ℕ, List, Bool, Option, Some, length, IfOk};
 ghost use Rattle.schema.specs.Nodes.Node.{IsNode, node as node_with};
 ghost use Rattle.schema.specs.Nodes.Items.{HasSoundItems};
 ghost use Rattle.schema.specs.Nodes.View.{list_of};
@@ -9,7 +9,6 @@ ghost use Rattle.plan.specs.Samples.Candidates.{sort_of, HasCount};
 ghost use Rattle.plan.specs.Internal.Arena.{site_at, AreSlots, AreRight, IsRight};
 ghost use Rattle.plan.specs.Internal.Tuples.{AreKeysLeaves, HasTuples, IsCutTo};
 ghost use Rattle.plan.specs.Internal.Lists.{cut};
-ghost use Rattle.plan.specs.declared.arena.SlotEntry.{SlotEntry as SlotDeclared};
 ghost use Rattle.plan.specs.declared.sort.Sort.TheVariants.{Leaf, Row};
 
 use crate::SizeSet;
@@ -18,28 +17,15 @@ use crate::laws::parts_one_level;
 use schema::{Bounds, ListNode, ListType};
 use stored::stored_by_parts;
 
-/// How many candidates the leaf has.
-fn count<Z: SizeSet>(arena: &Arena<Z>, node: PlanNode) -> u64
-    requires { node < length arena.now.entries.items }
-    ensures { (P : Pools) (sites : List Site) → AreRight Z.holds arena.now.limit P arena.now.values sites arena.now.entries.items
-        → sort_of (site_at sites node).node ≡ Leaf → HasCount P (site_at sites node).node result }
-{
-    match &arena.entry(node).content {
-        Content::Leaf(leaf) => leaf.places.len() as u64,
-        Content::Row(_) | Content::List(_) => 0,
-    }
-}
-
 /// How many tuples of keys there are, at most 2^64 - 1.
 fn tuples<Z: SizeSet>(arena: &Arena<Z>, slots: &[SlotEntry]) -> u64
-    requires { All (λ (s : SlotDeclared). s.node < length arena.now.entries.items) slots.now }
-    ensures { (P : Pools) (sites : List Site) (i : ℕ) (ss : List Slot) → AreRight Z.holds arena.now.limit P arena.now.values sites arena.now.entries.items
+    ensures { (P : Pools) (sites : List Site) (i : ℕ) (ss : List Slot) → AreRight Z.holds arena.now.limit P arena.now.values sites arena.now.entries.items → i ≤ length arena.now.entries.items
         → AreSlots arena.now.values.names.items sites i slots.now ss → AreKeysLeaves ss → HasTuples P ss result }
 {
     let mut tuples: u64 = 1;
     for slot in slots {
         if slot.key {
-            tuples = tuples.saturating_mul(count(arena, slot.node));
+            tuples = tuples.saturating_mul(arena.count(slot.node));
         }
     }
     tuples
@@ -72,7 +58,7 @@ fn item_bounds<Z: SizeSet>(arena: &Arena<Z>, item: PlanNode, list: &ListNode) ->
     stored_by_parts();
     match list.list_type {
         ListType::Atomic => list.bounds,
-        ListType::Set => cut_bounds(list.bounds, count(arena, item)),
+        ListType::Set => cut_bounds(list.bounds, arena.count(item)),
         ListType::Map => cut_bounds(list.bounds, item_tuples(arena, item)),
     }
 }
