@@ -1,5 +1,5 @@
 -- The bounds of lists of which no two items may be alike.
-use Rattle.std.specs.Prelude.{◌≡◌, ℕ, ◌-◌, ◌^◌, ◌≤◌, ◌<◌, ◌↔◌, Bool, true, false, List, [], ◌∷◌, Option, Some, None, min, nat_lt, length, filter}
+use Rattle.std.specs.Prelude.{◌≡◌, ℕ, ◌-◌, ◌^◌, ◌≤◌, ◌<◌, ◌⊎◌, ◌↔◌, Bool, get_or, true, false, List, [], ◌∷◌, Option, Some, None, min, nat_lt, length, filter}
 use Rattle.std.proofs.Common.{refl, ap, sym, ◌∙◌, subst, inl, inr, arith}
 use Rattle.std.proofs.lemmas.Option.{same_Some}
 use Rattle.std.proofs.lemmas.Bool.{le-ltb, ltb-false}
@@ -15,16 +15,26 @@ use Rattle.stored.specs.Objects.Fault as fault
 use Rattle.stored.specs.Objects.StoredByParts.{IsWithin}
 use Rattle.plan.specs.Pools.Pools.{Pools}
 use Rattle.plan.specs.Samples.Sites.{Site, item_site, item_site_at, item_keys, Slot, slots, slots_at, field_slots}
-use Rattle.plan.specs.Samples.Candidates.{sort_of, HasCount}
-use Rattle.plan.specs.Samples.Sizes.{HasMore, bounds_of}
+use Rattle.plan.specs.Samples.Candidates.{sort_of, distinct_of, HasCount}
+use Rattle.plan.specs.Samples.Sizes.{HasMore, bounds_of, IsUpTo}
+use Rattle.plan.specs.Sets.{IsSum}
+use Rattle.stored.specs.Objects.Becomes.{is_nullable}
+use Rattle.std.specs.declared.vec.Vec.{Vec}
+use Rattle.std.specs.declared.alloc.Global.{Global}
+use Rattle.plan.specs.Internal.Arena.{site_at, IsRight}
+use Rattle.plan.specs.declared.values.Values.{Values}
+use Rattle.plan.specs.declared.sort.Distinct.{Distinct}
+use Rattle.plan.specs.declared.arena.PlanNode.{PlanNode}
+use Rattle.plan.specs.declared.arena.Content.TheVariants as content
 use Rattle.plan.specs.Samples.RuleOfParts.{alike_at}
 use Rattle.plan.specs.Samples.NoDeadEnd.{is_key, AreCounts, product}
-use Rattle.plan.specs.Internal.Lists.{HasMoreFree, HasMoreApart, cut, most_or}
+use Rattle.plan.specs.Internal.Lists.{HasMoreFree, HasMoreApart, AreMore, cut, most_or}
 use Rattle.plan.specs.Internal.PartLaws.{PartLaws}
 use Rattle.plan.specs.Internal.Tuples.{AreKeysLeaves, HasTuples, IsCutTo}
 use Rattle.plan.specs.declared.sort.Sort.TheVariants.{Leaf, Row}
 use Rattle.plan.proofs.PartLemmas.{StoredLaw, field_of_slot}
 use Rattle.plan.proofs.ListLemmas.{count_nodes}
+use Rattle.plan.proofs.SiteLemmas.{whole_up_to, list_sizes}
 use Rattle.plan.proofs.MoreLemmas.{more_parts}
 use Rattle.plan.proofs.KeyedLemmas.{more_free, more_apart}
 use Rattle.plan.proofs.SetLemmas.{set_keyed}
@@ -106,3 +116,25 @@ map_items s M n d K keys b is item o sound =
     let here : IsNode K = subst IsNode is o in
     let has : HasKeys K keys = subst HasSoundItems is sound in
     (subst (λ x. IsNode (Site.node x)) e here, subst (λ x. HasKeys (Site.node x) keys) e has, subst (λ x. sort_of (Site.node x) ≡ Row) e (keys_row K keys has), λ P. subst (λ x. AreKeysLeaves (slots P x)) e (keys_leaves P K keys here has))
+
+-- ---- the entry of a list
+
+same_sizes : (limit : ℕ) (A Q R : ℕ → Type 0) → ((n : ℕ) → R n ↔ Q n) → IsUpTo limit A Q → IsUpTo limit A R
+same_sizes limit A Q R same h n = ((λ a. let x = (h n).0 a in (x.0, (same n).1 x.1)), λ r. (h n).1 (r.0, (same n).0 r.1))
+
+pub list_right : {Z : Type 0} (holds : Z → ℕ → Type 0) (limit : ℕ) (P : Pools) (v : Values) (sites : List Site) (i : ℕ) (item : PlanNode) (distinct : Distinct) (more : Vec Z Global) (b : Bounds) (nullable : Bool) (z sizes : Z)
+    → PartLaws → 1 ≤ limit → item_site (site_at sites i) ≡ Some (site_at sites item) → item < i → distinct ≡ distinct_of (site_at sites i).node → is_nullable (site_at sites i).node ≡ nullable
+    → IsCutTo P limit (site_at sites i).node (site_at sites item).node b → length more.items ≡ limit → AreMore holds limit P (site_at sites item).node b more.items → z ≡ get_or more.items 0 z
+    → ((n : ℕ) → holds sizes n ↔ (((nullable ≡ true) × (n ≡ 1)) ⊎ ((n ≤ limit) × IsSum (λ k. k ≡ 1) (holds z) n)))
+    → IsRight holds limit P v sites i (record { sizes = sizes; nullable = nullable; content = content.List (record { item = item; distinct = distinct; more = more }) })
+list_right {Z = Z} holds limit P v sites i item distinct more b nullable z sizes laws room is below kinds null cut_to whole are is_z sized =
+    let s = site_at sites i in
+    let each : (t : ℕ) (y : Z) → t < length more.items → IsUpTo limit (holds (get_or more.items t y)) (HasMore P limit s.node t) = λ t y l.
+        same_sizes limit (holds (get_or more.items t y)) (HasMoreFree P limit (site_at sites item).node b t) (HasMore P limit s.node t) (cut_to t) (are t y l)
+    in
+    let first : IsUpTo limit (holds z) (HasMore P limit s.node 0) = rw (← is_z) at (each 0 z (omega arith)) in
+    record {
+      sizes = whole_up_to limit s.node P (HasMore P limit s.node 0) (holds z) (holds sizes) room (λ n l. list_sizes laws P s (site_at sites item) is limit n l) first (rw (← null) at sized);
+      nullable = sym null;
+      content = record { item = is; below = below; distinct = kinds; whole = whole; more = each };
+    }

@@ -5,17 +5,62 @@ ghost use Rattle.schema.specs.Nodes.Items.{HasSoundItems};
 ghost use Rattle.schema.specs.Nodes.View.{list_of};
 ghost use Rattle.plan.specs.Pools.Pools.{Pools};
 ghost use Rattle.plan.specs.Samples.Sites.{Site, item_site, slots, Slot};
-ghost use Rattle.plan.specs.Samples.Candidates.{sort_of, HasCount};
+ghost use Rattle.plan.specs.Samples.Candidates.{sort_of, distinct_by};
 ghost use Rattle.plan.specs.Internal.Arena.{site_at, AreSlots, AreRight, IsRight};
 ghost use Rattle.plan.specs.Internal.Tuples.{AreKeysLeaves, HasTuples, IsCutTo};
 ghost use Rattle.plan.specs.Internal.Lists.{cut};
 ghost use Rattle.plan.specs.declared.sort.Sort.TheVariants.{Leaf, Row};
 
-use crate::SizeSet;
-use crate::arena::{Arena, Content, PlanNode, SlotEntry};
+use crate::arena::{Arena, Content, Entry, ListEntry, PlanNode, SlotEntry};
 use crate::laws::parts_one_level;
+use crate::lists::more_sets;
+use crate::sizing::whole_sizes;
+use crate::{Distinct, SizeSet};
 use schema::{Bounds, ListNode, ListType};
+use std::alloc::{AllocError, Global};
 use stored::stored_by_parts;
+
+/// The entry of a list with this item.
+pub(crate) fn list_entry<Z: SizeSet>(
+    arena: &Arena<Z>,
+    alloc: Global,
+    item: PlanNode,
+    list: &ListNode,
+    nullable: bool,
+) -> Result<Entry<Z>, AllocError>
+    requires limit { arena.now.limit < Z.BITS }
+    requires room { 1 ≤ arena.now.limit }
+    requires item { item < length arena.now.entries.items }
+    ensures { IfOk result (λ e. (P : Pools) (sites : List Site) (i : ℕ) (d : Option (List ℕ)) → AreRight Z.holds arena.now.limit P arena.now.values sites arena.now.entries.items
+        → (site_at sites i).node ≡ node_with nullable d (list_of list.now) → item_site (site_at sites i) ≡ Some (site_at sites item) → item < i → IsNode (site_at sites i).node → HasSoundItems (site_at sites i).node
+        → IsRight Z.holds arena.now.limit P arena.now.values sites i e) }
+{
+    parts_one_level();
+    let limit = arena.limit;
+    let bounds = item_bounds(arena, item, list);
+    let more = more_sets(alloc, arena.entry(item).sizes, bounds, limit)?;
+    let sizes = whole_sizes(more[0], nullable, limit);
+    Ok(Entry {
+        sizes,
+        nullable,
+        content: Content::List(ListEntry {
+            item,
+            distinct: distinct(list.list_type),
+            more,
+        }),
+    })
+}
+
+/// Which items may not stand in a list of this type.
+fn distinct(list_type: ListType) -> Distinct
+    ensures { result ≡ distinct_by list_type }
+{
+    match list_type {
+        ListType::Atomic => Distinct::Free,
+        ListType::Set => Distinct::Whole,
+        ListType::Map => Distinct::Keys,
+    }
+}
 
 /// How many tuples of keys there are, at most 2^64 - 1.
 fn tuples<Z: SizeSet>(arena: &Arena<Z>, slots: &[SlotEntry]) -> u64
