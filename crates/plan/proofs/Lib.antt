@@ -6,6 +6,7 @@ pub mod FillingLemmas
 pub mod PartLemmas
 pub mod SiteLemmas
 pub mod MoreLemmas
+pub mod SoundLemmas
 pub mod EntryLemmas
 pub mod BuildingLemmas
 pub mod PlanLemmas
