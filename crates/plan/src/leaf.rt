@@ -88,7 +88,7 @@ impl Base {
         }
     }
 
-    /// The tree at a place of the base.
+    /// The tree at a place of the base, and null past the last.
     fn tree<'a>(&'a self, values: &'a Values, place: usize) -> &'a Tree
         ensures { result.now ≡ tree_of values.now self.now place }
     {
@@ -96,7 +96,7 @@ impl Base {
     }
 }
 
-/// The candidate at a place of the leaf's, and `None` past the last.
+/// The candidate at a place among the leaf's, and `None` past the last.
 pub(crate) fn candidate<'a>(values: &'a Values, leaf: &'a Leaf, place: usize) -> Option<&'a Tree>
     ensures { option_map data_of (option_copied result) ≡ slice_get (candidates_of values.now leaf.now) place }
 {
