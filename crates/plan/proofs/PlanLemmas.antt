@@ -1,5 +1,5 @@
 -- What is known of an entry of a plan.
-use Rattle.std.specs.Prelude.{◌≡◌, ℕ, ◌+◌, ◌-◌, ◌≤◌, ◌<◌, ◌↔◌, ◌⊎◌, List, length, get_or, Some}
+use Rattle.std.specs.Prelude.{◌≡◌, ℕ, ◌+◌, ◌-◌, ◌≤◌, ◌<◌, ◌↔◌, ◌⊎◌, List, length, get_or, Some, None, false}
 use Rattle.std.specs.declared.vec.Vec.{Vec}
 use Rattle.std.specs.declared.alloc.Global.{Global}
 use Rattle.std.proofs.Common.{refl, ap, sym, ◌∙◌, subst, inl, inr, arith}
@@ -16,10 +16,11 @@ use Rattle.plan.specs.declared.leaf.Leaf.{Leaf}
 use Rattle.plan.specs.declared.arena.ListEntry.{ListEntry}
 use Rattle.plan.specs.declared.arena.Content.TheVariants as content
 use Rattle.plan.specs.declared.arena.RowEntry.{RowEntry}
-use Rattle.plan.specs.Internal.Arena.{site_at, IsEntry, IsRow, IsRight}
+use Rattle.plan.specs.Internal.Arena.{site_at, Stand, IsEntry, IsRow, IsRight}
 use Rattle.plan.specs.Internal.Plan.{IsPlan}
 use Rattle.plan.specs.declared.values.Values.{Values}
 use Rattle.plan.specs.declared.arena.Entry.{Entry}
+use Rattle.std.proofs.lemmas.List.{get_or_default}
 use Rattle.plan.proofs.EntryLemmas.{slot_count}
 use Rattle.plan.proofs.ListLemmas.{count_nodes}
 
@@ -91,3 +92,9 @@ pub no_row : {Z : Type 0} (holds : Z → ℕ → Type 0) (limit : ℕ) (P : Pool
     → sort_of (site_at sites i).node ≡ RowSort → ⊥
 no_row holds limit P v sites i e right (inl l) row = let s = leaf_sort holds limit P v sites i e l.0 right l.1 in let no = sym s ∙ row in cc
 no_row holds limit P v sites i e right (inr l) row = let s = list_sort holds limit P v sites i e l.0 right l.1 in let no = sym s ∙ row in cc
+
+-- the sites stand at their own numbers
+pub stands_itself : (xs : List Site) → Stand xs 0 xs
+stands_itself xs j s l =
+    let e : 0 + j ≡ j = omega arith in
+    rw e (get_or_default xs j (plain (node false None open_)) s l)

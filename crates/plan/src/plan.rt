@@ -1,7 +1,11 @@
 ghost use Rattle.std.specs.Prelude.{ℕ};
 
 use crate::arena::{Arena, Content, PlanNode};
-use crate::{Distinct, Meter, Pools, SizeSet, Sort};
+use crate::building::build;
+use crate::values::Values;
+use crate::{Distinct, Meter, PFault, Pools, SizeSet, Sort};
+use schema::items_told_apart;
+use std::alloc::Global;
 use std::marker::Model;
 use stored::Schema;
 
@@ -29,13 +33,47 @@ impl<Z: SizeSet> Model for Plan<Z> {
 }
 
 impl<Z: SizeSet> Plan<Z> {
-    ghost use Rattle.std.specs.Prelude.{◌≡◌, ◌≤◌, ◌<◌, length};
+    ghost use Rattle.std.specs.Prelude.{◌≡◌, ◌≤◌, ◌<◌, ◌⊎◌, length, IfOk, IfErr, OnOk};
+    ghost use Rattle.plan.specs.declared.fault.PFault.TheVariants.{BadLimit, NoMemory};
     ghost use Rattle.stored.specs.Objects.Becomes.{is_nullable};
     ghost use Rattle.plan.specs.Samples.Sites.{sites_of, plain, slots as slots_of};
     ghost use Rattle.plan.specs.Samples.Candidates.{sort_of, distinct_of, HasCount};
     ghost use Rattle.plan.specs.Samples.Sizes.{HasSize, HasRest, HasMore, IsUpTo};
     ghost use Rattle.plan.specs.Internal.Arena.{site_at};
     ghost use Rattle.plan.specs.declared.sort.Sort.TheVariants as sort;
+
+    /// The plan of these samples: of this schema, over these pools, of at most `limit` nodes. The tables are filled from the
+    /// leaves upward; no object is made.
+    ///
+    /// `BadLimit` where the limit is 0, or is not below `Z::BITS` (with `u64`: where it is not 1 to 63), which is decided first.
+    /// `NoMemory` where an allocation fails.
+    pub fn new(
+        alloc: Global,
+        schema: Schema,
+        pools: Pools,
+        limit: u32,
+    ) -> Result<Plan<Z>, PFault>
+        ensures ok { IfOk result (λ plan. plan ≡ record { root = schema; pools = pools; limit = limit }) }
+        ensures limit { OnOk result ((1 ≤ limit) × (limit < Z.BITS)) }
+        ensures err { IfErr result (λ e. ((e ≡ BadLimit) × ((limit ≡ 0) ⊎ (Z.BITS ≤ limit))) ⊎ ((e ≡ NoMemory) × ((1 ≤ limit) × (limit < Z.BITS)))) }
+    {
+        if limit == 0 || limit >= Z::BITS {
+            return Err(PFault::BadLimit);
+        }
+        items_told_apart();
+        let mut arena = Arena {
+            values: Values::new(alloc, &pools)?,
+            limit,
+            entries: Vec::new(alloc),
+        };
+        let root = build(&mut arena, alloc, schema.root(), &[])?;
+        Ok(Plan {
+            schema,
+            pools,
+            arena,
+            root,
+        })
+    }
 
     /// The node of the body of a resource.
     pub fn root(&self) -> PlanNode
@@ -121,6 +159,18 @@ impl<Z: SizeSet> Plan<Z> {
         match &self.arena.entry(node).content {
             Content::List(list) => list.distinct,
             Content::Leaf(_) | Content::Row(_) => Distinct::Free,
+        }
+    }
+
+    /// The number of candidates of a leaf.
+    pub fn count(&self, node: PlanNode) -> u32
+        requires node { node < length (sites_of self.now.root) }
+        requires leaf { sort_of (site_at (sites_of self.now.root) node).node ≡ sort.Leaf }
+        ensures { HasCount self.now.pools (site_at (sites_of self.now.root) node).node result }
+    {
+        match &self.arena.entry(node).content {
+            Content::Leaf(leaf) => leaf.places.len() as u32,
+            Content::Row(_) | Content::List(_) => 0,
         }
     }
 
