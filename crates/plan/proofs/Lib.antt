@@ -19,3 +19,4 @@ pub mod TupleLemmas
 pub mod KeyedLemmas
 pub mod SetLemmas
 pub mod MapListLemmas
+pub mod DeadEndLemmas
