@@ -20,3 +20,4 @@ pub mod KeyedLemmas
 pub mod SetLemmas
 pub mod MapListLemmas
 pub mod DeadEndLemmas
+pub mod PlanSites

@@ -76,7 +76,7 @@ node_item_sort (node n t (nodes.map N type b)) M is = absurd (cc)
 node_item_sort (node n t (list N type keys b)) M is = refl
 node_item_sort (node n t open_) M is = absurd (cc)
 
-item_sort : (s M : Site) → item_site s ≡ Some M → sort_of s.node ≡ ListSort
+pub item_sort : (s M : Site) → item_site s ≡ Some M → sort_of s.node ≡ ListSort
 item_sort s M is = node_item_sort s.node M is
 
 pub list_sort : {Z : Type 0} (holds : Z → ℕ → Type 0) (limit : ℕ) (P : Pools) (v : Values) (sites : List Site) (i : ℕ) (e : Entry Z) (l : ListEntry Z) → IsRight holds limit P v sites i e → e.content ≡ content.List l → sort_of (site_at sites i).node ≡ ListSort
