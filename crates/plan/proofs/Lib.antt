@@ -21,3 +21,5 @@ pub mod TupleLemmas
 pub mod KeyedLemmas
 pub mod SetLemmas
 pub mod MapListLemmas
+pub mod DeadEndLemmas
+pub mod PlanSites

@@ -80,3 +80,6 @@ mutual
 
 pub sites_sound : ItemsLaw → (root : Node) → IsSchema root → All (λ s. IsNode s.node × IsSound s.node) (sites_of root)
 sites_sound law root h = let r = schema_sound law root h in each_of _ (sites_of root) (site_sound root [] r.0 r.1)
+
+pub sound_here : (N : Node) → IsSound N → HasSoundItems N
+sound_here (node n t sort) h = h.0

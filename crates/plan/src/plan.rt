@@ -163,15 +163,12 @@ impl<Z: SizeSet> Plan<Z> {
     }
 
     /// The number of candidates of a leaf.
-    pub fn count(&self, node: PlanNode) -> u32
+    pub fn count(&self, node: PlanNode) -> u64
         requires node { node < length (sites_of self.now.root) }
         requires leaf { sort_of (site_at (sites_of self.now.root) node).node ≡ sort.Leaf }
         ensures { HasCount self.now.pools (site_at (sites_of self.now.root) node).node result }
     {
-        match &self.arena.entry(node).content {
-            Content::Leaf(leaf) => leaf.places.len() as u32,
-            Content::Row(_) | Content::List(_) => 0,
-        }
+        self.arena.count(node)
     }
 
     /// A meter at 0. It takes the plan for writing, so that who is lent a plan for reading makes none.
