@@ -32,7 +32,7 @@ most_cut (Some k) n m = ((λ h. (grind (arith, nat_tests), grind (arith, nat_tes
 
 -- ---- items one after another
 
-pub then_none : (ds : Items) → items_then ds no_items ≡ ds
+then_none : (ds : Items) → items_then ds no_items ≡ ds
 then_none no_items = refl
 then_none (item d ds) = ap (λ es. item d es) (then_none ds)
 

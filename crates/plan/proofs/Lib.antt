@@ -5,10 +5,15 @@ pub mod ListLemmas
 pub mod FillingLemmas
 pub mod PartLemmas
 pub mod SiteLemmas
+pub mod MoreLemmas
+pub mod SoundLemmas
 pub mod EntryLemmas
 pub mod BuildingLemmas
 pub mod PlanLemmas
+pub mod ListEntryLemmas
+pub mod CutLemmas
 pub mod ValueLemmas
+pub mod LeafLemmas
 pub mod WordLemmas
 pub mod FirstBreak
 pub mod ApartLemmas
@@ -16,3 +21,5 @@ pub mod TupleLemmas
 pub mod KeyedLemmas
 pub mod SetLemmas
 pub mod MapListLemmas
+pub mod DeadEndLemmas
+pub mod PlanSites

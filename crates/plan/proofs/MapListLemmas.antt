@@ -56,22 +56,25 @@ key_field fs [] h k a = absurd a
 key_field fs (l ∷ ls) h k (inl e) = subst (IsKey fs) e h.0
 key_field fs (l ∷ ls) h k (inr a) = key_field fs ls h.2 k a
 
+-- under a key something must stand, and it is a plain scalar
+pub key_slot : (fs : Fields) (keys : List (List ℕ)) → AreOrdered fs → AreKeys fs keys → (s : Slot) → Among (field_slots keys fs) s → s.key ≡ true → Among keys s.name × (s.must ≡ true) × IsPlainScalar s.node
+key_slot fs keys o h s a key =
+    let named = among_name s.name keys (sym (slot_key keys fs s a) ∙ key) in
+    let f = field_of_slot keys fs o s a in
+    let g = key_field fs keys h s.name named in
+    let same : f.0 ≡ g.0 = same_Some f.0 g.0 (sym f.1.0 ∙ g.1) in
+    (named, f.1.1.2 ∙ rw same g.3, subst IsPlainScalar (ap (λ d. Declared.node d) (sym same) ∙ sym f.1.1.1) g.2)
+
 have_keys : StoredLaw → (P : Pools) (fs : Fields) (keys : List (List ℕ)) → AreOrdered fs → AreKeys fs keys → HaveKeys P keys (field_slots keys fs)
-have_keys stored P fs keys o h =
-    let named : (s : Slot) → Among (field_slots keys fs) s → s.key ≡ true → Among keys s.name = λ s a key. among_name s.name keys (sym (slot_key keys fs s a) ∙ key) in
-    record {
-      order = fields_in_order keys fs o;
-      are = λ s a key.
-          let f = field_of_slot keys fs o s a in
-          let g = key_field fs keys h s.name (named s a key) in
-          let same : f.0 ≡ g.0 = same_Some f.0 g.0 (sym f.1.0 ∙ g.1) in
-          (f.1.1.2 ∙ rw same g.3, scalar_one stored P s.node (subst IsPlainScalar (ap (λ d. Declared.node d) (sym same) ∙ sym f.1.1.1) g.2));
-      named = named;
-      each = λ k a.
-          let f = key_field fs keys h k a in
-          let s = slot_of_field keys fs k f.0 f.1 in
-          (s.0, (s.1.0, s.1.1.0, slot_key keys fs s.0 s.1.0 ∙ rw s.1.1.0 (name_among k keys a)));
-    }
+have_keys stored P fs keys o h = record {
+  order = fields_in_order keys fs o;
+  are = λ s a key. let q = key_slot fs keys o h s a key in (q.1, scalar_one stored P s.node q.2);
+  named = λ s a key. (key_slot fs keys o h s a key).0;
+  each = λ k a.
+      let f = key_field fs keys h k a in
+      let s = slot_of_field keys fs k f.0 f.1 in
+      (s.0, (s.1.0, s.1.1.0, slot_key keys fs s.0 s.1.0 ∙ rw s.1.1.0 (name_among k keys a)));
+}
 
 -- ---- the key of an object
 

@@ -98,6 +98,14 @@ later_of P (s ∷ first) later (v ∷ vs) (w ∷ u) h k b =
 used_too : (used : List (List Data)) (chosen t q : List Data) → chosen ++ t ≡ q → Contains used (chosen ++ t) → Among (filter (begins chosen) used) q
 used_too used chosen t q e c = subst (Among (filter (begins chosen) used)) e (filter_among (begins chosen) used (chosen ++ t) (contained used (chosen ++ t) c) (begins_then chosen t))
 
+-- a used tuple that begins so is one of those with all that can stand behind
+begin_among : (P : Pools) (first later : List Slot) (used : List (List Data)) (chosen : List Data) (ts : List (List Data)) → AreTuples P later ts → IsTuple P first chosen → All (IsTuple P (first ++ later)) used
+    → (q : List Data) → Among (filter (begins chosen) used) q → Among (map (λ t. chosen ++ t) ts) q
+begin_among P first later used chosen ts all h tuples q m =
+    let p = among_filter (begins chosen) used q m in
+    let t = later_of P first later chosen q h (All-contains (IsTuple P (first ++ later)) used q tuples (contains used q p.0)) p.1 in
+    subst (Among (map (λ t. chosen ++ t) ts)) t.1.1 (map_among (λ t. chosen ++ t) ts t.0 ((all.each t.0).1 t.1.0))
+
 -- the values chosen can be completed exactly where fewer of the used tuples begin with them than the later slots have tuples
 pub free_tuples : (P : Pools) (first later : List Slot) (used : List (List Data)) (chosen : List Data) (counts : List ℕ) → IsTuple P first chosen → All (IsTuple P (first ++ later)) used → AllPairs (λ t u. t ≢ u) used
     → AreCounts P later counts → HasFree P later used chosen ↔ (length (filter (begins chosen) used) < product counts)
@@ -108,14 +116,11 @@ free_tuples P first later used chosen counts h tuples apart count =
     let us = filter (begins chosen) used in
     let n = length-map r.0 whole in
     let us_apart : IsApart us = rising (λ t u. t ≢ u) us (AllPairs-filter (λ t u. t ≢ u) (begins chosen) used apart) in
-    let in_cs : (t : List Data) → IsTuple P later t → Among cs (chosen ++ t) = λ t k. map_among whole r.0 t ((r.1.0.each t).1 k) in
-    let us_in : (q : List Data) → Among us q → Among cs q = λ q m.
-    let p = among_filter (begins chosen) used q m in
-    let t = later_of P first later chosen q h (All-contains (IsTuple P (first ++ later)) used q tuples (contains used q p.0)) p.1 in
-    subst (Among cs) t.1.1 (in_cs t.0 t.1.0) in (
+    let us_among = begin_among P first later used chosen r.0 r.1.0 h tuples in (
       (λ free.
           let unused = λ (v : List Data) (m : Among us v) (e : chosen ++ free.0 ≡ v). free.1.1 (contains used (chosen ++ free.0) (subst (Among used) (sym e) (among_filter (begins chosen) used v m).0)) in
-          let p = apart_length same_tuple tuple_laws ((chosen ++ free.0) ∷ us) cs (unused, us_apart) (λ q m. elim m [ inl e ↦ subst (Among cs) e (in_cs free.0 free.1.0) | inr a ↦ us_in q a ]) in
+          let among = λ (q : List Data) (m : Among ((chosen ++ free.0) ∷ us) q). elim m as (λ _. Among cs q) [ inl e ↦ subst (Among cs) e (map_among whole r.0 free.0 ((r.1.0.each free.0).1 free.1.0)) | inr a ↦ us_among q a ] in
+          let p = apart_length same_tuple tuple_laws ((chosen ++ free.0) ∷ us) cs (unused, us_apart) among in
           omega (arith, p, n, r.1.1)),
       λ l.
           let o = one_free same_tuple tuple_laws cs us (map_apart whole r.0 (append_cancel_left chosen) r.1.0.apart) (omega (arith, n, r.1.1, l)) in

@@ -9,3 +9,4 @@ pub mod PoolsCode
 pub mod Building
 pub mod Keyed
 pub mod Plan
+pub mod Tuples

@@ -7,12 +7,15 @@ ghost use Rattle.plan.specs.Samples.Sites.{in_order};
 ghost use Rattle.plan.specs.Internal.Values.{trees_of, IsInOrder, IsBase};
 
 use crate::Pools;
+use crate::arena::SlotName;
 use jtree::{Text, Tree};
 use std::alloc::{AllocError, Global};
 
 /// The values of the pools, in order, each once; null is among the trees.
 #[derive(Drop)]
 pub(crate) struct Values {
+    /// Null, for which a place past the last tree stands.
+    pub null: Tree,
     /// Null, both truth values, the integers and the texts.
     pub scalars: Vec<Tree>,
     /// Null, and the values of open nodes.
@@ -23,12 +26,27 @@ pub(crate) struct Values {
 
 impl Values {
     ghost use Rattle.plan.specs.Internal.Values.{AreValues};
+    ghost use Rattle.plan.specs.Internal.Arena.{name_of};
+
+    /// The name of a slot.
+    pub(crate) fn name<'a>(&'a self, name: &'a SlotName) -> &'a str
+        ensures { result.now ≡ name_of self.now.names.items name.now }
+    {
+        match name {
+            SlotName::Field(text) => text.as_str(),
+            SlotName::Pool(place) => match self.names.get(*place) {
+                Some(text) => text.as_str(),
+                None => "",
+            },
+        }
+    }
 
     /// The values of these pools.
     pub(crate) fn new(alloc: Global, pools: &Pools) -> Result<Values, AllocError>
         ensures { IfOk result (λ v. AreValues pools.now v) }
     {
         Ok(Values {
+            null: Tree::Null,
             scalars: scalars(alloc, pools)?,
             any: with_null(alloc, pools.any())?,
             names: names(alloc, pools.names())?,

@@ -10,9 +10,10 @@ use Rattle.stored.specs.Objects.StoredByParts.{are_apart}
 use Rattle.plan.specs.Pools.Pools.{Pools}
 use Rattle.plan.specs.Samples.Part.{IsPart}
 use Rattle.plan.specs.Samples.Sites.{Site, item_site, Slot, slots}
-use Rattle.plan.specs.Samples.Candidates.{HasCount}
+use Rattle.plan.specs.Samples.Candidates.{sort_of, HasCount}
 use Rattle.plan.specs.Samples.Sizes.{AreFillings, filled_nodes, filled_count, HasRest, HasMore}
 use Rattle.plan.specs.Samples.RuleOfParts.{members_in, AreParts, alike_at}
+use Rattle.plan.specs.declared.sort.Sort.TheVariants.{Row}
 
 -- ---- objects and maps
 
@@ -68,7 +69,7 @@ HasFree P ss used chosen = (t : List Data) × (IsTuple P ss t × (Contains used 
 -- ---- all of it
 
 pub record NoDeadEnd (P : Pools) (limit : ℕ) (s : Site) : Type 0 where
-  pub rows : (front : List (Option Data)) (place m : ℕ) → AreFillings P (take place (slots P s)) front → place ≤ length (slots P s)
+  pub rows : (front : List (Option Data)) (place m : ℕ) → sort_of s.node ≡ Row → AreFillings P (take place (slots P s)) front → place ≤ length (slots P s)
       → HasRest P s place (filled_count front) m → RowCompletes P s front m
   pub lists : (M : Site) (front : Items) (m : ℕ) → item_site s ≡ Some M → AreParts P M.node front → are_apart (alike_at s.node) front ≡ true
       → HasMore P limit s.node (fault.items_count front) m → ListCompletes P s.node front m

@@ -1,0 +1,167 @@
+-- What the parts of a site are, and that what was begun there can be completed.
+use Rattle.std.specs.Prelude.{◌≡◌, ℕ, ◌+◌, ◌≤◌, ◌⊎◌, ◌↔◌, List, [], ◌∷◌, ◌++◌, length, Bool, true, false, Option, Some, None, take, drop, filter, Contains}
+use Rattle.std.proofs.Common.{refl, ap, sym, ◌∙◌, subst, inl, inr, arith}
+use Rattle.std.proofs.lemmas.List.{take-append-drop}
+use Rattle.std.proofs.lemmas.Option.{same_Some}
+use Rattle.jtree.specs.Data.{Data, Items, no_items, item}
+use Rattle.jtree.specs.Data as tree
+use Rattle.jtree.specs.Nodes.{node_count, items_count}
+use Rattle.jtree.specs.Internal.Rising.{Among}
+use Rattle.schema.specs.Nodes.Node.{Node, node, scalar, object, list, IsNode}
+use Rattle.schema.specs.Nodes.Items.{IsPlainScalar, HasKeys, AreToldApart, HasSoundItems}
+use Rattle.schema.specs.declared.node.ListType.{ListType}
+use Rattle.schema.specs.declared.node.ListType.TheVariants.{Atomic, Set, Map}
+use Rattle.stored.specs.Objects.Fault as fault
+use Rattle.stored.specs.Objects.Fault.{are_alike}
+use Rattle.stored.specs.Objects.StoredByParts.{IsWithin, are_apart}
+use Rattle.plan.specs.Pools.Pools.{Pools}
+use Rattle.plan.specs.Samples.Part.{IsPart}
+use Rattle.plan.specs.Samples.Sites.{Site, item_site, item_keys, Slot, slots}
+use Rattle.plan.specs.Samples.Candidates.{sort_of, AreCandidates}
+use Rattle.plan.specs.Samples.Sizes.{AreFillings, filled_count, HasRest, HasMore, items_from, bounds_of}
+use Rattle.plan.specs.Samples.RuleOfParts.{members_in, AreParts, alike_at, IsNullPart, IsRowPart, IsListPart, RuleOfParts}
+use Rattle.plan.specs.Samples.NoDeadEnd.{RowCompletes, items_then, ListCompletes, is_key, AreCounts, NoDeadEnd}
+use Rattle.plan.specs.Internal.PartLaws.{IsObjectPart, IsItemsPart, PartLaws}
+use Rattle.plan.specs.Internal.Keyed.{Keyed}
+use Rattle.plan.specs.declared.sort.Sort.TheVariants.{Leaf, Row}
+use Rattle.plan.proofs.ApartLemmas.{among_filter}
+use Rattle.plan.proofs.KeyedLemmas.{then_are, CompletesApart, completes_free, completes_apart}
+use Rattle.plan.proofs.ListLemmas.{from_count, count_nodes}
+use Rattle.plan.proofs.MapListLemmas.{key_slot, map_keyed}
+use Rattle.plan.proofs.MoreLemmas.{more_parts}
+use Rattle.plan.proofs.PartLemmas.{StoredLaw}
+use Rattle.plan.proofs.RowLemmas.{fill_none, drop_all}
+use Rattle.plan.proofs.SetLemmas.{set_keyed}
+use Rattle.plan.proofs.TupleLemmas.{free_tuples}
+
+-- ---- what the parts are
+
+or_so : {X A B C : Type 0} → X ↔ (A ⊎ B) → B ↔ C → X ↔ (A ⊎ C)
+or_so {A = A} {B = B} {C = C} r s = (
+  (λ x. elim (r.0 x) as (λ _. A ⊎ C) [ inl a ↦ inl a | inr b ↦ inr (s.0 b) ]),
+  λ y. r.1 (elim y as (λ _. A ⊎ B) [ inl a ↦ inl a | inr c ↦ inr (s.1 c) ]),
+)
+
+-- an object may end behind its last slot where it has as many members as it may
+row_ends : (P : Pools) (s : Site) (t : ℕ) → IsWithin (bounds_of s.node) t ↔ HasRest P s (length (slots P s)) t 0
+row_ends P s t = let r = fill_none P (bounds_of s.node) t 0 in rw (drop_all (slots P s)) ((λ w. r.1 (refl, w)), λ h. (r.0 h).1)
+
+no_nodes : (ds : Items) → fault.items_count ds ≡ 0 → items_count ds ≡ 0
+no_nodes no_items e = refl
+no_nodes (item d ds) e = absurd (omega arith)
+
+-- a list may end where it has as many items as it may
+list_ends : PartLaws → (P : Pools) (s M : Site) → item_site s ≡ Some M → (limit : ℕ) (v : Data) → node_count v ≤ limit → IsItemsPart P s.node M.node v ↔ IsListPart P limit s.node M.node v
+list_ends laws P s M is limit v l =
+    let r = λ (ds : Items). more_parts laws P s M is limit (fault.items_count ds) 0 in (
+      (λ q.
+          let n : 1 + items_count q.items ≤ limit = rw q.is at l in
+          let c = from_count (fault.items_count q.items) q.items (omega arith) in
+          record {
+            items = q.items;
+            is = q.is;
+            are = q.are;
+            apart = q.apart;
+            ends = (r q.items).1 (record { items = q.items; are = q.are; apart = q.apart; within = q.within; fits = n; many = omega arith; nodes_are = no_nodes _ (omega arith) });
+          }),
+      λ q.
+          let t = fault.items_count q.items in
+          let h = (r q.items).0 q.ends in
+          let e : fault.items_count h.items ≡ t = omega (arith, from_count t h.items h.many, count_nodes (items_from t h.items), h.nodes_are) in
+          record { items = q.items; is = q.is; are = q.are; apart = q.apart; within = rw e at h.within },
+    )
+
+-- the node has candidates if it is a leaf
+abbrev pub HasCandidates : Pools → Node → Type 0
+HasCandidates P N = sort_of N ≡ Leaf → (vs : List Data) × AreCandidates P N vs
+
+pub rule_of_parts : PartLaws → (P : Pools) (limit : ℕ) (s : Site) → IsNode s.node → HasCandidates P s.node → RuleOfParts P limit s
+rule_of_parts laws P limit s o h = record {
+  leaf = λ v is. let c = h is in ((λ p. (c.0, (c.1, (c.1.each v).1 p))), λ x. (x.1.0.each v).0 x.1.1);
+  row = λ v is. or_so (laws.row P s v o is) (
+    (λ q. record { fillings = q.fillings; is = q.is; are = q.are; ends = (row_ends P s (filled_count q.fillings)).0 q.within }),
+    λ q. record { fillings = q.fillings; is = q.is; are = q.are; within = (row_ends P s (filled_count q.fillings)).1 q.ends }
+  );
+  list = λ M v is l. or_so (laws.list P s M v is) (list_ends laws P s M is limit v l);
+}
+
+-- ---- rows
+
+join_are : (P : Pools) (ss ts : List Slot) (gs hs : List (Option Data)) → AreFillings P ss gs → AreFillings P ts hs → AreFillings P (ss ++ ts) (gs ++ hs)
+join_are P [] ts [] hs h k = k
+join_are P (s ∷ ss) ts (None ∷ gs) hs h k = (h.0, join_are P ss ts gs hs h.1 k)
+join_are P (s ∷ ss) ts (Some v ∷ gs) hs h k = (h.0, join_are P ss ts gs hs h.1 k)
+join_are P ss ts gs hs h k = absurd h
+
+join_count : (gs hs : List (Option Data)) → filled_count (gs ++ hs) ≡ filled_count gs + filled_count hs
+join_count [] hs = omega arith
+join_count (None ∷ gs) hs = join_count gs hs
+join_count (Some v ∷ gs) hs = omega (arith, join_count gs hs)
+
+row_completes : PartLaws → (P : Pools) (s : Site) → IsNode s.node → sort_of s.node ≡ Row → (front : List (Option Data)) (place m : ℕ) → AreFillings P (take place (slots P s)) front → HasRest P s place (filled_count front) m
+    → RowCompletes P s front m
+row_completes laws P s o is front place m h r =
+    let are = rw (take-append-drop place (slots P s)) at (join_are P (take place (slots P s)) (drop place (slots P s)) front r.fillings h r.are) in
+    record {
+      back = r.fillings;
+      part = (laws.row P s _ o is).1 (inr (record { fillings = front ++ r.fillings; is = refl; are = are; within = rw (join_count front r.fillings) r.within }));
+      nodes_are = r.nodes_are;
+    }
+
+-- ---- lists
+
+plain_leaf : (N : Node) → IsPlainScalar N → sort_of N ≡ Leaf
+plain_leaf (node n t (scalar kind cs)) h = refl
+plain_leaf N h = absurd h
+
+counts : (P : Pools) (ss : List Slot) → ((s : Slot) → Among ss s → (vs : List Data) × AreCandidates P s.node vs) → (ns : List ℕ) × AreCounts P ss ns
+counts P [] h = ([], tt)
+counts P (s ∷ ss) h =
+    let c = h s (inl refl) in
+    let r = counts P ss (λ t a. h t (inr a)) in
+    (length c.0 ∷ r.0, (record { candidates = c.0; are = c.1; count_is = refl }, r.1))
+
+-- the site and the slots of a row have candidates where they are leaves
+pub record HaveCandidates (P : Pools) (s : Site) : Type 0 where
+  pub own : HasCandidates P s.node
+  pub below : sort_of s.node ≡ Row → (t : Slot) → Among (slots P s) t → HasCandidates P t.node
+
+key_counts : (P : Pools) (N : Node) (keys : List (List ℕ)) → IsNode N → HasKeys N keys → HaveCandidates P (record { node = N; keys = keys }) → (ns : List ℕ) × AreCounts P (filter is_key (slots P (record { node = N; keys = keys }))) ns
+key_counts P (node n t (object fs preserves type b)) keys o h c = counts P (filter is_key (slots P (record { node = node n t (object fs preserves type b); keys = keys }))) (λ s a.
+    let f = among_filter is_key _ s a in
+    c.below refl s f.0 (plain_leaf s.node (key_slot fs keys o h.2 s f.0 f.1).2))
+key_counts P N keys o h c = absurd h
+
+-- no two items are alike, or each has a key
+told_apart : StoredLaw → PartLaws → (P : Pools) (type : ListType) (keys : List (List ℕ)) (N : Node) → IsNode N → AreToldApart type keys N → HaveCandidates P (record { node = N; keys = item_keys type keys })
+    → ((v w : Data) → are_alike type keys v w ≡ false) ⊎ Keyed P N (are_alike type keys)
+told_apart stored laws P Atomic keys N o h c = inl (λ v w. refl)
+told_apart stored laws P Set keys N o h c = let vs = c.own (plain_leaf N h) in inr (set_keyed stored P N (length vs.0) h (record { candidates = vs.0; are = vs.1; count_is = refl })).0
+told_apart stored laws P Map keys N o h c = let ns = key_counts P N keys o h c in inr (map_keyed stored laws P N keys ns.0 o h ns.1).0
+
+items_told : StoredLaw → PartLaws → (P : Pools) (N : Node) (keys : List (List ℕ)) (M : Site) → item_site (record { node = N; keys = keys }) ≡ Some M → IsNode N → HasSoundItems N → HaveCandidates P M
+    → ((v w : Data) → alike_at N v w ≡ false) ⊎ Keyed P M.node (alike_at N)
+items_told stored laws P (node n t (list K type ks b)) keys M is o h c = subst (λ (s : Site). HaveCandidates P s → ((v w : Data) → are_alike type ks v w ≡ false) ⊎ Keyed P s.node (are_alike type ks)) (same_Some _ M is) (told_apart stored laws P type ks K o h) c
+items_told stored laws P N keys M is o h c = absurd (cc)
+
+list_completes : StoredLaw → PartLaws → (P : Pools) (limit : ℕ) (s M : Site) → item_site s ≡ Some M → IsNode s.node → HasSoundItems s.node → HaveCandidates P M → (front : Items) (m : ℕ) → AreParts P M.node front → are_apart (alike_at s.node) front ≡ true
+    → HasMore P limit s.node (fault.items_count front) m → ListCompletes P s.node front m
+list_completes stored laws P limit s M is o h c front m are apart more =
+    let b = bounds_of s.node in
+    let a = (more_parts laws P s M is limit (fault.items_count front) m).0 more in
+    let r : CompletesApart P M.node (alike_at s.node) b front m = elim (items_told stored laws P s.node s.keys M is o h c) [
+      | inl never ↦ completes_free P limit M.node (alike_at s.node) b front m never a
+      | inr K ↦ completes_apart K limit b front m are apart a
+    ] in
+    record {
+      back = r.0;
+      part = (laws.list P s M _ is).1 (inr (record { items = items_then front r.0; is = refl; are = then_are P M.node front r.0 are r.1.0; apart = r.1.1; within = r.1.2 }));
+      nodes_are = r.1.3;
+    }
+
+pub no_dead_end : StoredLaw → PartLaws → (P : Pools) (limit : ℕ) (s : Site) → IsNode s.node → HasSoundItems s.node → ((M : Site) → item_site s ≡ Some M → HaveCandidates P M) → NoDeadEnd P limit s
+no_dead_end stored laws P limit s o h c = record {
+  rows = λ front place m is are within rest. row_completes laws P s o is front place m are rest;
+  lists = λ M front m is are apart more. list_completes stored laws P limit s M is o h (c M is) front m are apart more;
+  keys = λ first later used chosen ns is chosen_is used_are apart counts_are. free_tuples P first later used chosen ns chosen_is used_are apart counts_are;
+}
