@@ -1,10 +1,9 @@
 -- What is added to a plan, node by node.
-use Rattle.std.specs.Prelude.{◌≡◌, ℕ, zero, suc, ◌+◌, ◌≤◌, ◌<◌, List, All, map, take, Bool, true, false, Option, Some, option_map, ◌||◌, is_some}
+use Rattle.std.specs.Prelude.{◌≡◌, ℕ, zero, suc, ◌+◌, ◌<◌, List, map, take, Bool, true, false, Option, Some, option_map, ◌||◌, is_some}
 use Rattle.std.specs.Str.{bytes_eq}
-use Rattle.std.proofs.Common.{refl, ap, sym, ◌∙◌, subst, inl, inr, arith, [], ◌∷◌, ◌++◌, length, get_or}
-use Rattle.std.proofs.lemmas.Bool.{cases_lt, cases_Bool}
+use Rattle.std.proofs.Common.{refl, ap, sym, ◌∙◌, inl, inr, arith, [], ◌∷◌, ◌++◌, length, get_or}
+use Rattle.std.proofs.lemmas.Bool.{cases_Bool}
 use Rattle.std.proofs.lemmas.List.{get_or_append_left, get_or_push, get_or-append-add, append_assoc, length_push, length-append, take_more}
-use Rattle.jtree.specs.Data.{Data}
 use Rattle.jtree.specs.View.{data_of}
 use Rattle.schema.specs.Document.Texts.{is_among}
 use Rattle.schema.specs.Nodes.Node.{Node, node, Sort, scalar, object, list, open_, Fields, no_fields, field, IsNode}
@@ -23,7 +22,7 @@ use Rattle.stored.specs.Objects.Becomes.{is_nullable}
 use Rattle.plan.specs.Internal.Values.{AreValues, candidates_of}
 use Rattle.plan.specs.declared.leaf.Leaf.{Leaf}
 use Rattle.plan.specs.declared.arena.Content.TheVariants as content
-use Rattle.plan.specs.Internal.Arena.{site_at, IsSlot, AreSlots, IsRight, AreRight, Stand, name_of}
+use Rattle.plan.specs.Internal.Arena.{site_at, IsSlot, AreSlots, IsRight, AreRight, Stand}
 use Rattle.plan.specs.Internal.Building.{IsSound, IsSortSound, AreFieldsSound, IsBuilt, AreBuilt, IsFieldSlot}
 use Rattle.plan.specs.declared.values.Values.{Values}
 use Rattle.plan.specs.declared.arena.SlotName.TheVariants.{Pool}
@@ -124,8 +123,8 @@ field_built holds limit v old mid new xs x keys slots s a b f =
     let here = sites_from (node_of x.node) [] in
     let start : length old + length before ≡ length mid = sym a.count in
     let first : (sites : List Site) → Stand sites (length old) (sites_of_fields (fields_of (xs ++ x ∷ []))) → Stand sites (length old) before × Stand sites (length mid) here = λ sites stand.
-        let both : Stand sites (length old) (before ++ here) = rw (sites_push xs x) at stand in
-        (stand_left sites (length old) before here both, rw start at (stand_right sites (length old) before here both))
+    let both : Stand sites (length old) (before ++ here) = rw (sites_push xs x) at stand in
+    (stand_left sites (length old) before here both, rw start at (stand_right sites (length old) before here both))
     in
     record {
       count = rw (sites_push xs x) (omega (arith, a.count, b.count, length-append before here));
@@ -149,7 +148,7 @@ right_push {Z = Z} holds limit P v sites es e h here = each_push (λ i (x : Entr
 pub node_built : {Z : Type 0} (holds : Z → ℕ → Type 0) (limit : ℕ) (v : Values) (old mid new : List (Entry Z)) (nullable : Bool) (description : Option (List ℕ)) (sort : Sort) (keys : List (List ℕ)) (e : Entry Z) (n : ℕ)
     → length mid ≡ length old + length (sites_below sort) → new ≡ mid ++ e ∷ [] → n ≡ length mid
     → ((P : Pools) (sites : List Site) → AreValues P v → IsSound (node nullable description sort) → Stand sites (length old) (sites_below sort) → site_at sites (length mid) ≡ record { node = node nullable description sort; keys = keys }
-        → AreRight holds limit P v sites old → AreRight holds limit P v sites mid × IsRight holds limit P v sites (length mid) e)
+    → AreRight holds limit P v sites old → AreRight holds limit P v sites mid × IsRight holds limit P v sites (length mid) e)
     → IsBuilt holds limit v old new (node nullable description sort) keys n
 node_built holds limit v old mid new nullable description sort keys e n count is number right =
     let s : Site = record { node = node nullable description sort; keys = keys } in
@@ -171,26 +170,26 @@ pub row_built : {Z : Type 0} (holds : Z → ℕ → Type 0) (limit : ℕ) (v : V
     → ((P : Pools) (sites : List Site) → AreValues P v → IsSortSound sort → Stand sites (length old) (sites_below sort) → AreRight holds limit P v sites old → AreRight holds limit P v sites mid)
     → ((P : Pools) (sites : List Site) → AreValues P v → Stand sites (length old) (sites_below sort) → AreSlots v.names.items sites (length mid) es (slots_at P (node nullable description sort) keys))
     → ((P : Pools) (sites : List Site) (i : ℕ) → AreRight holds limit P v sites mid → IsNode (site_at sites i).node → sort_of (site_at sites i).node ≡ Row → bounds_of (site_at sites i).node ≡ b → is_nullable (site_at sites i).node ≡ nullable
-        → AreSlots v.names.items sites i es (slots P (site_at sites i)) → IsRight holds limit P v sites i e)
+    → AreSlots v.names.items sites i es (slots P (site_at sites i)) → IsRight holds limit P v sites i e)
     → IsBuilt holds limit v old new (node nullable description sort) keys n
 row_built holds limit v old mid new nullable description sort keys b es e n o row bounds count is number below are entry =
     node_built holds limit v old mid new nullable description sort keys e n count is number
     (λ P sites values sound stand here right.
-      let m = below P sites values sound.1 stand right in
-      (m, entry P sites (length mid) m (rw here o) (rw here row) (rw here bounds) (rw here refl) (rw here (are P sites values stand))))
+    let m = below P sites values sound.1 stand right in
+    (m, entry P sites (length mid) m (rw here o) (rw here row) (rw here bounds) (rw here refl) (rw here (are P sites values stand))))
 
 -- a list whose item is there
 pub list_built : {Z : Type 0} (holds : Z → ℕ → Type 0) (limit : ℕ) (v : Values) (old mid new : List (Entry Z)) (nullable : Bool) (description : Option (List ℕ)) (M : Node) (type : ListType) (item_names : List (List ℕ)) (b : Bounds) (keys : List (List ℕ)) (item : PlanNode) (e : Entry Z) (n : ℕ)
     → IsNode M → IsBuilt holds limit v old mid M (item_keys type item_names) item → new ≡ mid ++ e ∷ [] → n ≡ length mid
     → ((P : Pools) (sites : List Site) (i : ℕ) (d : Option (List ℕ)) → AreRight holds limit P v sites mid → (site_at sites i).node ≡ node nullable d (list M type item_names b) → item_site (site_at sites i) ≡ Some (site_at sites item) → item < i
-        → IsNode (site_at sites i).node → HasSoundItems (site_at sites i).node → IsRight holds limit P v sites i e)
+    → IsNode (site_at sites i).node → HasSoundItems (site_at sites i).node → IsRight holds limit P v sites i e)
     → IsBuilt holds limit v old new (node nullable description (list M type item_names b)) keys n
 list_built holds limit v old mid new nullable description M type item_names b keys item e n o built is number entry =
     node_built holds limit v old mid new nullable description (list M type item_names b) keys e n built.count is number
     (λ P sites values sound stand here right.
-      let m = built.right P sites values sound.1 stand right in
-      let below = last_site sites (length old) item M (item_keys type item_names) (omega (arith, built.last, built.count)) stand in
-      (m, entry P sites (length mid) description m (ap (λ s. Site.node s) here) (rw (here, below) refl) (omega (arith, built.last)) (rw here o) (rw here sound.0)))
+    let m = built.right P sites values sound.1 stand right in
+    let below = last_site sites (length old) item M (item_keys type item_names) (omega (arith, built.last, built.count)) stand in
+    (m, entry P sites (length mid) description m (ap (λ s. Site.node s) here) (rw (here, below) refl) (omega (arith, built.last)) (rw here o) (rw here sound.0)))
 
 leaf_below : (nullable : Bool) (description : Option (List ℕ)) (sort : Sort) → sort_of (node nullable description sort) ≡ LeafSort → length (sites_below sort) ≡ 0
 leaf_below n t (scalar kind cs) leaf = refl
@@ -208,4 +207,4 @@ leaf_built holds limit v old new (node nullable description sort) keys l sizes n
     let none : length (sites_below sort) ≡ 0 = leaf_below nullable description sort leaf in
     node_built holds limit v old old new nullable description sort keys _ n (omega (arith, none)) is number
     (λ P sites values sound stand here right.
-      (right, record { sizes = rw here (sized P values); nullable = rw here refl; content = record { sort = rw here leaf; candidates = rw here (candidates P values) } }))
+    (right, record { sizes = rw here (sized P values); nullable = rw here refl; content = record { sort = rw here leaf; candidates = rw here (candidates P values) } }))

@@ -1,20 +1,17 @@
 -- The bounds of lists of which no two items may be alike.
-use Rattle.std.specs.Prelude.{◌≡◌, ℕ, ◌-◌, ◌^◌, ◌≤◌, ◌<◌, ◌⊎◌, ◌↔◌, Bool, get_or, true, false, List, [], ◌∷◌, Option, Some, None, min, nat_lt, length, filter}
-use Rattle.std.proofs.Common.{refl, ap, sym, ◌∙◌, subst, inl, inr, arith}
+use Rattle.std.specs.Prelude.{◌≡◌, ℕ, ◌-◌, ◌^◌, ◌≤◌, ◌<◌, ◌⊎◌, ◌↔◌, Bool, get_or, true, false, List, Option, Some, None, min, nat_lt, length, filter}
+use Rattle.std.proofs.Common.{refl, ap, sym, ◌∙◌, subst, arith}
 use Rattle.std.proofs.lemmas.Option.{same_Some}
 use Rattle.std.proofs.lemmas.Bool.{le-ltb, ltb-false}
 use Rattle.schema.specs.declared.node.ListType.{ListType}
-use Rattle.jtree.specs.Internal.Rising.{Among}
 use Rattle.schema.specs.Nodes.Node.{Node, node, scalar, object, list, open_, Fields, IsNode, AreOrdered}
 use Rattle.schema.specs.Nodes.Node as nodes
-use Rattle.schema.specs.Nodes.ByPlace.{Declared}
-use Rattle.schema.specs.Nodes.Items.{IsPlainScalar, IsKey, AreKeys, HasKeys, HasSoundItems}
+use Rattle.schema.specs.Nodes.Items.{IsPlainScalar, HasKeys, HasSoundItems}
 use Rattle.schema.specs.declared.node.Bounds.{Bounds}
 use Rattle.schema.specs.declared.node.ListType.TheVariants.{Atomic, Set, Map}
 use Rattle.stored.specs.Objects.Fault as fault
-use Rattle.stored.specs.Objects.StoredByParts.{IsWithin}
 use Rattle.plan.specs.Pools.Pools.{Pools}
-use Rattle.plan.specs.Samples.Sites.{Site, item_site, item_site_at, item_keys, Slot, slots, slots_at, field_slots}
+use Rattle.plan.specs.Samples.Sites.{Site, item_site, item_site_at, item_keys, slots, slots_at}
 use Rattle.plan.specs.Samples.Candidates.{sort_of, distinct_of, HasCount}
 use Rattle.plan.specs.Samples.Sizes.{HasMore, bounds_of, IsUpTo}
 use Rattle.plan.specs.Sets.{IsSum}
@@ -27,12 +24,12 @@ use Rattle.plan.specs.declared.sort.Distinct.{Distinct}
 use Rattle.plan.specs.declared.arena.PlanNode.{PlanNode}
 use Rattle.plan.specs.declared.arena.Content.TheVariants as content
 use Rattle.plan.specs.Samples.RuleOfParts.{alike_at}
-use Rattle.plan.specs.Samples.NoDeadEnd.{is_key, AreCounts, product}
+use Rattle.plan.specs.Samples.NoDeadEnd.{is_key, AreCounts}
 use Rattle.plan.specs.Internal.Lists.{HasMoreFree, HasMoreApart, AreMore, cut, most_or}
 use Rattle.plan.specs.Internal.PartLaws.{PartLaws}
 use Rattle.plan.specs.Internal.Tuples.{AreKeysLeaves, HasTuples, IsCutTo}
 use Rattle.plan.specs.declared.sort.Sort.TheVariants.{Leaf, Row}
-use Rattle.plan.proofs.PartLemmas.{StoredLaw, field_of_slot}
+use Rattle.plan.proofs.PartLemmas.{StoredLaw}
 use Rattle.plan.proofs.ListLemmas.{count_nodes}
 use Rattle.plan.proofs.SiteLemmas.{whole_up_to, list_sizes}
 use Rattle.plan.proofs.MoreLemmas.{more_parts}
@@ -101,8 +98,8 @@ map_cut stored laws P limit s M n d K keys b count room is item o h has =
     let tuples = length k.0.keys in
     let capped : count ≡ min tuples (2 ^ 64 - 1) = has.1.1 ∙ ap (λ x. min x (2 ^ 64 - 1)) (sym k.1) in
     cut_by laws P limit s M (cut count b) item (rw is (λ t m.
-      let x = more_apart k.0 limit b t m in
-      ((λ a. same_cut P limit M.node b tuples count t m (λ i l below. omega arith) (x.0 a)), λ f. x.1 (same_cut P limit M.node b count tuples t m (λ i l below. omega arith) f))))
+    let x = more_apart k.0 limit b t m in
+    ((λ a. same_cut P limit M.node b tuples count t m (λ i l below. omega arith) (x.0 a)), λ f. x.1 (same_cut P limit M.node b count tuples t m (λ i l below. omega arith) f))))
 
 -- what the schema grants of the items
 pub set_items : (s M : Site) (n : Bool) (d : Option (List ℕ)) (K : Node) (keys : List (List ℕ)) (b : Bounds) → s.node ≡ node n d (list K Set keys b) → item_site s ≡ Some M → HasSoundItems s.node → IsPlainScalar M.node
@@ -129,7 +126,7 @@ pub list_right : {Z : Type 0} (holds : Z → ℕ → Type 0) (limit : ℕ) (P : 
 list_right {Z = Z} holds limit P v sites i item distinct more b nullable z sizes laws room is below kinds null cut_to whole are is_z sized =
     let s = site_at sites i in
     let each : (t : ℕ) (y : Z) → t < length more.items → IsUpTo limit (holds (get_or more.items t y)) (HasMore P limit s.node t) = λ t y l.
-        same_sizes limit (holds (get_or more.items t y)) (HasMoreFree P limit (site_at sites item).node b t) (HasMore P limit s.node t) (cut_to t) (are t y l)
+    same_sizes limit (holds (get_or more.items t y)) (HasMoreFree P limit (site_at sites item).node b t) (HasMore P limit s.node t) (cut_to t) (are t y l)
     in
     let first : IsUpTo limit (holds z) (HasMore P limit s.node 0) = rw (← is_z) at (each 0 z (omega arith)) in
     record {

@@ -1,6 +1,6 @@
 -- The entries of rows and lists.
-use Rattle.std.specs.Prelude.{◌≡◌, ℕ, zero, suc, ◌+◌, ◌-◌, ◌≤◌, ◌<◌, ◌⊎◌, ◌↔◌, Bool, true, List, All, drop}
-use Rattle.std.proofs.Common.{refl, ap, sym, ◌∙◌, subst, inl, inr, arith, [], ◌∷◌, ◌++◌, length, get_or}
+use Rattle.std.specs.Prelude.{◌≡◌, ℕ, suc, ◌+◌, ◌-◌, ◌≤◌, ◌⊎◌, ◌↔◌, Bool, true, List}
+use Rattle.std.proofs.Common.{refl, ap, sym, ◌∙◌, arith, [], ◌∷◌, ◌++◌, length, get_or}
 use Rattle.std.specs.declared.vec.Vec.{Vec}
 use Rattle.std.specs.declared.alloc.Global.{Global}
 use Rattle.schema.specs.Nodes.Node.{IsNode}
@@ -8,20 +8,18 @@ use Rattle.schema.specs.declared.node.Bounds.{Bounds}
 use Rattle.stored.specs.Objects.Becomes.{is_nullable}
 use Rattle.plan.specs.Pools.Pools.{Pools}
 use Rattle.plan.specs.Sets.{IsSum}
-use Rattle.plan.specs.Samples.Sites.{Site, plain, Slot, slots}
+use Rattle.plan.specs.Samples.Sites.{Site, Slot, slots}
 use Rattle.plan.specs.Samples.Candidates.{sort_of}
 use Rattle.plan.specs.Samples.Sizes.{HasSize, CanFill, bounds_of, IsUpTo}
-use Rattle.plan.specs.Internal.Tables.{IsLevel, AreChoices, AreShaped, AreLevels}
+use Rattle.plan.specs.Internal.Tables.{AreChoices, AreShaped, AreLevels}
 use Rattle.plan.specs.Internal.PartLaws.{PartLaws}
-use Rattle.plan.specs.Internal.Arena.{site_at, IsSlot, AreSlots, IsChosen, AreChosen, IsRow, IsRight, AreRight}
+use Rattle.plan.specs.Internal.Arena.{site_at, AreSlots, IsChosen, AreChosen, IsRight, AreRight}
 use Rattle.plan.specs.declared.sort.Sort.TheVariants.{Row}
 use Rattle.plan.specs.declared.values.Values.{Values}
 use Rattle.plan.specs.declared.rows.Choice.{Choice}
 use Rattle.plan.specs.declared.arena.SlotEntry.{SlotEntry}
-use Rattle.plan.specs.declared.arena.RowEntry.{RowEntry}
 use Rattle.plan.specs.declared.arena.Content.TheVariants as content
 use Rattle.plan.specs.declared.arena.Entry.{Entry}
-use Rattle.plan.proofs.RowLemmas.{as_many, drop_all}
 use Rattle.plan.proofs.SiteLemmas.{whole_up_to, row_sizes}
 
 pub chosen_push : {Z : Type 0} (es : List (Entry Z)) (cs : List (Choice Z)) (xs : List SlotEntry) (c : Choice Z) (x : SlotEntry) → AreChosen es cs xs → IsChosen es c x → AreChosen es (cs ++ c ∷ []) (xs ++ x ∷ [])

@@ -1,13 +1,13 @@
 -- The members of an object, as what stands in slots.
-use Rattle.std.proofs.Common.{◌≡◌, ◌⊎◌, ℕ, suc, ◌+◌, List, [], ◌∷◌, Bool, true, false, Option, Some, None, refl, ap, sym, ◌∙◌, subst, inl, inr, arith}
+use Rattle.std.proofs.Common.{◌≡◌, ℕ, ◌+◌, List, [], ◌∷◌, true, false, Option, Some, None, refl, ap, sym, ◌∙◌, subst, inl, inr}
 use Rattle.std.specs.Str.{bytes_eq}
 use Rattle.std.specs.declared.cmp.Ordering.TheVariants.{Less}
 use Rattle.std.proofs.lemmas.Option.{same_Some}
-use Rattle.jtree.specs.Data.{Data, Members, no_members, member, IsTree, IsNameBefore, AreMembers}
+use Rattle.jtree.specs.Data.{Data, Members, no_members, member, IsNameBefore, AreMembers}
 use Rattle.jtree.specs.Nodes.{node_count, members_count}
 use Rattle.jtree.specs.Order.{text_cmp}
 use Rattle.jtree.specs.Path.{member_at}
-use Rattle.jtree.specs.Internal.Lookups.{bool_cases, option_cases, same_name, own_name, later_name, not_itself, member_first, member_later, member_tail, before_each, before_none}
+use Rattle.jtree.specs.Internal.Lookups.{bool_cases, option_cases, same_name, later_name, not_itself, member_first, member_later, member_tail, before_each, before_none}
 use Rattle.jtree.specs.Internal.Rising.{Among, Rising}
 use Rattle.stored.specs.Objects.Fault as fault
 use Rattle.plan.specs.Pools.Pools.{Pools}

@@ -1,11 +1,11 @@
 -- The entries of lists.
-use Rattle.std.specs.Prelude.{◌≡◌, ℕ, zero, suc, ◌+◌, ◌-◌, ◌*◌, ◌^◌, ◌≤◌, ◌<◌, ◌⊎◌, ◌↔◌, Bool, true, false, List, Option, Some, None, filter, map, min, nat_lt, cond}
-use Rattle.std.proofs.Common.{refl, ap, sym, ◌∙◌, subst, inl, inr, arith, [], ◌∷◌, ◌++◌, length, get_or}
-use Rattle.std.proofs.lemmas.Bool.{cases_Bool, cases_lt}
+use Rattle.std.specs.Prelude.{◌≡◌, ℕ, zero, suc, ◌-◌, ◌*◌, ◌^◌, ◌≤◌, ◌<◌, ◌⊎◌, Bool, true, false, List, filter, min, cond}
+use Rattle.std.proofs.Common.{refl, ap, sym, ◌∙◌, inl, inr, arith, [], ◌∷◌, ◌++◌}
+use Rattle.std.proofs.lemmas.Bool.{cases_lt}
 use Rattle.std.proofs.Math.Nat.{mul-le-mul_left, mul-le-mul_right}
-use Rattle.jtree.specs.Internal.Rising.{Among, among_left, among_right}
+use Rattle.jtree.specs.Internal.Rising.{among_left, among_right}
 use Rattle.plan.specs.Pools.Pools.{Pools}
-use Rattle.plan.specs.Samples.Sites.{Site, plain, Slot}
+use Rattle.plan.specs.Samples.Sites.{Site, Slot}
 use Rattle.plan.specs.Samples.Candidates.{sort_of, HasCount}
 use Rattle.plan.specs.Samples.NoDeadEnd.{is_key, AreCounts, product}
 use Rattle.plan.specs.Internal.Arena.{site_at, IsSlot, AreSlots}

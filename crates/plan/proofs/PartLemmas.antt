@@ -1,9 +1,8 @@
 -- The parts of a node, one level at a time, from what stored objects are and from what is over the pools.
 use Rattle.std.proofs.Common.{◌≡◌, ◌⊎◌, ◌↔◌, ℕ, zero, suc, List, [], ◌∷◌, Bool, true, false, Option, Some, None, refl, ap, sym, ◌∙◌, subst, inl, inr}
-use Rattle.std.specs.Prelude.{option_map, option_and_then, ◌&&◌, ◌||◌, is_some, map}
+use Rattle.std.specs.Prelude.{option_map, ◌&&◌, ◌||◌, is_some, map}
 use Rattle.std.specs.Str.{bytes_eq}
-use Rattle.std.specs.declared.cmp.Ordering.{Ordering}
-use Rattle.std.specs.declared.cmp.Ordering.TheVariants.{Less, Equal, Greater}
+use Rattle.std.specs.declared.cmp.Ordering.TheVariants.{Less, Greater}
 use Rattle.std.proofs.lemmas.Option.{same_Some}
 use Rattle.std.proofs.lemmas.Cmp.{nat_list_cmp_total}
 use Rattle.std.proofs.lemmas.Map.Lookups.{exact_bytes}
@@ -20,17 +19,17 @@ use Rattle.schema.specs.Nodes.ByPlace.{Declared, field_at}
 use Rattle.schema.specs.declared.node.Bounds.{Bounds}
 use Rattle.schema.specs.declared.node.MapType.{MapType}
 use Rattle.schema.specs.declared.node.ListType.{ListType}
-use Rattle.stored.specs.Objects.Parts.{Part, at, free, part_of, leads, Everywhere}
+use Rattle.stored.specs.Objects.Parts.{at, part_of, leads, Everywhere}
 use Rattle.stored.specs.Objects.Fault as fault
-use Rattle.stored.specs.Objects.Becomes.{IsStored, is_nullable}
+use Rattle.stored.specs.Objects.Becomes.{IsStored}
 use Rattle.stored.specs.Objects.StoredByParts.{StoredByParts, IsStoredField, are_apart, IsWithin}
 use Rattle.plan.specs.Pools.Pools.{Pools}
 use Rattle.plan.specs.Samples.Over.{is_over_here, all_names, IsOver}
 use Rattle.plan.specs.Samples.Part.{IsPart}
-use Rattle.plan.specs.Samples.Sites.{Site, item_site, slots, Slot, field_slots, put, with_name, in_order, value_slot}
-use Rattle.plan.specs.Samples.RuleOfParts.{AreParts, alike_at, members_in, IsNullPart}
+use Rattle.plan.specs.Samples.Sites.{Site, item_site, slots, Slot, field_slots, with_name, in_order, value_slot}
+use Rattle.plan.specs.Samples.RuleOfParts.{AreParts, IsNullPart}
 use Rattle.plan.specs.Samples.Candidates.{sort_of}
-use Rattle.plan.specs.Samples.Sizes.{bounds_of, filled_count}
+use Rattle.plan.specs.Samples.Sizes.{bounds_of}
 use Rattle.plan.specs.Internal.PartLaws.{IsObjectPart, IsItemsPart, PartLaws}
 use Rattle.plan.specs.declared.sort.Sort.TheVariants.{Leaf, Row}
 use Rattle.plan.proofs.FillingLemmas.{AreInOrder, AreInSlots, in_members, in_slots, in_count, fill}
@@ -144,21 +143,24 @@ pub object_down : StoredLaw → EverywhereLaw → (P : Pools) (n : Bool) (t : Op
     → IsPart P (node n t (object fs preserves type b)) (tree.object ms) → AreMembers ms × AreInSlots P (field_slots keys fs) ms × IsWithin b (fault.members_count ms)
 object_down stored everywhere P n t fs preserves type b keys ms o h =
     let parts = (stored _ _).0 h.stored in
-    let over = over_down everywhere P _ _ h.over in
-    (h.tree, record {
-      named = λ k w is.
-          let f = declared (field_at k fs) (each_name (λ l. is_some (field_at l fs)) ms over.0 k w is) in
-          let s = slot_of_field keys fs k f.0 f.1 in
-          let here : IsStored f.0.node w = rw is at (parts.1.1 k f.0 f.1) in
-          let part : IsPart P f.0.node w = record { tree = member_tree k ms w h.tree is; stored = here; over = over.1 (name k) f.0.node w (leads_to_field n t fs preserves type b ms k f.0 w f.1 is) } in
-          (s.0, s.1.0, s.1.1.0, subst (λ K. IsPart P K w) (sym s.1.1.1) part);
-      present = λ s a must none.
-          let f = field_of_slot keys fs o s a in
-          let free = rw none at (parts.1.1 s.name f.0 f.1.0) in
-          let no = f.1.1.2 in
-          let no' = rw (free.0, free.1, must) at no in
-          cc;
-    }, parts.0)
+    let over = over_down everywhere P _ _ h.over in (
+      h.tree,
+      record {
+        named = λ k w is.
+            let f = declared (field_at k fs) (each_name (λ l. is_some (field_at l fs)) ms over.0 k w is) in
+            let s = slot_of_field keys fs k f.0 f.1 in
+            let here : IsStored f.0.node w = rw is at (parts.1.1 k f.0 f.1) in
+            let part : IsPart P f.0.node w = record { tree = member_tree k ms w h.tree is; stored = here; over = over.1 (name k) f.0.node w (leads_to_field n t fs preserves type b ms k f.0 w f.1 is) } in
+            (s.0, s.1.0, s.1.1.0, subst (λ K. IsPart P K w) (sym s.1.1.1) part);
+        present = λ s a must none.
+            let f = field_of_slot keys fs o s a in
+            let free = rw none at (parts.1.1 s.name f.0 f.1.0) in
+            let no = f.1.1.2 in
+            let no' = rw (free.0, free.1, must) at no in
+            cc;
+      },
+      parts.0,
+    )
 
 -- what stands under the name of a field is a part of its node
 field_part : (P : Pools) (keys : List (List ℕ)) (fs : Fields) (ms : Members) → AreOrdered fs → AreInSlots P (field_slots keys fs) ms → (k : List ℕ) (w : Data) → member_at k ms ≡ Some w → (f : Declared) × ((field_at k fs ≡ Some f) × IsPart P f.node w)
@@ -205,13 +207,16 @@ pub object_up : StoredLaw → EverywhereLaw → (P : Pools) (n : Bool) (t : Opti
     → AreMembers ms → AreInSlots P (field_slots keys fs) ms → IsWithin b (fault.members_count ms) → IsPart P (node n t (object fs preserves type b)) (tree.object ms)
 object_up stored everywhere P n t fs preserves type b keys ms o members h within = record {
   tree = members;
-  stored = (stored _ _).1 (within, (
-    (λ k none others. elim (option_cases (member_at k ms)) [
-      | inl gone ↦ gone
-      | inr w ↦ let f = field_part P keys fs ms o h k w.0 w.1 in let no = sym none ∙ f.1.0 in absurd (cc)
-    ]),
-    field_stored P keys fs ms o h
-  ));
+  stored = (stored _ _).1 (
+    within,
+    (
+      (λ k none others. elim (option_cases (member_at k ms)) [
+        | inl gone ↦ gone
+        | inr w ↦ let f = field_part P keys fs ms o h k w.0 w.1 in let no = sym none ∙ f.1.0 in absurd (cc)
+      ]),
+      field_stored P keys fs ms o h,
+    ),
+  );
   over = over_up everywhere P _ _ (names_pass (λ l. is_some (field_at l fs)) ms members (λ k w is. let f = field_part P keys fs ms o h k w is in rw f.1.0 refl)) (object_below P n t fs preserves type b keys ms o h);
 }
 
@@ -319,12 +324,19 @@ pub map_down : StoredLaw → EverywhereLaw → (P : Pools) (n : Bool) (t : Optio
     → IsPart P (node n t (nodes.map M type b)) (tree.object ms) → AreMembers ms × AreInSlots P (map (value_slot M) (in_order P.names)) ms × IsWithin b (fault.members_count ms)
 map_down stored everywhere P n t M type b ms h =
     let parts = (stored _ _).0 h.stored in
-    let over = over_down everywhere P _ _ h.over in
-    (h.tree, record {
-      named = λ k w is. (value_slot M k, value_slot_of M (in_order P.names) k (in_order_has P.names k (among_name k P.names (each_name (λ l. is_among l P.names) ms over.0 k w is))), refl,
-        record { tree = member_tree k ms w h.tree is; stored = parts.1 k w is; over = over.1 (name k) M w (rw is refl) });
-      present = λ s a must none. let r = name_of_value_slot M (in_order P.names) s a in let no : false ≡ true = ap (λ t. Slot.must t) r.1.1 ∙ must in cc;
-    }, parts.0)
+    let over = over_down everywhere P _ _ h.over in (
+      h.tree,
+      record {
+        named = λ k w is. (
+          value_slot M k,
+          value_slot_of M (in_order P.names) k (in_order_has P.names k (among_name k P.names (each_name (λ l. is_among l P.names) ms over.0 k w is))),
+          refl,
+          record { tree = member_tree k ms w h.tree is; stored = parts.1 k w is; over = over.1 (name k) M w (rw is refl) },
+        );
+        present = λ s a must none. let r = name_of_value_slot M (in_order P.names) s a in let no : false ≡ true = ap (λ t. Slot.must t) r.1.1 ∙ must in cc;
+      },
+      parts.0,
+    )
 
 map_below : (P : Pools) (n : Bool) (t : Option (List ℕ)) (M : Node) (type : MapType) (b : Bounds) (ms : Members) → AreInSlots P (map (value_slot M) (in_order P.names)) ms → Below P (node n t (nodes.map M type b)) (tree.object ms)
 map_below P n t M type b ms h (name k) K w is =
@@ -486,7 +498,7 @@ pub part_laws : StoredLaw → EverywhereLaw → PartLaws
 part_laws stored everywhere = record {
   leaf = λ P N v leaf. (
     (λ h. (h.tree, h.stored, (over_down everywhere P N v h.over).0)),
-    λ h. record { tree = h.0; stored = h.1; over = over_up everywhere P N v h.2 (leaf_below P N v leaf) }
+    λ h. record { tree = h.0; stored = h.1; over = over_up everywhere P N v h.2 (leaf_below P N v leaf) },
   );
   row = λ P s v o is. row_law stored everywhere P s.node s.keys v o is;
   list = λ P s M v is. list_law stored everywhere P s.node s.keys M v is;

@@ -1,6 +1,6 @@
 -- The sizes that the slots of a row can take, from the last slot to the first.
-use Rattle.std.specs.Prelude.{◌≡◌, ℕ, zero, suc, ◌+◌, ◌-◌, ◌≤◌, ◌<◌, ◌⊎◌, ◌↔◌, Bool, false, List, Option, Some, None, drop}
-use Rattle.std.proofs.Common.{refl, add-one, ap, sym, ◌∙◌, subst, inl, inr, arith, [], ◌∷◌, ◌++◌, length, get_or}
+use Rattle.std.specs.Prelude.{◌≡◌, ℕ, zero, suc, ◌+◌, ◌-◌, ◌≤◌, ◌<◌, ◌⊎◌, ◌↔◌, false, List, Option, Some, None, drop}
+use Rattle.std.proofs.Common.{refl, ap, sym, inl, inr, arith, [], ◌∷◌, ◌++◌, length, get_or}
 use Rattle.std.specs.declared.vec.Vec.{Vec}
 use Rattle.std.specs.declared.alloc.Global.{Global}
 use Rattle.jtree.specs.Data.{Data}

@@ -1,9 +1,9 @@
 -- The sizes of a site, from those of what stands in it.
-use Rattle.std.specs.Prelude.{◌≡◌, ℕ, ◌+◌, ◌≤◌, ◌<◌, ◌⊎◌, ◌↔◌, Bool, true, List, Option, Some}
+use Rattle.std.specs.Prelude.{◌≡◌, ℕ, ◌+◌, ◌≤◌, ◌⊎◌, ◌↔◌, true, Some}
 use Rattle.std.proofs.Common.{refl, ap, sym, ◌∙◌, subst, inl, inr, arith}
 use Rattle.jtree.specs.Data.{Data, Items}
 use Rattle.jtree.specs.Data as tree
-use Rattle.jtree.specs.Nodes.{node_count, items_count, members_count}
+use Rattle.jtree.specs.Nodes.{node_count, items_count}
 use Rattle.schema.specs.Nodes.Node.{Node, IsNode}
 use Rattle.stored.specs.Objects.Becomes.{is_nullable}
 use Rattle.plan.specs.Pools.Pools.{Pools}
@@ -11,10 +11,10 @@ use Rattle.plan.specs.Sets.{IsSum}
 use Rattle.plan.specs.Samples.Part.{IsPart}
 use Rattle.plan.specs.Samples.Sites.{Site, item_site, slots}
 use Rattle.plan.specs.Samples.Candidates.{sort_of}
-use Rattle.plan.specs.Samples.Sizes.{HasSize, CanFill, HasMore, bounds_of, filled_nodes, filled_count, IsUpTo}
-use Rattle.plan.specs.Samples.RuleOfParts.{IsNullPart, members_in}
-use Rattle.plan.specs.Internal.PartLaws.{PartLaws, IsObjectPart, IsItemsPart}
-use Rattle.plan.specs.declared.sort.Sort.TheVariants.{Leaf, Row}
+use Rattle.plan.specs.Samples.Sizes.{HasSize, CanFill, HasMore, bounds_of, filled_nodes, IsUpTo}
+use Rattle.plan.specs.Samples.RuleOfParts.{members_in}
+use Rattle.plan.specs.Internal.PartLaws.{PartLaws}
+use Rattle.plan.specs.declared.sort.Sort.TheVariants.{Row}
 use Rattle.plan.proofs.FillingLemmas.{in_nodes}
 
 -- one node, and what stands in it; or null

@@ -8,7 +8,7 @@ use Rattle.jtree.specs.Order.{text_cmp}
 use Rattle.jtree.specs.Internal.Lookups.{own_name, later_name}
 use Rattle.jtree.specs.Internal.Rising.{Among, among_parts, each_of}
 use Rattle.schema.specs.Document.Places.{Place, property, map_value, items}
-use Rattle.schema.specs.Nodes.Node.{Node, node, Sort, scalar, object, map, list, open_, Fields, no_fields, field, IsNode, IsSort, IsBeforeFields, AreOrdered}
+use Rattle.schema.specs.Nodes.Node.{Node, node, Sort, scalar, object, map, list, open_, Fields, no_fields, field, IsNode, IsSort, AreOrdered}
 use Rattle.schema.specs.Nodes.ByPlace.{Declared, field_at, node_at}
 use Rattle.schema.specs.Nodes.Shape as shape
 use Rattle.schema.specs.Nodes.Items.{HasSoundItems}

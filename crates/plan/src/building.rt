@@ -15,9 +15,9 @@ ghost use Rattle.plan.specs.Internal.Building.{IsBuilt, AreBuilt, IsFieldSlot};
 use crate::SizeSet;
 use crate::arena::{Arena, Content, Entry, PlanNode, SlotEntry, SlotName};
 use crate::entries::row_entry;
-use jtree::Text;
 use crate::leaf::{leaf_of, leaf_sizes};
 use crate::list_entries::list_entry;
+use jtree::Text;
 use schema::{Below, Field, Fields, ListNode, ListType, MapNode, Node, ObjectNode, Sort};
 use std::alloc::{AllocError, Global};
 
@@ -164,7 +164,11 @@ fn item_keys(list: &ListNode) -> &[Text]
 }
 
 /// Adds the entry of a scalar or an open node.
-fn build_leaf<Z: SizeSet>(arena: &mut Arena<Z>, alloc: Global, node: &Node) -> Result<PlanNode, AllocError>
+fn build_leaf<Z: SizeSet>(
+    arena: &mut Arena<Z>,
+    alloc: Global,
+    node: &Node,
+) -> Result<PlanNode, AllocError>
     requires limit { arena.old.limit < Z.BITS }
     requires leaf { sort_of (node_of node.now) ≡ Leaf }
     ensures values { arena.new.values ≡ arena.old.values }

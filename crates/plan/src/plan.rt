@@ -65,12 +65,7 @@ impl<Z: SizeSet> Plan<Z> {
     ///
     /// `BadLimit` where the limit is 0, or is not below `Z::BITS` (with `u64`: where it is not 1 to 63), which is decided first.
     /// `NoMemory` where an allocation fails.
-    pub fn new(
-        alloc: Global,
-        schema: Schema,
-        pools: Pools,
-        limit: u32,
-    ) -> Result<Plan<Z>, PFault>
+    pub fn new(alloc: Global, schema: Schema, pools: Pools, limit: u32) -> Result<Plan<Z>, PFault>
         ensures ok { IfOk result (λ plan. plan ≡ record { root = schema; pools = pools; limit = limit }) }
         ensures limit { OnOk result ((1 ≤ limit) × (limit < Z.BITS)) }
         ensures err { IfErr result (λ e. ((e ≡ BadLimit) × ((limit ≡ 0) ⊎ (Z.BITS ≤ limit))) ⊎ ((e ≡ NoMemory) × ((1 ≤ limit) × (limit < Z.BITS)))) }

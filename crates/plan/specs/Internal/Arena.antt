@@ -1,16 +1,13 @@
 -- What the entries of a plan stand for: each for the site of its number.
-use Rattle.std.specs.Prelude.{◌≡◌, ℕ, ◌+◌, ◌<◌, List, [], ◌∷◌, length, get_or, Bool, false, None, Option, Some}
-use Rattle.jtree.specs.Data.{Data}
-use Rattle.schema.specs.Nodes.Node.{Node, node, list, open_}
-use Rattle.schema.specs.declared.node.ListType.{ListType}
-use Rattle.schema.specs.declared.node.ListType.TheVariants as list_type
+use Rattle.std.specs.Prelude.{◌≡◌, ℕ, ◌+◌, ◌<◌, List, [], ◌∷◌, length, get_or, false, None, Some}
+use Rattle.schema.specs.Nodes.Node.{node, open_}
 use Rattle.stored.specs.Objects.Becomes.{is_nullable}
 use Rattle.plan.specs.Pools.Pools.{Pools}
 use Rattle.plan.specs.Samples.Sites.{Site, plain, item_site, Slot, slots}
 use Rattle.plan.specs.Samples.Candidates.{sort_of, distinct_of, AreCandidates}
 use Rattle.plan.specs.Samples.Sizes.{HasSize, HasMore, bounds_of, IsUpTo}
 use Rattle.plan.specs.Internal.Tables.{AreShaped, AreLevels}
-use Rattle.plan.specs.Internal.Values.{AreValues, candidates_of}
+use Rattle.plan.specs.Internal.Values.{candidates_of}
 use Rattle.plan.specs.declared.sort.Sort.TheVariants as sort
 use Rattle.plan.specs.declared.values.Values.{Values}
 use Rattle.plan.specs.declared.leaf.Leaf.{Leaf}

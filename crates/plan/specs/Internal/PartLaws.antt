@@ -1,5 +1,5 @@
 -- The parts of a node, one level at a time: what its slots or items hold, within its bounds.
-use Rattle.std.specs.Prelude.{◌≡◌, ◌⊎◌, ◌↔◌, List, Bool, true, Option, Some}
+use Rattle.std.specs.Prelude.{◌≡◌, ◌⊎◌, ◌↔◌, List, true, Option, Some}
 use Rattle.jtree.specs.Data.{Data, Items, IsTree}
 use Rattle.jtree.specs.Data as tree
 use Rattle.schema.specs.Nodes.Node.{Node, IsNode}

@@ -3,7 +3,6 @@ use Rattle.std.specs.Prelude.{◌≡◌, ℕ, ◌+◌, ◌≤◌, ◌<◌, List,
 use Rattle.schema.specs.Nodes.Node.{Node}
 use Rattle.plan.specs.Pools.Pools.{Pools}
 use Rattle.plan.specs.Samples.Sites.{sites_of}
-use Rattle.plan.specs.Samples.Candidates.{IsWidth}
 use Rattle.plan.specs.Internal.Values.{AreValues}
 use Rattle.plan.specs.Internal.Arena.{AreRight}
 use Rattle.plan.specs.declared.values.Values.{Values}

@@ -1,6 +1,6 @@
 -- The sizes of parts, and of what can still follow in an object, a map or a list that was begun: each said by existence (this
 -- project's own). A size is a number of nodes.
-use Rattle.std.specs.Prelude.{◌≡◌, ℕ, zero, suc, ◌+◌, ◌≤◌, ◌↔◌, List, [], ◌∷◌, Bool, false, Option, Some, None, drop}
+use Rattle.std.specs.Prelude.{◌≡◌, ℕ, zero, suc, ◌+◌, ◌≤◌, ◌↔◌, List, [], ◌∷◌, false, Option, Some, None, drop}
 use Rattle.jtree.specs.Data.{Data, Items, no_items, item}
 use Rattle.jtree.specs.Data as tree
 use Rattle.jtree.specs.Nodes.{node_count, items_count}

@@ -1,7 +1,6 @@
-use Rattle.std.proofs.Common.{◌≡◌, take, sym, refl, [], ◌∙◌, length, arith}
+use Rattle.std.proofs.Common.{take, refl, [], ◌∙◌, length, arith}
 use Rattle.std.proofs.lemmas.List.{take_more}
 use Rattle.schema.specs.Nodes.Node.{object, map as map_sort}
-use Rattle.plan.specs.Internal.Arena.{AreRight}
 use Rattle.plan.proofs.BuildingLemmas.{field_built, row_built, list_built, last_site}
 use Rattle.plan.proofs.building.+build.Goals as goal
 

@@ -1,6 +1,5 @@
-use Rattle.std.proofs.Common.{◌≡◌, ◌≤◌, ◌∷◌, length, map, take, arith, refl}
+use Rattle.std.proofs.Common.{◌≡◌, take, arith, refl}
 use Rattle.std.proofs.lemmas.List.{take_all}
-use Rattle.plan.specs.Samples.Sites.{value_slot}
 use Rattle.plan.specs.declared.arena.SlotEntry.{SlotEntry}
 use Rattle.plan.proofs.SizeLemmas.{each_push}
 use Rattle.plan.proofs.BuildingLemmas.{value_slots_push}

@@ -1,4 +1,4 @@
-use Rattle.std.proofs.Common.{arith, ap, sym, length, ◌≡◌, ◌+◌, ◌∙◌}
+use Rattle.std.proofs.Common.{arith, ap, length, ◌≡◌, ◌∙◌}
 use Rattle.plan.specs.Samples.Sites.{slots as slots_of}
 use Rattle.plan.specs.Internal.Arena.{site_at}
 use Rattle.plan.proofs.EntryLemmas.{chosen_count, chosen_choices, row_right}

@@ -1,7 +1,5 @@
-use Rattle.std.proofs.Common.{◌≡◌, ap, sym, ◌∙◌}
-use Rattle.schema.specs.Nodes.Node.{node, Node}
+use Rattle.std.proofs.Common.{ap, sym, ◌∙◌}
 use Rattle.stored.specs.Objects.Becomes.{is_nullable}
-use Rattle.plan.specs.Samples.Sites.{Site}
 use Rattle.plan.specs.Samples.Candidates.{distinct_of}
 use Rattle.plan.specs.Internal.Arena.{site_at, IsRight}
 use Rattle.plan.proofs.CutLemmas.{list_right}

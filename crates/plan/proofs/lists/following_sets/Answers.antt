@@ -1,4 +1,4 @@
-use Rattle.std.proofs.Common.{◌≡◌, ℕ, ◌+◌, ◌-◌, ◌∙◌, ap, arith, length, [], ◌∷◌, ◌<◌}
+use Rattle.std.proofs.Common.{◌≡◌, ◌+◌, ◌-◌, ◌∙◌, ap, arith, []}
 use Rattle.std.proofs.lemmas.List.{length_push}
 use Rattle.plan.specs.Internal.Lists.{CanFollow}
 use Rattle.plan.specs.Samples.Sizes.{IsUpTo}

@@ -1,4 +1,4 @@
-use Rattle.std.proofs.Common.{rules, ◌≡◌, ◌+◌, ◌-◌, ◌<◌, ◌∙◌, ap, length, arith, sym, suc, [], ◌∷◌, ◌++◌, slice_index_or}
+use Rattle.std.proofs.Common.{◌+◌, ◌-◌, ◌∙◌, ap, length, arith}
 use Rattle.std.proofs.lemmas.List.{length_push}
 use Rattle.plan.proofs.RowLemmas.{shaped_more, shaped_first, levels_first, levels_next}
 use Rattle.plan.proofs.rows.levels.Goals as goal

@@ -1,4 +1,4 @@
-use Rattle.std.proofs.Common.{◌≡◌, ◌+◌, ◌<◌, ◌∙◌, ◌∷◌, ap, length, arith, sym, slice_index_or}
+use Rattle.std.proofs.Common.{◌+◌, ◌∙◌, ◌∷◌, ap, arith}
 use Rattle.std.proofs.lemmas.List.{length_push}
 use Rattle.plan.specs.Samples.Sizes.{CanFill, IsUpTo}
 use Rattle.plan.proofs.RowLemmas.{level_more, slot_up_to}

@@ -1,4 +1,4 @@
-use Rattle.std.proofs.Common.{◌≡◌, ℕ, List, ◌∷◌, length}
+use Rattle.std.proofs.Common.{◌≡◌, List, ◌∷◌, length}
 use Rattle.schema.specs.declared.node.Bounds.{Bounds}
 use Rattle.plan.specs.Pools.Pools.{Pools}
 use Rattle.plan.specs.Samples.Sites.{Slot}

@@ -1,4 +1,4 @@
-use Rattle.std.proofs.Common.{arith, ◌<◌, ◌≡◌, [], ◌∙◌}
+use Rattle.std.proofs.Common.{arith, []}
 use Rattle.plan.specs.Internal.Building.{IsBuilt}
 use Rattle.plan.proofs.SoundLemmas.{schema_sound}
 use Rattle.plan.proofs.PlanLemmas.{plan_made}

@@ -1,6 +1,5 @@
-use Rattle.std.proofs.Common.{arith, sym, ◌∙◌, ◌≡◌, ◌-◌, ◌+◌, length}
+use Rattle.std.proofs.Common.{arith, ◌-◌}
 use Rattle.plan.specs.Samples.Sites.{sites_of}
-use Rattle.plan.specs.Internal.Arena.{IsRow}
 use Rattle.plan.proofs.PlanLemmas.{entry_right, level_long, level_rest, no_row}
 use Rattle.plan.proofs.EntryLemmas.{slot_count}
 use Rattle.plan.proofs.plan.Plan.rest.Goals as goal

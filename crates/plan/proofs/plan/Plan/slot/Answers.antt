@@ -1,4 +1,4 @@
-use Rattle.std.proofs.Common.{arith, refl, ◌≡◌, length}
+use Rattle.std.proofs.Common.{arith, refl}
 use Rattle.plan.specs.Samples.Sites.{sites_of}
 use Rattle.plan.proofs.EntryLemmas.{slot_count}
 use Rattle.plan.proofs.PlanLemmas.{entry_right, row_slot, slot_at, slice_get_at, no_row}
