@@ -34,6 +34,8 @@ mod page_rows;
 #[cfg(test)]
 mod pool_rows;
 #[cfg(test)]
+mod pools_rows;
+#[cfg(test)]
 mod profile_rows;
 #[cfg(test)]
 mod prune_rows;
@@ -43,6 +45,8 @@ mod reading_rows;
 mod refusal_rows;
 #[cfg(test)]
 mod sample_rows;
+#[cfg(test)]
+mod size_set_rows;
 #[cfg(test)]
 mod tree_rows;
 #[cfg(test)]

@@ -1,5 +1,5 @@
 -- What is added to a plan, node by node.
-use Rattle.std.specs.Prelude.{◌≡◌, ℕ, zero, suc, ◌+◌, ◌≤◌, ◌<◌, List, All, map, take, Bool, true, false, Option, option_map, ◌||◌, is_some}
+use Rattle.std.specs.Prelude.{◌≡◌, ℕ, zero, suc, ◌+◌, ◌≤◌, ◌<◌, List, All, map, take, Bool, true, false, Option, Some, option_map, ◌||◌, is_some}
 use Rattle.std.specs.Str.{bytes_eq}
 use Rattle.std.proofs.Common.{refl, ap, sym, ◌∙◌, subst, inl, inr, arith, [], ◌∷◌, ◌++◌, length, get_or}
 use Rattle.std.proofs.lemmas.Bool.{cases_lt, cases_Bool}
@@ -7,17 +7,22 @@ use Rattle.std.proofs.lemmas.List.{get_or_append_left, get_or_push, get_or-appen
 use Rattle.jtree.specs.Data.{Data}
 use Rattle.jtree.specs.View.{data_of}
 use Rattle.schema.specs.Document.Texts.{is_among}
-use Rattle.schema.specs.Nodes.Node.{Node, node, Sort, object, Fields, no_fields, field, IsNode}
+use Rattle.schema.specs.Nodes.Node.{Node, node, Sort, scalar, object, list, open_, Fields, no_fields, field, IsNode}
+use Rattle.schema.specs.Nodes.Node as nodes
+use Rattle.schema.specs.Nodes.Items.{HasSoundItems}
+use Rattle.schema.specs.declared.node.ListType.{ListType}
 use Rattle.schema.specs.Nodes.View.{node_of, fields_of}
 use Rattle.schema.specs.declared.node.Field.{Field}
 use Rattle.plan.specs.Pools.Pools.{Pools}
-use Rattle.plan.specs.Samples.Sites.{Site, plain, sites_from, sites_below, sites_of_fields, Slot, slots, slots_at, field_slots, value_slot}
-use Rattle.plan.specs.Samples.Candidates.{sort_of}
-use Rattle.plan.specs.Samples.Sizes.{bounds_of}
-use Rattle.plan.specs.declared.sort.Sort.TheVariants.{Row}
+use Rattle.plan.specs.Samples.Sites.{Site, plain, item_site, item_keys, sites_from, sites_below, sites_of_fields, Slot, slots, slots_at, field_slots, value_slot}
+use Rattle.plan.specs.Samples.Candidates.{sort_of, AreCandidates}
+use Rattle.plan.specs.Samples.Sizes.{HasSize, bounds_of, IsUpTo}
+use Rattle.plan.specs.declared.sort.Sort.TheVariants.{Leaf as LeafSort, Row}
 use Rattle.schema.specs.declared.node.Bounds.{Bounds}
 use Rattle.stored.specs.Objects.Becomes.{is_nullable}
-use Rattle.plan.specs.Internal.Values.{AreValues}
+use Rattle.plan.specs.Internal.Values.{AreValues, candidates_of}
+use Rattle.plan.specs.declared.leaf.Leaf.{Leaf}
+use Rattle.plan.specs.declared.arena.Content.TheVariants as content
 use Rattle.plan.specs.Internal.Arena.{site_at, IsSlot, AreSlots, IsRight, AreRight, Stand, name_of}
 use Rattle.plan.specs.Internal.Building.{IsSound, IsSortSound, AreFieldsSound, IsBuilt, AreBuilt, IsFieldSlot}
 use Rattle.plan.specs.declared.values.Values.{Values}
@@ -173,3 +178,34 @@ row_built holds limit v old mid new nullable description sort keys b es e n o ro
     (λ P sites values sound stand here right.
       let m = below P sites values sound.1 stand right in
       (m, entry P sites (length mid) m (rw here o) (rw here row) (rw here bounds) (rw here refl) (rw here (are P sites values stand))))
+
+-- a list whose item is there
+pub list_built : {Z : Type 0} (holds : Z → ℕ → Type 0) (limit : ℕ) (v : Values) (old mid new : List (Entry Z)) (nullable : Bool) (description : Option (List ℕ)) (M : Node) (type : ListType) (item_names : List (List ℕ)) (b : Bounds) (keys : List (List ℕ)) (item : PlanNode) (e : Entry Z) (n : ℕ)
+    → IsNode M → IsBuilt holds limit v old mid M (item_keys type item_names) item → new ≡ mid ++ e ∷ [] → n ≡ length mid
+    → ((P : Pools) (sites : List Site) (i : ℕ) (d : Option (List ℕ)) → AreRight holds limit P v sites mid → (site_at sites i).node ≡ node nullable d (list M type item_names b) → item_site (site_at sites i) ≡ Some (site_at sites item) → item < i
+        → IsNode (site_at sites i).node → HasSoundItems (site_at sites i).node → IsRight holds limit P v sites i e)
+    → IsBuilt holds limit v old new (node nullable description (list M type item_names b)) keys n
+list_built holds limit v old mid new nullable description M type item_names b keys item e n o built is number entry =
+    node_built holds limit v old mid new nullable description (list M type item_names b) keys e n built.count is number
+    (λ P sites values sound stand here right.
+      let m = built.right P sites values sound.1 stand right in
+      let below = last_site sites (length old) item M (item_keys type item_names) (omega (arith, built.last, built.count)) stand in
+      (m, entry P sites (length mid) description m (ap (λ s. Site.node s) here) (rw (here, below) refl) (omega (arith, built.last)) (rw here o) (rw here sound.0)))
+
+leaf_below : (nullable : Bool) (description : Option (List ℕ)) (sort : Sort) → sort_of (node nullable description sort) ≡ LeafSort → length (sites_below sort) ≡ 0
+leaf_below n t (scalar kind cs) leaf = refl
+leaf_below n t (object fs preserves type b) leaf = absurd (cc)
+leaf_below n t (nodes.map M type b) leaf = absurd (cc)
+leaf_below n t (list M type keys b) leaf = absurd (cc)
+leaf_below n t open_ leaf = refl
+
+-- a leaf
+pub leaf_built : {Z : Type 0} (holds : Z → ℕ → Type 0) (limit : ℕ) (v : Values) (old new : List (Entry Z)) (N : Node) (keys : List (List ℕ)) (l : Leaf) (sizes : Z) (n : ℕ) → sort_of N ≡ LeafSort
+    → new ≡ old ++ record { sizes = sizes; nullable = is_nullable N; content = content.Leaf l } ∷ [] → n ≡ length old
+    → ((P : Pools) → AreValues P v → AreCandidates P N (candidates_of v l)) → ((P : Pools) → AreValues P v → IsUpTo limit (holds sizes) (HasSize P N)) → IsBuilt holds limit v old new N keys n
+leaf_built holds limit v old new (node nullable description sort) keys l sizes n leaf is number candidates sized =
+    let N = node nullable description sort in
+    let none : length (sites_below sort) ≡ 0 = leaf_below nullable description sort leaf in
+    node_built holds limit v old old new nullable description sort keys _ n (omega (arith, none)) is number
+    (λ P sites values sound stand here right.
+      (right, record { sizes = rw here (sized P values); nullable = rw here refl; content = record { sort = rw here leaf; candidates = rw here (candidates P values) } }))

@@ -11,7 +11,9 @@ pub mod EntryLemmas
 pub mod BuildingLemmas
 pub mod PlanLemmas
 pub mod ListEntryLemmas
+pub mod CutLemmas
 pub mod ValueLemmas
+pub mod LeafLemmas
 pub mod WordLemmas
 pub mod FirstBreak
 pub mod ApartLemmas

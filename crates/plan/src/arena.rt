@@ -1,5 +1,11 @@
 //! The nodes of a plan, each behind the nodes below it, with the sizes of what may stand there.
-ghost use Rattle.std.specs.Prelude.{◌≡◌, ◌<◌, ◌++◌, ◌∷◌, [], length, IfOk};
+ghost use Rattle.std.specs.Prelude.{◌≡◌, ◌<◌, ◌≤◌, ◌++◌, ◌∷◌, ℕ, List, [], length, IfOk, IfSome, IfNone};
+ghost use Rattle.plan.specs.Pools.Pools.{Pools};
+ghost use Rattle.plan.specs.Samples.Sites.{Site};
+ghost use Rattle.plan.specs.Samples.Candidates.{sort_of, HasCount};
+ghost use Rattle.plan.specs.Internal.Arena.{site_at, AreRight};
+ghost use Rattle.plan.specs.declared.values.Values.{Values};
+ghost use Rattle.plan.specs.declared.sort.Sort.TheVariants.{Leaf as LeafSort};
 
 use crate::leaf::Leaf;
 use crate::values::Values;
@@ -71,6 +77,20 @@ pub(crate) struct Entry<Z> {
     pub content: Content<Z>,
 }
 
+impl<Z: SizeSet> Entry<Z> {
+    ghost use Rattle.plan.specs.Internal.Arena.{IsRight};
+
+    /// How many candidates the leaf has; 0 where the node is no leaf.
+    fn count(&self) -> u64
+        ensures { (P : Pools) (limit : ℕ) (v : Values) (sites : List Site) (i : ℕ) → IsRight Z.holds limit P v sites i self.now → sort_of (site_at sites i).node ≡ LeafSort → HasCount P (site_at sites i).node result }
+    {
+        match &self.content {
+            Content::Leaf(leaf) => leaf.places.len() as u64,
+            Content::Row(_) | Content::List(_) => 0,
+        }
+    }
+}
+
 #[derive(Drop)]
 pub(crate) struct Arena<Z> {
     pub values: Values,
@@ -87,6 +107,25 @@ impl<Z: SizeSet> Arena<Z> {
         ensures { IsEntry self.now.entries.items node result.now }
     {
         &self.entries[node.number]
+    }
+
+    /// The entry of a node, where there is one.
+    fn find(&self, node: PlanNode) -> Option<&Entry<Z>>
+        ensures some { IfSome result (λ e. IsEntry self.now.entries.items node e.now) }
+        ensures none { IfNone result (length self.now.entries.items ≤ node) }
+    {
+        self.entries.get(node.number)
+    }
+
+    /// How many candidates the leaf has; 0 where the node is no leaf of the arena.
+    pub(crate) fn count(&self, node: PlanNode) -> u64
+        ensures { (P : Pools) (sites : List Site) → AreRight Z.holds self.now.limit P self.now.values sites self.now.entries.items → node < length self.now.entries.items
+            → sort_of (site_at sites node).node ≡ LeafSort → HasCount P (site_at sites node).node result }
+    {
+        match self.find(node) {
+            Some(entry) => entry.count(),
+            None => 0,
+        }
     }
 
     /// Adds a node behind the others.

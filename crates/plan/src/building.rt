@@ -1,20 +1,24 @@
 //! The entries of a schema's nodes, those below a node before it.
 ghost use Rattle.std.specs.Prelude.{◌≡◌, ℕ, ◌≤◌, ◌<◌, ◌+◌, List, [], Option, length, IfOk};
 ghost use Rattle.schema.specs.Nodes.Node.{Node as NodeData, node as node_with};
-ghost use Rattle.schema.specs.Nodes.View.{node_of, object_of, map_of};
+ghost use Rattle.schema.specs.Nodes.View.{node_of, object_of, map_of, list_of};
 ghost use Rattle.schema.specs.Document.Texts.{is_among};
 ghost use Rattle.jtree.specs.View.{data_of};
 ghost use Rattle.std.specs.Prelude.{option_map, All, map as map_list};
-ghost use Rattle.plan.specs.Samples.Sites.{Site, plain, value_slot};
+ghost use Rattle.plan.specs.Samples.Sites.{Site, plain, value_slot, item_keys};
+ghost use Rattle.plan.specs.Samples.Candidates.{sort_of};
+ghost use Rattle.plan.specs.declared.sort.Sort.TheVariants.{Leaf};
 ghost use Rattle.plan.specs.Internal.Arena.{site_at, AreSlots};
 ghost use Rattle.plan.specs.declared.arena.SlotEntry.{SlotEntry as SlotDeclared};
 ghost use Rattle.plan.specs.Internal.Building.{IsBuilt, AreBuilt, IsFieldSlot};
 
 use crate::SizeSet;
-use crate::arena::{Arena, PlanNode, SlotEntry, SlotName};
+use crate::arena::{Arena, Content, Entry, PlanNode, SlotEntry, SlotName};
 use crate::entries::row_entry;
 use jtree::Text;
-use schema::{Below, Field, Fields, MapNode, Node, ObjectNode, Sort};
+use crate::leaf::{leaf_of, leaf_sizes};
+use crate::list_entries::list_entry;
+use schema::{Below, Field, Fields, ListNode, ListType, MapNode, Node, ObjectNode, Sort};
 use std::alloc::{AllocError, Global};
 
 /// Adds the entries of a node and of all nodes below it; `keys` are the keys of the map list whose item it is.
@@ -34,7 +38,8 @@ pub(crate) fn build<Z: SizeSet>(
     match &node.sort {
         Sort::Object(object) => build_object(arena, alloc, object, node.nullable, keys),
         Sort::Map(map) => build_map(arena, alloc, map, node.nullable, keys),
-        _ => Err(AllocError),
+        Sort::List(list) => build_list(arena, alloc, list, node.nullable, keys),
+        Sort::Scalar(_) | Sort::Open => build_leaf(arena, alloc, node),
     }
 }
 
@@ -124,6 +129,55 @@ fn build_map<Z: SizeSet>(
     let slots = value_slots(alloc, arena.values.names.len(), value)?;
     let entry = row_entry(arena, alloc, slots, map.bounds, nullable)?;
     let node = arena.add(entry)?;
+    Ok(node)
+}
+
+#[cycle(build)]
+fn build_list<Z: SizeSet>(
+    arena: &mut Arena<Z>,
+    alloc: Global,
+    list: &ListNode,
+    nullable: bool,
+    keys: &[Text],
+) -> Result<PlanNode, AllocError>
+    requires limit { arena.old.limit < Z.BITS }
+    requires room { 1 ≤ arena.old.limit }
+    ensures values { arena.new.values ≡ arena.old.values }
+    ensures limit { arena.new.limit ≡ arena.old.limit }
+    ensures built { IfOk result (λ n. (d : Option (List ℕ)) → IsBuilt Z.holds arena.old.limit arena.old.values arena.old.entries.items arena.new.entries.items (node_with nullable d (list_of list.now)) keys.now n) }
+{
+    list.item.reveal_invariant();
+    let item = build(arena, alloc, node_below(&list.item), item_keys(list))?;
+    let entry = list_entry(arena, alloc, item, list, nullable)?;
+    let node = arena.add(entry)?;
+    Ok(node)
+}
+
+/// The names that tell the items of the list apart.
+fn item_keys(list: &ListNode) -> &[Text]
+    ensures { result.now ≡ item_keys list.now.list_type list.now.keys.items }
+{
+    match list.list_type {
+        ListType::Map => &list.keys,
+        ListType::Atomic | ListType::Set => &[],
+    }
+}
+
+/// Adds the entry of a scalar or an open node.
+fn build_leaf<Z: SizeSet>(arena: &mut Arena<Z>, alloc: Global, node: &Node) -> Result<PlanNode, AllocError>
+    requires limit { arena.old.limit < Z.BITS }
+    requires leaf { sort_of (node_of node.now) ≡ Leaf }
+    ensures values { arena.new.values ≡ arena.old.values }
+    ensures limit { arena.new.limit ≡ arena.old.limit }
+    ensures built { IfOk result (λ n. (keys : List (List ℕ)) → IsBuilt Z.holds arena.old.limit arena.old.values arena.old.entries.items arena.new.entries.items (node_of node.now) keys n) }
+{
+    let leaf = leaf_of(alloc, &arena.values, node)?;
+    let sizes = leaf_sizes(&arena.values, &leaf, arena.limit);
+    let node = arena.add(Entry {
+        sizes,
+        nullable: node.nullable,
+        content: Content::Leaf(leaf),
+    })?;
     Ok(node)
 }
 

@@ -1,5 +1,28 @@
 //! The candidates of a scalar or an open node.
+ghost use Rattle.std.specs.Prelude.{◌≡◌, ℕ, ◌≤◌, ◌<◌, ◌↔◌, ◌⊎◌, ◌∷◌, IfOk, option_map};
+ghost use Rattle.std.specs.List.{slice_get};
+ghost use Rattle.std.specs.Option.{option_copied};
+ghost use Rattle.jtree.specs.Data.{null};
+ghost use Rattle.jtree.specs.Nodes.{node_count};
+ghost use Rattle.jtree.specs.View.{data_of};
+ghost use Rattle.jtree.specs.declared.value.Tree.{Tree};
+ghost use Rattle.schema.specs.Nodes.Node.{Node as NodeData};
+ghost use Rattle.schema.specs.Nodes.View.{node_of};
+ghost use Rattle.plan.specs.Pools.Pools.{Pools};
+ghost use Rattle.plan.specs.Samples.Over.{listed};
+ghost use Rattle.plan.specs.Samples.Candidates.{sort_of, AreCandidates};
+ghost use Rattle.plan.specs.Samples.Sizes.{HasSize, IsUpTo};
+ghost use Rattle.plan.specs.Internal.Values.{trees_of, IsBase, AreValues, base_of, tree_of, at_places, AreStored, candidates_of};
+ghost use Rattle.plan.specs.declared.values.Values.{Values};
+ghost use Rattle.plan.specs.declared.sort.Sort.TheVariants.{Leaf as LeafSort};
+
+use crate::SizeSet;
+use crate::laws::parts_one_level;
+use crate::values::{Values, with_null};
 use jtree::Tree;
+use schema::{Node, Sort};
+use std::alloc::{AllocError, Global};
+use stored::is_stored;
 
 /// Where the candidates of a leaf stand: among the values of the pools, or in a list of its own (`enum`).
 #[derive(Drop)]
@@ -14,4 +37,94 @@ pub(crate) enum Base {
 pub(crate) struct Leaf {
     pub base: Base,
     pub places: Vec<usize>,
+}
+
+/// The candidates of a node: null and what is listed for it, as far as it is stored there.
+pub(crate) fn leaf_of(alloc: Global, values: &Values, node: &Node) -> Result<Leaf, AllocError>
+    ensures { IfOk result (λ l. (P : Pools) → AreValues P values.now → sort_of (node_of node.now) ≡ LeafSort → AreCandidates P (node_of node.now) (candidates_of values.now l)) }
+{
+    parts_one_level();
+    let base = base_for(alloc, node)?;
+    let places = stored_places(alloc, node, base.trees(values))?;
+    Ok(Leaf { base, places })
+}
+
+/// Where null and what is listed for a scalar or an open node stand.
+fn base_for(alloc: Global, node: &Node) -> Result<Base, AllocError>
+    ensures { IfOk result (λ b. (P : Pools) (v : Values) → AreValues P v → sort_of (node_of node.now) ≡ LeafSort → IsBase (null ∷ listed P (node_of node.now)) (base_of v b)) }
+{
+    match &node.sort {
+        Sort::Scalar(scalar) => match &scalar.validations.constraints.choices {
+            Some(choices) => Ok(Base::Own(with_null(alloc, &choices.items)?)),
+            None => Ok(Base::Scalars),
+        },
+        _ => Ok(Base::Any),
+    }
+}
+
+/// The places of the trees that are stored at the node.
+fn stored_places(alloc: Global, node: &Node, trees: &[Tree]) -> Result<Vec<usize>, AllocError>
+    ensures { IfOk result (λ places. (past : Tree) → AreStored (node_of node.now) (trees_of trees.now) (at_places past trees.now places.items)) }
+{
+    let mut places = Vec::new(alloc);
+    for (place, tree) in trees.iter().enumerate() {
+        tree.reveal_invariant();
+        if is_stored(node, tree) {
+            places.push(place)?;
+        }
+    }
+    Ok(places)
+}
+
+impl Base {
+    /// The trees of the base.
+    pub(crate) fn trees<'a>(&'a self, values: &'a Values) -> &'a [Tree]
+        ensures { result.now ≡ base_of values.now self.now }
+    {
+        match self {
+            Base::Scalars => values.scalars.as_slice(),
+            Base::Any => values.any.as_slice(),
+            Base::Own(trees) => trees.as_slice(),
+        }
+    }
+
+    /// The tree at a place of the base, and null past the last.
+    fn tree<'a>(&'a self, values: &'a Values, place: usize) -> &'a Tree
+        ensures { result.now ≡ tree_of values.now self.now place }
+    {
+        self.trees(values).get(place).unwrap_or(&values.null)
+    }
+}
+
+/// The candidate at a place among the leaf's, and `None` past the last.
+pub(crate) fn candidate<'a>(values: &'a Values, leaf: &'a Leaf, place: usize) -> Option<&'a Tree>
+    ensures { option_map data_of (option_copied result) ≡ slice_get (candidates_of values.now leaf.now) place }
+{
+    let place = leaf.places.get(place)?;
+    Some(leaf.base.tree(values, *place))
+}
+
+/// The sizes of the candidates, up to the limit.
+pub(crate) fn leaf_sizes<Z: SizeSet>(values: &Values, leaf: &Leaf, limit: u32) -> Z
+    requires { limit < Z.BITS }
+    ensures { (P : Pools) (N : NodeData) → AreCandidates P N (candidates_of values.now leaf.now) → IsUpTo limit (Z.holds result) (HasSize P N) }
+{
+    let mut sizes = Z::empty();
+    for place in &leaf.places {
+        sizes = with_size(sizes, leaf.base.tree(values, *place), limit);
+    }
+    sizes
+}
+
+/// The sizes, and that of the tree where it is within the limit.
+fn with_size<Z: SizeSet>(sizes: Z, tree: &Tree, limit: u32) -> Z
+    requires { limit < Z.BITS }
+    ensures { (n : ℕ) → Z.holds result n ↔ (Z.holds sizes n ⊎ ((n ≤ limit) × (node_count (data_of tree.now) ≡ n))) }
+{
+    let nodes = tree.nodes();
+    if nodes <= limit as u64 {
+        sizes.union(Z::one(nodes as u32))
+    } else {
+        sizes
+    }
 }

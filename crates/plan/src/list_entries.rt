@@ -1,43 +1,76 @@
 //! The entries of lists, over the nodes that are there.
-ghost use Rattle.std.specs.Prelude.{◌≡◌, ◌<◌, ◌≤◌, ℕ, List, Bool, Option, Some, All, length, IfOk};
+ghost use Rattle.std.specs.Prelude.{◌≡◌, ◌<◌, ◌≤◌, ℕ, List, Bool, Option, Some, length, IfOk};
 ghost use Rattle.schema.specs.Nodes.Node.{IsNode, node as node_with};
 ghost use Rattle.schema.specs.Nodes.Items.{HasSoundItems};
 ghost use Rattle.schema.specs.Nodes.View.{list_of};
 ghost use Rattle.plan.specs.Pools.Pools.{Pools};
 ghost use Rattle.plan.specs.Samples.Sites.{Site, item_site, slots, Slot};
-ghost use Rattle.plan.specs.Samples.Candidates.{sort_of, HasCount};
+ghost use Rattle.plan.specs.Samples.Candidates.{sort_of, distinct_by};
 ghost use Rattle.plan.specs.Internal.Arena.{site_at, AreSlots, AreRight, IsRight};
 ghost use Rattle.plan.specs.Internal.Tuples.{AreKeysLeaves, HasTuples, IsCutTo};
 ghost use Rattle.plan.specs.Internal.Lists.{cut};
-ghost use Rattle.plan.specs.declared.arena.SlotEntry.{SlotEntry as SlotDeclared};
 ghost use Rattle.plan.specs.declared.sort.Sort.TheVariants.{Leaf, Row};
 
-use crate::SizeSet;
-use crate::arena::{Arena, Content, PlanNode, SlotEntry};
-use schema::Bounds;
+use crate::arena::{Arena, Content, Entry, ListEntry, PlanNode, SlotEntry};
+use crate::laws::parts_one_level;
+use crate::lists::more_sets;
+use crate::sizing::whole_sizes;
+use crate::{Distinct, SizeSet};
+use schema::{Bounds, ListNode, ListType};
+use std::alloc::{AllocError, Global};
+use stored::stored_by_parts;
 
-/// How many candidates the leaf has.
-fn count<Z: SizeSet>(arena: &Arena<Z>, node: PlanNode) -> u64
-    requires { node < length arena.now.entries.items }
-    ensures { (P : Pools) (sites : List Site) → AreRight Z.holds arena.now.limit P arena.now.values sites arena.now.entries.items
-        → sort_of (site_at sites node).node ≡ Leaf → HasCount P (site_at sites node).node result }
+/// The entry of a list with this item.
+pub(crate) fn list_entry<Z: SizeSet>(
+    arena: &Arena<Z>,
+    alloc: Global,
+    item: PlanNode,
+    list: &ListNode,
+    nullable: bool,
+) -> Result<Entry<Z>, AllocError>
+    requires limit { arena.now.limit < Z.BITS }
+    requires room { 1 ≤ arena.now.limit }
+    requires item { item < length arena.now.entries.items }
+    ensures { IfOk result (λ e. (P : Pools) (sites : List Site) (i : ℕ) (d : Option (List ℕ)) → AreRight Z.holds arena.now.limit P arena.now.values sites arena.now.entries.items
+        → (site_at sites i).node ≡ node_with nullable d (list_of list.now) → item_site (site_at sites i) ≡ Some (site_at sites item) → item < i → IsNode (site_at sites i).node → HasSoundItems (site_at sites i).node
+        → IsRight Z.holds arena.now.limit P arena.now.values sites i e) }
 {
-    match &arena.entry(node).content {
-        Content::Leaf(leaf) => leaf.places.len() as u64,
-        Content::Row(_) | Content::List(_) => 0,
+    parts_one_level();
+    let limit = arena.limit;
+    let bounds = item_bounds(arena, item, list);
+    let more = more_sets(alloc, arena.entry(item).sizes, bounds, limit)?;
+    let sizes = whole_sizes(more[0], nullable, limit);
+    Ok(Entry {
+        sizes,
+        nullable,
+        content: Content::List(ListEntry {
+            item,
+            distinct: distinct(list.list_type),
+            more,
+        }),
+    })
+}
+
+/// Which items may not stand in a list of this type.
+fn distinct(list_type: ListType) -> Distinct
+    ensures { result ≡ distinct_by list_type }
+{
+    match list_type {
+        ListType::Atomic => Distinct::Free,
+        ListType::Set => Distinct::Whole,
+        ListType::Map => Distinct::Keys,
     }
 }
 
 /// How many tuples of keys there are, at most 2^64 - 1.
 fn tuples<Z: SizeSet>(arena: &Arena<Z>, slots: &[SlotEntry]) -> u64
-    requires { All (λ (s : SlotDeclared). s.node < length arena.now.entries.items) slots.now }
-    ensures { (P : Pools) (sites : List Site) (i : ℕ) (ss : List Slot) → AreRight Z.holds arena.now.limit P arena.now.values sites arena.now.entries.items
+    ensures { (P : Pools) (sites : List Site) (i : ℕ) (ss : List Slot) → AreRight Z.holds arena.now.limit P arena.now.values sites arena.now.entries.items → i ≤ length arena.now.entries.items
         → AreSlots arena.now.values.names.items sites i slots.now ss → AreKeysLeaves ss → HasTuples P ss result }
 {
     let mut tuples: u64 = 1;
     for slot in slots {
         if slot.key {
-            tuples = tuples.saturating_mul(count(arena, slot.node));
+            tuples = tuples.saturating_mul(arena.count(slot.node));
         }
     }
     tuples
@@ -54,5 +87,35 @@ fn cut_bounds(bounds: Bounds, most: u64) -> Bounds
     Bounds {
         least: bounds.least,
         most: Some(most),
+    }
+}
+
+/// The bounds that the items keep where no two may be alike: a set has at most as many as its items have candidates, a map list
+/// as many as there are tuples of keys.
+fn item_bounds<Z: SizeSet>(arena: &Arena<Z>, item: PlanNode, list: &ListNode) -> Bounds
+    requires item { item < length arena.now.entries.items }
+    requires limit { arena.now.limit < 18446744073709551615 }
+    ensures { (P : Pools) (sites : List Site) (s : Site) → AreRight Z.holds arena.now.limit P arena.now.values sites arena.now.entries.items
+        → (n : Bool) (d : Option (List ℕ)) → s.node ≡ node_with n d (list_of list.now) → item_site s ≡ Some (site_at sites item) → IsNode s.node → HasSoundItems s.node
+        → IsCutTo P arena.now.limit s.node (site_at sites item).node result }
+{
+    parts_one_level();
+    stored_by_parts();
+    match list.list_type {
+        ListType::Atomic => list.bounds,
+        ListType::Set => cut_bounds(list.bounds, arena.count(item)),
+        ListType::Map => cut_bounds(list.bounds, item_tuples(arena, item)),
+    }
+}
+
+/// How many tuples of keys the row has; none where the node is no row.
+fn item_tuples<Z: SizeSet>(arena: &Arena<Z>, node: PlanNode) -> u64
+    requires { node < length arena.now.entries.items }
+    ensures { (P : Pools) (sites : List Site) → AreRight Z.holds arena.now.limit P arena.now.values sites arena.now.entries.items
+        → sort_of (site_at sites node).node ≡ Row → AreKeysLeaves (slots P (site_at sites node)) → HasTuples P (slots P (site_at sites node)) result }
+{
+    match &arena.entry(node).content {
+        Content::Row(row) => tuples(arena, &row.slots),
+        Content::Leaf(_) | Content::List(_) => 0,
     }
 }

@@ -13,6 +13,8 @@ use std::alloc::{AllocError, Global};
 /// The values of the pools, in order, each once; null is among the trees.
 #[derive(Drop)]
 pub(crate) struct Values {
+    /// Null, for which a place past the last tree stands.
+    pub null: Tree,
     /// Null, both truth values, the integers and the texts.
     pub scalars: Vec<Tree>,
     /// Null, and the values of open nodes.
@@ -29,6 +31,7 @@ impl Values {
         ensures { IfOk result (λ v. AreValues pools.now v) }
     {
         Ok(Values {
+            null: Tree::Null,
             scalars: scalars(alloc, pools)?,
             any: with_null(alloc, pools.any())?,
             names: names(alloc, pools.names())?,

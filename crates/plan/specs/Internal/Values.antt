@@ -1,12 +1,13 @@
 -- The values of the pools, and the candidates of a leaf, as a plan keeps them.
-use Rattle.std.specs.Prelude.{◌≡◌, ◌↔◌, List, ◌∷◌, map, get_or, Contains, AllPairs}
+use Rattle.std.specs.Prelude.{◌≡◌, ◌↔◌, ℕ, List, ◌∷◌, map, get_or, Contains, AllPairs}
 use Rattle.std.specs.declared.cmp.Ordering.{Ordering}
 use Rattle.std.specs.declared.cmp.Ordering.TheVariants.{Less}
-use Rattle.jtree.specs.Data.{Data, null}
+use Rattle.jtree.specs.Data.{Data, null, IsTree}
 use Rattle.jtree.specs.Order.{tree_cmp}
 use Rattle.jtree.specs.View.{data_of}
 use Rattle.jtree.specs.declared.value.Tree.{Tree}
-use Rattle.jtree.specs.declared.value.Tree.TheVariants.{Null}
+use Rattle.schema.specs.Nodes.Node.{Node}
+use Rattle.stored.specs.Objects.Becomes.{IsStored}
 use Rattle.plan.specs.Pools.Pools.{Pools}
 use Rattle.plan.specs.Samples.Over.{scalars_of}
 use Rattle.plan.specs.Samples.Sites.{in_order}
@@ -37,6 +38,19 @@ base_of v Scalars = v.scalars.items
 base_of v Any = v.any.items
 base_of v (Own ts) = ts.items
 
+-- the trees at these places, and another past the last
+abbrev pub at_places : Tree → List Tree → List ℕ → List Data
+at_places past ts places = map (λ i. data_of (get_or ts i past)) places
+
+-- those that are stored at the node, in the same order
+pub record AreStored (N : Node) (ds vs : List Data) : Type 0 where
+  pub each : (v : Data) → Contains vs v ↔ (Contains ds v × (IsTree v × IsStored N v))
+  pub ascending : AllPairs (λ u v. tree_cmp u v ≡ Less) ds → AllPairs (λ u v. tree_cmp u v ≡ Less) vs
+
+-- the tree at a place of a base
+abbrev pub tree_of : Values → Base → ℕ → Tree
+tree_of v b i = get_or (base_of v b) i v.null
+
 -- the candidates of a leaf, by their places
 abbrev pub candidates_of : Values → Leaf → List Data
-candidates_of v l = map (λ i. data_of (get_or (base_of v l.base) i Null)) l.places.items
+candidates_of v l = at_places v.null (base_of v l.base) l.places.items

@@ -2,7 +2,7 @@ use Rattle.std.proofs.Common.{◌≡◌, take, sym, refl, [], ◌∙◌, length,
 use Rattle.std.proofs.lemmas.List.{take_more}
 use Rattle.schema.specs.Nodes.Node.{object, map as map_sort}
 use Rattle.plan.specs.Internal.Arena.{AreRight}
-use Rattle.plan.proofs.BuildingLemmas.{field_built, row_built, last_site}
+use Rattle.plan.proofs.BuildingLemmas.{field_built, row_built, list_built, last_site}
 use Rattle.plan.proofs.building.+build.Goals as goal
 
 pub build_fields-loop-field-preserved : goal.build_fields-loop-field-preserved
@@ -49,3 +49,12 @@ build_map-returns-clause-built g t c = λ d.
     (λ P sites values sound stand right. b.right P sites values sound stand right)
     (λ P sites values stand. rw (← values.names) (c.in_ok-slots.ensures.slots v.names.items sites (length mid) m.value (omega (arith, count)) (omega (arith, b.last)) (last_site sites (length c.args.arena.now.entries.items) p m.value [] (omega (arith, b.last, b.count)) stand)))
     (rw (c.in_ok-value.ensures.limit, c.in_ok-value.ensures.values) at c.in_ok-entry.ensures)
+
+pub build_list-returns-clause-built : goal.build_list-returns-clause-built
+build_list-returns-clause-built g t c = λ d.
+    let holds = g.Z.SizeSet.holds in
+    let l = c.args.list.now in
+    let b = rw (c.node_below.ensures, c.item_keys.ensures) at c.in_ok-item.ensures.built in
+    list_built holds c.args.arena.now.limit c.args.arena.now.values c.args.arena.now.entries.items c.build.new.arena.entries.items c.add.new.self.entries.items c.args.nullable d l.item l.list_type l.keys.items l.bounds c.args.keys.now
+    c.in_ok-item.item c.in_ok-entry.entry c.in_ok-node.node c.reveal_invariant.ensures b c.in_ok-node.ensures.added c.in_ok-node.ensures.number
+    (rw (c.in_ok-item.ensures.limit, c.in_ok-item.ensures.values) at c.in_ok-entry.ensures)
