@@ -1,27 +1,25 @@
 -- What the parts of a site are, and that what was begun there can be completed.
-use Rattle.std.specs.Prelude.{◌≡◌, ℕ, ◌+◌, ◌≤◌, ◌⊎◌, ◌↔◌, List, [], ◌∷◌, ◌++◌, length, Bool, true, false, Option, Some, None, take, drop, filter, Contains}
-use Rattle.std.proofs.Common.{refl, ap, sym, ◌∙◌, subst, inl, inr, arith}
+use Rattle.std.specs.Prelude.{◌≡◌, ℕ, ◌+◌, ◌≤◌, ◌⊎◌, ◌↔◌, List, [], ◌∷◌, ◌++◌, length, true, false, Option, Some, None, take, drop, filter}
+use Rattle.std.proofs.Common.{refl, subst, inl, inr, arith}
 use Rattle.std.proofs.lemmas.List.{take-append-drop}
 use Rattle.std.proofs.lemmas.Option.{same_Some}
 use Rattle.jtree.specs.Data.{Data, Items, no_items, item}
-use Rattle.jtree.specs.Data as tree
 use Rattle.jtree.specs.Nodes.{node_count, items_count}
 use Rattle.jtree.specs.Internal.Rising.{Among}
-use Rattle.schema.specs.Nodes.Node.{Node, node, scalar, object, list, IsNode}
-use Rattle.schema.specs.Nodes.Items.{IsPlainScalar, HasKeys, AreToldApart, HasSoundItems}
+use Rattle.schema.specs.Nodes.Node.{Node, node, list, IsNode}
+use Rattle.schema.specs.Nodes.Items.{HasKeys, AreToldApart, HasSoundItems}
 use Rattle.schema.specs.declared.node.ListType.{ListType}
 use Rattle.schema.specs.declared.node.ListType.TheVariants.{Atomic, Set, Map}
 use Rattle.stored.specs.Objects.Fault as fault
 use Rattle.stored.specs.Objects.Fault.{are_alike}
 use Rattle.stored.specs.Objects.StoredByParts.{IsWithin, are_apart}
 use Rattle.plan.specs.Pools.Pools.{Pools}
-use Rattle.plan.specs.Samples.Part.{IsPart}
 use Rattle.plan.specs.Samples.Sites.{Site, item_site, item_keys, Slot, slots}
 use Rattle.plan.specs.Samples.Candidates.{sort_of, AreCandidates}
 use Rattle.plan.specs.Samples.Sizes.{AreFillings, filled_count, HasRest, HasMore, items_from, bounds_of}
-use Rattle.plan.specs.Samples.RuleOfParts.{members_in, AreParts, alike_at, IsNullPart, IsRowPart, IsListPart, RuleOfParts}
+use Rattle.plan.specs.Samples.RuleOfParts.{AreParts, alike_at, IsListPart, RuleOfParts}
 use Rattle.plan.specs.Samples.NoDeadEnd.{RowCompletes, items_then, ListCompletes, is_key, AreCounts, NoDeadEnd}
-use Rattle.plan.specs.Internal.PartLaws.{IsObjectPart, IsItemsPart, PartLaws}
+use Rattle.plan.specs.Internal.PartLaws.{IsItemsPart, PartLaws}
 use Rattle.plan.specs.Internal.Keyed.{Keyed}
 use Rattle.plan.specs.declared.sort.Sort.TheVariants.{Leaf, Row}
 use Rattle.plan.proofs.ApartLemmas.{among_filter}

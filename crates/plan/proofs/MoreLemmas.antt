@@ -1,6 +1,6 @@
 -- What can follow in a list, by its items.
-use Rattle.std.specs.Prelude.{◌≡◌, ℕ, ◌≤◌, ◌↔◌, Bool, true, Option, Some}
-use Rattle.std.proofs.Common.{refl, ap, subst, inl, inr, sym}
+use Rattle.std.specs.Prelude.{◌≡◌, ℕ, ◌↔◌, Some}
+use Rattle.std.proofs.Common.{refl, inl, inr}
 use Rattle.jtree.specs.Data as tree
 use Rattle.plan.specs.Pools.Pools.{Pools}
 use Rattle.plan.specs.Samples.Sites.{Site, item_site}
