@@ -38,7 +38,7 @@ use Rattle.plan.proofs.SiteLemmas.{whole_up_to, list_sizes}
 use Rattle.plan.proofs.MoreLemmas.{more_parts}
 use Rattle.plan.proofs.KeyedLemmas.{more_free, more_apart}
 use Rattle.plan.proofs.SetLemmas.{set_keyed}
-use Rattle.plan.proofs.MapListLemmas.{map_keyed, key_of_slot}
+use Rattle.plan.proofs.MapListLemmas.{map_keyed, key_slot}
 
 pub plain_leaf : (N : Node) → IsPlainScalar N → sort_of N ≡ Leaf
 plain_leaf (node n t (scalar kind cs)) plain = refl
@@ -50,7 +50,7 @@ plain_leaf (node n t open_) plain = absurd plain
 -- the keys of the items of a map list are leaves of a row
 pub keys_leaves : (P : Pools) (M : Node) (keys : List (List ℕ)) → IsNode M → HasKeys M keys → AreKeysLeaves (slots P (record { node = M; keys = keys }))
 keys_leaves P (node n t (object fs preserves type b)) keys o h = λ s a key.
-    plain_leaf s.node (key_of_slot fs keys o h.2 s a key).2
+    plain_leaf s.node (key_slot fs keys o h.2 s a key).2
 keys_leaves P M keys o h = absurd h
 
 pub keys_row : (M : Node) (keys : List (List ℕ)) → HasKeys M keys → sort_of M ≡ Row

@@ -57,8 +57,8 @@ key_field fs (l ∷ ls) h k (inl e) = subst (IsKey fs) e h.0
 key_field fs (l ∷ ls) h k (inr a) = key_field fs ls h.2 k a
 
 -- under a key something must stand, and it is a plain scalar
-pub key_of_slot : (fs : Fields) (keys : List (List ℕ)) → AreOrdered fs → AreKeys fs keys → (s : Slot) → Among (field_slots keys fs) s → s.key ≡ true → Among keys s.name × (s.must ≡ true) × IsPlainScalar s.node
-key_of_slot fs keys o h s a key =
+pub key_slot : (fs : Fields) (keys : List (List ℕ)) → AreOrdered fs → AreKeys fs keys → (s : Slot) → Among (field_slots keys fs) s → s.key ≡ true → Among keys s.name × (s.must ≡ true) × IsPlainScalar s.node
+key_slot fs keys o h s a key =
     let named = among_name s.name keys (sym (slot_key keys fs s a) ∙ key) in
     let f = field_of_slot keys fs o s a in
     let g = key_field fs keys h s.name named in
@@ -68,8 +68,8 @@ key_of_slot fs keys o h s a key =
 have_keys : StoredLaw → (P : Pools) (fs : Fields) (keys : List (List ℕ)) → AreOrdered fs → AreKeys fs keys → HaveKeys P keys (field_slots keys fs)
 have_keys stored P fs keys o h = record {
   order = fields_in_order keys fs o;
-  are = λ s a key. let q = key_of_slot fs keys o h s a key in (q.1, scalar_one stored P s.node q.2);
-  named = λ s a key. (key_of_slot fs keys o h s a key).0;
+  are = λ s a key. let q = key_slot fs keys o h s a key in (q.1, scalar_one stored P s.node q.2);
+  named = λ s a key. (key_slot fs keys o h s a key).0;
   each = λ k a.
       let f = key_field fs keys h k a in
       let s = slot_of_field keys fs k f.0 f.1 in

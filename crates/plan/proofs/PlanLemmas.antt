@@ -1,5 +1,5 @@
 -- What is known of an entry of a plan.
-use Rattle.std.specs.Prelude.{◌≡◌, ℕ, ◌+◌, ◌-◌, ◌≤◌, ◌<◌, ◌↔◌, ◌⊎◌, List, length, get_or, Some}
+use Rattle.std.specs.Prelude.{◌≡◌, ℕ, ◌+◌, ◌-◌, ◌≤◌, ◌<◌, ◌↔◌, ◌⊎◌, List, length, get_or, Some, None, false, []}
 use Rattle.std.specs.declared.vec.Vec.{Vec}
 use Rattle.std.specs.declared.alloc.Global.{Global}
 use Rattle.std.proofs.Common.{refl, ap, sym, ◌∙◌, subst, inl, inr, arith}
@@ -8,7 +8,7 @@ use Rattle.schema.specs.Nodes.Node as nodes
 use Rattle.plan.specs.Pools.Pools.{Pools}
 use Rattle.plan.specs.Samples.Question.{Question}
 use Rattle.plan.specs.Samples.Sites.{Site, plain, sites_of, item_site, item_site_at, slots}
-use Rattle.plan.specs.Samples.Candidates.{sort_of, distinct_of}
+use Rattle.plan.specs.Samples.Candidates.{sort_of, distinct_of, HasCount}
 use Rattle.plan.specs.Samples.Sizes.{HasRest, HasMore, IsUpTo}
 use Rattle.plan.specs.declared.sort.Distinct.TheVariants.{Free}
 use Rattle.plan.specs.declared.sort.Sort.TheVariants.{Leaf as LeafSort, Row as RowSort, List as ListSort}
@@ -16,10 +16,13 @@ use Rattle.plan.specs.declared.leaf.Leaf.{Leaf}
 use Rattle.plan.specs.declared.arena.ListEntry.{ListEntry}
 use Rattle.plan.specs.declared.arena.Content.TheVariants as content
 use Rattle.plan.specs.declared.arena.RowEntry.{RowEntry}
-use Rattle.plan.specs.Internal.Arena.{site_at, IsEntry, IsRow, IsRight}
+use Rattle.plan.specs.Internal.Arena.{site_at, Stand, IsEntry, IsRow, IsRight, AreRight}
+use Rattle.plan.specs.Internal.Values.{AreValues}
+use Rattle.plan.specs.Internal.Building.{IsSound, IsBuilt}
 use Rattle.plan.specs.Internal.Plan.{IsPlan}
 use Rattle.plan.specs.declared.values.Values.{Values}
 use Rattle.plan.specs.declared.arena.Entry.{Entry}
+use Rattle.std.proofs.lemmas.List.{get_or_default}
 use Rattle.plan.proofs.EntryLemmas.{slot_count}
 use Rattle.plan.proofs.ListLemmas.{count_nodes}
 
@@ -91,3 +94,29 @@ pub no_row : {Z : Type 0} (holds : Z → ℕ → Type 0) (limit : ℕ) (P : Pool
     → sort_of (site_at sites i).node ≡ RowSort → ⊥
 no_row holds limit P v sites i e right (inl l) row = let s = leaf_sort holds limit P v sites i e l.0 right l.1 in let no = sym s ∙ row in cc
 no_row holds limit P v sites i e right (inr l) row = let s = list_sort holds limit P v sites i e l.0 right l.1 in let no = sym s ∙ row in cc
+
+-- the sites stand at their own numbers
+pub stands_itself : (xs : List Site) → Stand xs 0 xs
+stands_itself xs j s l =
+    let e : 0 + j ≡ j = omega arith in
+    rw e (get_or_default xs j (plain (node false None open_)) s l)
+
+-- a plan, from what was built for the root
+pub plan_made : {Z : Type 0} (holds : Z → ℕ → Type 0) (BITS : ℕ) (root : Node) (P : Pools) (limit : ℕ) (v : Values) (es : List (Entry Z)) (n : ℕ) → limit < BITS → 1 ≤ limit → AreValues P v → IsSound root → IsBuilt holds limit v [] es root [] n → IsPlan holds BITS root P limit v es n
+plan_made holds BITS root P limit v es n within room values sound built = record {
+  within = within;
+  room = room;
+  values = values;
+  count = omega (arith, built.count);
+  last = built.last;
+  right = built.right P (sites_of root) values sound (stands_itself (sites_of root)) (λ i e l. absurd (omega arith));
+}
+
+-- the number of candidates of a leaf, in the words of the plan's view
+pub count_right : {Z : Type 0} (holds : Z → ℕ → Type 0) (BITS : ℕ) (root : Node) (P : Pools) (limit : ℕ) (v : Values) (es : List (Entry Z)) (first : ℕ) (q : Question) (i n : ℕ)
+    → IsPlan holds BITS root P limit v es first → record { root = root; pools = P; limit = limit } ≡ q
+    → ((Q : Pools) (sites : List Site) → AreRight holds limit Q v sites es → i < length es → sort_of (site_at sites i).node ≡ LeafSort → HasCount Q (site_at sites i).node n)
+    → i < length (sites_of q.root) → sort_of (site_at (sites_of q.root) i).node ≡ LeafSort → HasCount q.pools (site_at (sites_of q.root) i).node n
+count_right holds BITS root P limit v es first q i n plan view counts within leaf =
+    let r : i < length (sites_of root) → sort_of (site_at (sites_of root) i).node ≡ LeafSort → HasCount P (site_at (sites_of root) i).node n = λ l s. counts P (sites_of root) plan.right (omega (arith, plan.count)) s in
+    subst (λ (x : Question). i < length (sites_of x.root) → sort_of (site_at (sites_of x.root) i).node ≡ LeafSort → HasCount x.pools (site_at (sites_of x.root) i).node n) view r within leaf

@@ -8,3 +8,4 @@ pub mod Steps
 pub mod Sizes
 pub mod RuleOfParts
 pub mod NoDeadEnd
+pub mod Handed

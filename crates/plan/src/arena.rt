@@ -91,6 +91,21 @@ impl<Z: SizeSet> Entry<Z> {
     }
 }
 
+impl<Z: SizeSet> Entry<Z> {
+    ghost use Rattle.plan.specs.Samples.Candidates.{HasWidth};
+
+    /// How wide the node is: by its candidates or its slots.
+    pub(crate) fn width(&self) -> u64
+        ensures { (P : Pools) (limit : ℕ) (v : Values) (sites : List Site) (i : ℕ) → IsRight Z.holds limit P v sites i self.now → HasWidth P (site_at sites i) result }
+    {
+        match &self.content {
+            Content::Leaf(leaf) => leaf.places.len() as u64,
+            Content::Row(row) => row.slots.len() as u64,
+            Content::List(_) => 0,
+        }
+    }
+}
+
 #[derive(Drop)]
 pub(crate) struct Arena<Z> {
     pub values: Values,

@@ -23,7 +23,7 @@ mod word;
 pub use arena::PlanNode;
 pub use fault::PFault;
 pub use meter::Meter;
-pub use plan::Plan;
+pub use plan::{Plan, Slot};
 pub use pools::{MOST_ENTRIES, MOST_NAMES, Pools};
 pub use size_set::SizeSet;
 pub use sort::{Distinct, Sort};

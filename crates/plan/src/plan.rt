@@ -1,9 +1,26 @@
 ghost use Rattle.std.specs.Prelude.{ℕ};
 
 use crate::arena::{Arena, Content, PlanNode};
-use crate::{Distinct, Meter, Pools, SizeSet, Sort};
+use crate::building::build;
+use crate::laws::parts_one_level;
+use crate::leaf::candidate;
+use crate::values::Values;
+use crate::{Distinct, Meter, PFault, Pools, SizeSet, Sort};
+use jtree::Tree;
+use schema::items_told_apart;
+use std::alloc::Global;
+use std::cmp::max;
 use std::marker::Model;
-use stored::Schema;
+use stored::{Schema, stored_by_parts};
+
+/// A slot of a row: a name, the node of what stands under it, whether something must stand there (where it is required or has a
+/// default), and whether it is a key of the map list whose item the row is.
+pub struct Slot<'a> {
+    pub name: &'a str,
+    pub node: PlanNode,
+    pub must: bool,
+    pub key: bool,
+}
 
 /// The nodes of a schema over pools and within a node limit, with the sizes of what may stand at each of them.
 #[derive(Drop)]
@@ -29,13 +46,53 @@ impl<Z: SizeSet> Model for Plan<Z> {
 }
 
 impl<Z: SizeSet> Plan<Z> {
-    ghost use Rattle.std.specs.Prelude.{◌≡◌, ◌≤◌, ◌<◌, length};
+    ghost use Rattle.std.specs.Prelude.{◌≡◌, ◌≤◌, ◌<◌, ◌⊎◌, ℕ, ◌+◌, length, Contains, Some, IfOk, IfErr, OnOk, IfSome, IfNone, option_map};
+    ghost use Rattle.std.specs.Option.{option_copied};
+    ghost use Rattle.jtree.specs.View.{data_of};
+    ghost use Rattle.plan.specs.Samples.Steps.{counted};
+    ghost use Rattle.plan.specs.Samples.RuleOfParts.{RuleOfParts};
+    ghost use Rattle.plan.specs.Samples.NoDeadEnd.{NoDeadEnd};
+    ghost use Rattle.plan.specs.Samples.Handed.{IsSlotAt, IsCandidateAt};
+    ghost use Rattle.plan.specs.declared.fault.PFault.TheVariants.{BadLimit, NoMemory};
     ghost use Rattle.stored.specs.Objects.Becomes.{is_nullable};
-    ghost use Rattle.plan.specs.Samples.Sites.{sites_of, plain, slots as slots_of};
-    ghost use Rattle.plan.specs.Samples.Candidates.{sort_of, distinct_of, HasCount};
+    ghost use Rattle.plan.specs.Samples.Sites.{Site, sites_of, plain, item_site, slots as slots_of};
+    ghost use Rattle.plan.specs.Samples.Candidates.{sort_of, distinct_of, HasCount, IsWidth};
     ghost use Rattle.plan.specs.Samples.Sizes.{HasSize, HasRest, HasMore, IsUpTo};
     ghost use Rattle.plan.specs.Internal.Arena.{site_at};
     ghost use Rattle.plan.specs.declared.sort.Sort.TheVariants as sort;
+
+    /// The plan of these samples: of this schema, over these pools, of at most `limit` nodes. The tables are filled from the
+    /// leaves upward; no object is made.
+    ///
+    /// `BadLimit` where the limit is 0, or is not below `Z::BITS` (with `u64`: where it is not 1 to 63), which is decided first.
+    /// `NoMemory` where an allocation fails.
+    pub fn new(
+        alloc: Global,
+        schema: Schema,
+        pools: Pools,
+        limit: u32,
+    ) -> Result<Plan<Z>, PFault>
+        ensures ok { IfOk result (λ plan. plan ≡ record { root = schema; pools = pools; limit = limit }) }
+        ensures limit { OnOk result ((1 ≤ limit) × (limit < Z.BITS)) }
+        ensures err { IfErr result (λ e. ((e ≡ BadLimit) × ((limit ≡ 0) ⊎ (Z.BITS ≤ limit))) ⊎ ((e ≡ NoMemory) × ((1 ≤ limit) × (limit < Z.BITS)))) }
+    {
+        if limit == 0 || limit >= Z::BITS {
+            return Err(PFault::BadLimit);
+        }
+        items_told_apart();
+        let mut arena = Arena {
+            values: Values::new(alloc, &pools)?,
+            limit,
+            entries: Vec::new(alloc),
+        };
+        let root = build(&mut arena, alloc, schema.root(), &[])?;
+        Ok(Plan {
+            schema,
+            pools,
+            arena,
+            root,
+        })
+    }
 
     /// The node of the body of a resource.
     pub fn root(&self) -> PlanNode
@@ -122,6 +179,98 @@ impl<Z: SizeSet> Plan<Z> {
             Content::List(list) => list.distinct,
             Content::Leaf(_) | Content::Row(_) => Distinct::Free,
         }
+    }
+
+    /// The number of candidates of a leaf.
+    pub fn count(&self, node: PlanNode) -> u64
+        requires node { node < length (sites_of self.now.root) }
+        requires leaf { sort_of (site_at (sites_of self.now.root) node).node ≡ sort.Leaf }
+        ensures { HasCount self.now.pools (site_at (sites_of self.now.root) node).node result }
+    {
+        self.arena.count(node)
+    }
+
+    /// The width of the widest node: by the slots of a row, or by the candidates of a leaf; 0 where there are none.
+    pub fn width(&self) -> u64
+        ensures { IsWidth self.now.pools self.now.root result }
+    {
+        let mut width = 0;
+        for entry in &self.arena.entries {
+            width = max(width, entry.width());
+        }
+        width
+    }
+
+    /// Slot `place` of a row, counted from 0 in the order of names; none past the last. It is one step.
+    pub fn slot(&self, node: PlanNode, place: u32, meter: &mut Meter) -> Option<Slot<'_>>
+        requires node { node < length (sites_of self.now.root) }
+        requires row { sort_of (site_at (sites_of self.now.root) node).node ≡ sort.Row }
+        ensures some { IfSome result (λ t. IsSlotAt (sites_of self.now.root) (slots_of self.now.pools (site_at (sites_of self.now.root) node)) place t) }
+        ensures below { IfSome result (λ t. t.node < node) }
+        ensures none { IfNone result (length (slots_of self.now.pools (site_at (sites_of self.now.root) node)) ≤ place) }
+        ensures step { meter.new ≡ counted meter.old 1 }
+    {
+        meter.step();
+        match &self.arena.entry(node).content {
+            Content::Row(row) => {
+                let slot = row.slots.get(place as usize)?;
+                Some(Slot {
+                    name: self.arena.values.name(&slot.name),
+                    node: slot.node,
+                    must: slot.must,
+                    key: slot.key,
+                })
+            }
+            Content::Leaf(_) | Content::List(_) => None,
+        }
+    }
+
+    /// The node of the item at `place` of a list, the same for each place; none where no list of the node within the limit has
+    /// an item there. It is one step.
+    pub fn item(&self, node: PlanNode, place: u32, meter: &mut Meter) -> Option<PlanNode>
+        requires node { node < length (sites_of self.now.root) }
+        requires list { sort_of (site_at (sites_of self.now.root) node).node ≡ sort.List }
+        ensures some { IfSome result (λ i. item_site (site_at (sites_of self.now.root) node) ≡ Some (site_at (sites_of self.now.root) i)) }
+        ensures below { IfSome result (λ i. i < node) }
+        ensures goes_on { IfSome result (λ _. (m : ℕ) × HasMore self.now.pools self.now.limit (site_at (sites_of self.now.root) node).node (place + 1) m) }
+        ensures none { IfNone result ((m : ℕ) → HasMore self.now.pools self.now.limit (site_at (sites_of self.now.root) node).node (place + 1) m → ⊥) }
+        ensures step { meter.new ≡ counted meter.old 1 }
+    {
+        meter.step();
+        match &self.arena.entry(node).content {
+            Content::List(list) => {
+                let more = list.more.get(place as usize + 1)?;
+                more.next(0)?;
+                Some(list.item)
+            }
+            Content::Leaf(_) | Content::Row(_) => None,
+        }
+    }
+
+    /// Candidate `place` of a leaf, counted from 0 in the tree order; none past the last. It is one step.
+    pub fn candidate(&self, node: PlanNode, place: u32, meter: &mut Meter) -> Option<&Tree>
+        requires node { node < length (sites_of self.now.root) }
+        requires leaf { sort_of (site_at (sites_of self.now.root) node).node ≡ sort.Leaf }
+        ensures candidate { IsCandidateAt self.now.pools (site_at (sites_of self.now.root) node).node place (option_map data_of (option_copied result)) }
+        ensures step { meter.new ≡ counted meter.old 1 }
+    {
+        meter.step();
+        match &self.arena.entry(node).content {
+            Content::Leaf(leaf) => candidate(&self.arena.values, leaf, place as usize),
+            Content::Row(_) | Content::List(_) => None,
+        }
+    }
+
+    /// Brings to a proof what the parts of each node are, and that nothing that was begun within the tables is a dead end. It does
+    /// nothing.
+    pub fn no_dead_end(&self)
+        ensures parts { (s : Site) → Contains (sites_of self.now.root) s → RuleOfParts self.now.pools self.now.limit s }
+        ensures completed { (s : Site) → Contains (sites_of self.now.root) s → NoDeadEnd self.now.pools self.now.limit s }
+    {
+        stored_by_parts();
+        parts_one_level();
+        items_told_apart();
+        let _ = self.schema.root();
     }
 
     /// A meter at 0. It takes the plan for writing, so that who is lent a plan for reading makes none.

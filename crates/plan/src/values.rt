@@ -7,6 +7,7 @@ ghost use Rattle.plan.specs.Samples.Sites.{in_order};
 ghost use Rattle.plan.specs.Internal.Values.{trees_of, IsInOrder, IsBase};
 
 use crate::Pools;
+use crate::arena::SlotName;
 use jtree::{Text, Tree};
 use std::alloc::{AllocError, Global};
 
@@ -25,6 +26,20 @@ pub(crate) struct Values {
 
 impl Values {
     ghost use Rattle.plan.specs.Internal.Values.{AreValues};
+    ghost use Rattle.plan.specs.Internal.Arena.{name_of};
+
+    /// The name of a slot.
+    pub(crate) fn name<'a>(&'a self, name: &'a SlotName) -> &'a str
+        ensures { result.now ≡ name_of self.now.names.items name.now }
+    {
+        match name {
+            SlotName::Field(text) => text.as_str(),
+            SlotName::Pool(place) => match self.names.get(*place) {
+                Some(text) => text.as_str(),
+                None => "",
+            },
+        }
+    }
 
     /// The values of these pools.
     pub(crate) fn new(alloc: Global, pools: &Pools) -> Result<Values, AllocError>
