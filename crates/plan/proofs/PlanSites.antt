@@ -7,6 +7,7 @@ use Rattle.jtree.specs.Internal.Rising.{Among, contains}
 use Rattle.schema.specs.Nodes.Node.{Node}
 use Rattle.stored.specs.Schemas.Accepted.{IsSchema}
 use Rattle.plan.specs.Pools.Pools.{Pools}
+use Rattle.plan.specs.Samples.Question.{Question}
 use Rattle.plan.specs.Samples.Sites.{Site, plain, sites_of, Slot, slots}
 use Rattle.plan.specs.Samples.Candidates.{sort_of}
 use Rattle.plan.specs.Samples.RuleOfParts.{RuleOfParts}
@@ -65,13 +66,14 @@ module _ {Z : Type 0} (holds : Z → ℕ → Type 0) (limit : ℕ) (P : Pools) (
           below = λ row t a. let j = k.slot row t a in subst (λ x. HasCandidates P (Site.node x)) j.1.1 (known_at j.0 (let below = j.1.0 in omega arith)).leaf;
         })
 
--- at each site of a plan
-pub plan_rules : StoredLaw → PartLaws → ItemsLaw → {Z : Type 0} (holds : Z → ℕ → Type 0) (BITS : ℕ) (root : Node) (P : Pools) (limit : ℕ) (v : Values) (es : List (Entry Z)) (first : ℕ) → IsSchema root → IsPlan holds BITS root P limit v es first
-    → (s : Site) → Contains (sites_of root) s → RuleOfParts P limit s × NoDeadEnd P limit s
-plan_rules stored laws items holds BITS root P limit v es first schema plan s c =
+-- at each site of a plan, in the words of its view
+pub plan_rules : StoredLaw → PartLaws → ItemsLaw → {Z : Type 0} (holds : Z → ℕ → Type 0) (BITS : ℕ) (root : Node) (P : Pools) (limit : ℕ) (v : Values) (es : List (Entry Z)) (first : ℕ) (q : Question)
+    → IsSchema root → IsPlan holds BITS root P limit v es first → record { root = root; pools = P; limit = limit } ≡ q → (s : Site) → Contains (sites_of q.root) s → RuleOfParts q.pools q.limit s × NoDeadEnd q.pools q.limit s
+plan_rules stored laws items holds BITS root P limit v es first q schema plan view =
     let sites = sites_of root in
-    let sound = All-contains (IsSoundSite sites) sites s (sites_sound items root schema) c in
-    let have = candidates holds limit P v sites es plan.count plan.right in (
-      rule_of_parts laws P limit s sound.0 (have s c).own,
-      no_dead_end stored laws P limit s sound.0 (sound_here s.node sound.1) (λ M is. have M (contains sites M (sound.2 M is))),
-    )
+    let have = candidates holds limit P v sites es plan.count plan.right in
+    subst (λ (x : Question). (s : Site) → Contains (sites_of x.root) s → RuleOfParts x.pools x.limit s × NoDeadEnd x.pools x.limit s) view (λ s c.
+      let sound = All-contains (IsSoundSite sites) sites s (sites_sound items root schema) c in (
+        rule_of_parts laws P limit s sound.0 (have s c).own,
+        no_dead_end stored laws P limit s sound.0 (sound_here s.node sound.1) (λ M is. have M (contains sites M (sound.2 M is))),
+      ))
