@@ -1,5 +1,5 @@
 -- What is known of an entry of a plan.
-use Rattle.std.specs.Prelude.{◌≡◌, ℕ, ◌+◌, ◌-◌, ◌≤◌, ◌<◌, ◌↔◌, ◌⊎◌, List, length, get_or, Some, None, false, []}
+use Rattle.std.specs.Prelude.{◌≡◌, ℕ, ◌+◌, ◌-◌, ◌≤◌, ◌<◌, ◌↔◌, ◌⊎◌, zero, suc, ◌∷◌, List, IfNone, Option, slice_get, length, get_or, Some, None, false, []}
 use Rattle.std.specs.declared.vec.Vec.{Vec}
 use Rattle.std.specs.declared.alloc.Global.{Global}
 use Rattle.std.proofs.Common.{refl, ap, sym, ◌∙◌, subst, inl, inr, arith}
@@ -7,16 +7,23 @@ use Rattle.schema.specs.Nodes.Node.{Node, node, scalar, object, list, open_}
 use Rattle.schema.specs.Nodes.Node as nodes
 use Rattle.plan.specs.Pools.Pools.{Pools}
 use Rattle.plan.specs.Samples.Question.{Question}
-use Rattle.plan.specs.Samples.Sites.{Site, plain, sites_of, item_site, item_site_at, slots}
+use Rattle.plan.specs.Samples.Sites.{Site, plain, sites_of, item_site, item_site_at, Slot, slots}
+use Rattle.plan.specs.Samples.Handed.{IsSlotAt}
+use Rattle.plan.specs.declared.plan.Slot.{Slot as PlanSlot}
+use Rattle.plan.specs.declared.arena.SlotEntry.{SlotEntry}
+use Rattle.plan.specs.Sets.{IsEmptyFrom}
+use Rattle.jtree.specs.Data.{Items, no_items, item}
+use Rattle.jtree.specs.Nodes.{items_count}
+use Rattle.std.proofs.lemmas.Option.{same_Some}
 use Rattle.plan.specs.Samples.Candidates.{sort_of, distinct_of, HasCount}
-use Rattle.plan.specs.Samples.Sizes.{HasRest, HasMore, IsUpTo}
+use Rattle.plan.specs.Samples.Sizes.{HasRest, HasMore, items_from, IsUpTo}
 use Rattle.plan.specs.declared.sort.Distinct.TheVariants.{Free}
 use Rattle.plan.specs.declared.sort.Sort.TheVariants.{Leaf as LeafSort, Row as RowSort, List as ListSort}
 use Rattle.plan.specs.declared.leaf.Leaf.{Leaf}
 use Rattle.plan.specs.declared.arena.ListEntry.{ListEntry}
 use Rattle.plan.specs.declared.arena.Content.TheVariants as content
 use Rattle.plan.specs.declared.arena.RowEntry.{RowEntry}
-use Rattle.plan.specs.Internal.Arena.{site_at, Stand, IsEntry, IsRow, IsRight, AreRight}
+use Rattle.plan.specs.Internal.Arena.{site_at, Stand, IsEntry, IsSlot, AreSlots, name_of, IsRow, IsList, IsRight, AreRight}
 use Rattle.plan.specs.Internal.Values.{AreValues}
 use Rattle.plan.specs.Internal.Building.{IsSound, IsBuilt}
 use Rattle.plan.specs.Internal.Plan.{IsPlan}
@@ -120,3 +127,48 @@ pub count_right : {Z : Type 0} (holds : Z → ℕ → Type 0) (BITS : ℕ) (root
 count_right holds BITS root P limit v es first q i n plan view counts within leaf =
     let r : i < length (sites_of root) → sort_of (site_at (sites_of root) i).node ≡ LeafSort → HasCount P (site_at (sites_of root) i).node n = λ l s. counts P (sites_of root) plan.right (omega (arith, plan.count)) s in
     subst (λ (x : Question). i < length (sites_of x.root) → sort_of (site_at (sites_of x.root) i).node ≡ LeafSort → HasCount x.pools (site_at (sites_of x.root) i).node n) view r within leaf
+
+-- ---- slots and items
+
+pub slot_at : (names : List (List ℕ)) (sites : List Site) (i : ℕ) (es : List SlotEntry) (ss : List Slot) (place : ℕ) (e : SlotEntry) → AreSlots names sites i es ss → slice_get es place ≡ Some e → (s : Slot) × ((slice_get ss place ≡ Some s) × IsSlot names sites i e s)
+slot_at names sites i [] ss place e h is = absurd (cc)
+slot_at names sites i (x ∷ es) [] place e h is = absurd h
+slot_at names sites i (x ∷ es) (s ∷ ss) zero e h is = (s, (refl, subst (λ y. IsSlot names sites i y s) (same_Some x e is) h.0))
+slot_at names sites i (x ∷ es) (s ∷ ss) (suc place) e h is = slot_at names sites i es ss place e h.1 is
+
+pub row_slot : {Z : Type 0} (holds : Z → ℕ → Type 0) (limit : ℕ) (P : Pools) (names : List (List ℕ)) (sites : List Site) (i place : ℕ) (r : RowEntry Z) (e : SlotEntry) (t : PlanSlot) → IsRow holds limit P names sites i r → slice_get r.slots.items place ≡ Some e
+    → t.name.now ≡ name_of names e.name → t.node ≡ e.node → t.must ≡ e.must → t.key ≡ e.key → IsSlotAt sites (slots P (site_at sites i)) place t × (t.node < i)
+row_slot holds limit P names sites i place r e t row is name same must key =
+    let s = slot_at names sites i r.slots.items (slots P (site_at sites i)) place e row.are is in
+    let h = s.1.1 in
+    (record { slot = s.0; is = s.1.0; name = name ∙ h.name; node = rw same h.node; must = must ∙ h.must; key = key ∙ h.key }, rw same h.below)
+
+-- what a list can still take after the last place
+pub more_past : {Z : Type 0} (holds : Z → ℕ → Type 0) (limit : ℕ) (P : Pools) (sites : List Site) (i t m : ℕ) (l : ListEntry Z) → IsList holds limit P sites i l → length l.more.items ≤ t → HasMore P limit (site_at sites i).node t m → ⊥
+more_past holds limit P sites i t m l h past more = more_ends limit P (site_at sites i).node t m (omega (arith, h.whole)) more
+
+from_least : (t : ℕ) (ds : Items) → items_count (items_from t ds) ≤ items_count ds
+from_least zero ds = omega arith
+from_least (suc t) no_items = omega arith
+from_least (suc t) (item d ds) = omega (arith, from_least t ds)
+
+more_within : (limit : ℕ) (P : Pools) (N : Node) (t m : ℕ) → HasMore P limit N t m → m ≤ limit
+more_within limit P N t m h = let c = from_least t h.items in omega (arith, h.fits, h.nodes_are)
+
+pub more_none_at : {Z : Type 0} (holds : Z → ℕ → Type 0) (limit : ℕ) (P : Pools) (sites : List Site) (i t m : ℕ) (l : ListEntry Z) (z : Z) → IsList holds limit P sites i l → t < length l.more.items → z ≡ get_or l.more.items t z → IsEmptyFrom (holds z) 0
+    → HasMore P limit (site_at sites i).node t m → ⊥
+more_none_at holds limit P sites i t m l z h inside is none more =
+    let u = rw (← is) at (h.more t z inside) in
+    none m (omega arith) ((u m).1 (more_within limit P (site_at sites i).node t m more, more))
+
+pub more_some_at : {Z : Type 0} (holds : Z → ℕ → Type 0) (limit : ℕ) (P : Pools) (sites : List Site) (i t n : ℕ) (l : ListEntry Z) (z : Z) → IsList holds limit P sites i l → t < length l.more.items → z ≡ get_or l.more.items t z → holds z n → (m : ℕ) × HasMore P limit (site_at sites i).node t m
+more_some_at holds limit P sites i t n l z h inside is some = let u = rw (← is) at (h.more t z inside) in (n, ((u n).0 some).1)
+
+pub slice_get_at : {X : Type 0} (xs : List X) (i : ℕ) (x : X) → i < length xs → x ≡ get_or xs i x → slice_get xs i ≡ Some x
+slice_get_at [] i x l is = absurd (omega arith)
+slice_get_at (y ∷ xs) zero x l is = ap Some (sym is)
+slice_get_at (y ∷ xs) (suc i) x l is = slice_get_at xs i x (omega arith) is
+
+pub none_map : {X : Type 0} (o : Option X) (A B : Type 0) → IfNone o A → (A → B) → IfNone o B
+none_map None A B h f = f h
+none_map (Some x) A B h f = tt

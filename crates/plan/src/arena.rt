@@ -1,5 +1,5 @@
 //! The nodes of a plan, each behind the nodes below it, with the sizes of what may stand there.
-ghost use Rattle.std.specs.Prelude.{◌≡◌, ◌<◌, ◌≤◌, ◌++◌, ◌∷◌, ℕ, List, [], length, IfOk, IfSome, IfNone};
+ghost use Rattle.std.specs.Prelude.{◌≡◌, ◌<◌, ◌≤◌, ◌+◌, ◌++◌, ◌∷◌, ℕ, List, [], length, IfOk, IfSome, IfNone};
 ghost use Rattle.plan.specs.Pools.Pools.{Pools};
 ghost use Rattle.plan.specs.Samples.Sites.{Site};
 ghost use Rattle.plan.specs.Samples.Candidates.{sort_of, HasCount};
@@ -62,6 +62,27 @@ pub(crate) struct ListEntry<Z> {
     pub more: Vec<Z>,
 }
 
+impl<Z: SizeSet> ListEntry<Z> {
+    ghost use Rattle.plan.specs.Samples.Sizes.{HasMore};
+    ghost use Rattle.plan.specs.Internal.Arena.{IsList};
+
+    /// The item at a place, where some list goes on so far.
+    pub(crate) fn item_at(&self, place: usize) -> Option<PlanNode>
+        requires { place < 18446744073709551615 }
+        ensures some { IfSome result (λ n. n ≡ self.now.item) }
+        ensures goes_on { IfSome result (λ _. (P : Pools) (limit : ℕ) (sites : List Site) (i : ℕ) → IsList Z.holds limit P sites i self.now → (m : ℕ) × HasMore P limit (site_at sites i).node (place + 1) m) }
+        ensures none { IfNone result ((P : Pools) (limit : ℕ) (sites : List Site) (i m : ℕ) → IsList Z.holds limit P sites i self.now → HasMore P limit (site_at sites i).node (place + 1) m → ⊥) }
+    {
+        match self.more.get(place + 1) {
+            Some(more) => match more.next(0) {
+                Some(_) => Some(self.item),
+                None => None,
+            },
+            None => None,
+        }
+    }
+}
+
 #[derive(Drop)]
 pub(crate) enum Content<Z> {
     Leaf(Leaf),
@@ -93,6 +114,7 @@ impl<Z: SizeSet> Entry<Z> {
 
 impl<Z: SizeSet> Entry<Z> {
     ghost use Rattle.plan.specs.Samples.Candidates.{HasWidth};
+    ghost use Rattle.plan.specs.Internal.Arena.{IsRight};
 
     /// How wide the node is: by its candidates or its slots.
     pub(crate) fn width(&self) -> u64

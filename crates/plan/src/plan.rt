@@ -212,15 +212,15 @@ impl<Z: SizeSet> Plan<Z> {
     {
         meter.step();
         match &self.arena.entry(node).content {
-            Content::Row(row) => {
-                let slot = row.slots.get(place as usize)?;
-                Some(Slot {
+            Content::Row(row) => match row.slots.get(place as usize) {
+                Some(slot) => Some(Slot {
                     name: self.arena.values.name(&slot.name),
                     node: slot.node,
                     must: slot.must,
                     key: slot.key,
-                })
-            }
+                }),
+                None => None,
+            },
             Content::Leaf(_) | Content::List(_) => None,
         }
     }
@@ -238,11 +238,7 @@ impl<Z: SizeSet> Plan<Z> {
     {
         meter.step();
         match &self.arena.entry(node).content {
-            Content::List(list) => {
-                let more = list.more.get(place as usize + 1)?;
-                more.next(0)?;
-                Some(list.item)
-            }
+            Content::List(list) => list.item_at(place as usize),
             Content::Leaf(_) | Content::Row(_) => None,
         }
     }
