@@ -6,9 +6,9 @@ use std::alloc::{AllocError, Global};
 use std::process::Abort;
 use std::test::Fail;
 
-fn read(alloc: Global, document: &str) -> Result<Result<Pools, PFault>, Fail> {
+fn read(alloc: Global, document: &str) -> Result<Pools, Fail> {
     let document = Tree::from_bytes(alloc, document.as_bytes())?;
-    Ok(Pools::read(alloc, &document))
+    Ok(Pools::read(alloc, &document)?)
 }
 
 // The code, and the pointer where there is one.
@@ -19,18 +19,28 @@ fn said(alloc: Global, fault: &PFault) -> Result<String, AllocError> {
     }
 }
 
-// How many integers, strings, names and trees are read, or the fault.
-fn outcome(alloc: Global, document: &str) -> Result<String, Fail> {
-    match read(alloc, document)? {
-        Ok(pools) => Ok(format!(in alloc;
-            "{} {} {} {}",
-            pools.integers().len(),
-            pools.strings().len(),
-            pools.names().len(),
-            pools.any().len()
-        )?),
-        Err(fault) => Ok(said(alloc, &fault)?),
+// How many integers, strings, names and trees there are.
+fn counts(alloc: Global, pools: &Pools) -> Result<String, AllocError> {
+    format!(in alloc;
+        "{} {} {} {}",
+        pools.integers().len(),
+        pools.strings().len(),
+        pools.names().len(),
+        pools.any().len()
+    )
+}
+
+// What is read, counted, or the fault.
+fn outcome_of(alloc: Global, document: &Tree) -> Result<String, AllocError> {
+    match Pools::read(alloc, document) {
+        Ok(pools) => counts(alloc, &pools),
+        Err(fault) => said(alloc, &fault),
     }
+}
+
+fn outcome(alloc: Global, document: &str) -> Result<String, Fail> {
+    let document = Tree::from_bytes(alloc, document.as_bytes())?;
+    Ok(outcome_of(alloc, &document)?)
 }
 
 fn is_outcome(
@@ -217,27 +227,48 @@ fn forms(rt: HostRuntime) -> Result<(), Fail> {
     try_nested(&rt, rt.alloc())
 }
 
-// A name, a pool, an entry with its comma, how many there are, what stands behind them, and what is answered. Each
-// repeat counts, and the form is judged before the limits.
+// A name, the beginning of a document, an entry with its comma, how many there are, what stands behind them, and what is
+// answered. Each repeat counts, and the form is judged before the limits.
 static LONG: [(&str, &str, &str, usize, &str, &str); 13] = [
-    ("64 integers", "integers", "0,", 63, "0]}", "64 0 0 0"),
-    ("65 integers", "integers", "0,", 64, "0]}", "P2"),
+    (
+        "64 integers",
+        r#"{"integers":["#,
+        "0,",
+        63,
+        "0]}",
+        "64 0 0 0",
+    ),
+    ("65 integers", r#"{"integers":["#, "0,", 64, "0]}", "P2"),
     (
         "64 strings",
-        "strings",
+        r#"{"strings":["#,
         r#""s","#,
         63,
         r#""s"]}"#,
         "0 64 0 0",
     ),
-    ("65 strings", "strings", r#""s","#, 64, r#""s"]}"#, "P2"),
-    ("32 names", "names", r#""n","#, 31, r#""n"]}"#, "0 0 32 0"),
-    ("33 names", "names", r#""n","#, 32, r#""n"]}"#, "P2"),
-    ("64 trees", "any", "{},", 63, "{}]}", "0 0 0 64"),
-    ("65 trees", "any", "{},", 64, "{}]}", "P2"),
+    (
+        "65 strings",
+        r#"{"strings":["#,
+        r#""s","#,
+        64,
+        r#""s"]}"#,
+        "P2",
+    ),
+    (
+        "32 names",
+        r#"{"names":["#,
+        r#""n","#,
+        31,
+        r#""n"]}"#,
+        "0 0 32 0",
+    ),
+    ("33 names", r#"{"names":["#, r#""n","#, 32, r#""n"]}"#, "P2"),
+    ("64 trees", r#"{"any":["#, "{},", 63, "{}]}", "0 0 0 64"),
+    ("65 trees", r#"{"any":["#, "{},", 64, "{}]}", "P2"),
     (
         "64 integers and a name",
-        "integers",
+        r#"{"integers":["#,
         "0,",
         63,
         r#"0],"names":["n"]}"#,
@@ -245,7 +276,7 @@ static LONG: [(&str, &str, &str, usize, &str, &str); 13] = [
     ),
     (
         "64 names",
-        "names",
+        r#"{"names":["#,
         r#""n","#,
         63,
         r#""n"],"strings":["s"]}"#,
@@ -253,7 +284,7 @@ static LONG: [(&str, &str, &str, usize, &str, &str); 13] = [
     ),
     (
         "an integer behind 64 strings",
-        "strings",
+        r#"{"strings":["#,
         r#""s","#,
         64,
         "1]}",
@@ -261,7 +292,7 @@ static LONG: [(&str, &str, &str, usize, &str, &str); 13] = [
     ),
     (
         "a text for strings behind 65 integers",
-        "integers",
+        r#"{"integers":["#,
         "0,",
         64,
         r#"0],"strings":"s"}"#,
@@ -269,7 +300,7 @@ static LONG: [(&str, &str, &str, usize, &str, &str); 13] = [
     ),
     (
         "another name behind 33 names",
-        "names",
+        r#"{"names":["#,
         r#""n","#,
         32,
         r#""n"],"titles":[]}"#,
@@ -282,8 +313,8 @@ fn try_long(
     alloc: Global,
     row: &(&str, &str, &str, usize, &str, &str),
 ) -> Result<(), Fail> {
-    let (name, pool, entry, count, tail, wanted) = *row;
-    let mut document = format!(in alloc; "{{\"{pool}\":[")?;
+    let (name, head, entry, count, tail, wanted) = *row;
+    let mut document = String::from_str(alloc, head)?;
     push_times(&mut document, entry, count)?;
     document.push_str(tail)?;
     is_outcome(rt, alloc, name, document.as_str(), wanted)
@@ -330,20 +361,22 @@ static WRITTEN: &str =
 /// The order and the repeats are kept.
 #[test]
 fn entries_as_written(rt: HostRuntime) -> Result<(), Fail> {
-    let pools = read(rt.alloc(), WRITTEN)??;
+    let pools = read(rt.alloc(), WRITTEN)?;
     assert_eq!(rt; pools.integers(), [3, -1, 3].as_slice());
     are_texts(&rt, pools.strings(), &["b", "a", "b"], "strings");
     are_texts(&rt, pools.names(), &["", "é"], "names");
     are_trees(&rt, rt.alloc(), pools.any(), &[r#"{"q":[1]}"#, "null"])
 }
 
+fn empty_counts(alloc: Global) -> Result<String, AllocError> {
+    counts(alloc, &Pools::new(alloc))
+}
+
 #[test]
-fn no_entries(rt: HostRuntime) {
-    let pools = Pools::new(rt.alloc());
-    is_number(&rt, pools.integers().len() as u64, 0, "integers", "none");
-    is_number(&rt, pools.strings().len() as u64, 0, "strings", "none");
-    is_number(&rt, pools.names().len() as u64, 0, "names", "none");
-    is_number(&rt, pools.any().len() as u64, 0, "trees", "none");
+fn no_entries(rt: HostRuntime) -> Result<(), Fail> {
+    let found = empty_counts(rt.alloc())?;
+    is_text(&rt, found.as_str(), "0 0 0 0", "the entries", "empty pools");
+    Ok(())
 }
 
 #[test]

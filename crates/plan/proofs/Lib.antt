@@ -10,6 +10,7 @@ pub mod SoundLemmas
 pub mod EntryLemmas
 pub mod BuildingLemmas
 pub mod PlanLemmas
+pub mod WidthLemmas
 pub mod ListEntryLemmas
 pub mod CutLemmas
 pub mod ValueLemmas

@@ -67,7 +67,7 @@ base_from ds ts us e h = subst (λ ds. IsBase ds us) e (in_order_by (λ t. data_
 not_same : {X : Type 0} {R : X → X → Ordering} → IsTotalOrder R → (x y : X) → R x y ≡ Less → x ≡ y → ⊥
 not_same {R = R} o x y less same = let tied = tied_itself o y in let before : R y y ≡ Less = rw same at less in cc
 
-same_in_order : {X : Type 0} {R : X → X → Ordering} → IsTotalOrder R → (xs ys : List X) → Rising (λ x y. R x y ≡ Less) xs → Rising (λ x y. R x y ≡ Less) ys
+pub same_in_order : {X : Type 0} {R : X → X → Ordering} → IsTotalOrder R → (xs ys : List X) → Rising (λ x y. R x y ≡ Less) xs → Rising (λ x y. R x y ≡ Less) ys
     → ((v : X) → Among xs v → Among ys v) → ((v : X) → Among ys v → Among xs v) → xs ≡ ys
 same_in_order o [] [] p q to from = refl
 same_in_order o [] (y ∷ ys) p q to from = absurd (from y (inl refl))

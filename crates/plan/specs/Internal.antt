@@ -10,3 +10,4 @@ pub mod Building
 pub mod Keyed
 pub mod Plan
 pub mod Tuples
+pub mod Widest

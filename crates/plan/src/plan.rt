@@ -9,7 +9,6 @@ use crate::{Distinct, Meter, PFault, Pools, SizeSet, Sort};
 use jtree::Tree;
 use schema::items_told_apart;
 use std::alloc::Global;
-use std::cmp::max;
 use std::marker::Model;
 use stored::{Schema, stored_by_parts};
 
@@ -194,9 +193,9 @@ impl<Z: SizeSet> Plan<Z> {
     pub fn width(&self) -> u64
         ensures { IsWidth self.now.pools self.now.root result }
     {
-        let mut width = 0;
+        let mut width: u64 = 0;
         for entry in &self.arena.entries {
-            width = max(width, entry.width());
+            width = width.max(entry.width());
         }
         width
     }
