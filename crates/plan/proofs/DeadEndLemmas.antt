@@ -6,8 +6,8 @@ use Rattle.std.proofs.lemmas.Option.{same_Some}
 use Rattle.jtree.specs.Data.{Data, Items, no_items, item}
 use Rattle.jtree.specs.Nodes.{node_count, items_count}
 use Rattle.jtree.specs.Internal.Rising.{Among}
-use Rattle.schema.specs.Nodes.Node.{Node, node, scalar, object, list, IsNode}
-use Rattle.schema.specs.Nodes.Items.{IsPlainScalar, HasKeys, AreToldApart, HasSoundItems}
+use Rattle.schema.specs.Nodes.Node.{Node, node, list, IsNode}
+use Rattle.schema.specs.Nodes.Items.{HasKeys, AreToldApart, HasSoundItems}
 use Rattle.schema.specs.declared.node.ListType.{ListType}
 use Rattle.schema.specs.declared.node.ListType.TheVariants.{Atomic, Set, Map}
 use Rattle.stored.specs.Objects.Fault as fault
@@ -23,9 +23,10 @@ use Rattle.plan.specs.Internal.PartLaws.{IsItemsPart, PartLaws}
 use Rattle.plan.specs.Internal.Keyed.{Keyed}
 use Rattle.plan.specs.declared.sort.Sort.TheVariants.{Leaf, Row}
 use Rattle.plan.proofs.ApartLemmas.{among_filter}
+use Rattle.plan.proofs.CutLemmas.{plain_leaf, keys_leaves, keys_row}
 use Rattle.plan.proofs.KeyedLemmas.{then_are, CompletesApart, completes_free, completes_apart}
 use Rattle.plan.proofs.ListLemmas.{from_count, count_nodes}
-use Rattle.plan.proofs.MapListLemmas.{key_slot, map_keyed}
+use Rattle.plan.proofs.MapListLemmas.{map_keyed}
 use Rattle.plan.proofs.MoreLemmas.{more_parts}
 use Rattle.plan.proofs.PartLemmas.{StoredLaw}
 use Rattle.plan.proofs.RowLemmas.{fill_none, drop_all}
@@ -108,10 +109,6 @@ row_completes laws P s o is front place m h r =
 
 -- ---- lists
 
-plain_leaf : (N : Node) → IsPlainScalar N → sort_of N ≡ Leaf
-plain_leaf (node n t (scalar kind cs)) h = refl
-plain_leaf N h = absurd h
-
 counts : (P : Pools) (ss : List Slot) → ((s : Slot) → Among ss s → (vs : List Data) × AreCandidates P s.node vs) → (ns : List ℕ) × AreCounts P ss ns
 counts P [] h = ([], tt)
 counts P (s ∷ ss) h =
@@ -125,10 +122,9 @@ pub record HaveCandidates (P : Pools) (s : Site) : Type 0 where
   pub below : sort_of s.node ≡ Row → (t : Slot) → Among (slots P s) t → HasCandidates P t.node
 
 key_counts : (P : Pools) (N : Node) (keys : List (List ℕ)) → IsNode N → HasKeys N keys → HaveCandidates P (record { node = N; keys = keys }) → (ns : List ℕ) × AreCounts P (filter is_key (slots P (record { node = N; keys = keys }))) ns
-key_counts P (node n t (object fs preserves type b)) keys o h c = counts P (filter is_key (slots P (record { node = node n t (object fs preserves type b); keys = keys }))) (λ s a.
-    let f = among_filter is_key _ s a in
-    c.below refl s f.0 (plain_leaf s.node (key_slot fs keys o h.2 s f.0 f.1).2))
-key_counts P N keys o h c = absurd h
+key_counts P N keys o h c =
+    let ss = slots P (record { node = N; keys = keys }) in
+    counts P (filter is_key ss) (λ s a. let f = among_filter is_key ss s a in c.below (keys_row N keys h) s f.0 (keys_leaves P N keys o h s f.0 f.1))
 
 -- no two items are alike, or each has a key
 told_apart : StoredLaw → PartLaws → (P : Pools) (type : ListType) (keys : List (List ℕ)) (N : Node) → IsNode N → AreToldApart type keys N → HaveCandidates P (record { node = N; keys = item_keys type keys })

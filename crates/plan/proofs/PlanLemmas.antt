@@ -1,5 +1,5 @@
 -- What is known of an entry of a plan.
-use Rattle.std.specs.Prelude.{◌≡◌, ℕ, ◌+◌, ◌-◌, ◌≤◌, ◌<◌, ◌⊎◌, zero, suc, ◌∷◌, List, Contains, IfNone, Option, slice_get, length, get_or, Some, None, false, []}
+use Rattle.std.specs.Prelude.{◌≡◌, ℕ, ◌+◌, ◌-◌, ◌≤◌, ◌<◌, ◌↔◌, ◌⊎◌, zero, suc, ◌∷◌, List, IfNone, Option, slice_get, length, get_or, Some, None, false, []}
 use Rattle.std.specs.declared.vec.Vec.{Vec}
 use Rattle.std.specs.declared.alloc.Global.{Global}
 use Rattle.std.proofs.Common.{refl, ap, sym, ◌∙◌, subst, inl, inr, arith}
@@ -8,8 +8,6 @@ use Rattle.schema.specs.Nodes.Node as nodes
 use Rattle.plan.specs.Pools.Pools.{Pools}
 use Rattle.plan.specs.Samples.Question.{Question}
 use Rattle.plan.specs.Samples.Sites.{Site, plain, sites_of, item_site, item_site_at, Slot, slots}
-use Rattle.plan.specs.Samples.RuleOfParts.{RuleOfParts}
-use Rattle.plan.specs.Samples.NoDeadEnd.{NoDeadEnd}
 use Rattle.plan.specs.Samples.Handed.{IsSlotAt}
 use Rattle.plan.specs.declared.plan.Slot.{Slot as PlanSlot}
 use Rattle.plan.specs.declared.arena.SlotEntry.{SlotEntry}
@@ -165,12 +163,6 @@ more_none_at holds limit P sites i t m l z h inside is none more =
 
 pub more_some_at : {Z : Type 0} (holds : Z → ℕ → Type 0) (limit : ℕ) (P : Pools) (sites : List Site) (i t n : ℕ) (l : ListEntry Z) (z : Z) → IsList holds limit P sites i l → t < length l.more.items → z ≡ get_or l.more.items t z → holds z n → (m : ℕ) × HasMore P limit (site_at sites i).node t m
 more_some_at holds limit P sites i t n l z h inside is some = let u = rw (← is) at (h.more t z inside) in (n, ((u n).0 some).1)
-
--- what holds of each site, in the words of the plan's view
-pub rules_in : {Z : Type 0} (holds : Z → ℕ → Type 0) (BITS : ℕ) (root : Node) (P : Pools) (limit : ℕ) (v : Values) (es : List (Entry Z)) (first : ℕ) (q : Question) → IsPlan holds BITS root P limit v es first → record { root = root; pools = P; limit = limit } ≡ q
-    → ((s : Site) → Contains (sites_of root) s → RuleOfParts P limit s × NoDeadEnd P limit s) → (s : Site) → Contains (sites_of q.root) s → RuleOfParts q.pools q.limit s × NoDeadEnd q.pools q.limit s
-rules_in holds BITS root P limit v es first q plan view rules =
-    subst (λ (x : Question). (s : Site) → Contains (sites_of x.root) s → RuleOfParts x.pools x.limit s × NoDeadEnd x.pools x.limit s) view rules
 
 pub slice_get_at : {X : Type 0} (xs : List X) (i : ℕ) (x : X) → i < length xs → x ≡ get_or xs i x → slice_get xs i ≡ Some x
 slice_get_at [] i x l is = absurd (omega arith)

@@ -1,19 +1,20 @@
 -- The nodes of a schema are ordered, and the items of their lists can be told apart.
 use Rattle.std.specs.Prelude.{◌≡◌, ℕ, List, [], ◌∷◌, Bool, false, Option, Some, All}
 use Rattle.std.proofs.Common.{refl, subst, inl, inr}
+use Rattle.std.proofs.lemmas.Option.{same_Some}
 use Rattle.std.specs.Str.{bytes_eq}
 use Rattle.std.specs.declared.cmp.Ordering.TheVariants.{Less}
 use Rattle.jtree.specs.Data.{Data}
 use Rattle.jtree.specs.Order.{text_cmp}
 use Rattle.jtree.specs.Internal.Lookups.{own_name, later_name}
-use Rattle.jtree.specs.Internal.Rising.{Among, among_parts, each_of}
+use Rattle.jtree.specs.Internal.Rising.{Among, among_left, among_right, among_parts, each_of}
 use Rattle.schema.specs.Document.Places.{Place, property, map_value, items}
 use Rattle.schema.specs.Nodes.Node.{Node, node, Sort, scalar, object, map, list, open_, Fields, no_fields, field, IsNode, IsSort, AreOrdered}
 use Rattle.schema.specs.Nodes.ByPlace.{Declared, field_at, node_at}
 use Rattle.schema.specs.Nodes.Shape as shape
 use Rattle.schema.specs.Nodes.Items.{HasSoundItems}
 use Rattle.stored.specs.Schemas.Accepted.{IsSchema}
-use Rattle.plan.specs.Samples.Sites.{Site, sites_from, sites_below, sites_of_fields, sites_of, item_keys}
+use Rattle.plan.specs.Samples.Sites.{Site, item_site, item_site_at, sites_from, sites_below, sites_of_fields, sites_of, item_keys}
 use Rattle.plan.specs.Internal.Building.{IsSound, IsSortSound, AreFieldsSound}
 use Rattle.plan.proofs.PartLemmas.{slot_of_field, fields_in_order}
 
@@ -54,32 +55,51 @@ schema_sound law root h =
 
 -- ---- each site
 
-abbrev IsSoundSite : Site → Type 0
-IsSoundSite s = IsNode s.node × IsSound s.node
+itself : (N : Node) (keys : List (List ℕ)) → Among (sites_from N keys) (record { node = N; keys = keys })
+itself (node n t sort) keys = among_right (sites_below sort) _ _ (inl refl)
 
-mutual
-  pub site_sound : (N : Node) (keys : List (List ℕ)) → IsNode N → IsSound N → (s : Site) → Among (sites_from N keys) s → IsNode s.node × IsSound s.node
-  site_sound (node n t sort) keys o h s a = elim (among_parts (sites_below sort) (record { node = node n t sort; keys = keys } ∷ []) s a) [
-    | inl below ↦ site_below_sound sort o h.1 s below
-    | inr here ↦ elim here [ inl e ↦ subst IsSoundSite e (o, h) | inr none ↦ absurd none ]
-  ]
+own_item : (n : Bool) (t : Option (List ℕ)) (sort : Sort) (M : Site) → item_site_at (node n t sort) ≡ Some M → Among (sites_below sort) M
+own_item n t (list N type keys b) M is = subst (Among (sites_from N (item_keys type keys))) (same_Some _ M is) (itself N (item_keys type keys))
+own_item n t sort M is = absurd (cc)
 
-  site_below_sound : (sort : Sort) → IsSort sort → IsSortSound sort → (s : Site) → Among (sites_below sort) s → IsSoundSite s
-  site_below_sound (object fs preserves type b) o h s a = field_site_sound fs o h s a
-  site_below_sound (map N type b) o h s a = site_sound N [] o h s a
-  site_below_sound (list N type keys b) o h s a = site_sound N (item_keys type keys) o h s a
-  site_below_sound (scalar kind cs) o h s a = absurd a
-  site_below_sound open_ o h s a = absurd a
+-- its node is ordered, its items and those below it can be told apart, and the site of its items is one of all
+abbrev pub IsSoundSite : List Site → Site → Type 0
+IsSoundSite all s = IsNode s.node × IsSound s.node × ((M : Site) → item_site s ≡ Some M → Among all M)
 
-  field_site_sound : (fs : Fields) → AreOrdered fs → AreFieldsSound fs → (s : Site) → Among (sites_of_fields fs) s → IsSoundSite s
-  field_site_sound no_fields o h s a = absurd a
-  field_site_sound (field l N required default fs) o h s a = elim (among_parts (sites_from N []) (sites_of_fields fs) s a) [
-    | inl here ↦ site_sound N [] o.0 h.0 s here
-    | inr later ↦ field_site_sound fs o.2 h.1 s later
-  ]
+module _ (all : List Site) where
+  abbrev AreOf : List Site → Type 0
+  AreOf ss = (s : Site) → Among ss s → Among all s
 
-pub sites_sound : ItemsLaw → (root : Node) → IsSchema root → All (λ s. IsNode s.node × IsSound s.node) (sites_of root)
-sites_sound law root h = let r = schema_sound law root h in each_of _ (sites_of root) (site_sound root [] r.0 r.1)
+  mutual
+    site_sound : (N : Node) (keys : List (List ℕ)) → IsNode N → IsSound N → AreOf (sites_from N keys) → (s : Site) → Among (sites_from N keys) s → IsSoundSite all s
+    site_sound (node n t sort) keys o h of s a =
+        let own : Site = record { node = node n t sort; keys = keys } in
+        let of_below : AreOf (sites_below sort) = λ u b. of u (among_left (sites_below sort) (own ∷ []) u b) in
+        let here : IsSoundSite all own = (o, h, λ M is. of_below M (own_item n t sort M is)) in
+        elim (among_parts (sites_below sort) (own ∷ []) s a) [
+          | inl below ↦ site_below_sound sort o h.1 of_below s below
+          | inr last ↦ elim last [ inl e ↦ subst (IsSoundSite all) e here | inr none ↦ absurd none ]
+        ]
+
+    site_below_sound : (sort : Sort) → IsSort sort → IsSortSound sort → AreOf (sites_below sort) → (s : Site) → Among (sites_below sort) s → IsSoundSite all s
+    site_below_sound (object fs preserves type b) o h of s a = field_site_sound fs o h of s a
+    site_below_sound (map N type b) o h of s a = site_sound N [] o h of s a
+    site_below_sound (list N type keys b) o h of s a = site_sound N (item_keys type keys) o h of s a
+    site_below_sound (scalar kind cs) o h of s a = absurd a
+    site_below_sound open_ o h of s a = absurd a
+
+    field_site_sound : (fs : Fields) → AreOrdered fs → AreFieldsSound fs → AreOf (sites_of_fields fs) → (s : Site) → Among (sites_of_fields fs) s → IsSoundSite all s
+    field_site_sound no_fields o h of s a = absurd a
+    field_site_sound (field l N required default fs) o h of s a =
+        let first = sites_from N [] in
+        let later = sites_of_fields fs in
+        elim (among_parts first later s a) [
+          | inl here ↦ site_sound N [] o.0 h.0 (λ u b. of u (among_left first later u b)) s here
+          | inr there ↦ field_site_sound fs o.2 h.1 (λ u b. of u (among_right first later u b)) s there
+        ]
+
+pub sites_sound : ItemsLaw → (root : Node) → IsSchema root → All (IsSoundSite (sites_of root)) (sites_of root)
+sites_sound law root h = let r = schema_sound law root h in each_of _ (sites_of root) (site_sound (sites_of root) root [] r.0 r.1 (λ s a. a))
 
 pub sound_here : (N : Node) → IsSound N → HasSoundItems N
 sound_here (node n t sort) h = h.0
