@@ -22,7 +22,8 @@ use Rattle.stored.specs.Objects.Becomes.{is_nullable}
 use Rattle.plan.specs.Internal.Values.{AreValues, candidates_of}
 use Rattle.plan.specs.declared.leaf.Leaf.{Leaf}
 use Rattle.plan.specs.declared.arena.Content.TheVariants as content
-use Rattle.plan.specs.Internal.Arena.{site_at, IsSlot, AreSlots, IsRight, AreRight, Stand}
+use Rattle.plan.specs.Internal.Arena.{IsSlot, AreSlots, IsRight, AreRight, Stand}
+use Rattle.plan.specs.Samples.Sites.{site_at}
 use Rattle.plan.specs.Internal.Building.{IsSound, IsSortSound, AreFieldsSound, IsBuilt, AreBuilt, IsFieldSlot}
 use Rattle.plan.specs.declared.values.Values.{Values}
 use Rattle.plan.specs.declared.arena.SlotName.TheVariants.{Pool}

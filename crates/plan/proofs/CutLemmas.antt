@@ -18,7 +18,8 @@ use Rattle.plan.specs.Sets.{IsSum}
 use Rattle.stored.specs.Objects.Becomes.{is_nullable}
 use Rattle.std.specs.declared.vec.Vec.{Vec}
 use Rattle.std.specs.declared.alloc.Global.{Global}
-use Rattle.plan.specs.Internal.Arena.{site_at, IsRight}
+use Rattle.plan.specs.Internal.Arena.{IsRight}
+use Rattle.plan.specs.Samples.Sites.{site_at}
 use Rattle.plan.specs.declared.values.Values.{Values}
 use Rattle.plan.specs.declared.sort.Distinct.{Distinct}
 use Rattle.plan.specs.declared.arena.PlanNode.{PlanNode}

@@ -13,7 +13,8 @@ use Rattle.plan.specs.Samples.Candidates.{sort_of}
 use Rattle.plan.specs.Samples.Sizes.{HasSize, CanFill, bounds_of, IsUpTo}
 use Rattle.plan.specs.Internal.Tables.{AreChoices, AreShaped, AreLevels}
 use Rattle.plan.specs.Internal.PartLaws.{PartLaws}
-use Rattle.plan.specs.Internal.Arena.{site_at, AreSlots, IsChosen, AreChosen, IsRight, AreRight}
+use Rattle.plan.specs.Internal.Arena.{AreSlots, IsChosen, AreChosen, IsRight, AreRight}
+use Rattle.plan.specs.Samples.Sites.{site_at}
 use Rattle.plan.specs.declared.sort.Sort.TheVariants.{Row}
 use Rattle.plan.specs.declared.values.Values.{Values}
 use Rattle.plan.specs.declared.rows.Choice.{Choice}

@@ -8,7 +8,8 @@ use Rattle.plan.specs.Pools.Pools.{Pools}
 use Rattle.plan.specs.Samples.Sites.{Site, Slot}
 use Rattle.plan.specs.Samples.Candidates.{sort_of, HasCount}
 use Rattle.plan.specs.Samples.NoDeadEnd.{is_key, AreCounts, product}
-use Rattle.plan.specs.Internal.Arena.{site_at, IsSlot, AreSlots}
+use Rattle.plan.specs.Internal.Arena.{IsSlot, AreSlots}
+use Rattle.plan.specs.Samples.Sites.{site_at}
 use Rattle.plan.specs.Internal.Tuples.{AreKeysLeaves, HasTuples}
 use Rattle.plan.specs.declared.sort.Sort.TheVariants.{Leaf}
 use Rattle.plan.specs.declared.arena.SlotEntry.{SlotEntry}

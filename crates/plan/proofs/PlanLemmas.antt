@@ -23,7 +23,8 @@ use Rattle.plan.specs.declared.leaf.Leaf.{Leaf}
 use Rattle.plan.specs.declared.arena.ListEntry.{ListEntry}
 use Rattle.plan.specs.declared.arena.Content.TheVariants as content
 use Rattle.plan.specs.declared.arena.RowEntry.{RowEntry}
-use Rattle.plan.specs.Internal.Arena.{site_at, Stand, IsEntry, IsSlot, AreSlots, name_of, IsRow, IsList, IsRight, AreRight}
+use Rattle.plan.specs.Internal.Arena.{Stand, IsEntry, IsSlot, AreSlots, name_of, IsRow, IsList, IsRight, AreRight}
+use Rattle.plan.specs.Samples.Sites.{site_at}
 use Rattle.plan.specs.Internal.Values.{AreValues}
 use Rattle.plan.specs.Internal.Building.{IsSound, IsBuilt}
 use Rattle.plan.specs.Internal.Plan.{IsPlan}

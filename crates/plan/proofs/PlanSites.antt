@@ -12,7 +12,8 @@ use Rattle.plan.specs.Samples.Sites.{Site, plain, sites_of, Slot, slots}
 use Rattle.plan.specs.Samples.Candidates.{sort_of}
 use Rattle.plan.specs.Samples.RuleOfParts.{RuleOfParts}
 use Rattle.plan.specs.Samples.NoDeadEnd.{NoDeadEnd}
-use Rattle.plan.specs.Internal.Arena.{site_at, IsSlot, AreSlots, HasContent, AreRight}
+use Rattle.plan.specs.Internal.Arena.{IsSlot, AreSlots, HasContent, AreRight}
+use Rattle.plan.specs.Samples.Sites.{site_at}
 use Rattle.plan.specs.Internal.PartLaws.{PartLaws}
 use Rattle.plan.specs.Internal.Plan.{IsPlan}
 use Rattle.plan.specs.Internal.Values.{candidates_of}

@@ -11,7 +11,7 @@ use Rattle.schema.specs.Nodes.Node.{Node}
 use Rattle.plan.specs.Pools.Pools.{Pools}
 use Rattle.plan.specs.Samples.Sites.{Site, sites_of}
 use Rattle.plan.specs.Samples.Candidates.{sort_of, HasCount, HasWidthBy, HasWidth, IsWidth}
-use Rattle.plan.specs.Internal.Arena.{site_at}
+use Rattle.plan.specs.Samples.Sites.{site_at}
 use Rattle.plan.specs.Internal.Widest.{IsWidest}
 use Rattle.plan.specs.declared.sort.Sort.{Sort}
 use Rattle.plan.specs.declared.sort.Sort.TheVariants.{Leaf, Row, List as ListSort}

@@ -3,7 +3,8 @@ ghost use Rattle.std.specs.Prelude.{◌≡◌, ◌<◌, ◌≤◌, ◌+◌, ◌+
 ghost use Rattle.plan.specs.Pools.Pools.{Pools};
 ghost use Rattle.plan.specs.Samples.Sites.{Site};
 ghost use Rattle.plan.specs.Samples.Candidates.{sort_of, HasCount};
-ghost use Rattle.plan.specs.Internal.Arena.{site_at, AreRight};
+ghost use Rattle.plan.specs.Internal.Arena.{AreRight};
+ghost use Rattle.plan.specs.Samples.Sites.{site_at};
 ghost use Rattle.plan.specs.declared.values.Values.{Values};
 ghost use Rattle.plan.specs.declared.sort.Sort.TheVariants.{Leaf as LeafSort};
 

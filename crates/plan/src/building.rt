@@ -8,7 +8,8 @@ ghost use Rattle.std.specs.Prelude.{option_map, All, map as map_list};
 ghost use Rattle.plan.specs.Samples.Sites.{Site, plain, value_slot, item_keys};
 ghost use Rattle.plan.specs.Samples.Candidates.{sort_of};
 ghost use Rattle.plan.specs.declared.sort.Sort.TheVariants.{Leaf};
-ghost use Rattle.plan.specs.Internal.Arena.{site_at, AreSlots};
+ghost use Rattle.plan.specs.Internal.Arena.{AreSlots};
+ghost use Rattle.plan.specs.Samples.Sites.{site_at};
 ghost use Rattle.plan.specs.declared.arena.SlotEntry.{SlotEntry as SlotDeclared};
 ghost use Rattle.plan.specs.Internal.Building.{IsBuilt, AreBuilt, IsFieldSlot};
 

@@ -6,7 +6,8 @@ ghost use Rattle.plan.specs.Pools.Pools.{Pools};
 ghost use Rattle.plan.specs.Samples.Sites.{Site, slots as slots_of};
 ghost use Rattle.plan.specs.Samples.Candidates.{sort_of};
 ghost use Rattle.plan.specs.Samples.Sizes.{bounds_of};
-ghost use Rattle.plan.specs.Internal.Arena.{site_at, AreChosen, AreSlots, AreRight, IsRight};
+ghost use Rattle.plan.specs.Internal.Arena.{AreChosen, AreSlots, AreRight, IsRight};
+ghost use Rattle.plan.specs.Samples.Sites.{site_at};
 ghost use Rattle.plan.specs.declared.arena.SlotEntry.{SlotEntry};
 ghost use Rattle.plan.specs.declared.sort.Sort.TheVariants.{Row};
 

@@ -14,6 +14,7 @@ use stored::{Schema, stored_by_parts};
 
 /// A slot of a row: a name, the node of what stands under it, whether something must stand there (where it is required or has a
 /// default), and whether it is a key of the map list whose item the row is.
+#[derive(Clone, Copy)]
 pub struct Slot<'a> {
     pub name: &'a str,
     pub node: PlanNode,
@@ -57,7 +58,7 @@ impl<Z: SizeSet> Plan<Z> {
     ghost use Rattle.plan.specs.Samples.Sites.{Site, sites_of, plain, item_site, slots as slots_of};
     ghost use Rattle.plan.specs.Samples.Candidates.{sort_of, distinct_of, HasCount, IsWidth};
     ghost use Rattle.plan.specs.Samples.Sizes.{HasSize, HasRest, HasMore, IsUpTo};
-    ghost use Rattle.plan.specs.Internal.Arena.{site_at};
+    ghost use Rattle.plan.specs.Samples.Sites.{site_at};
     ghost use Rattle.plan.specs.declared.sort.Sort.TheVariants as sort;
 
     /// The plan of these samples: of this schema, over these pools, of at most `limit` nodes. The tables are filled from the

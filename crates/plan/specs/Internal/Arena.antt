@@ -3,7 +3,7 @@ use Rattle.std.specs.Prelude.{◌≡◌, ℕ, ◌+◌, ◌<◌, List, [], ◌∷
 use Rattle.schema.specs.Nodes.Node.{node, open_}
 use Rattle.stored.specs.Objects.Becomes.{is_nullable}
 use Rattle.plan.specs.Pools.Pools.{Pools}
-use Rattle.plan.specs.Samples.Sites.{Site, plain, item_site, Slot, slots}
+use Rattle.plan.specs.Samples.Sites.{Site, site_at, plain, item_site, Slot, slots}
 use Rattle.plan.specs.Samples.Candidates.{sort_of, distinct_of, AreCandidates}
 use Rattle.plan.specs.Samples.Sizes.{HasSize, HasMore, bounds_of, IsUpTo}
 use Rattle.plan.specs.Internal.Tables.{AreShaped, AreLevels}
@@ -24,10 +24,6 @@ use Rattle.plan.specs.declared.arena.Entry.{Entry}
 -- the entry of a number
 abbrev pub IsEntry : {Z : Type 0} → List (Entry Z) → ℕ → Entry Z → Type 0
 IsEntry es i e = e ≡ get_or es i e
-
--- the site of a number
-abbrev pub site_at : List Site → ℕ → Site
-site_at sites i = get_or sites i (plain (node false None open_))
 
 abbrev pub name_of : List (List ℕ) → SlotName → List ℕ
 name_of names (Field t) = t

@@ -3,7 +3,7 @@ use Rattle.std.specs.Prelude.{◌≡◌, ℕ, ◌≤◌, ◌<◌, ◌⊎◌, Lis
 use Rattle.plan.specs.Pools.Pools.{Pools}
 use Rattle.plan.specs.Samples.Sites.{Site}
 use Rattle.plan.specs.Samples.Candidates.{HasWidth}
-use Rattle.plan.specs.Internal.Arena.{site_at}
+use Rattle.plan.specs.Samples.Sites.{site_at}
 
 pub record IsWidest (P : Pools) (sites : List Site) (count width : ℕ) : Type 0 where
   pub each : (i w : ℕ) → i < count → HasWidth P (site_at sites i) w → w ≤ width

@@ -6,7 +6,7 @@ use Rattle.plan.specs.Pools.Pools.{Pools}
 use Rattle.plan.specs.Samples.Sites.{Site, plain}
 use Rattle.plan.specs.Samples.Sites as sites
 use Rattle.plan.specs.Samples.Candidates.{AreCandidates}
-use Rattle.plan.specs.Internal.Arena.{site_at}
+use Rattle.plan.specs.Samples.Sites.{site_at}
 use Rattle.plan.specs.declared.plan.Slot.{Slot}
 
 -- the slot at a place

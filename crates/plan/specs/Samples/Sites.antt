@@ -1,11 +1,11 @@
 -- The nodes of a plan: those of the schema, each with the names that are keys where it is the item of a map list, and the slots of
 -- its objects and maps (this project's own).
-use Rattle.std.specs.Prelude.{ℕ, List, [], ◌∷◌, ◌++◌, Bool, false, Option, Some, None, map, ◌||◌, is_some}
+use Rattle.std.specs.Prelude.{ℕ, List, [], ◌∷◌, ◌++◌, Bool, false, Option, Some, None, map, ◌||◌, is_some, get_or}
 use Rattle.std.specs.declared.cmp.Ordering.{Ordering}
 use Rattle.std.specs.declared.cmp.Ordering.TheVariants.{Less, Equal, Greater}
 use Rattle.jtree.specs.Order.{text_cmp}
 use Rattle.schema.specs.Document.Texts.{is_among}
-use Rattle.schema.specs.Nodes.Node.{Node, node, Sort, object, list, Fields, no_fields, field}
+use Rattle.schema.specs.Nodes.Node.{Node, node, Sort, object, list, open_, Fields, no_fields, field}
 use Rattle.schema.specs.Nodes.Node as nodes
 use Rattle.schema.specs.declared.node.ListType.{ListType}
 use Rattle.schema.specs.declared.node.ListType.TheVariants.{Map}
@@ -50,6 +50,10 @@ abbrev mutual
 -- all sites of a schema
 abbrev pub sites_of : Node → List Site
 sites_of root = sites_from root []
+
+-- the site of a number: a node of a plan is a number, and stands for this site
+abbrev pub site_at : List Site → ℕ → Site
+site_at sites i = get_or sites i (plain (node false None open_))
 
 -- ---- slots
 

@@ -1,7 +1,8 @@
 use Rattle.std.proofs.Common.{◌≡◌, ◌<◌, ◌≤◌, ℕ, List, All, map, take, length}
 use Rattle.schema.specs.Nodes.Node.{Node}
 use Rattle.plan.specs.Samples.Sites.{Site, plain, value_slot}
-use Rattle.plan.specs.Internal.Arena.{site_at, AreSlots}
+use Rattle.plan.specs.Internal.Arena.{AreSlots}
+use Rattle.plan.specs.Samples.Sites.{site_at}
 use Rattle.plan.specs.declared.arena.SlotEntry.{SlotEntry}
 use Rattle.plan.proofs.building.value_slots.Given as goal
 

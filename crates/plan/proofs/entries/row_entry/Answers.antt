@@ -1,6 +1,6 @@
 use Rattle.std.proofs.Common.{arith, ap, length, ◌≡◌, ◌∙◌}
 use Rattle.plan.specs.Samples.Sites.{slots as slots_of}
-use Rattle.plan.specs.Internal.Arena.{site_at}
+use Rattle.plan.specs.Samples.Sites.{site_at}
 use Rattle.plan.proofs.EntryLemmas.{chosen_count, chosen_choices, row_right}
 use Rattle.plan.proofs.entries.row_entry.Goals as goal
 

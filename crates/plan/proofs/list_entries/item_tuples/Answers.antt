@@ -1,6 +1,6 @@
 use Rattle.std.proofs.Common.{arith}
 use Rattle.plan.specs.Samples.Sites.{slots}
-use Rattle.plan.specs.Internal.Arena.{site_at}
+use Rattle.plan.specs.Samples.Sites.{site_at}
 use Rattle.plan.proofs.list_entries.item_tuples.Goals as goal
 
 pub returns-in-Row : goal.returns-in-Row

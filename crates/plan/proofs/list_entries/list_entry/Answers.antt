@@ -1,7 +1,8 @@
 use Rattle.std.proofs.Common.{ap, sym, ◌∙◌}
 use Rattle.stored.specs.Objects.Becomes.{is_nullable}
 use Rattle.plan.specs.Samples.Candidates.{distinct_of}
-use Rattle.plan.specs.Internal.Arena.{site_at, IsRight}
+use Rattle.plan.specs.Internal.Arena.{IsRight}
+use Rattle.plan.specs.Samples.Sites.{site_at}
 use Rattle.plan.proofs.CutLemmas.{list_right}
 use Rattle.plan.proofs.list_entries.list_entry.Goals as goal
 
