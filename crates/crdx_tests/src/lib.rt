@@ -32,6 +32,8 @@ mod object_rows;
 #[cfg(test)]
 mod page_rows;
 #[cfg(test)]
+mod plan_rows;
+#[cfg(test)]
 mod pool_rows;
 #[cfg(test)]
 mod pools_rows;
