@@ -74,7 +74,7 @@ plan_rules stored laws items holds BITS root P limit v es first q schema plan vi
     let sites = sites_of root in
     let have = candidates holds limit P v sites es plan.count plan.right in
     subst (λ (x : Question). (s : Site) → Contains (sites_of x.root) s → RuleOfParts x.pools x.limit s × NoDeadEnd x.pools x.limit s) view (λ s c.
-      let sound = All-contains (IsSoundSite sites) sites s (sites_sound items root schema) c in (
-        rule_of_parts laws P limit s sound.0 (have s c).own,
-        no_dead_end stored laws P limit s sound.0 (sound_here s.node sound.1) (λ M is. have M (contains sites M (sound.2 M is))),
-      ))
+    let sound = All-contains (IsSoundSite sites) sites s (sites_sound items root schema) c in (
+      rule_of_parts laws P limit s sound.0 (have s c).own,
+      no_dead_end stored laws P limit s sound.0 (sound_here s.node sound.1) (λ M is. have M (contains sites M (sound.2 M is))),
+    ))
