@@ -1,8 +1,7 @@
 //! Plans: their nodes, the sizes of what may stand there and of what can follow, and what is handed out step by step.
-ghost use Rattle.std.specs.Prelude.{◌≡◌, ◌<◌, length, IfSome};
-ghost use Rattle.plan.specs.Samples.Sites.{sites_of};
+ghost use Rattle.std.specs.Prelude.{◌≡◌, ◌<◌, ◌≤◌, length, IfSome};
+ghost use Rattle.plan.specs.Samples.Sites.{site_at, sites_of};
 ghost use Rattle.plan.specs.Samples.Candidates.{sort_of};
-ghost use Rattle.plan.specs.Internal.Arena.{site_at};
 ghost use Rattle.plan.specs.declared.sort.Sort.TheVariants as sort;
 
 use crate::documents::ZERO_AND_ONE;
@@ -95,28 +94,18 @@ enum At {
     Item,
 }
 
-fn node_in(slot: Slot<'_>) -> PlanNode
-    ensures { result ≡ slot.node }
-{
-    let Slot {
-        name: _name,
-        node,
-        must: _must,
-        key: _key,
-    } = slot;
-    node
-}
-
 // The node of a slot.
 fn slot_of(plan: &Plan<u64>, node: PlanNode, place: u32, meter: &mut Meter) -> Option<PlanNode>
     requires { node < length (sites_of plan.now.root) }
     ensures { IfSome result (λ n. n < length (sites_of plan.now.root)) }
 {
-    if plan.sort(node) != Sort::Row {
-        return None;
+    match plan.sort(node) {
+        Sort::Row => match plan.slot(node, place, meter) {
+            Some(slot) => Some(slot.node),
+            None => None,
+        },
+        Sort::Leaf | Sort::List => None,
     }
-    let slot = plan.slot(node, place, meter)?;
-    Some(node_in(slot))
 }
 
 fn item_of(plan: &Plan<u64>, node: PlanNode, place: u32, meter: &mut Meter) -> Option<PlanNode>
@@ -450,13 +439,30 @@ fn rest_of(
 ) -> Option<u64>
     requires { node < length (sites_of plan.now.root) }
 {
-    if taken > place || plan.sort(node) != Sort::Row {
-        return None;
+    match plan.sort(node) {
+        Sort::Row if taken <= place => rest_at(plan, node, place, taken, meter),
+        _ => None,
     }
-    if place > 0 {
-        node_in(plan.slot(node, place - 1, meter)?);
+}
+
+fn rest_at(
+    plan: &Plan<u64>,
+    node: PlanNode,
+    place: u32,
+    taken: u32,
+    meter: &mut Meter,
+) -> Option<u64>
+    requires node { node < length (sites_of plan.now.root) }
+    requires row { sort_of (site_at (sites_of plan.now.root) node).node ≡ sort.Row }
+    requires taken { taken ≤ place }
+{
+    if place == 0 {
+        return Some(plan.rest(node, 0, 0));
     }
-    Some(plan.rest(node, place, taken))
+    match plan.slot(node, place - 1, meter) {
+        Some(_) => Some(plan.rest(node, place, taken)),
+        None => None,
+    }
 }
 
 fn try_rest(
@@ -638,22 +644,13 @@ static SLOTS: [(&str, (&str, &str, u32), At, &[(&str, bool, bool)]); 5] = [
     ),
 ];
 
-fn parts_of(slot: Slot<'_>) -> (&str, bool, bool) {
-    let Slot {
-        name,
-        node: _node,
-        must,
-        key,
-    } = slot;
-    (name, must, key)
-}
-
 fn is_slot(rt: &impl Abort, slot: Option<Slot<'_>>, wanted: (&str, bool, bool), name: &str) {
     let Some(slot) = slot else {
         holds(rt, false, "a slot", name);
         return;
     };
-    assert_eq!(rt; parts_of(slot), wanted, "a slot of {name}");
+    let found = (slot.name, slot.must, slot.key);
+    assert_eq!(rt; found, wanted, "a slot of {name}");
 }
 
 fn has_slots(

@@ -202,6 +202,7 @@ impl<Z: SizeSet> Plan<Z> {
         requires row { sort_of (site_at (sites_of self.now.root) node).node ≡ sort.Row }
         ensures some { IfSome result (λ t. IsSlotAt (sites_of self.now.root) (slots_of self.now.pools (site_at (sites_of self.now.root) node)) place t) }
         ensures below { IfSome result (λ t. t.node < node) }
+        ensures within { IfSome result (λ _. place < length (slots_of self.now.pools (site_at (sites_of self.now.root) node))) }
         ensures none { IfNone result (length (slots_of self.now.pools (site_at (sites_of self.now.root) node)) ≤ place) }
         ensures step { meter.new ≡ counted meter.old 1 }
     {

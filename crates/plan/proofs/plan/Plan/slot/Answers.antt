@@ -22,6 +22,16 @@ returns-in-Some-clause-below g c =
     let is = slice_get_at c.in-Row.row.slots.items c.args.place c.in-Some.slot.now l.0 (l.1 c.in-Some.slot.now) in
     (slot_at c.self.inside.arena.values.names.items (sites_of c.args.self.now.root) c.args.node c.in-Row.row.slots.items _ c.args.place c.in-Some.slot.now row.are is).1.1.below
 
+pub returns-in-Some-clause-within : goal.returns-in-Some-clause-within
+returns-in-Some-clause-within g c =
+    let holds = g.Z.SizeSet.holds in
+    let r = entry_right holds g.Z.SizeSet.BITS c.self.inside.schema c.self.inside.pools c.self.inside.arena.limit c.self.inside.arena.values c.self.inside.arena.entries.items c.self.inside.root c.args.self.now c.args.node c.entry.result.now c.self.invariant c.self.view_is c.requires.node c.entry.ensures in
+    let row = rw c.in-Row.is at r.content in
+    let l = rw c.deref.ensures.value at c.in-Some.ensures.lookup.3 in
+    let is = slice_get_at c.in-Row.row.slots.items c.args.place c.in-Some.slot.now l.0 (l.1 c.in-Some.slot.now) in
+    let count = slot_count _ _ _ _ _ row.are in
+    omega (arith, l.0, count)
+
 pub returns-in-None-clause-none : goal.returns-in-None-clause-none
 returns-in-None-clause-none g c =
     let holds = g.Z.SizeSet.holds in
