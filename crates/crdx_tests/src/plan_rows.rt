@@ -7,7 +7,7 @@ ghost use Rattle.plan.specs.declared.sort.Sort.TheVariants as sort;
 use crate::documents::ZERO_AND_ONE;
 use crate::harness::{crd_of, holds, is_number, is_said, is_tree};
 use jtree::Tree;
-use plan::{Distinct, Meter, Plan, PlanNode, Pools, SizeSet, Slot, Sort};
+use plan::{Distinct, Meter, Plan, PlanNode, Pools, SizeSet, Sort};
 use std::alloc::Global;
 use std::process::Abort;
 use std::test::Fail;
@@ -83,6 +83,11 @@ fn plan_of(
     let plan = made(alloc, given);
     holds(rt, plan.is_ok(), "a plan", name);
     plan
+}
+
+// A place in a short table.
+fn place_of(index: usize) -> u32 {
+    index.min(99) as u32
 }
 
 // A node of a plan: the root, the root's first slot, a slot of this one, or its items.
@@ -644,13 +649,20 @@ static SLOTS: [(&str, (&str, &str, u32), At, &[(&str, bool, bool)]); 5] = [
     ),
 ];
 
-fn is_slot(rt: &impl Abort, slot: Option<Slot<'_>>, wanted: (&str, bool, bool), name: &str) {
-    let Some(slot) = slot else {
-        holds(rt, false, "a slot", name);
-        return;
-    };
-    let found = (slot.name, slot.must, slot.key);
-    assert_eq!(rt; found, wanted, "a slot of {name}");
+// The name of a slot, whether something must stand there, and whether it is a key.
+fn slot_parts<'a>(
+    plan: &'a Plan<u64>,
+    node: PlanNode,
+    place: u32,
+    meter: &mut Meter,
+) -> Option<(&'a str, bool, bool)>
+    requires node { node < length (sites_of plan.now.root) }
+    requires row { sort_of (site_at (sites_of plan.now.root) node).node ≡ sort.Row }
+{
+    match plan.slot(node, place, meter) {
+        Some(slot) => Some((slot.name, slot.must, slot.key)),
+        None => None,
+    }
 }
 
 fn has_slots(
@@ -665,9 +677,10 @@ fn has_slots(
     requires row { sort_of (site_at (sites_of plan.now.root) node).node ≡ sort.Row }
 {
     for (place, slot) in wanted.iter().enumerate() {
-        is_slot(rt, plan.slot(node, place as u32, meter), *slot, name);
+        let found = slot_parts(plan, node, place_of(place), meter);
+        assert_eq!(rt; found, Some(*slot), "a slot of {name}");
     }
-    let behind = slot_of(plan, node, wanted.len() as u32, meter);
+    let behind = slot_of(plan, node, place_of(wanted.len()), meter);
     holds(rt, behind.is_none(), "no slot behind the last", name);
 }
 
@@ -773,10 +786,10 @@ fn has_candidates(
     let count = wanted.len();
     is_number(rt, plan.count(node), count as u64, "the count", name);
     for (place, text) in wanted.iter().enumerate() {
-        let found = plan.candidate(node, place as u32, meter);
+        let found = plan.candidate(node, place_of(place), meter);
         is_candidate(rt, alloc, found, text, name)?;
     }
-    let behind = plan.candidate(node, count as u32, meter);
+    let behind = plan.candidate(node, place_of(count), meter);
     holds(rt, behind.is_none(), "no candidate behind the last", name);
     Ok(())
 }
