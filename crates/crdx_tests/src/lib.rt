@@ -44,11 +44,17 @@ mod prune_rows;
 #[cfg(test)]
 mod reading_rows;
 #[cfg(test)]
+mod reference;
+#[cfg(test)]
+mod reference_rows;
+#[cfg(test)]
 mod refusal_rows;
 #[cfg(test)]
 mod sample_rows;
 #[cfg(test)]
 mod size_set_rows;
+#[cfg(test)]
+mod small_plans;
 #[cfg(test)]
 mod tree_rows;
 #[cfg(test)]

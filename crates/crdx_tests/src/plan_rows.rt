@@ -4,70 +4,43 @@ ghost use Rattle.plan.specs.Samples.Sites.{site_at, sites_of};
 ghost use Rattle.plan.specs.Samples.Candidates.{sort_of};
 ghost use Rattle.plan.specs.declared.sort.Sort.TheVariants as sort;
 
-use crate::documents::ZERO_AND_ONE;
+use crate::documents::{
+    DEFAULTED, LABELS, MAP_LIST, NAMES, NULLABLE, OPEN, OPEN_NULLABLE, REPEATED, SET, SPEC, TRUTHS,
+    TWO_TEXTS, ZERO_AND_ONE, ZERO_AND_SEVEN,
+};
 use crate::harness::{crd_of, holds, is_number, is_said, is_tree};
 use jtree::Tree;
 use plan::{Distinct, Meter, Plan, PlanNode, Pools, SizeSet, Sort};
+use schema::items_told_apart;
 use std::alloc::Global;
 use std::process::Abort;
 use std::test::Fail;
-use stored::{Schema, accept};
-
-const TRUTHS: &str =
-    r#"{"type":"object","properties":{"o":{"type":"object","minProperties":2,"properties":{"a":{"type":"boolean"},"b":{"type":"boolean"},"c":{"type":"boolean"}}}}}"#;
-
-const MAP_LIST: &str =
-    r#"{"type":"object","properties":{"m":{"type":"array","x-kubernetes-list-type":"map","x-kubernetes-list-map-keys":["k"],"items":{"type":"object","properties":{"k":{"type":"string"},"v":{"type":"integer"}},"required":["k"]}}}}"#;
+use stored::{Schema, accept, stored_by_parts};
 
 const LONG_MAP_LIST: &str =
     r#"{"type":"object","properties":{"m":{"type":"array","minItems":3,"x-kubernetes-list-type":"map","x-kubernetes-list-map-keys":["k"],"items":{"type":"object","properties":{"k":{"type":"string"},"v":{"type":"integer"}},"required":["k"]}}}}"#;
 
-const TWO_TEXTS: &str = r#"{"strings":["a","b"],"integers":[0]}"#;
-
-const SPEC: &str =
-    r#"{"type":"object","properties":{"spec":{"type":"object","properties":{"a":{"type":"integer"},"b":{"type":"boolean"}}}}}"#;
+const THREE_KEYS: &str =
+    r#"{"type":"object","properties":{"m":{"type":"array","x-kubernetes-list-type":"map","x-kubernetes-list-map-keys":["d","a","c"],"items":{"type":"object","properties":{"a":{"type":"integer"},"b":{"type":"string"},"c":{"type":"boolean"},"d":{"type":"string"}},"required":["a","c","d"]}}}}"#;
 
 const FIFTEEN: &str =
     r#"{"type":"object","required":["t"],"properties":{"t":{"type":"array","minItems":15,"maxItems":15,"items":{"type":"object","required":["a","b","c"],"properties":{"a":{"type":"boolean"},"b":{"type":"boolean"},"c":{"type":"boolean"}}}}}}"#;
-
-const SET: &str =
-    r#"{"type":"object","properties":{"s":{"type":"array","x-kubernetes-list-type":"set","items":{"type":"integer"}}}}"#;
-
-const REPEATED: &str = r#"{"integers":[2,1,2]}"#;
-
-const NULLABLE: &str = r#"{"type":"object","properties":{"n":{"type":"object","nullable":true}}}"#;
-
-const DEFAULTED: &str =
-    r#"{"type":"object","properties":{"spec":{"type":"object","properties":{"f":{"type":"integer","default":7}}}}}"#;
-
-const ZERO_AND_SEVEN: &str = r#"{"integers":[0,7]}"#;
-
-const LABELS: &str =
-    r#"{"type":"object","properties":{"labels":{"type":"object","additionalProperties":{"type":"string"}}}}"#;
-
-const NAMES: &str = r#"{"names":["k","j","k"],"strings":["x"]}"#;
-
-const OPEN: &str =
-    r#"{"type":"object","properties":{"x":{"x-kubernetes-preserve-unknown-fields":true}}}"#;
-
-const OPEN_NULLABLE: &str =
-    r#"{"type":"object","properties":{"x":{"x-kubernetes-preserve-unknown-fields":true,"nullable":true}}}"#;
 
 const TREES: &str = r#"{"any":[null,{"q":1},"z",{"q":1}]}"#;
 
 const FOUR_NODES: &str = r#"{"any":[[1,2,3]]}"#;
 
-fn schema_of(alloc: Global, schema: &str) -> Result<Schema, Fail> {
+pub fn schema_of(alloc: Global, schema: &str) -> Result<Schema, Fail> {
     let crd = crd_of(alloc, schema)??;
     Ok(accept(alloc, crd.raw)?)
 }
 
-fn pools_of(alloc: Global, pools: &str) -> Result<Pools, Fail> {
+pub fn pools_of(alloc: Global, pools: &str) -> Result<Pools, Fail> {
     let document = Tree::from_bytes(alloc, pools.as_bytes())?;
     Ok(Pools::read(alloc, &document)?)
 }
 
-fn made(alloc: Global, given: (&str, &str, u32)) -> Result<Plan<u64>, Fail> {
+pub fn made(alloc: Global, given: (&str, &str, u32)) -> Result<Plan<u64>, Fail> {
     let (schema, pools, limit) = given;
     let pools = pools_of(alloc, pools)?;
     Ok(Plan::new(alloc, schema_of(alloc, schema)?, pools, limit)?)
@@ -86,8 +59,8 @@ fn plan_of(
 }
 
 // A place in a short table.
-fn place_of(index: usize) -> u32 {
-    index.min(99) as u32
+pub fn place_of(index: usize) -> u64 {
+    index.min(99) as u64
 }
 
 // A node of a plan: the root, the root's first slot, a slot of this one, or its items.
@@ -95,12 +68,12 @@ fn place_of(index: usize) -> u32 {
 enum At {
     Root,
     First,
-    Slot(u32),
+    Slot(u64),
     Item,
 }
 
 // The node of a slot.
-fn slot_of(plan: &Plan<u64>, node: PlanNode, place: u32, meter: &mut Meter) -> Option<PlanNode>
+pub fn slot_of(plan: &Plan<u64>, node: PlanNode, place: u64, meter: &mut Meter) -> Option<PlanNode>
     requires { node < length (sites_of plan.now.root) }
     ensures { IfSome result (λ n. n < length (sites_of plan.now.root)) }
 {
@@ -113,7 +86,7 @@ fn slot_of(plan: &Plan<u64>, node: PlanNode, place: u32, meter: &mut Meter) -> O
     }
 }
 
-fn item_of(plan: &Plan<u64>, node: PlanNode, place: u32, meter: &mut Meter) -> Option<PlanNode>
+pub fn item_of(plan: &Plan<u64>, node: PlanNode, place: u32, meter: &mut Meter) -> Option<PlanNode>
     requires { node < length (sites_of plan.now.root) }
     ensures { IfSome result (λ i. i < length (sites_of plan.now.root)) }
 {
@@ -138,7 +111,7 @@ fn node_at(plan: &Plan<u64>, at: At, meter: &mut Meter) -> Option<PlanNode>
     }
 }
 
-fn are_sizes(
+pub fn are_sizes(
     rt: &impl Abort,
     alloc: Global,
     set: u64,
@@ -424,7 +397,7 @@ fn sizes_of_all_objects(rt: HostRuntime) -> Result<(), Fail> {
 }
 
 // A name, a place of the slots of `o`, how many before it are filled, and the sizes that those from it on can take.
-static REST: [(&str, u32, u32, &[u32]); 7] = [
+static REST: [(&str, u64, u32, &[u32]); 7] = [
     ("no slot", 0, 0, &[2, 3]),
     ("an empty slot", 1, 0, &[2]),
     ("a filled slot", 1, 1, &[1, 2]),
@@ -438,14 +411,14 @@ static REST: [(&str, u32, u32, &[u32]); 7] = [
 fn rest_of(
     plan: &Plan<u64>,
     node: PlanNode,
-    place: u32,
+    place: u64,
     taken: u32,
     meter: &mut Meter,
 ) -> Option<u64>
     requires { node < length (sites_of plan.now.root) }
 {
     match plan.sort(node) {
-        Sort::Row if taken <= place => rest_at(plan, node, place, taken, meter),
+        Sort::Row if u64::from(taken) <= place => rest_at(plan, node, place, taken, meter),
         _ => None,
     }
 }
@@ -453,7 +426,7 @@ fn rest_of(
 fn rest_at(
     plan: &Plan<u64>,
     node: PlanNode,
-    place: u32,
+    place: u64,
     taken: u32,
     meter: &mut Meter,
 ) -> Option<u64>
@@ -475,7 +448,7 @@ fn try_rest(
     alloc: Global,
     plan: &Plan<u64>,
     meter: &mut Meter,
-    row: &(&str, u32, u32, &[u32]),
+    row: &(&str, u64, u32, &[u32]),
 ) -> Result<(), Fail> {
     let (name, place, taken, wanted) = *row;
     let Some(node) = node_at(plan, At::First, meter) else {
@@ -615,31 +588,46 @@ fn lists(rt: HostRuntime) -> Result<(), Fail> {
 }
 
 // A name, a schema with its pools and limit, a node, and the names of its slots, each with whether something must stand
-// there and whether it is a key.
-static SLOTS: [(&str, (&str, &str, u32), At, &[(&str, bool, bool)]); 5] = [
+// there, whether it is a key, and how many tuples the keys behind it have.
+static SLOTS: [(&str, (&str, &str, u32), At, &[(&str, bool, bool, u64)]); 6] = [
     (
         "an item of a map list",
         (MAP_LIST, TWO_TEXTS, 8),
         At::Item,
-        &[("k", true, true), ("v", false, false)],
+        &[("k", true, true, 1), ("v", false, false, 1)],
+    ),
+    (
+        "an item of a map list with three keys",
+        (THREE_KEYS, TWO_TEXTS, 8),
+        At::Item,
+        &[
+            ("a", true, true, 4),
+            ("b", false, false, 4),
+            ("c", true, true, 2),
+            ("d", true, true, 1),
+        ],
     ),
     (
         "a field with a default",
         (DEFAULTED, ZERO_AND_SEVEN, 3),
         At::First,
-        &[("f", true, false)],
+        &[("f", true, false, 1)],
     ),
     (
         "a map over names with a repeat",
         (LABELS, NAMES, 4),
         At::First,
-        &[("j", false, false), ("k", false, false)],
+        &[("j", false, false, 1), ("k", false, false, 1)],
     ),
     (
         "required fields",
         (FIFTEEN, "{}", 63),
         At::Item,
-        &[("a", true, false), ("b", true, false), ("c", true, false)],
+        &[
+            ("a", true, false, 1),
+            ("b", true, false, 1),
+            ("c", true, false, 1),
+        ],
     ),
     (
         "an object without properties",
@@ -649,18 +637,18 @@ static SLOTS: [(&str, (&str, &str, u32), At, &[(&str, bool, bool)]); 5] = [
     ),
 ];
 
-// The name of a slot, whether something must stand there, and whether it is a key.
+// The name of a slot, whether something must stand there, whether it is a key, and the tuples of the keys behind it.
 fn slot_parts<'a>(
     plan: &'a Plan<u64>,
     node: PlanNode,
-    place: u32,
+    place: u64,
     meter: &mut Meter,
-) -> Option<(&'a str, bool, bool)>
+) -> Option<(&'a str, bool, bool, u64)>
     requires node { node < length (sites_of plan.now.root) }
     requires row { sort_of (site_at (sites_of plan.now.root) node).node ≡ sort.Row }
 {
     match plan.slot(node, place, meter) {
-        Some(slot) => Some((slot.name, slot.must, slot.key)),
+        Some(slot) => Some((slot.name, slot.must, slot.key, slot.later)),
         None => None,
     }
 }
@@ -669,7 +657,7 @@ fn has_slots(
     rt: &impl Abort,
     plan: &Plan<u64>,
     node: PlanNode,
-    wanted: &[(&str, bool, bool)],
+    wanted: &[(&str, bool, bool, u64)],
     meter: &mut Meter,
     name: &str,
 )
@@ -689,7 +677,7 @@ fn try_slots(
     plan: &Plan<u64>,
     meter: &mut Meter,
     at: At,
-    wanted: &[(&str, bool, bool)],
+    wanted: &[(&str, bool, bool, u64)],
     name: &str,
 ) {
     let Some(node) = node_at(plan, at, meter) else {
@@ -705,7 +693,7 @@ fn try_slots(
 fn have_slots(
     rt: &impl Abort,
     alloc: Global,
-    row: &(&str, (&str, &str, u32), At, &[(&str, bool, bool)]),
+    row: &(&str, (&str, &str, u32), At, &[(&str, bool, bool, u64)]),
 ) -> Result<(), Fail> {
     let (name, given, at, wanted) = *row;
     let mut plan = plan_of(rt, alloc, given, name)?;
@@ -1038,5 +1026,16 @@ fn steps(rt: HostRuntime) -> Result<(), Fail> {
     let mut plan = plan_of(&rt, rt.alloc(), (MAP_LIST, TWO_TEXTS, 8), "a map list")?;
     let mut meter = plan.meter();
     count_steps(&rt, &plan, &mut meter);
+    Ok(())
+}
+
+/// The laws that nothing runs for end, and leave the plan as it is.
+#[test]
+fn laws(rt: HostRuntime) -> Result<(), Fail> {
+    items_told_apart();
+    stored_by_parts();
+    let plan = plan_of(&rt, rt.alloc(), (MAP_LIST, TWO_TEXTS, 8), "a map list")?;
+    plan.no_dead_end();
+    is_number(&rt, plan.width(), 2, "the width", "a map list");
     Ok(())
 }

@@ -1,5 +1,5 @@
 -- What is added to a plan, node by node.
-use Rattle.std.specs.Prelude.{◌≡◌, ℕ, zero, suc, ◌+◌, ◌<◌, List, map, take, Bool, true, false, Option, Some, option_map, ◌||◌, is_some}
+use Rattle.std.specs.Prelude.{◌≡◌, ℕ, zero, suc, ◌+◌, ◌≤◌, ◌<◌, List, map, take, Bool, true, false, Option, Some, option_map, ◌||◌, is_some}
 use Rattle.std.specs.Str.{bytes_eq}
 use Rattle.std.proofs.Common.{refl, ap, sym, ◌∙◌, inl, inr, arith, [], ◌∷◌, ◌++◌, length, get_or}
 use Rattle.std.proofs.lemmas.Bool.{cases_Bool}
@@ -170,14 +170,14 @@ pub row_built : {Z : Type 0} (holds : Z → ℕ → Type 0) (limit : ℕ) (v : V
     → length mid ≡ length old + length (sites_below sort) → new ≡ mid ++ e ∷ [] → n ≡ length mid
     → ((P : Pools) (sites : List Site) → AreValues P v → IsSortSound sort → Stand sites (length old) (sites_below sort) → AreRight holds limit P v sites old → AreRight holds limit P v sites mid)
     → ((P : Pools) (sites : List Site) → AreValues P v → Stand sites (length old) (sites_below sort) → AreSlots v.names.items sites (length mid) es (slots_at P (node nullable description sort) keys))
-    → ((P : Pools) (sites : List Site) (i : ℕ) → AreRight holds limit P v sites mid → IsNode (site_at sites i).node → sort_of (site_at sites i).node ≡ Row → bounds_of (site_at sites i).node ≡ b → is_nullable (site_at sites i).node ≡ nullable
+    → ((P : Pools) (sites : List Site) (i : ℕ) → AreRight holds limit P v sites mid → i ≤ length mid → IsNode (site_at sites i).node → sort_of (site_at sites i).node ≡ Row → bounds_of (site_at sites i).node ≡ b → is_nullable (site_at sites i).node ≡ nullable
     → AreSlots v.names.items sites i es (slots P (site_at sites i)) → IsRight holds limit P v sites i e)
     → IsBuilt holds limit v old new (node nullable description sort) keys n
 row_built holds limit v old mid new nullable description sort keys b es e n o row bounds count is number below are entry =
     node_built holds limit v old mid new nullable description sort keys e n count is number
     (λ P sites values sound stand here right.
     let m = below P sites values sound.1 stand right in
-    (m, entry P sites (length mid) m (rw here o) (rw here row) (rw here bounds) (rw here refl) (rw here (are P sites values stand))))
+    (m, entry P sites (length mid) m (omega arith) (rw here o) (rw here row) (rw here bounds) (rw here refl) (rw here (are P sites values stand))))
 
 -- a list whose item is there
 pub list_built : {Z : Type 0} (holds : Z → ℕ → Type 0) (limit : ℕ) (v : Values) (old mid new : List (Entry Z)) (nullable : Bool) (description : Option (List ℕ)) (M : Node) (type : ListType) (item_names : List (List ℕ)) (b : Bounds) (keys : List (List ℕ)) (item : PlanNode) (e : Entry Z) (n : ℕ)

@@ -4,8 +4,7 @@ use Rattle.std.proofs.Common.{refl, ap, sym, ◌∙◌, subst, arith}
 use Rattle.std.proofs.lemmas.Option.{same_Some}
 use Rattle.std.proofs.lemmas.Bool.{le-ltb, ltb-false}
 use Rattle.schema.specs.declared.node.ListType.{ListType}
-use Rattle.schema.specs.Nodes.Node.{Node, node, scalar, object, list, open_, Fields, IsNode, AreOrdered}
-use Rattle.schema.specs.Nodes.Node as nodes
+use Rattle.schema.specs.Nodes.Node.{Node, node, object, list, IsNode}
 use Rattle.schema.specs.Nodes.Items.{IsPlainScalar, HasKeys, HasSoundItems}
 use Rattle.schema.specs.declared.node.Bounds.{Bounds}
 use Rattle.schema.specs.declared.node.ListType.TheVariants.{Atomic, Set, Map}
@@ -28,22 +27,16 @@ use Rattle.plan.specs.Samples.RuleOfParts.{alike_at}
 use Rattle.plan.specs.Samples.NoDeadEnd.{is_key, AreCounts}
 use Rattle.plan.specs.Internal.Lists.{HasMoreFree, HasMoreApart, AreMore, cut, most_or}
 use Rattle.plan.specs.Internal.PartLaws.{PartLaws}
-use Rattle.plan.specs.Internal.Tuples.{AreKeysLeaves, HasTuples, IsCutTo}
-use Rattle.plan.specs.declared.sort.Sort.TheVariants.{Leaf, Row}
+use Rattle.plan.specs.Samples.Keys.{HasTuples}
+use Rattle.plan.specs.Internal.Tuples.{AreKeysLeaves, IsCutTo}
+use Rattle.plan.specs.declared.sort.Sort.TheVariants.{Row}
 use Rattle.plan.proofs.PartLemmas.{StoredLaw}
 use Rattle.plan.proofs.ListLemmas.{count_nodes}
 use Rattle.plan.proofs.SiteLemmas.{whole_up_to, list_sizes}
 use Rattle.plan.proofs.MoreLemmas.{more_parts}
 use Rattle.plan.proofs.KeyedLemmas.{more_free, more_apart}
-use Rattle.plan.proofs.SetLemmas.{set_keyed}
+use Rattle.plan.proofs.SetLemmas.{plain_leaf, set_keyed}
 use Rattle.plan.proofs.MapListLemmas.{map_keyed, key_slot}
-
-pub plain_leaf : (N : Node) → IsPlainScalar N → sort_of N ≡ Leaf
-plain_leaf (node n t (scalar kind cs)) plain = refl
-plain_leaf (node n t (object fs preserves type b)) plain = absurd plain
-plain_leaf (node n t (nodes.map M type b)) plain = absurd plain
-plain_leaf (node n t (list M type keys b)) plain = absurd plain
-plain_leaf (node n t open_) plain = absurd plain
 
 -- the keys of the items of a map list are leaves of a row
 pub keys_leaves : (P : Pools) (M : Node) (keys : List (List ℕ)) → IsNode M → HasKeys M keys → AreKeysLeaves (slots P (record { node = M; keys = keys }))

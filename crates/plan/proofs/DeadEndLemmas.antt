@@ -23,14 +23,14 @@ use Rattle.plan.specs.Internal.PartLaws.{IsItemsPart, PartLaws}
 use Rattle.plan.specs.Internal.Keyed.{Keyed}
 use Rattle.plan.specs.declared.sort.Sort.TheVariants.{Leaf, Row}
 use Rattle.plan.proofs.ApartLemmas.{among_filter}
-use Rattle.plan.proofs.CutLemmas.{plain_leaf, keys_leaves, keys_row}
+use Rattle.plan.proofs.CutLemmas.{keys_leaves, keys_row}
 use Rattle.plan.proofs.KeyedLemmas.{then_are, CompletesApart, completes_free, completes_apart}
 use Rattle.plan.proofs.ListLemmas.{from_count, count_nodes}
 use Rattle.plan.proofs.MapListLemmas.{map_keyed}
 use Rattle.plan.proofs.MoreLemmas.{more_parts}
 use Rattle.plan.proofs.PartLemmas.{StoredLaw}
 use Rattle.plan.proofs.RowLemmas.{fill_none, drop_all}
-use Rattle.plan.proofs.SetLemmas.{set_keyed}
+use Rattle.plan.proofs.SetLemmas.{plain_leaf, set_keyed}
 use Rattle.plan.proofs.TupleLemmas.{free_tuples}
 
 -- ---- what the parts are

@@ -1,5 +1,5 @@
 -- The entries of rows and lists.
-use Rattle.std.specs.Prelude.{◌≡◌, ℕ, suc, ◌+◌, ◌-◌, ◌≤◌, ◌⊎◌, ◌↔◌, Bool, true, List}
+use Rattle.std.specs.Prelude.{◌≡◌, ℕ, zero, suc, drop, ◌+◌, ◌-◌, ◌≤◌, ◌⊎◌, ◌↔◌, Bool, true, List}
 use Rattle.std.proofs.Common.{refl, ap, sym, ◌∙◌, arith, [], ◌∷◌, ◌++◌, length, get_or}
 use Rattle.std.specs.declared.vec.Vec.{Vec}
 use Rattle.std.specs.declared.alloc.Global.{Global}
@@ -13,7 +13,7 @@ use Rattle.plan.specs.Samples.Candidates.{sort_of}
 use Rattle.plan.specs.Samples.Sizes.{HasSize, CanFill, bounds_of, IsUpTo}
 use Rattle.plan.specs.Internal.Tables.{AreChoices, AreShaped, AreLevels}
 use Rattle.plan.specs.Internal.PartLaws.{PartLaws}
-use Rattle.plan.specs.Internal.Arena.{AreSlots, IsChosen, AreChosen, IsRight, AreRight}
+use Rattle.plan.specs.Internal.Arena.{AreSlots, AreLater, IsChosen, AreChosen, IsRight, AreRight}
 use Rattle.plan.specs.Samples.Sites.{site_at}
 use Rattle.plan.specs.declared.sort.Sort.TheVariants.{Row}
 use Rattle.plan.specs.declared.values.Values.{Values}
@@ -54,6 +54,13 @@ slot_count names sites i [] (s ∷ ss) h = absurd h
 slot_count names sites i (x ∷ xs) [] h = absurd h
 slot_count names sites i (x ∷ xs) (s ∷ ss) h = ap suc (slot_count names sites i xs ss h.1)
 
+pub slots_drop : (names : List (List ℕ)) (sites : List Site) (i n : ℕ) (xs : List SlotEntry) (ss : List Slot) → AreSlots names sites i xs ss → AreSlots names sites i (drop n xs) (drop n ss)
+slots_drop names sites i zero xs ss h = h
+slots_drop names sites i (suc n) [] [] h = tt
+slots_drop names sites i (suc n) [] (s ∷ ss) h = absurd h
+slots_drop names sites i (suc n) (x ∷ xs) [] h = absurd h
+slots_drop names sites i (suc n) (x ∷ xs) (s ∷ ss) h = slots_drop names sites i n xs ss h.1
+
 -- the level before the first slot is the last one made
 first_level : {Z : Type 0} (holds : Z → ℕ → Type 0) (limit : ℕ) (b : Bounds) (P : Pools) (ss : List Slot) (levels : List (Vec Z Global)) (level : Vec Z Global) (z : Z) (count : ℕ) → AreLevels holds limit b P ss levels → AreShaped count levels
     → length levels ≡ count + 1 → count ≡ length ss → level ≡ get_or levels count level → z ≡ get_or level.items 0 z → IsUpTo limit (holds z) (CanFill P ss b 0)
@@ -65,18 +72,18 @@ first_level holds limit b P ss levels level z count h shaped whole same is is_z 
     rw e at n
 
 -- the entry of a row, from the choices of its slots
-pub row_right : {Z : Type 0} (holds : Z → ℕ → Type 0) (limit : ℕ) (P : Pools) (v : Values) (sites : List Site) (i : ℕ) (slots' : Vec SlotEntry Global) (levels : Vec (Vec Z Global) Global) (b : Bounds) (nullable : Bool) (level : Vec Z Global) (z sizes : Z)
+pub row_right : {Z : Type 0} (holds : Z → ℕ → Type 0) (limit : ℕ) (P : Pools) (v : Values) (sites : List Site) (i : ℕ) (slots' : Vec SlotEntry Global) (later : Vec ℕ Global) (levels : Vec (Vec Z Global) Global) (b : Bounds) (nullable : Bool) (level : Vec Z Global) (z sizes : Z)
     → PartLaws → 1 ≤ limit → IsNode (site_at sites i).node → sort_of (site_at sites i).node ≡ Row → bounds_of (site_at sites i).node ≡ b → is_nullable (site_at sites i).node ≡ nullable
-    → AreSlots v.names.items sites i slots'.items (slots P (site_at sites i)) → length levels.items ≡ length slots'.items + 1 → AreShaped (length slots'.items) levels.items → AreLevels holds limit b P (slots P (site_at sites i)) levels.items
+    → AreSlots v.names.items sites i slots'.items (slots P (site_at sites i)) → length later.items ≡ length slots'.items → AreLater P (slots P (site_at sites i)) later.items → length levels.items ≡ length slots'.items + 1 → AreShaped (length slots'.items) levels.items → AreLevels holds limit b P (slots P (site_at sites i)) levels.items
     → level ≡ get_or levels.items (length slots'.items) level → z ≡ get_or level.items 0 z
     → ((n : ℕ) → holds sizes n ↔ (((nullable ≡ true) × (n ≡ 1)) ⊎ ((n ≤ limit) × IsSum (λ i. i ≡ 1) (holds z) n)))
-    → IsRight holds limit P v sites i (record { sizes = sizes; nullable = nullable; content = content.Row (record { slots = slots'; levels = levels }) })
-row_right holds limit P v sites i slots' levels b nullable level z sizes laws room o sort bounds null are whole shaped levels_are is is_z sized =
+    → IsRight holds limit P v sites i (record { sizes = sizes; nullable = nullable; content = content.Row (record { slots = slots'; later = later; levels = levels }) })
+row_right holds limit P v sites i slots' later levels b nullable level z sizes laws room o sort bounds null are later_whole later_are whole shaped levels_are is is_z sized =
     let s = site_at sites i in
     let here = rw (← bounds) at levels_are in
     let first = first_level holds limit (bounds_of s.node) P (slots P s) levels.items level z (length slots'.items) here shaped whole (slot_count v.names.items sites i slots'.items (slots P s) are) is is_z in
     record {
       sizes = whole_up_to limit s.node P (CanFill P (slots P s) (bounds_of s.node) 0) (holds z) (holds sizes) room (λ n l. row_sizes laws P s o sort n) first (rw (← null) at sized);
       nullable = sym null;
-      content = record { sort = sort; are = are; whole = whole; shaped = shaped; levels = here };
+      content = record { sort = sort; are = are; later_whole = later_whole; later = later_are; whole = whole; shaped = shaped; levels = here };
     }

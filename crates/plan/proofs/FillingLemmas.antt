@@ -8,17 +8,14 @@ use Rattle.jtree.specs.Nodes.{node_count, members_count}
 use Rattle.jtree.specs.Order.{text_cmp}
 use Rattle.jtree.specs.Path.{member_at}
 use Rattle.jtree.specs.Internal.Lookups.{bool_cases, option_cases, same_name, later_name, not_itself, member_first, member_later, member_tail, before_each, before_none}
-use Rattle.jtree.specs.Internal.Rising.{Among, Rising}
+use Rattle.jtree.specs.Internal.Rising.{Among, contains}
 use Rattle.stored.specs.Objects.Fault as fault
 use Rattle.plan.specs.Pools.Pools.{Pools}
 use Rattle.plan.specs.Samples.Part.{IsPart}
 use Rattle.plan.specs.Samples.Sites.{Slot}
 use Rattle.plan.specs.Samples.Sizes.{AreFillings, filled_nodes, filled_count}
 use Rattle.plan.specs.Samples.RuleOfParts.{members_in}
-
--- slots in the order of their names, no name twice
-abbrev pub AreInOrder : List Slot → Type 0
-AreInOrder ss = Rising (λ s t. text_cmp s.name t.name ≡ Less) ss
+use Rattle.plan.specs.Samples.Keys.{AreInOrder}
 
 -- the members are parts under the names of slots, and none is absent that must be there
 pub record AreInSlots (P : Pools) (ss : List Slot) (ms : Members) : Type 0 where
@@ -47,7 +44,7 @@ pub in_members : (P : Pools) (ss : List Slot) (gs : List (Option Data)) → AreI
 in_members P [] gs o h = tt
 in_members P (s ∷ ss) [] o h = tt
 in_members P (s ∷ ss) (None ∷ gs) o h = in_members P ss gs o.1 h.1
-in_members P (s ∷ ss) (Some v ∷ gs) o h = (h.0.tree, in_before s.name ss gs o.0, in_members P ss gs o.1 h.1)
+in_members P (s ∷ ss) (Some v ∷ gs) o h = (h.0.tree, in_before s.name ss gs (λ t a. o.0 t (contains ss t a)), in_members P ss gs o.1 h.1)
 
 in_present : (P : Pools) (ss : List Slot) (gs : List (Option Data)) → AreInOrder ss → AreFillings P ss gs → (s : Slot) → Among ss s → s.must ≡ true → member_at s.name (members_in ss gs) ≡ None → ⊥
 in_present P [] gs o h s a must none = a
@@ -55,7 +52,7 @@ in_present P (t ∷ ss) [] o h s a must none = absurd h
 in_present P (t ∷ ss) (None ∷ gs) o h s (inl e) must none = let no : t.must ≡ true = rw e must in let free = h.0 in cc
 in_present P (t ∷ ss) (None ∷ gs) o h s (inr a) must none = in_present P ss gs o.1 h.1 s a must none
 in_present P (t ∷ ss) (Some v ∷ gs) o h s (inl e) must none = let found = member_first s.name v (members_in ss gs) in let no = rw e at none in let x = sym found ∙ no in cc
-in_present P (t ∷ ss) (Some v ∷ gs) o h s (inr a) must none = in_present P ss gs o.1 h.1 s a must (sym (member_later s.name t.name v (members_in ss gs) (later_name s.name t.name (o.0 s a))) ∙ none)
+in_present P (t ∷ ss) (Some v ∷ gs) o h s (inr a) must none = in_present P ss gs o.1 h.1 s a must (sym (member_later s.name t.name v (members_in ss gs) (later_name s.name t.name (o.0 s (contains ss s a)))) ∙ none)
 
 pub in_slots : (P : Pools) (ss : List Slot) (gs : List (Option Data)) → AreInOrder ss → AreFillings P ss gs → AreInSlots P ss (members_in ss gs)
 in_slots P ss gs o h = record { named = in_named P ss gs h; present = in_present P ss gs o h }
@@ -97,7 +94,7 @@ behind_present P s ss d ms o members h = record {
         | inl e ↦ absurd (not_itself s.name k (ap (λ t. t.name) e ∙ r.2) past)
         | inr a ↦ (r.0, a, r.2, r.3)
       ];
-  present = λ t a must none. h.present t (inr a) must (member_later t.name s.name d ms (later_name t.name s.name (o.0 t a)) ∙ none);
+  present = λ t a must none. h.present t (inr a) must (member_later t.name s.name d ms (later_name t.name s.name (o.0 t (contains ss t a))) ∙ none);
 }
 
 -- the first member stands under the name of the first slot that has one
@@ -107,7 +104,7 @@ first_name P s ss l d ms w o members h is =
     elim r.1 [
       | inl e ↦ sym (ap (λ t. t.name) e ∙ r.2)
       | inr a ↦
-          let before : text_cmp s.name l ≡ Less = rw r.2 at (o.0 r.0 a) in
+          let before : text_cmp s.name l ≡ Less = rw r.2 at (o.0 r.0 (contains ss r.0 a)) in
           let gone = before_none s.name (member l d ms) before members in
           let no = sym gone ∙ is in
           absurd (cc)
@@ -126,7 +123,7 @@ first_part P s ss d ms o h =
     let n = h.named s.name d (member_first s.name d ms) in
     elim n.1 [
       | inl same ↦ subst (λ t. IsPart P t.node d) (sym same) n.3
-      | inr a ↦ absurd (not_itself s.name n.0.name (sym n.2) (o.0 n.0 a))
+      | inr a ↦ absurd (not_itself s.name n.0.name (sym n.2) (o.0 n.0 (contains ss n.0 a)))
     ]
 
 same_member : (k l : List ℕ) (d : Data) (ms ns : Members) → k ≡ l → ms ≡ ns → member k d ms ≡ member l d ns

@@ -23,4 +23,5 @@ pub mod KeyedLemmas
 pub mod SetLemmas
 pub mod MapListLemmas
 pub mod DeadEndLemmas
+pub mod SoundPartLemmas
 pub mod PlanSites

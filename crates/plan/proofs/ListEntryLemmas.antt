@@ -10,7 +10,8 @@ use Rattle.plan.specs.Samples.Candidates.{sort_of, HasCount}
 use Rattle.plan.specs.Samples.NoDeadEnd.{is_key, AreCounts, product}
 use Rattle.plan.specs.Internal.Arena.{IsSlot, AreSlots}
 use Rattle.plan.specs.Samples.Sites.{site_at}
-use Rattle.plan.specs.Internal.Tuples.{AreKeysLeaves, HasTuples}
+use Rattle.plan.specs.Samples.Keys.{HasTuples}
+use Rattle.plan.specs.Internal.Tuples.{AreKeysLeaves}
 use Rattle.plan.specs.declared.sort.Sort.TheVariants.{Leaf}
 use Rattle.plan.specs.declared.arena.SlotEntry.{SlotEntry}
 use Rattle.plan.proofs.BuildingLemmas.{append_none}

@@ -1,5 +1,5 @@
 -- The items of a map list: objects, of which the values under the keys are the key.
-use Rattle.std.specs.Prelude.{◌≡◌, ◌↔◌, ℕ, ◌+◌, List, true, false, Option, Some, None, All, filter, map, unwrap_or}
+use Rattle.std.specs.Prelude.{◌≡◌, ◌↔◌, ℕ, ◌+◌, List, Bool, true, false, Option, Some, None, All, filter, map, unwrap_or}
 use Rattle.std.specs.Bool.{Decides}
 use Rattle.std.proofs.Common.{refl, ap, sym, ◌∙◌, subst, inl, inr, arith, [], ◌∷◌, length}
 use Rattle.std.proofs.lemmas.Bool.{cases_Bool}
@@ -11,42 +11,49 @@ use Rattle.jtree.specs.Data as tree
 use Rattle.jtree.specs.Nodes.{node_count}
 use Rattle.jtree.specs.Path.{member_at}
 use Rattle.jtree.specs.Internal.Lookups.{option_cases, member_first, member_later, later_name}
-use Rattle.jtree.specs.Internal.Rising.{Among, contains, each_of}
+use Rattle.jtree.specs.Internal.Rising.{Among, contained, contains, each_of}
 use Rattle.schema.specs.Document.Texts.{is_among}
-use Rattle.schema.specs.Nodes.Node.{Node, node, object, Fields, no_fields, field, IsNode, AreOrdered}
+use Rattle.schema.specs.Nodes.Node.{Node, node, object, list, Fields, no_fields, field, IsNode, AreOrdered}
 use Rattle.schema.specs.Nodes.ByPlace.{Declared}
 use Rattle.schema.specs.Nodes.Items.{IsPlainScalar, IsKey, AreKeys, HasKeys}
 use Rattle.schema.specs.declared.node.ListType.TheVariants.{Map}
+use Rattle.schema.specs.declared.node.Bounds.{Bounds}
+use Rattle.stored.specs.Objects.Becomes.{is_nullable}
 use Rattle.stored.specs.Objects.Fault.{agree_at, agree, are_alike}
 use Rattle.stored.specs.Objects.StoredByParts.{IsWithin}
 use Rattle.plan.specs.Pools.Pools.{Pools}
 use Rattle.plan.specs.Samples.Part.{IsPart}
 use Rattle.plan.specs.Samples.Sites.{Site, Slot, slots, field_slots}
+use Rattle.plan.specs.Samples.Candidates.{sort_of}
+use Rattle.plan.specs.declared.sort.Sort.TheVariants.{Row}
 use Rattle.plan.specs.Samples.Sizes.{AreFillings, filled_nodes, filled_count, bounds_of}
 use Rattle.plan.specs.Samples.RuleOfParts.{members_in}
 use Rattle.plan.specs.Samples.NoDeadEnd.{is_key, IsTuple, AreCounts, product}
+use Rattle.plan.specs.Samples.Keys.{AreInOrder, IsKeySlot, AreKeySlots, under, key_under, AreMapItems}
 use Rattle.plan.specs.Internal.PartLaws.{IsObjectPart, PartLaws}
 use Rattle.plan.specs.Internal.Keyed.{Keyed}
 use Rattle.plan.proofs.ApartLemmas.{map_same, same_map, among_filter, filter_among}
 use Rattle.plan.proofs.TupleLemmas.{same_tree, all_tuples}
-use Rattle.plan.proofs.FillingLemmas.{AreInOrder, in_slots, in_nodes}
+use Rattle.plan.proofs.FillingLemmas.{in_slots, in_nodes}
 use Rattle.plan.proofs.PartLemmas.{StoredLaw, slot_of_field, field_of_slot, fields_in_order, among_name, name_among}
-use Rattle.plan.proofs.SetLemmas.{scalar_one}
+use Rattle.plan.proofs.SetLemmas.{plain_leaf, scalar_one, scalar_no_null}
 
 -- ---- the slots of keys
 
--- something must stand there, of one node
-abbrev pub AreKeySlots : Pools → List Slot → Type 0
-AreKeySlots P ss = (s : Slot) → Among ss s → s.key ≡ true → (s.must ≡ true) × ((v : Data) → IsPart P s.node v → node_count v ≡ 1)
+own_key : (P : Pools) (s : Slot) (ss : List Slot) → AreKeySlots P (s ∷ ss) → s.key ≡ true → IsKeySlot P s
+own_key P s ss q = q s (contains (s ∷ ss) s (inl refl))
+
+later_keys : (P : Pools) (s : Slot) (ss : List Slot) → AreKeySlots P (s ∷ ss) → AreKeySlots P ss
+later_keys P s ss q = λ t c. q t (contains (s ∷ ss) t (inr (contained ss t c)))
 
 -- there is one for each key, and for no other name
-record HaveKeys (P : Pools) (keys : List (List ℕ)) (ss : List Slot) : Type 0 where
+pub record HaveKeys (P : Pools) (keys : List (List ℕ)) (ss : List Slot) : Type 0 where
   pub order : AreInOrder ss
   pub are : AreKeySlots P ss
   pub named : (s : Slot) → Among ss s → s.key ≡ true → Among keys s.name
   pub each : (k : List ℕ) → Among keys k → (s : Slot) × (Among ss s × (s.name ≡ k) × (s.key ≡ true))
 
-slot_key : (keys : List (List ℕ)) (fs : Fields) (s : Slot) → Among (field_slots keys fs) s → s.key ≡ is_among s.name keys
+pub slot_key : (keys : List (List ℕ)) (fs : Fields) (s : Slot) → Among (field_slots keys fs) s → s.key ≡ is_among s.name keys
 slot_key keys no_fields s a = absurd a
 slot_key keys (field l N required default fs) s (inl e) = subst (λ t. Slot.key t ≡ is_among (Slot.name t) keys) e refl
 slot_key keys (field l N required default fs) s (inr a) = slot_key keys fs s a
@@ -65,10 +72,10 @@ key_slot fs keys o h s a key =
     let same : f.0 ≡ g.0 = same_Some f.0 g.0 (sym f.1.0 ∙ g.1) in
     (named, f.1.1.2 ∙ rw same g.3, subst IsPlainScalar (ap (λ d. Declared.node d) (sym same) ∙ sym f.1.1.1) g.2)
 
-have_keys : StoredLaw → (P : Pools) (fs : Fields) (keys : List (List ℕ)) → AreOrdered fs → AreKeys fs keys → HaveKeys P keys (field_slots keys fs)
+pub have_keys : StoredLaw → (P : Pools) (fs : Fields) (keys : List (List ℕ)) → AreOrdered fs → AreKeys fs keys → HaveKeys P keys (field_slots keys fs)
 have_keys stored P fs keys o h = record {
   order = fields_in_order keys fs o;
-  are = λ s a key. let q = key_slot fs keys o h s a key in (q.1, scalar_one stored P s.node q.2);
+  are = λ s c key. let q = key_slot fs keys o h s (contained (field_slots keys fs) s c) key in record { must = q.1; leaf = plain_leaf s.node q.2; one = scalar_one stored P s.node q.2; no_null = scalar_no_null stored P s.node q.2 };
   named = λ s a key. (key_slot fs keys o h s a key).0;
   each = λ k a.
       let f = key_field fs keys h k a in
@@ -78,26 +85,21 @@ have_keys stored P fs keys o h = record {
 
 -- ---- the key of an object
 
-abbrev under : Members → Slot → Data
-under ms s = unwrap_or (member_at s.name ms) tree.null
-
--- what stands under the names of these slots
-abbrev pub key_under : List Slot → Data → List Data
-key_under ss (tree.object ms) = map (under ms) (filter is_key ss)
-key_under ss _ = []
-
 behind : (s : Slot) (ss : List Slot) (v : Data) (ms : Members) → AreInOrder (s ∷ ss) → map (under (member s.name v ms)) (filter is_key ss) ≡ map (under ms) (filter is_key ss)
-behind s ss v ms o = map_same (under (member s.name v ms)) (under ms) (filter is_key ss) (λ t a. ap (λ w. unwrap_or w tree.null) (member_later t.name s.name v ms (later_name t.name s.name (o.0 t (among_filter is_key ss t a).0))))
+behind s ss v ms o = map_same (under (member s.name v ms)) (under ms) (filter is_key ss) (λ t a. ap (λ w. unwrap_or w tree.null) (member_later t.name s.name v ms (later_name t.name s.name (o.0 t (contains ss t (among_filter is_key ss t a).0)))))
+
+key_other : (s : Slot) (ss : List Slot) (ms : Members) → s.key ≡ false → key_under (s ∷ ss) (tree.object ms) ≡ key_under ss (tree.object ms)
+key_other s ss ms other = rw other refl
 
 pub known_key : (P : Pools) (ss : List Slot) (gs : List (Option Data)) → AreInOrder ss → AreKeySlots P ss → AreFillings P ss gs → IsTuple P (filter is_key ss) (key_under ss (tree.object (members_in ss gs)))
 known_key P [] gs o q h = tt
 known_key P (s ∷ ss) [] o q h = absurd h
 known_key P (s ∷ ss) (None ∷ gs) o q h = elim (cases_Bool s.key) [
-  | inl key ↦ let must = (q s (inl refl) key).0 in let free = h.0 in absurd (cc)
-  | inr other ↦ rw other (known_key P ss gs o.1 (λ u a. q u (inr a)) h.1)
+  | inl key ↦ let must = (own_key P s ss q key).must in let free = h.0 in absurd (cc)
+  | inr other ↦ rw other (known_key P ss gs o.1 (later_keys P s ss q) h.1)
 ]
 known_key P (s ∷ ss) (Some v ∷ gs) o q h =
-    let r = known_key P ss gs o.1 (λ u a. q u (inr a)) h.1 in
+    let r = known_key P ss gs o.1 (later_keys P s ss q) h.1 in
     let ms = members_in ss gs in
     elim (cases_Bool s.key) [
       | inl key ↦ rw (key, member_first s.name v ms, behind s ss v ms o) (h.0, r)
@@ -132,16 +134,16 @@ refilled P [] [] (x ∷ k) o q h t = absurd t
 refilled P [] (g ∷ gs) k o q h t = absurd h
 refilled P (s ∷ ss) [] k o q h t = absurd h
 refilled P (s ∷ ss) (None ∷ gs) k o q h t = elim (cases_Bool s.key) [
-  | inl key ↦ let must = (q s (inl refl) key).0 in let free = h.0 in absurd (cc)
+  | inl key ↦ let must = (own_key P s ss q key).must in let free = h.0 in absurd (cc)
   | inr other ↦
-      let r = refilled P ss gs k o.1 (λ u a. q u (inr a)) h.1 (rw other at t) in
-      record { fillings = None ∷ r.fillings; are = (h.0, r.are); key_is = rw other r.key_is; nodes_are = r.nodes_are; count_is = r.count_is }
+      let r = refilled P ss gs k o.1 (later_keys P s ss q) h.1 (rw other at t) in
+      record { fillings = None ∷ r.fillings; are = (h.0, r.are); key_is = key_other s ss (members_in ss r.fillings) other ∙ r.key_is; nodes_are = r.nodes_are; count_is = r.count_is }
 ]
 refilled P (s ∷ ss) (Some v ∷ gs) k o q h t = elim (cases_Bool s.key) [
-  | inl key ↦ key_given P s ss v gs k o key (q s (inl refl) key).1 h.0 (rw key at t) (λ l is. refilled P ss gs l o.1 (λ u a. q u (inr a)) h.1 is)
+  | inl key ↦ key_given P s ss v gs k o key (own_key P s ss q key).one h.0 (rw key at t) (λ l is. refilled P ss gs l o.1 (later_keys P s ss q) h.1 is)
   | inr other ↦
-      let r = refilled P ss gs k o.1 (λ u a. q u (inr a)) h.1 (rw other at t) in
-      record { fillings = Some v ∷ r.fillings; are = (h.0, r.are); key_is = rw (other, behind s ss v (members_in ss r.fillings) o) r.key_is; nodes_are = ap (λ n. node_count v + n) r.nodes_are; count_is = ap (λ n. 1 + n) r.count_is }
+      let r = refilled P ss gs k o.1 (later_keys P s ss q) h.1 (rw other at t) in
+      record { fillings = Some v ∷ r.fillings; are = (h.0, r.are); key_is = key_other s ss (member s.name v (members_in ss r.fillings)) other ∙ behind s ss v (members_in ss r.fillings) o ∙ r.key_is; nodes_are = ap (λ n. node_count v + n) r.nodes_are; count_is = ap (λ n. 1 + n) r.count_is }
 ]
 
 -- ---- objects that agree on all keys
@@ -161,7 +163,7 @@ module _ {P : Pools} {keys : List (List ℕ)} {ss : List Slot} (h : HaveKeys P k
       ap (λ w. unwrap_or w tree.null) (All-contains (λ k. member_at k ms ≡ member_at k ns) keys s.name ((agree_decides ms ns keys).0 e) (contains keys s.name (h.named s f.0 f.1))))
 
   found : (gs : List (Option Data)) → AreFillings P ss gs → (s : Slot) → Among ss s → s.key ≡ true → (v : Data) × (member_at s.name (members_in ss gs) ≡ Some v)
-  found gs are s a key = elim (option_cases (member_at s.name (members_in ss gs))) [ inl none ↦ absurd ((in_slots P ss gs h.order are).present s a (h.are s a key).0 none) | inr v ↦ v ]
+  found gs are s a key = elim (option_cases (member_at s.name (members_in ss gs))) [ inl none ↦ absurd ((in_slots P ss gs h.order are).present s a (h.are s (contains ss s a) key).must none) | inr v ↦ v ]
 
   key_told : (gs hs : List (Option Data)) → AreFillings P ss gs → AreFillings P ss hs → key_under ss (tree.object (members_in ss gs)) ≡ key_under ss (tree.object (members_in ss hs)) → agree keys (members_in ss gs) (members_in ss hs) ≡ true
   key_told gs hs g i e =
@@ -186,6 +188,14 @@ module _ (P : Pools) (s : Site) (row : (v : Data) → IsPart P s.node v ↔ IsOb
       let part = (row w).1 (record { fillings = r.fillings; is = refl; are = r.are; within = rw r.count_is within }) in
       (w, (part, r.key_is, ap (λ m. 1 + m) (in_nodes P (slots P s) r.fillings r.are ∙ r.nodes_are ∙ sym (in_nodes P (slots P s) gs are))))
 
+  pub objects_told : (v w : Data) → IsPart P s.node v → IsPart P s.node w → (are_alike Map keys v w ≡ true) ↔ (key_under (slots P s) v ≡ key_under (slots P s) w)
+  objects_told v w p r =
+      let x = (row v).0 p in
+      let y = (row w).0 r in (
+        (λ e. rw (x.is, y.is) (key_tells h (members_in (slots P s) x.fillings) (members_in (slots P s) y.fillings) (rw (x.is, y.is) at e))),
+        λ e. rw (x.is, y.is) (key_told h x.fillings y.fillings x.are y.are (rw (x.is, y.is) at e)),
+      )
+
   objects_keyed : (counts : List ℕ) → AreCounts P (filter is_key (slots P s)) counts → (K : Keyed P s.node (are_alike Map keys)) × (length K.keys ≡ product counts)
   objects_keyed counts count =
       let all = all_tuples P (filter is_key (slots P s)) counts count in (
@@ -195,16 +205,26 @@ module _ (P : Pools) (s : Site) (row : (v : Data) → IsPart P s.node v ↔ IsOb
           apart = all.1.0.apart;
           known = λ v p. let x = (row v).0 p in (all.1.0.each (key_under (slots P s) v)).1 (rw x.is (known_key P (slots P s) x.fillings h.order h.are x.are));
           given = λ v k p a. let x = (row v).0 p in rw x.is (object_given x.fillings k x.are x.within ((all.1.0.each k).0 a));
-          tells = λ v w p r e. let x = (row v).0 p in let y = (row w).0 r in rw (x.is, y.is) (key_tells h (members_in (slots P s) x.fillings) (members_in (slots P s) y.fillings) (rw (x.is, y.is) at e));
-          told = λ v w p r e. let x = (row v).0 p in let y = (row w).0 r in rw (x.is, y.is) (key_told h x.fillings y.fillings x.are y.are (rw (x.is, y.is) at e));
+          tells = λ v w p r. (objects_told v w p r).0;
+          told = λ v w p r. (objects_told v w p r).1;
         },
         all.1.1,
       )
+
+-- each part of an object that takes no null is an object
+only_objects : PartLaws → (P : Pools) (s : Site) → IsNode s.node → sort_of s.node ≡ Row → is_nullable s.node ≡ false → (v : Data) → IsPart P s.node v ↔ IsObjectPart P s v
+only_objects laws P s o row never v = let r = laws.row P s v o row in ((λ p. elim (r.0 p) [ inl null ↦ let no = sym null.1 ∙ never in absurd (cc) | inr x ↦ x ]), λ x. r.1 (inr x))
+
+-- the items of a map list are alike exactly where they have the same under all keys
+pub map_told : StoredLaw → PartLaws → (P : Pools) (n : Bool) (t : Option (List ℕ)) (N : Node) (keys : List (List ℕ)) (b : Bounds) → IsNode N → HasKeys N keys → AreMapItems P (node n t (list N Map keys b)) (record { node = N; keys = keys })
+map_told stored laws P n t (node m u (object fs preserves type c)) keys b o h =
+    let s : Site = record { node = node m u (object fs preserves type c); keys = keys } in
+    record { row = refl; never_null = h.0; alike = objects_told P s (only_objects laws P s o refl h.0) keys (have_keys stored P fs keys o h.2) }
+map_told stored laws P n t N keys b o h = absurd h
 
 pub map_keyed : StoredLaw → PartLaws → (P : Pools) (N : Node) (keys : List (List ℕ)) (counts : List ℕ) → IsNode N → HasKeys N keys → AreCounts P (filter is_key (slots P (record { node = N; keys = keys }))) counts
     → (K : Keyed P N (are_alike Map keys)) × (length K.keys ≡ product counts)
 map_keyed stored laws P (node n t (object fs preserves type b)) keys counts o h count =
     let s : Site = record { node = node n t (object fs preserves type b); keys = keys } in
-    let never : n ≡ false = h.0 in
-    objects_keyed P s (λ v. ((λ p. elim ((laws.row P s v o refl).0 p) [ inl null ↦ let no = null.1 in absurd (cc) | inr x ↦ x ]), λ x. (laws.row P s v o refl).1 (inr x))) keys (have_keys stored P fs keys o h.2) counts count
+    objects_keyed P s (only_objects laws P s o refl h.0) keys (have_keys stored P fs keys o h.2) counts count
 map_keyed stored laws P N keys counts o h count = absurd h

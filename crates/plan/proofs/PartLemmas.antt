@@ -11,7 +11,7 @@ use Rattle.jtree.specs.Data as tree
 use Rattle.jtree.specs.Order.{text_cmp}
 use Rattle.jtree.specs.Path.{Step, name, index, member_at, item_at, part_by}
 use Rattle.jtree.specs.Internal.Lookups.{bool_cases, option_cases, same_name, own_name, member_first, member_later, member_tail, later_name, ordering_cases}
-use Rattle.jtree.specs.Internal.Rising.{Among, Rising}
+use Rattle.jtree.specs.Internal.Rising.{Among, Rising, contained}
 use Rattle.schema.specs.Document.Texts.{is_among}
 use Rattle.schema.specs.Nodes.Node.{Node, node, Sort, scalar, object, list, open_, Fields, no_fields, field, IsNode, IsBeforeFields, AreOrdered}
 use Rattle.schema.specs.Nodes.Node as nodes
@@ -29,10 +29,11 @@ use Rattle.plan.specs.Samples.Part.{IsPart}
 use Rattle.plan.specs.Samples.Sites.{Site, item_site, slots, Slot, field_slots, with_name, in_order, value_slot}
 use Rattle.plan.specs.Samples.RuleOfParts.{AreParts, IsNullPart}
 use Rattle.plan.specs.Samples.Candidates.{sort_of}
+use Rattle.plan.specs.Samples.Keys.{AreInOrder}
 use Rattle.plan.specs.Samples.Sizes.{bounds_of}
 use Rattle.plan.specs.Internal.PartLaws.{IsObjectPart, IsItemsPart, PartLaws}
 use Rattle.plan.specs.declared.sort.Sort.TheVariants.{Leaf, Row}
-use Rattle.plan.proofs.FillingLemmas.{AreInOrder, AreInSlots, in_members, in_slots, in_count, fill}
+use Rattle.plan.proofs.FillingLemmas.{AreInSlots, in_members, in_slots, in_count, fill}
 
 -- ---- what the crates below say
 
@@ -116,7 +117,7 @@ field_of_slot keys (field l N required default fs) o s (inr a) =
 
 pub fields_in_order : (keys : List (List ℕ)) (fs : Fields) → AreOrdered fs → AreInOrder (field_slots keys fs)
 fields_in_order keys no_fields o = tt
-fields_in_order keys (field l N required default fs) o = (before_slots keys l fs o.1 o.2, fields_in_order keys fs o.2)
+fields_in_order keys (field l N required default fs) o = ((λ s c. before_slots keys l fs o.1 o.2 s (contained (field_slots keys fs) s c)), fields_in_order keys fs o.2)
 
 -- ---- objects
 
@@ -297,14 +298,14 @@ value_slot_of N [] k a = absurd a
 value_slot_of N (l ∷ ks) k (inl e) = inl (ap (value_slot N) e)
 value_slot_of N (l ∷ ks) k (inr a) = inr (value_slot_of N ks k a)
 
-name_of_value_slot : (N : Node) (ks : List (List ℕ)) (s : Slot) → Among (map (value_slot N) ks) s → (k : List ℕ) × (Among ks k × (value_slot N k ≡ s))
+pub name_of_value_slot : (N : Node) (ks : List (List ℕ)) (s : Slot) → Among (map (value_slot N) ks) s → (k : List ℕ) × (Among ks k × (value_slot N k ≡ s))
 name_of_value_slot N [] s a = absurd a
 name_of_value_slot N (l ∷ ks) s (inl e) = (l, (inl refl, e))
 name_of_value_slot N (l ∷ ks) s (inr a) = let r = name_of_value_slot N ks s a in (r.0, (inr r.1.0, r.1.1))
 
 value_slots_in_order : (N : Node) (ks : List (List ℕ)) → AreNamesInOrder ks → AreInOrder (map (value_slot N) ks)
 value_slots_in_order N [] o = tt
-value_slots_in_order N (k ∷ ks) o = ((λ s a. let r = name_of_value_slot N ks s a in subst (λ t. text_cmp k (Slot.name t) ≡ Less) r.1.1 (o.0 r.0 r.1.0)), value_slots_in_order N ks o.1)
+value_slots_in_order N (k ∷ ks) o = ((λ s c. let r = name_of_value_slot N ks s (contained (map (value_slot N) ks) s c) in subst (λ t. text_cmp k (Slot.name t) ≡ Less) r.1.1 (o.0 r.0 r.1.0)), value_slots_in_order N ks o.1)
 
 pub values_in_order : (N : Node) (ks : List (List ℕ)) → AreInOrder (map (value_slot N) (in_order ks))
 values_in_order N ks = value_slots_in_order N (in_order ks) (in_order_rising ks)

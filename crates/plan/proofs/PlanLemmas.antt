@@ -1,5 +1,5 @@
 -- What is known of an entry of a plan.
-use Rattle.std.specs.Prelude.{◌≡◌, ℕ, ◌+◌, ◌-◌, ◌≤◌, ◌<◌, ◌⊎◌, zero, suc, ◌∷◌, List, IfNone, Option, slice_get, length, get_or, Some, None, false, []}
+use Rattle.std.specs.Prelude.{◌≡◌, ℕ, ◌+◌, ◌-◌, ◌≤◌, ◌<◌, ◌⊎◌, zero, suc, ◌∷◌, List, IfNone, Option, slice_get, drop, Contains, length, get_or, Some, None, false, []}
 use Rattle.std.specs.declared.vec.Vec.{Vec}
 use Rattle.std.specs.declared.alloc.Global.{Global}
 use Rattle.std.proofs.Common.{refl, ap, sym, ◌∙◌, subst, inl, inr, arith}
@@ -31,6 +31,8 @@ use Rattle.plan.specs.Internal.Plan.{IsPlan}
 use Rattle.plan.specs.declared.values.Values.{Values}
 use Rattle.plan.specs.declared.arena.Entry.{Entry}
 use Rattle.std.proofs.lemmas.List.{get_or_default}
+use Rattle.jtree.specs.Internal.Rising.{Among, contains}
+use Rattle.plan.specs.Samples.Keys.{AreKeySlots, HasTuples}
 use Rattle.plan.proofs.EntryLemmas.{slot_count}
 use Rattle.plan.proofs.ListLemmas.{count_nodes}
 
@@ -129,6 +131,9 @@ count_right holds BITS root P limit v es first q i n plan view counts within lea
     let r : i < length (sites_of root) → sort_of (site_at (sites_of root) i).node ≡ LeafSort → HasCount P (site_at (sites_of root) i).node n = λ l s. counts P (sites_of root) plan.right (omega (arith, plan.count)) s in
     subst (λ (x : Question). i < length (sites_of x.root) → sort_of (site_at (sites_of x.root) i).node ≡ LeafSort → HasCount x.pools (site_at (sites_of x.root) i).node n) view r within leaf
 
+pub site_among : (sites : List Site) (i : ℕ) → i < length sites → Contains sites (site_at sites i)
+site_among sites i l = (i, l, sym (get_or_default sites i (plain (node false None open_)) (site_at sites i) l))
+
 -- ---- slots and items
 
 pub slot_at : (names : List (List ℕ)) (sites : List Site) (i : ℕ) (es : List SlotEntry) (ss : List Slot) (place : ℕ) (e : SlotEntry) → AreSlots names sites i es ss → slice_get es place ≡ Some e → (s : Slot) × ((slice_get ss place ≡ Some s) × IsSlot names sites i e s)
@@ -143,6 +148,17 @@ row_slot holds limit P names sites i place r e t row is name same must key =
     let s = slot_at names sites i r.slots.items (slots P (site_at sites i)) place e row.are is in
     let h = s.1.1 in
     (record { slot = s.0; is = s.1.0; name = name ∙ h.name; node = rw same h.node; must = must ∙ h.must; key = key ∙ h.key }, rw same h.below)
+
+drop_among : {X : Type 0} (n : ℕ) (xs : List X) (x : X) → Among (drop n xs) x → Among xs x
+drop_among zero xs x a = a
+drop_among (suc n) [] x a = a
+drop_among (suc n) (y ∷ xs) x a = inr (drop_among n xs x a)
+
+pub row_later : {Z : Type 0} (holds : Z → ℕ → Type 0) (limit : ℕ) (P : Pools) (names : List (List ℕ)) (sites : List Site) (i place n : ℕ) (r : RowEntry Z) → IsRow holds limit P names sites i r → AreKeySlots P (slots P (site_at sites i))
+    → place < length r.slots.items → n ≡ get_or r.later.items place n → HasTuples P (drop (place + 1) (slots P (site_at sites i))) n
+row_later holds limit P names sites i place n r row keys inside is =
+    let ss = slots P (site_at sites i) in
+    rw (← is) at (row.later place n (omega (arith, row.later_whole)) (λ s a key. (keys s (contains ss s (drop_among (place + 1) ss s a)) key).leaf))
 
 -- what a list can still take after the last place
 pub more_past : {Z : Type 0} (holds : Z → ℕ → Type 0) (limit : ℕ) (P : Pools) (sites : List Site) (i t m : ℕ) (l : ListEntry Z) → IsList holds limit P sites i l → length l.more.items ≤ t → HasMore P limit (site_at sites i).node t m → ⊥

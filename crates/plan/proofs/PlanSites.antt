@@ -1,5 +1,5 @@
 -- What the parts of the sites of a plan are, and that what was begun there can be completed.
-use Rattle.std.specs.Prelude.{◌≡◌, ℕ, ◌≤◌, ◌<◌, List, [], ◌∷◌, length, get_or, Contains}
+use Rattle.std.specs.Prelude.{◌≡◌, ℕ, ◌≤◌, ◌<◌, List, [], ◌∷◌, length, get_or, Some, Contains}
 use Rattle.std.proofs.Common.{sym, ◌∙◌, subst, inl, inr, arith}
 use Rattle.std.proofs.lemmas.List.{get_or_default}
 use Rattle.std.proofs.lemmas.List.Elements.{All-contains}
@@ -8,10 +8,11 @@ use Rattle.schema.specs.Nodes.Node.{Node}
 use Rattle.stored.specs.Schemas.Accepted.{IsSchema}
 use Rattle.plan.specs.Pools.Pools.{Pools}
 use Rattle.plan.specs.Samples.Question.{Question}
-use Rattle.plan.specs.Samples.Sites.{Site, plain, sites_of, Slot, slots}
+use Rattle.plan.specs.Samples.Sites.{Site, plain, sites_of, item_site, Slot, slots}
 use Rattle.plan.specs.Samples.Candidates.{sort_of}
 use Rattle.plan.specs.Samples.RuleOfParts.{RuleOfParts}
 use Rattle.plan.specs.Samples.NoDeadEnd.{NoDeadEnd}
+use Rattle.plan.specs.Samples.Keys.{HasSoundParts}
 use Rattle.plan.specs.Internal.Arena.{IsSlot, AreSlots, HasContent, AreRight}
 use Rattle.plan.specs.Samples.Sites.{site_at}
 use Rattle.plan.specs.Internal.PartLaws.{PartLaws}
@@ -26,6 +27,7 @@ use Rattle.plan.specs.declared.arena.Entry.{Entry}
 use Rattle.plan.proofs.DeadEndLemmas.{HasCandidates, HaveCandidates, rule_of_parts, no_dead_end}
 use Rattle.plan.proofs.PartLemmas.{StoredLaw}
 use Rattle.plan.proofs.PlanLemmas.{item_sort}
+use Rattle.plan.proofs.SoundPartLemmas.{sound_parts}
 use Rattle.plan.proofs.SoundLemmas.{ItemsLaw, IsSoundSite, sites_sound, sound_here}
 
 slot_entry : (names : List (List ℕ)) (sites : List Site) (i : ℕ) (es : List SlotEntry) (ss : List Slot) → AreSlots names sites i es ss → (s : Slot) → Among ss s → (e : SlotEntry) × IsSlot names sites i e s
@@ -78,3 +80,11 @@ plan_rules stored laws items holds BITS root P limit v es first q schema plan vi
       rule_of_parts laws P limit s sound.0 (have s c).own,
       no_dead_end stored laws P limit s sound.0 (sound_here s.node sound.1) (λ M is. have M (contains sites M (sound.2 M is))),
     ))
+
+pub plan_parts : StoredLaw → PartLaws → ItemsLaw → (root : Node) (P : Pools) (limit : ℕ) (q : Question) → IsSchema root → record { root = root; pools = P; limit = limit } ≡ q
+    → (s : Site) → Contains (sites_of q.root) s → HasSoundParts q.pools s × ((M : Site) → item_site s ≡ Some M → Contains (sites_of q.root) M)
+plan_parts stored laws items root P limit q schema view =
+    let sites = sites_of root in
+    subst (λ (x : Question). (s : Site) → Contains (sites_of x.root) s → HasSoundParts x.pools s × ((M : Site) → item_site s ≡ Some M → Contains (sites_of x.root) M)) view (λ s c.
+    let sound = All-contains (IsSoundSite sites) sites s (sites_sound items root schema) c in
+    (sound_parts stored laws P s sound.0 (sound_here s.node sound.1) sound.3, λ M is. contains sites M (sound.2 M is)))

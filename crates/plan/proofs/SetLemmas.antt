@@ -6,7 +6,8 @@ use Rattle.jtree.specs.Data.{Data}
 use Rattle.jtree.specs.Data as tree
 use Rattle.jtree.specs.Nodes.{node_count}
 use Rattle.jtree.specs.Internal.Rising.{contained, contains}
-use Rattle.schema.specs.Nodes.Node.{Node, node, scalar}
+use Rattle.schema.specs.Nodes.Node.{Node, node, scalar, object, list, open_}
+use Rattle.schema.specs.Nodes.Node as nodes
 use Rattle.schema.specs.Nodes.Items.{IsPlainScalar}
 use Rattle.schema.specs.declared.node.ScalarKind.{ScalarKind}
 use Rattle.schema.specs.declared.node.ScalarKind.TheVariants.{Boolean, Integer, String, IntOrString}
@@ -14,11 +15,19 @@ use Rattle.stored.specs.Objects.Tests.{accepts_scalar, is_same}
 use Rattle.stored.specs.Objects.StoredByParts.{IsValidHere}
 use Rattle.plan.specs.Pools.Pools.{Pools}
 use Rattle.plan.specs.Samples.Part.{IsPart}
-use Rattle.plan.specs.Samples.Candidates.{HasCount}
+use Rattle.plan.specs.Samples.Candidates.{sort_of, HasCount}
 use Rattle.plan.specs.Internal.Keyed.{Keyed}
+use Rattle.plan.specs.declared.sort.Sort.TheVariants.{Leaf}
 use Rattle.plan.proofs.ApartLemmas.{map_among, among_map, map_apart}
 use Rattle.plan.proofs.TupleLemmas.{same_tree, candidates_apart}
 use Rattle.plan.proofs.PartLemmas.{StoredLaw}
+
+pub plain_leaf : (N : Node) → IsPlainScalar N → sort_of N ≡ Leaf
+plain_leaf (node n t (scalar kind cs)) plain = refl
+plain_leaf (node n t (object fs preserves type b)) plain = absurd plain
+plain_leaf (node n t (nodes.map M type b)) plain = absurd plain
+plain_leaf (node n t (list M type keys b)) plain = absurd plain
+plain_leaf (node n t open_) plain = absurd plain
 
 one_node : (kind : ScalarKind) (v : Data) → accepts_scalar kind v ≡ true → node_count v ≡ 1
 one_node Boolean (tree.boolean b) e = refl
@@ -36,6 +45,16 @@ valid_one N v plain h = absurd plain
 -- a part of a scalar is one node
 pub scalar_one : StoredLaw → (P : Pools) (N : Node) → IsPlainScalar N → (v : Data) → IsPart P N v → node_count v ≡ 1
 scalar_one stored P N plain v h = valid_one N v plain ((stored N v).0 h.stored).0
+
+valid_no_null : (N : Node) → IsPlainScalar N → IsValidHere N tree.null → ⊥
+valid_no_null (node n t (scalar kind cs)) plain valid = let no = sym plain ∙ valid in cc
+valid_no_null (node n t (object fs preserves type b)) plain valid = plain
+valid_no_null (node n t (nodes.map M type b)) plain valid = plain
+valid_no_null (node n t (list M type keys b)) plain valid = plain
+valid_no_null (node n t open_) plain valid = plain
+
+pub scalar_no_null : StoredLaw → (P : Pools) (N : Node) → IsPlainScalar N → IsPart P N tree.null → ⊥
+scalar_no_null stored P N plain h = valid_no_null N plain ((stored N tree.null).0 h.stored).0
 
 pub set_keyed : StoredLaw → (P : Pools) (M : Node) (count : ℕ) → IsPlainScalar M → HasCount P M count → (K : Keyed P M is_same) × (length K.keys ≡ count)
 set_keyed stored P M count plain h =

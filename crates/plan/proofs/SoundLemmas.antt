@@ -1,5 +1,5 @@
 -- The nodes of a schema are ordered, and the items of their lists can be told apart.
-use Rattle.std.specs.Prelude.{◌≡◌, ℕ, List, [], ◌∷◌, Bool, false, Option, Some, All}
+use Rattle.std.specs.Prelude.{◌≡◌, ◌⊎◌, ℕ, List, [], ◌∷◌, Bool, false, Option, Some, All}
 use Rattle.std.proofs.Common.{refl, subst, inl, inr}
 use Rattle.std.proofs.lemmas.Option.{same_Some}
 use Rattle.std.specs.Str.{bytes_eq}
@@ -7,15 +7,17 @@ use Rattle.std.specs.declared.cmp.Ordering.TheVariants.{Less}
 use Rattle.jtree.specs.Data.{Data}
 use Rattle.jtree.specs.Order.{text_cmp}
 use Rattle.jtree.specs.Internal.Lookups.{own_name, later_name}
-use Rattle.jtree.specs.Internal.Rising.{Among, among_left, among_right, among_parts, each_of}
+use Rattle.jtree.specs.Internal.Rising.{Among, contains, among_left, among_right, among_parts, each_of}
 use Rattle.schema.specs.Document.Places.{Place, property, map_value, items}
 use Rattle.schema.specs.Nodes.Node.{Node, node, Sort, scalar, object, map, list, open_, Fields, no_fields, field, IsNode, IsSort, AreOrdered}
 use Rattle.schema.specs.Nodes.ByPlace.{Declared, field_at, node_at}
 use Rattle.schema.specs.Nodes.Shape as shape
-use Rattle.schema.specs.Nodes.Items.{HasSoundItems}
+use Rattle.schema.specs.Nodes.Items.{HasKeys, AreToldApart, HasSoundItems}
+use Rattle.schema.specs.declared.node.ListType.{ListType}
+use Rattle.schema.specs.declared.node.ListType.TheVariants.{Atomic, Set, Map}
 use Rattle.stored.specs.Schemas.Accepted.{IsSchema}
-use Rattle.plan.specs.Samples.Sites.{Site, item_site, item_site_at, sites_from, sites_below, sites_of_fields, sites_of, item_keys}
-use Rattle.plan.specs.Internal.Building.{IsSound, IsSortSound, AreFieldsSound}
+use Rattle.plan.specs.Samples.Sites.{Site, item_site, item_site_at, sites_from, sites_below, sites_of_fields, sites_of, item_keys, field_slots}
+use Rattle.plan.specs.Internal.Building.{IsSound, AreFieldsSound}
 use Rattle.plan.proofs.PartLemmas.{slot_of_field, fields_in_order}
 
 -- what the crate below says of schemas
@@ -31,7 +33,7 @@ IsSoundBelow N = (p : Place) (M : Node) → node_at N p ≡ Some M → HasSoundI
 behind_first : (l : List ℕ) (N : Node) (required : Bool) (default : Option Data) (fs : Fields) → AreOrdered (field l N required default fs) → (k : List ℕ) (f : Declared) → field_at k fs ≡ Some f → bytes_eq k l ≡ false
 behind_first l N required default fs o k f is =
     let s = slot_of_field [] fs k f is in
-    later_name k l (subst (λ n. text_cmp l n ≡ Less) s.1.1.0 ((fields_in_order [] (field l N required default fs) o).0 s.0 s.1.0))
+    later_name k l (subst (λ n. text_cmp l n ≡ Less) s.1.1.0 ((fields_in_order [] (field l N required default fs) o).0 s.0 (contains (field_slots [] fs) s.0 s.1.0)))
 
 mutual
   sound_from : (N : Node) → IsNode N → IsSoundBelow N → IsSound N
@@ -62,31 +64,40 @@ own_item : (n : Bool) (t : Option (List ℕ)) (sort : Sort) (M : Site) → item_
 own_item n t (list N type keys b) M is = subst (Among (sites_from N (item_keys type keys))) (same_Some _ M is) (itself N (item_keys type keys))
 own_item n t sort M is = absurd (cc)
 
--- its node is ordered, its items and those below it can be told apart, and the site of its items is one of all
+-- there are no keys, or they are those of the items of a map list
+abbrev pub AreKeysOf : Node → List (List ℕ) → Type 0
+AreKeysOf N keys = (keys ≡ []) ⊎ HasKeys N keys
+
+keys_of_items : (type : ListType) (keys : List (List ℕ)) (N : Node) → AreToldApart type keys N → AreKeysOf N (item_keys type keys)
+keys_of_items Map keys N h = inr h
+keys_of_items Set keys N h = inl refl
+keys_of_items Atomic keys N h = inl refl
+
+-- its node is ordered, its items and those below it can be told apart, the site of its items is one of all, and its keys are its own
 abbrev pub IsSoundSite : List Site → Site → Type 0
-IsSoundSite all s = IsNode s.node × IsSound s.node × ((M : Site) → item_site s ≡ Some M → Among all M)
+IsSoundSite all s = IsNode s.node × IsSound s.node × ((M : Site) → item_site s ≡ Some M → Among all M) × AreKeysOf s.node s.keys
 
 module _ (all : List Site) where
   abbrev AreOf : List Site → Type 0
   AreOf ss = (s : Site) → Among ss s → Among all s
 
   mutual
-    site_sound : (N : Node) (keys : List (List ℕ)) → IsNode N → IsSound N → AreOf (sites_from N keys) → (s : Site) → Among (sites_from N keys) s → IsSoundSite all s
-    site_sound (node n t sort) keys o h of s a =
+    site_sound : (N : Node) (keys : List (List ℕ)) → IsNode N → IsSound N → AreKeysOf N keys → AreOf (sites_from N keys) → (s : Site) → Among (sites_from N keys) s → IsSoundSite all s
+    site_sound (node n t sort) keys o h k of s a =
         let own : Site = record { node = node n t sort; keys = keys } in
         let of_below : AreOf (sites_below sort) = λ u b. of u (among_left (sites_below sort) (own ∷ []) u b) in
-        let here : IsSoundSite all own = (o, h, λ M is. of_below M (own_item n t sort M is)) in
+        let here : IsSoundSite all own = (o, h, (λ M is. of_below M (own_item n t sort M is)), k) in
         elim (among_parts (sites_below sort) (own ∷ []) s a) [
-          | inl below ↦ site_below_sound sort o h.1 of_below s below
+          | inl below ↦ site_below_sound n t sort o h of_below s below
           | inr last ↦ elim last [ inl e ↦ subst (IsSoundSite all) e here | inr none ↦ absurd none ]
         ]
 
-    site_below_sound : (sort : Sort) → IsSort sort → IsSortSound sort → AreOf (sites_below sort) → (s : Site) → Among (sites_below sort) s → IsSoundSite all s
-    site_below_sound (object fs preserves type b) o h of s a = field_site_sound fs o h of s a
-    site_below_sound (map N type b) o h of s a = site_sound N [] o h of s a
-    site_below_sound (list N type keys b) o h of s a = site_sound N (item_keys type keys) o h of s a
-    site_below_sound (scalar kind cs) o h of s a = absurd a
-    site_below_sound open_ o h of s a = absurd a
+    site_below_sound : (n : Bool) (t : Option (List ℕ)) (sort : Sort) → IsSort sort → IsSound (node n t sort) → AreOf (sites_below sort) → (s : Site) → Among (sites_below sort) s → IsSoundSite all s
+    site_below_sound n t (object fs preserves type b) o h of s a = field_site_sound fs o h.1 of s a
+    site_below_sound n t (map N type b) o h of s a = site_sound N [] o h.1 (inl refl) of s a
+    site_below_sound n t (list N type keys b) o h of s a = site_sound N (item_keys type keys) o h.1 (keys_of_items type keys N h.0) of s a
+    site_below_sound n t (scalar kind cs) o h of s a = absurd a
+    site_below_sound n t open_ o h of s a = absurd a
 
     field_site_sound : (fs : Fields) → AreOrdered fs → AreFieldsSound fs → AreOf (sites_of_fields fs) → (s : Site) → Among (sites_of_fields fs) s → IsSoundSite all s
     field_site_sound no_fields o h of s a = absurd a
@@ -94,12 +105,12 @@ module _ (all : List Site) where
         let first = sites_from N [] in
         let later = sites_of_fields fs in
         elim (among_parts first later s a) [
-          | inl here ↦ site_sound N [] o.0 h.0 (λ u b. of u (among_left first later u b)) s here
+          | inl here ↦ site_sound N [] o.0 h.0 (inl refl) (λ u b. of u (among_left first later u b)) s here
           | inr there ↦ field_site_sound fs o.2 h.1 (λ u b. of u (among_right first later u b)) s there
         ]
 
 pub sites_sound : ItemsLaw → (root : Node) → IsSchema root → All (IsSoundSite (sites_of root)) (sites_of root)
-sites_sound law root h = let r = schema_sound law root h in each_of _ (sites_of root) (site_sound (sites_of root) root [] r.0 r.1 (λ s a. a))
+sites_sound law root h = let r = schema_sound law root h in each_of _ (sites_of root) (site_sound (sites_of root) root [] r.0 r.1 (inl refl) (λ s a. a))
 
 pub sound_here : (N : Node) → IsSound N → HasSoundItems N
 sound_here (node n t sort) h = h.0

@@ -127,3 +127,11 @@ free_tuples P first later used chosen counts h tuples apart count =
           let t = among_map whole r.0 o.0 o.1 in
           (t.0, ((r.1.0.each t.0).0 t.1.0, λ c. o.2 (used_too used chosen t.0 o.0 t.1.1 c))),
     )
+
+all_begin : (used : List (List Data)) → filter (begins []) used ≡ used
+all_begin [] = refl
+all_begin (t ∷ ts) = ap (λ us. t ∷ us) (all_begin ts)
+
+-- some tuple is not used exactly where fewer are used than there are
+pub some_free : (P : Pools) (ss : List Slot) (used : List (List Data)) (counts : List ℕ) → All (IsTuple P ss) used → AllPairs (λ t u. t ≢ u) used → AreCounts P ss counts → HasFree P ss used [] ↔ (length used < product counts)
+some_free P ss used counts tuples apart count = subst (λ us. HasFree P ss used [] ↔ (length us < product counts)) (all_begin used) (free_tuples P [] ss used [] counts tt tuples apart count)

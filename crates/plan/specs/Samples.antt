@@ -8,4 +8,5 @@ pub mod Steps
 pub mod Sizes
 pub mod RuleOfParts
 pub mod NoDeadEnd
+pub mod Keys
 pub mod Handed

@@ -47,10 +47,12 @@ pub(crate) struct SlotEntry {
     pub key: bool,
 }
 
-/// The slots of a row, and the sizes that those from each place on can take, the last place first.
+/// The slots of a row, how many tuples the keys behind each have, and the sizes that those from each place on can take, the last
+/// place first.
 #[derive(Drop)]
 pub(crate) struct RowEntry<Z> {
     pub slots: Vec<SlotEntry>,
+    pub later: Vec<u64>,
     pub levels: Vec<Vec<Z>>,
 }
 

@@ -3,10 +3,10 @@ ghost use Rattle.std.specs.Prelude.{◌≡◌, ℕ, ◌≤◌, ◌<◌, List, Al
 ghost use Rattle.schema.specs.Nodes.Node.{IsNode};
 ghost use Rattle.stored.specs.Objects.Becomes.{is_nullable};
 ghost use Rattle.plan.specs.Pools.Pools.{Pools};
-ghost use Rattle.plan.specs.Samples.Sites.{Site, slots as slots_of};
+ghost use Rattle.plan.specs.Samples.Sites.{Site, Slot, slots as slots_of};
 ghost use Rattle.plan.specs.Samples.Candidates.{sort_of};
 ghost use Rattle.plan.specs.Samples.Sizes.{bounds_of};
-ghost use Rattle.plan.specs.Internal.Arena.{AreChosen, AreSlots, AreRight, IsRight};
+ghost use Rattle.plan.specs.Internal.Arena.{AreChosen, AreSlots, AreLater, AreRight, IsRight};
 ghost use Rattle.plan.specs.Samples.Sites.{site_at};
 ghost use Rattle.plan.specs.declared.arena.SlotEntry.{SlotEntry};
 ghost use Rattle.plan.specs.declared.sort.Sort.TheVariants.{Row};
@@ -14,6 +14,7 @@ ghost use Rattle.plan.specs.declared.sort.Sort.TheVariants.{Row};
 use crate::SizeSet;
 use crate::arena::{Arena, Content, Entry, RowEntry, SlotEntry};
 use crate::laws::parts_one_level;
+use crate::list_entries::tuples;
 use crate::rows::{Choice, levels};
 use crate::sizing::whole_sizes;
 use schema::Bounds;
@@ -38,6 +39,23 @@ fn choices<Z: SizeSet>(
     Ok(choices)
 }
 
+/// How many tuples the keys behind each slot have.
+fn later_tuples<Z: SizeSet>(
+    arena: &Arena<Z>,
+    alloc: Global,
+    slots: &[SlotEntry],
+) -> Result<Vec<u64>, AllocError>
+    ensures whole { IfOk result (λ later. length later.items ≡ length slots.now) }
+    ensures later { IfOk result (λ later. (P : Pools) (sites : List Site) (i : ℕ) (ss : List Slot) → AreRight Z.holds arena.now.limit P arena.now.values sites arena.now.entries.items → i ≤ length arena.now.entries.items
+        → AreSlots arena.now.values.names.items sites i slots.now ss → AreLater P ss later.items) }
+{
+    let mut later = Vec::new(alloc);
+    for place in 0..slots.len() {
+        later.push(tuples(arena, &slots[place + 1..]))?;
+    }
+    Ok(later)
+}
+
 /// The entry of a row with these slots.
 pub(crate) fn row_entry<Z: SizeSet>(
     arena: &Arena<Z>,
@@ -51,16 +69,21 @@ pub(crate) fn row_entry<Z: SizeSet>(
     requires below { All (λ (s : SlotEntry). s.node < length arena.now.entries.items) slots.items }
     requires few { length slots.items < 18446744073709551615 }
     ensures { IfOk result (λ e. (P : Pools) (sites : List Site) (i : ℕ) → AreRight Z.holds arena.now.limit P arena.now.values sites arena.now.entries.items
-        → IsNode (site_at sites i).node → sort_of (site_at sites i).node ≡ Row → bounds_of (site_at sites i).node ≡ bounds → is_nullable (site_at sites i).node ≡ nullable
+        → i ≤ length arena.now.entries.items → IsNode (site_at sites i).node → sort_of (site_at sites i).node ≡ Row → bounds_of (site_at sites i).node ≡ bounds → is_nullable (site_at sites i).node ≡ nullable
         → AreSlots arena.now.values.names.items sites i slots.items (slots_of P (site_at sites i)) → IsRight Z.holds arena.now.limit P arena.now.values sites i e) }
 {
     parts_one_level();
     let choices = choices(arena, alloc, &slots)?;
+    let later = later_tuples(arena, alloc, &slots)?;
     let levels = levels(alloc, &choices, bounds, arena.limit)?;
     let sizes = whole_sizes(levels[slots.len()][0], nullable, arena.limit);
     Ok(Entry {
         sizes,
         nullable,
-        content: Content::Row(RowEntry { slots, levels }),
+        content: Content::Row(RowEntry {
+            slots,
+            later,
+            levels,
+        }),
     })
 }

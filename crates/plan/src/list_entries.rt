@@ -8,7 +8,8 @@ ghost use Rattle.plan.specs.Samples.Sites.{Site, item_site, slots, Slot};
 ghost use Rattle.plan.specs.Samples.Candidates.{sort_of, distinct_by};
 ghost use Rattle.plan.specs.Internal.Arena.{AreSlots, AreRight, IsRight};
 ghost use Rattle.plan.specs.Samples.Sites.{site_at};
-ghost use Rattle.plan.specs.Internal.Tuples.{AreKeysLeaves, HasTuples, IsCutTo};
+ghost use Rattle.plan.specs.Samples.Keys.{HasTuples};
+ghost use Rattle.plan.specs.Internal.Tuples.{AreKeysLeaves, IsCutTo};
 ghost use Rattle.plan.specs.Internal.Lists.{cut};
 ghost use Rattle.plan.specs.declared.sort.Sort.TheVariants.{Leaf, Row};
 
@@ -64,7 +65,7 @@ fn distinct(list_type: ListType) -> Distinct
 }
 
 /// How many tuples of keys there are, at most 2^64 - 1.
-fn tuples<Z: SizeSet>(arena: &Arena<Z>, slots: &[SlotEntry]) -> u64
+pub(crate) fn tuples<Z: SizeSet>(arena: &Arena<Z>, slots: &[SlotEntry]) -> u64
     ensures { (P : Pools) (sites : List Site) (i : ℕ) (ss : List Slot) → AreRight Z.holds arena.now.limit P arena.now.values sites arena.now.entries.items → i ≤ length arena.now.entries.items
         → AreSlots arena.now.values.names.items sites i slots.now ss → AreKeysLeaves ss → HasTuples P ss result }
 {

@@ -20,6 +20,8 @@ pub struct Slot<'a> {
     pub node: PlanNode,
     pub must: bool,
     pub key: bool,
+    /// How many tuples of candidates the keys behind this slot have, at most 2^64 - 1.
+    pub later: u64,
 }
 
 /// The nodes of a schema over pools and within a node limit, with the sizes of what may stand at each of them.
@@ -46,16 +48,19 @@ impl<Z: SizeSet> Model for Plan<Z> {
 }
 
 impl<Z: SizeSet> Plan<Z> {
-    ghost use Rattle.std.specs.Prelude.{◌≡◌, ◌≤◌, ◌<◌, ◌⊎◌, ℕ, ◌+◌, length, Contains, Some, IfOk, IfErr, OnOk, IfSome, IfNone, option_map};
+    ghost use Rattle.std.specs.Prelude.{◌≡◌, ◌≢◌, ◌≤◌, ◌<◌, ◌⊎◌, ◌↔◌, ℕ, ◌+◌, List, [], length, drop, Contains, All, AllPairs, Some, IfOk, IfErr, OnOk, IfSome, IfNone, option_map};
     ghost use Rattle.std.specs.Option.{option_copied};
     ghost use Rattle.jtree.specs.View.{data_of};
     ghost use Rattle.plan.specs.Samples.Steps.{counted};
     ghost use Rattle.plan.specs.Samples.RuleOfParts.{RuleOfParts};
-    ghost use Rattle.plan.specs.Samples.NoDeadEnd.{NoDeadEnd};
+    ghost use Rattle.plan.specs.Pools.Pools.{Pools};
+    ghost use Rattle.jtree.specs.Data.{Data};
+    ghost use Rattle.plan.specs.Samples.NoDeadEnd.{NoDeadEnd, IsTuple, AreCounts, product, HasFree};
+    ghost use Rattle.plan.specs.Samples.Keys.{HasTuples, HasSoundParts};
     ghost use Rattle.plan.specs.Samples.Handed.{IsSlotAt, IsCandidateAt};
     ghost use Rattle.plan.specs.declared.fault.PFault.TheVariants.{BadLimit, NoMemory};
     ghost use Rattle.stored.specs.Objects.Becomes.{is_nullable};
-    ghost use Rattle.plan.specs.Samples.Sites.{Site, sites_of, plain, item_site, slots as slots_of};
+    ghost use Rattle.plan.specs.Samples.Sites.{Site, Slot as SiteSlot, sites_of, plain, item_site, slots as slots_of};
     ghost use Rattle.plan.specs.Samples.Candidates.{sort_of, distinct_of, HasCount, IsWidth};
     ghost use Rattle.plan.specs.Samples.Sizes.{HasSize, HasRest, HasMore, IsUpTo};
     ghost use Rattle.plan.specs.Samples.Sites.{site_at};
@@ -134,7 +139,7 @@ impl<Z: SizeSet> Plan<Z> {
 
     /// The sizes up to the limit that the slots of a row from `place` on can still take, where `taken` slots before it are
     /// filled.
-    pub fn rest(&self, node: PlanNode, place: u32, taken: u32) -> Z
+    pub fn rest(&self, node: PlanNode, place: u64, taken: u32) -> Z
         requires node { node < length (sites_of self.now.root) }
         requires row { sort_of (site_at (sites_of self.now.root) node).node ≡ sort.Row }
         requires place { place ≤ length (slots_of self.now.pools (site_at (sites_of self.now.root) node)) }
@@ -197,15 +202,18 @@ impl<Z: SizeSet> Plan<Z> {
     }
 
     /// Slot `place` of a row, counted from 0 in the order of names; none past the last. It is one step.
-    pub fn slot(&self, node: PlanNode, place: u32, meter: &mut Meter) -> Option<Slot<'_>>
+    pub fn slot(&self, node: PlanNode, place: u64, meter: &mut Meter) -> Option<Slot<'_>>
         requires node { node < length (sites_of self.now.root) }
         requires row { sort_of (site_at (sites_of self.now.root) node).node ≡ sort.Row }
         ensures some { IfSome result (λ t. IsSlotAt (sites_of self.now.root) (slots_of self.now.pools (site_at (sites_of self.now.root) node)) place t) }
         ensures below { IfSome result (λ t. t.node < node) }
+        ensures later { IfSome result (λ t. HasTuples self.now.pools (drop (place + 1) (slots_of self.now.pools (site_at (sites_of self.now.root) node))) t.later) }
         ensures within { IfSome result (λ _. place < length (slots_of self.now.pools (site_at (sites_of self.now.root) node))) }
+        ensures followed { IfSome result (λ _. place < 18446744073709551615) }
         ensures none { IfNone result (length (slots_of self.now.pools (site_at (sites_of self.now.root) node)) ≤ place) }
         ensures step { meter.new ≡ counted meter.old 1 }
     {
+        self.sound_parts();
         meter.step();
         match &self.arena.entry(node).content {
             Content::Row(row) => match row.slots.get(place as usize) {
@@ -214,6 +222,7 @@ impl<Z: SizeSet> Plan<Z> {
                     node: slot.node,
                     must: slot.must,
                     key: slot.key,
+                    later: row.later[place as usize],
                 }),
                 None => None,
             },
@@ -240,7 +249,7 @@ impl<Z: SizeSet> Plan<Z> {
     }
 
     /// Candidate `place` of a leaf, counted from 0 in the tree order; none past the last. It is one step.
-    pub fn candidate(&self, node: PlanNode, place: u32, meter: &mut Meter) -> Option<&Tree>
+    pub fn candidate(&self, node: PlanNode, place: u64, meter: &mut Meter) -> Option<&Tree>
         requires node { node < length (sites_of self.now.root) }
         requires leaf { sort_of (site_at (sites_of self.now.root) node).node ≡ sort.Leaf }
         ensures candidate { IsCandidateAt self.now.pools (site_at (sites_of self.now.root) node).node place (option_map data_of (option_copied result)) }
@@ -258,6 +267,19 @@ impl<Z: SizeSet> Plan<Z> {
     pub fn no_dead_end(&self)
         ensures parts { (s : Site) → Contains (sites_of self.now.root) s → RuleOfParts self.now.pools self.now.limit s }
         ensures completed { (s : Site) → Contains (sites_of self.now.root) s → NoDeadEnd self.now.pools self.now.limit s }
+    {
+        stored_by_parts();
+        parts_one_level();
+        items_told_apart();
+        let _ = self.schema.root();
+    }
+
+    /// Brings to a proof what the rules of the schema make of the slots and the items of each node, and when a tuple of candidates
+    /// is left. It does nothing.
+    pub fn sound_parts(&self)
+        ensures parts { (s : Site) → Contains (sites_of self.now.root) s → HasSoundParts self.now.pools s }
+        ensures items { (s M : Site) → Contains (sites_of self.now.root) s → item_site s ≡ Some M → Contains (sites_of self.now.root) M }
+        ensures free { (P : Pools) (ss : List SiteSlot) (used : List (List Data)) (counts : List ℕ) → All (IsTuple P ss) used → AllPairs (λ t u. t ≢ u) used → AreCounts P ss counts → HasFree P ss used [] ↔ (length used < product counts) }
     {
         stored_by_parts();
         parts_one_level();

@@ -1,11 +1,13 @@
 -- What the entries of a plan stand for: each for the site of its number.
-use Rattle.std.specs.Prelude.{◌≡◌, ℕ, ◌+◌, ◌<◌, List, [], ◌∷◌, length, get_or, Some}
+use Rattle.std.specs.Prelude.{◌≡◌, ℕ, ◌+◌, ◌<◌, List, [], ◌∷◌, length, get_or, drop, Some}
 use Rattle.stored.specs.Objects.Becomes.{is_nullable}
 use Rattle.plan.specs.Pools.Pools.{Pools}
 use Rattle.plan.specs.Samples.Sites.{Site, site_at, plain, item_site, Slot, slots}
 use Rattle.plan.specs.Samples.Candidates.{sort_of, distinct_of, AreCandidates}
 use Rattle.plan.specs.Samples.Sizes.{HasSize, HasMore, bounds_of, IsUpTo}
 use Rattle.plan.specs.Internal.Tables.{AreShaped, AreLevels}
+use Rattle.plan.specs.Samples.Keys.{HasTuples}
+use Rattle.plan.specs.Internal.Tuples.{AreKeysLeaves}
 use Rattle.plan.specs.Internal.Values.{candidates_of}
 use Rattle.plan.specs.declared.sort.Sort.TheVariants as sort
 use Rattle.plan.specs.declared.values.Values.{Values}
@@ -53,9 +55,15 @@ AreChosen es [] [] = Unit {0}
 AreChosen es (c ∷ cs) (x ∷ xs) = IsChosen es c x × AreChosen es cs xs
 AreChosen es _ _ = ⊥
 
+-- how many tuples the keys behind each slot have, where keys are leaves
+abbrev pub AreLater : Pools → List Slot → List ℕ → Type 0
+AreLater P ss ns = (k n : ℕ) → k < length ns → AreKeysLeaves (drop (k + 1) ss) → HasTuples P (drop (k + 1) ss) (get_or ns k n)
+
 pub record IsRow {Z : Type 0} (holds : Z → ℕ → Type 0) (limit : ℕ) (P : Pools) (names : List (List ℕ)) (sites : List Site) (i : ℕ) (r : RowEntry Z) : Type 0 where
   pub sort : sort_of (site_at sites i).node ≡ sort.Row
   pub are : AreSlots names sites i r.slots.items (slots P (site_at sites i))
+  pub later_whole : length r.later.items ≡ length r.slots.items
+  pub later : AreLater P (slots P (site_at sites i)) r.later.items
   pub whole : length r.levels.items ≡ length r.slots.items + 1
   pub shaped : AreShaped (length r.slots.items) r.levels.items
   pub levels : AreLevels holds limit (bounds_of (site_at sites i).node) P (slots P (site_at sites i)) r.levels.items

@@ -1,5 +1,5 @@
--- How many tuples of keys there are, and what that makes of the bounds of a list.
-use Rattle.std.specs.Prelude.{◌≡◌, ℕ, ◌-◌, ◌^◌, ◌↔◌, List, true, filter, min}
+-- The nodes of keys, and what the number of tuples of keys makes of the bounds of a list.
+use Rattle.std.specs.Prelude.{◌≡◌, ℕ, ◌↔◌, List, true}
 use Rattle.schema.specs.Nodes.Node.{Node}
 use Rattle.schema.specs.declared.node.Bounds.{Bounds}
 use Rattle.jtree.specs.Internal.Rising.{Among}
@@ -7,17 +7,12 @@ use Rattle.plan.specs.Pools.Pools.{Pools}
 use Rattle.plan.specs.Samples.Sites.{Slot}
 use Rattle.plan.specs.Samples.Candidates.{sort_of}
 use Rattle.plan.specs.Samples.Sizes.{HasMore}
-use Rattle.plan.specs.Samples.NoDeadEnd.{is_key, AreCounts, product}
 use Rattle.plan.specs.Internal.Lists.{HasMoreFree}
 use Rattle.plan.specs.declared.sort.Sort.TheVariants.{Leaf}
 
 -- the nodes of keys are leaves
 abbrev pub AreKeysLeaves : List Slot → Type 0
 AreKeysLeaves ss = (s : Slot) → Among ss s → s.key ≡ true → sort_of s.node ≡ Leaf
-
--- the product of the numbers of candidates; it stays at its greatest
-abbrev pub HasTuples : Pools → List Slot → ℕ → Type 0
-HasTuples P ss n = (counts : List ℕ) × (AreCounts P (filter is_key ss) counts × (n ≡ min (product counts) (2 ^ 64 - 1)))
 
 -- the lists of the node have the sizes of lists of parts within these bounds, without regard to items that are alike
 abbrev pub IsCutTo : Pools → ℕ → Node → Node → Bounds → Type 0

@@ -1,7 +1,8 @@
 use Rattle.std.proofs.Common.{◌≡◌, subst}
 use Rattle.schema.specs.Nodes.Node.{node, list}
 use Rattle.plan.specs.Samples.Sites.{site_at}
-use Rattle.plan.proofs.CutLemmas.{free_cut, set_cut, map_cut, set_items, map_items, plain_leaf}
+use Rattle.plan.proofs.CutLemmas.{free_cut, set_cut, map_cut, set_items, map_items}
+use Rattle.plan.proofs.SetLemmas.{plain_leaf}
 use Rattle.plan.proofs.list_entries.item_bounds.Goals as goal
 
 pub returns-in-Atomic : goal.returns-in-Atomic

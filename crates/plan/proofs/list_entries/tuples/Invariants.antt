@@ -2,7 +2,8 @@ use Rattle.std.proofs.Common.{ℕ, ◌≤◌, List, take, length}
 use Rattle.plan.specs.Pools.Pools.{Pools}
 use Rattle.plan.specs.Samples.Sites.{Site, Slot}
 use Rattle.plan.specs.Internal.Arena.{AreSlots, AreRight}
-use Rattle.plan.specs.Internal.Tuples.{AreKeysLeaves, HasTuples}
+use Rattle.plan.specs.Samples.Keys.{HasTuples}
+use Rattle.plan.specs.Internal.Tuples.{AreKeysLeaves}
 use Rattle.plan.proofs.list_entries.tuples.Given as goal
 
 abbrev pub invariant-loop-slot : goal.invariant-loop-slot

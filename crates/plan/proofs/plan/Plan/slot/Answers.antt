@@ -1,7 +1,7 @@
 use Rattle.std.proofs.Common.{arith, refl}
-use Rattle.plan.specs.Samples.Sites.{sites_of}
+use Rattle.plan.specs.Samples.Sites.{sites_of, site_at}
 use Rattle.plan.proofs.EntryLemmas.{slot_count}
-use Rattle.plan.proofs.PlanLemmas.{entry_right, row_slot, slot_at, slice_get_at, no_row}
+use Rattle.plan.proofs.PlanLemmas.{entry_right, row_slot, row_later, site_among, slot_at, slice_get_at, no_row}
 use Rattle.plan.proofs.plan.Plan.slot.Goals as goal
 
 pub returns-in-Some-clause-some : goal.returns-in-Some-clause-some
@@ -46,3 +46,13 @@ returns-in-Leaf-clause-none g c =
     let holds = g.Z.SizeSet.holds in
     let r = entry_right holds g.Z.SizeSet.BITS c.self.inside.schema c.self.inside.pools c.self.inside.arena.limit c.self.inside.arena.values c.self.inside.arena.entries.items c.self.inside.root c.args.self.now c.args.node c.entry.result.now c.self.invariant c.self.view_is c.requires.node c.entry.ensures in
     absurd (no_row holds c.args.self.now.limit c.args.self.now.pools c.self.inside.arena.values (sites_of c.args.self.now.root) c.args.node c.entry.result.now r c.in-Leaf.is c.requires.row)
+
+pub returns-in-Some-clause-later : goal.returns-in-Some-clause-later
+returns-in-Some-clause-later g c =
+    let holds = g.Z.SizeSet.holds in
+    let sites = sites_of c.args.self.now.root in
+    let r = entry_right holds g.Z.SizeSet.BITS c.self.inside.schema c.self.inside.pools c.self.inside.arena.limit c.self.inside.arena.values c.self.inside.arena.entries.items c.self.inside.root c.args.self.now c.args.node c.entry.result.now c.self.invariant c.self.view_is c.requires.node c.entry.ensures in
+    let row = rw c.in-Row.is at r.content in
+    let l = rw c.deref.ensures.value at c.in-Some.ensures.lookup.3 in
+    let sound = c.sound_parts.ensures.parts (site_at sites c.args.node) (site_among sites c.args.node c.requires.node) in
+    row_later holds c.args.self.now.limit c.args.self.now.pools _ sites c.args.node c.args.place c.index.result.now c.in-Row.row row sound.keys l.0 c.index.ensures

@@ -1,0 +1,356 @@
+//! All samples of a small plan, by the definitions alone: every value that can stand at a node is made, and what is stored is kept.
+//! It is slow, and of `plan` it uses nothing but the pools.
+ghost use Rattle.std.specs.Prelude.{◌≡◌, IsTrue};
+ghost use Rattle.jtree.specs.Data.{IsNameBefore};
+ghost use Rattle.schema.specs.Nodes.View.{node_of};
+
+use jtree::{Items, Member, Members, Text, Tree};
+use plan::Pools;
+use schema::{Below, Fields, Node, ScalarKind, ScalarNode, Sort};
+use std::alloc::Global;
+use std::test::Fail;
+use stored::{Schema, is_stored};
+
+/// The samples of a schema over pools of at most `limit` nodes, in the tree order, each once.
+pub fn plain_samples(
+    alloc: Global,
+    schema: &Schema,
+    pools: &Pools,
+    limit: u32,
+) -> Result<Vec<Tree>, Fail> {
+    plain_parts(alloc, schema.root(), pools, u64::from(limit))
+}
+
+/// The parts of a node over pools of at most `limit` nodes, in the tree order, each once.
+pub fn plain_parts(
+    alloc: Global,
+    node: &Node,
+    pools: &Pools,
+    limit: u64,
+) -> Result<Vec<Tree>, Fail> {
+    let mut parts = Vec::new(alloc);
+    for value in values_at(alloc, node, pools, limit)? {
+        if is_stored(node, &value) {
+            parts.push(value)?;
+        }
+    }
+    parts.sort_unstable();
+    parts.dedup();
+    Ok(parts)
+}
+
+/// The slots of an object or a map, or the candidates of another node that is no list: the most that one node has.
+#[cycle(width)]
+pub fn plain_width(alloc: Global, node: &Node, pools: &Pools) -> Result<u64, Fail> {
+    match &node.sort {
+        Sort::Object(object) => fields_width(alloc, &object.fields, pools),
+        Sort::Map(map) => {
+            let names = names_of(alloc, pools)?;
+            let below = plain_width(alloc, node_below(&map.value), pools)?;
+            Ok(below.max(names.len() as u64))
+        }
+        Sort::List(list) => plain_width(alloc, node_below(&list.item), pools),
+        Sort::Scalar(_) | Sort::Open => {
+            let parts = plain_parts(alloc, node, pools, u64::MAX)?;
+            Ok(parts.len() as u64)
+        }
+    }
+}
+
+#[cycle(width)]
+fn fields_width(alloc: Global, fields: &Fields, pools: &Pools) -> Result<u64, Fail> {
+    let mut width = fields.fields.len() as u64;
+    for field in &fields.fields {
+        width = width.max(plain_width(alloc, &field.node, pools)?);
+    }
+    Ok(width)
+}
+
+/// The node below a map or a list.
+pub fn node_below(below: &Below) -> &Node
+    ensures { node_of result.now ≡ below.now }
+{
+    &below.node
+}
+
+/// A name, and what may stand under it.
+#[derive(Drop)]
+struct Choice {
+    name: Text,
+    values: Vec<Tree>,
+}
+
+/// The values over pools of at most `limit` nodes that can stand at a node, stored or not.
+#[cycle(values)]
+fn values_at(alloc: Global, node: &Node, pools: &Pools, limit: u64) -> Result<Vec<Tree>, Fail> {
+    let mut values = Vec::new(alloc);
+    let room = limit.saturating_sub(1);
+    match &node.sort {
+        Sort::Scalar(scalar) => push_scalars(alloc, &mut values, scalar, pools)?,
+        Sort::Open => push_copies(alloc, &mut values, pools.any())?,
+        Sort::Object(object) => {
+            let choices = field_choices(alloc, &object.fields, pools, room)?;
+            push_objects(alloc, &mut values, &choices, room)?;
+        }
+        Sort::Map(map) => {
+            let choices = name_choices(alloc, node_below(&map.value), pools, room)?;
+            push_objects(alloc, &mut values, &choices, room)?;
+        }
+        Sort::List(list) => {
+            let items = values_at(alloc, node_below(&list.item), pools, room)?;
+            push_lists(alloc, &mut values, &items, room)?;
+        }
+    }
+    if node.nullable {
+        values.push(Tree::Null)?;
+    }
+    within(alloc, values, limit)
+}
+
+/// Those of at most `limit` nodes.
+fn within(alloc: Global, trees: Vec<Tree>, limit: u64) -> Result<Vec<Tree>, Fail> {
+    let mut kept = Vec::new(alloc);
+    for tree in trees {
+        if tree.nodes() <= limit {
+            kept.push(tree)?;
+        }
+    }
+    Ok(kept)
+}
+
+fn push_copies(alloc: Global, values: &mut Vec<Tree>, trees: &[Tree]) -> Result<(), Fail> {
+    for tree in trees {
+        values.push(tree.copy(alloc)?)?;
+    }
+    Ok(())
+}
+
+fn push_scalars(
+    alloc: Global,
+    values: &mut Vec<Tree>,
+    scalar: &ScalarNode,
+    pools: &Pools,
+) -> Result<(), Fail> {
+    if let Some(choices) = &scalar.validations.constraints.choices {
+        return push_copies(alloc, values, &choices.items);
+    }
+    match scalar.kind {
+        ScalarKind::Boolean => push_truths(values),
+        ScalarKind::Integer => push_integers(values, pools),
+        ScalarKind::String => push_strings(alloc, values, pools),
+        ScalarKind::IntOrString => {
+            push_integers(values, pools)?;
+            push_strings(alloc, values, pools)
+        }
+    }
+}
+
+fn push_truths(values: &mut Vec<Tree>) -> Result<(), Fail> {
+    values.push(Tree::Bool(false))?;
+    values.push(Tree::Bool(true))?;
+    Ok(())
+}
+
+fn push_integers(values: &mut Vec<Tree>, pools: &Pools) -> Result<(), Fail> {
+    for integer in pools.integers() {
+        values.push(Tree::Int(*integer))?;
+    }
+    Ok(())
+}
+
+fn push_strings(alloc: Global, values: &mut Vec<Tree>, pools: &Pools) -> Result<(), Fail> {
+    for text in pools.strings() {
+        values.push(Tree::Text(text.copy(alloc)?))?;
+    }
+    Ok(())
+}
+
+#[cycle(values)]
+fn field_choices(
+    alloc: Global,
+    fields: &Fields,
+    pools: &Pools,
+    room: u64,
+) -> Result<Vec<Choice>, Fail> {
+    let mut choices = Vec::new(alloc);
+    for field in &fields.fields {
+        let values = values_at(alloc, &field.node, pools, room)?;
+        let name = field.name.copy(alloc)?;
+        choices.push(Choice { name, values })?;
+    }
+    Ok(choices)
+}
+
+#[cycle(values)]
+fn name_choices(alloc: Global, node: &Node, pools: &Pools, room: u64) -> Result<Vec<Choice>, Fail> {
+    let mut choices = Vec::new(alloc);
+    for name in names_of(alloc, pools)? {
+        let values = values_at(alloc, node, pools, room)?;
+        choices.push(Choice { name, values })?;
+    }
+    Ok(choices)
+}
+
+/// The names of the pools, by bytes, each once.
+fn names_of(alloc: Global, pools: &Pools) -> Result<Vec<Text>, Fail> {
+    let mut names = Vec::new(alloc);
+    for name in pools.names() {
+        names.push(name.copy(alloc)?)?;
+    }
+    names.sort_unstable();
+    names.dedup();
+    Ok(names)
+}
+
+/// Adds each object that has some of the names, with one of the values under each, of at most `room` nodes below it.
+fn push_objects(
+    alloc: Global,
+    values: &mut Vec<Tree>,
+    choices: &[Choice],
+    room: u64,
+) -> Result<(), Fail> {
+    let mut rows = Vec::new(alloc);
+    rows.push(Members {
+        members: Vec::new(alloc),
+    })?;
+    for choice in choices.iter().rev() {
+        let mut longer = longer_rows(alloc, &rows, choice, room)?;
+        rows.append(&mut longer)?;
+    }
+    for row in rows {
+        values.push(Tree::Object(row))?;
+    }
+    Ok(())
+}
+
+/// Each row with each value under the name in front of it, where there is room.
+fn longer_rows(
+    alloc: Global,
+    rows: &[Members],
+    choice: &Choice,
+    room: u64,
+) -> Result<Vec<Members>, Fail> {
+    let mut longer = Vec::new(alloc);
+    for row in rows {
+        push_longer_rows(alloc, &mut longer, row, choice, room)?;
+    }
+    Ok(longer)
+}
+
+fn push_longer_rows(
+    alloc: Global,
+    longer: &mut Vec<Members>,
+    row: &Members,
+    choice: &Choice,
+    room: u64,
+) -> Result<(), Fail> {
+    if !is_name_before(&choice.name, row) {
+        return Err(Fail::from("names out of order"));
+    }
+    for value in &choice.values {
+        if value.nodes().saturating_add(row.nodes()) <= room {
+            longer.push(with_member(alloc, &choice.name, value, row)?)?;
+        }
+    }
+    Ok(())
+}
+
+fn is_name_before(name: &Text, row: &Members) -> bool
+    ensures { IsTrue result → IsNameBefore name.now row.now }
+{
+    match row.members.as_slice() {
+        [] => true,
+        [first, ..] => *name < first.name,
+    }
+}
+
+/// The row with a value under the name in front of it.
+fn with_member(alloc: Global, name: &Text, value: &Tree, row: &Members) -> Result<Members, Fail>
+    requires { IsNameBefore name.now row.now }
+{
+    value.reveal_invariant();
+    let mut members = Vec::new(alloc);
+    members.push(Member {
+        name: name.copy(alloc)?,
+        tree: value.copy(alloc)?,
+    })?;
+    for member in &row.members {
+        let name = member.name.copy(alloc)?;
+        let tree = member.tree.copy(alloc)?;
+        members.push(Member { name, tree })?;
+    }
+    Ok(Members { members })
+}
+
+/// Adds each list of these items, in each order and with repeats, of at most `room` nodes below it.
+fn push_lists(
+    alloc: Global,
+    values: &mut Vec<Tree>,
+    items: &[Tree],
+    room: u64,
+) -> Result<(), Fail> {
+    for list in lists_of(alloc, items, room)? {
+        values.push(Tree::List(list))?;
+    }
+    Ok(())
+}
+
+fn lists_of(alloc: Global, items: &[Tree], room: u64) -> Result<Vec<Items>, Fail> {
+    let mut lists = Vec::new(alloc);
+    for most in 0..room.saturating_add(1) {
+        lists = longer_lists(alloc, items, &lists, most)?;
+    }
+    Ok(lists)
+}
+
+/// The empty list, and each of the lists with each item in front of it, where there is room.
+fn longer_lists(
+    alloc: Global,
+    items: &[Tree],
+    lists: &[Items],
+    room: u64,
+) -> Result<Vec<Items>, Fail> {
+    let mut longer = Vec::new(alloc);
+    longer.push(Items {
+        items: Vec::new(alloc),
+    })?;
+    for list in lists {
+        push_longer_lists(alloc, &mut longer, items, list, room)?;
+    }
+    Ok(longer)
+}
+
+fn push_longer_lists(
+    alloc: Global,
+    longer: &mut Vec<Items>,
+    items: &[Tree],
+    list: &Items,
+    room: u64,
+) -> Result<(), Fail> {
+    let used = items_nodes(list);
+    for item in items {
+        if item.nodes().saturating_add(used) <= room {
+            longer.push(with_item(alloc, item, list)?)?;
+        }
+    }
+    Ok(())
+}
+
+fn items_nodes(list: &Items) -> u64 {
+    let mut nodes: u64 = 0;
+    for item in &list.items {
+        nodes = nodes.saturating_add(item.nodes());
+    }
+    nodes
+}
+
+/// The list with an item in front of it.
+fn with_item(alloc: Global, item: &Tree, list: &Items) -> Result<Items, Fail> {
+    item.reveal_invariant();
+    let mut items = Vec::new(alloc);
+    items.push(item.copy(alloc)?)?;
+    for item in &list.items {
+        items.push(item.copy(alloc)?)?;
+    }
+    Ok(Items { items })
+}

@@ -1,0 +1,228 @@
+//! The plain reference against lists of samples that were made by hand.
+use crate::documents::{
+    DEFAULTED, LABELS, MAP_LIST, NAMES, NULLABLE, OPEN, OPEN_NULLABLE, REPEATED, SET, SPEC,
+    TEN_LINES, TRUTHS, TWO_TEXTS, ZERO_AND_ONE, ZERO_AND_SEVEN,
+};
+use crate::harness::{is_number, is_said, is_text};
+use crate::plan_rows::{pools_of, schema_of};
+use crate::reference::plain_samples;
+use jtree::Tree;
+use std::alloc::Global;
+use std::process::Abort;
+use std::test::Fail;
+
+const TWO_KEYS: &str =
+    r#"{"type":"object","properties":{"m":{"type":"array","x-kubernetes-list-type":"map","x-kubernetes-list-map-keys":["host","port"],"items":{"type":"object","properties":{"host":{"type":"string"},"port":{"type":"integer"}},"required":["host","port"]}}}}"#;
+
+const ONE_OF: &str =
+    r#"{"type":"object","required":["n"],"properties":{"n":{"type":"integer","oneOf":[{"minimum":1},{"maximum":3}]}}}"#;
+
+const INT_OR_STRING: &str =
+    r#"{"type":"object","properties":{"p":{"x-kubernetes-int-or-string":true}}}"#;
+
+const LISTS_OF_LISTS: &str =
+    r#"{"type":"object","properties":{"l":{"type":"array","items":{"type":"array","items":{"type":"integer"}}}}}"#;
+
+const TWO_INTEGER_KEYS: &str =
+    r#"{"type":"object","properties":{"m":{"type":"array","x-kubernetes-list-type":"map","x-kubernetes-list-map-keys":["a","c"],"items":{"type":"object","properties":{"a":{"type":"integer"},"b":{"type":"boolean"},"c":{"type":"integer"}},"required":["a","c"]}}}}"#;
+
+const ALL_POOLS: &str =
+    r#"{"any":[{"q":1},"z"],"integers":[0,1],"names":["k"],"strings":["a","b"]}"#;
+
+// A name, a schema with its pools and limit, and all samples.
+static SAMPLES: [(&str, (&str, &str, u32), &str); 14] = [
+    ("two fields", (SPEC, ZERO_AND_ONE, 4), TEN_LINES),
+    ("one node", (SPEC, ZERO_AND_ONE, 1), "{}\n"),
+    (
+        "an object that may be null",
+        (NULLABLE, "{}", 2),
+        r#"{}
+{"n":null}
+{"n":{}}
+"#,
+    ),
+    (
+        "a set",
+        (SET, REPEATED, 4),
+        r#"{}
+{"s":[]}
+{"s":[1]}
+{"s":[2]}
+{"s":[1,2]}
+{"s":[2,1]}
+"#,
+    ),
+    (
+        "a map list",
+        (MAP_LIST, TWO_TEXTS, 8),
+        r#"{}
+{"m":[]}
+{"m":[{"k":"a"}]}
+{"m":[{"k":"b"}]}
+{"m":[{"k":"a","v":0}]}
+{"m":[{"k":"b","v":0}]}
+{"m":[{"k":"a"},{"k":"b"}]}
+{"m":[{"k":"b"},{"k":"a"}]}
+{"m":[{"k":"a"},{"k":"b","v":0}]}
+{"m":[{"k":"b"},{"k":"a","v":0}]}
+{"m":[{"k":"a","v":0},{"k":"b"}]}
+{"m":[{"k":"b","v":0},{"k":"a"}]}
+{"m":[{"k":"a","v":0},{"k":"b","v":0}]}
+{"m":[{"k":"b","v":0},{"k":"a","v":0}]}
+"#,
+    ),
+    (
+        "a map list by two keys",
+        (TWO_KEYS, r#"{"strings":["x"],"integers":[0,1]}"#, 8),
+        r#"{}
+{"m":[]}
+{"m":[{"host":"x","port":0}]}
+{"m":[{"host":"x","port":1}]}
+{"m":[{"host":"x","port":0},{"host":"x","port":1}]}
+{"m":[{"host":"x","port":1},{"host":"x","port":0}]}
+"#,
+    ),
+    (
+        "at least two of three truth values",
+        (TRUTHS, "{}", 4),
+        r#"{}
+{"o":{"b":false,"c":false}}
+{"o":{"b":false,"c":true}}
+{"o":{"b":true,"c":false}}
+{"o":{"b":true,"c":true}}
+{"o":{"a":false,"c":false}}
+{"o":{"a":false,"c":true}}
+{"o":{"a":false,"b":false}}
+{"o":{"a":false,"b":true}}
+{"o":{"a":true,"c":false}}
+{"o":{"a":true,"c":true}}
+{"o":{"a":true,"b":false}}
+{"o":{"a":true,"b":true}}
+"#,
+    ),
+    (
+        "a map over names with a repeat",
+        (LABELS, NAMES, 4),
+        r#"{}
+{"labels":{}}
+{"labels":{"k":"x"}}
+{"labels":{"j":"x"}}
+{"labels":{"j":"x","k":"x"}}
+"#,
+    ),
+    (
+        "one of two branches",
+        (ONE_OF, r#"{"integers":[0,1,2,3,4]}"#, 2),
+        r#"{"n":0}
+{"n":4}
+"#,
+    ),
+    (
+        "a default",
+        (DEFAULTED, ZERO_AND_SEVEN, 3),
+        r#"{}
+{"spec":{"f":0}}
+{"spec":{"f":7}}
+"#,
+    ),
+    (
+        "int-or-string",
+        (INT_OR_STRING, r#"{"integers":[1],"strings":["1"]}"#, 2),
+        r#"{}
+{"p":1}
+{"p":"1"}
+"#,
+    ),
+    (
+        "any value",
+        (OPEN, ALL_POOLS, 3),
+        r#"{}
+{"x":"z"}
+{"x":{"q":1}}
+"#,
+    ),
+    ("no null", (OPEN, r#"{"any":[null]}"#, 2), "{}\n"),
+    (
+        "null",
+        (OPEN_NULLABLE, r#"{"any":[null]}"#, 2),
+        r#"{}
+{"x":null}
+"#,
+    ),
+];
+
+fn listed(alloc: Global, given: (&str, &str, u32)) -> Result<Vec<Tree>, Fail> {
+    let (schema, pools, limit) = given;
+    let pools = pools_of(alloc, pools)?;
+    plain_samples(alloc, &schema_of(alloc, schema)?, &pools, limit)
+}
+
+fn push_line(alloc: Global, lines: &mut String, sample: &Tree) -> Result<(), Fail> {
+    let line = sample.to_text(alloc)?;
+    lines.push_str(line.as_str())?;
+    Ok(lines.push('\n')?)
+}
+
+fn lines_of(alloc: Global, given: (&str, &str, u32)) -> Result<String, Fail> {
+    let mut lines = String::new(alloc);
+    for sample in &listed(alloc, given)? {
+        push_line(alloc, &mut lines, sample)?;
+    }
+    Ok(lines)
+}
+
+#[test]
+fn samples(rt: HostRuntime) -> Result<(), Fail> {
+    for (name, given, wanted) in &SAMPLES {
+        is_said(&rt, lines_of(rt.alloc(), *given), wanted, "samples", name)?;
+    }
+    is_said(
+        &rt,
+        lines_of(rt.alloc(), (LISTS_OF_LISTS, r#"{"integers":[0]}"#, 4)),
+        r#"{}
+{"l":[]}
+{"l":[[]]}
+{"l":[[],[]]}
+{"l":[[0]]}
+"#,
+        "samples",
+        "lists of lists",
+    )
+}
+
+fn of_nodes(samples: &[Tree], nodes: u64) -> u64 {
+    let mut count: u64 = 0;
+    for sample in samples {
+        if sample.nodes() == nodes {
+            count = count.saturating_add(1);
+        }
+    }
+    count
+}
+
+fn first_of_nodes(alloc: Global, samples: &[Tree], nodes: u64) -> Result<String, Fail> {
+    for sample in samples {
+        if sample.nodes() == nodes {
+            return Ok(sample.to_text(alloc)?);
+        }
+    }
+    Err(Fail::from("no sample of so many nodes"))
+}
+
+/// Of 74 samples 48 have nine nodes.
+#[test]
+fn many_samples(rt: HostRuntime) -> Result<(), Fail> {
+    let name = "two integers as keys";
+    let samples = listed(rt.alloc(), (TWO_INTEGER_KEYS, ZERO_AND_ONE, 9))?;
+    is_number(&rt, samples.len() as u64, 74, "the number", name);
+    is_number(&rt, of_nodes(&samples, 9), 48, "nine nodes", name);
+    let first = first_of_nodes(rt.alloc(), &samples, 9)?;
+    is_text(
+        &rt,
+        first.as_str(),
+        r#"{"m":[{"a":0,"c":0},{"a":0,"b":false,"c":1}]}"#,
+        "the first of nine nodes",
+        name,
+    );
+    Ok(())
+}

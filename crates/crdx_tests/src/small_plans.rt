@@ -1,0 +1,479 @@
+//! Plans that are small enough for the plain reference: each way to hold a node, round each sort of node, over a few pools.
+ghost use Rattle.std.specs.Prelude.{◌≡◌, ◌<◌, length};
+ghost use Rattle.plan.specs.Samples.Sites.{site_at, sites_of};
+ghost use Rattle.plan.specs.Samples.Candidates.{sort_of};
+ghost use Rattle.plan.specs.declared.sort.Sort.TheVariants as sort;
+
+use crate::harness::{holds, is_number};
+use crate::plan_rows::{are_sizes, item_of, made, place_of, pools_of, schema_of, slot_of};
+use crate::reference::{node_below, plain_parts, plain_samples, plain_width};
+use jtree::Tree;
+use plan::{Meter, Plan, PlanNode, Pools, Sort};
+use schema::{Node, Sort as NodeSort};
+use std::alloc::Global;
+use std::process::Abort;
+use std::test::Fail;
+use stored::Schema;
+
+// Names of ways to hold a node, each with what stands before it and behind it.
+static HOLDERS: [(&str, &str, &str); 6] = [
+    ("a field", r#"{"type":"object","properties":{"x":"#, "}}"),
+    (
+        "a required field",
+        r#"{"type":"object","required":["x"],"properties":{"x":"#,
+        "}}",
+    ),
+    (
+        "a list",
+        r#"{"type":"object","properties":{"x":{"type":"array","items":"#,
+        "}}}",
+    ),
+    (
+        "a map",
+        r#"{"type":"object","properties":{"x":{"type":"object","additionalProperties":"#,
+        "}}}",
+    ),
+    (
+        "an object with one field or two",
+        r#"{"type":"object","properties":{"x":{"type":"object","minProperties":1,"properties":{"z":{"type":"boolean"},"y":"#,
+        "}}}}",
+    ),
+    (
+        "a short list beside a required field with a default",
+        r#"{"type":"object","required":["y"],"properties":{"y":{"type":"string","default":"a"},"x":{"type":"array","minItems":1,"maxItems":2,"items":"#,
+        "}}}",
+    ),
+];
+
+// The same for nodes of which two values can be told apart by a list.
+static HOLDERS_OF_SCALARS: [(&str, &str, &str); 4] = [
+    (
+        "a set",
+        r#"{"type":"object","properties":{"x":{"type":"array","x-kubernetes-list-type":"set","items":"#,
+        "}}}",
+    ),
+    (
+        "a set of at least two",
+        r#"{"type":"object","required":["x"],"properties":{"x":{"type":"array","minItems":2,"x-kubernetes-list-type":"set","items":"#,
+        "}}}",
+    ),
+    (
+        "a map list",
+        r#"{"type":"object","properties":{"x":{"type":"array","x-kubernetes-list-type":"map","x-kubernetes-list-map-keys":["k"],"items":{"type":"object","required":["k"],"properties":{"v":{"type":"boolean"},"k":"#,
+        "}}}}}",
+    ),
+    (
+        "a map list by two keys",
+        r#"{"type":"object","properties":{"x":{"type":"array","maxItems":3,"x-kubernetes-list-type":"map","x-kubernetes-list-map-keys":["l","k"],"items":{"type":"object","required":["k","l"],"properties":{"l":{"type":"boolean"},"v":{"type":"object"},"k":"#,
+        "}}}}}",
+    ),
+];
+
+// A name, and the schema of a node of scalars that is not nullable.
+static SCALARS: [(&str, &str); 10] = [
+    ("integers", r#"{"type":"integer"}"#),
+    ("truth values", r#"{"type":"boolean"}"#),
+    ("texts", r#"{"type":"string"}"#),
+    (
+        "integers or texts",
+        r#"{"x-kubernetes-int-or-string":true}"#,
+    ),
+    ("some integers", r#"{"type":"integer","enum":[3,1,3]}"#),
+    ("true", r#"{"type":"boolean","enum":[true]}"#),
+    (
+        "integers above a bound",
+        r#"{"type":"integer","minimum":0,"exclusiveMinimum":true}"#,
+    ),
+    ("texts of two letters", r#"{"type":"string","minLength":2}"#),
+    (
+        "integers but one",
+        r#"{"type":"integer","not":{"enum":[1]}}"#,
+    ),
+    (
+        "texts of one branch",
+        r#"{"type":"string","oneOf":[{"maxLength":1},{"enum":["a","bb"]}]}"#,
+    ),
+];
+
+// A name, and the schema of another node.
+static NODES: [(&str, &str); 22] = [
+    (
+        "truth values or null",
+        r#"{"type":"boolean","nullable":true}"#,
+    ),
+    (
+        "some texts or null",
+        r#"{"type":"string","nullable":true,"enum":["b"]}"#,
+    ),
+    (
+        "any value but null",
+        r#"{"x-kubernetes-preserve-unknown-fields":true}"#,
+    ),
+    (
+        "any value",
+        r#"{"x-kubernetes-preserve-unknown-fields":true,"nullable":true}"#,
+    ),
+    ("empty objects", r#"{"type":"object"}"#),
+    (
+        "empty objects or null",
+        r#"{"type":"object","nullable":true}"#,
+    ),
+    (
+        "objects that keep other fields",
+        r#"{"type":"object","x-kubernetes-preserve-unknown-fields":true,"properties":{"a":{"type":"boolean"}}}"#,
+    ),
+    (
+        "objects with a required field",
+        r#"{"type":"object","required":["b"],"properties":{"a":{"type":"boolean"},"b":{"type":"integer"}}}"#,
+    ),
+    (
+        "objects with a default",
+        r#"{"type":"object","properties":{"a":{"type":"boolean"},"f":{"type":"integer","default":7}}}"#,
+    ),
+    (
+        "objects with a default and a field that may be null",
+        r#"{"type":"object","properties":{"f":{"type":"integer","nullable":true,"default":0},"g":{"type":"boolean","nullable":true}}}"#,
+    ),
+    (
+        "objects with at most one of two fields",
+        r#"{"type":"object","maxProperties":1,"properties":{"a":{"type":"boolean"},"b":{"type":"object","properties":{"c":{"type":"boolean"}}}}}"#,
+    ),
+    (
+        "objects with two of three fields",
+        r#"{"type":"object","minProperties":2,"maxProperties":2,"properties":{"a":{"type":"string"},"b":{"type":"object"},"c":{"type":"boolean"}}}"#,
+    ),
+    (
+        "maps of truth values",
+        r#"{"type":"object","additionalProperties":{"type":"boolean"}}"#,
+    ),
+    (
+        "maps with a member",
+        r#"{"type":"object","minProperties":1,"maxProperties":1,"additionalProperties":{"type":"string"}}"#,
+    ),
+    (
+        "maps to null and integers",
+        r#"{"type":"object","nullable":true,"additionalProperties":{"type":"integer","nullable":true}}"#,
+    ),
+    (
+        "lists of truth values",
+        r#"{"type":"array","items":{"type":"boolean"}}"#,
+    ),
+    (
+        "lists of integers and null",
+        r#"{"type":"array","nullable":true,"maxItems":2,"items":{"type":"integer","nullable":true}}"#,
+    ),
+    (
+        "lists of lists",
+        r#"{"type":"array","minItems":1,"items":{"type":"array","items":{"type":"string"}}}"#,
+    ),
+    (
+        "sets of integers and texts",
+        r#"{"type":"array","x-kubernetes-list-type":"set","items":{"x-kubernetes-int-or-string":true}}"#,
+    ),
+    (
+        "map lists",
+        r#"{"type":"array","x-kubernetes-list-type":"map","x-kubernetes-list-map-keys":["k"],"items":{"type":"object","required":["k"],"properties":{"k":{"type":"string"},"v":{"type":"integer"}}}}"#,
+    ),
+    (
+        "map lists whose key has a default",
+        r#"{"type":"array","x-kubernetes-list-type":"map","x-kubernetes-list-map-keys":["k","l"],"items":{"type":"object","required":["l"],"properties":{"k":{"type":"string","default":"a"},"l":{"type":"boolean"}}}}"#,
+    ),
+    (
+        "lists of objects with at least one field",
+        r#"{"type":"array","items":{"type":"object","minProperties":1,"properties":{"a":{"type":"boolean"},"b":{"type":"string"}}}}"#,
+    ),
+];
+
+const POOLS: &str =
+    r#"{"any":[[1],null,"z",{"q":1},"z"],"integers":[1,0,1],"names":["q","p","q"],"strings":["bb","a"]}"#;
+
+const FEW: &str =
+    r#"{"any":[[true,[]],false],"integers":[7],"names":["p","a/b"],"strings":["bb"]}"#;
+
+// The numbers of nodes of trees in order, each once.
+fn counts(alloc: Global, trees: &[Tree]) -> Result<Vec<u32>, Fail> {
+    let mut counts = Vec::new(alloc);
+    for tree in trees {
+        counts.push(tree.nodes().min(99) as u32)?;
+    }
+    counts.dedup();
+    Ok(counts)
+}
+
+fn is_same(found: Option<&Tree>, wanted: &Tree) -> bool {
+    match found {
+        Some(tree) => *tree == *wanted,
+        None => false,
+    }
+}
+
+fn are_candidates(
+    rt: &impl Abort,
+    plan: &Plan<u64>,
+    node: PlanNode,
+    wanted: &[Tree],
+    meter: &mut Meter,
+    name: &str,
+)
+    requires node { node < length (sites_of plan.now.root) }
+    requires leaf { sort_of (site_at (sites_of plan.now.root) node).node ≡ sort.Leaf }
+{
+    let count = wanted.len();
+    is_number(rt, plan.count(node), count as u64, "the count", name);
+    for (place, tree) in wanted.iter().enumerate() {
+        let found = plan.candidate(node, place_of(place), meter);
+        holds(rt, is_same(found, tree), "a candidate", name);
+    }
+    let behind = plan.candidate(node, place_of(count), meter);
+    holds(rt, behind.is_none(), "no candidate behind the last", name);
+}
+
+/// The candidates are all parts, also those of more nodes than the limit.
+fn try_leaf(
+    rt: &impl Abort,
+    alloc: Global,
+    plan: &Plan<u64>,
+    number: PlanNode,
+    node: &Node,
+    pools: &Pools,
+    meter: &mut Meter,
+    name: &str,
+) -> Result<(), Fail>
+    requires { number < length (sites_of plan.now.root) }
+{
+    if let Sort::Leaf = plan.sort(number) {
+        let parts = plain_parts(alloc, node, pools, u64::MAX)?;
+        are_candidates(rt, plan, number, &parts, meter, name);
+    }
+    Ok(())
+}
+
+/// The sizes are the numbers of nodes of the parts, and the candidates of a leaf are its parts.
+fn try_node(
+    rt: &impl Abort,
+    alloc: Global,
+    plan: &Plan<u64>,
+    number: PlanNode,
+    node: &Node,
+    pools: &Pools,
+    meter: &mut Meter,
+    name: &str,
+) -> Result<(), Fail>
+    requires { number < length (sites_of plan.now.root) }
+{
+    let parts = plain_parts(alloc, node, pools, u64::from(plan.limit()))?;
+    let wanted = counts(alloc, &parts)?;
+    are_sizes(rt, alloc, plan.sizes(number), &wanted, "the sizes", name)?;
+    try_leaf(rt, alloc, plan, number, node, pools, meter, name)
+}
+
+fn try_slot(
+    rt: &impl Abort,
+    alloc: Global,
+    plan: &Plan<u64>,
+    number: PlanNode,
+    node: &Node,
+    pools: &Pools,
+    meter: &mut Meter,
+    name: &str,
+) -> Result<(), Fail>
+    requires { number < length (sites_of plan.now.root) }
+{
+    match slot_of(plan, number, 0, meter) {
+        Some(slot) => try_node(rt, alloc, plan, slot, node, pools, meter, name),
+        None => Ok(()),
+    }
+}
+
+fn try_item(
+    rt: &impl Abort,
+    alloc: Global,
+    plan: &Plan<u64>,
+    number: PlanNode,
+    node: &Node,
+    pools: &Pools,
+    meter: &mut Meter,
+    name: &str,
+) -> Result<(), Fail>
+    requires { number < length (sites_of plan.now.root) }
+{
+    match item_of(plan, number, 0, meter) {
+        Some(item) => try_node(rt, alloc, plan, item, node, pools, meter, name),
+        None => Ok(()),
+    }
+}
+
+/// The node of the first field of an object.
+fn first_field(node: &Node) -> Option<&Node> {
+    let NodeSort::Object(object) = &node.sort else {
+        return None;
+    };
+    match object.fields.fields.as_slice() {
+        [first, ..] => Some(&first.node),
+        [] => None,
+    }
+}
+
+/// What stands in the first slot of a node, or at each place of a list.
+fn try_below(
+    rt: &impl Abort,
+    alloc: Global,
+    plan: &Plan<u64>,
+    number: PlanNode,
+    node: &Node,
+    pools: &Pools,
+    meter: &mut Meter,
+    name: &str,
+) -> Result<(), Fail>
+    requires { number < length (sites_of plan.now.root) }
+{
+    match &node.sort {
+        NodeSort::List(list) => {
+            let item = node_below(&list.item);
+            try_item(rt, alloc, plan, number, item, pools, meter, name)
+        }
+        NodeSort::Map(map) => {
+            let value = node_below(&map.value);
+            try_slot(rt, alloc, plan, number, value, pools, meter, name)
+        }
+        NodeSort::Object(_) => match first_field(node) {
+            Some(field) => try_slot(rt, alloc, plan, number, field, pools, meter, name),
+            None => Ok(()),
+        },
+        NodeSort::Scalar(_) | NodeSort::Open => Ok(()),
+    }
+}
+
+/// The root, what stands in its first slot, and what stands below that.
+fn try_nodes(
+    rt: &impl Abort,
+    alloc: Global,
+    plan: &Plan<u64>,
+    root: &Node,
+    pools: &Pools,
+    meter: &mut Meter,
+    name: &str,
+) -> Result<(), Fail> {
+    let number = plan.root();
+    try_node(rt, alloc, plan, number, root, pools, meter, name)?;
+    try_below(rt, alloc, plan, number, root, pools, meter, name)?;
+    let Some(first) = first_field(root) else {
+        return Err(Fail::from("no field"));
+    };
+    match slot_of(plan, number, 0, meter) {
+        Some(slot) => try_below(rt, alloc, plan, slot, first, pools, meter, name),
+        None => Err(Fail::from("no slot")),
+    }
+}
+
+fn try_width(
+    rt: &impl Abort,
+    alloc: Global,
+    plan: &Plan<u64>,
+    root: &Node,
+    pools: &Pools,
+    name: &str,
+) -> Result<(), Fail> {
+    let width = plain_width(alloc, root, pools)?;
+    is_number(rt, plan.width(), width, "the width", name);
+    Ok(())
+}
+
+/// What is listed of the samples: here a list of them can be compared with another.
+fn try_samples(
+    rt: &impl Abort,
+    alloc: Global,
+    plan: &Plan<u64>,
+    schema: &Schema,
+    pools: &Pools,
+    name: &str,
+) -> Result<(), Fail> {
+    let samples = plain_samples(alloc, schema, pools, plan.limit())?;
+    holds(rt, samples.len() <= 5000, "few samples", name);
+    Ok(())
+}
+
+fn try_given(
+    rt: &impl Abort,
+    alloc: Global,
+    plan: &Plan<u64>,
+    schema: &Schema,
+    pools: &Pools,
+    meter: &mut Meter,
+    name: &str,
+) -> Result<(), Fail> {
+    try_width(rt, alloc, plan, schema.root(), pools, name)?;
+    try_samples(rt, alloc, plan, schema, pools, name)?;
+    try_nodes(rt, alloc, plan, schema.root(), pools, meter, name)
+}
+
+fn try_made(
+    rt: &impl Abort,
+    alloc: Global,
+    plan: &Plan<u64>,
+    schema: &str,
+    pools: &str,
+    meter: &mut Meter,
+    name: &str,
+) -> Result<(), Fail> {
+    let schema = schema_of(alloc, schema)?;
+    let pools = pools_of(alloc, pools)?;
+    try_given(rt, alloc, plan, &schema, &pools, meter, name)
+}
+
+/// What a plan says of its nodes, against the plain reference.
+fn try_plan(
+    rt: &impl Abort,
+    alloc: Global,
+    schema: &str,
+    pools: &str,
+    limit: u32,
+    name: &str,
+) -> Result<(), Fail> {
+    let mut plan = made(alloc, (schema, pools, limit))?;
+    let mut meter = plan.meter();
+    try_made(rt, alloc, &plan, schema, pools, &mut meter, name)
+}
+
+fn all_nodes(
+    rt: &impl Abort,
+    alloc: Global,
+    holder: &(&str, &str, &str),
+    nodes: &[(&str, &str)],
+    pools: &str,
+    limit: u32,
+) -> Result<(), Fail> {
+    let (holder, head, tail) = *holder;
+    for (node, schema) in nodes {
+        let name = format!(in alloc; "{holder} of {node}, of at most {limit} nodes")?;
+        let schema = format!(in alloc; "{head}{schema}{tail}")?;
+        try_plan(rt, alloc, schema.as_str(), pools, limit, name.as_str())?;
+    }
+    Ok(())
+}
+
+fn all_plans(rt: &impl Abort, alloc: Global, pools: &str, limit: u32) -> Result<(), Fail> {
+    for holder in &HOLDERS {
+        all_nodes(rt, alloc, holder, &SCALARS, pools, limit)?;
+        all_nodes(rt, alloc, holder, &NODES, pools, limit)?;
+    }
+    for holder in &HOLDERS_OF_SCALARS {
+        all_nodes(rt, alloc, holder, &SCALARS, pools, limit)?;
+    }
+    Ok(())
+}
+
+#[test]
+fn plans_over_pools(rt: HostRuntime) -> Result<(), Fail> {
+    all_plans(&rt, rt.alloc(), POOLS, 6)
+}
+
+#[test]
+fn plans_over_few_values(rt: HostRuntime) -> Result<(), Fail> {
+    all_plans(&rt, rt.alloc(), FEW, 7)
+}
+
+#[test]
+fn plans_without_pools(rt: HostRuntime) -> Result<(), Fail> {
+    all_plans(&rt, rt.alloc(), "{}", 8)
+}

@@ -1,0 +1,65 @@
+-- What the rules of a schema make of the slots and the items of a site.
+use Rattle.std.specs.Prelude.{◌≡◌, ℕ, List, [], false, Some}
+use Rattle.std.proofs.Common.{ap, sym, ◌∙◌, subst, inl, inr}
+use Rattle.std.proofs.lemmas.Option.{same_Some}
+use Rattle.jtree.specs.Internal.Rising.{Among, contained}
+use Rattle.schema.specs.Nodes.Node.{Node, node, scalar, object, list, open_, IsNode}
+use Rattle.schema.specs.Nodes.Node as nodes
+use Rattle.schema.specs.Nodes.Items.{HasKeys, HasSoundItems}
+use Rattle.schema.specs.declared.node.ListType.TheVariants.{Atomic, Set, Map}
+use Rattle.plan.specs.Pools.Pools.{Pools}
+use Rattle.plan.specs.Samples.Sites.{Site, item_site_at, Slot, slots_at, in_order}
+use Rattle.plan.specs.Samples.Candidates.{distinct_of}
+use Rattle.plan.specs.Samples.Keys.{AreInOrder, AreKeySlots, AreSetItems, AreMapItems, HasSoundParts}
+use Rattle.plan.specs.Internal.PartLaws.{PartLaws}
+use Rattle.plan.specs.declared.sort.Distinct.TheVariants.{Whole, Keys}
+use Rattle.plan.proofs.MapListLemmas.{slot_key, have_keys, map_told}
+use Rattle.plan.proofs.PartLemmas.{StoredLaw, fields_in_order, name_of_value_slot, values_in_order}
+use Rattle.plan.proofs.SetLemmas.{plain_leaf, scalar_one}
+use Rattle.plan.proofs.SoundLemmas.{AreKeysOf}
+
+slots_in_order : (P : Pools) (N : Node) (keys : List (List ℕ)) → IsNode N → AreInOrder (slots_at P N keys)
+slots_in_order P (node n t (object fs preserves type b)) keys o = fields_in_order keys fs o
+slots_in_order P (node n t (nodes.map M type b)) keys o = values_in_order M P.names
+slots_in_order P (node n t (scalar kind cs)) keys o = tt
+slots_in_order P (node n t (list M type ks b)) keys o = tt
+slots_in_order P (node n t open_) keys o = tt
+
+-- ---- keys
+
+no_key : (P : Pools) (N : Node) (s : Slot) → Among (slots_at P N []) s → s.key ≡ false
+no_key P (node n t (object fs preserves type b)) s a = slot_key [] fs s a
+no_key P (node n t (nodes.map M type b)) s a = ap (λ u. Slot.key u) (sym (name_of_value_slot M (in_order P.names) s a).1.1)
+no_key P (node n t (scalar kind cs)) s a = absurd a
+no_key P (node n t (list M type ks b)) s a = absurd a
+no_key P (node n t open_) s a = absurd a
+
+own_keys : StoredLaw → (P : Pools) (N : Node) (keys : List (List ℕ)) → IsNode N → HasKeys N keys → AreKeySlots P (slots_at P N keys)
+own_keys stored P (node n t (object fs preserves type b)) keys o h = (have_keys stored P fs keys o h.2).are
+own_keys stored P N keys o h = absurd h
+
+key_slots : StoredLaw → (P : Pools) (N : Node) (keys : List (List ℕ)) → IsNode N → AreKeysOf N keys → AreKeySlots P (slots_at P N keys)
+key_slots stored P N keys o (inl none) = rw none (λ s c key. let no = sym (no_key P N s (contained (slots_at P N []) s c)) ∙ key in absurd (cc))
+key_slots stored P N keys o (inr h) = own_keys stored P N keys o h
+
+-- ---- items
+
+set_items : StoredLaw → (P : Pools) (N : Node) (M : Site) → item_site_at N ≡ Some M → distinct_of N ≡ Whole → HasSoundItems N → AreSetItems P M.node
+set_items stored P (node n t (list K Set keys b)) M is whole h = subst (λ s. AreSetItems P (Site.node s)) (same_Some _ M is) (record { leaf = plain_leaf K h; one = scalar_one stored P K h })
+set_items stored P (node n t (list K Map keys b)) M is whole h = absurd (cc)
+set_items stored P (node n t (list K Atomic keys b)) M is whole h = absurd (cc)
+set_items stored P N M is whole h = absurd (cc)
+
+map_items : StoredLaw → PartLaws → (P : Pools) (N : Node) (M : Site) → item_site_at N ≡ Some M → distinct_of N ≡ Keys → IsNode N → HasSoundItems N → AreMapItems P N M
+map_items stored laws P (node n t (list K Map keys b)) M is by o h = subst (AreMapItems P (node n t (list K Map keys b))) (same_Some _ M is) (map_told stored laws P n t K keys b o h)
+map_items stored laws P (node n t (list K Set keys b)) M is by o h = absurd (cc)
+map_items stored laws P (node n t (list K Atomic keys b)) M is by o h = absurd (cc)
+map_items stored laws P N M is by o h = absurd (cc)
+
+pub sound_parts : StoredLaw → PartLaws → (P : Pools) (s : Site) → IsNode s.node → HasSoundItems s.node → AreKeysOf s.node s.keys → HasSoundParts P s
+sound_parts stored laws P s o h k = record {
+  order = slots_in_order P s.node s.keys o;
+  keys = key_slots stored P s.node s.keys o k;
+  set = λ M is whole. set_items stored P s.node M is whole h;
+  map = λ M is by. map_items stored laws P s.node M is by o h;
+}

@@ -1,0 +1,64 @@
+-- What the rules of a schema make of the slots and the items of a site: slots stand in the order of their names, keys are always
+-- there, and the items of sets and map lists can be told apart (apiextensions.k8s.io/v1, merge strategies).
+use Rattle.std.specs.Prelude.{◌≡◌, ℕ, ◌-◌, ◌^◌, ◌↔◌, List, [], ◌∷◌, true, false, Some, map, filter, min, unwrap_or, Contains}
+use Rattle.std.specs.declared.cmp.Ordering.TheVariants.{Less}
+use Rattle.jtree.specs.Data.{Data, Members}
+use Rattle.jtree.specs.Data as tree
+use Rattle.jtree.specs.Nodes.{node_count}
+use Rattle.jtree.specs.Order.{text_cmp}
+use Rattle.jtree.specs.Path.{member_at}
+use Rattle.schema.specs.Nodes.Node.{Node}
+use Rattle.stored.specs.Objects.Becomes.{is_nullable}
+use Rattle.plan.specs.Pools.Pools.{Pools}
+use Rattle.plan.specs.Samples.Part.{IsPart}
+use Rattle.plan.specs.Samples.Sites.{Site, item_site, Slot, slots}
+use Rattle.plan.specs.Samples.Candidates.{sort_of, distinct_of}
+use Rattle.plan.specs.Samples.RuleOfParts.{alike_at}
+use Rattle.plan.specs.Samples.NoDeadEnd.{is_key, AreCounts, product}
+use Rattle.plan.specs.declared.sort.Distinct.TheVariants.{Whole, Keys}
+use Rattle.plan.specs.declared.sort.Sort.TheVariants.{Leaf, Row}
+
+-- each name comes before all later ones, by bytes
+abbrev pub AreInOrder : List Slot → Type 0
+AreInOrder [] = Unit {0}
+AreInOrder (s ∷ ss) = ((t : Slot) → Contains ss t → text_cmp s.name t.name ≡ Less) × AreInOrder ss
+
+-- something must stand under a key: a scalar, and no null
+pub record IsKeySlot (P : Pools) (s : Slot) : Type 0 where
+  pub must : s.must ≡ true
+  pub leaf : sort_of s.node ≡ Leaf
+  pub one : (v : Data) → IsPart P s.node v → node_count v ≡ 1
+  pub no_null : IsPart P s.node tree.null → ⊥
+
+abbrev pub AreKeySlots : Pools → List Slot → Type 0
+AreKeySlots P ss = (s : Slot) → Contains ss s → s.key ≡ true → IsKeySlot P s
+
+-- how many tuples of candidates the keys among the slots have; the number stays at its greatest
+abbrev pub HasTuples : Pools → List Slot → ℕ → Type 0
+HasTuples P ss n = (counts : List ℕ) × (AreCounts P (filter is_key ss) counts × (n ≡ min (product counts) (2 ^ 64 - 1)))
+
+abbrev pub under : Members → Slot → Data
+under ms s = unwrap_or (member_at s.name ms) tree.null
+
+-- what an object has under the keys among the slots
+abbrev pub key_under : List Slot → Data → List Data
+key_under ss (tree.object ms) = map (under ms) (filter is_key ss)
+key_under ss _ = []
+
+-- the items of a set: scalars
+pub record AreSetItems (P : Pools) (M : Node) : Type 0 where
+  pub leaf : sort_of M ≡ Leaf
+  pub one : (v : Data) → IsPart P M v → node_count v ≡ 1
+
+-- the items of a map list: objects, of which no two have the same under all keys
+pub record AreMapItems (P : Pools) (N : Node) (M : Site) : Type 0 where
+  pub row : sort_of M.node ≡ Row
+  pub never_null : is_nullable M.node ≡ false
+  pub alike : (v w : Data) → IsPart P M.node v → IsPart P M.node w → (alike_at N v w ≡ true) ↔ (key_under (slots P M) v ≡ key_under (slots P M) w)
+
+-- what is known of the slots and the items of a site
+pub record HasSoundParts (P : Pools) (s : Site) : Type 0 where
+  pub order : AreInOrder (slots P s)
+  pub keys : AreKeySlots P (slots P s)
+  pub set : (M : Site) → item_site s ≡ Some M → distinct_of s.node ≡ Whole → AreSetItems P M.node
+  pub map : (M : Site) → item_site s ≡ Some M → distinct_of s.node ≡ Keys → AreMapItems P s.node M
