@@ -109,7 +109,7 @@ row_completes laws P s o is front place m h r =
 
 -- ---- lists
 
-counts : (P : Pools) (ss : List Slot) → ((s : Slot) → Among ss s → (vs : List Data) × AreCandidates P s.node vs) → (ns : List ℕ) × AreCounts P ss ns
+pub counts : (P : Pools) (ss : List Slot) → ((s : Slot) → Among ss s → (vs : List Data) × AreCandidates P s.node vs) → (ns : List ℕ) × AreCounts P ss ns
 counts P [] h = ([], tt)
 counts P (s ∷ ss) h =
     let c = h s (inl refl) in

@@ -1,17 +1,18 @@
 -- What the parts of the sites of a plan are, and that what was begun there can be completed.
-use Rattle.std.specs.Prelude.{◌≡◌, ℕ, ◌≤◌, ◌<◌, List, [], ◌∷◌, length, get_or, Some, Contains}
-use Rattle.std.proofs.Common.{sym, ◌∙◌, subst, inl, inr, arith}
+use Rattle.std.specs.Prelude.{◌≡◌, ℕ, ◌≤◌, ◌<◌, List, [], ◌∷◌, length, get_or, filter, Some, Contains}
+use Rattle.std.proofs.Common.{refl, sym, ◌∙◌, subst, inl, inr, arith}
 use Rattle.std.proofs.lemmas.List.{get_or_default}
 use Rattle.std.proofs.lemmas.List.Elements.{All-contains}
 use Rattle.jtree.specs.Internal.Rising.{Among, contains}
-use Rattle.schema.specs.Nodes.Node.{Node}
+use Rattle.schema.specs.Nodes.Node.{Node, node, scalar, object, list, open_}
+use Rattle.schema.specs.Nodes.Node as nodes
 use Rattle.stored.specs.Schemas.Accepted.{IsSchema}
 use Rattle.plan.specs.Pools.Pools.{Pools}
 use Rattle.plan.specs.Samples.Question.{Question}
-use Rattle.plan.specs.Samples.Sites.{Site, plain, sites_of, item_site, Slot, slots}
+use Rattle.plan.specs.Samples.Sites.{Site, plain, sites_of, item_site, Slot, slots, slots_at}
 use Rattle.plan.specs.Samples.Candidates.{sort_of}
 use Rattle.plan.specs.Samples.RuleOfParts.{RuleOfParts}
-use Rattle.plan.specs.Samples.NoDeadEnd.{NoDeadEnd}
+use Rattle.plan.specs.Samples.NoDeadEnd.{NoDeadEnd, is_key, AreCounts}
 use Rattle.plan.specs.Samples.Keys.{HasSoundParts}
 use Rattle.plan.specs.Internal.Arena.{IsSlot, AreSlots, HasContent, AreRight}
 use Rattle.plan.specs.Samples.Sites.{site_at}
@@ -24,7 +25,8 @@ use Rattle.plan.specs.declared.arena.SlotEntry.{SlotEntry}
 use Rattle.plan.specs.declared.arena.Content.{Content}
 use Rattle.plan.specs.declared.arena.Content.TheVariants as content
 use Rattle.plan.specs.declared.arena.Entry.{Entry}
-use Rattle.plan.proofs.DeadEndLemmas.{HasCandidates, HaveCandidates, rule_of_parts, no_dead_end}
+use Rattle.plan.proofs.ApartLemmas.{among_filter}
+use Rattle.plan.proofs.DeadEndLemmas.{HasCandidates, HaveCandidates, counts, rule_of_parts, no_dead_end}
 use Rattle.plan.proofs.PartLemmas.{StoredLaw}
 use Rattle.plan.proofs.PlanLemmas.{item_sort}
 use Rattle.plan.proofs.SoundPartLemmas.{sound_parts}
@@ -88,3 +90,23 @@ plan_parts stored laws items root P limit q schema view =
     subst (λ (x : Question). (s : Site) → Contains (sites_of x.root) s → HasSoundParts x.pools s × ((M : Site) → item_site s ≡ Some M → Contains (sites_of x.root) M)) view (λ s c.
     let sound = All-contains (IsSoundSite sites) sites s (sites_sound items root schema) c in
     (sound_parts stored laws P s sound.0 (sound_here s.node sound.1) sound.3, λ M is. contains sites M (sound.2 M is)))
+
+-- ---- the keys of a row
+
+slot_row : (P : Pools) (N : Node) (keys : List (List ℕ)) (t : Slot) → Among (slots_at P N keys) t → sort_of N ≡ Row
+slot_row P (node n d (object fs preserves type b)) keys t a = refl
+slot_row P (node n d (nodes.map M type b)) keys t a = refl
+slot_row P (node n d (scalar kind cs)) keys t a = absurd a
+slot_row P (node n d (list M type ks b)) keys t a = absurd a
+slot_row P (node n d open_) keys t a = absurd a
+
+-- the numbers of their candidates, at each site of a plan
+pub plan_counts : {Z : Type 0} (holds : Z → ℕ → Type 0) (BITS : ℕ) (root : Node) (P : Pools) (limit : ℕ) (v : Values) (es : List (Entry Z)) (first : ℕ) (q : Question) → IsPlan holds BITS root P limit v es first
+    → record { root = root; pools = P; limit = limit } ≡ q → ((s : Site) → Contains (sites_of q.root) s → HasSoundParts q.pools s) → (s : Site) → Contains (sites_of q.root) s → (ns : List ℕ) × AreCounts q.pools (filter is_key (slots q.pools s)) ns
+plan_counts holds BITS root P limit v es first q plan view =
+    subst (λ (x : Question). ((s : Site) → Contains (sites_of x.root) s → HasSoundParts x.pools s) → (s : Site) → Contains (sites_of x.root) s → (ns : List ℕ) × AreCounts x.pools (filter is_key (slots x.pools s)) ns) view (λ sound s c.
+    let have = candidates holds limit P v (sites_of root) es plan.count plan.right s c in
+    let ss = slots P s in
+    counts P (filter is_key ss) (λ t a.
+    let f = among_filter is_key ss t a in
+    have.below (slot_row P s.node s.keys t f.0) t f.0 ((sound s c).keys t (contains ss t f.0) f.1).leaf))

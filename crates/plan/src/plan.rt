@@ -48,14 +48,14 @@ impl<Z: SizeSet> Model for Plan<Z> {
 }
 
 impl<Z: SizeSet> Plan<Z> {
-    ghost use Rattle.std.specs.Prelude.{◌≡◌, ◌≢◌, ◌≤◌, ◌<◌, ◌⊎◌, ◌↔◌, ℕ, ◌+◌, List, [], length, drop, Contains, All, AllPairs, Some, IfOk, IfErr, OnOk, IfSome, IfNone, option_map};
+    ghost use Rattle.std.specs.Prelude.{◌≡◌, ◌≢◌, ◌≤◌, ◌<◌, ◌⊎◌, ◌↔◌, ℕ, ◌+◌, List, [], length, drop, filter, Contains, All, AllPairs, Some, IfOk, IfErr, OnOk, IfSome, IfNone, option_map};
     ghost use Rattle.std.specs.Option.{option_copied};
     ghost use Rattle.jtree.specs.View.{data_of};
     ghost use Rattle.plan.specs.Samples.Steps.{counted};
     ghost use Rattle.plan.specs.Samples.RuleOfParts.{RuleOfParts};
     ghost use Rattle.plan.specs.Pools.Pools.{Pools};
     ghost use Rattle.jtree.specs.Data.{Data};
-    ghost use Rattle.plan.specs.Samples.NoDeadEnd.{NoDeadEnd, IsTuple, AreCounts, product, HasFree};
+    ghost use Rattle.plan.specs.Samples.NoDeadEnd.{NoDeadEnd, is_key, IsTuple, AreCounts, product, HasFree};
     ghost use Rattle.plan.specs.Samples.Keys.{HasTuples, HasSoundParts};
     ghost use Rattle.plan.specs.Samples.Handed.{IsSlotAt, IsCandidateAt};
     ghost use Rattle.plan.specs.declared.fault.PFault.TheVariants.{BadLimit, NoMemory};
@@ -279,6 +279,7 @@ impl<Z: SizeSet> Plan<Z> {
     pub fn sound_parts(&self)
         ensures parts { (s : Site) → Contains (sites_of self.now.root) s → HasSoundParts self.now.pools s }
         ensures items { (s M : Site) → Contains (sites_of self.now.root) s → item_site s ≡ Some M → Contains (sites_of self.now.root) M }
+        ensures counts { (s : Site) → Contains (sites_of self.now.root) s → (counts : List ℕ) × AreCounts self.now.pools (filter is_key (slots_of self.now.pools s)) counts }
         ensures free { (P : Pools) (ss : List SiteSlot) (used : List (List Data)) (counts : List ℕ) → All (IsTuple P ss) used → AllPairs (λ t u. t ≢ u) used → AreCounts P ss counts → HasFree P ss used [] ↔ (length used < product counts) }
     {
         stored_by_parts();

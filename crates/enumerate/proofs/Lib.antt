@@ -1,0 +1,24 @@
+-- What the proofs of this crate's functions share.
+pub mod LeastLemmas
+pub mod LeafLemmas
+pub mod MembershipLemmas
+pub mod FreshItemLemmas
+pub mod KeyItems
+pub mod ListLemmas
+pub mod ListMoveLemmas
+pub mod ListWalks
+pub mod RowLemmas
+pub mod RowMoves
+pub mod MoveSteps
+pub mod MoveCosts
+pub mod MemberCuts
+pub mod RowOrder
+pub mod RowSteps
+pub mod PartRows
+pub mod NullMoves
+pub mod SetItemLemmas
+pub mod WholeListLemmas
+pub mod MoveLemmas
+pub mod RootLemmas
+pub mod PageLemmas
+pub mod LiveLemmas

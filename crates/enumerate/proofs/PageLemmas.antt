@@ -1,0 +1,136 @@
+-- A page, built of one sample after the other.
+use Rattle.std.proofs.Common.{◌≡◌, ◌⊎◌, ◌<◌, ◌≤◌, ◌+◌, ◌*◌, ℕ, List, [], ◌∷◌, ◌++◌, length, Bool, true, false, Option, Some, None, refl, sym, ap, ◌∙◌, subst, inl, inr, arith, length-append}
+use Rattle.std.specs.Prelude.{All, AllPairs, Contains}
+use Rattle.std.proofs.lemmas.List.Elements.{All-push, All-weaker, All-contains, Contains-append_left, Contains-push}
+use Rattle.std.proofs.lemmas.List.Quantifiers.{all_pairs_push}
+use Rattle.std.proofs.lemmas.List.{map-append}
+use Rattle.jtree.specs.Data.{Data}
+use Rattle.jtree.specs.Internal.Lookups.{ordering_cases}
+use Rattle.jtree.specs.Internal.OrderLaws.{tree_total, tree_same}
+use Rattle.jtree.specs.Order.{tree_cmp}
+use Rattle.jtree.specs.View.{data_of}
+use Rattle.jtree.specs.declared.value.Tree.{Tree}
+use Rattle.plan.specs.Samples.Question.{Question}
+use Rattle.enumerate.specs.Least.{IsLeast}
+use Rattle.enumerate.specs.Live.{Enumeration, IsNextSample, IsAdvanced}
+use Rattle.enumerate.specs.Page.{Precedes, IsPast, IsPastSample, IsPage}
+use Rattle.enumerate.specs.View.{trees_of}
+use Rattle.enumerate.proofs.LeastLemmas.{tree_order, not_itself}
+
+-- a sample past the place, and behind all items
+pub record IsBehind (q : Question) (after : Option Data) (items : List Data) (v : Data) : Type 0 where
+  pub past : IsPastSample q after v
+  pub behind : All (λ u. Precedes u v) items
+
+-- the least of those behind the items; or there is none
+abbrev pub IsNextBehind : Question → Option Data → List Data → Option Data → Type 0
+IsNextBehind q after items (Some v) = IsLeast tree_cmp (IsBehind q after items) v
+IsNextBehind q after items None = (v : Data) → IsBehind q after items v → ⊥
+
+-- the items of a page so far, and the sample that comes next
+pub record IsSoFar (q : Question) (after : Option Data) (count : ℕ) (items : List Data) (at : Option Data) : Type 0 where
+  pub samples : All (IsPastSample q after) items
+  pub ascending : AllPairs Precedes items
+  pub short : length items ≤ count
+  pub rest : (v : Data) → IsPastSample q after v → Contains items v ⊎ All (λ u. Precedes u v) items
+  pub next : IsNextBehind q after items at
+
+abbrev no_items : List Data
+no_items = []
+
+none_in : (P : Data → Type 0) → All P no_items
+none_in P = λ k d lt. absurd (omega arith)
+
+first_next : (q : Question) (after at : Option Data) → IsNextSample q after at → IsNextBehind q after [] at
+first_next q after (Some v) h = record { is = record { past = h.is; behind = none_in (λ u. Precedes u v) }; least = λ u b. h.least u b.past }
+first_next q after None h = λ v b. h v b.past
+
+pub none_so_far : (q : Question) (after : Option Data) (count : ℕ) (at : Option Data) → IsNextSample q after at → IsSoFar q after count [] at
+none_so_far q after count at h = record {
+  samples = none_in (IsPastSample q after);
+  ascending = λ i j d lt within. absurd (omega (arith, lt, within));
+  short = omega arith;
+  rest = λ v p. inr (none_in (λ u. Precedes u v));
+  next = first_next q after at h;
+}
+
+goes_past : (after : Option Data) (u v : Data) → IsPast after u → Precedes u v → IsPast after v
+goes_past None u v p h = tt
+goes_past (Some a) u v p h = tree_total.trans a u v p h
+
+module _ (q : Question) (after : Option Data) (count : ℕ) (items : List Data) (w : Data) (s : IsSoFar q after count items (Some w)) where
+  -- what is behind the items is the next one, or behind it too
+  from_next : (v : Data) → IsBehind q after items v → (w ≡ v) ⊎ Precedes w v
+  from_next v b = elim (ordering_cases (tree_cmp v w)) [
+    | inl less ↦ absurd (s.next.least v b less)
+    | inr (inl equal) ↦ inl (sym (tree_same v w equal))
+    | inr (inr greater) ↦ inr (tree_total.antisymm w v ∙ rw greater refl)
+  ]
+
+  all_before : (v : Data) → Precedes w v → All (λ u. Precedes u v) (items ++ w ∷ [])
+  all_before v h = All-push (λ u. Precedes u v) items w (All-weaker (λ u. Precedes u w) (λ u. Precedes u v) (λ u p. tree_total.trans u w v p h) items s.next.is.behind) h
+
+  before_all : (v : Data) → All (λ u. Precedes u v) (items ++ w ∷ []) → Precedes w v
+  before_all v all = All-contains (λ u. Precedes u v) (items ++ w ∷ []) w all (Contains-push items w)
+
+  past_next : (v : Data) → IsBehind q after (items ++ w ∷ []) v → IsPastSample q (Some w) v
+  past_next v b = record { sample = b.past.sample; past = before_all v b.behind }
+
+  next_past : (v : Data) → IsPastSample q (Some w) v → IsBehind q after (items ++ w ∷ []) v
+  next_past v p = record { past = record { sample = p.sample; past = goes_past after w v s.next.is.past.past p.past }; behind = all_before v p.past }
+
+  next_behind : (at : Option Data) → IsNextSample q (Some w) at → IsNextBehind q after (items ++ w ∷ []) at
+  next_behind (Some v) h = record { is = next_past v h.is; least = λ u b. h.least u (past_next u b) }
+  next_behind None h = λ v b. h v (past_next v b)
+
+  -- the next one is one more item
+  pub one_more : (at : Option Data) → length items < count → IsNextSample q (Some w) at → IsSoFar q after count (items ++ w ∷ []) at
+  one_more at room h = record {
+    samples = All-push (IsPastSample q after) items w s.samples s.next.is.past;
+    ascending = all_pairs_push Precedes items w s.ascending s.next.is.behind;
+    short = omega (arith, room, length-append items (w ∷ []));
+    rest = λ v p. elim (s.rest v p) [
+      | inl listed ↦ inl (Contains-append_left items (w ∷ []) v listed)
+      | inr behind ↦ elim (from_next v (record { past = p; behind = behind })) [
+        | inl same ↦ inl (subst (Contains (items ++ w ∷ [])) same (Contains-push items w))
+        | inr later ↦ inr (all_before v later)
+      ]
+    ];
+    next = next_behind at h;
+  }
+
+  -- where there is a next one, a full page has no end
+  pub full_page : count ≤ length items → IsPage q after count items false
+  full_page full = record {
+    samples = s.samples;
+    ascending = s.ascending;
+    short = s.short;
+    rest = s.rest;
+    exact_end = (λ t. cc, λ all. absurd (let at = all w s.next.is.past in let before = All-contains (λ u. Precedes u w) items w s.next.is.behind at in not_itself tree_cmp tree_order w w refl before));
+    full = λ f. omega (arith, full, s.short);
+  }
+
+pub last_page : (q : Question) (after : Option Data) (count : ℕ) (items : List Data) → IsSoFar q after count items None → IsPage q after count items true
+last_page q after count items s = record {
+  samples = s.samples;
+  ascending = s.ascending;
+  short = s.short;
+  rest = s.rest;
+  exact_end = (λ t v p. elim (s.rest v p) [ inl listed ↦ listed | inr behind ↦ absurd (s.next v (record { past = p; behind = behind })) ], λ all. refl);
+  full = λ f. cc;
+}
+
+-- the tree at which the enumeration stood is one more item, and it moved on
+pub push_sample : (q : Question) (after : Option Data) (count : ℕ) (old new : List Tree) (t : Tree) (live next : Enumeration) (more : Bool) → live.question ≡ q → live.at ≡ Some (data_of t) → new ≡ old ++ t ∷ [] → length (trees_of old) < count
+    → IsAdvanced live next more → IsSoFar q after count (trees_of old) live.at → IsSoFar q after count (trees_of new) next.at
+push_sample q after count old new t live next more question at pushed room moved s =
+    let later : IsNextSample live.question (Some (data_of t)) next.at = subst (λ o. IsNextSample live.question o next.at) (sym moved.stood ∙ at) moved.next in
+    let whole : trees_of old ++ data_of t ∷ [] ≡ trees_of new = sym (ap trees_of pushed ∙ map-append (λ u. data_of u) old (t ∷ [])) in
+    subst (λ ds. IsSoFar q after count ds next.at) whole
+    (one_more q after count (trees_of old) (data_of t) (subst (IsSoFar q after count (trees_of old)) at s) next.at room (subst (λ r. IsNextSample r (Some (data_of t)) next.at) question later))
+
+-- one more item, and at most d steps more
+pub push_steps : (old new : List Tree) (t : Tree) (start before now d : ℕ) → new ≡ old ++ t ∷ [] → before ≤ start + length old * d → now ≤ before + d → now ≤ start + length new * d
+push_steps old new t start before now d pushed taken more =
+    let longer : length new * d ≡ (length old + 1) * d = ap (λ n. n * d) (ap length pushed ∙ length-append old (t ∷ [])) in
+    omega (arith, longer, taken, more)

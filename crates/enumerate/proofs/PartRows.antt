@@ -1,0 +1,114 @@
+-- The parts of rows, where no row is used; and null, the first tree of one node.
+use Rattle.std.specs.Prelude.{◌≡◌, ℕ, suc, ◌+◌, ◌-◌, ◌*◌, ◌≤◌, ◌<◌, List, true, false, Option, drop, Contains}
+use Rattle.std.proofs.Common.{refl, ap, sym, ◌∙◌, subst, inl, inr, arith, [], ◌∷◌, length}
+use Rattle.std.proofs.Math.Seq.{drop-length}
+use Rattle.std.specs.Cmp.{nat_cmp_is}
+use Rattle.std.specs.Ordering.{nat_cmp}
+use Rattle.std.specs.declared.cmp.Ordering.TheVariants.{Less, Equal, Greater}
+use Rattle.jtree.specs.Data.{Data, null, boolean, integer, text, list, object}
+use Rattle.jtree.specs.Nodes.{node_count, nodes}
+use Rattle.jtree.specs.Order.{kind, tree_cmp}
+use Rattle.jtree.specs.Internal.Rising.{contained}
+use Rattle.schema.specs.declared.node.Bounds.{Bounds}
+use Rattle.stored.specs.Objects.Becomes.{is_nullable}
+use Rattle.stored.specs.Objects.StoredByParts.{IsWithin}
+use Rattle.plan.specs.Pools.Pools.{Pools}
+use Rattle.plan.specs.Samples.Sites.{Site, Slot, slots}
+use Rattle.plan.specs.Samples.Sizes.{AreFillings, CanFill, filled_count, filled_nodes}
+use Rattle.plan.specs.Samples.Candidates.{sort_of}
+use Rattle.plan.specs.Samples.RuleOfParts.{RuleOfParts}
+use Rattle.plan.specs.Samples.Keys.{AreKeySlots}
+use Rattle.plan.specs.Samples.Question.{Question}
+use Rattle.plan.specs.Samples.Part.{IsPart}
+use Rattle.plan.specs.declared.sort.Sort.{Sort}
+use Rattle.plan.specs.declared.sort.Sort.TheVariants as sort
+use Rattle.enumerate.proofs.WholeListLemmas.{list_site}
+use Rattle.enumerate.specs.Least.{IsLeast}
+use Rattle.enumerate.specs.Internal.Nodes.{site, IsPartOf, HasSizeAt, weight}
+use Rattle.enumerate.specs.Internal.Rows.{slots_from, bounds_at, IsOpen, IsRow}
+use Rattle.enumerate.proofs.LeastLemmas.{tree_order}
+use Rattle.enumerate.proofs.RowLemmas.{known}
+use Rattle.enumerate.proofs.RowOrder.{filled_count_nodes}
+
+pub weight_next : (q : Question) (i : ℕ) → weight q (i + 1) ≡ weight q i + (4 * length (slots q.pools (site q i)) + (4 * q.limit + 8))
+weight_next q i = let e : i + 1 ≡ suc i = omega arith in ap (weight q) e
+
+-- ---- null
+
+later_kind : (u : Data) → node_count u ≡ 1 → 0 < kind u → tree_cmp u null ≡ Less → ⊥
+later_kind u n k less =
+    let e : nat_cmp (nodes u) (nodes null) ≡ Equal = sym (nat_cmp_is (nodes u) (nodes null) Equal (omega (arith, n))) in
+    let f : nat_cmp (kind u) 0 ≡ Greater = sym (nat_cmp_is (kind u) 0 Greater (omega (arith, k))) in
+    let no = rw (e, f) at less in cc
+
+pub null_first : (u : Data) → node_count u ≡ 1 → tree_cmp u null ≡ Less → ⊥
+null_first null n less = let t = tree_order.own null in cc
+null_first (boolean b) n less = later_kind (boolean b) n (omega arith) less
+null_first (integer z) n less = later_kind (integer z) n (omega arith) less
+null_first (text t) n less = later_kind (text t) n (omega arith) less
+null_first (list ds) n less = later_kind (list ds) n (omega arith) less
+null_first (object ms) n less = later_kind (object ms) n (omega arith) less
+
+-- ---- the end of a row
+
+nothing_within : (P : Pools) (b : Bounds) (t : ℕ) (gs : List (Option Data)) → AreFillings P [] gs → IsWithin b (t + filled_count gs) → IsWithin b t
+nothing_within P b t [] are h = let e : t + 0 ≡ t = omega arith in subst (IsWithin b) e h
+nothing_within P b t (g ∷ gs) are h = absurd are
+
+ends_within : (P : Pools) (ss : List Slot) (b : Bounds) (t : ℕ) → CanFill P (drop (length ss) ss) b t 0 → IsWithin b t
+ends_within P ss b t h = let can = subst (λ us. CanFill P us b t 0) (drop-length ss) h in nothing_within P b t can.fillings can.are can.within
+
+within_ends : (P : Pools) (ss : List Slot) (b : Bounds) (t : ℕ) → IsWithin b t → CanFill P (drop (length ss) ss) b t 0
+within_ends P ss b t h = let e : t ≡ t + 0 = omega arith in subst (λ us. CanFill P us b t 0) (sym (drop-length ss)) (record { fillings = []; are = tt; within = subst (IsWithin b) e h; nodes_are = refl })
+
+no_used : (ss : List Slot) (k : List Data) → Contains {X = List Data} [] k → ⊥
+no_used ss k c = contained [] k c
+
+module _ (q : Question) (i : ℕ) (rule : RuleOfParts q.pools q.limit (site q i)) (row : sort_of (site q i).node ≡ sort.Row) where
+  pub row_unless_null : (n : ℕ) (v : Data) → IsPartOf q i n v → (v ≡ null → is_nullable (site q i).node ≡ true → ⊥) → IsRow q i (n - 1) [] v
+  row_unless_null n v p never = elim ((rule.row v row).0 p.part) [
+    | inl gone ↦ absurd (never gone.0 gone.1)
+    | inr r ↦
+        let count = filled_count_nodes q.pools (slots q.pools (site q i)) r.fillings r.are in
+        let nodes : 1 + filled_nodes r.fillings ≡ n = ap (λ k. 1 + k) (sym count) ∙ sym (ap node_count r.is) ∙ p.nodes_are in
+        let within = ends_within q.pools (slots q.pools (site q i)) (bounds_at q i) (filled_count r.fillings) r.ends in
+        record {
+          fillings = r.fillings;
+          is = r.is;
+          rest = record { are = r.are; within = let e : filled_count r.fillings ≡ 0 + filled_count r.fillings = omega arith in subst (IsWithin (bounds_at q i)) e within; nodes_are = omega (arith, nodes); fresh = no_used (slots_from q i 0) _ };
+        }
+  ]
+
+  pub plain_row : (n : ℕ) (v : Data) → IsPartOf q i n v → (n ≡ 1 → is_nullable (site q i).node ≡ false) → IsRow q i (n - 1) [] v
+  plain_row n v p never = row_unless_null n v p (λ is nullable. let one : n ≡ 1 = sym p.nodes_are ∙ ap node_count is in let no = sym (never one) ∙ nullable in cc)
+
+  pub row_plain : (n : ℕ) (v : Data) → 1 ≤ n → IsRow q i (n - 1) [] v → IsPartOf q i n v
+  row_plain n v some r =
+      let count = filled_count_nodes q.pools (slots q.pools (site q i)) r.fillings r.rest.are in
+      let nodes = r.rest.nodes_are in
+      let whole : 1 + filled_nodes r.fillings ≡ n = omega (arith, nodes, some) in
+      record {
+        part = (rule.row v row).1 (inr (record { fillings = r.fillings; is = r.is; are = r.rest.are; ends = within_ends q.pools (slots q.pools (site q i)) (bounds_at q i) (filled_count r.fillings) (let e : 0 + filled_count r.fillings ≡ filled_count r.fillings = omega arith in subst (IsWithin (bounds_at q i)) e r.rest.within) }));
+        nodes_are = ap node_count r.is ∙ ap (λ k. 1 + k) count ∙ whole;
+      }
+
+  pub plain_least : (n : ℕ) (v : Data) → 1 ≤ n → (n ≡ 1 → is_nullable (site q i).node ≡ false) → IsLeast tree_cmp (IsRow q i (n - 1) []) v → IsLeast tree_cmp (IsPartOf q i n) v
+  plain_least n v some never h = record { is = row_plain n v some h.is; least = λ u p. h.least u (plain_row n u p never) }
+
+  pub plain_open : (n : ℕ) → AreKeySlots q.pools (slots_from q i 0) → (n ≡ 1 → is_nullable (site q i).node ≡ false) → HasSizeAt q i n → IsOpen q.pools (slots_from q i 0) (bounds_at q i) 0 (n - 1) []
+  plain_open n keys never h =
+      let r = plain_row n h.part (record { part = h.is; nodes_are = h.nodes_are }) never in
+      record {
+        known = record { few = omega arith; tuples = λ k d lt. absurd (omega (arith, lt)); apart = λ a b d lt within. absurd (omega (arith, lt, within)) };
+        rest = record { fillings = r.fillings; are = r.rest.are; within = r.rest.within; nodes_are = r.rest.nodes_are };
+        free = (_, (known q.pools (slots_from q i 0) r.fillings keys r.rest.are, no_used (slots_from q i 0) _));
+      }
+
+-- null is a part where it is accepted, and the node no leaf
+null_by : (o : Sort) (s : Site) (P : Pools) (limit : ℕ) → sort_of s.node ≡ o → 1 ≤ limit → RuleOfParts P limit s → (sort_of s.node ≡ sort.Leaf → ⊥) → is_nullable s.node ≡ true → IsPart P s.node null
+null_by sort.Leaf s P limit is some rule inner nullable = absurd (inner is)
+null_by sort.Row s P limit is some rule inner nullable = (rule.row null is).1 (inl (refl, nullable))
+null_by sort.List s P limit is some rule inner nullable = let M = list_site s.node is in (rule.list M.0 null M.1 some).1 (inl (refl, nullable))
+
+pub null_part : (s : Site) (P : Pools) (limit : ℕ) → 1 ≤ limit → RuleOfParts P limit s → (sort_of s.node ≡ sort.Leaf → ⊥) → is_nullable s.node ≡ true → IsPart P s.node null
+null_part s P limit some rule inner nullable = null_by (sort_of s.node) s P limit refl some rule inner nullable

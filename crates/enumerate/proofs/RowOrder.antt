@@ -1,0 +1,104 @@
+-- The order of rows of as many nodes is that of what stands in their slots.
+use Rattle.std.specs.Prelude.{◌≡◌, ℕ, ◌+◌, ◌-◌, List, Option, Some, None, option_map, Contains}
+use Rattle.std.proofs.Common.{refl, ap, sym, ◌∙◌, subst, inl, inr, arith, [], ◌∷◌}
+use Rattle.std.specs.Cmp.{nat_cmp_is}
+use Rattle.std.specs.Ordering.{nat_cmp}
+use Rattle.std.proofs.lemmas.Cmp.{nat_list_cmp_total, tied_itself}
+use Rattle.std.specs.declared.cmp.Ordering.TheVariants.{Less, Equal, Greater}
+use Rattle.jtree.specs.Data.{Data, Members, no_members, member, IsNameBefore, AreMembers, IsTree}
+use Rattle.jtree.specs.Data as tree
+use Rattle.jtree.specs.Nodes.{node_count, members_count, nodes}
+use Rattle.jtree.specs.Order.{text_cmp, members_cmp, tree_cmp}
+use Rattle.jtree.specs.Internal.Rising.{contains, contained}
+use Rattle.plan.specs.Pools.Pools.{Pools}
+use Rattle.plan.specs.Samples.Sites.{Slot}
+use Rattle.plan.specs.Samples.Sizes.{AreFillings, filled_nodes}
+use Rattle.plan.specs.Samples.RuleOfParts.{members_in}
+use Rattle.plan.specs.Samples.Keys.{AreInOrder}
+use Rattle.schema.specs.declared.node.Bounds.{Bounds}
+use Rattle.plan.specs.Samples.Question.{Question}
+use Rattle.enumerate.specs.Least.{IsLeast, IsNext}
+use Rattle.enumerate.specs.Internal.Rows.{fill_cmp, slots_from, bounds_at, IsRest, IsRow}
+
+later : (s : Slot) (ss : List Slot) (t : Slot) → Contains ss t → Contains (s ∷ ss) t
+later s ss t c = contains (s ∷ ss) t (inr (contained ss t c))
+
+pub before_in : (k : List ℕ) (ss : List Slot) (gs : List (Option Data)) → ((t : Slot) → Contains ss t → text_cmp k t.name ≡ Less) → IsNameBefore k (members_in ss gs)
+before_in k [] gs o = tt
+before_in k (s ∷ ss) [] o = tt
+before_in k (s ∷ ss) (None ∷ gs) o = before_in k ss gs (λ t c. o t (later s ss t c))
+before_in k (s ∷ ss) (Some v ∷ gs) o = o s (contains (s ∷ ss) s (inl refl))
+
+own_text : (k : List ℕ) → text_cmp k k ≡ Equal
+own_text k = tied_itself nat_list_cmp_total k
+
+text_turned : (k l : List ℕ) → text_cmp k l ≡ Less → text_cmp l k ≡ Greater
+text_turned k l p = let h = nat_list_cmp_total.antisymm l k in rw p at h
+
+without_first : (k : List ℕ) (d : Data) (ms ns : Members) → IsNameBefore k ns → members_cmp ns (member k d ms) ≡ Less
+without_first k d ms no_members h = refl
+without_first k d ms (member l e ns) h = rw h refl
+
+with_first : (k : List ℕ) (d : Data) (ms ns : Members) → IsNameBefore k ns → members_cmp (member k d ms) ns ≡ Greater
+with_first k d ms no_members h = refl
+with_first k d ms (member l e ns) h = rw (text_turned k l h) refl
+
+pub members_order : (P : Pools) (ss : List Slot) (gs hs : List (Option Data)) → AreInOrder ss → AreFillings P ss gs → AreFillings P ss hs → members_cmp (members_in ss gs) (members_in ss hs) ≡ fill_cmp gs hs
+members_order P [] [] [] o g h = refl
+members_order P [] [] (y ∷ hs) o g h = absurd h
+members_order P [] (x ∷ gs) hs o g h = absurd g
+members_order P (s ∷ ss) [] hs o g h = absurd g
+members_order P (s ∷ ss) (x ∷ gs) [] o g h = absurd h
+members_order P (s ∷ ss) (None ∷ gs) (None ∷ hs) o g h = members_order P ss gs hs o.1 g.1 h.1
+members_order P (s ∷ ss) (None ∷ gs) (Some v ∷ hs) o g h = without_first s.name v (members_in ss hs) (members_in ss gs) (before_in s.name ss gs o.0)
+members_order P (s ∷ ss) (Some u ∷ gs) (None ∷ hs) o g h = with_first s.name u (members_in ss gs) (members_in ss hs) (before_in s.name ss hs o.0)
+members_order P (s ∷ ss) (Some u ∷ gs) (Some v ∷ hs) o g h = rw (own_text s.name, members_order P ss gs hs o.1 g.1 h.1) refl
+
+pub filled_count_nodes : (P : Pools) (ss : List Slot) (gs : List (Option Data)) → AreFillings P ss gs → members_count (members_in ss gs) ≡ filled_nodes gs
+filled_count_nodes P [] [] h = refl
+filled_count_nodes P [] (g ∷ gs) h = absurd h
+filled_count_nodes P (s ∷ ss) [] h = absurd h
+filled_count_nodes P (s ∷ ss) (None ∷ gs) h = filled_count_nodes P ss gs h.1
+filled_count_nodes P (s ∷ ss) (Some v ∷ gs) h = ap (λ n. node_count v + n) (filled_count_nodes P ss gs h.1)
+
+pub objects_order : (ms ns : Members) → members_count ms ≡ members_count ns → tree_cmp (tree.object ms) (tree.object ns) ≡ members_cmp ms ns
+objects_order ms ns e =
+    let n : nat_cmp (nodes (tree.object ms)) (nodes (tree.object ns)) ≡ Equal = sym (nat_cmp_is (nodes (tree.object ms)) (nodes (tree.object ns)) Equal (omega (arith, e))) in
+    rw n refl
+
+pub in_members : (P : Pools) (ss : List Slot) (gs : List (Option Data)) → AreInOrder ss → AreFillings P ss gs → AreMembers (members_in ss gs)
+in_members P [] gs o h = tt
+in_members P (s ∷ ss) [] o h = tt
+in_members P (s ∷ ss) (None ∷ gs) o h = in_members P ss gs o.1 h.1
+in_members P (s ∷ ss) (Some v ∷ gs) o h = (h.0.tree, before_in s.name ss gs o.0, in_members P ss gs o.1 h.1)
+
+same_nodes : (P : Pools) (ss : List Slot) (b : Bounds) (t m : ℕ) (used : List Data) (gs hs : List (Option Data)) → IsRest P ss b t m used gs → IsRest P ss b t m used hs → members_count (members_in ss gs) ≡ members_count (members_in ss hs)
+same_nodes P ss b t m used gs hs g h = filled_count_nodes P ss gs g.are ∙ g.nodes_are ∙ sym h.nodes_are ∙ sym (filled_count_nodes P ss hs h.are)
+
+pub rows_order : (P : Pools) (ss : List Slot) (b : Bounds) (t m : ℕ) (used : List Data) (gs hs : List (Option Data)) → AreInOrder ss → IsRest P ss b t m used gs → IsRest P ss b t m used hs
+    → tree_cmp (tree.object (members_in ss gs)) (tree.object (members_in ss hs)) ≡ fill_cmp gs hs
+rows_order P ss b t m used gs hs o g h = objects_order (members_in ss gs) (members_in ss hs) (same_nodes P ss b t m used gs hs g h) ∙ members_order P ss gs hs o g.are h.are
+
+pub row_least : (q : Question) (i m : ℕ) (used : List Data) (gs : List (Option Data)) → AreInOrder (slots_from q i 0) → IsLeast fill_cmp (IsRest q.pools (slots_from q i 0) (bounds_at q i) 0 m used) gs
+    → IsLeast tree_cmp (IsRow q i m used) (tree.object (members_in (slots_from q i 0) gs))
+row_least q i m used gs o h = record {
+  is = record { fillings = gs; is = refl; rest = h.is };
+  least = λ u r less. h.least r.fillings r.rest (sym (rows_order q.pools (slots_from q i 0) (bounds_at q i) 0 m used r.fillings gs o r.rest h.is) ∙ subst (λ x. tree_cmp x (tree.object (members_in (slots_from q i 0) gs)) ≡ Less) r.is less);
+}
+
+-- what stands next in the slots makes the next object
+pub row_next : (q : Question) (i : ℕ) (used : List Data) (old : Data) (gs : List (Option Data)) (next : Option (List (Option Data))) → AreInOrder (slots_from q i 0) → old ≡ tree.object (members_in (slots_from q i 0) gs)
+    → IsRest q.pools (slots_from q i 0) (bounds_at q i) 0 (filled_nodes gs) used gs → filled_nodes gs ≡ node_count old - 1 → IsNext fill_cmp (IsRest q.pools (slots_from q i 0) (bounds_at q i) 0 (filled_nodes gs) used) gs next
+    → IsNext tree_cmp (IsRow q i (node_count old - 1) used) old (option_map (λ us. tree.object (members_in (slots_from q i 0) us)) next)
+row_next q i used old gs next o is rest nodes h = subst (λ m. IsNext tree_cmp (IsRow q i m used) old (option_map (λ us. tree.object (members_in (slots_from q i 0) us)) next)) nodes
+    (subst (λ v. IsNext tree_cmp (IsRow q i (filled_nodes gs) used) v (option_map (λ us. tree.object (members_in (slots_from q i 0) us)) next)) (sym is) (at next h))
+  where
+    at : (n : Option (List (Option Data))) → IsNext fill_cmp (IsRest q.pools (slots_from q i 0) (bounds_at q i) 0 (filled_nodes gs) used) gs n
+        → IsNext tree_cmp (IsRow q i (filled_nodes gs) used) (tree.object (members_in (slots_from q i 0) gs)) (option_map (λ us. tree.object (members_in (slots_from q i 0) us)) n)
+    at None none = λ u r less. none r.fillings r.rest (sym (rows_order q.pools (slots_from q i 0) (bounds_at q i) 0 (filled_nodes gs) used gs r.fillings o rest r.rest) ∙ subst (λ x. tree_cmp (tree.object (members_in (slots_from q i 0) gs)) x ≡ Less) r.is less)
+    at (Some hs) l = record {
+      is = (record { fillings = hs; is = refl; rest = l.is.0 }, rows_order q.pools (slots_from q i 0) (bounds_at q i) 0 (filled_nodes gs) used gs hs o rest l.is.0 ∙ l.is.1);
+      least = λ u r less. l.least r.0.fillings
+          (r.0.rest, sym (rows_order q.pools (slots_from q i 0) (bounds_at q i) 0 (filled_nodes gs) used gs r.0.fillings o rest r.0.rest) ∙ subst (λ x. tree_cmp (tree.object (members_in (slots_from q i 0) gs)) x ≡ Less) r.0.is r.1)
+          (sym (rows_order q.pools (slots_from q i 0) (bounds_at q i) 0 (filled_nodes gs) used r.0.fillings hs o r.0.rest l.is.0) ∙ subst (λ x. tree_cmp x (tree.object (members_in (slots_from q i 0) hs)) ≡ Less) r.0.is less);
+    }

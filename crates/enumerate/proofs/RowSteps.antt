@@ -1,0 +1,266 @@
+-- What the steps of filling a row make of its slots.
+use Rattle.std.specs.Prelude.{◌≡◌, ◌≢◌, ◌↔◌, ℕ, zero, suc, ◌+◌, ◌-◌, ◌≤◌, ◌<◌, List, true, false, Option, Some, None, filter, drop, All, AllPairs, Contains}
+use Rattle.std.proofs.Common.{refl, ap, sym, ◌∙◌, subst, arith, [], ◌∷◌, length, append-nil}
+use Rattle.std.proofs.Math.ListN.{drop_of_length-le}
+use Rattle.std.proofs.Math.Seq.{drop-cons}
+use Rattle.std.proofs.lemmas.List.{length-map, length-drop, append_assoc}
+use Rattle.std.proofs.lemmas.Option.{slice_get_within, get_or_from_slice_get}
+use Rattle.std.specs.declared.cmp.Ordering.TheVariants.{Less}
+use Rattle.jtree.specs.Data.{Data, member}
+use Rattle.jtree.specs.Data as tree
+use Rattle.jtree.specs.Nodes.{node_count, most_nodes}
+use Rattle.jtree.specs.Order.{tree_cmp}
+use Rattle.jtree.specs.View.{data_of, members_of}
+use Rattle.jtree.specs.declared.value.Member.{Member}
+use Rattle.schema.specs.Nodes.Node.{Node}
+use Rattle.schema.specs.declared.node.Bounds.{Bounds}
+use Rattle.stored.specs.Objects.StoredByParts.{IsWithin}
+use Rattle.plan.specs.Pools.Pools.{Pools}
+use Rattle.plan.specs.Sets.{IsEmptyFrom}
+use Rattle.plan.specs.Samples.Part.{IsPart}
+use Rattle.plan.specs.Samples.Sites.{Site, Slot, slots, sites_of, plain}
+use Rattle.plan.specs.Samples.Sizes.{AreFillings, CanFill, HasSize, filled_nodes, filled_count}
+use Rattle.plan.specs.Samples.RuleOfParts.{members_in}
+use Rattle.plan.specs.Samples.NoDeadEnd.{is_key, IsTuple, AreCounts, product, HasFree}
+use Rattle.plan.specs.Samples.Keys.{IsKeySlot, AreKeySlots, HasTuples, HasSoundParts, key_under}
+use Rattle.plan.specs.Samples.Handed.{IsSlotAt}
+use Rattle.plan.specs.Samples.Question.{Question}
+use Rattle.plan.specs.Samples.Candidates.{sort_of}
+use Rattle.plan.specs.declared.sort.Sort.TheVariants as sort
+use Rattle.enumerate.specs.declared.moved.Step.{Step}
+use Rattle.enumerate.specs.declared.moved.Step.TheVariants.{Moved, Last}
+use Rattle.plan.specs.declared.plan.Slot as handed
+use Rattle.enumerate.specs.Least.{IsLeast}
+use Rattle.enumerate.specs.Internal.Nodes.{site, IsPartOf}
+use Rattle.enumerate.specs.Internal.Candidates.{agreeing, IsFreeKey}
+use Rattle.enumerate.specs.Internal.Rows.{fill_cmp, slots_from, slot_in, bounds_at, IsSlotOf, IsGrown, used_keys, IsUnused, IsRest, AreUsed, IsOpen, AddsFirst, still_used, IsValue, FitsSlot, Grows}
+use Rattle.enumerate.proofs.LeastLemmas.{least_same}
+use Rattle.enumerate.proofs.RowLemmas.{still_used_other, keys_first, still_used_key, used_out, used_behind, free_out, key_here, keys_behind, no_key, unused_first, left_out_first, grown_first}
+
+-- ---- the slot at a place
+
+pub slot_of : (q : Question) (i place : ℕ) (t : handed.Slot) → IsSlotAt (sites_of q.root) (slots q.pools (site q i)) place t → t.node < i → HasTuples q.pools (slots_from q i (place + 1)) t.later → place < 18446744073709551615
+    → IsSlotOf q i place t
+slot_of q i place t at below later followed =
+    let ss = slots q.pools (site q i) in
+    let d = slot_in q i place in
+    let is : d ≡ at.slot = get_or_from_slice_get ss place at.slot _ at.is in
+    let next : suc place ≡ place + 1 = omega arith in
+    record {
+      first = subst (λ n. drop place ss ≡ d ∷ drop n ss) next (drop-cons ss place _ (slice_get_within ss place at.slot at.is));
+      name = at.name ∙ ap (λ s. Slot.name s) (sym is);
+      node = at.node ∙ ap (λ s. plain (Slot.node s)) (sym is);
+      must = at.must ∙ ap (λ s. Slot.must s) (sym is);
+      key = at.key ∙ ap (λ s. Slot.key s) (sym is);
+      below = below;
+      later = later;
+      followed = followed;
+    }
+
+pub no_slots : (q : Question) (i place : ℕ) → length (slots q.pools (site q i)) ≤ place → slots_from q i place ≡ []
+no_slots q i place past = drop_of_length-le (slots q.pools (site q i)) past
+
+pub keys_from : (P : Pools) (ss : List Slot) (place : ℕ) → AreKeySlots P ss → AreKeySlots P (drop place ss)
+keys_from P ss zero keys = keys
+keys_from P [] (suc place) keys = keys
+keys_from P (s ∷ ss) (suc place) keys = keys_from P ss place (keys_behind P s ss keys)
+
+-- ---- the first members
+
+only_nothing : (P : Pools) (b : Bounds) (t m : ℕ) (used : List Data) (gs : List (Option Data)) → IsRest P [] b t m used gs → fill_cmp gs [] ≡ Less → ⊥
+only_nothing P b t m used [] h less = cc
+only_nothing P b t m used (g ∷ gs) h less = h.are
+
+nothing_rest : (P : Pools) (b : Bounds) (t m : ℕ) (used : List Data) (gs : List (Option Data)) (k : List Data) → AreFillings P [] gs → IsWithin b (t + filled_count gs) → filled_nodes gs ≡ m → IsTuple P [] k
+    → (Contains (used_keys [] used) k → ⊥) → IsRest P [] b t m used []
+nothing_rest P b t m used (g ∷ gs) k are within nodes is free = absurd are
+nothing_rest P b t m used [] (x ∷ k) are within nodes is free = absurd is
+nothing_rest P b t m used [] [] are within nodes is free = record { are = tt; within = within; nodes_are = nodes; fresh = free }
+
+pub adds_none : (P : Pools) (b : Bounds) (t m : ℕ) (used : List Data) (old : List Member) → IsOpen P [] b t m used → AddsFirst P [] b t m used old old
+adds_none P b t m used old h = record {
+  added = [];
+  is = sym (append-nil old);
+  fillings = [];
+  are = refl;
+  least = record { is = nothing_rest P b t m used h.rest.fillings h.free.0 h.rest.are h.rest.within h.rest.nodes_are h.free.1.0 h.free.1.1; least = only_nothing P b t m used };
+}
+
+-- the slot is left out
+pub adds_out : (P : Pools) (b : Bounds) (s : Slot) (ss : List Slot) (t m : ℕ) (used : List Data) (old new : List Member) → AreKeySlots P (s ∷ ss) → m ≤ most_nodes → s.must ≡ false
+    → AddsFirst P ss b t m used old new → AddsFirst P (s ∷ ss) b t m used old new
+adds_out P b s ss t m used old new keys small free h = record { added = h.added; is = h.is; fillings = None ∷ h.fillings; are = h.are; least = left_out_first P b s ss t m used keys small h.fillings free h.least }
+
+pub open_out : (P : Pools) (b : Bounds) (s : Slot) (ss : List Slot) (t m : ℕ) (used : List Data) → AreKeySlots P (s ∷ ss) → s.must ≡ false → CanFill P ss b t m → IsOpen P (s ∷ ss) b t m used → IsOpen P ss b t m used
+open_out P b s ss t m used keys free can h =
+    let other = no_key P s ss keys free in
+    record { known = used_out P s ss used other h.known; rest = can; free = free_out P s ss used other h.free }
+
+same_member : (k l : List ℕ) (d : Data) (ms : tree.Members) (ns : tree.Members) → k ≡ l → ms ≡ ns → member k d ms ≡ member l d ns
+same_member k l d ms ns p q = λ i. member (p i) d (q i)
+
+-- a value stands in it
+pub adds_grown : (P : Pools) (b : Bounds) (s : Slot) (ss : List Slot) (t m : ℕ) (used : List Data) (old new : List Member) → AreKeySlots P (s ∷ ss) → m ≤ most_nodes → (s.must ≡ false → CanFill P ss b t m → ⊥)
+    → Grows P s ss b t m 0 used old new → AddsFirst P (s ∷ ss) b t m used old new
+adds_grown P b s ss t m used old new keys small stays h = record {
+  added = h.one ∷ h.rest.added;
+  is = h.rest.is ∙ append_assoc old (h.one ∷ []) h.rest.added;
+  fillings = Some (data_of h.one.tree) ∷ h.rest.fillings;
+  are = same_member h.one.name s.name (data_of h.one.tree) (members_of h.rest.added) (members_in ss h.rest.fillings) h.name h.rest.are;
+  least = grown_first P b s ss t m used keys small h.size (data_of h.one.tree) h.rest.fillings stays h.least h.first h.rest.least;
+}
+
+-- some size fits where the slot is not left out
+fits_some : (P : Pools) (b : Bounds) (s : Slot) (ss : List Slot) (t m : ℕ) (gs : List (Option Data)) → AreFillings P (s ∷ ss) gs → IsWithin b (t + filled_count gs) → filled_nodes gs ≡ m → (s.must ≡ false → CanFill P ss b t m → ⊥)
+    → IsEmptyFrom (FitsSlot P s ss b t m) 0 → ⊥
+fits_some P b s ss t m [] are within nodes stays none = are
+fits_some P b s ss t m (None ∷ gs) are within nodes stays none = stays are.0 (record { fillings = gs; are = are.1; within = within; nodes_are = nodes })
+fits_some P b s ss t m (Some v ∷ gs) are within nodes stays none =
+    let more : t + (1 + filled_count gs) ≡ t + 1 + filled_count gs = omega arith in
+    none (node_count v) (omega arith) (
+      record { part = v; is = are.0; nodes_are = refl },
+      (filled_nodes gs, (record { fillings = gs; are = are.1; within = subst (IsWithin b) more within; nodes_are = refl }, nodes)),
+    )
+
+pub not_stuck : (P : Pools) (b : Bounds) (s : Slot) (ss : List Slot) (t m : ℕ) → CanFill P (s ∷ ss) b t m → (s.must ≡ false → CanFill P ss b t m → ⊥) → IsEmptyFrom (FitsSlot P s ss b t m) 0 → ⊥
+not_stuck P b s ss t m h stays none = fits_some P b s ss t m h.fillings h.are h.within h.nodes_are stays none
+
+-- ---- the value in a slot
+
+-- the law of a plan on tuples
+abbrev pub FreeLaw : Type 0
+FreeLaw = (P : Pools) (ss : List Slot) (used : List (List Data)) (counts : List ℕ) → All (IsTuple P ss) used → AllPairs (λ t u. t ≢ u) used → AreCounts P ss counts → HasFree P ss used [] ↔ (length used < product counts)
+
+-- any part leaves a key, where the slot is none
+pub value_of_part : (P : Pools) (s : Slot) (ss : List Slot) (used : List Data) (n : ℕ) (v : Data) → s.key ≡ false → HasFree P (filter is_key ss) (used_keys ss used) []
+    → IsLeast tree_cmp (λ u. IsPart P s.node u × (node_count u ≡ n)) v → IsLeast tree_cmp (IsValue P s ss used n) v
+value_of_part P s ss used n v other free h = least_same tree_cmp (λ u. IsPart P s.node u × (node_count u ≡ n)) (IsValue P s ss used n) v
+    (λ u p. record { part = p.0; nodes_are = p.1; free = subst (λ us. HasFree P (filter is_key ss) (used_keys ss us) []) (sym (still_used_other s ss other u used)) free })
+    (λ u p. (p.part, p.nodes_are)) h
+
+-- a key leaves another, where fewer rows have it than there are tuples behind it
+pub key_free : FreeLaw → (P : Pools) (s : Slot) (ss : List Slot) (used : List Data) (v : Data) (later : ℕ) → s.key ≡ true → AreUsed P (s ∷ ss) used → HasTuples P ss later
+    → (length (agreeing s.name v used) < later) ↔ HasFree P (filter is_key ss) (used_keys ss (still_used s v used)) []
+key_free law P s ss used v later key known tuples =
+    let u = used_behind P s ss v used known in
+    let same = still_used_key s ss key v used in
+    let is = law P (filter is_key ss) (used_keys ss (still_used s v used)) tuples.0 u.tuples u.apart tuples.1.0 in
+    let count : length (used_keys ss (still_used s v used)) ≡ length (agreeing s.name v used) = length-map (still_used s v used) (λ w. key_under ss w) ∙ ap length same in
+    let few = subst (λ us. length us < 4294967296) same u.few in (
+      (λ l. is.1 (omega (arith, count, l, tuples.1.1))),
+      λ free. let l = is.0 free in omega (arith, count, l, tuples.1.1, few),
+    )
+
+-- the node of a slot stands for the site of its number
+pub at_slot : (q : Question) (c : ℕ) (N : Node) (v : Data) → site q c ≡ plain N → IsPart q.pools (site q c).node v → IsPart q.pools N v
+at_slot q c N v is p = subst (λ x. IsPart q.pools (Site.node x) v) is p
+
+pub at_number : (q : Question) (c : ℕ) (N : Node) (v : Data) → site q c ≡ plain N → IsPart q.pools N v → IsPart q.pools (site q c).node v
+at_number q c N v is p = subst (λ x. IsPart q.pools (Site.node x) v) (sym is) p
+
+pub value_of_key : FreeLaw → (q : Question) (c : ℕ) (s : Slot) (ss : List Slot) (used : List Data) (n later : ℕ) (v : Data) → site q c ≡ plain s.node → s.key ≡ true → AreUsed q.pools (s ∷ ss) used → HasTuples q.pools ss later
+    → IsLeast tree_cmp (IsFreeKey q c n s.name used later) v → IsLeast tree_cmp (IsValue q.pools s ss used n) v
+value_of_key law q c s ss used n later v is key known tuples h = least_same tree_cmp (IsFreeKey q c n s.name used later) (IsValue q.pools s ss used n) v
+    (λ u f. record { part = at_slot q c s.node u is f.0.part; nodes_are = f.0.nodes_are; free = (key_free law q.pools s ss used u later key known tuples).0 f.1 })
+    (λ u w. (record { part = at_number q c s.node u is w.part; nodes_are = w.nodes_are }, (key_free law q.pools s ss used u later key known tuples).1 w.free)) h
+
+-- a free key, from a free tuple
+tuple_key : FreeLaw → (q : Question) (c : ℕ) (s : Slot) (ss : List Slot) (used : List Data) (n later : ℕ) (t : List Data) → site q c ≡ plain s.node → s.key ≡ true → IsKeySlot q.pools s → AreUsed q.pools (s ∷ ss) used → HasTuples q.pools ss later
+    → HasSize q.pools s.node n → IsTuple q.pools (s ∷ filter is_key ss) t → IsUnused (s ∷ ss) used t → (v : Data) × IsFreeKey q c n s.name used later v
+tuple_key law q c s ss used n later [] is key slot known tuples size t free = absurd t
+tuple_key law q c s ss used n later (x ∷ t) is key slot known tuples size tuple free =
+    let unused = (unused_first s ss key used x t (λ e. slot.no_null (subst (IsPart q.pools s.node) e tuple.0))).0 free in
+    let left = subst (λ us. HasFree q.pools (filter is_key ss) (used_keys ss us) []) (sym (still_used_key s ss key x used)) (t, (tuple.1, unused)) in
+    let one = slot.one x tuple.0 in
+    let nodes = slot.one size.part size.is in
+    let size_is = size.nodes_are in
+    (x, (record { part = at_number q c s.node x is tuple.0; nodes_are = omega (arith, one, nodes, size_is) }, (key_free law q.pools s ss used x later key known tuples).1 left))
+
+pub some_key : FreeLaw → (q : Question) (c : ℕ) (s : Slot) (ss : List Slot) (used : List Data) (n later : ℕ) → site q c ≡ plain s.node → s.key ≡ true → IsKeySlot q.pools s → AreUsed q.pools (s ∷ ss) used → HasTuples q.pools ss later
+    → HasSize q.pools s.node n → HasFree q.pools (filter is_key (s ∷ ss)) (used_keys (s ∷ ss) used) [] → (v : Data) × IsFreeKey q c n s.name used later v
+some_key law q c s ss used n later is key slot known tuples size free =
+    tuple_key law q c s ss used n later free.0 is key slot known tuples size (rw (keys_first s ss key) at free.1.0) free.1.1
+
+-- the slots behind a value
+pub open_behind : (P : Pools) (b : Bounds) (s : Slot) (ss : List Slot) (t m : ℕ) (used : List Data) (n j : ℕ) (v : Data) → AreUsed P (s ∷ ss) used → n + j ≡ m → FitsSlot P s ss b t m n → IsValue P s ss used n v
+    → IsOpen P ss b (t + 1) j (still_used s v used)
+open_behind P b s ss t m used n j v known sum fits value = record {
+  known = used_behind P s ss v used known;
+  rest = subst (CanFill P ss b (t + 1)) (let split = fits.1.1.1 in omega (arith, split, sum)) fits.1.1.0;
+  free = value.free;
+}
+
+-- ---- at a place of a row
+
+pub keys_at : (q : Question) (i place : ℕ) → HasSoundParts q.pools (site q i) → AreKeySlots q.pools (slots_from q i place)
+keys_at q i place sound = keys_from q.pools (slots q.pools (site q i)) place sound.keys
+
+pub one_fewer : (q : Question) (i place : ℕ) → slots_from q i place ≡ slot_in q i place ∷ slots_from q i (place + 1) → length (slots_from q i place) ≡ 1 + length (slots_from q i (place + 1))
+one_fewer q i place first = let e = ap (λ (xs : List Slot). length xs) first in omega (arith, e)
+
+module _ (q : Question) (i place : ℕ) (sound : HasSoundParts q.pools (site q i)) where
+  abbrev behind : List Slot
+  behind = slots_from q i (place + 1)
+
+  abbrev here : Slot
+  here = slot_in q i place
+
+  pub none_at : (t m : ℕ) (used : List Data) (old : List Member) → length (slots q.pools (site q i)) ≤ place → IsOpen q.pools (slots_from q i place) (bounds_at q i) t m used → AddsFirst q.pools (slots_from q i place) (bounds_at q i) t m used old old
+  none_at t m used old past so =
+      let none = no_slots q i place past in
+      subst (λ ss. AddsFirst q.pools ss (bounds_at q i) t m used old old) (sym none) (adds_none q.pools (bounds_at q i) t m used old (subst (λ ss. IsOpen q.pools ss (bounds_at q i) t m used) none so))
+
+  module _ (first : slots_from q i place ≡ here ∷ behind) where
+    keys : AreKeySlots q.pools (here ∷ behind)
+    keys = subst (AreKeySlots q.pools) first (keys_at q i place sound)
+
+    opened : (t m : ℕ) (used : List Data) → IsOpen q.pools (slots_from q i place) (bounds_at q i) t m used → IsOpen q.pools (here ∷ behind) (bounds_at q i) t m used
+    opened t m used so = subst (λ ss. IsOpen q.pools ss (bounds_at q i) t m used) first so
+
+    known_here : (used : List Data) → AreUsed q.pools (slots_from q i place) used → AreUsed q.pools (here ∷ behind) used
+    known_here used h = subst (λ ss. AreUsed q.pools ss used) first h
+
+    pub out_open : (t m : ℕ) (used : List Data) → here.must ≡ false → CanFill q.pools behind (bounds_at q i) t m → IsOpen q.pools (slots_from q i place) (bounds_at q i) t m used → IsOpen q.pools behind (bounds_at q i) t m used
+    out_open t m used free can so = open_out q.pools (bounds_at q i) here behind t m used keys free can (opened t m used so)
+
+    pub out_adds : (t m : ℕ) (used : List Data) (old new : List Member) → m ≤ most_nodes → here.must ≡ false → AddsFirst q.pools behind (bounds_at q i) t m used old new → AddsFirst q.pools (slots_from q i place) (bounds_at q i) t m used old new
+    out_adds t m used old new small free h = subst (λ ss. AddsFirst q.pools ss (bounds_at q i) t m used old new) (sym first) (adds_out q.pools (bounds_at q i) here behind t m used old new keys small free h)
+
+    grown_adds : (step : Step) (t m : ℕ) (used : List Data) (old new : List Member) → m ≤ most_nodes → (here.must ≡ false → CanFill q.pools behind (bounds_at q i) t m → ⊥) → CanFill q.pools (here ∷ behind) (bounds_at q i) t m
+        → IsGrown step q.pools here behind (bounds_at q i) t m 0 used old new → AddsFirst q.pools (here ∷ behind) (bounds_at q i) t m used old new
+    grown_adds Moved t m used old new small stays can h = adds_grown q.pools (bounds_at q i) here behind t m used old new keys small stays h
+    grown_adds (Last n) t m used old new small stays can h = absurd (not_stuck q.pools (bounds_at q i) here behind t m can stays h.1)
+
+    pub grown_at : (step : Step) (t m : ℕ) (used : List Data) (old new : List Member) → m ≤ most_nodes → (here.must ≡ false → CanFill q.pools behind (bounds_at q i) t m → ⊥) → IsOpen q.pools (slots_from q i place) (bounds_at q i) t m used
+        → IsGrown step q.pools here behind (bounds_at q i) t m 0 used old new → AddsFirst q.pools (slots_from q i place) (bounds_at q i) t m used old new
+    grown_at step t m used old new small stays so h = subst (λ ss. AddsFirst q.pools ss (bounds_at q i) t m used old new) (sym first) (grown_adds step t m used old new small stays (opened t m used so).rest h)
+
+    pub behind_open : (t m : ℕ) (used : List Data) (n : ℕ) (v : Data) → AreUsed q.pools (slots_from q i place) used → FitsSlot q.pools here behind (bounds_at q i) t m n → IsValue q.pools here behind used n v
+        → IsOpen q.pools behind (bounds_at q i) (t + 1) (m - n) (still_used here v used)
+    behind_open t m used n v known fits value =
+        let sum = fits.1.1.1 in
+        open_behind q.pools (bounds_at q i) here behind t m used n (m - n) v (known_here used known) (omega (arith, sum)) fits value
+
+    pub key_value : FreeLaw → (c : ℕ) (used : List Data) (n later : ℕ) (v : Data) → site q c ≡ plain here.node → here.key ≡ true → AreUsed q.pools (slots_from q i place) used → HasTuples q.pools behind later
+        → IsLeast tree_cmp (IsFreeKey q c n here.name used later) v → IsLeast tree_cmp (IsValue q.pools here behind used n) v
+    key_value law c used n later v is key known tuples h = value_of_key law q c here behind used n later v is key (known_here used known) tuples h
+
+    pub key_there : FreeLaw → (c : ℕ) (used : List Data) (n later : ℕ) → site q c ≡ plain here.node → here.key ≡ true → AreUsed q.pools (slots_from q i place) used → HasTuples q.pools behind later
+        → HasSize q.pools here.node n → HasFree q.pools (filter is_key (slots_from q i place)) (used_keys (slots_from q i place) used) [] → (v : Data) × IsFreeKey q c n here.name used later v
+    key_there law c used n later is key known tuples size free =
+        some_key law q c here behind used n later is key (key_here q.pools here behind keys key) (known_here used known) tuples size (subst (λ ss. HasFree q.pools (filter is_key ss) (used_keys ss used) []) first free)
+
+    pub key_leaf : here.key ≡ true → sort_of here.node ≡ sort.Leaf
+    key_leaf key = (key_here q.pools here behind keys key).leaf
+
+    pub part_value : (c : ℕ) (used : List Data) (n : ℕ) (v : Data) → site q c ≡ plain here.node → here.key ≡ false → HasFree q.pools (filter is_key (slots_from q i place)) (used_keys (slots_from q i place) used) []
+        → IsLeast tree_cmp (IsPartOf q c n) v → IsLeast tree_cmp (IsValue q.pools here behind used n) v
+    part_value c used n v is other free h =
+        value_of_part q.pools here behind used n v other (free_out q.pools here behind used other (subst (λ ss. HasFree q.pools (filter is_key ss) (used_keys ss used) []) first free))
+        (least_same tree_cmp (IsPartOf q c n) (λ u. IsPart q.pools here.node u × (node_count u ≡ n)) v (λ u p. (at_slot q c here.node u is p.part, p.nodes_are)) (λ u p. record { part = at_number q c here.node u is p.0; nodes_are = p.1 }) h)
+
+pub place_within : (q : Question) (i place : ℕ) → slots_from q i place ≡ slot_in q i place ∷ slots_from q i (place + 1) → place + 1 ≤ length (slots q.pools (site q i))
+place_within q i place first =
+    let e = ap (λ (xs : List Slot). length xs) first in
+    let n = length-drop place (slots q.pools (site q i)) in
+    omega (arith, e, n)

@@ -1,0 +1,626 @@
+use Rattle.std.proofs.lemmas.Result.{IfOk-weaker, on_ok_weaker}
+use Rattle.plan.specs.Samples.Sites.{Site, sites_of}
+use Rattle.enumerate.proofs.KeyItems.{item_open, item_least}
+use Rattle.enumerate.proofs.MembershipLemmas.{lighter, row_lighter, slots_within}
+use Rattle.enumerate.proofs.MoveCosts.{one_cost}
+use Rattle.plan.specs.Samples.Sizes.{HasSize}
+use Rattle.enumerate.specs.Internal.Candidates.{IsFreeKey}
+use Rattle.enumerate.proofs.RowSteps.{slot_of, none_at, one_fewer, out_open, out_adds, grown_at, key_there, key_value, key_leaf, part_value, behind_open, place_within, keys_at}
+use Rattle.enumerate.proofs.RowOrder.{in_members, row_least}
+use Rattle.enumerate.proofs.PartRows.{weight_next, null_first, plain_least, plain_open, null_part}
+use Rattle.enumerate.proofs.LeastLemmas.{least_same}
+use Rattle.jtree.specs.Internal.Rising.{contained}
+use Rattle.enumerate.specs.Internal.Candidates.{IsUnusedPart}
+use Rattle.enumerate.proofs.filling.+first.Goals.{first-then-size-eq1+else-null_ok, first-else-size-eq1}
+use Rattle.jtree.specs.Data.{AreMembers, object as object_data}
+use Rattle.jtree.specs.View.{members_of}
+use Rattle.plan.specs.Samples.Sizes.{CanFill}
+use Rattle.enumerate.specs.Internal.Candidates.{agreeing_if}
+use Rattle.enumerate.proofs.filling.+first.Goals.{first_slots-else-not-slot-via-then-not-slot+else-has, first_slots-else-not-slot-via-else-not-slot}
+use Rattle.std.proofs.Math.Nat.{mul-add}
+use Rattle.std.proofs.Common.{refl, sym, ap, subst, ◌∙◌, arith}
+use Rattle.std.proofs.lemmas.Result.{IfOk-weaker}
+use Rattle.jtree.specs.Data.{list as list_data}
+use Rattle.plan.specs.Samples.Sizes.{IsUpTo}
+use Rattle.plan.specs.Samples.Candidates.{distinct_of}
+use Rattle.plan.specs.declared.sort.Distinct.TheVariants as distinct
+use Rattle.enumerate.specs.View.{trees_of}
+use Rattle.enumerate.specs.Internal.Candidates.{IsUnusedPart}
+use Rattle.enumerate.specs.Internal.Lists.{FitsItem}
+use Rattle.enumerate.proofs.LeastLemmas.{least_same}
+use Rattle.enumerate.proofs.ListLemmas.{some_nodes, few_items, counted, split_same, fits_same, least_from_same, empty_from_same, adds_none, adds_grown, follow_item, site_among}
+use Rattle.enumerate.proofs.WholeListLemmas.{list_site, list_longer, list_follow, list_first, list_alone, part_fresh, unused_fresh}
+use Rattle.enumerate.proofs.filling.+first.Goals.{first_list-then-size-gt1+in-Some+in_ok-first_items, first_list-else-size-gt1}
+use Rattle.enumerate.proofs.SetItemLemmas.{set_free}
+use Rattle.std.proofs.Common.{◌≡◌, ◌+◌, ◌-◌, ◌*◌, ◌≤◌, ◌<◌, [], ℕ, length, IfNone}
+use Rattle.jtree.specs.Data.{Data}
+use Rattle.jtree.specs.Order.{tree_cmp}
+use Rattle.jtree.specs.View.{data_of, items_of}
+use Rattle.plan.specs.Samples.Candidates.{sort_of}
+use Rattle.plan.specs.Samples.Sizes.{HasMore}
+use Rattle.enumerate.specs.Least.{IsLeast}
+use Rattle.enumerate.specs.Internal.Nodes.{site, IsPartOf}
+use Rattle.enumerate.specs.Internal.Candidates.{rows_of}
+use Rattle.enumerate.specs.Internal.Rows.{slots_from, slot_in, bounds_at, IsOpen, AddsFirst, IsRow, still_used}
+use Rattle.enumerate.specs.Internal.Lists.{CanFollow, IsFreshItem, AddsItems}
+use Rattle.enumerate.proofs.filling.+first.Goals as goal
+
+split_cost : (k a m : ℕ) → a ≤ m → k * a + k * (m - a) ≡ k * m
+split_cost k a m h = sym (mul-add k a (m - a)) ∙ ap (λ x. k * x) (omega (arith, h))
+
+pub first_items-returns-in_ok-grow_items-clause-ok : goal.first_items-returns-in_ok-grow_items-clause-ok
+first_items-returns-in_ok-grow_items-clause-ok g t c =
+    let q = c.args.plan.now in
+    let there = site_among q c.args.node c.requires.node in
+    adds_grown q c.args.node c.args.child (c.no_dead_end.ensures.parts _ there) (c.no_dead_end.ensures.completed _ there) c.in_ok-grow_items.field-0 c.args.room c.args.items.now.items c.grow_items.new.items.items
+    (omega (arith, c.if-room-gt0.true)) (omega (arith, c.ranges.room.fits)) c.requires.follow c.in_ok-grow_items.ensures.ok
+
+pub first_items-returns-else-room-gt0-clause-ok : goal.first_items-returns-else-room-gt0-clause-ok
+first_items-returns-else-room-gt0-clause-ok g t c =
+    let q = c.args.plan.now in
+    let there = site_among q c.args.node c.requires.node in
+    adds_none q c.args.node c.args.child (c.no_dead_end.ensures.parts _ there) (c.no_dead_end.ensures.completed _ there) c.args.room c.args.items.now.items (omega (arith, c.if-room-gt0.false)) c.requires.follow
+
+pub grow_items-overflow_cast-len : goal.grow_items-overflow_cast-len
+grow_items-overflow_cast-len g t c =
+    let old = c.args.items.now.items in
+    omega (arith, c.limit.type_inv, c.limit.ensures, c.requires.within, few_items (items_of old), counted old, c.args.items.now.ok.0, c.len.ensures)
+
+pub grow_items-overflow_add-len : goal.grow_items-overflow_add-len
+grow_items-overflow_add-len g t c =
+    let old = c.args.items.now.items in
+    omega (arith, c.limit.type_inv, c.limit.ensures, c.requires.within, few_items (items_of old), counted old, c.args.items.now.ok.0, c.len.ensures)
+
+pub grow_items-least_split-requires : goal.grow_items-least_split-requires
+grow_items-least_split-requires g t c = omega (arith, c.limit.type_inv, c.limit.ensures, c.requires.within)
+
+pub grow_items-returns-in_default-clause-ok : goal.grow_items-returns-in_default-clause-ok
+grow_items-returns-in_default-clause-ok g t c =
+    let q = c.args.plan.now in
+    let old = c.args.items.now.items in
+    let len : length old ≡ c.len.result = omega (arith, c.args.items.now.ok.0, c.len.ensures) in (
+      refl,
+      empty_from_same _ _ c.args.from
+          (fits_same q c.args.node c.args.child (length old) c.len.result c.args.room (g.Z.SizeSet.holds c.sizes.result) (g.Z.SizeSet.holds c.more-more.result) len (omega (arith, c.requires.within)) c.sizes.ensures c.more-more.ensures) c.in_default.ensures,
+      refl,
+    )
+
+pub grow_items-returns-in_err-item-clause-steps : goal.grow_items-returns-in_err-item-clause-steps
+grow_items-returns-in_err-item-clause-steps g t c = λ w wide.
+    let few : c.in-Some.size ≤ c.args.room = omega (arith, c.in-Some.ensures.1.1.1.1) in
+    omega (arith, split_cost (w + 1) c.in-Some.size c.args.room few, c.first_item.ensures.steps w wide)
+
+pub grow_items-returns-in_err-push-clause-steps : goal.grow_items-returns-in_err-push-clause-steps
+grow_items-returns-in_err-push-clause-steps g t c = λ w wide.
+    let few : c.in-Some.size ≤ c.args.room = omega (arith, c.in-Some.ensures.1.1.1.1) in
+    omega (arith, split_cost (w + 1) c.in-Some.size c.args.room few, c.first_item.ensures.steps w wide)
+
+pub grow_items-returns-in_err-first_items-clause-steps : goal.grow_items-returns-in_err-first_items-clause-steps
+grow_items-returns-in_err-first_items-clause-steps g t c = λ w wide.
+    let few : c.in-Some.size ≤ c.args.room = omega (arith, c.in-Some.ensures.1.1.1.1) in
+    omega (arith, split_cost (w + 1) c.in-Some.size c.args.room few, c.first_item.ensures.steps w wide, c.first_items.ensures.steps w wide)
+
+pub grow_items-returns-clause-steps : goal.grow_items-returns-clause-steps
+grow_items-returns-clause-steps g t c = λ w wide.
+    let few : c.in-Some.size ≤ c.args.room = omega (arith, c.in-Some.ensures.1.1.1.1) in
+    omega (arith, split_cost (w + 1) c.in-Some.size c.args.room few, c.first_item.ensures.steps w wide, c.first_items.ensures.steps w wide)
+
+pub grow_items-first_items-requires : goal.grow_items-first_items-requires
+grow_items-first_items-requires g t c κs within =
+    let q = c.args.plan.now in
+    let old = c.args.items.now.items in
+    let len : length old ≡ c.len.result = omega (arith, c.args.items.now.ok.0, c.len.ensures) in
+    let fit : FitsItem q c.args.node c.args.child (length old) c.args.room c.in-Some.size =
+    (fits_same q c.args.node c.args.child (length old) c.len.result c.args.room (g.Z.SizeSet.holds c.sizes.result) (g.Z.SizeSet.holds c.more-more.result) len (omega (arith, c.requires.within)) c.sizes.ensures c.more-more.ensures c.in-Some.size).0 c.in-Some.ensures.1 in
+    let first = subst (λ l. IsLeast tree_cmp (IsFreshItem q c.args.node c.args.child c.in-Some.size (items_of l)) (data_of c.in_ok-item.item)) c.as_slice.ensures.value c.in_ok-item.ensures.ok in
+    let some : 1 ≤ c.in-Some.size = omega (arith, some_nodes (data_of c.in_ok-item.item), first.is.part.nodes_are) in
+    let few : c.in-Some.size ≤ c.args.room = omega (arith, fit.1.1.1) in
+    let follow = follow_item q c.args.node c.args.child c.args.room c.in-Some.size old c.push.new.self.items c.in_ok-item.item c.requires.first c.requires.within fit first.is c.in_ok-push.ensures.items in
+    (omega (arith, c.decreases, some, few), (within, (c.requires.node, (c.requires.child, follow))))
+
+pub grow_items-returns-clause-ok : goal.grow_items-returns-clause-ok
+grow_items-returns-clause-ok g t c =
+    let q = c.args.plan.now in
+    let old = c.args.items.now.items in
+    let len : length old ≡ c.len.result = omega (arith, c.args.items.now.ok.0, c.len.ensures) in
+    let first = subst (λ l. IsLeast tree_cmp (IsFreshItem q c.args.node c.args.child c.in-Some.size (items_of l)) (data_of c.in_ok-item.item)) c.as_slice.ensures.value c.in_ok-item.ensures.ok in
+    record {
+      size = c.in-Some.size;
+      one = c.in_ok-item.item;
+      least = least_from_same _ _ c.args.from c.in-Some.size
+          (fits_same q c.args.node c.args.child (length old) c.len.result c.args.room (g.Z.SizeSet.holds c.sizes.result) (g.Z.SizeSet.holds c.more-more.result) len (omega (arith, c.requires.within)) c.sizes.ensures c.more-more.ensures) c.in-Some.ensures;
+      first = first;
+      rest = subst (λ l. AddsItems q c.args.node (c.args.room - c.in-Some.size) l c.first_items.new.items.items) c.in_ok-push.ensures.items c.in_ok-first_items.ensures.ok;
+    }
+
+pub first_list-unreachable-requires : goal.first_list-unreachable-requires
+first_list-unreachable-requires g t c =
+    let q = c.args.plan.now in
+    let there = site_among q c.args.node c.requires.node in
+    let M = list_site (site q c.args.node).node c.requires.list in
+    let longer = list_longer q c.args.node M.0 (c.no_dead_end.ensures.parts _ there) M.1 c.args.size (omega (arith, c.if-size-gt1.true)) c.requires.limit c.requires.no_null c.if-size-gt1.true c.requires.size in
+    let none = subst (λ r. IfNone r ((m : ℕ) → HasMore q.pools q.limit (site q c.args.node).node 1 m → ⊥)) c.in_default.is c.item.ensures.none in
+    none longer.0 longer.1
+
+pub first_list-first_items-requires : goal.first_list-first_items-requires
+first_list-first_items-requires g t c κs within =
+    let q = c.args.plan.now in
+    let there = site_among q c.args.node c.requires.node in
+    let follow = list_follow q c.args.node c.in-Some.child c.args.size (c.no_dead_end.ensures.parts _ there) c.in-Some.ensures.some (omega (arith, c.if-size-gt1.true)) c.requires.limit c.requires.no_null c.requires.size in
+    (omega (arith, c.decreases, c.requires.limit), (within, (c.requires.node, (c.in-Some.ensures.below, subst (λ l. CanFollow q c.args.node c.in-Some.child (c.args.size - 1) (items_of l)) (sym c.new-items.ensures.items) follow))))
+
+pub first_list-returns-in_err-first_items-clause-steps : goal.first_list-returns-in_err-first_items-clause-steps
+first_list-returns-in_err-first_items-clause-steps g t c = λ w wide. omega (arith, split_cost (w + 1) 1 c.args.size (omega (arith, c.if-size-gt1.true)), c.item.ensures.step, c.first_items.ensures.steps w wide)
+
+pub first_list-returns-clause-steps : goal.first_list-returns-clause-steps
+first_list-returns-clause-steps g t c = λ w wide. elim c.if-size-gt1.branch [
+  | first_list-then-size-gt1+in-Some+in_ok-first_items b ↦ omega (arith, split_cost (w + 1) 1 c.args.size (omega (arith, b.if-size-gt1.true)), b.item.ensures.step, b.first_items.ensures.steps w wide, b.meter-is)
+  | first_list-else-size-gt1 b ↦ omega (arith, b.meter-is)
+]
+
+pub first_list-returns-clause-ok : goal.first_list-returns-clause-ok
+first_list-returns-clause-ok g t c =
+    let q = c.args.plan.now in
+    let there = site_among q c.args.node c.requires.node in
+    let M = list_site (site q c.args.node).node c.requires.list in
+    let some : 1 ≤ c.args.size = omega (arith, some_nodes c.requires.size.part, c.requires.size.nodes_are) in
+    elim c.if-size-gt1.branch [
+      | first_list-then-size-gt1+in-Some+in_ok-first_items b ↦
+          subst (λ v. IsLeast tree_cmp (IsPartOf q c.args.node c.args.size) (list_data (items_of v.items))) (sym b.items-is)
+          (list_first q c.args.node c.args.size M.0 (c.no_dead_end.ensures.parts _ there) M.1 some c.requires.limit c.requires.no_null _
+          (subst (λ l. AddsItems q c.args.node (c.args.size - 1) l b.first_items.new.items.items) c.new-items.ensures.items b.in_ok-first_items.ensures.ok))
+      | first_list-else-size-gt1 b ↦
+          subst (λ v. IsLeast tree_cmp (IsPartOf q c.args.node c.args.size) (list_data (items_of v.items))) (sym b.items-is)
+          (subst (λ l. IsLeast tree_cmp (IsPartOf q c.args.node c.args.size) (list_data (items_of l))) (sym c.new-items.ensures.items)
+          (list_alone q c.args.node c.args.size M.0 (c.no_dead_end.ensures.parts _ there) M.1 some c.requires.limit c.requires.no_null (omega (arith, b.if-size-gt1.false)) c.requires.size))
+    ]
+
+pub first_item-first-requires : goal.first_item-first-requires
+first_item-first-requires g t c κs within =
+    let q = c.args.plan.now in
+    (omega (arith, c.decreases, lighter q c.args.child c.args.node c.requires.child), (within, (omega (arith, c.requires.child, c.requires.node), (c.requires.size, c.requires.limit))))
+
+pub first_item-first_unused-requires-clause-leaf : goal.first_item-first_unused-requires-clause-leaf
+first_item-first_unused-requires-clause-leaf g t c =
+    let q = c.args.plan.now in
+    ((c.sound_parts.ensures.parts _ (site_among q c.args.node c.requires.node)).set (site q c.args.child) c.requires.first.item (sym c.distinct.ensures ∙ c.in-Whole.is)).leaf
+
+pub first_item-returns-in-Free-clause-ok : goal.first_item-returns-in-Free-clause-ok
+first_item-returns-in-Free-clause-ok g t c =
+    let q = c.args.plan.now in
+    let free : distinct_of (site q c.args.node).node ≡ distinct.Free = sym c.distinct.ensures ∙ c.in-Free.is in
+    IfOk-weaker c.first.result _ _
+    (λ v h. least_same tree_cmp (IsPartOf q c.args.child c.args.size) (IsFreshItem q c.args.node c.args.child c.args.size (items_of c.args.items.now)) (data_of v)
+    (λ u p. part_fresh q c.args.node c.args.child c.args.size (items_of c.args.items.now) u free p) (λ u f. f.part) h) c.first.ensures.ok
+
+pub first_item-returns-in-Whole-clause-ok : goal.first_item-returns-in-Whole-clause-ok
+first_item-returns-in-Whole-clause-ok g t c =
+    let q = c.args.plan.now in
+    let whole : distinct_of (site q c.args.node).node ≡ distinct.Whole = sym c.distinct.ensures ∙ c.in-Whole.is in
+    IfOk-weaker c.first_unused.result _ _
+    (λ v h. least_same tree_cmp (IsUnusedPart q c.args.child c.args.size (trees_of c.args.items.now)) (IsFreshItem q c.args.node c.args.child c.args.size (items_of c.args.items.now)) (data_of v)
+    (λ u p. (unused_fresh q c.args.node c.args.child c.args.size c.args.items.now u whole).0 p) (λ u f. (unused_fresh q c.args.node c.args.child c.args.size c.args.items.now u whole).1 f) h) c.first_unused.ensures.ok
+
+pub first_item-returns-in-Whole-clause-steps : goal.first_item-returns-in-Whole-clause-steps
+first_item-returns-in-Whole-clause-steps g t c = λ w wide.
+    let some : 1 ≤ c.args.size = omega (arith, some_nodes c.requires.size.part, c.requires.size.nodes_are) in
+    omega (arith, split_cost (w + 1) 1 c.args.size some, c.first_unused.ensures.steps w wide)
+
+pub first_item-first_unused-requires-clause-free : goal.first_item-first_unused-requires-clause-free
+first_item-first_unused-requires-clause-free g t c =
+    let q = c.args.plan.now in
+    let there = site_among q c.args.node c.requires.node in
+    let whole : distinct_of (site q c.args.node).node ≡ distinct.Whole = sym c.distinct.ensures ∙ c.in-Whole.is in
+    set_free q c.args.node c.args.child (c.no_dead_end.ensures.parts _ there) (c.no_dead_end.ensures.completed _ there) c.args.size c.args.items.now c.requires.first whole
+    ((c.sound_parts.ensures.parts _ there).set (site q c.args.child) c.requires.first.item whole) c.requires.size c.requires.fresh.0 c.requires.fresh.1
+
+-- ---- rows
+
+pub first_slots-returns-in_default-clause-ok : goal.first_slots-returns-in_default-clause-ok
+first_slots-returns-in_default-clause-ok g t c =
+    let q = c.args.plan.now in
+    none_at q c.args.node c.args.place (c.sound_parts.ensures.parts _ (site_among q c.args.node c.requires.node)) c.args.taken c.args.room (rows_of c.args.used.now) c.args.members.now.items c.in_default.ensures.none c.requires.open
+
+pub first_slots-returns-in_default-clause-steps : goal.first_slots-returns-in_default-clause-steps
+first_slots-returns-in_default-clause-steps g t c = λ w wide. omega (arith, c.slot.ensures.step)
+
+pub first_slots-rest-requires-clause-place : goal.first_slots-rest-requires-clause-place
+first_slots-rest-requires-clause-place g t c = omega (arith, c.in-Some.ensures.within)
+
+pub first_slots-first_slots-requires : goal.first_slots-first_slots-requires
+first_slots-first_slots-requires g t c κs within =
+    let q = c.args.plan.now in
+    let s = slot_of q c.args.node c.args.place c.in-Some.slot c.in-Some.ensures.some c.in-Some.ensures.below c.in-Some.ensures.later c.in-Some.ensures.followed in
+    let sound = c.sound_parts.ensures.parts _ (site_among q c.args.node c.requires.node) in
+    let free = sym s.must ∙ c.if-not-slot.true in
+    let can = ((c.rest.ensures c.args.room).0 (c.has.ensures.0 c.if-has.true)).1 in
+    let fewer = one_fewer q c.args.node c.args.place s.first in (
+      omega (arith, c.decreases, fewer),
+      (within, (c.requires.node, (c.requires.row, (omega (arith, c.requires.taken), (c.requires.limit, out_open q c.args.node c.args.place sound s.first c.args.taken c.args.room (rows_of c.args.used.now) free can c.requires.open))))),
+    )
+
+pub first_slots-returns-then-has-clause-ok : goal.first_slots-returns-then-has-clause-ok
+first_slots-returns-then-has-clause-ok g t c =
+    let q = c.args.plan.now in
+    let s = slot_of q c.args.node c.args.place c.in-Some.slot c.in-Some.ensures.some c.in-Some.ensures.below c.in-Some.ensures.later c.in-Some.ensures.followed in
+    let sound = c.sound_parts.ensures.parts _ (site_among q c.args.node c.requires.node) in
+    let free = sym s.must ∙ c.if-not-slot.true in
+    on_ok_weaker c.first_slots.result (λ a. out_adds q c.args.node c.args.place sound s.first c.args.taken c.args.room (rows_of c.args.used.now) c.args.members.now.items c.first_slots.new.members.items (omega (arith, c.ranges.room.fits)) free a)
+    c.first_slots.ensures.ok
+
+pub first_slots-returns-then-has-clause-steps : goal.first_slots-returns-then-has-clause-steps
+first_slots-returns-then-has-clause-steps g t c = λ w wide.
+    let q = c.args.plan.now in
+    let s = slot_of q c.args.node c.args.place c.in-Some.slot c.in-Some.ensures.some c.in-Some.ensures.below c.in-Some.ensures.later c.in-Some.ensures.followed in
+    let fewer = one_fewer q c.args.node c.args.place s.first in
+    omega (arith, c.slot.ensures.step, c.first_slots.ensures.steps w wide, fewer)
+
+pub first_slots-grow_slots-requires : goal.first_slots-grow_slots-requires
+first_slots-grow_slots-requires g t c κs within =
+    let q = c.args.plan.now in
+    let s = slot_of q c.args.node c.args.place c.in-Some.slot c.in-Some.ensures.some c.in-Some.ensures.below c.in-Some.ensures.later c.in-Some.ensures.followed in
+    let fewer = one_fewer q c.args.node c.args.place s.first in
+    (omega (arith, c.decreases, fewer), (within, (c.requires.node, (c.requires.row, (s, (c.requires.taken, (c.requires.limit, c.requires.open)))))))
+
+pub first_slots-returns-in_err-grow_slots-clause-steps : goal.first_slots-returns-in_err-grow_slots-clause-steps
+first_slots-returns-in_err-grow_slots-clause-steps g t c = λ w wide.
+    let q = c.args.plan.now in
+    let s = slot_of q c.args.node c.args.place c.in-Some.slot c.in-Some.ensures.some c.in-Some.ensures.below c.in-Some.ensures.later c.in-Some.ensures.followed in
+    let fewer = one_fewer q c.args.node c.args.place s.first in
+    omega (arith, c.slot.ensures.step, c.grow_slots.ensures.steps w wide, fewer)
+
+pub first_slots-returns-clause-steps : goal.first_slots-returns-clause-steps
+first_slots-returns-clause-steps g t c = λ w wide.
+    let q = c.args.plan.now in
+    let s = slot_of q c.args.node c.args.place c.in-Some.slot c.in-Some.ensures.some c.in-Some.ensures.below c.in-Some.ensures.later c.in-Some.ensures.followed in
+    let fewer = one_fewer q c.args.node c.args.place s.first in
+    omega (arith, c.slot.ensures.step, c.grow_slots.ensures.steps w wide, fewer)
+
+pub first_slots-returns-clause-ok : goal.first_slots-returns-clause-ok
+first_slots-returns-clause-ok g t c =
+    let q = c.args.plan.now in
+    let s = slot_of q c.args.node c.args.place c.in-Some.slot c.in-Some.ensures.some c.in-Some.ensures.below c.in-Some.ensures.later c.in-Some.ensures.followed in
+    let sound = c.sound_parts.ensures.parts _ (site_among q c.args.node c.requires.node) in
+    grown_at q c.args.node c.args.place sound s.first c.in_ok-grow_slots.field-0 c.args.taken c.args.room (rows_of c.args.used.now) c.args.members.now.items c.grow_slots.new.members.items (omega (arith, c.ranges.room.fits))
+    (λ free can. elim c.else-not-slot.branch [
+      | first_slots-else-not-slot-via-then-not-slot+else-has w ↦ let yes = w.has.ensures.1 ((w.rest.ensures c.args.room).1 (omega (arith, c.requires.limit), can)) in let no = sym yes ∙ w.if-has.false in cc
+      | first_slots-else-not-slot-via-else-not-slot w ↦ let yes = w.if-not-slot.false in let no = sym yes ∙ s.must ∙ free in cc
+    ]) c.requires.open c.in_ok-grow_slots.ensures.ok
+
+pub first_value-first_key-requires-clause-node : goal.first_value-first_key-requires-clause-node
+first_value-first_key-requires-clause-node g t c = omega (arith, c.requires.slot.below, c.requires.node)
+
+pub first_value-first_key-requires-clause-leaf : goal.first_value-first_key-requires-clause-leaf
+first_value-first_key-requires-clause-leaf g t c =
+    let q = c.args.plan.now in
+    let sound = c.sound_parts.ensures.parts _ (site_among q c.args.node c.requires.node) in
+    ap (λ x. sort_of (Site.node x)) c.requires.slot.node ∙ key_leaf q c.args.node c.args.place sound c.requires.slot.first (sym c.requires.slot.key ∙ c.if-slot.true)
+
+pub first_value-first_key-requires-clause-free : goal.first_value-first_key-requires-clause-free
+first_value-first_key-requires-clause-free g t c =
+    let q = c.args.plan.now in
+    let sound = c.sound_parts.ensures.parts _ (site_among q c.args.node c.requires.node) in
+    let size = subst (λ x. HasSize q.pools (Site.node x) c.args.size) c.requires.slot.node c.requires.size in
+    subst (λ k. (v : Data) × IsFreeKey q c.args.slot.now.node c.args.size k (rows_of c.args.used.now) c.args.slot.now.later v) (sym c.requires.slot.name)
+    (key_there q c.args.node c.args.place sound c.requires.slot.first c.sound_parts.ensures.free c.args.slot.now.node (rows_of c.args.used.now) c.args.size c.args.slot.now.later c.requires.slot.node (sym c.requires.slot.key ∙ c.if-slot.true) c.requires.known c.requires.slot.later size c.requires.free)
+
+pub first_value-returns-then-slot-clause-ok : goal.first_value-returns-then-slot-clause-ok
+first_value-returns-then-slot-clause-ok g t c =
+    let q = c.args.plan.now in
+    let sound = c.sound_parts.ensures.parts _ (site_among q c.args.node c.requires.node) in
+    IfOk-weaker c.first_key.result _ _ (λ v h. key_value q c.args.node c.args.place sound c.requires.slot.first c.sound_parts.ensures.free c.args.slot.now.node (rows_of c.args.used.now) c.args.size c.args.slot.now.later (data_of v) c.requires.slot.node
+    (sym c.requires.slot.key ∙ c.if-slot.true) c.requires.known c.requires.slot.later (subst (λ k. IsLeast tree_cmp (IsFreeKey q c.args.slot.now.node c.args.size k (rows_of c.args.used.now) c.args.slot.now.later) (data_of v)) c.requires.slot.name h)) c.first_key.ensures.ok
+
+pub first_value-returns-then-slot-clause-steps : goal.first_value-returns-then-slot-clause-steps
+first_value-returns-then-slot-clause-steps g t c = λ w wide.
+    let some : 1 ≤ c.args.size = omega (arith, some_nodes c.requires.size.part, c.requires.size.nodes_are) in
+    omega (arith, one_cost w c.args.size some, c.first_key.ensures.steps w wide)
+
+pub first_value-first-requires : goal.first_value-first-requires
+first_value-first-requires g t c κs within =
+    (omega (arith, c.decreases, lighter c.args.plan.now c.args.slot.now.node c.args.node c.requires.slot.below), (within, (omega (arith, c.requires.slot.below, c.requires.node), (c.requires.size, c.requires.limit))))
+
+pub first_value-returns-clause-ok : goal.first_value-returns-clause-ok
+first_value-returns-clause-ok g t c =
+    let q = c.args.plan.now in
+    let sound = c.sound_parts.ensures.parts _ (site_among q c.args.node c.requires.node) in
+    IfOk-weaker c.first.result _ _ (λ v h. part_value q c.args.node c.args.place sound c.requires.slot.first c.args.slot.now.node (rows_of c.args.used.now) c.args.size (data_of v) c.requires.slot.node (sym c.requires.slot.key ∙ c.if-slot.false) c.requires.free h) c.first.ensures.ok
+
+pub grow_slots-sizes-sizes-requires : goal.grow_slots-sizes-sizes-requires
+grow_slots-sizes-sizes-requires g t c = omega (arith, c.requires.slot.below, c.requires.node)
+
+pub grow_slots-overflow_add-place : goal.grow_slots-overflow_add-place
+grow_slots-overflow_add-place g t c = omega (arith, c.requires.slot.followed)
+
+pub grow_slots-overflow_add-taken : goal.grow_slots-overflow_add-taken
+grow_slots-overflow_add-taken g t c = omega (arith, c.requires.limit, c.limit.ensures, c.limit.type_inv)
+
+pub grow_slots-rest-rest-requires-clause-place : goal.grow_slots-rest-rest-requires-clause-place
+grow_slots-rest-rest-requires-clause-place g t c = place_within c.args.plan.now c.args.node c.args.place c.requires.slot.first
+
+pub grow_slots-least_split-requires : goal.grow_slots-least_split-requires
+grow_slots-least_split-requires g t c = omega (arith, c.limit.type_inv, c.limit.ensures, c.requires.limit)
+
+pub grow_slots-returns-in_default-clause-ok : goal.grow_slots-returns-in_default-clause-ok
+grow_slots-returns-in_default-clause-ok g t c =
+    let q = c.args.plan.now in
+    let sizes = subst (λ x. IsUpTo q.limit (g.Z.SizeSet.holds c.sizes-sizes.result) (HasSize q.pools (Site.node x))) c.requires.slot.node c.sizes-sizes.ensures in (
+      refl,
+      empty_from_same _ _ c.args.from
+          (split_same q.limit c.args.room (g.Z.SizeSet.holds c.sizes-sizes.result) (g.Z.SizeSet.holds c.rest-rest.result) (HasSize q.pools (slot_in q c.args.node c.args.place).node)
+          (CanFill q.pools (slots_from q c.args.node (c.args.place + 1)) (bounds_at q c.args.node) (c.args.taken + 1)) (omega (arith, c.requires.limit)) sizes c.rest-rest.ensures) c.in_default.ensures,
+      refl,
+    )
+
+pub grow_slots-first_value-requires : goal.grow_slots-first_value-requires
+grow_slots-first_value-requires g t c κs within =
+    let sum = c.in-Some.ensures.1.1.1.1 in
+    (omega (arith, c.decreases), (within, (c.requires.node, (c.requires.slot, (((c.sizes-sizes.ensures c.in-Some.size).0 c.in-Some.ensures.1.0).1, (omega (arith, sum, c.requires.limit), (c.requires.open.known, c.requires.open.free)))))))
+
+pub grow_slots-overflow_sub-room : goal.grow_slots-overflow_sub-room
+grow_slots-overflow_sub-room g t c = omega (arith, c.in-Some.ensures.1.1.1.1)
+
+pub grow_slots-put_member-requires : goal.grow_slots-put_member-requires
+grow_slots-put_member-requires g t c κs within =
+    let q = c.args.plan.now in
+    let sound = c.sound_parts.ensures.parts _ (site_among q c.args.node c.requires.node) in
+    let sizes = subst (λ x. IsUpTo q.limit (g.Z.SizeSet.holds c.sizes-sizes.result) (HasSize q.pools (Site.node x))) c.requires.slot.node c.sizes-sizes.ensures in
+    let fits = (split_same q.limit c.args.room (g.Z.SizeSet.holds c.sizes-sizes.result) (g.Z.SizeSet.holds c.rest-rest.result) (HasSize q.pools (slot_in q c.args.node c.args.place).node)
+    (CanFill q.pools (slots_from q c.args.node (c.args.place + 1)) (bounds_at q c.args.node) (c.args.taken + 1)) (omega (arith, c.requires.limit)) sizes c.rest-rest.ensures c.in-Some.size).0 c.in-Some.ensures.1 in
+    let value = c.in_ok-tree.ensures.ok.is in
+    let some : 1 ≤ c.in-Some.size = omega (arith, some_nodes (data_of c.in_ok-tree.tree), value.nodes_are) in
+    let few : c.in-Some.size ≤ c.args.room = omega (arith, c.in-Some.ensures.1.1.1.1) in (
+      omega (arith, c.decreases),
+      (
+        within,
+        (
+          c.requires.node,
+          (
+            c.requires.row,
+            (
+              c.requires.slot,
+              (
+                c.requires.taken,
+                (
+                  omega (arith, c.requires.limit, some, few),
+                  behind_open q c.args.node c.args.place sound c.requires.slot.first c.args.taken c.args.room (rows_of c.args.used.now) c.in-Some.size (data_of c.in_ok-tree.tree) c.requires.open.known fits value,
+                ),
+              ),
+            ),
+          ),
+        ),
+      ),
+    )
+
+pub grow_slots-returns-clause-ok : goal.grow_slots-returns-clause-ok
+grow_slots-returns-clause-ok g t c =
+    let q = c.args.plan.now in
+    let sizes = subst (λ x. IsUpTo q.limit (g.Z.SizeSet.holds c.sizes-sizes.result) (HasSize q.pools (Site.node x))) c.requires.slot.node c.sizes-sizes.ensures in
+    record {
+      size = c.in-Some.size;
+      one = record { name = c.in_ok-name.name; tree = c.in_ok-tree.tree };
+      name = c.in_ok-name.ensures ∙ c.requires.slot.name;
+      least = least_from_same _ _ c.args.from c.in-Some.size
+          (split_same q.limit c.args.room (g.Z.SizeSet.holds c.sizes-sizes.result) (g.Z.SizeSet.holds c.rest-rest.result) (HasSize q.pools (slot_in q c.args.node c.args.place).node)
+          (CanFill q.pools (slots_from q c.args.node (c.args.place + 1)) (bounds_at q c.args.node) (c.args.taken + 1)) (omega (arith, c.requires.limit)) sizes c.rest-rest.ensures) c.in-Some.ensures;
+      first = c.in_ok-tree.ensures.ok;
+      rest = c.in_ok-put_member.ensures.ok;
+    }
+
+pub grow_slots-returns-in_err-tree-clause-steps : goal.grow_slots-returns-in_err-tree-clause-steps
+grow_slots-returns-in_err-tree-clause-steps g t c = λ w wide.
+    let few : c.in-Some.size ≤ c.args.room = omega (arith, c.in-Some.ensures.1.1.1.1) in
+    omega (arith, split_cost (w + 1) c.in-Some.size c.args.room few, c.first_value.ensures.steps w wide)
+
+pub grow_slots-returns-in_err-name-clause-steps : goal.grow_slots-returns-in_err-name-clause-steps
+grow_slots-returns-in_err-name-clause-steps g t c = λ w wide.
+    let few : c.in-Some.size ≤ c.args.room = omega (arith, c.in-Some.ensures.1.1.1.1) in
+    omega (arith, split_cost (w + 1) c.in-Some.size c.args.room few, c.first_value.ensures.steps w wide)
+
+pub grow_slots-returns-in_err-put_member-clause-steps : goal.grow_slots-returns-in_err-put_member-clause-steps
+grow_slots-returns-in_err-put_member-clause-steps g t c = λ w wide.
+    let few : c.in-Some.size ≤ c.args.room = omega (arith, c.in-Some.ensures.1.1.1.1) in
+    omega (arith, split_cost (w + 1) c.in-Some.size c.args.room few, c.first_value.ensures.steps w wide, c.put_member.ensures.steps w wide)
+
+pub grow_slots-returns-clause-steps : goal.grow_slots-returns-clause-steps
+grow_slots-returns-clause-steps g t c = λ w wide.
+    let few : c.in-Some.size ≤ c.args.room = omega (arith, c.in-Some.ensures.1.1.1.1) in
+    omega (arith, split_cost (w + 1) c.in-Some.size c.args.room few, c.first_value.ensures.steps w wide, c.put_member.ensures.steps w wide)
+
+pub put_member-overflow_add-place : goal.put_member-overflow_add-place
+put_member-overflow_add-place g t c = omega (arith, c.requires.slot.followed)
+
+pub put_member-first_slots-requires : goal.put_member-first_slots-requires
+put_member-first_slots-requires g t c κs within =
+    let q = c.args.plan.now in
+    let same = ap rows_of c.as_slice.ensures.value ∙ c.in_ok-same.ensures ∙ (λ i. agreeing_if (c.requires.slot.key i) (c.requires.slot.name i) (data_of c.args.member.tree) (rows_of c.args.used.now)) in (
+      omega (arith, c.decreases),
+      (
+        within,
+        (
+          c.requires.node,
+          (
+            c.requires.row,
+            (
+              omega (arith, c.requires.taken),
+              (
+                c.requires.limit,
+                subst (IsOpen q.pools (slots_from q c.args.node (c.args.place + 1)) (bounds_at q c.args.node) (c.args.taken + 1) c.args.room) (sym same) c.requires.open,
+              ),
+            ),
+          ),
+        ),
+      ),
+    )
+
+pub put_member-returns-clause-ok : goal.put_member-returns-clause-ok
+put_member-returns-clause-ok g t c =
+    let q = c.args.plan.now in
+    let same = ap rows_of c.as_slice.ensures.value ∙ c.in_ok-same.ensures ∙ (λ i. agreeing_if (c.requires.slot.key i) (c.requires.slot.name i) (data_of c.args.member.tree) (rows_of c.args.used.now)) in
+    on_ok_weaker c.first_slots.result (λ a.
+    subst (λ l. AddsFirst q.pools (slots_from q c.args.node (c.args.place + 1)) (bounds_at q c.args.node) (c.args.taken + 1) c.args.room (still_used (slot_in q c.args.node c.args.place) (data_of c.args.member.tree) (rows_of c.args.used.now)) l c.first_slots.new.members.items)
+    c.in_ok-push.ensures.items
+    (subst (λ u. AddsFirst q.pools (slots_from q c.args.node (c.args.place + 1)) (bounds_at q c.args.node) (c.args.taken + 1) c.args.room u c.push.new.self.items c.first_slots.new.members.items) same a)) c.first_slots.ensures.ok
+
+pub first_row-first_slots-requires : goal.first_row-first_slots-requires
+first_row-first_slots-requires g t c κs within = (omega (arith, c.decreases), (within, (c.requires.node, (c.requires.row, (omega arith, (omega (arith, c.requires.some, c.requires.limit), c.requires.open))))))
+
+pub first_row-invariant_of-result : goal.first_row-invariant_of-result
+first_row-invariant_of-result g t c =
+    let q = c.args.plan.now in
+    let sound = c.sound_parts.ensures.parts _ (site_among q c.args.node c.requires.node) in
+    let adds = subst (λ old. AddsFirst q.pools (slots_from q c.args.node 0) (bounds_at q c.args.node) 0 (c.args.size - 1) (rows_of c.args.used.now) old c.first_slots.new.members.items) c.new-members.ensures.items c.in_ok-first_slots.ensures.ok in
+    subst AreMembers (sym (ap members_of adds.is ∙ adds.are)) (in_members q.pools (slots_from q c.args.node 0) adds.fillings sound.order adds.least.is.are)
+
+pub first_row-returns-clause-ok : goal.first_row-returns-clause-ok
+first_row-returns-clause-ok g t c =
+    let q = c.args.plan.now in
+    let sound = c.sound_parts.ensures.parts _ (site_among q c.args.node c.requires.node) in
+    let adds = subst (λ old. AddsFirst q.pools (slots_from q c.args.node 0) (bounds_at q c.args.node) 0 (c.args.size - 1) (rows_of c.args.used.now) old c.first_slots.new.members.items) c.new-members.ensures.items c.in_ok-first_slots.ensures.ok in
+    subst (λ ms. IsLeast tree_cmp (IsRow q c.args.node (c.args.size - 1) (rows_of c.args.used.now)) (object_data ms)) (sym (ap members_of adds.is ∙ adds.are)) (row_least q c.args.node (c.args.size - 1) (rows_of c.args.used.now) adds.fillings sound.order adds.least)
+
+pub first_row-returns-clause-steps : goal.first_row-returns-clause-steps
+first_row-returns-clause-steps g t c = λ w wide.
+    let q = c.args.plan.now in
+    let few = slots_within q c.args.node c.requires.node c.requires.row w wide in
+    omega (arith, split_cost (w + 1) 1 c.args.size c.requires.some, c.first_slots.ensures.steps w wide, few)
+
+pub first_row-returns-in_err-first_slots-clause-steps : goal.first_row-returns-in_err-first_slots-clause-steps
+first_row-returns-in_err-first_slots-clause-steps g t c = λ w wide.
+    let q = c.args.plan.now in
+    let few = slots_within q c.args.node c.requires.node c.requires.row w wide in
+    omega (arith, split_cost (w + 1) 1 c.args.size c.requires.some, c.first_slots.ensures.steps w wide, few)
+
+pub put_member-overflow_add-taken : goal.put_member-overflow_add-taken
+put_member-overflow_add-taken g t c = omega (arith, c.requires.limit, c.limit.ensures, c.limit.type_inv)
+
+pub first-first_row-requires : goal.first-first_row-requires
+first-first_row-requires g t c κs within =
+    let q = c.args.plan.now in
+    let there = site_among q c.args.node c.requires.node in
+    let row = sym c.in-Row.ensures in
+    let some : 1 ≤ c.args.size = omega (arith, some_nodes c.requires.size.part, c.requires.size.nodes_are) in (
+      omega (arith, c.decreases, weight_next q c.args.node),
+      (
+        within,
+        (
+          c.requires.node,
+          (
+            row,
+            (
+              some,
+              (
+                c.requires.limit,
+                plain_open q c.args.node (c.no_dead_end.ensures.parts _ there) row c.args.size (keys_at q c.args.node 0 (c.sound_parts.ensures.parts _ there)) (elim c.if-size-eq1.branch [
+                  | first-then-size-eq1+else-null_ok w ↦ λ e. sym w.null_ok.ensures ∙ w.if-null_ok.false
+                  | first-else-size-eq1 w ↦ λ e. absurd (omega (arith, w.if-size-eq1.false, e))
+                ]) c.requires.size,
+              ),
+            ),
+          ),
+        ),
+      ),
+    )
+
+pub first-first_list-requires : goal.first-first_list-requires
+first-first_list-requires g t c κs within =
+    let q = c.args.plan.now in (
+      omega (arith, c.decreases, weight_next q c.args.node),
+      (
+        within,
+        (
+          c.requires.node,
+          (
+            sym c.in-List.ensures,
+            (
+              elim c.if-size-eq1.branch [
+                | first-then-size-eq1+else-null_ok w ↦ λ e. sym w.null_ok.ensures ∙ w.if-null_ok.false
+                | first-else-size-eq1 w ↦ λ e. absurd (omega (arith, w.if-size-eq1.false, e))
+              ],
+              (c.requires.size, c.requires.limit),
+            ),
+          ),
+        ),
+      ),
+    )
+
+pub first-first_unused-requires-clause-free : goal.first-first_unused-requires-clause-free
+first-first_unused-requires-clause-free g t c = (c.requires.size.part, (record { part = c.requires.size.is; nodes_are = c.requires.size.nodes_are }, λ k. contained [] _ k))
+
+pub first-returns-in_default : goal.first-returns-in_default
+first-returns-in_default g t c =
+    let q = c.args.plan.now in
+    let there = site_among q c.args.node c.requires.node in
+    let one : c.args.size ≡ 1 = omega (arith, c.if-size-eq1.true) in
+    record {
+      ok = record {
+        is = record { part = null_part (site q c.args.node) q.pools q.limit (omega (arith, one, c.requires.limit)) (c.no_dead_end.ensures.parts _ there) (λ leaf. let no = c.in_default.not-Leaf in no (c.sort.ensures ∙ leaf)) (sym c.null_ok.ensures ∙ c.if-null_ok.true); nodes_are = sym one };
+        least = λ u p. null_first u (p.nodes_are ∙ one);
+      };
+      steps = λ w wide. omega arith;
+    }
+
+pub first-returns-in-Row : goal.first-returns-in-Row
+first-returns-in-Row g t c =
+    let q = c.args.plan.now in
+    let there = site_among q c.args.node c.requires.node in
+    let row = sym c.in-Row.ensures in
+    let some : 1 ≤ c.args.size = omega (arith, some_nodes c.requires.size.part, c.requires.size.nodes_are) in
+    record {
+      ok = IfOk-weaker c.first_row.result _ _ (λ v h. plain_least q c.args.node (c.no_dead_end.ensures.parts _ there) row c.args.size (data_of v) some (elim c.if-size-eq1.branch [
+        | first-then-size-eq1+else-null_ok w ↦ λ e. sym w.null_ok.ensures ∙ w.if-null_ok.false
+        | first-else-size-eq1 w ↦ λ e. absurd (omega (arith, w.if-size-eq1.false, e))
+      ]) h) c.first_row.ensures.ok;
+      steps = c.first_row.ensures.steps;
+    }
+
+pub first-returns-in-List : goal.first-returns-in-List
+first-returns-in-List g t c = record { ok = c.first_list.ensures.ok; steps = c.first_list.ensures.steps }
+
+pub first-returns-in-Leaf-clause-ok : goal.first-returns-in-Leaf-clause-ok
+first-returns-in-Leaf-clause-ok g t c = IfOk-weaker c.first_unused.result _ _ (λ v h. least_same tree_cmp (IsUnusedPart c.args.plan.now c.args.node c.args.size []) (IsPartOf c.args.plan.now c.args.node c.args.size) (data_of v) (λ u p. p.0) (λ u p. (p, λ k. contained [] _ k)) h) c.first_unused.ensures.ok
+
+pub first-returns-in-Leaf-clause-steps : goal.first-returns-in-Leaf-clause-steps
+first-returns-in-Leaf-clause-steps g t c = λ w wide.
+    let some : 1 ≤ c.args.size = omega (arith, some_nodes c.requires.size.part, c.requires.size.nodes_are) in
+    omega (arith, one_cost w c.args.size some, c.first_unused.ensures.steps w wide)
+
+pub first_item-first_row-requires : goal.first_item-first_row-requires
+first_item-first_row-requires g t c κs within =
+    let q = c.args.plan.now in
+    let here = site_among q c.args.node c.requires.node in
+    let node : c.args.child < length (sites_of q.root) = omega (arith, c.requires.child, c.requires.node) in
+    let there = site_among q c.args.child node in
+    let items = (c.sound_parts.ensures.parts _ here).map (site q c.args.child) c.requires.first.item (sym c.distinct.ensures ∙ c.in-Keys.is) in
+    let counts = c.sound_parts.ensures.counts _ there in
+    let some : 1 ≤ c.args.size = omega (arith, some_nodes c.requires.size.part, c.requires.size.nodes_are) in (
+      omega (arith, c.decreases, row_lighter q c.args.child c.args.node c.requires.child),
+      (
+        within,
+        (
+          node,
+          (
+            items.row,
+            (
+              some,
+              (
+                c.requires.limit,
+                subst (IsOpen q.pools (slots_from q c.args.child 0) (bounds_at q c.args.child) 0 (c.args.size - 1)) (sym (ap rows_of c.as_slice.ensures.value ∙ c.in_ok-used-in-Keys.ensures))
+                    (item_open q c.args.node c.args.child (c.no_dead_end.ensures.parts _ here) (c.no_dead_end.ensures.parts _ there) (c.sound_parts.ensures.parts _ there) items c.sound_parts.ensures.free counts.0 counts.1 c.args.items.now c.args.size c.requires.fresh.0
+                    (omega (arith, c.limit.ensures, c.limit.type_inv)) c.requires.first c.requires.fresh.1 c.requires.size),
+              ),
+            ),
+          ),
+        ),
+      ),
+    )
+
+pub first_item-returns-in_ok-used-in-Keys-clause-ok : goal.first_item-returns-in_ok-used-in-Keys-clause-ok
+first_item-returns-in_ok-used-in-Keys-clause-ok g t c =
+    let q = c.args.plan.now in
+    let here = site_among q c.args.node c.requires.node in
+    let there = site_among q c.args.child (omega (arith, c.requires.child, c.requires.node)) in
+    let items = (c.sound_parts.ensures.parts _ here).map (site q c.args.child) c.requires.first.item (sym c.distinct.ensures ∙ c.in-Keys.is) in
+    let some : 1 ≤ c.args.size = omega (arith, some_nodes c.requires.size.part, c.requires.size.nodes_are) in
+    IfOk-weaker c.first_row.result _ _ (λ v h. item_least q c.args.node c.args.child (c.no_dead_end.ensures.parts _ there) (c.sound_parts.ensures.parts _ there) items c.args.items.now c.args.size (data_of v) some c.requires.first.are
+    (subst (λ us. IsLeast tree_cmp (IsRow q c.args.child (c.args.size - 1) us) (data_of v)) (ap rows_of c.as_slice.ensures.value ∙ c.in_ok-used-in-Keys.ensures) h)) c.first_row.ensures.ok

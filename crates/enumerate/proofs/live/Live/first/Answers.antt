@@ -1,0 +1,11 @@
+use Rattle.std.proofs.Common.{arith}
+use Rattle.enumerate.proofs.live.Live.first.Goals as goal
+
+pub returns-in_err-tree-clause-steps : goal.returns-in_err-tree-clause-steps
+returns-in_err-tree-clause-steps g c = λ w wide. omega (arith, c.first_from.ensures.steps w wide)
+
+pub returns-in-Some-clause-steps : goal.returns-in-Some-clause-steps
+returns-in-Some-clause-steps g c = λ w wide. omega (arith, c.first_from.ensures.steps w wide)
+
+pub returns-in-None-clause-steps : goal.returns-in-None-clause-steps
+returns-in-None-clause-steps g c = λ w wide. omega (arith, c.first_from.ensures.steps w wide)

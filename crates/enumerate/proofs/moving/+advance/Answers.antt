@@ -1,0 +1,1189 @@
+use Rattle.std.proofs.Common.{refl, sym, ap, subst, ◌∙◌, arith, ◌≡◌, ◌≢◌, ◌+◌, ◌-◌, ◌*◌, ◌≤◌, ◌<◌, ℕ, List, length, drop, IfNone, None, Some, [], vec_len}
+use Rattle.std.proofs.lemmas.Result.{IfOk-weaker}
+use Rattle.std.proofs.lemmas.List.{length-take-le}
+use Rattle.std.proofs.Math.Nat.{mul-le-mul_left, mul-add}
+use Rattle.jtree.specs.Data.{AreMembers, object as object_data, list as list_data, Members as MembersData, Items}
+use Rattle.jtree.specs.Nodes.{most_nodes, node_count, items_count, members_count}
+use Rattle.jtree.specs.Order.{tree_cmp}
+use Rattle.jtree.specs.Internal.Rising.{contained}
+use Rattle.jtree.specs.declared.value.Member.{Member}
+use Rattle.plan.specs.Samples.Sites.{Site, sites_of}
+use Rattle.enumerate.specs.Least.{IsNext}
+use Rattle.enumerate.specs.Internal.Nodes.{site, IsPartOf, Costs}
+use Rattle.enumerate.specs.Internal.Candidates.{IsUnusedPart, IsFreeKey, rows_of}
+use Rattle.plan.specs.Samples.Sizes.{AreFillings, CanFill, filled_nodes, HasMore}
+use Rattle.enumerate.specs.Internal.Rows.{fill_cmp, IsRest, IsOpen, still_used, slots_from, slot_in, bounds_at, AreUsed, IsRow, IsValue}
+use Rattle.enumerate.proofs.ListLemmas.{some_nodes, site_among, few_items, counted}
+use Rattle.enumerate.proofs.MoveLemmas.{moved_same, item_moved}
+use Rattle.enumerate.proofs.MoveCosts.{one_cost, costs_last, last_kept, last_wider}
+use Rattle.enumerate.proofs.MoveSteps.{row_stands, stand_nodes, none_left, moved_behind, same_used, filled_in, ended, left_out, out_ended, known_behind, known_out, open_here, out_next, out_grown, in_next, in_value, in_grown, key_moved, part_moved}
+use Rattle.enumerate.proofs.MemberCuts.{begins_within, member_here, count_from, kept_one, cut_off, added_kept, grown_kept}
+use Rattle.enumerate.proofs.NullMoves.{row_moved}
+use Rattle.enumerate.proofs.PartRows.{weight_next, row_unless_null}
+use Rattle.enumerate.proofs.RowLemmas.{can_fill}
+use Rattle.enumerate.proofs.RowOrder.{in_members, row_next}
+use Rattle.enumerate.proofs.RowSteps.{slot_of, one_fewer, no_slots, key_leaf, at_number}
+use Rattle.jtree.specs.View.{data_of, items_of, members_of}
+use Rattle.plan.specs.Samples.Part.{IsPart}
+use Rattle.plan.specs.Samples.Candidates.{sort_of, distinct_of}
+use Rattle.enumerate.specs.Internal.Lists.{AreFirst, IsFreshItem, AddsItems}
+use Rattle.enumerate.specs.Internal.Steps.{CostsLast, CostsLastStep, CostsLastSlots}
+use Rattle.enumerate.specs.Internal.Moves.{IsMoved, StandIn, Begins, AreMoved, AreItemsMoved}
+use Rattle.enumerate.specs.View.{trees_of}
+use Rattle.enumerate.proofs.KeyItems.{items_used, fresh_row, row_fresh}
+use Rattle.enumerate.proofs.MembershipLemmas.{lighter, row_lighter, slots_within}
+use Rattle.enumerate.proofs.WholeListLemmas.{has_item, list_site, part_list, part_fresh, unused_fresh}
+use Rattle.enumerate.proofs.ListWalks.{WereLast, IsWalked, all_left, walk_ended, front_nodes, front_first, front_fresh, front_follow, front_next, front_walked, list_moved, list_stays, double, cost_room, no_more, some_there, empty_len, some_len, walked_last, kept_last}
+use Rattle.enumerate.specs.declared.moved.Moved.TheVariants as moved
+use Rattle.enumerate.specs.declared.moved.Step.TheVariants as step
+use Rattle.enumerate.proofs.moving.+advance.Goals as goal
+use Rattle.plan.specs.declared.sort.Distinct.TheVariants as distinct
+
+twice_cost : (w n : ℕ) → 1 ≤ n → (w + 1) * 1 ≤ (w + 1) * (2 * n)
+twice_cost w n some = mul-le-mul_left (w + 1) (omega (arith, some))
+
+pub advance-past_null-requires : goal.advance-past_null-requires
+advance-past_null-requires g t c = record { node = c.requires.node; no_leaf = λ leaf. let other = c.in_default.not-Leaf in other (c.sort.ensures ∙ leaf); some = omega (arith, some_nodes (data_of c.args.tree), c.requires.limit) }
+
+pub advance-advance_row-requires : goal.advance-advance_row-requires
+advance-advance_row-requires g t c κs within =
+    let q = c.args.plan.now in
+    let there = site_among q c.args.node c.requires.node in
+    let row = sym c.in-Row.ensures in (
+      omega (arith, c.decreases, weight_next q c.args.node),
+      (
+        within,
+        (
+          c.requires.node,
+          (
+            row,
+            (
+              record { few = omega arith; tuples = λ k d lt. absurd (omega (arith, lt)); apart = λ a b d lt inside. absurd (omega (arith, lt, inside)) },
+              (
+                row_unless_null q c.args.node (c.no_dead_end.ensures.parts _ there) row (node_count (data_of c.args.tree)) (data_of c.args.tree) (record { part = c.requires.part; nodes_are = refl })
+                    (λ is nullable. let yes = c.is_null.ensures.1 is in let no = c.if-is_null.false in cc),
+                c.requires.limit,
+              ),
+            ),
+          ),
+        ),
+      ),
+    )
+
+pub advance-advance_list-requires : goal.advance-advance_list-requires
+advance-advance_list-requires g t c κs within =
+    let q = c.args.plan.now in
+    (omega (arith, c.decreases, weight_next q c.args.node), (within, (c.requires.node, (sym c.in-List.ensures, (c.requires.part, (λ is. let yes = c.is_null.ensures.1 is in let no = c.if-is_null.false in cc, c.requires.limit))))))
+
+pub advance-next_unused-requires-clause-limit : goal.advance-next_unused-requires-clause-limit
+advance-next_unused-requires-clause-limit g t c = omega (arith, c.requires.limit, c.limit.ensures, c.limit.type_inv)
+
+pub advance-returns-in_default : goal.advance-returns-in_default
+advance-returns-in_default g t c =
+    let q = c.args.plan.now in
+    let null = c.is_null.ensures.0 c.if-is_null.true in
+    record {
+      ok = subst (λ v. IsMoved (IsPartOf q c.args.node (node_count v)) v c.past_null.result) (sym null) c.past_null.ensures;
+      steps = λ w wide. omega arith;
+      last = costs_last c.past_null.result q c.args.meter.now c.args.meter.now (node_count (data_of c.args.tree)) (λ w wide. omega arith);
+    }
+
+pub advance-returns-in-Row : goal.advance-returns-in-Row
+advance-returns-in-Row g t c =
+    let q = c.args.plan.now in
+    let there = site_among q c.args.node c.requires.node in
+    let row = sym c.in-Row.ensures in
+    record {
+      ok = IfOk-weaker c.advance_row.result _ _ (λ m h. row_moved q c.args.node (c.no_dead_end.ensures.parts _ there) row (data_of c.args.tree) m h) c.advance_row.ensures.ok;
+      steps = c.advance_row.ensures.steps;
+      last = c.advance_row.ensures.last;
+    }
+
+pub advance-returns-in-List : goal.advance-returns-in-List
+advance-returns-in-List g t c = record { ok = c.advance_list.ensures.ok; steps = c.advance_list.ensures.steps; last = c.advance_list.ensures.last }
+
+pub advance-returns-in-Leaf-clause-ok : goal.advance-returns-in-Leaf-clause-ok
+advance-returns-in-Leaf-clause-ok g t c =
+    let q = c.args.plan.now in
+    let n = node_count (data_of c.args.tree) in
+    IfOk-weaker c.next_unused.result _ _ (λ m h. moved_same (IsUnusedPart q c.args.node n []) (IsPartOf q c.args.node n) (data_of c.args.tree) m (λ u p. p.0) (λ u p. (p, λ k. contained [] _ k)) h) c.next_unused.ensures.ok
+
+pub advance-returns-in-Leaf-clause-steps : goal.advance-returns-in-Leaf-clause-steps
+advance-returns-in-Leaf-clause-steps g t c = λ w wide. omega (arith, twice_cost w (node_count (data_of c.args.tree)) (some_nodes (data_of c.args.tree)), c.next_unused.ensures.steps w wide)
+
+pub advance-returns-in-Leaf-clause-last : goal.advance-returns-in-Leaf-clause-last
+advance-returns-in-Leaf-clause-last g t c =
+    IfOk-weaker c.next_unused.result _ _ (λ m h. costs_last m c.args.plan.now c.args.meter.now c.next_unused.new.meter (node_count (data_of c.args.tree))
+    (λ w wide. omega (arith, one_cost w (node_count (data_of c.args.tree)) (some_nodes (data_of c.args.tree)), c.next_unused.ensures.steps w wide))) c.next_unused.ensures.ok
+
+pub advance_filled-index-requires : goal.advance_filled-index-requires
+advance_filled-index-requires g t c =
+    let old = c.args.members.now.items in
+    let taken = c.args.taken in
+    let inside = begins_within c.args.slot.now.name.now old taken c.requires.filled in
+    omega (arith, inside, c.args.members.now.ok.0)
+
+pub advance_filled-returns-in_err-same-clause-steps : goal.advance_filled-returns-in_err-same-clause-steps
+advance_filled-returns-in_err-same-clause-steps g t c = λ w wide. omega arith
+
+pub advance_filled-overflow_add-place : goal.advance_filled-overflow_add-place
+advance_filled-overflow_add-place g t c = omega (arith, c.requires.slot.followed)
+
+pub advance_filled-overflow_add-taken : goal.advance_filled-overflow_add-taken
+advance_filled-overflow_add-taken g t c = omega (arith, c.requires.limit, c.limit.ensures, c.limit.type_inv)
+
+pub advance_filled-advance_slots-requires : goal.advance_filled-advance_slots-requires
+advance_filled-advance_slots-requires g t c κs within =
+    let q = c.args.plan.now in
+    let sound = c.sound_parts.ensures.parts _ (site_among q c.args.node c.requires.node) in
+    let here = member_here c.args.slot.now.name.now c.args.taken c.args.members.now.items c.index.result.now c.requires.filled c.index.ensures in
+    let count = count_from c.args.members.now.items c.args.taken c.index.result.now here in
+    let same = same_used q c.args.node c.args.place c.args.slot.now c.requires.slot sound (rows_of c.as_slice.result.now) (rows_of c.args.used.now) (data_of c.index.result.now.tree) (ap rows_of c.as_slice.ensures.value ∙ c.in_ok-same.ensures) in
+    let f = (filled_in q c.args.node c.args.place c.args.slot.now c.requires.slot sound c.args.taken (rows_of c.args.used.now) c.args.members.now.items c.index.result.now c.requires.stand.0 (omega (arith, c.requires.limit, c.limit.ensures, c.limit.type_inv)) here c.requires.filled c.requires.stand.1).1 in (
+      omega (arith, c.decreases),
+      (
+        within,
+        (
+          c.requires.node,
+          (
+            c.requires.row,
+            (
+              omega (arith, c.requires.taken),
+              (
+                omega (arith, begins_within c.args.slot.now.name.now c.args.members.now.items c.args.taken c.requires.filled),
+                (
+                  subst (AreUsed q.pools (slots_from q c.args.node (c.args.place + 1))) (sym same) (known_behind q c.args.node c.args.place sound c.requires.slot.first (rows_of c.args.used.now) (data_of c.index.result.now.tree) c.requires.known),
+                  (
+                    (f.rest, subst (λ us. StandIn q.pools (slots_from q c.args.node (c.args.place + 1)) (bounds_at q c.args.node) (c.args.taken + 1) us (drop (c.args.taken + 1) c.args.members.now.items) f.rest) (sym same) f.stand),
+                    omega (arith, count, some_nodes (data_of c.index.result.now.tree), c.requires.limit),
+                  ),
+                ),
+              ),
+            ),
+          ),
+        ),
+      ),
+    )
+
+pub advance_filled-returns-in_err-room-clause-steps : goal.advance_filled-returns-in_err-room-clause-steps
+advance_filled-returns-in_err-room-clause-steps g t c = λ w wide.
+    let here = member_here c.args.slot.now.name.now c.args.taken c.args.members.now.items c.index.result.now c.requires.filled c.index.ensures in
+    let count = count_from c.args.members.now.items c.args.taken c.index.result.now here in
+    let scaled = ap (λ n. (w + 1) * n) count in
+    omega (arith, scaled, c.advance_slots.ensures.steps w wide)
+
+pub advance_filled-returns-in_default-clause-kept : goal.advance_filled-returns-in_default-clause-kept
+advance_filled-returns-in_default-clause-kept g t c =
+    let here = member_here c.args.slot.now.name.now c.args.taken c.args.members.now.items c.index.result.now c.requires.filled c.index.ensures in
+    (kept_one c.args.taken c.advance_slots.new.members.items c.args.members.now.items c.index.result.now c.in_ok-room.ensures.kept here).0
+
+pub advance_filled-returns-in_default-clause-moved : goal.advance_filled-returns-in_default-clause-moved
+advance_filled-returns-in_default-clause-moved g t c = λ gs s.
+    let q = c.args.plan.now in
+    let sound = c.sound_parts.ensures.parts _ (site_among q c.args.node c.requires.node) in
+    let here = member_here c.args.slot.now.name.now c.args.taken c.args.members.now.items c.index.result.now c.requires.filled c.index.ensures in
+    let mid = c.advance_slots.new.members.items in
+    let same = same_used q c.args.node c.args.place c.args.slot.now c.requires.slot sound (rows_of c.as_slice.result.now) (rows_of c.args.used.now) (data_of c.index.result.now.tree) (ap rows_of c.as_slice.ensures.value ∙ c.in_ok-same.ensures) in
+    let f = filled_in q c.args.node c.args.place c.args.slot.now c.requires.slot sound c.args.taken (rows_of c.args.used.now) c.args.members.now.items c.index.result.now gs (omega (arith, c.requires.limit, c.limit.ensures, c.limit.type_inv)) here c.requires.filled s in
+    let next = subst (λ st. AreMoved st q.pools (slots_from q c.args.node (c.args.place + 1)) (bounds_at q c.args.node) (c.args.taken + 1) (still_used (slot_in q c.args.node c.args.place) (data_of c.index.result.now.tree) (rows_of c.args.used.now)) f.1.rest (drop (c.args.taken + 1) mid)) c.in_default.is
+    (moved_behind q c.args.node c.args.place sound c.requires.slot.first c.in_ok-room.field-0 c.args.taken (rows_of c.args.used.now) (rows_of c.as_slice.result.now) c.index.result.now (drop (c.args.taken + 1) c.args.members.now.items) (drop (c.args.taken + 1) mid) gs f.1 same c.in_ok-room.ensures.moved) in
+    subst (λ ms. AreMoved step.Moved q.pools (slots_from q c.args.node c.args.place) (bounds_at q c.args.node) c.args.taken (rows_of c.args.used.now) gs ms) (sym (kept_one c.args.taken mid c.args.members.now.items c.index.result.now c.in_ok-room.ensures.kept here).1)
+    (in_next q c.args.node c.args.place sound c.requires.slot.first c.args.taken (rows_of c.args.used.now) c.index.result.now (drop (c.args.taken + 1) c.args.members.now.items) gs f.0 f.1 (drop (c.args.taken + 1) mid) next)
+
+pub advance_filled-returns-in_default-clause-steps : goal.advance_filled-returns-in_default-clause-steps
+advance_filled-returns-in_default-clause-steps g t c = λ w wide.
+    let here = member_here c.args.slot.now.name.now c.args.taken c.args.members.now.items c.index.result.now c.requires.filled c.index.ensures in
+    let count = count_from c.args.members.now.items c.args.taken c.index.result.now here in
+    let scaled = ap (λ n. (w + 1) * n) count in
+    omega (arith, scaled, c.advance_slots.ensures.steps w wide)
+
+pub advance_filled-returns-in_default-clause-last : goal.advance_filled-returns-in_default-clause-last
+advance_filled-returns-in_default-clause-last g t c = tt
+
+pub advance_filled-overflow_add-taken-2 : goal.advance_filled-overflow_add-taken-2
+advance_filled-overflow_add-taken-2 g t c = omega (arith, c.ranges.taken.fits)
+
+pub advance_filled-unreachable-requires : goal.advance_filled-unreachable-requires
+advance_filled-unreachable-requires g t c =
+    let old = c.args.members.now.items in
+    let count = length-take-le (c.args.taken + 1) old (omega (arith, begins_within c.args.slot.now.name.now old c.args.taken c.requires.filled)) in
+    let same = ap (λ (ms : List Member). length ms) (c.truncate.ensures.items ∙ c.in_ok-room.ensures.kept) in
+    let none = c.in_default-pop.ensures.cases.0 in
+    omega (arith, count, same, none, c.truncate.new.self.ok.0)
+
+pub advance_filled-advance_value-requires : goal.advance_filled-advance_value-requires
+advance_filled-advance_value-requires g t c κs within =
+    let q = c.args.plan.now in
+    let sound = c.sound_parts.ensures.parts _ (site_among q c.args.node c.requires.node) in
+    let cut = cut_off c.args.slot.now.name.now c.args.taken c.args.members.now.items c.advance_slots.new.members.items c.truncate.new.self.items c.pop.new.self.items c.index.result.now c.in-Some.field-0 c.requires.filled c.index.ensures c.in_ok-room.ensures.kept c.truncate.ensures.items c.in-Some.ensures.items in
+    let f = filled_in q c.args.node c.args.place c.args.slot.now c.requires.slot sound c.args.taken (rows_of c.args.used.now) c.args.members.now.items c.in-Some.field-0 c.requires.stand.0 (omega (arith, c.requires.limit, c.limit.ensures, c.limit.type_inv)) cut.there c.requires.filled c.requires.stand.1 in
+    (omega (arith, c.decreases), (within, (c.requires.node, (c.requires.slot, (c.requires.known, (f.1.value, omega (arith, cut.nodes_are, c.requires.limit)))))))
+
+pub advance_filled-returns-in_err-tree-clause-steps : goal.advance_filled-returns-in_err-tree-clause-steps
+advance_filled-returns-in_err-tree-clause-steps g t c = λ w wide.
+    let q = c.args.plan.now in
+    let cut = cut_off c.args.slot.now.name.now c.args.taken c.args.members.now.items c.advance_slots.new.members.items c.truncate.new.self.items c.pop.new.self.items c.index.result.now c.in-Some.field-0 c.requires.filled c.index.ensures c.in_ok-room.ensures.kept c.truncate.ensures.items c.in-Some.ensures.items in
+    let scaled = ap (λ n. (w + 1) * n) cut.nodes_are in
+    let behind = subst (λ st. CostsLastSlots st q c.args.node (c.args.place + 1) c.args.meter.now c.advance_slots.new.meter (members_count (members_of (drop (c.args.taken + 1) c.args.members.now.items)))) c.in-Last.is c.in_ok-room.ensures.last w wide in
+    omega (arith, scaled, behind, c.advance_value.ensures.steps w wide)
+
+pub advance_filled-put_member-requires-clause-taken : goal.advance_filled-put_member-requires-clause-taken
+advance_filled-put_member-requires-clause-taken g t c = c.requires.taken
+
+pub advance_filled-put_member-requires-clause-limit : goal.advance_filled-put_member-requires-clause-limit
+advance_filled-put_member-requires-clause-limit g t c =
+    let q = c.args.plan.now in
+    let sound = c.sound_parts.ensures.parts _ (site_among q c.args.node c.requires.node) in
+    let cut = cut_off c.args.slot.now.name.now c.args.taken c.args.members.now.items c.advance_slots.new.members.items c.truncate.new.self.items c.pop.new.self.items c.index.result.now c.in-Some.field-0 c.requires.filled c.index.ensures c.in_ok-room.ensures.kept c.truncate.ensures.items c.in-Some.ensures.items in
+    let e = ended q c.args.node c.args.place c.args.slot.now c.requires.slot sound c.in_ok-room.field-0 c.args.taken c.in-Last.room (rows_of c.args.used.now) (rows_of c.as_slice.result.now) c.args.members.now.items c.pop.new.self.items (drop (c.args.taken + 1) c.advance_slots.new.members.items) c.index.result.now c.in-Some.field-0 c.requires.stand.0
+    cut c.requires.filled (omega (arith, c.requires.limit, c.limit.ensures, c.limit.type_inv)) c.in-Last.is (ap rows_of c.as_slice.ensures.value ∙ c.in_ok-same.ensures) c.in_ok-room.ensures.moved c.requires.stand.1 in
+    omega (arith, e.nodes_are, some_nodes (data_of c.in-Some.field-0.tree), c.requires.limit)
+
+pub advance_filled-put_member-requires-clause-open : goal.advance_filled-put_member-requires-clause-open
+advance_filled-put_member-requires-clause-open g t c =
+    let q = c.args.plan.now in
+    let sound = c.sound_parts.ensures.parts _ (site_among q c.args.node c.requires.node) in
+    let cut = cut_off c.args.slot.now.name.now c.args.taken c.args.members.now.items c.advance_slots.new.members.items c.truncate.new.self.items c.pop.new.self.items c.index.result.now c.in-Some.field-0 c.requires.filled c.index.ensures c.in_ok-room.ensures.kept c.truncate.ensures.items c.in-Some.ensures.items in
+    let e = ended q c.args.node c.args.place c.args.slot.now c.requires.slot sound c.in_ok-room.field-0 c.args.taken c.in-Last.room (rows_of c.args.used.now) (rows_of c.as_slice.result.now) c.args.members.now.items c.pop.new.self.items (drop (c.args.taken + 1) c.advance_slots.new.members.items) c.index.result.now c.in-Some.field-0 c.requires.stand.0
+    cut c.requires.filled (omega (arith, c.requires.limit, c.limit.ensures, c.limit.type_inv)) c.in-Last.is (ap rows_of c.as_slice.ensures.value ∙ c.in_ok-same.ensures) c.in_ok-room.ensures.moved c.requires.stand.1 in
+    let next = subst (λ m. IsMoved (IsValue q.pools (slot_in q c.args.node c.args.place) (slots_from q c.args.node (c.args.place + 1)) (rows_of c.args.used.now) (node_count (data_of c.in-Some.field-0.tree))) (data_of c.in-Some.field-0.tree) m) c.in-To.is c.in_ok-tree.ensures.ok in
+    record {
+      known = known_behind q c.args.node c.args.place sound c.requires.slot.first (rows_of c.args.used.now) (data_of c.in-To.tree) c.requires.known;
+      rest = subst (λ m. CanFill q.pools (slots_from q c.args.node (c.args.place + 1)) (bounds_at q c.args.node) (c.args.taken + 1) m) e.room_is (can_fill q.pools (slots_from q c.args.node (c.args.place + 1)) (bounds_at q c.args.node) (c.args.taken + 1) _ (still_used (slot_in q c.args.node c.args.place) (data_of c.in-Some.field-0.tree) (rows_of c.args.used.now)) e.filled.rest e.filled.stand.rest);
+      free = next.is.0.free;
+    }
+
+pub advance_filled-returns-in_err-put_member-in-To-clause-steps : goal.advance_filled-returns-in_err-put_member-in-To-clause-steps
+advance_filled-returns-in_err-put_member-in-To-clause-steps g t c = λ w wide.
+    let q = c.args.plan.now in
+    let sound = c.sound_parts.ensures.parts _ (site_among q c.args.node c.requires.node) in
+    let cut = cut_off c.args.slot.now.name.now c.args.taken c.args.members.now.items c.advance_slots.new.members.items c.truncate.new.self.items c.pop.new.self.items c.index.result.now c.in-Some.field-0 c.requires.filled c.index.ensures c.in_ok-room.ensures.kept c.truncate.ensures.items c.in-Some.ensures.items in
+    let e = ended q c.args.node c.args.place c.args.slot.now c.requires.slot sound c.in_ok-room.field-0 c.args.taken c.in-Last.room (rows_of c.args.used.now) (rows_of c.as_slice.result.now) c.args.members.now.items c.pop.new.self.items (drop (c.args.taken + 1) c.advance_slots.new.members.items) c.index.result.now c.in-Some.field-0 c.requires.stand.0
+    cut c.requires.filled (omega (arith, c.requires.limit, c.limit.ensures, c.limit.type_inv)) c.in-Last.is (ap rows_of c.as_slice.ensures.value ∙ c.in_ok-same.ensures) c.in_ok-room.ensures.moved c.requires.stand.1 in
+    let scaled = ap (λ n. (w + 1) * n) e.nodes_are in
+    let left = ap (λ n. (w + 1) * n) e.behind_are in
+    let behind = subst (λ st. CostsLastSlots st q c.args.node (c.args.place + 1) c.args.meter.now c.advance_slots.new.meter (members_count (members_of (drop (c.args.taken + 1) c.args.members.now.items)))) c.in-Last.is c.in_ok-room.ensures.last w wide in
+    omega (arith, e.nodes_are, scaled, left, behind, c.advance_value.ensures.steps w wide, c.put_member.ensures.steps w wide)
+
+pub advance_filled-returns-in-To-clause-kept : goal.advance_filled-returns-in-To-clause-kept
+advance_filled-returns-in-To-clause-kept g t c =
+    let q = c.args.plan.now in
+    let cut = cut_off c.args.slot.now.name.now c.args.taken c.args.members.now.items c.advance_slots.new.members.items c.truncate.new.self.items c.pop.new.self.items c.index.result.now c.in-Some.field-0 c.requires.filled c.index.ensures c.in_ok-room.ensures.kept c.truncate.ensures.items c.in-Some.ensures.items in
+    added_kept q.pools (slots_from q c.args.node (c.args.place + 1)) (bounds_at q c.args.node) (c.args.taken + 1) c.in-Last.room c.args.taken _ c.pop.new.self.items (record { name = c.in-Some.field-0.name; tree = c.in-To.tree }) c.put_member.new.members.items c.in_ok-put_member-in-To.ensures.ok cut.count ∙ cut.front_is
+
+pub advance_filled-returns-in-To-clause-moved : goal.advance_filled-returns-in-To-clause-moved
+advance_filled-returns-in-To-clause-moved g t c = λ gs s.
+    let q = c.args.plan.now in
+    let sound = c.sound_parts.ensures.parts _ (site_among q c.args.node c.requires.node) in
+    let cut = cut_off c.args.slot.now.name.now c.args.taken c.args.members.now.items c.advance_slots.new.members.items c.truncate.new.self.items c.pop.new.self.items c.index.result.now c.in-Some.field-0 c.requires.filled c.index.ensures c.in_ok-room.ensures.kept c.truncate.ensures.items c.in-Some.ensures.items in
+    let e = ended q c.args.node c.args.place c.args.slot.now c.requires.slot sound c.in_ok-room.field-0 c.args.taken c.in-Last.room (rows_of c.args.used.now) (rows_of c.as_slice.result.now) c.args.members.now.items c.pop.new.self.items (drop (c.args.taken + 1) c.advance_slots.new.members.items) c.index.result.now c.in-Some.field-0 gs
+    cut c.requires.filled (omega (arith, c.requires.limit, c.limit.ensures, c.limit.type_inv)) c.in-Last.is (ap rows_of c.as_slice.ensures.value ∙ c.in_ok-same.ensures) c.in_ok-room.ensures.moved s in
+    let next = subst (λ m. IsMoved (IsValue q.pools (slot_in q c.args.node c.args.place) (slots_from q c.args.node (c.args.place + 1)) (rows_of c.args.used.now) (node_count (data_of c.in-Some.field-0.tree))) (data_of c.in-Some.field-0.tree) m) c.in-To.is c.in_ok-tree.ensures.ok in
+    in_value q c.args.node c.args.place sound c.requires.slot.first c.args.taken (rows_of c.args.used.now) c.in-Some.field-0 (drop (c.args.taken + 1) c.args.members.now.items) gs e.small e.filled c.in-Last.room (record { name = c.in-Some.field-0.name; tree = c.in-To.tree }) c.pop.new.self.items c.put_member.new.members.items
+    cut.count e.filled.name e.room_is e.last next c.in_ok-put_member-in-To.ensures.ok
+
+pub advance_filled-returns-in-To-clause-steps : goal.advance_filled-returns-in-To-clause-steps
+advance_filled-returns-in-To-clause-steps g t c = λ w wide.
+    let q = c.args.plan.now in
+    let sound = c.sound_parts.ensures.parts _ (site_among q c.args.node c.requires.node) in
+    let cut = cut_off c.args.slot.now.name.now c.args.taken c.args.members.now.items c.advance_slots.new.members.items c.truncate.new.self.items c.pop.new.self.items c.index.result.now c.in-Some.field-0 c.requires.filled c.index.ensures c.in_ok-room.ensures.kept c.truncate.ensures.items c.in-Some.ensures.items in
+    let e = ended q c.args.node c.args.place c.args.slot.now c.requires.slot sound c.in_ok-room.field-0 c.args.taken c.in-Last.room (rows_of c.args.used.now) (rows_of c.as_slice.result.now) c.args.members.now.items c.pop.new.self.items (drop (c.args.taken + 1) c.advance_slots.new.members.items) c.index.result.now c.in-Some.field-0 c.requires.stand.0
+    cut c.requires.filled (omega (arith, c.requires.limit, c.limit.ensures, c.limit.type_inv)) c.in-Last.is (ap rows_of c.as_slice.ensures.value ∙ c.in_ok-same.ensures) c.in_ok-room.ensures.moved c.requires.stand.1 in
+    let scaled = ap (λ n. (w + 1) * n) e.nodes_are in
+    let left = ap (λ n. (w + 1) * n) e.behind_are in
+    let behind = subst (λ st. CostsLastSlots st q c.args.node (c.args.place + 1) c.args.meter.now c.advance_slots.new.meter (members_count (members_of (drop (c.args.taken + 1) c.args.members.now.items)))) c.in-Last.is c.in_ok-room.ensures.last w wide in
+    omega (arith, e.nodes_are, scaled, left, behind, c.advance_value.ensures.steps w wide, c.put_member.ensures.steps w wide)
+
+pub advance_filled-returns-in-To-clause-last : goal.advance_filled-returns-in-To-clause-last
+advance_filled-returns-in-To-clause-last g t c = tt
+
+pub advance_filled-overflow_add-room : goal.advance_filled-overflow_add-room
+advance_filled-overflow_add-room g t c =
+    let q = c.args.plan.now in
+    let sound = c.sound_parts.ensures.parts _ (site_among q c.args.node c.requires.node) in
+    let cut = cut_off c.args.slot.now.name.now c.args.taken c.args.members.now.items c.advance_slots.new.members.items c.truncate.new.self.items c.pop.new.self.items c.index.result.now c.in-Some.field-0 c.requires.filled c.index.ensures c.in_ok-room.ensures.kept c.truncate.ensures.items c.in-Some.ensures.items in
+    let e = ended q c.args.node c.args.place c.args.slot.now c.requires.slot sound c.in_ok-room.field-0 c.args.taken c.in-Last.room (rows_of c.args.used.now) (rows_of c.as_slice.result.now) c.args.members.now.items c.pop.new.self.items (drop (c.args.taken + 1) c.advance_slots.new.members.items) c.index.result.now c.in-Some.field-0 c.requires.stand.0
+    cut c.requires.filled (omega (arith, c.requires.limit, c.limit.ensures, c.limit.type_inv)) c.in-Last.is (ap rows_of c.as_slice.ensures.value ∙ c.in_ok-same.ensures) c.in_ok-room.ensures.moved c.requires.stand.1 in
+    let none = subst (λ m. IsMoved (IsValue q.pools (slot_in q c.args.node c.args.place) (slots_from q c.args.node (c.args.place + 1)) (rows_of c.args.used.now) (node_count (data_of c.in-Some.field-0.tree))) (data_of c.in-Some.field-0.tree) m) c.in-Last-2.is c.in_ok-tree.ensures.ok in
+    let own = none.1 in
+    omega (arith, e.nodes_are, own, c.requires.limit, c.limit.ensures, c.limit.type_inv)
+
+pub advance_filled-overflow_add-size : goal.advance_filled-overflow_add-size
+advance_filled-overflow_add-size g t c =
+    let q = c.args.plan.now in
+    let sound = c.sound_parts.ensures.parts _ (site_among q c.args.node c.requires.node) in
+    let cut = cut_off c.args.slot.now.name.now c.args.taken c.args.members.now.items c.advance_slots.new.members.items c.truncate.new.self.items c.pop.new.self.items c.index.result.now c.in-Some.field-0 c.requires.filled c.index.ensures c.in_ok-room.ensures.kept c.truncate.ensures.items c.in-Some.ensures.items in
+    let e = ended q c.args.node c.args.place c.args.slot.now c.requires.slot sound c.in_ok-room.field-0 c.args.taken c.in-Last.room (rows_of c.args.used.now) (rows_of c.as_slice.result.now) c.args.members.now.items c.pop.new.self.items (drop (c.args.taken + 1) c.advance_slots.new.members.items) c.index.result.now c.in-Some.field-0 c.requires.stand.0
+    cut c.requires.filled (omega (arith, c.requires.limit, c.limit.ensures, c.limit.type_inv)) c.in-Last.is (ap rows_of c.as_slice.ensures.value ∙ c.in_ok-same.ensures) c.in_ok-room.ensures.moved c.requires.stand.1 in
+    let none = subst (λ m. IsMoved (IsValue q.pools (slot_in q c.args.node c.args.place) (slots_from q c.args.node (c.args.place + 1)) (rows_of c.args.used.now) (node_count (data_of c.in-Some.field-0.tree))) (data_of c.in-Some.field-0.tree) m) c.in-Last-2.is c.in_ok-tree.ensures.ok in
+    let own = none.1 in
+    omega (arith, e.nodes_are, own, c.requires.limit, c.limit.ensures, c.limit.type_inv)
+
+pub advance_filled-grow_slots-requires-clause-taken : goal.advance_filled-grow_slots-requires-clause-taken
+advance_filled-grow_slots-requires-clause-taken g t c = c.requires.taken
+
+pub advance_filled-grow_slots-requires-clause-limit : goal.advance_filled-grow_slots-requires-clause-limit
+advance_filled-grow_slots-requires-clause-limit g t c =
+    let q = c.args.plan.now in
+    let sound = c.sound_parts.ensures.parts _ (site_among q c.args.node c.requires.node) in
+    let cut = cut_off c.args.slot.now.name.now c.args.taken c.args.members.now.items c.advance_slots.new.members.items c.truncate.new.self.items c.pop.new.self.items c.index.result.now c.in-Some.field-0 c.requires.filled c.index.ensures c.in_ok-room.ensures.kept c.truncate.ensures.items c.in-Some.ensures.items in
+    let e = ended q c.args.node c.args.place c.args.slot.now c.requires.slot sound c.in_ok-room.field-0 c.args.taken c.in-Last.room (rows_of c.args.used.now) (rows_of c.as_slice.result.now) c.args.members.now.items c.pop.new.self.items (drop (c.args.taken + 1) c.advance_slots.new.members.items) c.index.result.now c.in-Some.field-0 c.requires.stand.0
+    cut c.requires.filled (omega (arith, c.requires.limit, c.limit.ensures, c.limit.type_inv)) c.in-Last.is (ap rows_of c.as_slice.ensures.value ∙ c.in_ok-same.ensures) c.in_ok-room.ensures.moved c.requires.stand.1 in
+    let none = subst (λ m. IsMoved (IsValue q.pools (slot_in q c.args.node c.args.place) (slots_from q c.args.node (c.args.place + 1)) (rows_of c.args.used.now) (node_count (data_of c.in-Some.field-0.tree))) (data_of c.in-Some.field-0.tree) m) c.in-Last-2.is c.in_ok-tree.ensures.ok in
+    let own = none.1 in
+    omega (arith, e.nodes_are, own, c.requires.limit)
+
+pub advance_filled-grow_slots-requires-clause-open : goal.advance_filled-grow_slots-requires-clause-open
+advance_filled-grow_slots-requires-clause-open g t c =
+    let q = c.args.plan.now in
+    let sound = c.sound_parts.ensures.parts _ (site_among q c.args.node c.requires.node) in
+    let cut = cut_off c.args.slot.now.name.now c.args.taken c.args.members.now.items c.advance_slots.new.members.items c.truncate.new.self.items c.pop.new.self.items c.index.result.now c.in-Some.field-0 c.requires.filled c.index.ensures c.in_ok-room.ensures.kept c.truncate.ensures.items c.in-Some.ensures.items in
+    let e = ended q c.args.node c.args.place c.args.slot.now c.requires.slot sound c.in_ok-room.field-0 c.args.taken c.in-Last.room (rows_of c.args.used.now) (rows_of c.as_slice.result.now) c.args.members.now.items c.pop.new.self.items (drop (c.args.taken + 1) c.advance_slots.new.members.items) c.index.result.now c.in-Some.field-0 c.requires.stand.0
+    cut c.requires.filled (omega (arith, c.requires.limit, c.limit.ensures, c.limit.type_inv)) c.in-Last.is (ap rows_of c.as_slice.ensures.value ∙ c.in_ok-same.ensures) c.in_ok-room.ensures.moved c.requires.stand.1 in
+    let none = subst (λ m. IsMoved (IsValue q.pools (slot_in q c.args.node c.args.place) (slots_from q c.args.node (c.args.place + 1)) (rows_of c.args.used.now) (node_count (data_of c.in-Some.field-0.tree))) (data_of c.in-Some.field-0.tree) m) c.in-Last-2.is c.in_ok-tree.ensures.ok in
+    let own = none.1 in
+    let whole : filled_nodes c.requires.stand.0 ≡ c.in-Last.room + c.in-Last-2.size = ap filled_nodes e.filled.is ∙ omega (arith, e.room_is, own) in
+    subst (λ m. IsOpen q.pools (slots_from q c.args.node c.args.place) (bounds_at q c.args.node) c.args.taken m (rows_of c.args.used.now)) whole
+    (open_here q c.args.node c.args.place sound c.requires.slot.first c.args.taken (rows_of c.args.used.now) (drop c.args.taken c.args.members.now.items) c.requires.stand.0 c.requires.known c.requires.stand.1)
+
+pub advance_filled-returns-clause-kept : goal.advance_filled-returns-clause-kept
+advance_filled-returns-clause-kept g t c =
+    let q = c.args.plan.now in
+    let cut = cut_off c.args.slot.now.name.now c.args.taken c.args.members.now.items c.advance_slots.new.members.items c.truncate.new.self.items c.pop.new.self.items c.index.result.now c.in-Some.field-0 c.requires.filled c.index.ensures c.in_ok-room.ensures.kept c.truncate.ensures.items c.in-Some.ensures.items in
+    IfOk-weaker c.grow_slots.result _ _ (λ st h. grown_kept st q.pools (slot_in q c.args.node c.args.place) (slots_from q c.args.node (c.args.place + 1)) (bounds_at q c.args.node) c.args.taken (c.in-Last.room + c.in-Last-2.size) (c.in-Last-2.size + 1) c.args.taken (rows_of c.args.used.now) c.pop.new.self.items c.grow_slots.new.members.items h cut.count ∙ cut.front_is) c.grow_slots.ensures.ok
+
+pub advance_filled-returns-clause-moved : goal.advance_filled-returns-clause-moved
+advance_filled-returns-clause-moved g t c =
+    IfOk-weaker c.grow_slots.result _ _ (λ st h gs s.
+    let q = c.args.plan.now in
+    let sound = c.sound_parts.ensures.parts _ (site_among q c.args.node c.requires.node) in
+    let cut = cut_off c.args.slot.now.name.now c.args.taken c.args.members.now.items c.advance_slots.new.members.items c.truncate.new.self.items c.pop.new.self.items c.index.result.now c.in-Some.field-0 c.requires.filled c.index.ensures c.in_ok-room.ensures.kept c.truncate.ensures.items c.in-Some.ensures.items in
+    let e = ended q c.args.node c.args.place c.args.slot.now c.requires.slot sound c.in_ok-room.field-0 c.args.taken c.in-Last.room (rows_of c.args.used.now) (rows_of c.as_slice.result.now) c.args.members.now.items c.pop.new.self.items (drop (c.args.taken + 1) c.advance_slots.new.members.items) c.index.result.now c.in-Some.field-0 gs
+    cut c.requires.filled (omega (arith, c.requires.limit, c.limit.ensures, c.limit.type_inv)) c.in-Last.is (ap rows_of c.as_slice.ensures.value ∙ c.in_ok-same.ensures) c.in_ok-room.ensures.moved s in
+    let none = subst (λ m. IsMoved (IsValue q.pools (slot_in q c.args.node c.args.place) (slots_from q c.args.node (c.args.place + 1)) (rows_of c.args.used.now) (node_count (data_of c.in-Some.field-0.tree))) (data_of c.in-Some.field-0.tree) m) c.in-Last-2.is c.in_ok-tree.ensures.ok in
+    in_grown q c.args.node c.args.place sound c.requires.slot.first c.args.taken (rows_of c.args.used.now) c.in-Some.field-0 (drop (c.args.taken + 1) c.args.members.now.items) gs e.small e.filled st c.in-Last.room c.in-Last-2.size c.pop.new.self.items c.grow_slots.new.members.items
+    cut.count e.room_is none.1 e.last none.0 h) c.grow_slots.ensures.ok
+
+pub advance_filled-returns-clause-steps : goal.advance_filled-returns-clause-steps
+advance_filled-returns-clause-steps g t c = λ w wide.
+    let q = c.args.plan.now in
+    let sound = c.sound_parts.ensures.parts _ (site_among q c.args.node c.requires.node) in
+    let cut = cut_off c.args.slot.now.name.now c.args.taken c.args.members.now.items c.advance_slots.new.members.items c.truncate.new.self.items c.pop.new.self.items c.index.result.now c.in-Some.field-0 c.requires.filled c.index.ensures c.in_ok-room.ensures.kept c.truncate.ensures.items c.in-Some.ensures.items in
+    let e = ended q c.args.node c.args.place c.args.slot.now c.requires.slot sound c.in_ok-room.field-0 c.args.taken c.in-Last.room (rows_of c.args.used.now) (rows_of c.as_slice.result.now) c.args.members.now.items c.pop.new.self.items (drop (c.args.taken + 1) c.advance_slots.new.members.items) c.index.result.now c.in-Some.field-0 c.requires.stand.0
+    cut c.requires.filled (omega (arith, c.requires.limit, c.limit.ensures, c.limit.type_inv)) c.in-Last.is (ap rows_of c.as_slice.ensures.value ∙ c.in_ok-same.ensures) c.in_ok-room.ensures.moved c.requires.stand.1 in
+    let none = subst (λ m. IsMoved (IsValue q.pools (slot_in q c.args.node c.args.place) (slots_from q c.args.node (c.args.place + 1)) (rows_of c.args.used.now) (node_count (data_of c.in-Some.field-0.tree))) (data_of c.in-Some.field-0.tree) m) c.in-Last-2.is c.in_ok-tree.ensures.ok in
+    let own = none.1 in
+    let scaled = ap (λ n. (w + 1) * n) e.nodes_are in
+    let left = ap (λ n. (w + 1) * n) e.behind_are in
+    let mine = ap (λ n. (w + 1) * n) own in
+    let behind = subst (λ st. CostsLastSlots st q c.args.node (c.args.place + 1) c.args.meter.now c.advance_slots.new.meter (members_count (members_of (drop (c.args.taken + 1) c.args.members.now.items)))) c.in-Last.is c.in_ok-room.ensures.last w wide in
+    let value = subst (λ m. CostsLast m q c.advance_slots.new.meter c.advance_value.new.meter (node_count (data_of c.in-Some.field-0.tree))) c.in-Last-2.is c.in_ok-tree.ensures.last w wide in
+    omega (arith, scaled, left, mine, behind, value, c.grow_slots.ensures.steps w wide)
+
+pub advance_filled-returns-clause-last : goal.advance_filled-returns-clause-last
+advance_filled-returns-clause-last g t c =
+    IfOk-weaker c.grow_slots.result _ _ (λ st k. last_kept st c.args.plan.now c.args.node (c.args.place + 1) c.args.meter.now c.advance_value.new.meter c.grow_slots.new.meter (members_count (members_of (drop c.args.taken c.args.members.now.items))) (λ w wide.
+    let q = c.args.plan.now in
+    let cut = cut_off c.args.slot.now.name.now c.args.taken c.args.members.now.items c.advance_slots.new.members.items c.truncate.new.self.items c.pop.new.self.items c.index.result.now c.in-Some.field-0 c.requires.filled c.index.ensures c.in_ok-room.ensures.kept c.truncate.ensures.items c.in-Some.ensures.items in
+    let scaled = ap (λ n. (w + 1) * n) cut.nodes_are in
+    let behind = subst (λ st. CostsLastSlots st q c.args.node (c.args.place + 1) c.args.meter.now c.advance_slots.new.meter (members_count (members_of (drop (c.args.taken + 1) c.args.members.now.items)))) c.in-Last.is c.in_ok-room.ensures.last w wide in
+    let value = subst (λ m. CostsLast m q c.advance_slots.new.meter c.advance_value.new.meter (node_count (data_of c.in-Some.field-0.tree))) c.in-Last-2.is c.in_ok-tree.ensures.last w wide in
+    omega (arith, scaled, behind, value)) k) c.grow_slots.ensures.last
+
+pub advance_row-unreachable-requires : goal.advance_row-unreachable-requires
+advance_row-unreachable-requires g t c =
+    let none = subst (λ r. IfNone r ((ms : MembersData) → data_of c.args.tree ≡ object_data ms → ⊥)) c.in_default.is c.into_members.ensures.none in
+    none _ c.requires.row.is
+
+pub advance_row-advance_slots-requires : goal.advance_row-advance_slots-requires
+advance_row-advance_slots-requires g t c κs within =
+    let q = c.args.plan.now in
+    let r = c.requires.row in
+    let stand = row_stands q c.args.node (node_count (data_of c.args.tree) - 1) (rows_of c.args.used.now) (data_of c.args.tree) c.in-Some.members.items r c.in-Some.ensures.some in
+    let count : node_count (data_of c.args.tree) ≡ 1 + members_count (members_of c.in-Some.members.items) = ap node_count c.in-Some.ensures.some in
+    (omega (arith, c.decreases), (within, (c.requires.node, (c.requires.sort, (omega arith, (omega arith, (c.requires.known, ((r.fillings, stand), omega (arith, count, c.requires.limit)))))))))
+
+pub advance_row-returns-in_err-advance_slots-clause-steps : goal.advance_row-returns-in_err-advance_slots-clause-steps
+advance_row-returns-in_err-advance_slots-clause-steps g t c = λ w wide.
+    let q = c.args.plan.now in
+    let few = slots_within q c.args.node c.requires.node c.requires.sort w wide in
+    let count : node_count (data_of c.args.tree) ≡ 1 + members_count (members_of c.in-Some.members.items) = ap node_count c.in-Some.ensures.some in
+    let scaled = ap (λ n. (w + 1) * n) count in
+    omega (arith, few, scaled, c.advance_slots.ensures.steps w wide)
+
+pub advance_row-invariant_of-result : goal.advance_row-invariant_of-result
+advance_row-invariant_of-result g t c =
+    let q = c.args.plan.now in
+    let sound = c.sound_parts.ensures.parts _ (site_among q c.args.node c.requires.node) in
+    let r = c.requires.row in
+    let stand = row_stands q c.args.node (node_count (data_of c.args.tree) - 1) (rows_of c.args.used.now) (data_of c.args.tree) c.in-Some.members.items r c.in-Some.ensures.some in
+    let next = subst (λ st. AreMoved st q.pools (slots_from q c.args.node 0) (bounds_at q c.args.node) 0 (rows_of c.args.used.now) r.fillings c.advance_slots.new.members.items) c.in-Moved.is (c.in_ok-advance_slots.ensures.moved r.fillings stand) in
+    subst AreMembers (sym next.are) (in_members q.pools (slots_from q c.args.node 0) next.fillings sound.order next.next.is.0.are)
+
+pub advance_row-overflow_add-result : goal.advance_row-overflow_add-result
+advance_row-overflow_add-result g t c =
+    let q = c.args.plan.now in
+    let r = c.requires.row in
+    let stand = row_stands q c.args.node (node_count (data_of c.args.tree) - 1) (rows_of c.args.used.now) (data_of c.args.tree) c.in-Some.members.items r c.in-Some.ensures.some in
+    let count : node_count (data_of c.args.tree) ≡ 1 + members_count (members_of c.in-Some.members.items) = ap node_count c.in-Some.ensures.some in
+    let none = subst (λ st. AreMoved st q.pools (slots_from q c.args.node 0) (bounds_at q c.args.node) 0 (rows_of c.args.used.now) r.fillings c.advance_slots.new.members.items) c.in-Last.is (c.in_ok-advance_slots.ensures.moved r.fillings stand) in
+    let left = none.1 in
+    let all = stand_nodes q.pools (slots_from q c.args.node 0) (bounds_at q c.args.node) 0 (rows_of c.args.used.now) c.in-Some.members.items r.fillings stand in
+    omega (arith, left, all, count, c.requires.limit, c.limit.ensures, c.limit.type_inv)
+
+pub advance_row-returns-in-Moved-clause-ok : goal.advance_row-returns-in-Moved-clause-ok
+advance_row-returns-in-Moved-clause-ok g t c =
+    let q = c.args.plan.now in
+    let sound = c.sound_parts.ensures.parts _ (site_among q c.args.node c.requires.node) in
+    let r = c.requires.row in
+    let nodes = r.rest.nodes_are in
+    let stand = row_stands q c.args.node (node_count (data_of c.args.tree) - 1) (rows_of c.args.used.now) (data_of c.args.tree) c.in-Some.members.items r c.in-Some.ensures.some in
+    let next = subst (λ st. AreMoved st q.pools (slots_from q c.args.node 0) (bounds_at q c.args.node) 0 (rows_of c.args.used.now) r.fillings c.advance_slots.new.members.items) c.in-Moved.is (c.in_ok-advance_slots.ensures.moved r.fillings stand) in
+    subst (λ ms. IsNext tree_cmp (IsRow q c.args.node (node_count (data_of c.args.tree) - 1) (rows_of c.args.used.now)) (data_of c.args.tree) (Some (object_data ms))) (sym next.are)
+    (row_next q c.args.node (rows_of c.args.used.now) (data_of c.args.tree) r.fillings (Some next.fillings) sound.order r.is stand.rest nodes next.next)
+
+pub advance_row-returns-in-Moved-clause-steps : goal.advance_row-returns-in-Moved-clause-steps
+advance_row-returns-in-Moved-clause-steps g t c = λ w wide.
+    let q = c.args.plan.now in
+    let few = slots_within q c.args.node c.requires.node c.requires.sort w wide in
+    let count : node_count (data_of c.args.tree) ≡ 1 + members_count (members_of c.in-Some.members.items) = ap node_count c.in-Some.ensures.some in
+    let scaled = ap (λ n. (w + 1) * n) count in
+    omega (arith, few, scaled, c.advance_slots.ensures.steps w wide)
+
+pub advance_row-returns-in-Moved-clause-last : goal.advance_row-returns-in-Moved-clause-last
+advance_row-returns-in-Moved-clause-last g t c = tt
+
+pub advance_row-returns-in-Last-clause-ok : goal.advance_row-returns-in-Last-clause-ok
+advance_row-returns-in-Last-clause-ok g t c =
+    let q = c.args.plan.now in
+    let sound = c.sound_parts.ensures.parts _ (site_among q c.args.node c.requires.node) in
+    let r = c.requires.row in
+    let nodes = r.rest.nodes_are in
+    let stand = row_stands q c.args.node (node_count (data_of c.args.tree) - 1) (rows_of c.args.used.now) (data_of c.args.tree) c.in-Some.members.items r c.in-Some.ensures.some in
+    let none = subst (λ st. AreMoved st q.pools (slots_from q c.args.node 0) (bounds_at q c.args.node) 0 (rows_of c.args.used.now) r.fillings c.advance_slots.new.members.items) c.in-Last.is (c.in_ok-advance_slots.ensures.moved r.fillings stand) in
+    let left = none.1 in
+    (row_next q c.args.node (rows_of c.args.used.now) (data_of c.args.tree) r.fillings None sound.order r.is stand.rest nodes none.0, omega (arith, left, nodes, some_nodes (data_of c.args.tree)))
+
+pub advance_row-returns-in-Last-clause-steps : goal.advance_row-returns-in-Last-clause-steps
+advance_row-returns-in-Last-clause-steps g t c = λ w wide.
+    let q = c.args.plan.now in
+    let few = slots_within q c.args.node c.requires.node c.requires.sort w wide in
+    let count : node_count (data_of c.args.tree) ≡ 1 + members_count (members_of c.in-Some.members.items) = ap node_count c.in-Some.ensures.some in
+    let scaled = ap (λ n. (w + 1) * n) count in
+    omega (arith, few, scaled, c.advance_slots.ensures.steps w wide)
+
+pub advance_row-returns-in-Last-clause-last : goal.advance_row-returns-in-Last-clause-last
+advance_row-returns-in-Last-clause-last g t c = λ w wide.
+    let q = c.args.plan.now in
+    let few = slots_within q c.args.node c.requires.node c.requires.sort w wide in
+    let count : node_count (data_of c.args.tree) ≡ 1 + members_count (members_of c.in-Some.members.items) = ap node_count c.in-Some.ensures.some in
+    let scaled = ap (λ n. (w + 1) * n) count in
+    let ended = subst (λ st. CostsLastSlots st q c.args.node 0 c.args.meter.now c.advance_slots.new.meter (members_count (members_of c.in-Some.members.items))) c.in-Last.is c.in_ok-advance_slots.ensures.last w wide in
+    omega (arith, few, scaled, ended)
+
+pub advance_slots-returns-in_default-clause-kept : goal.advance_slots-returns-in_default-clause-kept
+advance_slots-returns-in_default-clause-kept g t c = refl
+
+pub advance_slots-returns-in_default-clause-moved : goal.advance_slots-returns-in_default-clause-moved
+advance_slots-returns-in_default-clause-moved g t c = λ gs s.
+    let q = c.args.plan.now in
+    let none = no_slots q c.args.node c.args.place c.in_default.ensures.none in
+    let at_end = none_left q.pools (bounds_at q c.args.node) c.args.taken (filled_nodes gs) (rows_of c.args.used.now) gs (subst (λ ss. AreFillings q.pools ss gs) none s.rest.are) in
+    (subst (λ ss. IsNext fill_cmp (IsRest q.pools ss (bounds_at q c.args.node) c.args.taken (filled_nodes gs) (rows_of c.args.used.now)) gs None) (sym none) at_end.0, at_end.1)
+
+pub advance_slots-returns-in_default-clause-steps : goal.advance_slots-returns-in_default-clause-steps
+advance_slots-returns-in_default-clause-steps g t c = λ w wide. omega (arith, c.slot.ensures.step)
+
+pub advance_slots-returns-in_default-clause-last : goal.advance_slots-returns-in_default-clause-last
+advance_slots-returns-in_default-clause-last g t c = λ w wide. omega (arith, c.slot.ensures.step)
+
+pub advance_slots-advance_filled-requires : goal.advance_slots-advance_filled-requires
+advance_slots-advance_filled-requires g t c κs within =
+    let q = c.args.plan.now in
+    let s = slot_of q c.args.node c.args.place c.in-Some.slot c.in-Some.ensures.some c.in-Some.ensures.below c.in-Some.ensures.later c.in-Some.ensures.followed in
+    let fewer = one_fewer q c.args.node c.args.place s.first in
+    let begun = subst (λ ms. Begins c.in-Some.slot.name.now (members_of (drop c.args.taken ms))) c.as_slice.ensures.value (c.begins.ensures.0 c.if-begins.true) in
+    (omega (arith, c.decreases, fewer), (within, (c.requires.node, (c.requires.row, (s, (begun, (c.requires.taken, (c.requires.within, (c.requires.known, (c.requires.stand, c.requires.limit))))))))))
+
+pub advance_slots-returns-then-begins-clause-kept : goal.advance_slots-returns-then-begins-clause-kept
+advance_slots-returns-then-begins-clause-kept g t c = c.advance_filled.ensures.kept
+
+pub advance_slots-returns-then-begins-clause-moved : goal.advance_slots-returns-then-begins-clause-moved
+advance_slots-returns-then-begins-clause-moved g t c = c.advance_filled.ensures.moved
+
+pub advance_slots-returns-then-begins-clause-steps : goal.advance_slots-returns-then-begins-clause-steps
+advance_slots-returns-then-begins-clause-steps g t c = λ w wide.
+    let q = c.args.plan.now in
+    let s = slot_of q c.args.node c.args.place c.in-Some.slot c.in-Some.ensures.some c.in-Some.ensures.below c.in-Some.ensures.later c.in-Some.ensures.followed in
+    let fewer = one_fewer q c.args.node c.args.place s.first in
+    omega (arith, c.slot.ensures.step, c.advance_filled.ensures.steps w wide, fewer)
+
+pub advance_slots-returns-then-begins-clause-last : goal.advance_slots-returns-then-begins-clause-last
+advance_slots-returns-then-begins-clause-last g t c =
+    let q = c.args.plan.now in
+    let s = slot_of q c.args.node c.args.place c.in-Some.slot c.in-Some.ensures.some c.in-Some.ensures.below c.in-Some.ensures.later c.in-Some.ensures.followed in
+    let fewer = one_fewer q c.args.node c.args.place s.first in
+    IfOk-weaker c.advance_filled.result _ _ (λ st h. last_wider st q c.args.node c.args.place c.args.meter.now c.slot.new.meter c.advance_filled.new.meter (members_count (members_of (drop c.args.taken c.args.members.now.items))) (omega (arith, c.slot.ensures.step)) fewer h) c.advance_filled.ensures.last
+
+pub advance_slots-overflow_add-place : goal.advance_slots-overflow_add-place
+advance_slots-overflow_add-place g t c = omega (arith, c.in-Some.ensures.followed)
+
+pub advance_slots-advance_slots-requires : goal.advance_slots-advance_slots-requires
+advance_slots-advance_slots-requires g t c κs within =
+    let q = c.args.plan.now in
+    let sound = c.sound_parts.ensures.parts _ (site_among q c.args.node c.requires.node) in
+    let s = slot_of q c.args.node c.args.place c.in-Some.slot c.in-Some.ensures.some c.in-Some.ensures.below c.in-Some.ensures.later c.in-Some.ensures.followed in
+    let fewer = one_fewer q c.args.node c.args.place s.first in
+    let out = left_out q c.args.node c.args.place c.in-Some.slot s sound c.args.taken (rows_of c.args.used.now) c.args.members.now.items c.as_slice.result.now c.requires.stand.0 c.as_slice.ensures.value (λ h. let yes = c.begins.ensures.1 h in let no = c.if-begins.false in cc) c.requires.stand.1 in
+    (omega (arith, c.decreases, fewer), (within, (c.requires.node, (c.requires.row, (omega (arith, c.requires.taken), (c.requires.within, (known_out q c.args.node c.args.place sound s.first (rows_of c.args.used.now) out.1.1.0 c.requires.known, ((out.0, out.1.1.1), c.requires.limit))))))))
+
+pub advance_slots-returns-in_err-room-clause-steps : goal.advance_slots-returns-in_err-room-clause-steps
+advance_slots-returns-in_err-room-clause-steps g t c = λ w wide.
+    let q = c.args.plan.now in
+    let s = slot_of q c.args.node c.args.place c.in-Some.slot c.in-Some.ensures.some c.in-Some.ensures.below c.in-Some.ensures.later c.in-Some.ensures.followed in
+    let fewer = one_fewer q c.args.node c.args.place s.first in
+    omega (arith, c.slot.ensures.step, c.advance_slots.ensures.steps w wide, fewer)
+
+pub advance_slots-returns-in_default-2-clause-kept : goal.advance_slots-returns-in_default-2-clause-kept
+advance_slots-returns-in_default-2-clause-kept g t c = c.in_ok-room.ensures.kept
+
+pub advance_slots-returns-in_default-2-clause-moved : goal.advance_slots-returns-in_default-2-clause-moved
+advance_slots-returns-in_default-2-clause-moved g t c = λ gs st.
+    let q = c.args.plan.now in
+    let sound = c.sound_parts.ensures.parts _ (site_among q c.args.node c.requires.node) in
+    let s = slot_of q c.args.node c.args.place c.in-Some.slot c.in-Some.ensures.some c.in-Some.ensures.below c.in-Some.ensures.later c.in-Some.ensures.followed in
+    let out = left_out q c.args.node c.args.place c.in-Some.slot s sound c.args.taken (rows_of c.args.used.now) c.args.members.now.items c.as_slice.result.now gs c.as_slice.ensures.value (λ h. let yes = c.begins.ensures.1 h in let no = c.if-begins.false in cc) st in
+    let next = subst (λ m. AreMoved m q.pools (slots_from q c.args.node (c.args.place + 1)) (bounds_at q c.args.node) c.args.taken (rows_of c.args.used.now) out.0 (drop c.args.taken c.advance_slots.new.members.items)) c.in_default-2.is (c.in_ok-room.ensures.moved out.0 out.1.1.1) in
+    let nodes = stand_nodes q.pools (slots_from q c.args.node (c.args.place + 1)) (bounds_at q c.args.node) c.args.taken (rows_of c.args.used.now) (drop c.args.taken c.args.members.now.items) out.0 out.1.1.1 in
+    out_next q c.args.node c.args.place sound s.first c.args.taken (rows_of c.args.used.now) gs out.0 (drop c.args.taken c.advance_slots.new.members.items) out.1.0 (omega (arith, nodes, c.requires.limit, c.limit.ensures, c.limit.type_inv)) out.1.1.0 next
+
+pub advance_slots-returns-in_default-2-clause-steps : goal.advance_slots-returns-in_default-2-clause-steps
+advance_slots-returns-in_default-2-clause-steps g t c = λ w wide.
+    let q = c.args.plan.now in
+    let s = slot_of q c.args.node c.args.place c.in-Some.slot c.in-Some.ensures.some c.in-Some.ensures.below c.in-Some.ensures.later c.in-Some.ensures.followed in
+    let fewer = one_fewer q c.args.node c.args.place s.first in
+    omega (arith, c.slot.ensures.step, c.advance_slots.ensures.steps w wide, fewer)
+
+pub advance_slots-returns-in_default-2-clause-last : goal.advance_slots-returns-in_default-2-clause-last
+advance_slots-returns-in_default-2-clause-last g t c = tt
+
+pub advance_slots-grow_slots-requires-clause-slot : goal.advance_slots-grow_slots-requires-clause-slot
+advance_slots-grow_slots-requires-clause-slot g t c = slot_of c.args.plan.now c.args.node c.args.place c.in-Some.slot c.in-Some.ensures.some c.in-Some.ensures.below c.in-Some.ensures.later c.in-Some.ensures.followed
+
+pub advance_slots-grow_slots-requires-clause-taken : goal.advance_slots-grow_slots-requires-clause-taken
+advance_slots-grow_slots-requires-clause-taken g t c = c.requires.taken
+
+pub advance_slots-grow_slots-requires-clause-limit : goal.advance_slots-grow_slots-requires-clause-limit
+advance_slots-grow_slots-requires-clause-limit g t c =
+    let q = c.args.plan.now in
+    let sound = c.sound_parts.ensures.parts _ (site_among q c.args.node c.requires.node) in
+    let s = slot_of q c.args.node c.args.place c.in-Some.slot c.in-Some.ensures.some c.in-Some.ensures.below c.in-Some.ensures.later c.in-Some.ensures.followed in
+    let e = out_ended q c.args.node c.args.place c.in-Some.slot s sound c.in_ok-room.field-0 c.args.taken c.in-Last.room (rows_of c.args.used.now) c.args.members.now.items c.as_slice.result.now (drop c.args.taken c.advance_slots.new.members.items) c.requires.stand.0
+    c.as_slice.ensures.value (λ h. let yes = c.begins.ensures.1 h in let no = c.if-begins.false in cc) (omega (arith, c.requires.limit, c.limit.ensures, c.limit.type_inv)) c.in-Last.is c.in_ok-room.ensures.moved c.requires.stand.1 in
+    omega (arith, e.nodes_are, c.requires.limit)
+
+pub advance_slots-grow_slots-requires-clause-open : goal.advance_slots-grow_slots-requires-clause-open
+advance_slots-grow_slots-requires-clause-open g t c =
+    let q = c.args.plan.now in
+    let sound = c.sound_parts.ensures.parts _ (site_among q c.args.node c.requires.node) in
+    let s = slot_of q c.args.node c.args.place c.in-Some.slot c.in-Some.ensures.some c.in-Some.ensures.below c.in-Some.ensures.later c.in-Some.ensures.followed in
+    let e = out_ended q c.args.node c.args.place c.in-Some.slot s sound c.in_ok-room.field-0 c.args.taken c.in-Last.room (rows_of c.args.used.now) c.args.members.now.items c.as_slice.result.now (drop c.args.taken c.advance_slots.new.members.items) c.requires.stand.0
+    c.as_slice.ensures.value (λ h. let yes = c.begins.ensures.1 h in let no = c.if-begins.false in cc) (omega (arith, c.requires.limit, c.limit.ensures, c.limit.type_inv)) c.in-Last.is c.in_ok-room.ensures.moved c.requires.stand.1 in
+    subst (λ m. IsOpen q.pools (slots_from q c.args.node c.args.place) (bounds_at q c.args.node) c.args.taken m (rows_of c.args.used.now)) (ap filled_nodes e.is ∙ e.room_is)
+    (open_here q c.args.node c.args.place sound s.first c.args.taken (rows_of c.args.used.now) (drop c.args.taken c.args.members.now.items) c.requires.stand.0 c.requires.known c.requires.stand.1)
+
+pub advance_slots-returns-clause-kept : goal.advance_slots-returns-clause-kept
+advance_slots-returns-clause-kept g t c =
+    let q = c.args.plan.now in
+    let front = c.truncate.ensures.items ∙ c.in_ok-room.ensures.kept in
+    let count : length c.truncate.new.self.items ≡ c.args.taken = ap (λ (ms : List Member). length ms) front ∙ length-take-le c.args.taken c.args.members.now.items c.requires.within in
+    IfOk-weaker c.grow_slots.result _ _ (λ st h. grown_kept st q.pools (slot_in q c.args.node c.args.place) (slots_from q c.args.node (c.args.place + 1)) (bounds_at q c.args.node) c.args.taken c.in-Last.room 0 c.args.taken (rows_of c.args.used.now) c.truncate.new.self.items c.grow_slots.new.members.items h count ∙ front) c.grow_slots.ensures.ok
+
+pub advance_slots-returns-clause-moved : goal.advance_slots-returns-clause-moved
+advance_slots-returns-clause-moved g t c =
+    IfOk-weaker c.grow_slots.result _ _ (λ m h gs st.
+    let q = c.args.plan.now in
+    let sound = c.sound_parts.ensures.parts _ (site_among q c.args.node c.requires.node) in
+    let s = slot_of q c.args.node c.args.place c.in-Some.slot c.in-Some.ensures.some c.in-Some.ensures.below c.in-Some.ensures.later c.in-Some.ensures.followed in
+    let e = out_ended q c.args.node c.args.place c.in-Some.slot s sound c.in_ok-room.field-0 c.args.taken c.in-Last.room (rows_of c.args.used.now) c.args.members.now.items c.as_slice.result.now (drop c.args.taken c.advance_slots.new.members.items) gs
+    c.as_slice.ensures.value (λ h. let yes = c.begins.ensures.1 h in let no = c.if-begins.false in cc) (omega (arith, c.requires.limit, c.limit.ensures, c.limit.type_inv)) c.in-Last.is c.in_ok-room.ensures.moved st in
+    let front = c.truncate.ensures.items ∙ c.in_ok-room.ensures.kept in
+    let count : length c.truncate.new.self.items ≡ c.args.taken = ap (λ (ms : List Member). length ms) front ∙ length-take-le c.args.taken c.args.members.now.items c.requires.within in
+    out_grown q c.args.node c.args.place sound s.first m c.args.taken (rows_of c.args.used.now) gs e.rest c.in-Last.room c.truncate.new.self.items c.grow_slots.new.members.items e.is e.small e.free count e.room_is e.last h) c.grow_slots.ensures.ok
+
+pub advance_slots-returns-clause-steps : goal.advance_slots-returns-clause-steps
+advance_slots-returns-clause-steps g t c = λ w wide.
+    let q = c.args.plan.now in
+    let sound = c.sound_parts.ensures.parts _ (site_among q c.args.node c.requires.node) in
+    let s = slot_of q c.args.node c.args.place c.in-Some.slot c.in-Some.ensures.some c.in-Some.ensures.below c.in-Some.ensures.later c.in-Some.ensures.followed in
+    let fewer = one_fewer q c.args.node c.args.place s.first in
+    let e = out_ended q c.args.node c.args.place c.in-Some.slot s sound c.in_ok-room.field-0 c.args.taken c.in-Last.room (rows_of c.args.used.now) c.args.members.now.items c.as_slice.result.now (drop c.args.taken c.advance_slots.new.members.items) c.requires.stand.0
+    c.as_slice.ensures.value (λ h. let yes = c.begins.ensures.1 h in let no = c.if-begins.false in cc) (omega (arith, c.requires.limit, c.limit.ensures, c.limit.type_inv)) c.in-Last.is c.in_ok-room.ensures.moved c.requires.stand.1 in
+    let scaled = ap (λ n. (w + 1) * n) e.nodes_are in
+    let behind = subst (λ m. CostsLastSlots m q c.args.node (c.args.place + 1) c.slot.new.meter c.advance_slots.new.meter (members_count (members_of (drop c.args.taken c.args.members.now.items)))) c.in-Last.is c.in_ok-room.ensures.last w wide in
+    omega (arith, c.slot.ensures.step, fewer, scaled, behind, c.grow_slots.ensures.steps w wide)
+
+pub advance_slots-returns-clause-last : goal.advance_slots-returns-clause-last
+advance_slots-returns-clause-last g t c =
+    let q = c.args.plan.now in
+    let s = slot_of q c.args.node c.args.place c.in-Some.slot c.in-Some.ensures.some c.in-Some.ensures.below c.in-Some.ensures.later c.in-Some.ensures.followed in
+    let fewer = one_fewer q c.args.node c.args.place s.first in
+    IfOk-weaker c.grow_slots.result _ _ (λ m k. last_kept m q c.args.node c.args.place c.args.meter.now c.advance_slots.new.meter c.grow_slots.new.meter (members_count (members_of (drop c.args.taken c.args.members.now.items))) (λ w wide.
+    let behind = subst (λ m. CostsLastSlots m q c.args.node (c.args.place + 1) c.slot.new.meter c.advance_slots.new.meter (members_count (members_of (drop c.args.taken c.args.members.now.items)))) c.in-Last.is c.in_ok-room.ensures.last w wide in
+    omega (arith, c.slot.ensures.step, fewer, behind)) k) c.grow_slots.ensures.last
+
+pub advance_value-next_key-requires-clause-node : goal.advance_value-next_key-requires-clause-node
+advance_value-next_key-requires-clause-node g t c = omega (arith, c.requires.slot.below, c.requires.node)
+
+pub advance_value-next_key-requires-clause-leaf : goal.advance_value-next_key-requires-clause-leaf
+advance_value-next_key-requires-clause-leaf g t c =
+    let q = c.args.plan.now in
+    let sound = c.sound_parts.ensures.parts _ (site_among q c.args.node c.requires.node) in
+    ap (λ x. sort_of (Site.node x)) c.requires.slot.node ∙ key_leaf q c.args.node c.args.place sound c.requires.slot.first (sym c.requires.slot.key ∙ c.if-slot.true)
+
+pub advance_value-next_key-requires-clause-limit : goal.advance_value-next_key-requires-clause-limit
+advance_value-next_key-requires-clause-limit g t c = omega (arith, c.requires.limit, c.limit.ensures, c.limit.type_inv)
+
+pub advance_value-returns-then-slot-clause-ok : goal.advance_value-returns-then-slot-clause-ok
+advance_value-returns-then-slot-clause-ok g t c =
+    let q = c.args.plan.now in
+    let sound = c.sound_parts.ensures.parts _ (site_among q c.args.node c.requires.node) in
+    let n = node_count (data_of c.args.tree) in
+    IfOk-weaker c.next_key.result _ _ (λ m h. key_moved q c.args.node c.args.place sound c.requires.slot.first c.sound_parts.ensures.free c.args.slot.now.node (rows_of c.args.used.now) n c.args.slot.now.later (data_of c.args.tree) m c.requires.slot.node
+    (sym c.requires.slot.key ∙ c.if-slot.true) c.requires.known c.requires.slot.later (subst (λ k. IsMoved (IsFreeKey q c.args.slot.now.node n k (rows_of c.args.used.now) c.args.slot.now.later) (data_of c.args.tree) m) c.requires.slot.name h)) c.next_key.ensures.ok
+
+pub advance_value-returns-then-slot-clause-steps : goal.advance_value-returns-then-slot-clause-steps
+advance_value-returns-then-slot-clause-steps g t c = λ w wide. omega (arith, twice_cost w (node_count (data_of c.args.tree)) (some_nodes (data_of c.args.tree)), c.next_key.ensures.steps w wide)
+
+pub advance_value-returns-then-slot-clause-last : goal.advance_value-returns-then-slot-clause-last
+advance_value-returns-then-slot-clause-last g t c =
+    IfOk-weaker c.next_key.result _ _ (λ m h. costs_last m c.args.plan.now c.args.meter.now c.next_key.new.meter (node_count (data_of c.args.tree))
+    (λ w wide. omega (arith, one_cost w (node_count (data_of c.args.tree)) (some_nodes (data_of c.args.tree)), c.next_key.ensures.steps w wide))) c.next_key.ensures.ok
+
+pub advance_value-advance-requires : goal.advance_value-advance-requires
+advance_value-advance-requires g t c κs within =
+    let q = c.args.plan.now in (
+      omega (arith, c.decreases, lighter q c.args.slot.now.node c.args.node c.requires.slot.below),
+      (
+        within,
+        (
+          omega (arith, c.requires.slot.below, c.requires.node),
+          (at_number q c.args.slot.now.node (slot_in q c.args.node c.args.place).node (data_of c.args.tree) c.requires.slot.node c.requires.value.part, c.requires.limit),
+        ),
+      ),
+    )
+
+pub advance_value-returns-clause-ok : goal.advance_value-returns-clause-ok
+advance_value-returns-clause-ok g t c =
+    let q = c.args.plan.now in
+    let sound = c.sound_parts.ensures.parts _ (site_among q c.args.node c.requires.node) in
+    let n = node_count (data_of c.args.tree) in
+    IfOk-weaker c.advance.result _ _ (λ m h. part_moved q c.args.node c.args.place sound c.requires.slot.first c.args.slot.now.node (rows_of c.args.used.now) n (data_of c.args.tree) m c.requires.slot.node (sym c.requires.slot.key ∙ c.if-slot.false) c.requires.value h) c.advance.ensures.ok
+
+pub advance_value-returns-clause-steps : goal.advance_value-returns-clause-steps
+advance_value-returns-clause-steps g t c = c.advance.ensures.steps
+
+pub advance_value-returns-clause-last : goal.advance_value-returns-clause-last
+advance_value-returns-clause-last g t c = c.advance.ensures.last
+
+pub advance_item-advance_row-requires : goal.advance_item-advance_row-requires
+advance_item-advance_row-requires g t c κs within =
+    let q = c.args.plan.now in
+    let i = c.args.node in
+    let k = c.args.child in
+    let n = node_count (data_of c.args.item) in
+    let here = site_among q i c.requires.node in
+    let node : k < length (sites_of q.root) = omega (arith, c.requires.child, c.requires.node) in
+    let there = site_among q k node in
+    let items = (c.sound_parts.ensures.parts _ here).map (site q k) c.requires.first.item (sym c.distinct.ensures ∙ c.in-Keys.is) in
+    let rule = c.no_dead_end.ensures.parts _ there in
+    let sound = c.sound_parts.ensures.parts _ there in
+    let same = ap rows_of c.as_slice.ensures.value ∙ c.in_ok-used-in-Keys.ensures in
+    let known = subst (AreUsed q.pools (slots_from q k 0)) (sym same) (items_used q i k rule sound items c.args.items.now (omega (arith, few_items (items_of c.args.items.now), counted c.args.items.now, c.requires.within, c.limit.ensures, c.limit.type_inv)) c.requires.first.are c.requires.first.apart) in
+    let row = subst (λ us. IsRow q k (n - 1) us (data_of c.args.item)) (sym same) (fresh_row q i k rule sound items c.args.items.now n (data_of c.args.item) c.requires.first.are c.requires.item) in
+    (omega (arith, c.decreases, row_lighter q k i c.requires.child), (within, (node, (items.row, (known, (row, omega (arith, c.requires.within)))))))
+
+pub advance_item-advance-requires : goal.advance_item-advance-requires
+advance_item-advance-requires g t c κs within =
+    let q = c.args.plan.now in
+    let i = c.args.node in
+    let k = c.args.child in
+    (omega (arith, c.decreases, lighter q k i c.requires.child), (within, (omega (arith, c.requires.child, c.requires.node), (c.requires.item.part.part, omega (arith, c.requires.within)))))
+
+pub advance_item-next_unused-requires-clause-node : goal.advance_item-next_unused-requires-clause-node
+advance_item-next_unused-requires-clause-node g t c = omega (arith, c.requires.child, c.requires.node)
+
+pub advance_item-next_unused-requires-clause-leaf : goal.advance_item-next_unused-requires-clause-leaf
+advance_item-next_unused-requires-clause-leaf g t c =
+    let q = c.args.plan.now in
+    let i = c.args.node in
+    let k = c.args.child in
+    let whole : distinct_of (site q i).node ≡ distinct.Whole = sym c.distinct.ensures ∙ c.in-Whole.is in
+    ((c.sound_parts.ensures.parts _ (site_among q i c.requires.node)).set (site q k) c.requires.first.item whole).leaf
+
+pub advance_item-next_unused-requires-clause-limit : goal.advance_item-next_unused-requires-clause-limit
+advance_item-next_unused-requires-clause-limit g t c = omega (arith, c.requires.within, c.limit.ensures, c.limit.type_inv)
+
+pub advance_item-returns-in-Free-clause-ok : goal.advance_item-returns-in-Free-clause-ok
+advance_item-returns-in-Free-clause-ok g t c =
+    let q = c.args.plan.now in
+    let i = c.args.node in
+    let k = c.args.child in
+    let n = node_count (data_of c.args.item) in
+    let free : distinct_of (site q i).node ≡ distinct.Free = sym c.distinct.ensures ∙ c.in-Free.is in
+    IfOk-weaker c.advance.result _ _ (λ m h. moved_same (IsPartOf q k n) (IsFreshItem q i k n (items_of c.args.items.now)) (data_of c.args.item) m (λ u p. part_fresh q i k n (items_of c.args.items.now) u free p) (λ u f. f.part) h) c.advance.ensures.ok
+
+pub advance_item-returns-in-Free-clause-steps : goal.advance_item-returns-in-Free-clause-steps
+advance_item-returns-in-Free-clause-steps g t c = c.advance.ensures.steps
+
+pub advance_item-returns-in-Free-clause-last : goal.advance_item-returns-in-Free-clause-last
+advance_item-returns-in-Free-clause-last g t c = c.advance.ensures.last
+
+pub advance_item-returns-in-Whole-clause-ok : goal.advance_item-returns-in-Whole-clause-ok
+advance_item-returns-in-Whole-clause-ok g t c =
+    let q = c.args.plan.now in
+    let i = c.args.node in
+    let k = c.args.child in
+    let n = node_count (data_of c.args.item) in
+    let whole : distinct_of (site q i).node ≡ distinct.Whole = sym c.distinct.ensures ∙ c.in-Whole.is in
+    IfOk-weaker c.next_unused.result _ _ (λ m h. moved_same (IsUnusedPart q k n (trees_of c.args.items.now)) (IsFreshItem q i k n (items_of c.args.items.now)) (data_of c.args.item) m
+    (λ u p. (unused_fresh q i k n c.args.items.now u whole).0 p) (λ u f. (unused_fresh q i k n c.args.items.now u whole).1 f) h) c.next_unused.ensures.ok
+
+pub advance_item-returns-in-Whole-clause-steps : goal.advance_item-returns-in-Whole-clause-steps
+advance_item-returns-in-Whole-clause-steps g t c = λ w wide.
+    let some = some_nodes (data_of c.args.item) in
+    let more : (w + 1) * 1 ≤ (w + 1) * (2 * node_count (data_of c.args.item)) = mul-le-mul_left (w + 1) (omega (arith, some)) in
+    omega (arith, more, c.next_unused.ensures.steps w wide)
+
+pub advance_item-returns-in-Whole-clause-last : goal.advance_item-returns-in-Whole-clause-last
+advance_item-returns-in-Whole-clause-last g t c =
+    let q = c.args.plan.now in
+    let n = node_count (data_of c.args.item) in
+    IfOk-weaker c.next_unused.result _ _ (λ m h. costs_last m q c.args.meter.now c.next_unused.new.meter n (λ w wide.
+    let some = some_nodes (data_of c.args.item) in
+    let more : (w + 1) * 1 ≤ (w + 1) * n = mul-le-mul_left (w + 1) some in
+    omega (arith, more, c.next_unused.ensures.steps w wide))) c.next_unused.ensures.ok
+
+pub advance_item-returns-in_ok-used-in-Keys-clause-ok : goal.advance_item-returns-in_ok-used-in-Keys-clause-ok
+advance_item-returns-in_ok-used-in-Keys-clause-ok g t c =
+    let q = c.args.plan.now in
+    let i = c.args.node in
+    let k = c.args.child in
+    let n = node_count (data_of c.args.item) in
+    let here = site_among q i c.requires.node in
+    let node : k < length (sites_of q.root) = omega (arith, c.requires.child, c.requires.node) in
+    let there = site_among q k node in
+    let items = (c.sound_parts.ensures.parts _ here).map (site q k) c.requires.first.item (sym c.distinct.ensures ∙ c.in-Keys.is) in
+    let rule = c.no_dead_end.ensures.parts _ there in
+    let sound = c.sound_parts.ensures.parts _ there in
+    let same = ap rows_of c.as_slice.ensures.value ∙ c.in_ok-used-in-Keys.ensures in
+    let some = some_nodes (data_of c.args.item) in
+    IfOk-weaker c.advance_row.result _ _ (λ m h. moved_same (IsRow q k (n - 1) (trees_of c.args.items.now)) (IsFreshItem q i k n (items_of c.args.items.now)) (data_of c.args.item) m
+    (λ u r. row_fresh q i k rule sound items c.args.items.now n u some c.requires.first.are r) (λ u f. fresh_row q i k rule sound items c.args.items.now n u c.requires.first.are f)
+    (subst (λ us. IsMoved (IsRow q k (n - 1) us) (data_of c.args.item) m) same h)) c.advance_row.ensures.ok
+
+pub advance_item-returns-in_ok-used-in-Keys-clause-steps : goal.advance_item-returns-in_ok-used-in-Keys-clause-steps
+advance_item-returns-in_ok-used-in-Keys-clause-steps g t c = c.advance_row.ensures.steps
+
+pub advance_item-returns-in_ok-used-in-Keys-clause-last : goal.advance_item-returns-in_ok-used-in-Keys-clause-last
+advance_item-returns-in_ok-used-in-Keys-clause-last g t c = c.advance_row.ensures.last
+
+pub advance_items-loop-item-init : goal.advance_items-loop-item-init
+advance_items-loop-item-init g t c = record { last = all_left c.args.plan.now c.args.node (items_of c.args.items.now.items); steps = λ w wide. omega arith }
+
+pub advance_items-advance_item-requires : goal.advance_items-advance_item-requires
+advance_items-advance_item-requires g t c κs within-it =
+    let q = c.args.plan.now in
+    let i = c.args.node in
+    let k = c.args.child in
+    let there = site_among q i c.requires.node in
+    let old = items_of c.args.items.now.items in
+    let front = c.pop.new.self.items in
+    let one = c.in-Some.item in
+    let within : 1 + items_count old ≤ q.limit = omega (arith, c.requires.limit) in
+    let top : q.limit ≤ most_nodes = omega (arith, c.limit.ensures, c.limit.type_inv) in
+    let nodes = front_nodes q i c.loop-item.room old c.loop-item.items.items front one c.in-Some.ensures.items c.loop-item.invariant.last in (
+      omega (arith, c.decreases),
+      (
+        within-it,
+        (
+          c.requires.node,
+          (
+            c.requires.child,
+            (
+              subst (λ l. AreFirst q i k (items_of l)) (sym c.as_slice.ensures.value) (front_first q i k (c.no_dead_end.ensures.parts _ there) (c.no_dead_end.ensures.completed _ there) c.requires.item old c.requires.part within top c.loop-item.room c.loop-item.items.items front one c.in-Some.ensures.items c.loop-item.invariant.last),
+              (
+                subst (λ l. IsFreshItem q i k (node_count (data_of one)) (items_of l) (data_of one)) (sym c.as_slice.ensures.value) (front_fresh q i k (c.no_dead_end.ensures.parts _ there) (c.no_dead_end.ensures.completed _ there) c.requires.item old c.requires.part within top c.loop-item.room c.loop-item.items.items front one c.in-Some.ensures.items c.loop-item.invariant.last),
+                omega (arith, nodes, within, ap (λ l. items_count (items_of l)) c.as_slice.ensures.value),
+              ),
+            ),
+          ),
+        ),
+      ),
+    )
+
+pub advance_items-returns-in_err-next-clause-steps : goal.advance_items-returns-in_err-next-clause-steps
+advance_items-returns-in_err-next-clause-steps g t c =
+    let q = c.args.plan.now in
+    let i = c.args.node in
+    let old = items_of c.args.items.now.items in
+    let front = c.pop.new.self.items in
+    let one = c.in-Some.item in
+    let nodes = front_nodes q i c.loop-item.room old c.loop-item.items.items front one c.in-Some.ensures.items c.loop-item.invariant.last in
+    λ w wide.
+    let room = cost_room (w + 1) (node_count (data_of one)) c.loop-item.room (items_count old) (omega (arith, nodes)) in
+    let twice = double (w + 1) (node_count (data_of one)) in
+    let before = c.loop-item.invariant.steps w wide in
+    let found = c.advance_item.ensures.steps w wide in
+    omega (arith, room, twice, before, found)
+
+pub advance_items-returns-in_err-push-in-To-clause-steps : goal.advance_items-returns-in_err-push-in-To-clause-steps
+advance_items-returns-in_err-push-in-To-clause-steps g t c =
+    let q = c.args.plan.now in
+    let i = c.args.node in
+    let old = items_of c.args.items.now.items in
+    let front = c.pop.new.self.items in
+    let one = c.in-Some.item in
+    let nodes = front_nodes q i c.loop-item.room old c.loop-item.items.items front one c.in-Some.ensures.items c.loop-item.invariant.last in
+    λ w wide.
+    let room = cost_room (w + 1) (node_count (data_of one)) c.loop-item.room (items_count old) (omega (arith, nodes)) in
+    let twice = double (w + 1) (node_count (data_of one)) in
+    let before = c.loop-item.invariant.steps w wide in
+    let found = c.advance_item.ensures.steps w wide in
+    omega (arith, room, twice, before, found)
+
+pub advance_items-first_items-requires-clause-follow : goal.advance_items-first_items-requires-clause-follow
+advance_items-first_items-requires-clause-follow g t c =
+    let q = c.args.plan.now in
+    let i = c.args.node in
+    let k = c.args.child in
+    let there = site_among q i c.requires.node in
+    let old = items_of c.args.items.now.items in
+    let front = c.pop.new.self.items in
+    let one = c.in-Some.item in
+    let within : 1 + items_count old ≤ q.limit = omega (arith, c.requires.limit) in
+    let top : q.limit ≤ most_nodes = omega (arith, c.limit.ensures, c.limit.type_inv) in
+    front_follow q i k (c.no_dead_end.ensures.parts _ there) (c.no_dead_end.ensures.completed _ there) c.requires.item old c.requires.part within top c.loop-item.room c.loop-item.items.items front one c.in-Some.ensures.items c.loop-item.invariant.last c.in-To.next c.push.new.self.items (item_moved q i k one c.as_slice.result.now front _ (moved.To c.in-To.next) c.as_slice.ensures.value c.in-To.is c.in_ok-next.ensures.ok) c.in_ok-push-in-To.ensures.items
+
+pub advance_items-returns-in_err-first_items-in-To-clause-steps : goal.advance_items-returns-in_err-first_items-in-To-clause-steps
+advance_items-returns-in_err-first_items-in-To-clause-steps g t c =
+    let q = c.args.plan.now in
+    let i = c.args.node in
+    let old = items_of c.args.items.now.items in
+    let front = c.pop.new.self.items in
+    let one = c.in-Some.item in
+    let nodes = front_nodes q i c.loop-item.room old c.loop-item.items.items front one c.in-Some.ensures.items c.loop-item.invariant.last in
+    λ w wide.
+    let room = cost_room (w + 1) (node_count (data_of one)) c.loop-item.room (items_count old) (omega (arith, nodes)) in
+    let twice = double (w + 1) (node_count (data_of one)) in
+    let before = c.loop-item.invariant.steps w wide in
+    let found = c.advance_item.ensures.steps w wide in
+    omega (arith, room, twice, before, found, c.first_items.ensures.steps w wide)
+
+pub advance_items-returns-in-To-clause-moved : goal.advance_items-returns-in-To-clause-moved
+advance_items-returns-in-To-clause-moved g t c =
+    let q = c.args.plan.now in
+    let i = c.args.node in
+    let k = c.args.child in
+    let there = site_among q i c.requires.node in
+    let old = items_of c.args.items.now.items in
+    let front = c.pop.new.self.items in
+    let one = c.in-Some.item in
+    let within : 1 + items_count old ≤ q.limit = omega (arith, c.requires.limit) in
+    let top : q.limit ≤ most_nodes = omega (arith, c.limit.ensures, c.limit.type_inv) in
+    front_next q i k (c.no_dead_end.ensures.parts _ there) (c.no_dead_end.ensures.completed _ there) c.requires.item old c.requires.part within top c.loop-item.room c.loop-item.items.items front one c.in-Some.ensures.items c.loop-item.invariant.last c.in-To.next c.first_items.new.items.items (item_moved q i k one c.as_slice.result.now front _ (moved.To c.in-To.next) c.as_slice.ensures.value c.in-To.is c.in_ok-next.ensures.ok)
+    (subst (λ l. AddsItems q i c.loop-item.room l c.first_items.new.items.items) c.in_ok-push-in-To.ensures.items c.in_ok-first_items-in-To.ensures.ok)
+
+pub advance_items-returns-in-To-clause-steps : goal.advance_items-returns-in-To-clause-steps
+advance_items-returns-in-To-clause-steps g t c =
+    let q = c.args.plan.now in
+    let i = c.args.node in
+    let old = items_of c.args.items.now.items in
+    let front = c.pop.new.self.items in
+    let one = c.in-Some.item in
+    let nodes = front_nodes q i c.loop-item.room old c.loop-item.items.items front one c.in-Some.ensures.items c.loop-item.invariant.last in
+    λ w wide.
+    let room = cost_room (w + 1) (node_count (data_of one)) c.loop-item.room (items_count old) (omega (arith, nodes)) in
+    let twice = double (w + 1) (node_count (data_of one)) in
+    let before = c.loop-item.invariant.steps w wide in
+    let found = c.advance_item.ensures.steps w wide in
+    omega (arith, room, twice, before, found, c.first_items.ensures.steps w wide)
+
+pub advance_items-overflow_add-room : goal.advance_items-overflow_add-room
+advance_items-overflow_add-room g t c =
+    let q = c.args.plan.now in
+    let i = c.args.node in
+    let k = c.args.child in
+    let old = items_of c.args.items.now.items in
+    let front = c.pop.new.self.items in
+    let one = c.in-Some.item in
+    let within : 1 + items_count old ≤ q.limit = omega (arith, c.requires.limit) in
+    let nodes = front_nodes q i c.loop-item.room old c.loop-item.items.items front one c.in-Some.ensures.items c.loop-item.invariant.last in
+    let last = item_moved q i k one c.as_slice.result.now front _ (moved.Last c.in-Last.size) c.as_slice.ensures.value c.in-Last.is c.in_ok-next.ensures.ok in
+    omega (arith, nodes, last.1, within, c.limit.ensures, c.limit.type_inv)
+
+pub advance_items-overflow_add-size : goal.advance_items-overflow_add-size
+advance_items-overflow_add-size g t c =
+    let q = c.args.plan.now in
+    let i = c.args.node in
+    let k = c.args.child in
+    let old = items_of c.args.items.now.items in
+    let front = c.pop.new.self.items in
+    let one = c.in-Some.item in
+    let within : 1 + items_count old ≤ q.limit = omega (arith, c.requires.limit) in
+    let nodes = front_nodes q i c.loop-item.room old c.loop-item.items.items front one c.in-Some.ensures.items c.loop-item.invariant.last in
+    let last = item_moved q i k one c.as_slice.result.now front _ (moved.Last c.in-Last.size) c.as_slice.ensures.value c.in-Last.is c.in_ok-next.ensures.ok in
+    omega (arith, nodes, last.1, within, c.limit.ensures, c.limit.type_inv)
+
+pub advance_items-grow_items-requires-clause-first : goal.advance_items-grow_items-requires-clause-first
+advance_items-grow_items-requires-clause-first g t c =
+    let q = c.args.plan.now in
+    let i = c.args.node in
+    let k = c.args.child in
+    let there = site_among q i c.requires.node in
+    let old = items_of c.args.items.now.items in
+    let front = c.pop.new.self.items in
+    let one = c.in-Some.item in
+    let within : 1 + items_count old ≤ q.limit = omega (arith, c.requires.limit) in
+    let top : q.limit ≤ most_nodes = omega (arith, c.limit.ensures, c.limit.type_inv) in
+    front_first q i k (c.no_dead_end.ensures.parts _ there) (c.no_dead_end.ensures.completed _ there) c.requires.item old c.requires.part within top c.loop-item.room c.loop-item.items.items front one c.in-Some.ensures.items c.loop-item.invariant.last
+
+pub advance_items-grow_items-requires-clause-within : goal.advance_items-grow_items-requires-clause-within
+advance_items-grow_items-requires-clause-within g t c =
+    let q = c.args.plan.now in
+    let i = c.args.node in
+    let k = c.args.child in
+    let old = items_of c.args.items.now.items in
+    let front = c.pop.new.self.items in
+    let one = c.in-Some.item in
+    let within : 1 + items_count old ≤ q.limit = omega (arith, c.requires.limit) in
+    let nodes = front_nodes q i c.loop-item.room old c.loop-item.items.items front one c.in-Some.ensures.items c.loop-item.invariant.last in
+    let last = item_moved q i k one c.as_slice.result.now front _ (moved.Last c.in-Last.size) c.as_slice.ensures.value c.in-Last.is c.in_ok-next.ensures.ok in
+    omega (arith, nodes, last.1, within)
+
+pub advance_items-returns-in_err-grow_items-in-Last-clause-steps : goal.advance_items-returns-in_err-grow_items-in-Last-clause-steps
+advance_items-returns-in_err-grow_items-in-Last-clause-steps g t c =
+    let q = c.args.plan.now in
+    let i = c.args.node in
+    let k = c.args.child in
+    let old = items_of c.args.items.now.items in
+    let front = c.pop.new.self.items in
+    let one = c.in-Some.item in
+    let nodes = front_nodes q i c.loop-item.room old c.loop-item.items.items front one c.in-Some.ensures.items c.loop-item.invariant.last in
+    let last = item_moved q i k one c.as_slice.result.now front _ (moved.Last c.in-Last.size) c.as_slice.ensures.value c.in-Last.is c.in_ok-next.ensures.ok in
+    let cost = subst (λ m. CostsLast m q c.loop-item.meter c.advance_item.new.meter (node_count (data_of one))) c.in-Last.is c.in_ok-next.ensures.last in
+    λ w wide.
+    let room = cost_room (w + 1) (node_count (data_of one)) c.loop-item.room (items_count old) (omega (arith, nodes)) in
+    let sum : (w + 1) * (c.loop-item.room + c.in-Last.size) ≡ (w + 1) * c.loop-item.room + (w + 1) * node_count (data_of one) = mul-add (w + 1) c.loop-item.room c.in-Last.size ∙ ap (λ x. (w + 1) * c.loop-item.room + (w + 1) * x) (sym last.1) in
+    let before = c.loop-item.invariant.steps w wide in
+    let found = cost w wide in
+    omega (arith, room, sum, before, found, c.grow_items.ensures.steps w wide)
+
+pub advance_items-returns-in-Moved-clause-moved : goal.advance_items-returns-in-Moved-clause-moved
+advance_items-returns-in-Moved-clause-moved g t c =
+    let q = c.args.plan.now in
+    let i = c.args.node in
+    let k = c.args.child in
+    let there = site_among q i c.requires.node in
+    let old = items_of c.args.items.now.items in
+    let front = c.pop.new.self.items in
+    let one = c.in-Some.item in
+    let within : 1 + items_count old ≤ q.limit = omega (arith, c.requires.limit) in
+    let top : q.limit ≤ most_nodes = omega (arith, c.limit.ensures, c.limit.type_inv) in
+    let last = item_moved q i k one c.as_slice.result.now front _ (moved.Last c.in-Last.size) c.as_slice.ensures.value c.in-Last.is c.in_ok-next.ensures.ok in
+    subst (λ s. IsWalked s q i (c.loop-item.room + c.in-Last.size) old front c.grow_items.new.items.items) c.in-Moved.is (front_walked q i k (c.no_dead_end.ensures.parts _ there) (c.no_dead_end.ensures.completed _ there) c.requires.item old c.requires.part within top c.loop-item.room c.loop-item.items.items front one c.in-Some.ensures.items c.loop-item.invariant.last last.0 c.in_ok-grow_items-in-Last.field-0 c.in-Last.size c.grow_items.new.items.items last.1 c.in_ok-grow_items-in-Last.ensures.ok)
+
+pub advance_items-returns-in-Moved-clause-steps : goal.advance_items-returns-in-Moved-clause-steps
+advance_items-returns-in-Moved-clause-steps g t c =
+    let q = c.args.plan.now in
+    let i = c.args.node in
+    let k = c.args.child in
+    let old = items_of c.args.items.now.items in
+    let front = c.pop.new.self.items in
+    let one = c.in-Some.item in
+    let nodes = front_nodes q i c.loop-item.room old c.loop-item.items.items front one c.in-Some.ensures.items c.loop-item.invariant.last in
+    let last = item_moved q i k one c.as_slice.result.now front _ (moved.Last c.in-Last.size) c.as_slice.ensures.value c.in-Last.is c.in_ok-next.ensures.ok in
+    let cost = subst (λ m. CostsLast m q c.loop-item.meter c.advance_item.new.meter (node_count (data_of one))) c.in-Last.is c.in_ok-next.ensures.last in
+    λ w wide.
+    let room = cost_room (w + 1) (node_count (data_of one)) c.loop-item.room (items_count old) (omega (arith, nodes)) in
+    let sum : (w + 1) * (c.loop-item.room + c.in-Last.size) ≡ (w + 1) * c.loop-item.room + (w + 1) * node_count (data_of one) = mul-add (w + 1) c.loop-item.room c.in-Last.size ∙ ap (λ x. (w + 1) * c.loop-item.room + (w + 1) * x) (sym last.1) in
+    let before = c.loop-item.invariant.steps w wide in
+    let found = cost w wide in
+    omega (arith, room, sum, before, found, c.grow_items.ensures.steps w wide)
+
+pub advance_items-loop-item-preserved : goal.advance_items-loop-item-preserved
+advance_items-loop-item-preserved g t c =
+    let q = c.args.plan.now in
+    let i = c.args.node in
+    let k = c.args.child in
+    let there = site_among q i c.requires.node in
+    let old = items_of c.args.items.now.items in
+    let front = c.pop.new.self.items in
+    let one = c.in-Some.item in
+    let within : 1 + items_count old ≤ q.limit = omega (arith, c.requires.limit) in
+    let top : q.limit ≤ most_nodes = omega (arith, c.limit.ensures, c.limit.type_inv) in
+    let last = item_moved q i k one c.as_slice.result.now front _ (moved.Last c.in-Last.size) c.as_slice.ensures.value c.in-Last.is c.in_ok-next.ensures.ok in
+    let cost = subst (λ m. CostsLast m q c.loop-item.meter c.advance_item.new.meter (node_count (data_of one))) c.in-Last.is c.in_ok-next.ensures.last in
+    let walked = front_walked q i k (c.no_dead_end.ensures.parts _ there) (c.no_dead_end.ensures.completed _ there) c.requires.item old c.requires.part within top c.loop-item.room c.loop-item.items.items front one c.in-Some.ensures.items c.loop-item.invariant.last last.0 c.in_ok-grow_items-in-Last.field-0 c.in-Last.size c.grow_items.new.items.items last.1 c.in_ok-grow_items-in-Last.ensures.ok in
+    let kept = kept_last c.in_ok-grow_items-in-Last.field-0 c.advance_item.new.meter c.grow_items.new.meter c.in_default-2.not-Moved c.in_ok-grow_items-in-Last.ensures.last in
+    record {
+      last = walked_last c.in_ok-grow_items-in-Last.field-0 q i (c.loop-item.room + c.in-Last.size) old front c.grow_items.new.items.items c.in_default-2.not-Moved walked;
+      steps = λ w wide.
+          let sum : (w + 1) * (c.loop-item.room + c.in-Last.size) ≡ (w + 1) * c.loop-item.room + (w + 1) * node_count (data_of one) = mul-add (w + 1) c.loop-item.room c.in-Last.size ∙ ap (λ x. (w + 1) * c.loop-item.room + (w + 1) * x) (sym last.1) in
+          omega (arith, sum, c.loop-item.invariant.steps w wide, cost w wide, kept);
+    }
+
+pub advance_items-returns-clause-moved : goal.advance_items-returns-clause-moved
+advance_items-returns-clause-moved g t c =
+    let none : c.loop-item.items.items ≡ [] = no_more c.loop-item.items.items (omega (arith, (rw c.in_default.is at c.pop.ensures.cases).0, c.loop-item.items.ok.0)) in
+    let all = walk_ended c.args.plan.now c.args.node c.loop-item.room (items_of c.args.items.now.items) (subst (λ l. WereLast c.args.plan.now c.args.node c.loop-item.room (items_of c.args.items.now.items) (items_of l)) none c.loop-item.invariant.last) in
+    all
+
+pub advance_items-returns-clause-steps : goal.advance_items-returns-clause-steps
+advance_items-returns-clause-steps g t c =
+    let none : c.loop-item.items.items ≡ [] = no_more c.loop-item.items.items (omega (arith, (rw c.in_default.is at c.pop.ensures.cases).0, c.loop-item.items.ok.0)) in
+    let all = walk_ended c.args.plan.now c.args.node c.loop-item.room (items_of c.args.items.now.items) (subst (λ l. WereLast c.args.plan.now c.args.node c.loop-item.room (items_of c.args.items.now.items) (items_of l)) none c.loop-item.invariant.last) in
+    λ w wide.
+    let room = cost_room (w + 1) (items_count (items_of c.args.items.now.items)) 0 (items_count (items_of c.args.items.now.items)) (omega arith) in
+    let same : (w + 1) * items_count (items_of c.args.items.now.items) ≡ (w + 1) * c.loop-item.room = ap (λ x. (w + 1) * x) all.1 in
+    omega (arith, room, same, c.loop-item.invariant.steps w wide)
+
+pub advance_items-returns-clause-last : goal.advance_items-returns-clause-last
+advance_items-returns-clause-last g t c =
+    let none : c.loop-item.items.items ≡ [] = no_more c.loop-item.items.items (omega (arith, (rw c.in_default.is at c.pop.ensures.cases).0, c.loop-item.items.ok.0)) in
+    let all = walk_ended c.args.plan.now c.args.node c.loop-item.room (items_of c.args.items.now.items) (subst (λ l. WereLast c.args.plan.now c.args.node c.loop-item.room (items_of c.args.items.now.items) (items_of l)) none c.loop-item.invariant.last) in
+    subst (Costs c.args.plan.now c.args.meter.now c.loop-item.meter) (sym all.1) c.loop-item.invariant.steps
+
+pub advance_list-unreachable-requires : goal.advance_list-unreachable-requires
+advance_list-unreachable-requires g t c =
+    let q = c.args.plan.now in
+    let i = c.args.node in
+    let rule = c.no_dead_end.ensures.parts _ (site_among q i c.requires.node) in
+    let M = list_site (site q i).node c.requires.sort in
+    let l = part_list q i M.0 rule M.1 (data_of c.args.tree) c.requires.part c.requires.limit (λ null accepted. c.requires.no_null null) in
+    let none = subst (λ r. IfNone r ((ds : Items) → data_of c.args.tree ≢ list_data ds)) c.in_default.is c.into_items.ensures.none in
+    none l.0 l.1
+
+pub advance_list-returns-then-is_empty-clause-ok : goal.advance_list-returns-then-is_empty-clause-ok
+advance_list-returns-then-is_empty-clause-ok g t c =
+    let q = c.args.plan.now in
+    let i = c.args.node in
+    let rule = c.no_dead_end.ensures.parts _ (site_among q i c.requires.node) in
+    let M = list_site (site q i).node c.requires.sort in
+    let old = items_of c.in-Some.items.items in
+    let is : data_of c.args.tree ≡ list_data old = c.in-Some.ensures.some in
+    let count : node_count (data_of c.args.tree) ≡ 1 + items_count old = ap node_count is in
+    let within : 1 + items_count old ≤ q.limit = omega (arith, count, c.requires.limit) in
+    let none : c.in-Some.items.items ≡ [] = no_more c.in-Some.items.items (omega (arith, empty_len (vec_len c.in-Some.items) (sym c.is_empty.ensures ∙ c.if-is_empty.true), c.in-Some.items.ok.0)) in
+    let no_nodes : items_count old ≡ 0 = ap (λ l. items_count (items_of l)) none in
+    let last = list_stays q i M.0 rule M.1 old within (λ ds a less. (walk_ended q i 0 old (subst (λ l. WereLast q i 0 old (items_of l)) none (all_left q i old))).0 ds a less) in
+    (subst (λ d. IsNext tree_cmp (IsPartOf q i (node_count d)) d None) (sym is) last, omega (arith, count, no_nodes))
+
+pub advance_list-returns-then-is_empty-clause-steps : goal.advance_list-returns-then-is_empty-clause-steps
+advance_list-returns-then-is_empty-clause-steps g t c = λ w wide. omega arith
+
+pub advance_list-returns-then-is_empty-clause-last : goal.advance_list-returns-then-is_empty-clause-last
+advance_list-returns-then-is_empty-clause-last g t c = λ w wide. omega arith
+
+pub advance_list-unreachable-requires-in_default-item : goal.advance_list-unreachable-requires-in_default-item
+advance_list-unreachable-requires-in_default-item g t c =
+    let q = c.args.plan.now in
+    let i = c.args.node in
+    let old = items_of c.in-Some.items.items in
+    let is : data_of c.args.tree ≡ list_data old = c.in-Some.ensures.some in
+    let count : node_count (data_of c.args.tree) ≡ 1 + items_count old = ap node_count is in
+    let within : 1 + items_count old ≤ q.limit = omega (arith, count, c.requires.limit) in
+    let part = subst (IsPart q.pools (site q i).node) is c.requires.part in
+    let some : 1 ≤ items_count old = some_there c.in-Some.items.items (λ e. some_len (vec_len c.in-Some.items) (sym c.is_empty.ensures ∙ c.if-is_empty.false) (omega (arith, e, c.in-Some.items.ok.0))) in
+    let m = has_item q i old some part within in
+    let none = subst (λ r. IfNone r ((m : ℕ) → HasMore q.pools q.limit (site q i).node 1 m → ⊥)) c.in_default-item.is c.item.ensures.none in
+    none m.0 m.1
+
+pub advance_list-advance_items-requires : goal.advance_list-advance_items-requires
+advance_list-advance_items-requires g t c κs within =
+    let q = c.args.plan.now in
+    let i = c.args.node in
+    let old = items_of c.in-Some.items.items in
+    let is : data_of c.args.tree ≡ list_data old = c.in-Some.ensures.some in
+    let count : node_count (data_of c.args.tree) ≡ 1 + items_count old = ap node_count is in
+    let part = subst (IsPart q.pools (site q i).node) is c.requires.part in
+    (omega (arith, c.decreases), (within, (c.requires.node, (c.in-Some-item.ensures.below, (c.in-Some-item.ensures.some, (part, omega (arith, count, c.requires.limit)))))))
+
+pub advance_list-returns-in_err-advance_items-clause-steps : goal.advance_list-returns-in_err-advance_items-clause-steps
+advance_list-returns-in_err-advance_items-clause-steps g t c =
+    let old = items_of c.in-Some.items.items in
+    let is : data_of c.args.tree ≡ list_data old = c.in-Some.ensures.some in
+    let count : node_count (data_of c.args.tree) ≡ 1 + items_count old = ap node_count is in
+    λ w wide.
+    let room = cost_room (w + 1) 1 (items_count old) (1 + items_count old) (omega arith) in
+    let twice = double (w + 1) (items_count old) in
+    let whole : (w + 1) * (2 * node_count (data_of c.args.tree)) ≡ (w + 1) * (2 * (1 + items_count old)) = ap (λ x. (w + 1) * (2 * x)) count in
+    omega (arith, room, twice, whole, c.item.ensures.step, c.advance_items.ensures.steps w wide)
+
+pub advance_list-overflow_add-result : goal.advance_list-overflow_add-result
+advance_list-overflow_add-result g t c =
+    let q = c.args.plan.now in
+    let i = c.args.node in
+    let old = items_of c.in-Some.items.items in
+    let is : data_of c.args.tree ≡ list_data old = c.in-Some.ensures.some in
+    let count : node_count (data_of c.args.tree) ≡ 1 + items_count old = ap node_count is in
+    let last = subst (λ s. AreItemsMoved s q i old (items_of c.advance_items.new.items.items)) c.in-Last.is c.in_ok-advance_items.ensures.moved in
+    omega (arith, last.1, count, c.requires.limit, c.limit.ensures, c.limit.type_inv)
+
+pub advance_list-returns-in-Moved-clause-ok : goal.advance_list-returns-in-Moved-clause-ok
+advance_list-returns-in-Moved-clause-ok g t c =
+    let q = c.args.plan.now in
+    let i = c.args.node in
+    let rule = c.no_dead_end.ensures.parts _ (site_among q i c.requires.node) in
+    let M = list_site (site q i).node c.requires.sort in
+    let old = items_of c.in-Some.items.items in
+    let is : data_of c.args.tree ≡ list_data old = c.in-Some.ensures.some in
+    let count : node_count (data_of c.args.tree) ≡ 1 + items_count old = ap node_count is in
+    let within : 1 + items_count old ≤ q.limit = omega (arith, count, c.requires.limit) in
+    let new = items_of c.advance_items.new.items.items in
+    subst (λ d. IsNext tree_cmp (IsPartOf q i (node_count d)) d (Some (list_data new))) (sym is) (list_moved q i M.0 rule M.1 old within new (subst (λ s. AreItemsMoved s q i old new) c.in-Moved.is c.in_ok-advance_items.ensures.moved))
+
+pub advance_list-returns-in-Moved-clause-steps : goal.advance_list-returns-in-Moved-clause-steps
+advance_list-returns-in-Moved-clause-steps g t c =
+    let old = items_of c.in-Some.items.items in
+    let is : data_of c.args.tree ≡ list_data old = c.in-Some.ensures.some in
+    let count : node_count (data_of c.args.tree) ≡ 1 + items_count old = ap node_count is in
+    λ w wide.
+    let room = cost_room (w + 1) 1 (items_count old) (1 + items_count old) (omega arith) in
+    let twice = double (w + 1) (items_count old) in
+    let whole : (w + 1) * (2 * node_count (data_of c.args.tree)) ≡ (w + 1) * (2 * (1 + items_count old)) = ap (λ x. (w + 1) * (2 * x)) count in
+    omega (arith, room, twice, whole, c.item.ensures.step, c.advance_items.ensures.steps w wide)
+
+pub advance_list-returns-in-Last-clause-ok : goal.advance_list-returns-in-Last-clause-ok
+advance_list-returns-in-Last-clause-ok g t c =
+    let q = c.args.plan.now in
+    let i = c.args.node in
+    let rule = c.no_dead_end.ensures.parts _ (site_among q i c.requires.node) in
+    let M = list_site (site q i).node c.requires.sort in
+    let old = items_of c.in-Some.items.items in
+    let is : data_of c.args.tree ≡ list_data old = c.in-Some.ensures.some in
+    let count : node_count (data_of c.args.tree) ≡ 1 + items_count old = ap node_count is in
+    let within : 1 + items_count old ≤ q.limit = omega (arith, count, c.requires.limit) in
+    let last = subst (λ s. AreItemsMoved s q i old (items_of c.advance_items.new.items.items)) c.in-Last.is c.in_ok-advance_items.ensures.moved in
+    (subst (λ d. IsNext tree_cmp (IsPartOf q i (node_count d)) d None) (sym is) (list_stays q i M.0 rule M.1 old within last.0), omega (arith, count, last.1))
+
+pub advance_list-returns-in-Last-clause-steps : goal.advance_list-returns-in-Last-clause-steps
+advance_list-returns-in-Last-clause-steps g t c =
+    let old = items_of c.in-Some.items.items in
+    let is : data_of c.args.tree ≡ list_data old = c.in-Some.ensures.some in
+    let count : node_count (data_of c.args.tree) ≡ 1 + items_count old = ap node_count is in
+    λ w wide.
+    let room = cost_room (w + 1) 1 (items_count old) (1 + items_count old) (omega arith) in
+    let twice = double (w + 1) (items_count old) in
+    let whole : (w + 1) * (2 * node_count (data_of c.args.tree)) ≡ (w + 1) * (2 * (1 + items_count old)) = ap (λ x. (w + 1) * (2 * x)) count in
+    omega (arith, room, twice, whole, c.item.ensures.step, c.advance_items.ensures.steps w wide)
+
+pub advance_list-returns-in-Last-clause-last : goal.advance_list-returns-in-Last-clause-last
+advance_list-returns-in-Last-clause-last g t c =
+    let q = c.args.plan.now in
+    let old = items_of c.in-Some.items.items in
+    let is : data_of c.args.tree ≡ list_data old = c.in-Some.ensures.some in
+    let count : node_count (data_of c.args.tree) ≡ 1 + items_count old = ap node_count is in
+    λ w wide.
+    let whole : (w + 1) * node_count (data_of c.args.tree) ≡ (w + 1) * 1 + (w + 1) * items_count old = ap (λ x. (w + 1) * x) count ∙ mul-add (w + 1) 1 (items_count old) in
+    omega (arith, whole, c.item.ensures.step, (subst (λ s. CostsLastStep s q c.item.new.meter c.advance_items.new.meter (items_count old)) c.in-Last.is c.in_ok-advance_items.ensures.last) w wide)

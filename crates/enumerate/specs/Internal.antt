@@ -1,0 +1,9 @@
+-- What private contracts cite alone.
+pub mod Nodes
+pub mod Candidates
+pub mod Rows
+pub mod Lists
+pub mod Steps
+pub mod Moves
+pub mod Membership
+pub mod Roots

@@ -1,0 +1,50 @@
+-- What a move from one tree to the next answers.
+use Rattle.std.specs.Prelude.{◌≡◌, ℕ, List, Some, None, Option}
+use Rattle.jtree.specs.Data.{Data, Items, no_items, Members, no_members, member}
+use Rattle.jtree.specs.Nodes.{node_count, items_count}
+use Rattle.jtree.specs.Order.{tree_cmp, items_cmp}
+use Rattle.jtree.specs.View.{data_of, members_of}
+use Rattle.jtree.specs.declared.value.Member.{Member}
+use Rattle.schema.specs.declared.node.Bounds.{Bounds}
+use Rattle.plan.specs.Pools.Pools.{Pools}
+use Rattle.plan.specs.Samples.Sites.{Slot}
+use Rattle.plan.specs.Samples.Sizes.{filled_nodes}
+use Rattle.plan.specs.Samples.RuleOfParts.{members_in}
+use Rattle.plan.specs.Samples.Question.{Question}
+use Rattle.enumerate.specs.Least.{IsNext}
+use Rattle.enumerate.specs.Internal.Rows.{fill_cmp, IsRest}
+use Rattle.enumerate.specs.Internal.Lists.{AreItems}
+use Rattle.enumerate.specs.declared.moved.Moved.{Moved}
+use Rattle.enumerate.specs.declared.moved.Moved.TheVariants.{To, Last}
+use Rattle.enumerate.specs.declared.moved.Step.{Step}
+use Rattle.enumerate.specs.declared.moved.Step.TheVariants as step
+
+-- to the next tree for which C holds; or there is none, and the old one has so many nodes
+abbrev pub IsMoved : (Data → Type 0) → Data → Moved → Type 0
+IsMoved C old (To new) = IsNext tree_cmp C old (Some (data_of new))
+IsMoved C old (Last n) = IsNext tree_cmp C old None × (node_count old ≡ n)
+
+-- the first member has the name
+abbrev pub Begins : List ℕ → Members → Type 0
+Begins k no_members = ⊥
+Begins k (member l d ms) = l ≡ k
+
+-- the members that stand in the slots are these fillings
+pub record StandIn (P : Pools) (ss : List Slot) (b : Bounds) (t : ℕ) (used : List Data) (members : List Member) (gs : List (Option Data)) : Type 0 where
+  pub are : members_of members ≡ members_in ss gs
+  pub rest : IsRest P ss b t (filled_nodes gs) used gs
+
+pub record AreNext (P : Pools) (ss : List Slot) (b : Bounds) (t : ℕ) (used : List Data) (old : List (Option Data)) (members : List Member) : Type 0 where
+  pub fillings : List (Option Data)
+  pub are : members_of members ≡ members_in ss fillings
+  pub next : IsNext fill_cmp (IsRest P ss b t (filled_nodes old) used) old (Some fillings)
+
+-- the members from the t-th on are the next ones for the slots, behind those before them; or there are none
+abbrev pub AreMoved : Step → Pools → List Slot → Bounds → ℕ → List Data → List (Option Data) → List Member → Type 0
+AreMoved step.Moved P ss b t used old members = AreNext P ss b t used old members
+AreMoved (step.Last n) P ss b t used old members = IsNext fill_cmp (IsRest P ss b t (filled_nodes old) used) old None × (filled_nodes old ≡ n)
+
+-- the items are the next ones, behind the same beginning or another; or there are none
+abbrev pub AreItemsMoved : Step → Question → ℕ → Items → Items → Type 0
+AreItemsMoved step.Moved q i old new = IsNext items_cmp (AreItems q i (items_count old) no_items) old (Some new)
+AreItemsMoved (step.Last n) q i old new = IsNext items_cmp (AreItems q i (items_count old) no_items) old None × (items_count old ≡ n)

@@ -1,0 +1,37 @@
+-- The parts of the nodes of a plan, by the nodes' numbers, and what it costs to find them.
+use Rattle.std.specs.Prelude.{◌≡◌, ℕ, zero, suc, ◌+◌, ◌*◌, ◌≤◌, ◌<◌, length}
+use Rattle.jtree.specs.Data.{Data}
+use Rattle.jtree.specs.Nodes.{node_count}
+use Rattle.plan.specs.Samples.Part.{IsPart}
+use Rattle.plan.specs.Samples.Sites.{Site, site_at, sites_of, slots}
+use Rattle.plan.specs.Samples.Sizes.{HasSize}
+use Rattle.plan.specs.Samples.Candidates.{IsWidth}
+use Rattle.plan.specs.Samples.Question.{Question}
+
+-- the site of a node of the plan of this question
+abbrev pub site : Question → ℕ → Site
+site q i = site_at (sites_of q.root) i
+
+abbrev pub IsNodeOf : Question → ℕ → Type 0
+IsNodeOf q i = i < length (sites_of q.root)
+
+-- a part of so many nodes
+pub record IsPartOf (q : Question) (i n : ℕ) (v : Data) : Type 0 where
+  pub part : IsPart q.pools (site q i).node v
+  pub nodes_are : node_count v ≡ n
+
+abbrev pub HasSizeAt : Question → ℕ → ℕ → Type 0
+HasSizeAt q i n = HasSize q.pools (site q i).node n
+
+-- for each of n nodes, at most as many steps as the plan is wide, and one
+abbrev pub Costs : Question → ℕ → ℕ → ℕ → Type 0
+Costs q old new n = (w : ℕ) → IsWidth q.pools q.root w → new ≤ old + (w + 1) * n
+
+-- how much there is to go through at the nodes before a number: a measure of recursions
+abbrev pub weight : Question → ℕ → ℕ
+weight q zero = 0
+weight q (suc i) = weight q i + (4 * length (slots q.pools (site q i)) + (4 * q.limit + 8))
+
+-- a number of which the other set has what is left of m
+abbrev pub IsSplit : (ℕ → Type 0) → (ℕ → Type 0) → ℕ → ℕ → Type 0
+IsSplit A B m n = A n × ((j : ℕ) × (B j × (n + j ≡ m)))

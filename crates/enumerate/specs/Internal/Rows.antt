@@ -1,0 +1,147 @@
+-- What stands in the slots of a row from a place on, where some rows are used already: none of them may have the same under all keys.
+use Rattle.std.specs.Prelude.{◌≡◌, ◌≢◌, ℕ, ◌+◌, ◌-◌, ◌*◌, ◌≤◌, ◌<◌, ◌++◌, List, [], ◌∷◌, Bool, true, false, Option, Some, None, map, filter, drop, length, get_or, All, AllPairs, Contains}
+use Rattle.std.specs.Cmp.Lexicographic.{slice_cmp}
+use Rattle.std.specs.declared.cmp.Ordering.{Ordering}
+use Rattle.std.specs.declared.cmp.Ordering.TheVariants.{Less, Equal, Greater}
+use Rattle.jtree.specs.Data.{Data}
+use Rattle.jtree.specs.Data as tree
+use Rattle.jtree.specs.Nodes.{node_count}
+use Rattle.jtree.specs.Order.{tree_cmp}
+use Rattle.jtree.specs.View.{data_of, members_of}
+use Rattle.jtree.specs.declared.value.Member.{Member}
+use Rattle.schema.specs.Nodes.Node.{node, open_}
+use Rattle.schema.specs.declared.node.Bounds.{Bounds}
+use Rattle.stored.specs.Objects.StoredByParts.{IsWithin}
+use Rattle.plan.specs.Pools.Pools.{Pools}
+use Rattle.plan.specs.Sets.{IsLeastFrom, IsEmptyFrom}
+use Rattle.plan.specs.Samples.Part.{IsPart}
+use Rattle.plan.specs.Samples.Sites.{Slot, slots, plain}
+use Rattle.plan.specs.Samples.Sizes.{AreFillings, filled_nodes, filled_count, bounds_of, CanFill, HasSize}
+use Rattle.plan.specs.Samples.RuleOfParts.{members_in}
+use Rattle.plan.specs.Samples.NoDeadEnd.{is_key, IsTuple, HasFree}
+use Rattle.plan.specs.Samples.Keys.{key_under, HasTuples}
+use Rattle.plan.specs.Samples.Candidates.{IsWidth}
+use Rattle.plan.specs.Samples.Question.{Question}
+use Rattle.plan.specs.declared.plan.Slot as handed
+use Rattle.enumerate.specs.Least.{IsLeast}
+use Rattle.enumerate.specs.Internal.Nodes.{site, IsSplit}
+use Rattle.enumerate.specs.Internal.Candidates.{agreeing_if}
+use Rattle.enumerate.specs.declared.moved.Step.{Step}
+use Rattle.enumerate.specs.declared.moved.Step.TheVariants.{Moved, Last}
+
+-- the slots from a place on
+abbrev pub slots_from : Question → ℕ → ℕ → List Slot
+slots_from q i place = drop place (slots q.pools (site q i))
+
+abbrev pub slot_in : Question → ℕ → ℕ → Slot
+slot_in q i place = get_or (slots q.pools (site q i)) place (record { name = []; node = node false None open_; must = false; key = false })
+
+abbrev pub bounds_at : Question → ℕ → Bounds
+bounds_at q i = bounds_of (site q i).node
+
+-- a slot that was handed out is the one at this place
+pub record IsSlotOf (q : Question) (i place : ℕ) (t : handed.Slot) : Type 0 where
+  pub first : slots_from q i place ≡ slot_in q i place ∷ slots_from q i (place + 1)
+  pub name : t.name.now ≡ (slot_in q i place).name
+  pub node : site q t.node ≡ plain (slot_in q i place).node
+  pub must : t.must ≡ (slot_in q i place).must
+  pub key : t.key ≡ (slot_in q i place).key
+  pub below : t.node < i
+  pub later : HasTuples q.pools (slots_from q i (place + 1)) t.later
+  pub followed : place < 18446744073709551615
+
+-- what is left out comes before what stands there
+abbrev pub option_cmp : Option Data → Option Data → Ordering
+option_cmp None None = Equal
+option_cmp None (Some v) = Less
+option_cmp (Some u) None = Greater
+option_cmp (Some u) (Some v) = tree_cmp u v
+
+abbrev pub fill_cmp : List (Option Data) → List (Option Data) → Ordering
+fill_cmp = slice_cmp option_cmp
+
+abbrev pub value_before : Bool → Data → List Data → List Data
+value_before true v vs = v ∷ vs
+value_before false v vs = vs
+
+-- the values under the keys
+abbrev pub key_values : List Slot → List (Option Data) → List Data
+key_values (s ∷ ss) (Some v ∷ gs) = value_before s.key v (key_values ss gs)
+key_values (s ∷ ss) (None ∷ gs) = key_values ss gs
+key_values _ _ = []
+
+-- the keys of the used rows
+abbrev pub used_keys : List Slot → List Data → List (List Data)
+used_keys ss used = map (key_under ss) used
+
+-- no used row has this key
+abbrev pub IsUnused : List Slot → List Data → List Data → Type 0
+IsUnused ss used key = Contains (used_keys ss used) key → ⊥
+
+-- the slots filled with m nodes, where t slots are filled before them
+pub record IsRest (P : Pools) (ss : List Slot) (b : Bounds) (t m : ℕ) (used : List Data) (gs : List (Option Data)) : Type 0 where
+  pub are : AreFillings P ss gs
+  pub within : IsWithin b (t + filled_count gs)
+  pub nodes_are : filled_nodes gs ≡ m
+  pub fresh : IsUnused ss used (key_values ss gs)
+
+-- used rows have all keys, and no two have the same
+pub record AreUsed (P : Pools) (ss : List Slot) (used : List Data) : Type 0 where
+  pub few : length used < 4294967296
+  pub tuples : All (IsTuple P (filter is_key ss)) (used_keys ss used)
+  pub apart : AllPairs (λ t u. t ≢ u) (used_keys ss used)
+
+-- the slots can be filled so
+pub record IsOpen (P : Pools) (ss : List Slot) (b : Bounds) (t m : ℕ) (used : List Data) : Type 0 where
+  pub known : AreUsed P ss used
+  pub rest : CanFill P ss b t m
+  pub free : HasFree P (filter is_key ss) (used_keys ss used) []
+
+-- the first members of m nodes for the slots stand behind those that were there
+pub record AddsFirst (P : Pools) (ss : List Slot) (b : Bounds) (t m : ℕ) (used : List Data) (old new : List Member) : Type 0 where
+  pub added : List Member
+  pub is : new ≡ old ++ added
+  pub fillings : List (Option Data)
+  pub are : members_of added ≡ members_in ss fillings
+  pub least : IsLeast fill_cmp (IsRest P ss b t m used) fillings
+
+-- ---- a slot, and those behind it
+
+-- the used rows that agree so far with a value in a slot
+abbrev pub still_used : Slot → Data → List Data → List Data
+still_used s v used = agreeing_if s.key s.name v used
+
+-- a part of n nodes for the slot that leaves those behind it some key
+pub record IsValue (P : Pools) (s : Slot) (ss : List Slot) (used : List Data) (n : ℕ) (v : Data) : Type 0 where
+  pub part : IsPart P s.node v
+  pub nodes_are : node_count v ≡ n
+  pub free : HasFree P (filter is_key ss) (used_keys ss (still_used s v used)) []
+
+-- a size for the slot that leaves those behind it the rest of m nodes
+abbrev pub FitsSlot : Pools → Slot → List Slot → Bounds → ℕ → ℕ → ℕ → Type 0
+FitsSlot P s ss b t m n = IsSplit (HasSize P s.node) (CanFill P ss b (t + 1)) m n
+
+-- behind the members that were there stands the first value of the least size from `from` on, and then the first members behind it
+pub record Grows (P : Pools) (s : Slot) (ss : List Slot) (b : Bounds) (t m from : ℕ) (used : List Data) (old new : List Member) : Type 0 where
+  pub size : ℕ
+  pub one : Member
+  pub name : one.name ≡ s.name
+  pub least : IsLeastFrom (FitsSlot P s ss b t m) from size
+  pub first : IsLeast tree_cmp (IsValue P s ss used size) (data_of one.tree)
+  pub rest : AddsFirst P ss b (t + 1) (m - size) (still_used s (data_of one.tree) used) (old ++ one ∷ []) new
+
+abbrev pub IsGrown : Step → Pools → Slot → List Slot → Bounds → ℕ → ℕ → ℕ → List Data → List Member → List Member → Type 0
+IsGrown Moved P s ss b t m from used old new = Grows P s ss b t m from used old new
+IsGrown (Last n) P s ss b t m from used old new = (new ≡ old) × IsEmptyFrom (FitsSlot P s ss b t m) from × (n ≡ m)
+
+-- ---- whole rows
+
+-- an object that is a part of n nodes besides its own, and no used row
+pub record IsRow (q : Question) (i n : ℕ) (used : List Data) (v : Data) : Type 0 where
+  pub fillings : List (Option Data)
+  pub is : v ≡ tree.object (members_in (slots_from q i 0) fillings)
+  pub rest : IsRest q.pools (slots_from q i 0) (bounds_at q i) 0 n used fillings
+
+-- for each slot one step, and one for their end, besides those of m nodes
+abbrev pub CostsSlots : Question → ℕ → ℕ → ℕ → ℕ → ℕ → Type 0
+CostsSlots q i place old new m = (w : ℕ) → IsWidth q.pools q.root w → new ≤ old + (length (slots_from q i place) + 1) + (w + 1) * m

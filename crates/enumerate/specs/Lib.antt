@@ -1,0 +1,6 @@
+-- What the contracts of this crate say, in words of its subject.
+pub mod Least
+pub mod Page
+pub mod View
+pub mod Live
+pub mod Internal

@@ -1,0 +1,41 @@
+-- An enumeration that stands at a sample, and what its calls answer (this project's own).
+use Rattle.std.specs.Prelude.{◌≡◌, ℕ, ◌+◌, ◌≤◌, refl, Option, Some, None, Bool, is_some}
+use Rattle.std.specs.Coded.{Coded, code_by, coded×, coded_option}
+use Rattle.jtree.specs.Data.{Data}
+use Rattle.jtree.specs.Internal.Code.{data_coded}
+use Rattle.jtree.specs.Order.{tree_cmp}
+use Rattle.plan.specs.Samples.Candidates.{IsWidth}
+use Rattle.plan.specs.Samples.Question.{Question, question_coded}
+use Rattle.plan.specs.Samples.Steps.{delay}
+use Rattle.enumerate.specs.Least.{IsLeast}
+use Rattle.enumerate.specs.Page.{IsPastSample}
+
+-- the question of the plan, and the sample at which the enumeration stands; None once it has ended
+pub record Enumeration : Type 0 where
+  pub question : Question
+  pub at : Option Data
+
+abbrev pub enumeration_coded : Coded Enumeration
+enumeration_coded = code_by (Question × Option Data) (coded× question_coded (coded_option data_coded)) (λ e. (e.question, e.at)) (λ p. record { question = p.0; at = p.1 }) (λ _. refl)
+
+-- the least sample past a place; or there is none
+abbrev pub IsNextSample : Question → Option Data → Option Data → Type 0
+IsNextSample q after (Some v) = IsLeast tree_cmp (IsPastSample q after) v
+IsNextSample q after None = (v : Data) → IsPastSample q after v → ⊥
+
+-- an enumeration that stands at the least sample past a place; none exactly where there is no such sample
+abbrev pub IsStarted : Question → Option Data → Option Enumeration → Type 0
+IsStarted q after (Some live) = (live.question ≡ q) × ((v : Data) × ((live.at ≡ Some v) × IsNextSample q after (Some v)))
+IsStarted q after None = IsNextSample q after None
+
+-- From the sample at which it stood an enumeration moved to the next one, and has more; or there is no next one, and it stands
+-- nowhere.
+pub record IsAdvanced (old new : Enumeration) (more : Bool) : Type 0 where
+  pub last : Data
+  pub stood : old.at ≡ Some last
+  pub next : IsNextSample old.question (Some last) new.at
+  pub more_is : more ≡ is_some new.at
+
+-- at most as many steps as it takes to a sample, in a plan of this width
+abbrev pub IsWithinDelay : Question → ℕ → ℕ → Type 0
+IsWithinDelay q before after = (width : ℕ) → IsWidth q.pools q.root width → after ≤ before + delay q.limit width

@@ -1,0 +1,364 @@
+//! The first part of a node of so many nodes.
+ghost use Rattle.std.specs.Prelude.{◌≡◌, ◌≢◌, ◌+◌, ◌-◌, ◌*◌, ◌≤◌, ◌<◌, ◌++◌, ◌∷◌, [], ℕ, List, true, false, length, filter, IfOk, OnOk, IfSome, IfNone, None, Some, Contains};
+ghost use Rattle.jtree.specs.Data.{Data};
+ghost use Rattle.jtree.specs.Nodes.{node_count, items_count};
+ghost use Rattle.jtree.specs.Order.{tree_cmp};
+ghost use Rattle.jtree.specs.View.{data_of, items_of};
+ghost use Rattle.plan.specs.Samples.Candidates.{sort_of};
+ghost use Rattle.plan.specs.Samples.NoDeadEnd.{is_key, HasFree};
+ghost use Rattle.plan.specs.Samples.Sizes.{HasMore};
+ghost use Rattle.stored.specs.Objects.Becomes.{is_nullable};
+ghost use Rattle.plan.specs.declared.sort.Sort.TheVariants as sort;
+ghost use Rattle.enumerate.specs.Least.{IsLeast};
+ghost use Rattle.enumerate.specs.Internal.Nodes.{site, IsNodeOf, IsPartOf, HasSizeAt, Costs};
+ghost use Rattle.enumerate.specs.Internal.Candidates.{rows_of};
+ghost use Rattle.enumerate.specs.Internal.Steps.{KeepsMeter};
+ghost use Rattle.enumerate.specs.Internal.Rows.{slots_from, slot_in, bounds_at, used_keys, IsSlotOf, AreUsed, IsOpen, AddsFirst, IsRow, still_used, IsValue, IsGrown, CostsSlots};
+ghost use Rattle.enumerate.specs.Internal.Lists.{AreFirst, CanFollow, IsFreshItem, AddsItems, AreGrown};
+
+use crate::leaves::{first_key, first_unused};
+use crate::moved::Step;
+use crate::splitting::least_split;
+use crate::taken::{references, still_used};
+use jtree::{Items, Member, Members, Text, Tree};
+use plan::{Distinct, Meter, Plan, PlanNode, SizeSet, Slot, Sort};
+use std::alloc::{AllocError, Global};
+
+/// The first part of a size that the node has.
+#[cycle(first)]
+pub(crate) fn first<Z: SizeSet>(
+    alloc: Global,
+    plan: &Plan<Z>,
+    node: PlanNode,
+    size: u32,
+    meter: &mut Meter,
+) -> Result<Tree, AllocError>
+    requires node { IsNodeOf plan.now node }
+    requires size { HasSizeAt plan.now node size }
+    requires limit { size ≤ plan.now.limit }
+    ensures ok { IfOk result (λ v. IsLeast tree_cmp (IsPartOf plan.now node size) (data_of v)) }
+    ensures steps { Costs plan.now meter.old meter.new size }
+{
+    plan.no_dead_end();
+    plan.sound_parts();
+    match plan.sort(node) {
+        Sort::Leaf => first_unused(alloc, plan, node, size, &[], meter),
+        _ if size == 1 && plan.null_ok(node) => Ok(Tree::Null),
+        Sort::Row => first_row(alloc, plan, node, size, &[], meter),
+        Sort::List => first_list(alloc, plan, node, size, meter),
+    }
+}
+
+/// The first object of a size that has not the same under all keys as a used one.
+#[cycle(first)]
+pub(crate) fn first_row<Z: SizeSet>(
+    alloc: Global,
+    plan: &Plan<Z>,
+    node: PlanNode,
+    size: u32,
+    used: &[&Tree],
+    meter: &mut Meter,
+) -> Result<Tree, AllocError>
+    requires node { IsNodeOf plan.now node }
+    requires row { sort_of (site plan.now node).node ≡ sort.Row }
+    requires some { 1 ≤ size }
+    requires limit { size ≤ plan.now.limit }
+    requires open { IsOpen plan.now.pools (slots_from plan.now node 0) (bounds_at plan.now node) 0 (size - 1) (rows_of used.now) }
+    ensures ok { IfOk result (λ v. IsLeast tree_cmp (IsRow plan.now node (size - 1) (rows_of used.now)) (data_of v)) }
+    ensures steps { Costs plan.now meter.old meter.new size }
+{
+    plan.no_dead_end();
+    plan.sound_parts();
+    let mut members = Vec::new(alloc);
+    first_slots(alloc, plan, node, 0, 0, size - 1, used, &mut members, meter)?;
+    Ok(Tree::Object(Members { members }))
+}
+
+/// Appends the first members of `room` nodes that stand in the slots from `place` on, where `taken` slots are filled before it.
+#[cycle(first)]
+pub(crate) fn first_slots<Z: SizeSet>(
+    alloc: Global,
+    plan: &Plan<Z>,
+    node: PlanNode,
+    place: u64,
+    taken: u32,
+    room: u32,
+    used: &[&Tree],
+    members: &mut Vec<Member>,
+    meter: &mut Meter,
+) -> Result<(), AllocError>
+    requires node { IsNodeOf plan.now node }
+    requires row { sort_of (site plan.now node).node ≡ sort.Row }
+    requires taken { taken ≤ place }
+    requires limit { taken + room < plan.now.limit }
+    requires open { IsOpen plan.now.pools (slots_from plan.now node place) (bounds_at plan.now node) taken room (rows_of used.now) }
+    ensures ok { OnOk result (AddsFirst plan.now.pools (slots_from plan.now node place) (bounds_at plan.now node) taken room (rows_of used.now) members.old.items members.new.items) }
+    ensures steps { CostsSlots plan.now node place meter.old meter.new room }
+{
+    plan.no_dead_end();
+    plan.sound_parts();
+    let Some(slot) = plan.slot(node, place, meter) else {
+        return Ok(());
+    };
+    if !slot.must && plan.rest(node, place + 1, taken).has(room) {
+        return first_slots(
+            alloc,
+            plan,
+            node,
+            place + 1,
+            taken,
+            room,
+            used,
+            members,
+            meter,
+        );
+    }
+    grow_slots(
+        alloc, plan, node, &slot, place, taken, room, 0, used, members, meter,
+    )?;
+    Ok(())
+}
+
+/// Appends the first part of the slot at `place` of a size from `from` on, and the first members behind it; or nothing, where there
+/// is no such size.
+#[cycle(first)]
+pub(crate) fn grow_slots<Z: SizeSet>(
+    alloc: Global,
+    plan: &Plan<Z>,
+    node: PlanNode,
+    slot: &Slot<'_>,
+    place: u64,
+    taken: u32,
+    room: u32,
+    from: u32,
+    used: &[&Tree],
+    members: &mut Vec<Member>,
+    meter: &mut Meter,
+) -> Result<Step, AllocError>
+    requires node { IsNodeOf plan.now node }
+    requires row { sort_of (site plan.now node).node ≡ sort.Row }
+    requires slot { IsSlotOf plan.now node place slot.now }
+    requires taken { taken ≤ place }
+    requires limit { taken + room < plan.now.limit }
+    requires open { IsOpen plan.now.pools (slots_from plan.now node place) (bounds_at plan.now node) taken room (rows_of used.now) }
+    ensures ok { IfOk result (λ step. IsGrown step plan.now.pools (slot_in plan.now node place) (slots_from plan.now node (place + 1)) (bounds_at plan.now node) taken room from (rows_of used.now) members.old.items members.new.items) }
+    ensures steps { CostsSlots plan.now node (place + 1) meter.old meter.new room }
+    ensures last { IfOk result (λ step. KeepsMeter step meter.old meter.new) }
+{
+    plan.no_dead_end();
+    plan.sound_parts();
+    plan.limit();
+    let sizes = plan.sizes(slot.node);
+    let rest = plan.rest(node, place + 1, taken + 1);
+    let Some(size) = least_split(sizes, rest, room, from) else {
+        return Ok(Step::Last(room));
+    };
+    let tree = first_value(alloc, plan, node, slot, place, size, used, meter)?;
+    let name = Text::from_str(alloc, slot.name)?;
+    put_member(
+        alloc,
+        plan,
+        node,
+        slot,
+        place,
+        taken,
+        room - size,
+        used,
+        Member { name, tree },
+        members,
+        meter,
+    )?;
+    Ok(Step::Moved)
+}
+
+/// The first part of a size for a slot; for a key, the first one that leaves some tuple of keys unused.
+#[cycle(first)]
+fn first_value<Z: SizeSet>(
+    alloc: Global,
+    plan: &Plan<Z>,
+    node: PlanNode,
+    slot: &Slot<'_>,
+    place: u64,
+    size: u32,
+    used: &[&Tree],
+    meter: &mut Meter,
+) -> Result<Tree, AllocError>
+    requires node { IsNodeOf plan.now node }
+    requires slot { IsSlotOf plan.now node place slot.now }
+    requires size { HasSizeAt plan.now slot.now.node size }
+    requires limit { size ≤ plan.now.limit }
+    requires known { AreUsed plan.now.pools (slots_from plan.now node place) (rows_of used.now) }
+    requires free { HasFree plan.now.pools (filter is_key (slots_from plan.now node place)) (used_keys (slots_from plan.now node place) (rows_of used.now)) [] }
+    ensures ok { IfOk result (λ v. IsLeast tree_cmp (IsValue plan.now.pools (slot_in plan.now node place) (slots_from plan.now node (place + 1)) (rows_of used.now) size) (data_of v)) }
+    ensures steps { Costs plan.now meter.old meter.new size }
+{
+    plan.no_dead_end();
+    plan.sound_parts();
+    if slot.key {
+        return first_key(alloc, plan, slot, size, used, meter);
+    }
+    first(alloc, plan, slot.node, size, meter)
+}
+
+/// Appends a member, and the first members of `room` nodes behind it.
+#[cycle(first)]
+pub(crate) fn put_member<Z: SizeSet>(
+    alloc: Global,
+    plan: &Plan<Z>,
+    node: PlanNode,
+    slot: &Slot<'_>,
+    place: u64,
+    taken: u32,
+    room: u32,
+    used: &[&Tree],
+    member: Member,
+    members: &mut Vec<Member>,
+    meter: &mut Meter,
+) -> Result<(), AllocError>
+    requires node { IsNodeOf plan.now node }
+    requires row { sort_of (site plan.now node).node ≡ sort.Row }
+    requires slot { IsSlotOf plan.now node place slot.now }
+    requires taken { taken ≤ place }
+    requires limit { taken + 1 + room < plan.now.limit }
+    requires open { IsOpen plan.now.pools (slots_from plan.now node (place + 1)) (bounds_at plan.now node) (taken + 1) room (still_used (slot_in plan.now node place) (data_of member.tree) (rows_of used.now)) }
+    ensures ok { OnOk result (AddsFirst plan.now.pools (slots_from plan.now node (place + 1)) (bounds_at plan.now node) (taken + 1) room (still_used (slot_in plan.now node place) (data_of member.tree) (rows_of used.now))
+        (members.old.items ++ member ∷ []) members.new.items) }
+    ensures steps { CostsSlots plan.now node (place + 1) meter.old meter.new room }
+{
+    plan.no_dead_end();
+    plan.sound_parts();
+    plan.limit();
+    let same = still_used(alloc, slot, &member.tree, used)?;
+    members.push(member)?;
+    first_slots(
+        alloc,
+        plan,
+        node,
+        place + 1,
+        taken + 1,
+        room,
+        same.as_slice(),
+        members,
+        meter,
+    )
+}
+
+/// The first list of a size.
+#[cycle(first)]
+fn first_list<Z: SizeSet>(
+    alloc: Global,
+    plan: &Plan<Z>,
+    node: PlanNode,
+    size: u32,
+    meter: &mut Meter,
+) -> Result<Tree, AllocError>
+    requires node { IsNodeOf plan.now node }
+    requires list { sort_of (site plan.now node).node ≡ sort.List }
+    requires no_null { size ≡ 1 → is_nullable (site plan.now node).node ≡ false }
+    requires size { HasSizeAt plan.now node size }
+    requires limit { size ≤ plan.now.limit }
+    ensures ok { IfOk result (λ v. IsLeast tree_cmp (IsPartOf plan.now node size) (data_of v)) }
+    ensures steps { Costs plan.now meter.old meter.new size }
+{
+    plan.no_dead_end();
+    plan.sound_parts();
+    let mut items = Vec::new(alloc);
+    if size > 1 {
+        let Some(child) = plan.item(node, 0, meter) else {
+            unreachable!()
+        };
+        first_items(alloc, plan, node, child, size - 1, &mut items, meter)?;
+    }
+    Ok(Tree::List(Items { items }))
+}
+
+/// Appends the first items of `room` nodes behind those that are there.
+#[cycle(first)]
+pub(crate) fn first_items<Z: SizeSet>(
+    alloc: Global,
+    plan: &Plan<Z>,
+    node: PlanNode,
+    child: PlanNode,
+    room: u32,
+    items: &mut Vec<Tree>,
+    meter: &mut Meter,
+) -> Result<(), AllocError>
+    requires node { IsNodeOf plan.now node }
+    requires child { child < node }
+    requires follow { CanFollow plan.now node child room (items_of items.old.items) }
+    ensures ok { OnOk result (AddsItems plan.now node room items.old.items items.new.items) }
+    ensures steps { Costs plan.now meter.old meter.new room }
+{
+    plan.no_dead_end();
+    plan.sound_parts();
+    if room > 0 {
+        grow_items(alloc, plan, node, child, room, 0, items, meter)?;
+    }
+    Ok(())
+}
+
+/// Appends the first item of a size from `from` on, and the first items behind it; or nothing, where there is no such size.
+#[cycle(first)]
+pub(crate) fn grow_items<Z: SizeSet>(
+    alloc: Global,
+    plan: &Plan<Z>,
+    node: PlanNode,
+    child: PlanNode,
+    room: u32,
+    from: u32,
+    items: &mut Vec<Tree>,
+    meter: &mut Meter,
+) -> Result<Step, AllocError>
+    requires node { IsNodeOf plan.now node }
+    requires child { child < node }
+    requires first { AreFirst plan.now node child (items_of items.old.items) }
+    requires within { 1 + items_count (items_of items.old.items) + room ≤ plan.now.limit }
+    ensures ok { IfOk result (λ step. AreGrown step plan.now node child room from items.old.items items.new.items) }
+    ensures steps { Costs plan.now meter.old meter.new room }
+    ensures last { IfOk result (λ step. KeepsMeter step meter.old meter.new) }
+{
+    plan.no_dead_end();
+    plan.sound_parts();
+    plan.limit();
+    let more = plan.more(node, items.len() as u32 + 1);
+    let Some(size) = least_split(plan.sizes(child), more, room, from) else {
+        return Ok(Step::Last(room));
+    };
+    let item = first_item(alloc, plan, node, child, size, items.as_slice(), meter)?;
+    items.push(item)?;
+    first_items(alloc, plan, node, child, room - size, items, meter)?;
+    Ok(Step::Moved)
+}
+
+/// The first part of a size that an item behind the others can be.
+#[cycle(first)]
+fn first_item<Z: SizeSet>(
+    alloc: Global,
+    plan: &Plan<Z>,
+    node: PlanNode,
+    child: PlanNode,
+    size: u32,
+    items: &[Tree],
+    meter: &mut Meter,
+) -> Result<Tree, AllocError>
+    requires node { IsNodeOf plan.now node }
+    requires child { child < node }
+    requires first { AreFirst plan.now node child (items_of items.now) }
+    requires size { HasSizeAt plan.now child size }
+    requires limit { size ≤ plan.now.limit }
+    requires fresh { (m : ℕ) × HasMore plan.now.pools plan.now.limit (site plan.now node).node (length items.now + 1) m }
+    ensures ok { IfOk result (λ v. IsLeast tree_cmp (IsFreshItem plan.now node child size (items_of items.now)) (data_of v)) }
+    ensures steps { Costs plan.now meter.old meter.new size }
+{
+    plan.no_dead_end();
+    plan.sound_parts();
+    plan.limit();
+    match plan.distinct(node) {
+        Distinct::Free => first(alloc, plan, child, size, meter),
+        Distinct::Whole => first_unused(alloc, plan, child, size, items, meter),
+        Distinct::Keys => {
+            let used = references(alloc, items)?;
+            first_row(alloc, plan, child, size, used.as_slice(), meter)
+        }
+    }
+}

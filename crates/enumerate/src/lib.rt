@@ -1,0 +1,21 @@
+//! Samples of a plan, each from the one before it.
+#![tactic(auto)]
+
+mod copying;
+mod fault;
+mod filling;
+mod leaves;
+mod listed;
+mod live;
+mod membership;
+mod moved;
+mod moving;
+mod paging;
+mod root;
+mod splitting;
+mod taken;
+
+pub use fault::EFault;
+pub use listed::Page;
+pub use live::Live;
+pub use paging::page;

@@ -1,0 +1,10 @@
+use jtree::Tree;
+
+/// Some samples of a plan.
+#[derive(Drop)]
+pub struct Page {
+    /// The samples, in the tree order, each once.
+    pub items: Vec<Tree>,
+    /// Whether no further sample is left.
+    pub end: bool,
+}

@@ -1,0 +1,141 @@
+//! An enumeration that stands at a sample.
+use crate::copying::copy_of;
+use crate::fault::EFault;
+use crate::membership::is_part;
+use crate::root::{first_from, next_sample};
+use jtree::Tree;
+use plan::{Meter, Plan, SizeSet};
+use std::alloc::{AllocError, Global};
+use std::marker::Model;
+
+/// The sample at which an enumeration of a plan stands; none once it has ended.
+#[derive(Drop)]
+pub struct Live<'p, Z: SizeSet> {
+    alloc: Global,
+    plan: &'p Plan<Z>,
+    tree: Option<Tree>,
+}
+
+impl<'p, Z: SizeSet> Model for Live<'p, Z> {
+    ghost use Rattle.enumerate.specs.Live.{Enumeration, enumeration_coded};
+
+    ghost Value = { Enumeration };
+
+    ghost coded = { enumeration_coded };
+
+    ghost use Rattle.std.specs.Prelude.{IfSome};
+    ghost use Rattle.enumerate.specs.View.{tree_of};
+    ghost use Rattle.enumerate.specs.Page.{IsSampleOf};
+
+    ghost view = { λ l. record { question = l.plan.now; at = tree_of l.tree } };
+
+    ghost invariant = { λ l. IfSome (tree_of l.tree) (IsSampleOf l.plan.now) };
+}
+
+impl<'p, Z: SizeSet> Live<'p, Z> {
+    ghost use Rattle.std.specs.Prelude.{◌≡◌, ◌≢◌, Some, None, IfOk, IfErr, OnOk, MatchOption, option_map};
+    ghost use Rattle.std.specs.Option.{option_copied};
+    ghost use Rattle.jtree.specs.View.{data_of};
+    ghost use Rattle.enumerate.specs.Page.{IsSampleOf};
+    ghost use Rattle.enumerate.specs.Live.{IsStarted, IsAdvanced, IsWithinDelay};
+    ghost use Rattle.enumerate.specs.declared.fault.EFault.TheVariants.{NotASample, NoMemory, Ended};
+
+    /// At the first sample; `None` exactly where there is none.
+    ///
+    /// `NoMemory` where an allocation fails. It takes at most 4 * (limit + 1) * (width + 1) steps, whatever it answers.
+    pub fn first(
+        alloc: Global,
+        plan: &'p Plan<Z>,
+        meter: &mut Meter,
+    ) -> Result<Option<Live<'p, Z>>, EFault>
+        ensures ok { IfOk result (λ live. IsStarted plan.now None live) }
+        ensures err { IfErr result (λ e. e ≡ NoMemory) }
+        ensures steps { IsWithinDelay plan.now meter.old meter.new }
+    {
+        match first_from(alloc, plan, 0, meter)? {
+            Some(tree) => Ok(Some(Live {
+                alloc,
+                plan,
+                tree: Some(tree),
+            })),
+            None => Ok(None),
+        }
+    }
+
+    /// At the first sample past the tree, which is a sample itself; `None` exactly where there is none.
+    ///
+    /// `NotASample` exactly where the tree is no sample, and `NoMemory` where an allocation fails. It takes at most
+    /// 4 * (limit + 1) * (width + 1) steps, whatever it answers.
+    pub fn after(
+        alloc: Global,
+        plan: &'p Plan<Z>,
+        tree: &Tree,
+        meter: &mut Meter,
+    ) -> Result<Option<Live<'p, Z>>, EFault>
+        ensures ok { IfOk result (λ live. IsStarted plan.now (Some (data_of tree.now)) live) }
+        ensures sample { OnOk result (IsSampleOf plan.now (data_of tree.now)) }
+        ensures not_a_sample { IfErr result (λ e. e ≡ NotASample → ¬ IsSampleOf plan.now (data_of tree.now)) }
+        ensures never_ended { IfErr result (λ e. e ≢ Ended) }
+        ensures steps { IsWithinDelay plan.now meter.old meter.new }
+    {
+        if !is_sample(alloc, plan, tree, meter)? {
+            return Err(EFault::NotASample);
+        }
+        let copy = copy_of(alloc, tree)?;
+        match next_sample(alloc, plan, copy, meter)? {
+            Some(next) => Ok(Some(Live {
+                alloc,
+                plan,
+                tree: Some(next),
+            })),
+            None => Ok(None),
+        }
+    }
+
+    /// Moves to the next sample, and answers whether there is one. Where there is none, the enumeration has ended.
+    ///
+    /// `Ended` exactly where it had ended before, and `NoMemory` where an allocation fails; it has ended then. It takes at most
+    /// 4 * (limit + 1) * (width + 1) steps, whatever it answers.
+    pub fn advance(&mut self, meter: &mut Meter) -> Result<bool, EFault>
+        ensures same { self.new.question ≡ self.old.question }
+        ensures ok { IfOk result (λ more. IsAdvanced self.old self.new more) }
+        ensures err { IfErr result (λ e. MatchOption self.old.at (e ≡ Ended) (λ _. e ≡ NoMemory)) }
+        ensures nowhere { IfErr result (λ _. self.new.at ≡ None) }
+        ensures steps { IsWithinDelay self.old.question meter.old meter.new }
+    {
+        let Some(tree) = self.tree.take() else {
+            return Err(EFault::Ended);
+        };
+        self.tree = next_sample(self.alloc, self.plan, tree, meter)?;
+        Ok(self.tree.is_some())
+    }
+
+    /// The sample; `None` once the enumeration has ended.
+    pub fn tree(&self) -> Option<&Tree>
+        ensures { option_map data_of (option_copied result) ≡ self.now.at }
+    {
+        self.tree.as_ref()
+    }
+}
+
+ghost use Rattle.std.specs.Prelude.{◌≡◌, ◌↔◌, ◌≤◌, IfOk, IsTrue};
+ghost use Rattle.jtree.specs.Nodes.{node_count};
+ghost use Rattle.jtree.specs.View.{data_of};
+ghost use Rattle.enumerate.specs.Page.{IsSampleOf};
+ghost use Rattle.enumerate.specs.Internal.Nodes.{Costs};
+
+/// Whether the tree is a sample.
+fn is_sample<Z: SizeSet>(
+    alloc: Global,
+    plan: &Plan<Z>,
+    tree: &Tree,
+    meter: &mut Meter,
+) -> Result<bool, AllocError>
+    ensures ok { IfOk result (λ is. IsTrue is ↔ IsSampleOf plan.now (data_of tree.now)) }
+    ensures steps { Costs plan.now meter.old meter.new plan.now.limit }
+{
+    if tree.nodes() > plan.limit() as u64 {
+        return Ok(false);
+    }
+    is_part(alloc, plan, plan.root(), tree, meter)
+}

@@ -1,0 +1,297 @@
+//! Whether a tree is a part of a node.
+ghost use Rattle.std.specs.Prelude.{◌≡◌, ◌≢◌, ◌↔◌, ◌+◌, ◌≤◌, ◌<◌, [], length, drop, IfOk, IfSome, IfNone, IsTrue};
+ghost use Rattle.jtree.specs.Data.{Data, member as member_data, null as null_data, list as list_data, Members as MembersData};
+ghost use Rattle.jtree.specs.Nodes.{node_count, items_count, members_count};
+ghost use Rattle.jtree.specs.View.{data_of, items_of, members_of};
+ghost use Rattle.plan.specs.Samples.Part.{IsPart};
+ghost use Rattle.plan.specs.Samples.Candidates.{sort_of};
+ghost use Rattle.plan.specs.declared.sort.Sort.TheVariants as sort;
+ghost use Rattle.enumerate.specs.Internal.Nodes.{site, IsNodeOf, Costs};
+ghost use Rattle.enumerate.specs.Internal.Candidates.{rows_of};
+ghost use Rattle.enumerate.specs.Internal.Rows.{slots_from, bounds_at, CostsSlots};
+ghost use Rattle.enumerate.specs.Internal.Lists.{AreFirst, IsFreshItem};
+ghost use Rattle.enumerate.specs.Internal.Membership.{StandFresh, IsFreshRow, IsListOf};
+
+use crate::taken::{references, still_used};
+use jtree::{Member, Tree};
+use plan::{Distinct, Meter, Plan, PlanNode, SizeSet, Sort};
+use std::alloc::{AllocError, Global};
+
+/// Whether the tree is a part of the node. It is one pass over the tree.
+#[cycle(part)]
+pub(crate) fn is_part<Z: SizeSet>(
+    alloc: Global,
+    plan: &Plan<Z>,
+    node: PlanNode,
+    tree: &Tree,
+    meter: &mut Meter,
+) -> Result<bool, AllocError>
+    requires node { IsNodeOf plan.now node }
+    requires limit { node_count (data_of tree.now) ≤ plan.now.limit }
+    ensures ok { IfOk result (λ is. IsTrue is ↔ IsPart plan.now.pools (site plan.now node).node (data_of tree.now)) }
+    ensures steps { Costs plan.now meter.old meter.new (node_count (data_of tree.now)) }
+{
+    plan.no_dead_end();
+    match plan.sort(node) {
+        Sort::Leaf => Ok(is_candidate(plan, node, tree, meter)),
+        _ if is_null(tree) => Ok(plan.null_ok(node)),
+        Sort::Row => is_fresh_row(alloc, plan, node, tree, &[], meter),
+        Sort::List => is_list(alloc, plan, node, tree, meter),
+    }
+}
+
+/// Whether the tree is null.
+fn is_null(tree: &Tree) -> bool
+    ensures { IsTrue result ↔ (data_of tree.now ≡ null_data) }
+{
+    match tree {
+        Tree::Null => true,
+        _ => false,
+    }
+}
+
+/// Whether the tree is a candidate of the leaf. It looks at each candidate at most once.
+fn is_candidate<Z: SizeSet>(plan: &Plan<Z>, node: PlanNode, tree: &Tree, meter: &mut Meter) -> bool
+    requires node { IsNodeOf plan.now node }
+    requires leaf { sort_of (site plan.now node).node ≡ sort.Leaf }
+    ensures is { IsTrue result ↔ IsPart plan.now.pools (site plan.now node).node (data_of tree.now) }
+    ensures steps { Costs plan.now meter.old meter.new 1 }
+{
+    for place in 0..plan.count(node) {
+        if let Some(candidate) = plan.candidate(node, place, meter) {
+            if *candidate == *tree {
+                return true;
+            }
+        }
+    }
+    false
+}
+
+// ---- objects and maps
+
+/// Whether the tree is an object that is a part of the row, and has not the same under all keys as a used one.
+#[cycle(part)]
+fn is_fresh_row<Z: SizeSet>(
+    alloc: Global,
+    plan: &Plan<Z>,
+    node: PlanNode,
+    tree: &Tree,
+    used: &[&Tree],
+    meter: &mut Meter,
+) -> Result<bool, AllocError>
+    requires node { IsNodeOf plan.now node }
+    requires row { sort_of (site plan.now node).node ≡ sort.Row }
+    requires limit { node_count (data_of tree.now) ≤ plan.now.limit }
+    ensures ok { IfOk result (λ is. IsTrue is ↔ IsFreshRow plan.now node (rows_of used.now) (data_of tree.now)) }
+    ensures steps { Costs plan.now meter.old meter.new (node_count (data_of tree.now)) }
+{
+    match tree {
+        Tree::Object(object) => stand_fresh(
+            alloc,
+            plan,
+            node,
+            0,
+            0,
+            used,
+            object.members.as_slice(),
+            meter,
+        ),
+        _ => Ok(false),
+    }
+}
+
+/// Whether the members stand in the slots from `place` on, where `taken` slots are filled before it, and no used row has the same
+/// under all keys.
+#[cycle(part)]
+fn stand_fresh<Z: SizeSet>(
+    alloc: Global,
+    plan: &Plan<Z>,
+    node: PlanNode,
+    place: u64,
+    taken: u32,
+    used: &[&Tree],
+    members: &[Member],
+    meter: &mut Meter,
+) -> Result<bool, AllocError>
+    requires node { IsNodeOf plan.now node }
+    requires row { sort_of (site plan.now node).node ≡ sort.Row }
+    requires place { place ≤ length (slots_from plan.now node 0) }
+    requires taken { taken ≤ place }
+    requires limit { taken + members_count (members_of members.now) < plan.now.limit }
+    ensures ok { IfOk result (λ is. IsTrue is ↔ StandFresh plan.now.pools (slots_from plan.now node place) (bounds_at plan.now node) taken (rows_of used.now) (members_of members.now)) }
+    ensures steps { CostsSlots plan.now node place meter.old meter.new (members_count (members_of members.now)) }
+{
+    plan.sound_parts();
+    let _most = plan.limit();
+    let Some(slot) = plan.slot(node, place, meter) else {
+        return Ok(ends_fresh(plan, node, place, taken, used, members));
+    };
+    let Some(tree) = value_under(members, slot.name) else {
+        if slot.must {
+            return Ok(false);
+        }
+        return stand_fresh(alloc, plan, node, place + 1, taken, used, members, meter);
+    };
+    if !is_part(alloc, plan, slot.node, tree, meter)? {
+        return Ok(false);
+    }
+    let same = still_used(alloc, &slot, tree, used)?;
+    let behind = behind_first(members);
+    stand_fresh(
+        alloc,
+        plan,
+        node,
+        place + 1,
+        taken + 1,
+        same.as_slice(),
+        behind,
+        meter,
+    )
+}
+
+/// The value of the first member, where it has the name.
+fn value_under<'a>(members: &'a [Member], name: &str) -> Option<&'a Tree>
+    ensures some { IfSome result (λ t. members_of members.now ≡ member_data name.now (data_of t.now) (members_of (drop 1 members.now))) }
+    ensures within { IfSome result (λ _. 1 ≤ length members.now) }
+    ensures none { IfNone result ((v : Data) (ms : MembersData) → members_of members.now ≢ member_data name.now v ms) }
+{
+    match members.first() {
+        Some(member) => {
+            if member.name.as_str() == name {
+                Some(&member.tree)
+            } else {
+                None
+            }
+        }
+        None => None,
+    }
+}
+
+/// The members behind the first.
+fn behind_first(members: &[Member]) -> &[Member]
+    requires { 1 ≤ length members.now }
+    ensures { result.now ≡ drop 1 members.now }
+{
+    &members[1..]
+}
+
+/// Whether no member is left behind the last slot, no used row has the same under all keys, and there are as many members as there may be.
+fn ends_fresh<Z: SizeSet>(
+    plan: &Plan<Z>,
+    node: PlanNode,
+    place: u64,
+    taken: u32,
+    used: &[&Tree],
+    members: &[Member],
+) -> bool
+    requires node { IsNodeOf plan.now node }
+    requires row { sort_of (site plan.now node).node ≡ sort.Row }
+    requires place { place ≡ length (slots_from plan.now node 0) }
+    requires taken { taken ≤ place }
+    ensures { IsTrue result ↔ StandFresh plan.now.pools [] (bounds_at plan.now node) taken (rows_of used.now) (members_of members.now) }
+{
+    if !members.is_empty() {
+        return false;
+    }
+    if !used.is_empty() {
+        return false;
+    }
+    plan.rest(node, place, taken).has(0)
+}
+
+// ---- lists
+
+/// Whether the tree is a list that is a part of the node.
+#[cycle(part)]
+fn is_list<Z: SizeSet>(
+    alloc: Global,
+    plan: &Plan<Z>,
+    node: PlanNode,
+    tree: &Tree,
+    meter: &mut Meter,
+) -> Result<bool, AllocError>
+    requires node { IsNodeOf plan.now node }
+    requires list { sort_of (site plan.now node).node ≡ sort.List }
+    requires limit { node_count (data_of tree.now) ≤ plan.now.limit }
+    ensures ok { IfOk result (λ is. IsTrue is ↔ IsListOf plan.now node (data_of tree.now)) }
+    ensures steps { Costs plan.now meter.old meter.new (node_count (data_of tree.now)) }
+{
+    match tree {
+        Tree::List(list) => make_list(alloc, plan, node, list.items.as_slice(), meter),
+        _ => Ok(false),
+    }
+}
+
+/// Whether the items make a list that is a part of the node.
+#[cycle(part)]
+fn make_list<Z: SizeSet>(
+    alloc: Global,
+    plan: &Plan<Z>,
+    node: PlanNode,
+    items: &[Tree],
+    meter: &mut Meter,
+) -> Result<bool, AllocError>
+    requires node { IsNodeOf plan.now node }
+    requires list { sort_of (site plan.now node).node ≡ sort.List }
+    requires limit { 1 + items_count (items_of items.now) ≤ plan.now.limit }
+    ensures ok { IfOk result (λ is. IsTrue is ↔ IsPart plan.now.pools (site plan.now node).node (list_data (items_of items.now))) }
+    ensures steps { Costs plan.now meter.old meter.new (1 + items_count (items_of items.now)) }
+{
+    if items.is_empty() {
+        return Ok(plan.more(node, 0).has(0));
+    }
+    plan.no_dead_end();
+    let _most = plan.limit();
+    let Some(child) = plan.item(node, 0, meter) else {
+        return Ok(false);
+    };
+    for place in 0..items.len() {
+        if !is_fresh_item(
+            alloc,
+            plan,
+            node,
+            child,
+            &items[place],
+            &items[..place],
+            meter,
+        )? {
+            return Ok(false);
+        }
+    }
+    Ok(plan.more(node, items.len() as u32).has(0))
+}
+
+/// Whether the tree is a part that an item behind the others can be.
+#[cycle(part)]
+fn is_fresh_item<Z: SizeSet>(
+    alloc: Global,
+    plan: &Plan<Z>,
+    node: PlanNode,
+    child: PlanNode,
+    item: &Tree,
+    items: &[Tree],
+    meter: &mut Meter,
+) -> Result<bool, AllocError>
+    requires node { IsNodeOf plan.now node }
+    requires child { child < node }
+    requires first { AreFirst plan.now node child (items_of items.now) }
+    requires limit { node_count (data_of item.now) ≤ plan.now.limit }
+    ensures ok { IfOk result (λ is. IsTrue is ↔ IsFreshItem plan.now node child (node_count (data_of item.now)) (items_of items.now) (data_of item.now)) }
+    ensures steps { Costs plan.now meter.old meter.new (node_count (data_of item.now)) }
+{
+    plan.no_dead_end();
+    plan.sound_parts();
+    match plan.distinct(node) {
+        Distinct::Free => is_part(alloc, plan, child, item, meter),
+        Distinct::Whole => {
+            if items.contains(item) {
+                return Ok(false);
+            }
+            is_part(alloc, plan, child, item, meter)
+        }
+        Distinct::Keys => {
+            let used = references(alloc, items)?;
+            is_fresh_row(alloc, plan, child, item, used.as_slice(), meter)
+        }
+    }
+}

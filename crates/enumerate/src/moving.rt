@@ -1,0 +1,418 @@
+//! The next part of as many nodes.
+ghost use Rattle.std.specs.Prelude.{◌≡◌, ◌≢◌, ◌↔◌, ◌+◌, ◌-◌, ◌*◌, ◌≤◌, ◌<◌, ℕ, List, length, take, drop, IfOk, IfSome, IfNone, Option, None, Some, IsTrue};
+ghost use Rattle.jtree.specs.Data.{Data, null as null_data, object as object_data, list as list_data, Items as ItemsData, Members as MembersData};
+ghost use Rattle.jtree.specs.Nodes.{node_count, items_count, members_count};
+ghost use Rattle.jtree.specs.View.{data_of, items_of, members_of};
+ghost use Rattle.plan.specs.Samples.Part.{IsPart};
+ghost use Rattle.plan.specs.Samples.Sites.{item_site};
+ghost use Rattle.plan.specs.Samples.Candidates.{sort_of};
+ghost use Rattle.plan.specs.declared.sort.Sort.TheVariants as sort;
+ghost use Rattle.enumerate.specs.Internal.Nodes.{site, IsNodeOf, IsPartOf, Costs};
+ghost use Rattle.enumerate.specs.Internal.Candidates.{rows_of};
+ghost use Rattle.enumerate.specs.Internal.Rows.{slots_from, slot_in, bounds_at, IsSlotOf, AreUsed, IsRow, IsValue};
+ghost use Rattle.enumerate.specs.Internal.Lists.{AreFirst, IsFreshItem};
+ghost use Rattle.enumerate.specs.Internal.Steps.{CostsLast, CostsLastStep, CostsLastSlots, CostsTwice};
+ghost use Rattle.enumerate.specs.Internal.Moves.{IsMoved, StandIn, Begins, AreMoved, AreItemsMoved};
+
+use crate::filling::{first_items, grow_items, grow_slots, put_member};
+use crate::leaves::{next_key, next_unused};
+use crate::moved::{Moved, Step};
+use crate::taken::{references, still_used};
+use jtree::{Items, Member, Members, Tree};
+use plan::{Distinct, Meter, Plan, PlanNode, SizeSet, Slot, Sort};
+use std::alloc::{AllocError, Global};
+
+/// The next part of as many nodes, made out of the part.
+#[cycle(advance)]
+pub(crate) fn advance<Z: SizeSet>(
+    alloc: Global,
+    plan: &Plan<Z>,
+    node: PlanNode,
+    tree: Tree,
+    meter: &mut Meter,
+) -> Result<Moved, AllocError>
+    requires node { IsNodeOf plan.now node }
+    requires part { IsPart plan.now.pools (site plan.now node).node (data_of tree) }
+    requires limit { node_count (data_of tree) ≤ plan.now.limit }
+    ensures ok { IfOk result (λ moved. IsMoved (IsPartOf plan.now node (node_count (data_of tree))) (data_of tree) moved) }
+    ensures steps { Costs plan.now meter.old meter.new (2 * node_count (data_of tree)) }
+    ensures last { IfOk result (λ moved. CostsLast moved plan.now meter.old meter.new (node_count (data_of tree))) }
+{
+    plan.no_dead_end();
+    plan.sound_parts();
+    plan.limit();
+    match plan.sort(node) {
+        Sort::Leaf => next_unused(alloc, plan, node, &tree, &[], meter),
+        _ if is_null(&tree) => Ok(past_null(alloc, plan, node)),
+        Sort::Row => advance_row(alloc, plan, node, tree, &[], meter),
+        Sort::List => advance_list(alloc, plan, node, tree, meter),
+    }
+}
+
+/// Whether the tree is null.
+fn is_null(tree: &Tree) -> bool
+    ensures { IsTrue result ↔ (data_of tree.now ≡ null_data) }
+{
+    match tree {
+        Tree::Null => true,
+        _other => false,
+    }
+}
+
+/// What comes after null at a row or a list: the empty one, where it may stand there.
+fn past_null<Z: SizeSet>(alloc: Global, plan: &Plan<Z>, node: PlanNode) -> Moved
+    requires node { IsNodeOf plan.now node }
+    requires no_leaf { sort_of (site plan.now node).node ≢ sort.Leaf }
+    requires some { 1 ≤ plan.now.limit }
+    ensures { IsMoved (IsPartOf plan.now node 1) null_data result }
+{
+    plan.no_dead_end();
+    plan.sound_parts();
+    match plan.sort(node) {
+        Sort::Row if plan.rest(node, 0, 0).has(0) => Moved::To(Tree::Object(Members {
+            members: Vec::new(alloc),
+        })),
+        Sort::List if plan.more(node, 0).has(0) => Moved::To(Tree::List(Items {
+            items: Vec::new(alloc),
+        })),
+        _ => Moved::Last(1),
+    }
+}
+
+/// The members of an object; none of another tree.
+fn into_members(tree: Tree) -> Option<Vec<Member>>
+    ensures some { IfSome result (λ members. data_of tree ≡ object_data (members_of members.items)) }
+    ensures none { IfNone result ((ms : MembersData) → data_of tree ≢ object_data ms) }
+{
+    match tree {
+        Tree::Object(object) => Some(object.members),
+        _other => None,
+    }
+}
+
+/// The items of a list; none of another tree.
+fn into_items(tree: Tree) -> Option<Vec<Tree>>
+    ensures some { IfSome result (λ items. data_of tree ≡ list_data (items_of items.items)) }
+    ensures none { IfNone result ((ds : ItemsData) → data_of tree ≢ list_data ds) }
+{
+    match tree {
+        Tree::List(list) => Some(list.items),
+        _other => None,
+    }
+}
+
+/// The next object of as many nodes that has not the same under all keys as a used one.
+#[cycle(advance)]
+fn advance_row<Z: SizeSet>(
+    alloc: Global,
+    plan: &Plan<Z>,
+    node: PlanNode,
+    tree: Tree,
+    used: &[&Tree],
+    meter: &mut Meter,
+) -> Result<Moved, AllocError>
+    requires node { IsNodeOf plan.now node }
+    requires sort { sort_of (site plan.now node).node ≡ sort.Row }
+    requires known { AreUsed plan.now.pools (slots_from plan.now node 0) (rows_of used.now) }
+    requires row { IsRow plan.now node (node_count (data_of tree) - 1) (rows_of used.now) (data_of tree) }
+    requires limit { node_count (data_of tree) ≤ plan.now.limit }
+    ensures ok { IfOk result (λ moved. IsMoved (IsRow plan.now node (node_count (data_of tree) - 1) (rows_of used.now)) (data_of tree) moved) }
+    ensures steps { Costs plan.now meter.old meter.new (2 * node_count (data_of tree)) }
+    ensures last { IfOk result (λ moved. CostsLast moved plan.now meter.old meter.new (node_count (data_of tree))) }
+{
+    plan.no_dead_end();
+    plan.sound_parts();
+    plan.limit();
+    let Some(mut members) = into_members(tree) else {
+        unreachable!()
+    };
+    match advance_slots(alloc, plan, node, 0, 0, used, &mut members, meter)? {
+        Step::Moved => Ok(Moved::To(Tree::Object(Members { members }))),
+        Step::Last(room) => Ok(Moved::Last(room + 1)),
+    }
+}
+
+/// Whether the member at a place has the name.
+fn begins(members: &[Member], place: u32, name: &str) -> bool
+    ensures { IsTrue result ↔ Begins name.now (members_of (drop place members.now)) }
+{
+    match members.get(place as usize) {
+        Some(member) => member.name.as_str() == name,
+        None => false,
+    }
+}
+
+/// Moves the members from the `taken`-th on, which stand in the slots from `place` on, to the next ones of as many nodes.
+#[cycle(advance)]
+fn advance_slots<Z: SizeSet>(
+    alloc: Global,
+    plan: &Plan<Z>,
+    node: PlanNode,
+    place: u64,
+    taken: u32,
+    used: &[&Tree],
+    members: &mut Vec<Member>,
+    meter: &mut Meter,
+) -> Result<Step, AllocError>
+    requires node { IsNodeOf plan.now node }
+    requires row { sort_of (site plan.now node).node ≡ sort.Row }
+    requires taken { taken ≤ place }
+    requires within { taken ≤ length members.old.items }
+    requires known { AreUsed plan.now.pools (slots_from plan.now node place) (rows_of used.now) }
+    requires stand { (gs : List (Option Data)) × StandIn plan.now.pools (slots_from plan.now node place) (bounds_at plan.now node) taken (rows_of used.now) (drop taken members.old.items) gs }
+    requires limit { taken + members_count (members_of (drop taken members.old.items)) < plan.now.limit }
+    ensures kept { IfOk result (λ _. take taken members.new.items ≡ take taken members.old.items) }
+    ensures moved { IfOk result (λ step. (gs : List (Option Data)) → StandIn plan.now.pools (slots_from plan.now node place) (bounds_at plan.now node) taken (rows_of used.now) (drop taken members.old.items) gs
+        → AreMoved step plan.now.pools (slots_from plan.now node place) (bounds_at plan.now node) taken (rows_of used.now) gs (drop taken members.new.items)) }
+    ensures steps { CostsTwice plan.now node place meter.old meter.new (members_count (members_of (drop taken members.old.items))) }
+    ensures last { IfOk result (λ step. CostsLastSlots step plan.now node place meter.old meter.new (members_count (members_of (drop taken members.old.items)))) }
+{
+    plan.no_dead_end();
+    plan.sound_parts();
+    plan.limit();
+    let Some(slot) = plan.slot(node, place, meter) else {
+        return Ok(Step::Last(0));
+    };
+    if begins(members.as_slice(), taken, slot.name) {
+        return advance_filled(alloc, plan, node, &slot, place, taken, used, members, meter);
+    }
+    let Step::Last(room) = advance_slots(alloc, plan, node, place + 1, taken, used, members, meter)?
+    else {
+        return Ok(Step::Moved);
+    };
+    members.truncate(taken as usize);
+    grow_slots(
+        alloc, plan, node, &slot, place, taken, room, 0, used, members, meter,
+    )
+}
+
+/// The same where the slot at `place` is filled.
+#[cycle(advance)]
+fn advance_filled<Z: SizeSet>(
+    alloc: Global,
+    plan: &Plan<Z>,
+    node: PlanNode,
+    slot: &Slot<'_>,
+    place: u64,
+    taken: u32,
+    used: &[&Tree],
+    members: &mut Vec<Member>,
+    meter: &mut Meter,
+) -> Result<Step, AllocError>
+    requires node { IsNodeOf plan.now node }
+    requires row { sort_of (site plan.now node).node ≡ sort.Row }
+    requires slot { IsSlotOf plan.now node place slot.now }
+    requires filled { Begins slot.now.name.now (members_of (drop taken members.old.items)) }
+    requires taken { taken ≤ place }
+    requires within { taken ≤ length members.old.items }
+    requires known { AreUsed plan.now.pools (slots_from plan.now node place) (rows_of used.now) }
+    requires stand { (gs : List (Option Data)) × StandIn plan.now.pools (slots_from plan.now node place) (bounds_at plan.now node) taken (rows_of used.now) (drop taken members.old.items) gs }
+    requires limit { taken + members_count (members_of (drop taken members.old.items)) < plan.now.limit }
+    ensures kept { IfOk result (λ _. take taken members.new.items ≡ take taken members.old.items) }
+    ensures moved { IfOk result (λ step. (gs : List (Option Data)) → StandIn plan.now.pools (slots_from plan.now node place) (bounds_at plan.now node) taken (rows_of used.now) (drop taken members.old.items) gs
+        → AreMoved step plan.now.pools (slots_from plan.now node place) (bounds_at plan.now node) taken (rows_of used.now) gs (drop taken members.new.items)) }
+    ensures steps { CostsTwice plan.now node (place + 1) meter.old meter.new (members_count (members_of (drop taken members.old.items))) }
+    ensures last { IfOk result (λ step. CostsLastSlots step plan.now node (place + 1) meter.old meter.new (members_count (members_of (drop taken members.old.items)))) }
+{
+    plan.no_dead_end();
+    plan.sound_parts();
+    plan.limit();
+    let same = still_used(alloc, slot, &members[taken as usize].tree, used)?;
+    let Step::Last(room) = advance_slots(
+        alloc,
+        plan,
+        node,
+        place + 1,
+        taken + 1,
+        same.as_slice(),
+        members,
+        meter,
+    )?
+    else {
+        return Ok(Step::Moved);
+    };
+    members.truncate(taken as usize + 1);
+    let Some(Member { name, tree }) = members.pop() else {
+        unreachable!()
+    };
+    match advance_value(alloc, plan, node, slot, place, tree, used, meter)? {
+        Moved::To(tree) => {
+            put_member(
+                alloc,
+                plan,
+                node,
+                slot,
+                place,
+                taken,
+                room,
+                used,
+                Member { name, tree },
+                members,
+                meter,
+            )?;
+            Ok(Step::Moved)
+        }
+        Moved::Last(size) => grow_slots(
+            alloc,
+            plan,
+            node,
+            slot,
+            place,
+            taken,
+            room + size,
+            size + 1,
+            used,
+            members,
+            meter,
+        ),
+    }
+}
+
+/// The next part of as many nodes for a slot; for a key, the next one that leaves some tuple of keys unused.
+#[cycle(advance)]
+fn advance_value<Z: SizeSet>(
+    alloc: Global,
+    plan: &Plan<Z>,
+    node: PlanNode,
+    slot: &Slot<'_>,
+    place: u64,
+    tree: Tree,
+    used: &[&Tree],
+    meter: &mut Meter,
+) -> Result<Moved, AllocError>
+    requires node { IsNodeOf plan.now node }
+    requires slot { IsSlotOf plan.now node place slot.now }
+    requires known { AreUsed plan.now.pools (slots_from plan.now node place) (rows_of used.now) }
+    requires value { IsValue plan.now.pools (slot_in plan.now node place) (slots_from plan.now node (place + 1)) (rows_of used.now) (node_count (data_of tree)) (data_of tree) }
+    requires limit { node_count (data_of tree) ≤ plan.now.limit }
+    ensures ok { IfOk result (λ moved. IsMoved (IsValue plan.now.pools (slot_in plan.now node place) (slots_from plan.now node (place + 1)) (rows_of used.now) (node_count (data_of tree))) (data_of tree) moved) }
+    ensures steps { Costs plan.now meter.old meter.new (2 * node_count (data_of tree)) }
+    ensures last { IfOk result (λ moved. CostsLast moved plan.now meter.old meter.new (node_count (data_of tree))) }
+{
+    plan.no_dead_end();
+    plan.sound_parts();
+    plan.limit();
+    if slot.key {
+        return next_key(alloc, plan, slot, &tree, used, meter);
+    }
+    advance(alloc, plan, slot.node, tree, meter)
+}
+
+/// The next list of as many nodes.
+#[cycle(advance)]
+fn advance_list<Z: SizeSet>(
+    alloc: Global,
+    plan: &Plan<Z>,
+    node: PlanNode,
+    tree: Tree,
+    meter: &mut Meter,
+) -> Result<Moved, AllocError>
+    requires node { IsNodeOf plan.now node }
+    requires sort { sort_of (site plan.now node).node ≡ sort.List }
+    requires part { IsPart plan.now.pools (site plan.now node).node (data_of tree) }
+    requires no_null { data_of tree ≢ null_data }
+    requires limit { node_count (data_of tree) ≤ plan.now.limit }
+    ensures ok { IfOk result (λ moved. IsMoved (IsPartOf plan.now node (node_count (data_of tree))) (data_of tree) moved) }
+    ensures steps { Costs plan.now meter.old meter.new (2 * node_count (data_of tree)) }
+    ensures last { IfOk result (λ moved. CostsLast moved plan.now meter.old meter.new (node_count (data_of tree))) }
+{
+    plan.no_dead_end();
+    plan.sound_parts();
+    plan.limit();
+    let Some(mut items) = into_items(tree) else {
+        unreachable!()
+    };
+    if items.is_empty() {
+        return Ok(Moved::Last(1));
+    }
+    let Some(child) = plan.item(node, 0, meter) else {
+        unreachable!()
+    };
+    match advance_items(alloc, plan, node, child, &mut items, meter)? {
+        Step::Moved => Ok(Moved::To(Tree::List(Items { items }))),
+        Step::Last(room) => Ok(Moved::Last(room + 1)),
+    }
+}
+
+/// Moves items to the next ones of as many nodes.
+#[cycle(advance)]
+fn advance_items<Z: SizeSet>(
+    alloc: Global,
+    plan: &Plan<Z>,
+    node: PlanNode,
+    child: PlanNode,
+    items: &mut Vec<Tree>,
+    meter: &mut Meter,
+) -> Result<Step, AllocError>
+    requires node { IsNodeOf plan.now node }
+    requires child { child < node }
+    requires item { item_site (site plan.now node) ≡ Some (site plan.now child) }
+    requires part { IsPart plan.now.pools (site plan.now node).node (list_data (items_of items.old.items)) }
+    requires limit { items_count (items_of items.old.items) < plan.now.limit }
+    ensures moved { IfOk result (λ step. AreItemsMoved step plan.now node (items_of items.old.items) (items_of items.new.items)) }
+    ensures steps { Costs plan.now meter.old meter.new (2 * items_count (items_of items.old.items)) }
+    ensures last { IfOk result (λ step. CostsLastStep step plan.now meter.old meter.new (items_count (items_of items.old.items))) }
+{
+    plan.no_dead_end();
+    plan.sound_parts();
+    plan.limit();
+    let mut room = 0;
+    while let Some(item) = items.pop() {
+        match advance_item(alloc, plan, node, child, item, items.as_slice(), meter)? {
+            Moved::To(next) => {
+                items.push(next)?;
+                first_items(alloc, plan, node, child, room, items, meter)?;
+                return Ok(Step::Moved);
+            }
+            Moved::Last(size) => {
+                room += size;
+                if let Step::Moved = grow_items(
+                    alloc,
+                    plan,
+                    node,
+                    child,
+                    room,
+                    size + 1,
+                    items,
+                    meter,
+                )? {
+                    return Ok(Step::Moved);
+                }
+            }
+        }
+    }
+    Ok(Step::Last(room))
+}
+
+/// The next part of as many nodes that an item can be, behind the others.
+#[cycle(advance)]
+fn advance_item<Z: SizeSet>(
+    alloc: Global,
+    plan: &Plan<Z>,
+    node: PlanNode,
+    child: PlanNode,
+    item: Tree,
+    items: &[Tree],
+    meter: &mut Meter,
+) -> Result<Moved, AllocError>
+    requires node { IsNodeOf plan.now node }
+    requires child { child < node }
+    requires first { AreFirst plan.now node child (items_of items.now) }
+    requires item { IsFreshItem plan.now node child (node_count (data_of item)) (items_of items.now) (data_of item) }
+    requires within { items_count (items_of items.now) + node_count (data_of item) < plan.now.limit }
+    ensures ok { IfOk result (λ moved. IsMoved (IsFreshItem plan.now node child (node_count (data_of item)) (items_of items.now)) (data_of item) moved) }
+    ensures steps { Costs plan.now meter.old meter.new (2 * node_count (data_of item)) }
+    ensures last { IfOk result (λ moved. CostsLast moved plan.now meter.old meter.new (node_count (data_of item))) }
+{
+    plan.no_dead_end();
+    plan.sound_parts();
+    plan.limit();
+    match plan.distinct(node) {
+        Distinct::Free => advance(alloc, plan, child, item, meter),
+        Distinct::Whole => next_unused(alloc, plan, child, &item, items, meter),
+        Distinct::Keys => {
+            let used = references(alloc, items)?;
+            advance_row(alloc, plan, child, item, used.as_slice(), meter)
+        }
+    }
+}

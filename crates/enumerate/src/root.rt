@@ -1,0 +1,59 @@
+//! Samples of a plan, by their sizes.
+ghost use Rattle.std.specs.Prelude.{◌≡◌, ◌+◌, ◌*◌, ◌≤◌, IfOk, Some};
+ghost use Rattle.jtree.specs.View.{data_of};
+ghost use Rattle.enumerate.specs.Page.{IsSampleOf};
+ghost use Rattle.enumerate.specs.Live.{IsNextSample};
+ghost use Rattle.enumerate.specs.View.{tree_of};
+ghost use Rattle.enumerate.specs.Internal.Nodes.{Costs};
+ghost use Rattle.enumerate.specs.Internal.Roots.{IsFirstFrom};
+
+use crate::filling::first;
+use crate::moved::Moved;
+use crate::moving::advance;
+use jtree::Tree;
+use plan::{Meter, Plan, SizeSet};
+use std::alloc::{AllocError, Global};
+
+/// The first sample of at least `from` nodes.
+pub(crate) fn first_from<Z: SizeSet>(
+    alloc: Global,
+    plan: &Plan<Z>,
+    from: u32,
+    meter: &mut Meter,
+) -> Result<Option<Tree>, AllocError>
+    ensures ok { IfOk result (λ found. IsFirstFrom plan.now from (tree_of found)) }
+    ensures steps { Costs plan.now meter.old meter.new plan.now.limit }
+{
+    let root = plan.root();
+    // A limit has 32 bits, so no sample has more nodes than can be counted.
+    let _ = plan.limit();
+    match plan.sizes(root).next(from) {
+        Some(size) => Ok(Some(first(alloc, plan, root, size, meter)?)),
+        None => Ok(None),
+    }
+}
+
+/// The next sample, made out of the sample.
+pub(crate) fn next_sample<Z: SizeSet>(
+    alloc: Global,
+    plan: &Plan<Z>,
+    tree: Tree,
+    meter: &mut Meter,
+) -> Result<Option<Tree>, AllocError>
+    requires sample { IsSampleOf plan.now (data_of tree) }
+    ensures ok { IfOk result (λ next. IsNextSample plan.now (Some (data_of tree)) (tree_of next)) }
+    ensures steps { Costs plan.now meter.old meter.new (2 * plan.now.limit) }
+{
+    let root = plan.root();
+    let limit = plan.limit();
+    match advance(alloc, plan, root, tree, meter)? {
+        Moved::To(next) => Ok(Some(next)),
+        Moved::Last(size) => {
+            if size < limit {
+                first_from(alloc, plan, size + 1, meter)
+            } else {
+                Ok(None)
+            }
+        }
+    }
+}
