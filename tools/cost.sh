@@ -1,5 +1,6 @@
 #!/usr/bin/env bash
-# What judging large schemas and objects costs: the time and the peak memory of a run for each.
+# What judging large schemas and objects costs, the time and the peak memory of a run for each; and what listing samples costs, as
+# ratios of times of this run.
 set -euo pipefail
 cd "$(dirname "$0")/.."
 root=$PWD
@@ -103,6 +104,67 @@ field_of() {
     between '{"type":"object","properties":{"x":' '}}' | define
 }
 
+# so many optional integers
+optional() {
+    awk -v count="$1" 'BEGIN {
+        printf "{\"type\":\"object\",\"properties\":{"
+        for (i = 0; i < count; i++) printf "%s\"f%d\":{\"type\":\"integer\"}", i ? "," : "", i
+        printf "}}"
+    }'
+}
+
+# the object of this number, from 0 on, among those of a required list of fifteen objects of three required truth values: all have
+# 62 nodes
+fifteen() {
+    awk -v number="$1" 'BEGIN {
+        items = ""
+        for (i = 0; i < 15; i++) {
+            digit = number % 8
+            number = int(number / 8)
+            item = sprintf("{\"a\":%s,\"b\":%s,\"c\":%s}", truth(digit >= 4), truth(digit % 4 >= 2), truth(digit % 2))
+            items = item (i ? "," : "") items
+        }
+        printf "{\"t\":[%s]}", items
+    }
+    function truth(is) { return is ? "true" : "false" }'
+}
+
+# pools with as many entries as there may be
+full_pools() {
+    awk 'BEGIN {
+        for (i = 0; i < 64; i++) {
+            integers = integers (i ? "," : "") i
+            strings = strings (i ? "," : "") "\"s" i "\""
+            any = any (i ? "," : "") "[" i "]"
+            if (i < 32) names = names (i ? "," : "") "\"n" i "\""
+        }
+        printf "{\"integers\":[%s],\"strings\":[%s],\"names\":[%s],\"any\":[%s]}", integers, strings, names, any
+    }'
+}
+
+# best WORD..: the least time of seven runs of these words, in microseconds
+best() {
+    local least=0 began took i
+    for ((i = 0; i < 7; i++)); do
+        began=${EPOCHREALTIME/[.,]/}
+        "$@" >"$folder/said" 2>"$folder/told"
+        took=$((${EPOCHREALTIME/[.,]/} - began))
+        [ "$least" -ne 0 ] && [ "$least" -le "$took" ] || least=$took
+    done
+    echo "$least"
+}
+
+# ratio NAME TIME TIME: the first time over the second
+ratio() {
+    awk -v name="$1" -v one="$2" -v other="$3" 'BEGIN { printf "%s: %.2f (%.1f ms against %.1f ms)\n", name, one / other, one / 1000, other / 1000 }'
+}
+
+# peak WORD..: the peak memory of a run of these words, in KiB
+peak() {
+    /usr/bin/time -f '%M' -o "$folder/cost" "$@" >"$folder/said" 2>"$folder/told"
+    tail -n 1 "$folder/cost"
+}
+
 # measure NAME FILE WORD..: what a run of these words costs, with the size of the document that is large
 measure() {
     local name=$1 file=$2
@@ -144,3 +206,30 @@ for row in validate:set:160000-integers validate:set:200000-integers-of-10000-va
     IFS=: read -r command schema object <<<"$row"
     measure "$command of $object by $schema" "$folder/objects/$object" "$command" "$folder/$schema" v1 "$folder/objects/$object"
 done
+
+# samples: a plan of many places with full pools and the greatest limit
+full_pools >"$folder/full-pools"
+for schema in 511-places-1-MiB 84-map-lists-of-4-keys; do
+    measure "a sample of $schema" "$folder/schemas/$schema" sample "$folder/schemas/$schema" v1 --pools "$folder/full-pools" --limit 63 --count 1
+done
+
+# 10,000 samples, against `cat` of their lines, and against reading all of them and printing them again, in one list
+optional 12 | define >"$folder/optional"
+echo '{"integers":[0,1]}' >"$folder/two"
+many=(./crdx sample "$folder/optional" v1 --pools "$folder/two" --limit 8 --count 10000)
+"${many[@]}" >"$folder/lines" 2>"$folder/told"
+paste -sd, "$folder/lines" | between '{"x":[' ']}' >"$folder/list-of-lines"
+listed=$(best "${many[@]}")
+printed=$(best ./crdx prune "$folder/preserving" v1 "$folder/list-of-lines")
+echo "$(wc -l <"$folder/lines") samples, $(stat -c %s "$folder/lines") bytes"
+ratio 'listed, against cat of the lines' "$listed" "$(best cat "$folder/lines")"
+ratio 'listed, against reading and printing them again (at most 2)' "$listed" "$printed"
+echo "peak memory of 10,000 samples, and of 64: $(peak "${many[@]}") KiB, $(peak "${many[@]::8}" --count 64) KiB"
+
+# 640 samples past the first and past the millionth of those that all have 62 nodes
+echo '{"type":"object","required":["t"],"properties":{"t":{"type":"array","minItems":15,"maxItems":15,"items":{"type":"object","required":["a","b","c"],"properties":{"a":{"type":"boolean"},"b":{"type":"boolean"},"c":{"type":"boolean"}}}}}}' | define >"$folder/fifteen"
+past() {
+    ./crdx sample "$folder/fifteen" v1 --limit 63 --count 640 --after "$(fifteen "$1")"
+}
+[ "$(past 999999 2>/dev/null | head -n 1)" = "$(fifteen 1000000)" ] || echo 'cost.sh: another sample past the millionth than wanted' >&2
+ratio 'past the millionth sample, against past the first (about 1)' "$(best past 999999)" "$(best past 0)"

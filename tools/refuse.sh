@@ -80,6 +80,7 @@ told() {
 # the rows, behind the files that they name
 
 echo 'crdx: end' >"$folder/end"
+echo 'crdx: more' >"$folder/more"
 echo 'structural' >"$folder/structural"
 # a definition with this schema
 define() {
@@ -108,6 +109,8 @@ widget=examples/widget
 
 row 'sample of the widget' lines 0 $widget/samples-of-4-nodes.txt "$folder/end" \
     sample $widget/crd.json v1 --pools $widget/pools.json --limit 4
+row 'sample past another, with a name' lines 0 examples/issuer/named-samples.txt "$folder/more" \
+    sample examples/issuer/crd.json v1 --pools examples/issuer/pools.json --limit 6 --count 2 --name web --after '{"spec":{"ca":{"secretName":"web"}}}'
 row 'check of two violations' nothing 1 "$folder/broken" /dev/null check "$folder/broken.json" v1
 row 'check of the widget' nothing 0 "$folder/structural" /dev/null check $widget/crd.json v1
 row 'check of two bad defaults' nothing 1 "$folder/bad-default" /dev/null check "$folder/bad-default.json" v1

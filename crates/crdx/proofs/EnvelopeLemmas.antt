@@ -13,12 +13,12 @@ use Rattle.jtree.specs.View.{data_of, members_of}
 use Rattle.jtree.specs.declared.value.Member.{Member}
 use Rattle.jtree.specs.Internal.Lookups.{bool_cases, option_cases, ordering_cases, same_name, own_name, IsNameBefore-trans, before_none, member_first, member_later, past_name}
 use Rattle.schema.specs.Document.Places.{is_envelope_name}
-use Rattle.crdx.specs.Objects.ByLevel.{in_front}
-use Rattle.crdx.specs.Objects.Filled.{without, with_member}
+use Rattle.crdx.specs.Output.Envelope.{with_member, with_members, members_of_envelope, in_envelope}
+use Rattle.crdx.specs.Internal.Members.{in_front, without}
 use Rattle.crdx.specs.Program.Envelope.{members_where, body_of, envelope_in, first_of, IsJoined, onto}
 use Rattle.crdx.specs.Internal.MemberPlace.{IsPlace}
-use Rattle.crdx.proofs.FilledNames.{before_of, replaced_at, replaced_elsewhere, replaced_sorted}
-use Rattle.crdx.proofs.FitsLemmas.{member_tree}
+use Rattle.crdx.proofs.NameLemmas.{before_of, member_tree, replaced_at, replaced_elsewhere, replaced_sorted}
+use Rattle.crdx.specs.declared.walk.line.Envelope.{Envelope}
 
 -- ---- the place of a name
 
@@ -254,3 +254,30 @@ back (list ds) w t is = is
 
 pub tree_back : (old new : Data) (ps : Members) → IsJoined old ps new → (v : Data) → IsTree v → body_of v ≡ old → envelope_in v ≡ ps → new ≡ v
 tree_back old new ps is v t body envelope = back v new t (subst (λ b. IsJoined b (envelope_in v) new) (sym body) (subst (λ e. IsJoined old e new) (sym envelope) is))
+
+-- ---- in an envelope
+
+with_members_at : (ps ms : Members) (j : List ℕ) → member_at j (with_members ps ms) ≡ first_of (member_at j ps) (member_at j ms)
+with_members_at no_members ms j = refl
+with_members_at (member k d ps) ms j = elim (bool_cases (bytes_eq j k)) [
+  | inl t ↦ rw t (rw (same_name j k t) (put_here k d (with_members ps ms)))
+  | inr f ↦ rw f (replaced_elsewhere j k (Some d) (with_members ps ms) f ∙ with_members_at ps ms j)
+]
+
+with_members_sorted : (ps ms : Members) → AreMembers ps → AreMembers ms → AreMembers (with_members ps ms)
+with_members_sorted no_members ms t sorted = sorted
+with_members_sorted (member k d ps) ms t sorted = replaced_sorted k (Some d) (with_members ps ms) t.0 (with_members_sorted ps ms t.2 sorted)
+
+envelope_sorted : (e : Envelope) → AreMembers (members_of_envelope e)
+envelope_sorted e = (tt, refl, (tt, refl, ((tt, tt, tt), tt, tt)))
+
+-- a tree that is joined with the members of an envelope is in it
+pub joined_is : (e : Envelope) (v w : Data) → IsTree v → IsJoined v (members_of_envelope e) w → w ≡ in_envelope e v
+joined_is e (object ms) w t is =
+    is.1 ∙ ap object (same_members is.0 (with_members (members_of_envelope e) ms) is.2 (with_members_sorted (members_of_envelope e) ms (envelope_sorted e) t)
+    (λ j. is.3 j ∙ sym (with_members_at (members_of_envelope e) ms j)))
+joined_is e null w t is = is
+joined_is e (boolean b) w t is = is
+joined_is e (integer z) w t is = is
+joined_is e (text s) w t is = is
+joined_is e (list ds) w t is = is

@@ -1,5 +1,5 @@
 -- What faults, pruning and completing say of the answer about a document.
-use Rattle.std.proofs.Common.{◌≡◌, List, [], ◌∷◌, length, map, true, false, arith, sym, subst, string_bytes}
+use Rattle.std.proofs.Common.{◌≡◌, List, [], ◌∷◌, None, length, map, true, false, arith, sym, subst, string_bytes}
 use Rattle.std.specs.Prelude.{◌==◌, codes}
 use Rattle.std.proofs.lemmas.Bool.Decides.{nat_tests}
 use Rattle.jtree.specs.Data.{Data, Members}
@@ -22,7 +22,7 @@ no_fault N v (f ∷ fs, are, same) path t is = cc
 
 -- the line of a body with its envelope
 abbrev pub IsPrinted : Data → Members → Answer → Type 0
-IsPrinted body envelope a = (a.status ≡ 0) × ((whole : Data) × IsJoined body envelope whole × (string_bytes a.text ≡ line whole))
+IsPrinted body envelope a = (a.status ≡ 0) × ((whole : Data) × IsJoined body envelope whole × (string_bytes a.text ≡ line None whole))
 
 module _ (N : Node) (document : Data) where
   pub valid_answer : (v : Data) (faults : List Fault) → body_of document ≡ v → AreFaults N v faults → (length faults == 0) ≡ true → IsObjectAnswer N document Validate 0 (codes "valid\n")

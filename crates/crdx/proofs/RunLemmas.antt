@@ -1,11 +1,9 @@
 -- How the causes of a run and its status go together with what is asked of the documents at hand.
-use Rattle.std.proofs.Common.{◌≡◌, ◌≢◌, ◌⊎◌, ℕ, List, [], ◌∷◌, Option, Some, None, Bor, Ok, Err, refl, sym, ap, subst, inl, inr, take, map, string_bytes, IsSomeAnd, Bool, true, length, codes, ◌∙◌, append-nil, arith}
-use Rattle.std.specs.Prelude.{◌==◌}
+use Rattle.std.proofs.Common.{◌≡◌, ◌≢◌, ◌⊎◌, ℕ, List, [], ◌∷◌, Option, Some, None, Bor, Ok, Err, refl, ap, subst, inl, inr, take, map, string_bytes, IsSomeAnd, Bool, codes, ◌∙◌, arith}
 use Rattle.std.specs.Io.KnownBytes.{Appends, Keeps}
 use Rattle.jtree.specs.Data.{Data}
 use Rattle.jtree.specs.Internal.OrderLaws.{tree_total}
 use Rattle.jtree.specs.Internal.Rising.{contained}
-use Rattle.schema.specs.Rules.Broken.{Broken}
 use Rattle.schema.specs.Rules.Breaks.{Break, Breaking, AreViolations, IsUnbroken, told, told_of}
 use Rattle.schema.specs.declared.refused.Refused.{Refused}
 use Rattle.schema.specs.declared.refused.Refused.TheVariants as refusal
@@ -13,23 +11,23 @@ use Rattle.stored.specs.Schemas.Accepted.{IsBroken, IsRefusal}
 use Rattle.schema.specs.Document.ReadFault.{IsReadFault}
 use Rattle.schema.specs.declared.fault.SFault.{SFault}
 use Rattle.schema.specs.declared.fault.SFault.TheVariants as s
-use Rattle.crdx.specs.declared.simple.refused.Refused.{Refused as SimpleRefused}
-use Rattle.crdx.specs.declared.simple.refused.Refused.TheVariants as simple
 use Rattle.schema.specs.declared.violation.Violation.{Violation}
-use Rattle.crdx.specs.Program.RunResult.{IsRunResult, answered, refused, unread_input, unwritten, no_memory, IsInputRefused, IsAnswer, structural, violations, no_object, no_samples, told_lines, HasBreaks, IsCutByMemory, IsCutByWrite}
+use Rattle.crdx.specs.Program.RunResult.{IsRunResult, answered, refused, unread_input, unwritten, no_memory, IsInputRefused, IsAnswer, structural, violations, no_object, no_sample, no_samples, told_lines, HasBreaks, IsCutByMemory, IsCutByWrite}
 use Rattle.crdx.specs.Output.Line.{lines}
 use Rattle.crdx.specs.Output.PartialOutput.{IsPartialOutput}
 use Rattle.crdx.specs.Output.Walk.{WritesPage}
-use Rattle.crdx.specs.Program.Requested.{IsRequested, IsRequestedSchema, HasAcceptedSchema, HasSimpleSchema, IsCrdRefused}
+use Rattle.crdx.specs.Program.Requested.{IsRequested, IsRequestedSchema, HasAcceptedSchema, IsCrdRefused, ArePools}
 use Rattle.crdx.specs.Program.Documents.{Documents, file_name, AreAmong}
-use Rattle.crdx.specs.Internal.ExitStatus.{status, cause_of_reading, cause_of_refusal, cause_of_simple_refusal, cause_of_pools, cause_of_walk, IsGiven}
-use Rattle.crdx.specs.Internal.Cause.{IsUnreadCause, IsReadCause, IsBrokenCause, IsUnknownCause, IsSchemaCause, IsPoolsCause, IsInputCause, IsSampleCause, IsWalkCause}
-use Rattle.crdx.specs.Samples.Sample.{Question}
-use Rattle.crdx.specs.Objects.Refusal.{IsRefusal as IsSimpleRefusal}
-use Rattle.crdx.specs.declared.plan.fault.PFault.{PFault}
-use Rattle.crdx.specs.declared.plan.fault.PFault.TheVariants.{Form}
-use Rattle.crdx.specs.declared.plan.fault.PFault.TheVariants as p
-use Rattle.crdx.specs.Samples.PoolFault.{IsPoolsFault}
+use Rattle.crdx.specs.Internal.ExitStatus.{status, cause_of_reading, cause_of_refusal, cause_of_pools, cause_of_walk, IsGiven}
+use Rattle.crdx.specs.Internal.Cause.{IsUnreadCause, IsReadCause, IsBrokenCause, IsSchemaCause, IsPoolsCause, IsTextCause, IsAfterCause, IsInputCause, IsSampleCause, IsWalkCause}
+use Rattle.plan.specs.Pools.Pools.{Pools}
+use Rattle.plan.specs.Pools.PoolsFault.{IsPoolsFault}
+use Rattle.plan.specs.Samples.Question.{Question}
+use Rattle.plan.specs.declared.fault.PFault.{PFault}
+use Rattle.plan.specs.declared.fault.PFault.TheVariants.{Form}
+use Rattle.plan.specs.declared.fault.PFault.TheVariants as p
+use Rattle.enumerate.specs.Page.{IsSampleOf}
+use Rattle.crdx.specs.declared.walk.line.Envelope.{Envelope}
 use Rattle.crdx.specs.declared.running.causes.Input.TheVariants as input
 use Rattle.crdx.specs.declared.running.causes.PlaceCode.TheVariants as code
 use Rattle.crdx.specs.declared.running.causes.Cause.{Cause}
@@ -45,6 +43,7 @@ use Rattle.crdx.specs.declared.walk.fault.WFault.TheVariants as w
 use Rattle.crdx.specs.Output.Sink.{HasFailed, one_more}
 use Rattle.std.proofs.lemmas.Bool.Decides.{nat_tests}
 use Rattle.crdx.proofs.PageLemmas.{same_items}
+use Rattle.crdx.proofs.WalkLemmas.{Appends-nothing}
 
 module _ (has : Documents) (unread read : ℕ) (crd version : List ℕ) where
   pub cause_of_fault : (d : Data) (fault : SFault) → has (Some crd) (Ok d) → IsReadFault d version fault → IsReadCause has unread read crd version (cause_of_reading fault)
@@ -84,28 +83,13 @@ pub refused_schema : (raw : Data) (r : Refused) → IsRefusal raw r → IsBroken
 refused_schema raw (refusal.Violations vs) is = is
 refused_schema raw refusal.NoMemory is = tt
 
-pub none_found : (raw : Data) (vs : List Violation) → AreViolations (IsBroken raw) vs → (length vs == 0) ≡ true → IsUnbroken (IsBroken raw)
-none_found raw [] are none = none_broken (IsBroken raw) are
-none_found raw (v ∷ vs) are none = absurd (grind (arith, nat_tests))
-
--- where no rule is broken, a refusal says no violations
-no_violations : (raw : Data) (vs : List Violation) → IsUnbroken (IsBroken raw) → AreViolations (Broken raw) vs → vs ≢ [] → ⊥
-no_violations raw [] unbroken are some = some refl
-no_violations raw (v ∷ vs) unbroken ([], are, same) some = cc
-no_violations raw (v ∷ vs) unbroken (b ∷ breaks, are, same) some = unbroken b.place b.rule (inl (are.each 0 b (omega arith)))
-
-pub refused_simple : (raw : Data) (r : SimpleRefused) → IsUnbroken (IsBroken raw) → IsSimpleRefusal raw r → IsUnknownCause raw (cause_of_simple_refusal r)
-refused_simple raw (simple.Violations vs) unbroken is = absurd (no_violations raw vs.items unbroken is.0 is.1)
-refused_simple raw (simple.NotYet p) unbroken is = (unbroken, is.1)
-refused_simple raw simple.NoMemory unbroken is = tt
-
 module _ (has : Documents) (unread read : ℕ) (arguments : ObjectArguments) where
   object_refused : (raw : Data) (cause : Cause) → IsRequestedSchema has arguments.crd.now arguments.version.now raw → IsBrokenCause raw cause → IsInputCause has unread read (Object arguments) cause
   object_refused raw (Violations vs) asked why = let found = broken has unread read arguments.crd.now arguments.version.now raw vs.items asked why.0 why.1 in no_object arguments found.0 found.2
   object_refused raw NoMemory asked why = tt
   object_refused raw _ asked why = absurd why
 
-  pub object_schema : (cause : Cause) → IsSchemaCause has unread read arguments.crd.now arguments.version.now IsBrokenCause cause → IsInputCause has unread read (Object arguments) cause
+  pub object_schema : (cause : Cause) → IsSchemaCause has unread read arguments.crd.now arguments.version.now cause → IsInputCause has unread read (Object arguments) cause
   object_schema cause (inl why) = input_of_reading has unread read arguments.crd.now arguments.version.now (Object arguments) cause (λ r. inl r) why
   object_schema cause (inr why) = object_refused why.0 cause why.1 why.2
 
@@ -118,13 +102,12 @@ module _ (has : Documents) (unread read : ℕ) (arguments : ObjectArguments) whe
   object_input later _ among unbroken why = absurd why
 
 module _ (has : Documents) (unread read : ℕ) (arguments : SampleArguments) where
-  sample_refused : (raw : Data) (cause : Cause) → IsRequestedSchema has arguments.crd.now arguments.version.now raw → IsUnknownCause raw cause → IsInputCause has unread read (Sample arguments) cause
-  sample_refused raw (Place input.Crd code.NotYet p) asked why = inr (inl (string_bytes p, (raw, asked, why.0, why.1)))
+  sample_refused : (raw : Data) (cause : Cause) → IsRequestedSchema has arguments.crd.now arguments.version.now raw → IsBrokenCause raw cause → IsInputCause has unread read (Sample arguments) cause
   sample_refused raw (Violations vs) asked why = let found = broken has unread read arguments.crd.now arguments.version.now raw vs.items asked why.0 why.1 in no_samples arguments found.0 found.2
   sample_refused raw NoMemory asked why = tt
   sample_refused raw _ asked why = absurd why
 
-  pub sample_schema : (cause : Cause) → IsSchemaCause has unread read arguments.crd.now arguments.version.now IsUnknownCause cause → IsInputCause has unread read (Sample arguments) cause
+  pub sample_schema : (cause : Cause) → IsSchemaCause has unread read arguments.crd.now arguments.version.now cause → IsInputCause has unread read (Sample arguments) cause
   sample_schema cause (inl why) = input_of_reading has unread read arguments.crd.now arguments.version.now (Sample arguments) cause (λ r. inl r) why
   sample_schema cause (inr why) = sample_refused why.0 cause why.1 why.2
 
@@ -140,22 +123,34 @@ among_some first second None r q f is = is
 among_some first second (Some n) r q f is = f n is
 
 -- the pools are read of documents that were at hand before, where the schema is accepted
-pub pools_input : (has later : Documents) (unread read : ℕ) (arguments : SampleArguments) (cause : Cause) → AreAmong later has → HasSimpleSchema has arguments.crd.now arguments.version.now
+pub pools_input : (has later : Documents) (unread read : ℕ) (arguments : SampleArguments) (cause : Cause) → AreAmong later has → HasAcceptedSchema has arguments.crd.now arguments.version.now
     → IsPoolsCause later unread read arguments.pools cause → IsInputCause has unread read (Sample arguments) cause
 pools_input has later unread read arguments (Unread i) among accepted why = why.1
 pools_input has later unread read arguments (Document i fault) among accepted why =
-    inr (inr (accepted, inl (fault, why.1, among_some later has arguments.pools _ _ (λ n is. among (Some n.now) (Err fault) is) why.2)))
+    inr (accepted, inl (inl (fault, why.1, among_some later has arguments.pools _ _ (λ n is. among (Some n.now) (Err fault) is) why.2)))
 pools_input has later unread read arguments (PoolsCause fault) among accepted why =
-    inr (inr (accepted, inr (fault, among_some later has arguments.pools _ _ (λ n is. (is.0, among (Some n.now) (Ok is.0) is.1, is.2, is.3)) why)))
+    inr (accepted, inl (inr (fault, among_some later has arguments.pools _ _ (λ n is. (is.0, among (Some n.now) (Ok is.0) is.1, is.2, is.3)) why)))
 pools_input has later unread read arguments (Place input.Pools code.Form p) among accepted why =
-    inr (inr (accepted, inr (Form p, among_some later has arguments.pools _ _ (λ n is. (is.0, among (Some n.now) (Ok is.0) is.1, is.2, is.3)) why)))
+    inr (accepted, inl (inr (Form p, among_some later has arguments.pools _ _ (λ n is. (is.0, among (Some n.now) (Ok is.0) is.1, is.2, is.3)) why)))
 pools_input has later unread read arguments NoMemory among accepted why = tt
 pools_input has later unread read arguments _ among accepted why = absurd why
 
-Appends-nothing : (old new : Option (List ℕ)) → Keeps old new → Appends old new []
-Appends-nothing None new keeps = tt
-Appends-nothing (Some x) None keeps = absurd keeps
-Appends-nothing (Some x) (Some y) keeps = keeps ∙ sym (append-nil x)
+-- pools of documents that were at hand before
+pub pools_before : (has later : Documents) (name : Option (Bor (List ℕ))) (P : Pools) → AreAmong later has → ArePools later name P → ArePools has name P
+pools_before has later None P among is = is
+pools_before has later (Some n) P among is = (is.0, among (Some n.now) (Ok is.0) is.1, is.2, is.3)
+
+text_input : (has : Documents) (unread read : ℕ) (arguments : SampleArguments) (text : Bor (List ℕ)) (cause : Cause) → arguments.after ≡ Some text → HasAcceptedSchema has arguments.crd.now arguments.version.now
+    → (P : Pools) → ArePools has arguments.pools P → IsTextCause text.now cause → IsInputCause has unread read (Sample arguments) cause
+text_input has unread read arguments text (Document i fault) is accepted P are why = inr (accepted, inr ((P, are), (fault, why.1, rw is why.2)))
+text_input has unread read arguments text NoMemory is accepted P are why = tt
+text_input has unread read arguments text _ is accepted P are why = absurd why
+
+-- the tree to go on from is read where the schema and the pools are taken
+pub after_input : (has : Documents) (unread read : ℕ) (arguments : SampleArguments) (after : Option (Bor (List ℕ))) (cause : Cause) → arguments.after ≡ after → HasAcceptedSchema has arguments.crd.now arguments.version.now
+    → (P : Pools) → ArePools has arguments.pools P → IsAfterCause after cause → IsInputCause has unread read (Sample arguments) cause
+after_input has unread read arguments None cause is accepted P are why = absurd why
+after_input has unread read arguments (Some text) cause is accepted P are why = text_input has unread read arguments text cause is accepted P are why
 
 module _ (has : Documents) (unread read : ℕ) (request : Request) (old new : Option (List ℕ)) (before now : ℕ) where
   kept : Keeps old new → (r : Request) → IsCutByMemory has r old new
@@ -188,29 +183,38 @@ module _ (has : Documents) (unread read : ℕ) (request : Request) (old new : Op
   result_of_given answer code is cut (inr failed) = unwritten code failed.0 failed.1 (cut failed.2.0 failed.2.1)
 
 -- why a walk stopped, as the cause that its fault becomes
-pub walk_cause : (q : Question) (count : ℕ) (old new : Option (List ℕ)) (before now : ℕ) (fault : WFault) → IsPartialOutput q None count old new before now fault → IsWalkCause q count old new before now (cause_of_walk fault)
-walk_cause q count old new before now w.NotASample is = absurd is.0
-walk_cause q count old new before now (w.NoMemory n) is = (is.0, (n, is.1))
-walk_cause q count old new before now (w.Write n) is = (is.0, λ items end page. inl (n, is.1 items end page))
+pub walk_cause : (q : Question) (after : Option Data) (count : ℕ) (e : Option Envelope) (old new : Option (List ℕ)) (before now : ℕ) (fault : WFault)
+    → IsPartialOutput q after count e old new before now fault → IsWalkCause q after count e old new before now (cause_of_walk fault)
+walk_cause q after count e old new before now w.NotASample is = is
+walk_cause q after count e old new before now (w.NoMemory n) is = (is.0, (n, is.1))
+walk_cause q after count e old new before now (w.Write n) is = (is.0, λ items end page. inl (n, is.1 items end page))
 
 -- all lines were taken, and the flush behind them failed
-pub flush_cause : (q : Question) (count lines_out n : ℕ) (end : Bool) (old new : Option (List ℕ)) (before now : ℕ) → WritesPage q None count lines_out end old new → HasFailed before now
-    → IsWalkCause q count old new before now (Write n)
-flush_cause q count lines_out n end old new before now wrote failed =
-    (failed, λ items end' page. inr (subst (λ us. Appends old new (lines us)) (same_items tree_total q None count wrote.items items end end' wrote.page page) wrote.written))
+pub flush_cause : (q : Question) (after : Option Data) (count : ℕ) (e : Option Envelope) (lines_out n : ℕ) (end : Bool) (old new : Option (List ℕ)) (before now : ℕ)
+    → WritesPage q after count e lines_out end old new → HasFailed before now → IsWalkCause q after count e old new before now (Write n)
+flush_cause q after count e lines_out n end old new before now wrote failed =
+    (failed, λ items end' page. inr (subst (λ us. Appends old new (lines e us)) (same_items tree_total q after count wrote.items items end end' wrote.page page) wrote.written))
 
 module _ (has : Documents) (unread read : ℕ) (arguments : SampleArguments) (old new : Option (List ℕ)) (before now : ℕ) where
-  result_of_walk : (q : Question) (cause : Cause) (answer : ℕ) → IsRequested has arguments q → IsWalkCause q arguments.count old new before now cause → (answer ≡ status cause) ⊎ (answer ≡ 5)
-      → IsRunResult has unread read (Sample arguments) old new before now answer
-  result_of_walk q (Write n) answer asked why is = unwritten answer is why.0 (q, asked, why.1)
-  result_of_walk q NoMemory answer asked why (inl e) = rw e (no_memory (inr (q, asked, why.1.0, why.1.1)) why.0)
-  result_of_walk q NoMemory answer asked why (inr e) = rw e (no_memory (inr (q, asked, why.1.0, why.1.1)) why.0)
-  result_of_walk q _ answer asked why is = absurd why
+  -- the tree to go on from is no sample
+  result_of_no_sample : (q : Question) (after : Option Data) (e : Option Envelope) → IsRequested has arguments q after e → IsSomeAnd after (λ a. IsSampleOf q a → ⊥) → Keeps old new → now ≡ before
+      → IsRunResult has unread read (Sample arguments) old new before now 1
+  result_of_no_sample q None e asked none keeps same = absurd none
+  result_of_no_sample q (Some a) e asked none keeps same = answered 1 [] (no_sample arguments q a e asked none) (Appends-nothing old new keeps) same
+
+  result_of_walk : (q : Question) (after : Option Data) (e : Option Envelope) (cause : Cause) (answer : ℕ) → IsRequested has arguments q after e → IsWalkCause q after arguments.count e old new before now cause
+      → (answer ≡ status cause) ⊎ (answer ≡ 5) → IsRunResult has unread read (Sample arguments) old new before now answer
+  result_of_walk q after e (Write n) answer asked why is = unwritten answer is why.0 (q, after, e, asked, why.1)
+  result_of_walk q after e NoMemory answer asked why (inl five) = rw five (no_memory (inr (q, after, e, asked, why.1.0, why.1.1)) why.0)
+  result_of_walk q after e NoMemory answer asked why (inr five) = rw five (no_memory (inr (q, after, e, asked, why.1.0, why.1.1)) why.0)
+  result_of_walk q after e NotASample answer asked why (inl one) = rw one (result_of_no_sample q after e asked why.0 why.1 why.2)
+  result_of_walk q after e NotASample answer asked why (inr five) = result_of_nothing has unread read (Sample arguments) old new before now answer why.1 why.2 five
+  result_of_walk q after e _ answer asked why is = absurd why
 
   pub result_of_sample : (cause : Cause) (answer : ℕ) → IsSampleCause has unread read arguments old new before now cause → (answer ≡ status cause) ⊎ (answer ≡ 5)
       → IsRunResult has unread read (Sample arguments) old new before now answer
   result_of_sample cause answer (inl why) is = result_of_input has unread read (Sample arguments) old new before now cause answer why.0 why.1 why.2 is
-  result_of_sample cause answer (inr why) is = result_of_walk why.0 cause answer why.1 why.2 is
+  result_of_sample cause answer (inr (q, after, e, asked, why)) is = result_of_walk q after e cause answer asked why is
 
 pub failed_once : (before now : ℕ) → now ≡ one_more before → HasFailed before now
 failed_once before now is = grind (arith, nat_tests)

@@ -1,12 +1,8 @@
--- What private contracts alone cite: codes, measures, and what a loop knows.
-pub mod NodeCode
-pub mod NodeMeasures
-pub mod Acceptance
-pub mod PoolForm
-pub mod Values
-pub mod Building
+-- What private contracts alone cite: members by their names, what a loop knows, and why a run has no answer.
+pub mod Members
+pub mod MemberPlace
 pub mod Block
 pub mod PartialLines
+pub mod Progress
 pub mod Cause
 pub mod ExitStatus
-pub mod MemberPlace

@@ -1,5 +1,3 @@
-pub mod Objects
-pub mod Samples
-pub mod Output
 pub mod Program
+pub mod Output
 pub mod Internal

@@ -1,4 +1,5 @@
 -- What is written, and what is out where writing fails.
+pub mod Envelope
 pub mod Line
 pub mod Sink
 pub mod Walk

@@ -1,16 +1,17 @@
 //! The envelope of a resource, which no schema has a say in: it is taken off an object, and put back.
 ghost use Rattle.std.specs.Prelude.{◌≡◌, ◌+◌, ◌<◌, ◌≤◌, ℕ, List, length, true, false, IfOk, IfErr, OnOk, OnErr};
 ghost use Rattle.std.specs.Vec.{vec_len, vec_capacity};
-ghost use Rattle.jtree.specs.Data.{Data, Members as MembersData, no_members, IsTree, AreMembers};
+ghost use Rattle.jtree.specs.Data.{Data, text, Members as MembersData, no_members, IsTree, AreMembers};
 ghost use Rattle.jtree.specs.Path.{member_at};
 ghost use Rattle.jtree.specs.View.{data_of, members_of};
-ghost use Rattle.crdx.specs.Objects.ByLevel.{in_front};
-ghost use Rattle.crdx.specs.Objects.Filled.{without};
+ghost use Rattle.crdx.specs.Output.Envelope.{members_of_envelope};
 ghost use Rattle.crdx.specs.Program.Envelope.{body_of, envelope_in, first_of, IsJoined, onto};
 ghost use Rattle.crdx.specs.Internal.MemberPlace.{IsPlace};
+ghost use Rattle.crdx.specs.Internal.Members.{in_front, without};
 
-use jtree::{Member, Members, Tree};
-use std::alloc::AllocError;
+use crate::walk::Envelope;
+use jtree::{Member, Members, Text, Tree};
+use std::alloc::{AllocError, Global};
 use std::cmp::Ordering;
 use std::marker::Model;
 
@@ -77,6 +78,32 @@ pub fn join(tree: &mut Tree, parts: Parts) -> Result<(), AllocError>
         drop(parts);
     }
     Ok(())
+}
+
+/// The members of an envelope.
+pub(crate) fn parts_of(alloc: Global, envelope: &Envelope) -> Result<Parts, AllocError>
+    ensures { IfOk result (λ parts. parts ≡ members_of_envelope envelope.now) }
+{
+    let mut metadata = Vec::with_capacity(alloc, 1)?;
+    metadata.push(text_member(alloc, "name", &envelope.name)?)?;
+    Ok(Parts {
+        api_version: Some(text_member(alloc, "apiVersion", &envelope.api_version)?),
+        kind: Some(text_member(alloc, "kind", &envelope.kind)?),
+        metadata: Some(Member {
+            name: Text::from_str(alloc, "metadata")?,
+            tree: Tree::Object(Members { members: metadata }),
+        }),
+    })
+}
+
+/// The member of a name, with a text.
+fn text_member(alloc: Global, name: &str, value: &Text) -> Result<Member, AllocError>
+    ensures { IfOk result (λ m. (m.name ≡ name.now) × (data_of m.tree ≡ text value.now)) }
+{
+    Ok(Member {
+        name: Text::from_str(alloc, name)?,
+        tree: Tree::Text(value.copy(alloc)?),
+    })
 }
 
 /// Takes the member of a name off.

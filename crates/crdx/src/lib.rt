@@ -2,13 +2,10 @@
 #![tactic(auto)]
 
 pub mod arguments;
-pub mod enumerate;
 mod envelope;
 pub mod inputs;
 pub mod phrases;
-pub mod plan;
 mod running;
-pub mod simple;
 pub mod sink;
 pub mod walk;
 

@@ -2,7 +2,11 @@
 
 mod blocks;
 mod fault;
+mod law;
+mod line;
 mod walking;
 
 pub use fault::WFault;
+pub use law::pages_agree;
+pub use line::Envelope;
 pub use walking::{Walked, walk};

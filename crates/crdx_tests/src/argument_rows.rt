@@ -9,12 +9,13 @@ use std::alloc::{AllocError, Global};
 use std::process::Abort;
 use std::test::Fail;
 
-// A name, a command line, and what it asks for: the file, the version, and the object or the pools, the limit and the count.
-static REQUESTS: [(&str, &str, &str); 7] = [
+// A name, a command line, and what it asks for: the file, the version, and the object, or the pools, the sample to go on from, the
+// name, the limit and the count.
+static REQUESTS: [(&str, &str, &str); 8] = [
     (
         "a sample",
         "crdx sample c.json v1",
-        "sample c.json v1 - 8 100",
+        "sample c.json v1 - - - 8 100",
     ),
     ("a check", "crdx check c.json v1", "check c.json v1"),
     (
@@ -35,12 +36,17 @@ static REQUESTS: [(&str, &str, &str); 7] = [
     (
         "the least limit and count",
         "crdx sample c.json v1 --pools p.json --limit 1 --count 1",
-        "sample c.json v1 p.json 1 1",
+        "sample c.json v1 p.json - - 1 1",
     ),
     (
         "the greatest limit and count",
         "crdx sample --limit 63 --count=10000 - v1beta1",
-        "sample - v1beta1 - 63 10000",
+        "sample - v1beta1 - - - 63 10000",
+    ),
+    (
+        "a sample to go on from, and a name",
+        "crdx sample c.json v1 --name w --after {\"a\":0}",
+        "sample c.json v1 - {\"a\":0} w 8 100",
     ),
 ];
 
@@ -158,8 +164,8 @@ static HELP: [(&str, &str, &str); 11] = [
 ];
 
 // What a run can answer, and the codes that it can print: each begins a line of the help.
-static ANSWERS: [&str; 16] = [
-    "0", "1", "2", "3", "4", "5", "J1", "J3", "J4", "S0", "S1", "S2", "S3", "S4", "P1", "P2",
+static ANSWERS: [&str; 15] = [
+    "0", "1", "2", "3", "4", "5", "J1", "J3", "J4", "S1", "S2", "S3", "S4", "P1", "P2",
 ];
 
 // The rules and the faults that a run can print: each begins a line of the help.
@@ -190,11 +196,15 @@ fn said_of_sample(alloc: Global, asked: &SampleArguments<'_>) -> Result<String, 
         crd,
         version,
         pools,
+        after,
+        name,
         limit,
         count,
     } = asked;
     let pools = pools.unwrap_or("-");
-    format!(in alloc; "sample {crd} {version} {pools} {limit} {count}")
+    let after = after.unwrap_or("-");
+    let name = name.unwrap_or("-");
+    format!(in alloc; "sample {crd} {version} {pools} {after} {name} {limit} {count}")
 }
 
 fn said_of_check(alloc: Global, asked: &CheckArguments<'_>) -> Result<String, AllocError> {

@@ -1,10 +1,10 @@
 //! Sinks that fail: what is out by then, and what is said of it.
 use crate::documents::{BROKEN, BROKEN_LINES, TEN_LINES, WIDGET, ZERO_AND_ONE};
 use crate::fakes::{FailingSink, FakeInputs};
-use crate::harness::{is_answer, is_number, is_text, plan_of, run_on};
-use crdx::plan::Plan;
+use crate::harness::{is_answer, is_number, is_text, made, run_on};
 use crdx::sink::{Plain, Sink, SinkFault};
 use crdx::walk::{WFault, Walked, walk};
+use plan::{Meter, Plan};
 use std::alloc::{AllocError, Global};
 use std::io;
 use std::io::Write;
@@ -185,8 +185,7 @@ fn unflushed_runs(rt: HostRuntime) -> Result<(), Fail> {
     Ok(())
 }
 
-const ONE_INTEGER: &str =
-    r#"{"apiVersion":"apiextensions.k8s.io/v1","kind":"CustomResourceDefinition","spec":{"group":"example.com","names":{"kind":"Widget"},"versions":[{"name":"v1","schema":{"openAPIV3Schema":{"type":"object","properties":{"a":{"type":"integer"}}}}}]}}"#;
+const ONE_INTEGER: &str = r#"{"type":"object","properties":{"a":{"type":"integer"}}}"#;
 
 const MOST_INTEGERS: &str =
     r#"{"integers":[0,1,2,3,4,5,6,7,8,9,10,11,12,13,14,15,16,17,18,19,20,21,22,23,24,25,26,27,28,29,30,31,32,33,34,35,36,37,38,39,40,41,42,43,44,45,46,47,48,49,50,51,52,53,54,55,56,57,58,59,60,61,62,63]}"#;
@@ -231,14 +230,16 @@ fn is_walk(
 fn try_walk(
     rt: &impl Abort,
     alloc: Global,
-    plan: &Plan,
+    plan: &Plan<u64>,
     lines: &str,
     room: usize,
-    row: &(&str, usize, bool),
+    row: &(&str, u32, usize, bool),
+    meter: &mut Meter,
 ) {
-    let (name, step, answers_zero) = *row;
+    let (name, page, step, answers_zero) = *row;
     let mut sink = FailingSink::new(alloc, room, step, answers_zero);
-    let walked = walk(alloc, plan, None, u32::MAX, &mut sink);
+    let page = page.clamp(1, 10000);
+    let walked = walk(alloc, plan, None, page, 10000, None, meter, &mut sink);
     is_walk(rt, walked, wanted_of(lines, room), name);
     is_text(rt, sink.text(), beginning(lines, room), "the output", name);
     let failures = (room < lines.len()) as u64;
@@ -246,25 +247,33 @@ fn try_walk(
 }
 
 /// A sink is full behind each byte in turn.
-fn try_walks(rt: &impl Abort, alloc: Global, plan: &Plan, lines: &str, row: &(&str, usize, bool)) {
+fn try_walks(
+    rt: &impl Abort,
+    alloc: Global,
+    plan: &Plan<u64>,
+    lines: &str,
+    row: &(&str, u32, usize, bool),
+    meter: &mut Meter,
+) {
     for room in 0..=lines.len() {
-        try_walk(rt, alloc, plan, lines, room, row);
+        try_walk(rt, alloc, plan, lines, room, row, meter);
     }
 }
 
-// A name, how many bytes the sink takes a call, and whether it answers 0 when it is full, or fails.
-static SINKS: [(&str, usize, bool); 3] = [
-    ("a sink that fails", 4096, false),
-    ("a slow sink that takes no more", 50, true),
-    ("a sink of a byte a call that takes no more", 1, true),
+// A name, the size of a page, how many bytes the sink takes a call, and whether it answers 0 when it is full, or fails.
+static SINKS: [(&str, u32, usize, bool); 3] = [
+    ("a sink that fails", 10000, 4096, false),
+    ("a slow sink that takes no more", 10000, 50, true),
+    ("a sink of a byte a call that takes no more", 20, 1, true),
 ];
 
 #[test]
 fn walks(rt: HostRuntime) -> Result<(), Fail> {
-    let plan = plan_of(rt.alloc(), ONE_INTEGER, MOST_INTEGERS, 2)?;
+    let mut plan = made(rt.alloc(), (ONE_INTEGER, MOST_INTEGERS, 2))?;
+    let mut meter = plan.meter();
     let lines = many_lines(rt.alloc())?;
     for row in &SINKS {
-        try_walks(&rt, rt.alloc(), &plan, lines.as_str(), row);
+        try_walks(&rt, rt.alloc(), &plan, lines.as_str(), row, &mut meter);
     }
     Ok(())
 }

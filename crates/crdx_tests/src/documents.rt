@@ -28,12 +28,20 @@ pub const TRUTHS: &str =
 pub const MAP_LIST: &str =
     r#"{"type":"object","properties":{"m":{"type":"array","x-kubernetes-list-type":"map","x-kubernetes-list-map-keys":["k"],"items":{"type":"object","properties":{"k":{"type":"string"},"v":{"type":"integer"}},"required":["k"]}}}}"#;
 
+/// The same, of at least three items.
+pub const LONG_MAP_LIST: &str =
+    r#"{"type":"object","properties":{"m":{"type":"array","minItems":3,"x-kubernetes-list-type":"map","x-kubernetes-list-map-keys":["k"],"items":{"type":"object","properties":{"k":{"type":"string"},"v":{"type":"integer"}},"required":["k"]}}}}"#;
+
 /// Pools of two texts and an integer.
 pub const TWO_TEXTS: &str = r#"{"strings":["a","b"],"integers":[0]}"#;
 
 /// An integer `a` and a truth value `b` below `spec`: the schema of `WIDGET`.
 pub const SPEC: &str =
     r#"{"type":"object","properties":{"spec":{"type":"object","properties":{"a":{"type":"integer"},"b":{"type":"boolean"}}}}}"#;
+
+/// Fifteen objects of three truth values.
+pub const FIFTEEN: &str =
+    r#"{"type":"object","required":["t"],"properties":{"t":{"type":"array","minItems":15,"maxItems":15,"items":{"type":"object","required":["a","b","c"],"properties":{"a":{"type":"boolean"},"b":{"type":"boolean"},"c":{"type":"boolean"}}}}}}"#;
 
 /// A set of integers.
 pub const SET: &str =

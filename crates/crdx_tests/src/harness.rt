@@ -1,12 +1,12 @@
 //! Runs of the program over documents of memory, and what comes of them.
 use crate::fakes::{FailingSink, FakeInputs, Reads};
-use crdx::plan::{Plan, Pools};
-use crdx::simple::{Schema, accept};
 use jtree::Tree;
+use plan::{Plan, Pools};
 use schema::{Crd, SFault, Shape, read_crd, shape};
 use std::alloc::{AllocError, Global};
 use std::process::Abort;
 use std::test::Fail;
+use stored::{Schema, accept};
 
 /// What came of a run.
 #[derive(Drop)]
@@ -108,9 +108,9 @@ pub fn definition(alloc: Global, schema: &str) -> Result<String, AllocError> {
     Ok(document)
 }
 
-/// The accepted schema of version `v1` of a CustomResourceDefinition.
-pub fn schema_of(alloc: Global, crd: &str) -> Result<Schema, Fail> {
-    let crd = read(alloc, crd)??;
+/// The accepted schema of a definition with this schema.
+pub fn schema_of(alloc: Global, schema: &str) -> Result<Schema, Fail> {
+    let crd = crd_of(alloc, schema)??;
     Ok(accept(alloc, crd.raw)?)
 }
 
@@ -120,10 +120,11 @@ pub fn pools_of(alloc: Global, pools: &str) -> Result<Pools, Fail> {
     Ok(Pools::read(alloc, &document)?)
 }
 
-/// The plan of two documents and a node limit.
-pub fn plan_of(alloc: Global, crd: &str, pools: &str, limit: u32) -> Result<Plan, Fail> {
+/// The plan of a schema, pools and a node limit.
+pub fn made(alloc: Global, given: (&str, &str, u32)) -> Result<Plan<u64>, Fail> {
+    let (schema, pools, limit) = given;
     let pools = pools_of(alloc, pools)?;
-    Ok(Plan::new(schema_of(alloc, crd)?, pools, limit)?)
+    Ok(Plan::new(alloc, schema_of(alloc, schema)?, pools, limit)?)
 }
 
 /// What is read of version `v1` of a document.

@@ -34,8 +34,6 @@ mod page_rows;
 #[cfg(test)]
 mod plan_rows;
 #[cfg(test)]
-mod pool_rows;
-#[cfg(test)]
 mod pools_rows;
 #[cfg(test)]
 mod profile_rows;

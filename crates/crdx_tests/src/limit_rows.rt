@@ -11,8 +11,8 @@ fn push_entry(text: &mut String, i: usize, entry: &str) -> Result<(), AllocError
     text.push_str(entry)
 }
 
-// A text, an entry so many times, with commas between, and another text.
-fn repeated(
+/// A text, an entry so many times, with commas between, and another text.
+pub fn repeated(
     alloc: Global,
     head: &str,
     entry: &str,

@@ -1,55 +1,77 @@
-//! Plans: what they are made of, and their pages and walks from place to place.
-use crate::documents::{WIDGET, ZERO_AND_ONE};
-use crate::fakes::FailingSink;
-use crate::harness::{definition, holds, is_number, is_said, is_text, plan_of, schema_of};
-use crdx::enumerate::{EFault, Page, page, pages_agree};
-use crdx::plan::Plan;
-use crdx::simple::{
-    Field, Node, ScalarKind, Schema, filling_by_name, fits_are_stored_over, pruning_by_level,
-    validity_by_level,
+//! Pages and walks from place to place, and enumerations step by step.
+ghost use Rattle.std.specs.Prelude.{◌≤◌};
+
+use crate::documents::{
+    DEFAULTED, FIFTEEN, LONG_MAP_LIST, MAP_LIST, REPEATED, SET, SPEC, TEN_LINES, TWO_TEXTS,
+    ZERO_AND_ONE, ZERO_AND_SEVEN,
 };
-use crdx::walk::{WFault, Walked, walk};
+use crate::fakes::FailingSink;
+use crate::harness::{holds, is_number, is_said, is_text, is_tree, made};
+use crate::limit_rows::repeated;
+use crdx::walk::{WFault, Walked, pages_agree, walk};
+use enumerate::{EFault, Live, Page, page};
 use jtree::{JFault, Tree};
-use std::alloc::Global;
+use plan::{Meter, Plan};
+use std::alloc::{AllocError, Global};
 use std::process::Abort;
 use std::test::Fail;
 
-fn kind_of(node: &Node) -> &'static str {
-    match node {
-        Node::Scalar(ScalarKind::Boolean) => "boolean",
-        Node::Scalar(ScalarKind::Integer) => "integer",
-        Node::Object(_) => "object",
+const REQUIRED_LONG_MAP_LIST: &str =
+    r#"{"type":"object","required":["m"],"properties":{"m":{"type":"array","minItems":3,"x-kubernetes-list-type":"map","x-kubernetes-list-map-keys":["k"],"items":{"type":"object","properties":{"k":{"type":"string"},"v":{"type":"integer"}},"required":["k"]}}}}"#;
+
+const LONG_SET: &str =
+    r#"{"type":"object","required":["s"],"properties":{"s":{"type":"array","minItems":21,"x-kubernetes-list-type":"set","items":{"type":"integer"}}}}"#;
+
+const TWENTY: &str = r#"{"integers":[0,1,2,3,4,5,6,7,8,9,10,11,12,13,14,15,16,17,18,19]}"#;
+
+/// The first of the ten lines.
+const SEVEN_LINES: &str = r#"{}
+{"spec":{}}
+{"spec":{"b":false}}
+{"spec":{"b":true}}
+{"spec":{"a":0}}
+{"spec":{"a":1}}
+{"spec":{"a":0,"b":false}}
+"#;
+
+/// The lines past the third one.
+const LAST_LINES: &str = r#"{"spec":{"b":true}}
+{"spec":{"a":0}}
+{"spec":{"a":1}}
+{"spec":{"a":0,"b":false}}
+{"spec":{"a":0,"b":true}}
+{"spec":{"a":1,"b":false}}
+{"spec":{"a":1,"b":true}}
+"#;
+
+const SIX_SETS: &str = r#"{}
+{"s":[]}
+{"s":[1]}
+{"s":[2]}
+{"s":[1,2]}
+{"s":[2,1]}
+"#;
+
+fn place_of(alloc: Global, text: Option<&str>) -> Result<Option<Tree>, JFault> {
+    match text {
+        Some(text) => Ok(Some(Tree::from_bytes(alloc, text.as_bytes())?)),
+        None => Ok(None),
     }
 }
 
-fn try_field(rt: &impl Abort, field: &Field, name: &str, kind: &str) {
-    is_text(rt, field.name.as_str(), name, "the name", kind);
-    is_text(rt, kind_of(&field.node), kind, "the kind", name);
+fn push_line(alloc: Global, lines: &mut String, item: &Tree) -> Result<(), Fail> {
+    let line = item.to_text(alloc)?;
+    lines.push_str(line.as_str())?;
+    Ok(lines.push('\n')?)
 }
 
-fn try_fields(rt: &impl Abort, node: &Node) -> Result<(), Fail> {
-    let Node::Object(fields) = node else {
-        return Err(Fail::from("no object"));
-    };
-    let [first, second] = fields.fields.as_slice() else {
-        return Err(Fail::from("no two fields"));
-    };
-    try_field(rt, first, "a", "integer");
-    try_field(rt, second, "b", "object");
-    Ok(())
-}
-
-fn schema_of_version(alloc: Global, schema: &str) -> Result<Schema, Fail> {
-    let crd = definition(alloc, schema)?;
-    schema_of(alloc, crd.as_str())
-}
-
-/// An object with an integer and an empty object.
-#[test]
-fn fields_by_name(rt: HostRuntime) -> Result<(), Fail> {
-    let schema = r#"{"type":"object","properties":{"b":{"type":"object"},"a":{"type":"integer"}}}"#;
-    let schema = schema_of_version(rt.alloc(), schema)?;
-    try_fields(&rt, schema.root())
+/// The lines of trees.
+pub fn lines_of(alloc: Global, items: &[Tree]) -> Result<String, Fail> {
+    let mut lines = String::new(alloc);
+    for item in items {
+        push_line(alloc, &mut lines, item)?;
+    }
+    Ok(lines)
 }
 
 // A name, the place that a page of three items goes on from, its lines, and whether it is the last.
@@ -96,124 +118,252 @@ static PAGES: [(&str, Option<&str>, &str, bool); 5] = [
     ),
 ];
 
-fn place_of(alloc: Global, text: Option<&str>) -> Result<Option<Tree>, JFault> {
-    match text {
-        Some(text) => Ok(Some(Tree::from_bytes(alloc, text.as_bytes())?)),
-        None => Ok(None),
-    }
-}
-
-fn push_line(alloc: Global, lines: &mut String, item: &Tree) -> Result<(), Fail> {
-    let line = item.to_text(alloc)?;
-    lines.push_str(line.as_str())?;
-    Ok(lines.push('\n')?)
-}
-
-fn lines_of(alloc: Global, items: &[Tree]) -> Result<String, Fail> {
-    let mut lines = String::new(alloc);
-    for item in items {
-        push_line(alloc, &mut lines, item)?;
-    }
-    Ok(lines)
-}
-
-fn page_of(alloc: Global, plan: &Plan, after: Option<&str>, count: u32) -> Result<Page, Fail> {
-    let place = place_of(alloc, after)?;
-    Ok(page(alloc, plan, place.as_ref(), count)?)
-}
-
 fn try_page(
     rt: &impl Abort,
     alloc: Global,
-    plan: &Plan,
+    plan: &Plan<u64>,
     row: &(&str, Option<&str>, &str, bool),
+    meter: &mut Meter,
 ) -> Result<(), Fail> {
     let (name, after, lines, end) = *row;
-    let page = page_of(alloc, plan, after, 3)?;
-    is_number(rt, page.end as u64, end as u64, "the end", name);
-    let found = lines_of(alloc, page.items.as_slice());
-    is_said(rt, found, lines, "the lines", name)
+    let place = place_of(alloc, after)?;
+    let page = page(alloc, plan, place.as_ref(), 3, meter)?;
+    holds(rt, page.end == end, "the end", name);
+    is_said(rt, lines_of(alloc, &page.items), lines, "the lines", name)
 }
 
-fn try_pages(rt: &impl Abort, alloc: Global, plan: &Plan) -> Result<(), Fail> {
+fn all_pages(
+    rt: &impl Abort,
+    alloc: Global,
+    plan: &Plan<u64>,
+    meter: &mut Meter,
+) -> Result<(), Fail> {
     for row in &PAGES {
-        try_page(rt, alloc, plan, row)?;
+        try_page(rt, alloc, plan, row, meter)?;
     }
     Ok(())
 }
 
 #[test]
 fn pages(rt: HostRuntime) -> Result<(), Fail> {
-    let plan = plan_of(rt.alloc(), WIDGET, ZERO_AND_ONE, 4)?;
-    try_pages(&rt, rt.alloc(), &plan)
+    let mut plan = made(rt.alloc(), (SPEC, ZERO_AND_ONE, 4))?;
+    let mut meter = plan.meter();
+    all_pages(&rt, rt.alloc(), &plan, &mut meter)
 }
 
-// A name, a place to go on from, the node limit, and what is answered.
-static PLACES: [(&str, &str, u32, &str); 9] = [
-    ("another member", r#"{"zzz":1}"#, 4, "no sample"),
+// The last of fifteen items: that of an object, and those of the three next ones.
+static LAST_ITEMS: [&str; 4] = [
+    r#"{"a":false,"b":false,"c":false}"#,
+    r#"{"a":false,"b":false,"c":true}"#,
+    r#"{"a":false,"b":true,"c":false}"#,
+    r#"{"a":false,"b":true,"c":true}"#,
+];
+
+/// An object with fifteen items: the first one is all true, and all but the last one are all false.
+fn fifteen(alloc: Global, last: &str) -> Result<String, AllocError> {
+    let tail = format!(in alloc; ",{last}]}}")?;
+    let head = r#"{"t":[{"a":true,"b":true,"c":true},"#;
+    repeated(alloc, head, LAST_ITEMS[0], 13, tail.as_str())
+}
+
+fn is_fifteen(rt: &impl Abort, alloc: Global, item: &Tree, last: &str) -> Result<(), Fail> {
+    let wanted = fifteen(alloc, last)?;
+    is_tree(
+        rt,
+        alloc,
+        item,
+        wanted.as_str(),
+        "a sample",
+        "fifteen items",
+    )
+}
+
+fn are_fifteen(rt: &impl Abort, alloc: Global, page: &Page) -> Result<(), Fail> {
+    let name = "fifteen items";
+    holds(rt, !page.end, "no end", name);
+    is_number(rt, page.items.len() as u64, 3, "the number", name);
+    for (item, last) in page.items.iter().zip(LAST_ITEMS.iter().skip(1)) {
+        is_fifteen(rt, alloc, item, last)?;
+    }
+    Ok(())
+}
+
+fn fifteen_tree(alloc: Global) -> Result<Tree, Fail> {
+    let text = fifteen(alloc, LAST_ITEMS[0])?;
+    Ok(Tree::from_bytes(alloc, text.as_bytes())?)
+}
+
+fn try_fifteen(
+    rt: &impl Abort,
+    alloc: Global,
+    plan: &Plan<u64>,
+    place: &Tree,
+    meter: &mut Meter,
+) -> Result<(), Fail> {
+    are_fifteen(rt, alloc, &page(alloc, plan, Some(place), 3, meter)?)?;
+    holds(rt, meter.steps() <= 4096, "few steps", "fifteen items");
+    Ok(())
+}
+
+/// A place amid 8^15 samples.
+#[test]
+fn a_page_of_many(rt: HostRuntime) -> Result<(), Fail> {
+    let place = fifteen_tree(rt.alloc())?;
+    let mut plan = made(rt.alloc(), (FIFTEEN, "{}", 63))?;
+    let mut meter = plan.meter();
+    try_fifteen(&rt, rt.alloc(), &plan, &place, &mut meter)
+}
+
+// A name, a schema with its pools and limit, a place to go on from, how many steps that takes at most, and what is answered.
+static PLACES: [(&str, (&str, &str, u32), &str, u64, &str); 18] = [
+    (
+        "another member",
+        (SPEC, ZERO_AND_ONE, 4),
+        r#"{"zzz":1}"#,
+        60,
+        "no sample",
+    ),
     (
         "an integer of no pool",
+        (SPEC, ZERO_AND_ONE, 4),
         r#"{"spec":{"a":2}}"#,
-        4,
+        60,
         "no sample",
     ),
     (
         "null for an integer",
+        (SPEC, ZERO_AND_ONE, 4),
         r#"{"spec":{"a":null}}"#,
-        4,
+        60,
         "no sample",
     ),
     (
         "a truth value for an integer",
+        (SPEC, ZERO_AND_ONE, 4),
         r#"{"spec":{"a":true}}"#,
-        4,
+        60,
         "no sample",
     ),
-    ("a list for an object", r#"{"spec":[]}"#, 4, "no sample"),
-    ("a list", "[]", 4, "no sample"),
-    ("null", "null", 4, "no sample"),
+    (
+        "a list for an object",
+        (SPEC, ZERO_AND_ONE, 4),
+        r#"{"spec":[]}"#,
+        60,
+        "no sample",
+    ),
+    ("a list", (SPEC, ZERO_AND_ONE, 4), "[]", 60, "no sample"),
+    ("null", (SPEC, ZERO_AND_ONE, 4), "null", 60, "no sample"),
     (
         "a node too many",
+        (SPEC, ZERO_AND_ONE, 3),
         r#"{"spec":{"a":0,"b":false}}"#,
-        3,
+        48,
         "no sample",
     ),
     (
         "as many nodes as may be",
+        (SPEC, ZERO_AND_ONE, 4),
         r#"{"spec":{"a":0,"b":false}}"#,
-        4,
-        "a page",
+        60,
+        "a next sample",
+    ),
+    (
+        "the last sample",
+        (SPEC, ZERO_AND_ONE, 4),
+        r#"{"spec":{"a":1,"b":true}}"#,
+        60,
+        "no next sample",
+    ),
+    (
+        "an object without a default",
+        (DEFAULTED, ZERO_AND_SEVEN, 3),
+        r#"{"spec":{}}"#,
+        32,
+        "no sample",
+    ),
+    (
+        "an object with a default",
+        (DEFAULTED, ZERO_AND_SEVEN, 3),
+        r#"{"spec":{"f":7}}"#,
+        48,
+        "no next sample",
+    ),
+    (
+        "items with equal keys",
+        (MAP_LIST, TWO_TEXTS, 8),
+        r#"{"m":[{"k":"a"},{"k":"a"}]}"#,
+        108,
+        "no sample",
+    ),
+    (
+        "a key of no pool",
+        (MAP_LIST, TWO_TEXTS, 8),
+        r#"{"m":[{"k":"c"}]}"#,
+        108,
+        "no sample",
+    ),
+    (
+        "an item without a key",
+        (MAP_LIST, TWO_TEXTS, 8),
+        r#"{"m":[{"v":0}]}"#,
+        108,
+        "no sample",
+    ),
+    (
+        "another member behind a map list",
+        (MAP_LIST, TWO_TEXTS, 8),
+        r#"{"m":[],"z":1}"#,
+        108,
+        "no sample",
+    ),
+    (
+        "items of too many nodes",
+        (MAP_LIST, TWO_TEXTS, 4),
+        r#"{"m":[{"k":"a"},{"k":"b"}]}"#,
+        60,
+        "no sample",
+    ),
+    (
+        "items of other keys",
+        (MAP_LIST, TWO_TEXTS, 8),
+        r#"{"m":[{"k":"b"},{"k":"a"}]}"#,
+        108,
+        "a next sample",
     ),
 ];
 
-fn said_of_page(alloc: Global, plan: &Plan, place: &Tree) -> &'static str {
-    match page(alloc, plan, Some(place), 1) {
-        Ok(_page) => "a page",
+fn said_of_place(alloc: Global, plan: &Plan<u64>, place: &Tree, meter: &mut Meter) -> &'static str {
+    match Live::after(alloc, plan, place, meter) {
+        Ok(Some(_next)) => "a next sample",
+        Ok(None) => "no next sample",
         Err(EFault::NotASample) => "no sample",
-        Err(EFault::NoMemory) => "no memory",
+        Err(_) => "another fault",
     }
 }
 
-fn is_page(
+fn is_place(
     rt: &impl Abort,
     alloc: Global,
-    plan: &Plan,
-    row: &(&str, &str, u32, &str),
+    plan: &Plan<u64>,
+    row: &(&str, (&str, &str, u32), &str, u64, &str),
+    meter: &mut Meter,
 ) -> Result<(), Fail> {
-    let place = Tree::from_bytes(alloc, row.1.as_bytes())?;
-    is_text(
-        rt,
-        said_of_page(alloc, plan, &place),
-        row.3,
-        "the answer",
-        row.0,
-    );
+    let (name, _given, place, steps, wanted) = *row;
+    let place = Tree::from_bytes(alloc, place.as_bytes())?;
+    let found = said_of_place(alloc, plan, &place, meter);
+    is_text(rt, found, wanted, "the answer", name);
+    holds(rt, meter.steps() <= steps, "few steps", name);
     Ok(())
 }
 
-fn try_place(rt: &impl Abort, alloc: Global, row: &(&str, &str, u32, &str)) -> Result<(), Fail> {
-    let plan = plan_of(alloc, WIDGET, ZERO_AND_ONE, row.2)?;
-    is_page(rt, alloc, &plan, row)
+fn try_place(
+    rt: &impl Abort,
+    alloc: Global,
+    row: &(&str, (&str, &str, u32), &str, u64, &str),
+) -> Result<(), Fail> {
+    let mut plan = made(alloc, row.1)?;
+    let mut meter = plan.meter();
+    is_place(rt, alloc, &plan, row, &mut meter)
 }
 
 #[test]
@@ -224,100 +374,371 @@ fn places(rt: HostRuntime) -> Result<(), Fail> {
     Ok(())
 }
 
-/// The lines past the third sample.
-const SEVEN_LINES: &str = r#"{"spec":{"b":true}}
-{"spec":{"a":0}}
-{"spec":{"a":1}}
-{"spec":{"a":0,"b":false}}
-{"spec":{"a":0,"b":true}}
-{"spec":{"a":1,"b":false}}
-{"spec":{"a":1,"b":true}}
-"#;
-
-// A name, how many lines are asked for past the third sample, how many there are, whether none is left, and how many bytes
-// of the seven lines are out.
-static WALKS: [(&str, u32, u64, bool, usize); 4] = [
-    ("as many lines as are left", 7, 7, true, 160),
-    ("a line less", 6, 6, false, 134),
-    ("no line", 0, 0, false, 0),
-    ("more lines than are left", u32::MAX, 7, true, 160),
+// A name, a schema with its pools and limit, how many samples there are, and the most steps from one to the next.
+static ENUMERATIONS: [(&str, (&str, &str, u32), usize, u64); 2] = [
+    ("two fields", (SPEC, ZERO_AND_ONE, 4), 10, 60),
+    ("a map list", (MAP_LIST, TWO_TEXTS, 8), 14, 108),
 ];
 
-fn is_walked(rt: &impl Abort, walked: Walked, out: &str, row: &(&str, u32, u64, bool, usize)) {
-    let (name, _total, lines, end, bytes) = *row;
-    is_number(rt, walked.lines, lines, "the count of lines", name);
-    is_number(rt, walked.end as u64, end as u64, "the end", name);
-    let wanted = SEVEN_LINES.get(..bytes).unwrap_or("no beginning");
-    is_text(rt, out, wanted, "the output", name);
+fn stands_at(live: &Live<'_, u64>, wanted: &Tree) -> bool {
+    match live.tree() {
+        Some(tree) => *tree == *wanted,
+        None => false,
+    }
 }
 
-fn try_walk_from(
+fn moves(
+    rt: &impl Abort,
+    live: &mut Live<'_, u64>,
+    wanted: Result<bool, EFault>,
+    steps: u64,
+    meter: &mut Meter,
+    name: &str,
+) {
+    let before = meter.steps();
+    let moved = live.advance(meter);
+    assert_eq!(rt; moved, wanted, "a move of {name}");
+    let most = before.saturating_add(steps);
+    holds(rt, meter.steps() <= most, "few steps", name);
+}
+
+fn is_over(rt: &impl Abort, live: &mut Live<'_, u64>, meter: &mut Meter, name: &str) {
+    for _ in 0..2 {
+        holds(rt, live.tree().is_none(), "no sample", name);
+        moves(rt, live, Err(EFault::Ended), 0, meter, name);
+    }
+    holds(rt, live.tree().is_none(), "no sample", name);
+}
+
+fn goes_through(
+    rt: &impl Abort,
+    live: &mut Live<'_, u64>,
+    samples: &[Tree],
+    row: &(&str, (&str, &str, u32), usize, u64),
+    meter: &mut Meter,
+) {
+    let (name, _given, count, steps) = *row;
+    for (place, sample) in samples.iter().enumerate() {
+        holds(rt, stands_at(live, sample), "a sample", name);
+        let more = place.saturating_add(1) < count;
+        moves(rt, live, Ok(more), steps, meter, name);
+    }
+}
+
+/// An enumeration goes through the samples of a page, in as many steps.
+fn is_enumerated(
     rt: &impl Abort,
     alloc: Global,
-    plan: &Plan,
-    place: &Tree,
-    row: &(&str, u32, u64, bool, usize),
+    plan: &Plan<u64>,
+    samples: &[Tree],
+    row: &(&str, (&str, &str, u32), usize, u64),
+    meter: &mut Meter,
 ) -> Result<(), Fail> {
-    let mut sink = FailingSink::endless(alloc);
-    let walked = walk(alloc, plan, Some(place), row.1, &mut sink)?;
-    is_walked(rt, walked, sink.text(), row);
+    let (name, _given, count, steps) = *row;
+    is_number(rt, samples.len() as u64, count as u64, "the number", name);
+    let Some(mut live) = Live::first(alloc, plan, meter)? else {
+        return Err(Fail::from("no sample"));
+    };
+    holds(rt, meter.steps() <= steps, "few steps", name);
+    goes_through(rt, &mut live, samples, row, meter);
+    is_over(rt, &mut live, meter, name);
     Ok(())
+}
+
+fn is_paged(
+    rt: &impl Abort,
+    alloc: Global,
+    plan: &Plan<u64>,
+    row: &(&str, (&str, &str, u32), usize, u64),
+    meter: &mut Meter,
+    other: &mut Meter,
+) -> Result<(), Fail> {
+    let page = page(alloc, plan, None, 100, meter)?;
+    is_enumerated(rt, alloc, plan, &page.items, row, other)
+}
+
+fn try_enumeration(
+    rt: &impl Abort,
+    alloc: Global,
+    row: &(&str, (&str, &str, u32), usize, u64),
+) -> Result<(), Fail> {
+    let mut plan = made(alloc, row.1)?;
+    let mut meter = plan.meter();
+    let mut other = plan.meter();
+    is_paged(rt, alloc, &plan, row, &mut meter, &mut other)?;
+    holds(rt, meter.steps() > 0, "some steps", row.0);
+    is_number(rt, other.steps(), meter.steps(), "the steps", row.0);
+    Ok(())
+}
+
+#[test]
+fn enumerations(rt: HostRuntime) -> Result<(), Fail> {
+    for row in &ENUMERATIONS {
+        try_enumeration(&rt, rt.alloc(), row)?;
+    }
+    Ok(())
+}
+
+// A name, a schema with its pools and limit, a place to go on from, the size of a page and the number of lines that are asked
+// for, and the lines with their number and whether no sample is left.
+static WALKS: [(
+    &str,
+    (&str, &str, u32),
+    Option<&str>,
+    u32,
+    u32,
+    &str,
+    u64,
+    bool,
+); 12] = [
+    (
+        "pages of one",
+        (SPEC, ZERO_AND_ONE, 4),
+        None,
+        1,
+        7,
+        SEVEN_LINES,
+        7,
+        false,
+    ),
+    (
+        "pages of three",
+        (SPEC, ZERO_AND_ONE, 4),
+        None,
+        3,
+        7,
+        SEVEN_LINES,
+        7,
+        false,
+    ),
+    (
+        "a page of 64",
+        (SPEC, ZERO_AND_ONE, 4),
+        None,
+        64,
+        7,
+        SEVEN_LINES,
+        7,
+        false,
+    ),
+    (
+        "as many lines as there are",
+        (SPEC, ZERO_AND_ONE, 4),
+        None,
+        3,
+        10,
+        TEN_LINES,
+        10,
+        true,
+    ),
+    (
+        "a line more, by pages of five",
+        (SPEC, ZERO_AND_ONE, 4),
+        None,
+        5,
+        11,
+        TEN_LINES,
+        10,
+        true,
+    ),
+    (
+        "the lines past the third",
+        (SPEC, ZERO_AND_ONE, 4),
+        Some(r#"{"spec":{"b":false}}"#),
+        2,
+        7,
+        LAST_LINES,
+        7,
+        true,
+    ),
+    (
+        "no line past the last",
+        (SPEC, ZERO_AND_ONE, 4),
+        Some(r#"{"spec":{"a":1,"b":true}}"#),
+        64,
+        10000,
+        "",
+        0,
+        true,
+    ),
+    (
+        "a set at the greatest limit",
+        (SET, REPEATED, 63),
+        None,
+        4,
+        10000,
+        SIX_SETS,
+        6,
+        true,
+    ),
+    (
+        "a map list of more items than keys",
+        (LONG_MAP_LIST, TWO_TEXTS, 63),
+        None,
+        64,
+        100,
+        "{}\n",
+        1,
+        true,
+    ),
+    (
+        "a required map list of more items than keys",
+        (REQUIRED_LONG_MAP_LIST, TWO_TEXTS, 63),
+        None,
+        64,
+        100,
+        "",
+        0,
+        true,
+    ),
+    (
+        "a required set of more items than values",
+        (LONG_SET, TWENTY, 63),
+        None,
+        64,
+        100,
+        "",
+        0,
+        true,
+    ),
+    (
+        "one node",
+        (SPEC, ZERO_AND_ONE, 1),
+        None,
+        1,
+        1,
+        "{}\n",
+        1,
+        true,
+    ),
+];
+
+/// What a walk writes on a sink, and what it answers.
+pub fn walked(
+    alloc: Global,
+    given: (&str, &str, u32),
+    place: Option<&str>,
+    page: u32,
+    total: u32,
+    sink: &mut FailingSink,
+) -> Result<Result<Walked, WFault>, Fail>
+    requires page_least { 1 ≤ page }
+    requires page_most { page ≤ 10000 }
+    requires total_least { 1 ≤ total }
+    requires total_most { total ≤ 10000 }
+{
+    let mut plan = made(alloc, given)?;
+    let mut meter = plan.meter();
+    let place = place_of(alloc, place)?;
+    Ok(walk(
+        alloc,
+        &plan,
+        place.as_ref(),
+        page,
+        total,
+        None,
+        &mut meter,
+        sink,
+    ))
 }
 
 fn try_walk(
     rt: &impl Abort,
     alloc: Global,
-    plan: &Plan,
-    row: &(&str, u32, u64, bool, usize),
+    row: &(
+        &str,
+        (&str, &str, u32),
+        Option<&str>,
+        u32,
+        u32,
+        &str,
+        u64,
+        bool,
+    ),
 ) -> Result<(), Fail> {
-    let place = Tree::from_bytes(alloc, br#"{"spec":{"b":false}}"#)?;
-    try_walk_from(rt, alloc, plan, &place, row)
-}
-
-fn try_walks(rt: &impl Abort, alloc: Global, plan: &Plan) -> Result<(), Fail> {
-    for row in &WALKS {
-        try_walk(rt, alloc, plan, row)?;
-    }
+    let (name, given, place, page, total, wanted, lines, end) = *row;
+    let mut sink = FailingSink::endless(alloc);
+    let page = page.clamp(1, 10000);
+    let total = total.clamp(1, 10000);
+    let found = walked(alloc, given, place, page, total, &mut sink)?;
+    assert_eq!(rt; found, Ok(Walked { lines, end }), "the answer of {name}");
+    is_text(rt, sink.text(), wanted, "the output", name);
     Ok(())
 }
 
 #[test]
 fn walks(rt: HostRuntime) -> Result<(), Fail> {
-    let plan = plan_of(rt.alloc(), WIDGET, ZERO_AND_ONE, 4)?;
-    try_walks(&rt, rt.alloc(), &plan)
-}
-
-fn is_refused(rt: &impl Abort, alloc: Global, plan: &Plan, place: &Tree) {
-    let mut sink = FailingSink::endless(alloc);
-    let refused = walk(alloc, plan, Some(place), 5, &mut sink) == Err(WFault::NotASample);
-    holds(
-        rt,
-        refused,
-        "the refusal",
-        "a walk from a place that is no sample",
-    );
-    is_text(rt, sink.text(), "", "the output", "a refused walk");
-}
-
-fn try_refused(rt: &impl Abort, alloc: Global, plan: &Plan) -> Result<(), Fail> {
-    let place = Tree::from_bytes(alloc, br#"{"zzz":1}"#)?;
-    is_refused(rt, alloc, plan, &place);
+    for row in &WALKS {
+        try_walk(&rt, rt.alloc(), row)?;
+    }
     Ok(())
 }
 
-/// A walk from a place that is no sample writes nothing.
-#[test]
-fn refused_walk(rt: HostRuntime) -> Result<(), Fail> {
-    let plan = plan_of(rt.alloc(), WIDGET, ZERO_AND_ONE, 4)?;
-    try_refused(&rt, rt.alloc(), &plan)
+// A name, a place to go on from, how many bytes there is room for, what is answered, and what is out.
+static STOPS: [(&str, Option<&str>, usize, WFault, &str); 2] = [
+    (
+        "a place that is no sample",
+        Some(r#"{"zzz":1}"#),
+        1000,
+        WFault::NotASample,
+        "",
+    ),
+    (
+        "room for 40 bytes",
+        None,
+        40,
+        WFault::Write(3),
+        r#"{}
+{"spec":{}}
+{"spec":{"b":false}}
+{"sp"#,
+    ),
+];
+
+fn try_stop(
+    rt: &impl Abort,
+    alloc: Global,
+    row: &(&str, Option<&str>, usize, WFault, &str),
+) -> Result<(), Fail> {
+    let (name, place, room, fault, wanted) = *row;
+    let mut sink = FailingSink::new(alloc, room, usize::MAX, false);
+    let found = walked(alloc, (SPEC, ZERO_AND_ONE, 4), place, 64, 100, &mut sink)?;
+    assert_eq!(rt; found, Err(fault), "the answer of {name}");
+    is_text(rt, sink.text(), wanted, "the output", name);
+    Ok(())
 }
 
-/// The laws are no more than their contracts.
+#[test]
+fn stops(rt: HostRuntime) -> Result<(), Fail> {
+    for row in &STOPS {
+        try_stop(&rt, rt.alloc(), row)?;
+    }
+    Ok(())
+}
+
+// A fault of a page, and its code.
+static FAULTS: [(EFault, &str); 3] = [
+    (EFault::NotASample, "E1"),
+    (EFault::NoMemory, "E2"),
+    (EFault::Ended, "E3"),
+];
+
+fn try_code(rt: &impl Abort, alloc: Global, fault: &EFault, code: &str) -> Result<(), Fail> {
+    let text = fault.to_string(alloc)?;
+    is_text(rt, text.as_str(), code, "the code", "a fault of a page");
+    Ok(())
+}
+
+#[test]
+fn codes_of_faults(rt: HostRuntime) -> Result<(), Fail> {
+    for (fault, code) in &FAULTS {
+        try_code(&rt, rt.alloc(), fault, code)?;
+    }
+    Ok(())
+}
+
+/// The law is no more than its contract.
 #[test]
 fn laws() {
     pages_agree();
-    validity_by_level();
-    pruning_by_level();
-    filling_by_name();
-    fits_are_stored_over();
 }

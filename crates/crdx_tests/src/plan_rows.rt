@@ -5,46 +5,24 @@ ghost use Rattle.plan.specs.Samples.Candidates.{sort_of};
 ghost use Rattle.plan.specs.declared.sort.Sort.TheVariants as sort;
 
 use crate::documents::{
-    DEFAULTED, LABELS, MAP_LIST, NAMES, NULLABLE, OPEN, OPEN_NULLABLE, REPEATED, SET, SPEC, TRUTHS,
-    TWO_TEXTS, ZERO_AND_ONE, ZERO_AND_SEVEN,
+    DEFAULTED, FIFTEEN, LABELS, LONG_MAP_LIST, MAP_LIST, NAMES, NULLABLE, OPEN, OPEN_NULLABLE,
+    REPEATED, SET, SPEC, TRUTHS, TWO_TEXTS, ZERO_AND_ONE, ZERO_AND_SEVEN,
 };
-use crate::harness::{crd_of, holds, is_number, is_said, is_tree};
+use crate::harness::{holds, is_number, is_said, is_tree, made, pools_of, schema_of};
 use jtree::Tree;
-use plan::{Distinct, Meter, Plan, PlanNode, Pools, SizeSet, Sort};
+use plan::{Distinct, Meter, PFault, Plan, PlanNode, SizeSet, Sort};
 use schema::items_told_apart;
-use std::alloc::Global;
+use std::alloc::{AllocError, Global};
 use std::process::Abort;
 use std::test::Fail;
-use stored::{Schema, accept, stored_by_parts};
-
-const LONG_MAP_LIST: &str =
-    r#"{"type":"object","properties":{"m":{"type":"array","minItems":3,"x-kubernetes-list-type":"map","x-kubernetes-list-map-keys":["k"],"items":{"type":"object","properties":{"k":{"type":"string"},"v":{"type":"integer"}},"required":["k"]}}}}"#;
+use stored::stored_by_parts;
 
 const THREE_KEYS: &str =
     r#"{"type":"object","properties":{"m":{"type":"array","x-kubernetes-list-type":"map","x-kubernetes-list-map-keys":["d","a","c"],"items":{"type":"object","properties":{"a":{"type":"integer"},"b":{"type":"string"},"c":{"type":"boolean"},"d":{"type":"string"}},"required":["a","c","d"]}}}}"#;
 
-const FIFTEEN: &str =
-    r#"{"type":"object","required":["t"],"properties":{"t":{"type":"array","minItems":15,"maxItems":15,"items":{"type":"object","required":["a","b","c"],"properties":{"a":{"type":"boolean"},"b":{"type":"boolean"},"c":{"type":"boolean"}}}}}}"#;
-
 const TREES: &str = r#"{"any":[null,{"q":1},"z",{"q":1}]}"#;
 
 const FOUR_NODES: &str = r#"{"any":[[1,2,3]]}"#;
-
-pub fn schema_of(alloc: Global, schema: &str) -> Result<Schema, Fail> {
-    let crd = crd_of(alloc, schema)??;
-    Ok(accept(alloc, crd.raw)?)
-}
-
-pub fn pools_of(alloc: Global, pools: &str) -> Result<Pools, Fail> {
-    let document = Tree::from_bytes(alloc, pools.as_bytes())?;
-    Ok(Pools::read(alloc, &document)?)
-}
-
-pub fn made(alloc: Global, given: (&str, &str, u32)) -> Result<Plan<u64>, Fail> {
-    let (schema, pools, limit) = given;
-    let pools = pools_of(alloc, pools)?;
-    Ok(Plan::new(alloc, schema_of(alloc, schema)?, pools, limit)?)
-}
 
 // The plan of a schema, pools and a limit.
 fn plan_of(
@@ -462,14 +440,23 @@ fn try_rest(
     are_sizes(rt, alloc, rest, wanted, "the rest", name)
 }
 
-#[test]
-fn rests(rt: HostRuntime) -> Result<(), Fail> {
-    let mut plan = plan_of(&rt, rt.alloc(), (TRUTHS, "{}", 4), "truth values")?;
-    let mut meter = plan.meter();
+fn all_rests(
+    rt: &impl Abort,
+    alloc: Global,
+    plan: &Plan<u64>,
+    meter: &mut Meter,
+) -> Result<(), Fail> {
     for row in &REST {
-        try_rest(&rt, rt.alloc(), &plan, &mut meter, row)?;
+        try_rest(rt, alloc, plan, meter, row)?;
     }
     Ok(())
+}
+
+#[test]
+fn rests(rt: HostRuntime) -> Result<(), Fail> {
+    let mut plan = made(rt.alloc(), (TRUTHS, "{}", 4))?;
+    let mut meter = plan.meter();
+    all_rests(&rt, rt.alloc(), &plan, &mut meter)
 }
 
 // A name, how many items there are, and the sizes that items behind them can take.
@@ -508,14 +495,23 @@ fn try_more(
     are_sizes(rt, alloc, more, wanted, "what can follow", name)
 }
 
-#[test]
-fn more_items(rt: HostRuntime) -> Result<(), Fail> {
-    let mut plan = plan_of(&rt, rt.alloc(), (MAP_LIST, TWO_TEXTS, 8), "a map list")?;
-    let mut meter = plan.meter();
+fn all_more(
+    rt: &impl Abort,
+    alloc: Global,
+    plan: &Plan<u64>,
+    meter: &mut Meter,
+) -> Result<(), Fail> {
     for row in &MORE {
-        try_more(&rt, rt.alloc(), &plan, &mut meter, row)?;
+        try_more(rt, alloc, plan, meter, row)?;
     }
     Ok(())
+}
+
+#[test]
+fn more_items(rt: HostRuntime) -> Result<(), Fail> {
+    let mut plan = made(rt.alloc(), (MAP_LIST, TWO_TEXTS, 8))?;
+    let mut meter = plan.meter();
+    all_more(&rt, rt.alloc(), &plan, &mut meter)
 }
 
 // A name, a schema with its pools and limit, which items of the root's first slot may not stand together, and at how many
@@ -912,18 +908,22 @@ static WIDTHS: [(&str, (&str, &str, u32), u64, u64); 4] = [
     ),
 ];
 
-fn try_width(
-    rt: &impl Abort,
-    alloc: Global,
-    row: &(&str, (&str, &str, u32), u64, u64),
-) -> Result<(), Fail> {
-    let (name, given, wanted, bound) = *row;
-    let plan = plan_of(rt, alloc, given, name)?;
+fn has_width(rt: &impl Abort, plan: &Plan<u64>, row: &(&str, (&str, &str, u32), u64, u64)) {
+    let (name, _given, wanted, bound) = *row;
     let width = plan.width();
     is_number(rt, width, wanted, "the width", name);
     let limit = plan.limit() as u64;
     let found = limit.wrapping_add(1).wrapping_mul(width.wrapping_add(1));
     is_number(rt, found.wrapping_mul(4), bound, "the bound", name);
+}
+
+fn try_width(
+    rt: &impl Abort,
+    alloc: Global,
+    row: &(&str, (&str, &str, u32), u64, u64),
+) -> Result<(), Fail> {
+    let plan = plan_of(rt, alloc, row.1, row.0)?;
+    has_width(rt, &plan, row);
     Ok(())
 }
 
@@ -947,9 +947,15 @@ static LIMITS: [(&str, u32, &str); 6] = [
 
 fn limit_said(alloc: Global, limit: u32) -> Result<String, Fail> {
     let pools = pools_of(alloc, ZERO_AND_ONE)?;
-    match Plan::<u64>::new(alloc, schema_of(alloc, SPEC)?, pools, limit) {
-        Ok(plan) => Ok(format!(in alloc; "{}", plan.limit())?),
-        Err(fault) => Ok(fault.to_string(alloc)?),
+    let schema = schema_of(alloc, SPEC)?;
+    let made = Plan::<u64>::new(alloc, schema, pools, limit);
+    Ok(said_of_made(alloc, &made)?)
+}
+
+fn said_of_made(alloc: Global, made: &Result<Plan<u64>, PFault>) -> Result<String, AllocError> {
+    match made {
+        Ok(plan) => format!(in alloc; "{}", plan.limit()),
+        Err(fault) => fault.to_string(alloc),
     }
 }
 

@@ -1,12 +1,15 @@
-//! The plain reference against lists of samples that were made by hand.
+//! The plain reference, and walks, against lists of samples that were made by hand.
 use crate::documents::{
     DEFAULTED, LABELS, MAP_LIST, NAMES, NULLABLE, OPEN, OPEN_NULLABLE, REPEATED, SET, SPEC,
     TEN_LINES, TRUTHS, TWO_TEXTS, ZERO_AND_ONE, ZERO_AND_SEVEN,
 };
-use crate::harness::{is_number, is_said, is_text};
-use crate::plan_rows::{pools_of, schema_of};
+use crate::fakes::FailingSink;
+use crate::harness::{is_number, is_said, made, pools_of, schema_of};
+use crate::page_rows::{lines_of, walked};
 use crate::reference::plain_samples;
+use enumerate::page;
 use jtree::Tree;
+use plan::{Meter, Plan};
 use std::alloc::Global;
 use std::process::Abort;
 use std::test::Fail;
@@ -30,7 +33,7 @@ const ALL_POOLS: &str =
     r#"{"any":[{"q":1},"z"],"integers":[0,1],"names":["k"],"strings":["a","b"]}"#;
 
 // A name, a schema with its pools and limit, and all samples.
-static SAMPLES: [(&str, (&str, &str, u32), &str); 14] = [
+static SAMPLES: [(&str, (&str, &str, u32), &str); 15] = [
     ("two fields", (SPEC, ZERO_AND_ONE, 4), TEN_LINES),
     ("one node", (SPEC, ZERO_AND_ONE, 1), "{}\n"),
     (
@@ -141,6 +144,16 @@ static SAMPLES: [(&str, (&str, &str, u32), &str); 14] = [
 {"x":{"q":1}}
 "#,
     ),
+    (
+        "lists of lists",
+        (LISTS_OF_LISTS, r#"{"integers":[0]}"#, 4),
+        r#"{}
+{"l":[]}
+{"l":[[]]}
+{"l":[[],[]]}
+{"l":[[0]]}
+"#,
+    ),
     ("no null", (OPEN, r#"{"any":[null]}"#, 2), "{}\n"),
     (
         "null",
@@ -157,37 +170,33 @@ fn listed(alloc: Global, given: (&str, &str, u32)) -> Result<Vec<Tree>, Fail> {
     plain_samples(alloc, &schema_of(alloc, schema)?, &pools, limit)
 }
 
-fn push_line(alloc: Global, lines: &mut String, sample: &Tree) -> Result<(), Fail> {
-    let line = sample.to_text(alloc)?;
-    lines.push_str(line.as_str())?;
-    Ok(lines.push('\n')?)
+fn plain_lines(alloc: Global, given: (&str, &str, u32)) -> Result<String, Fail> {
+    lines_of(alloc, &listed(alloc, given)?)
 }
 
-fn lines_of(alloc: Global, given: (&str, &str, u32)) -> Result<String, Fail> {
-    let mut lines = String::new(alloc);
-    for sample in &listed(alloc, given)? {
-        push_line(alloc, &mut lines, sample)?;
+/// What a walk writes by pages of three.
+fn walked_lines(alloc: Global, given: (&str, &str, u32)) -> Result<String, Fail> {
+    let mut sink = FailingSink::endless(alloc);
+    let walked = walked(alloc, given, None, 3, 10000, &mut sink)??;
+    if !walked.end {
+        return Err(Fail::from("no end"));
     }
-    Ok(lines)
+    Ok(String::from_str(alloc, sink.text())?)
 }
 
 #[test]
 fn samples(rt: HostRuntime) -> Result<(), Fail> {
     for (name, given, wanted) in &SAMPLES {
-        is_said(&rt, lines_of(rt.alloc(), *given), wanted, "samples", name)?;
+        is_said(
+            &rt,
+            plain_lines(rt.alloc(), *given),
+            wanted,
+            "samples",
+            name,
+        )?;
+        is_said(&rt, walked_lines(rt.alloc(), *given), wanted, "lines", name)?;
     }
-    is_said(
-        &rt,
-        lines_of(rt.alloc(), (LISTS_OF_LISTS, r#"{"integers":[0]}"#, 4)),
-        r#"{}
-{"l":[]}
-{"l":[[]]}
-{"l":[[],[]]}
-{"l":[[0]]}
-"#,
-        "samples",
-        "lists of lists",
-    )
+    Ok(())
 }
 
 fn of_nodes(samples: &[Tree], nodes: u64) -> u64 {
@@ -210,19 +219,33 @@ fn first_of_nodes(alloc: Global, samples: &[Tree], nodes: u64) -> Result<String,
 }
 
 /// Of 74 samples 48 have nine nodes.
+fn are_many(rt: &impl Abort, alloc: Global, samples: &[Tree], name: &str) -> Result<(), Fail> {
+    is_number(rt, samples.len() as u64, 74, "the number", name);
+    is_number(rt, of_nodes(samples, 9), 48, "nine nodes", name);
+    let wanted = r#"{"m":[{"a":0,"c":0},{"a":0,"b":false,"c":1}]}"#;
+    let first = first_of_nodes(alloc, samples, 9);
+    is_said(rt, first, wanted, "the first of nine nodes", name)
+}
+
+fn many_listed(rt: &impl Abort, alloc: Global) -> Result<(), Fail> {
+    let given = (TWO_INTEGER_KEYS, ZERO_AND_ONE, 9);
+    are_many(rt, alloc, &listed(alloc, given)?, "plain samples")
+}
+
+fn many_paged(
+    rt: &impl Abort,
+    alloc: Global,
+    plan: &Plan<u64>,
+    meter: &mut Meter,
+) -> Result<(), Fail> {
+    let page = page(alloc, plan, None, 100, meter)?;
+    are_many(rt, alloc, &page.items, "a page")
+}
+
 #[test]
 fn many_samples(rt: HostRuntime) -> Result<(), Fail> {
-    let name = "two integers as keys";
-    let samples = listed(rt.alloc(), (TWO_INTEGER_KEYS, ZERO_AND_ONE, 9))?;
-    is_number(&rt, samples.len() as u64, 74, "the number", name);
-    is_number(&rt, of_nodes(&samples, 9), 48, "nine nodes", name);
-    let first = first_of_nodes(rt.alloc(), &samples, 9)?;
-    is_text(
-        &rt,
-        first.as_str(),
-        r#"{"m":[{"a":0,"c":0},{"a":0,"b":false,"c":1}]}"#,
-        "the first of nine nodes",
-        name,
-    );
-    Ok(())
+    many_listed(&rt, rt.alloc())?;
+    let mut plan = made(rt.alloc(), (TWO_INTEGER_KEYS, ZERO_AND_ONE, 9))?;
+    let mut meter = plan.meter();
+    many_paged(&rt, rt.alloc(), &plan, &mut meter)
 }

@@ -35,6 +35,33 @@ const CUT: &str = r#"{"apiVersion":"apiextensions.k8s.io/v1","kind":"CustomRes"#
 
 const NO_DEFINITION: &str = r#"{"kind":"Widget"}"#;
 
+const REPEATED_TEXTS: &str = r#"{"strings":["b","a","b"]}"#;
+
+const TEXT_LINES: &str = r#"{}
+{"a":"a"}
+{"a":"b"}
+"#;
+
+const DEFAULT_LINES: &str = r#"{"a":0}
+{"a":1}
+"#;
+
+const QUOTED_LINES: &str = r#"{}
+{"a\"/~é":"a"}
+{"a\"/~é":"b"}
+"#;
+
+const NAMED_LINES: &str = r#"{"apiVersion":"example.org/v1","kind":"Widget","metadata":{"name":"w"}}
+{"apiVersion":"example.org/v1","kind":"Widget","metadata":{"name":"w"},"spec":{}}
+"#;
+
+const NAMED_AFTER: &str =
+    r#"crdx sample crd.json v1 --pools pools.json --limit 4 --count 1 --name w --after {"apiVersion":"example.org/v1","kind":"Widget","metadata":{"name":"w"},"spec":{}}"#;
+
+const NAMED_LINE: &str =
+    r#"{"apiVersion":"example.org/v1","kind":"Widget","metadata":{"name":"w"},"spec":{"b":false}}
+"#;
+
 const TWO_LINES: &str = r#"{}
 {"spec":{}}
 "#;
@@ -53,6 +80,15 @@ const SIX_LINES: &str = r#"{}
 {"spec":{"a":1}}
 "#;
 
+const SEVEN_LINES: &str = r#"{"spec":{"b":true}}
+{"spec":{"a":0}}
+{"spec":{"a":1}}
+{"spec":{"a":0,"b":false}}
+{"spec":{"a":0,"b":true}}
+{"spec":{"a":1,"b":false}}
+{"spec":{"a":1,"b":true}}
+"#;
+
 const NEGATIVE_LINES: &str = r#"{}
 {"spec":{}}
 {"spec":{"b":false}}
@@ -63,7 +99,7 @@ const NEGATIVE_LINES: &str = r#"{}
 "#;
 
 // A name, a command line, the two documents, standard output, standard error and the status.
-static ROWS: [(&str, &str, &str, &str, &str, &str, u8); 21] = [
+static ROWS: [(&str, &str, &str, &str, &str, &str, u8); 32] = [
     (
         "every sample of four nodes",
         "crdx sample crd.json v1 --pools pools.json --limit 4",
@@ -140,19 +176,19 @@ static ROWS: [(&str, &str, &str, &str, &str, &str, u8); 21] = [
         "a property of texts",
         "crdx sample crd.json v1 --pools pools.json --limit 4",
         TEXT_PROPERTY,
-        ZERO_AND_ONE,
-        "",
-        "crdx: crd: S0 \"/properties/a\"\n",
-        3,
+        REPEATED_TEXTS,
+        TEXT_LINES,
+        "crdx: end\n",
+        0,
     ),
     (
         "a default",
         "crdx sample crd.json v1 --pools pools.json --limit 4",
         DEFAULT_INTEGER,
         ZERO_AND_ONE,
-        "",
-        "crdx: crd: S0 \"/properties/a\"\n",
-        3,
+        DEFAULT_LINES,
+        "crdx: end\n",
+        0,
     ),
     (
         "numbers behind a property of texts",
@@ -191,13 +227,13 @@ static ROWS: [(&str, &str, &str, &str, &str, &str, u8); 21] = [
         3,
     ),
     (
-        "a pointer with a quote and a slash",
-        "crdx sample crd.json v1",
+        "a name with a quote and a slash",
+        "crdx sample crd.json v1 --pools pools.json",
         QUOTED_PROPERTY,
-        ZERO_AND_ONE,
-        "",
-        "crdx: crd: S0 \"/properties/a\\\"~1~0é\"\n",
-        3,
+        REPEATED_TEXTS,
+        QUOTED_LINES,
+        "crdx: end\n",
+        0,
     ),
     (
         "a definition that is cut, judged before the pools",
@@ -252,6 +288,105 @@ static ROWS: [(&str, &str, &str, &str, &str, &str, u8); 21] = [
         "",
         BROKEN_LINES,
         1,
+    ),
+    (
+        "a name",
+        "crdx sample crd.json v1 --pools pools.json --limit 4 --count 2 --name w",
+        WIDGET,
+        ZERO_AND_ONE,
+        NAMED_LINES,
+        "crdx: more\n",
+        0,
+    ),
+    (
+        "a named sample to go on from",
+        NAMED_AFTER,
+        WIDGET,
+        ZERO_AND_ONE,
+        NAMED_LINE,
+        "crdx: more\n",
+        0,
+    ),
+    (
+        "a sample to go on from",
+        "crdx sample crd.json v1 --pools pools.json --limit 4 --after {\"spec\":{\"b\":false}}",
+        WIDGET,
+        ZERO_AND_ONE,
+        SEVEN_LINES,
+        "crdx: end\n",
+        0,
+    ),
+    (
+        "no sample to go on from",
+        "crdx sample crd.json v1 --pools pools.json --limit 4 --after {\"zzz\":1}",
+        WIDGET,
+        ZERO_AND_ONE,
+        "",
+        "crdx: after: not a sample\n",
+        1,
+    ),
+    (
+        "a sample to go on from that is cut",
+        "crdx sample crd.json v1 --pools pools.json --after {\"spec\":",
+        WIDGET,
+        ZERO_AND_ONE,
+        "",
+        "crdx: after: J3\n",
+        3,
+    ),
+    (
+        "a fraction in what to go on from",
+        "crdx sample crd.json v1 --after {\"spec\":1.5}",
+        WIDGET,
+        ZERO_AND_ONE,
+        "",
+        "crdx: after: J1\n",
+        3,
+    ),
+    (
+        "a fraction in pools",
+        "crdx sample crd.json v1 --pools pools.json",
+        WIDGET,
+        FRACTION,
+        "",
+        "crdx: pools: J1\n",
+        3,
+    ),
+    (
+        "an integer past 64 bits",
+        "crdx sample crd.json v1 --pools pools.json",
+        WIDGET,
+        r#"{"integers":[9223372036854775808]}"#,
+        "",
+        "crdx: pools: J1\n",
+        3,
+    ),
+    (
+        "a text for a pool, judged before the sample to go on from",
+        "crdx sample crd.json v1 --pools pools.json --after {",
+        WIDGET,
+        r#"{"integers":"x"}"#,
+        "",
+        "crdx: pools: P1 \"/integers\"\n",
+        3,
+    ),
+    (
+        "a pool of another name",
+        "crdx sample crd.json v1 --pools pools.json",
+        WIDGET,
+        r#"{"a\"/~é":[]}"#,
+        "",
+        "crdx: pools: P1 \"/a\\\"~1~0é\"\n",
+        3,
+    ),
+    (
+        "33 names",
+        "crdx sample crd.json v1 --pools pools.json",
+        WIDGET,
+        r#"{"names":["","","","","","","","","","","","","","","","","","","","","","","","","","","","","","","","",""]}"#,
+        "",
+        "crdx: pools: P2\n",
+        3,
     ),
 ];
 

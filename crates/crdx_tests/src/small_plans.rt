@@ -1,12 +1,13 @@
 //! Plans that are small enough for the plain reference: each way to hold a node, round each sort of node, over a few pools.
-ghost use Rattle.std.specs.Prelude.{◌≡◌, ◌<◌, length};
+ghost use Rattle.std.specs.Prelude.{◌≡◌, ◌<◌, ◌≤◌, length, IfSome};
 ghost use Rattle.plan.specs.Samples.Sites.{site_at, sites_of};
 ghost use Rattle.plan.specs.Samples.Candidates.{sort_of};
 ghost use Rattle.plan.specs.declared.sort.Sort.TheVariants as sort;
 
-use crate::harness::{holds, is_number};
-use crate::plan_rows::{are_sizes, item_of, made, place_of, pools_of, schema_of, slot_of};
+use crate::harness::{holds, is_number, made, pools_of, schema_of};
+use crate::plan_rows::{are_sizes, item_of, place_of, slot_of};
 use crate::reference::{node_below, plain_parts, plain_samples, plain_width};
+use enumerate::page;
 use jtree::Tree;
 use plan::{Meter, Plan, PlanNode, Pools, Sort};
 use schema::{Node, Sort as NodeSort};
@@ -228,7 +229,14 @@ fn are_candidates(
     holds(rt, behind.is_none(), "no candidate behind the last", name);
 }
 
-/// The candidates are all parts, also those of more nodes than the limit.
+fn is_leaf(node: &Node) -> bool {
+    match &node.sort {
+        NodeSort::Scalar(_) | NodeSort::Open => true,
+        NodeSort::Object(_) | NodeSort::Map(_) | NodeSort::List(_) => false,
+    }
+}
+
+/// The candidates of a leaf are all parts, also those of more nodes than the limit.
 fn try_leaf(
     rt: &impl Abort,
     alloc: Global,
@@ -242,13 +250,17 @@ fn try_leaf(
     requires { number < length (sites_of plan.now.root) }
 {
     if let Sort::Leaf = plan.sort(number) {
+        holds(rt, is_leaf(node), "no leaf", name);
         let parts = plain_parts(alloc, node, pools, u64::MAX)?;
         are_candidates(rt, plan, number, &parts, meter, name);
+    } else {
+        holds(rt, !is_leaf(node), "a leaf", name);
     }
     Ok(())
 }
 
-/// The sizes are the numbers of nodes of the parts, and the candidates of a leaf are its parts.
+/// The sizes are the numbers of nodes of the parts, and the candidates of a leaf are its parts. Answers the greatest size, and 0
+/// where there is none.
 fn try_node(
     rt: &impl Abort,
     alloc: Global,
@@ -258,63 +270,45 @@ fn try_node(
     pools: &Pools,
     meter: &mut Meter,
     name: &str,
-) -> Result<(), Fail>
+) -> Result<u32, Fail>
     requires { number < length (sites_of plan.now.root) }
 {
+    try_leaf(rt, alloc, plan, number, node, pools, meter, name)?;
     let parts = plain_parts(alloc, node, pools, u64::from(plan.limit()))?;
     let wanted = counts(alloc, &parts)?;
     are_sizes(rt, alloc, plan.sizes(number), &wanted, "the sizes", name)?;
-    try_leaf(rt, alloc, plan, number, node, pools, meter, name)
+    match wanted.last() {
+        Some(most) => Ok(*most),
+        None => Ok(0),
+    }
 }
 
-fn try_slot(
-    rt: &impl Abort,
-    alloc: Global,
-    plan: &Plan<u64>,
-    number: PlanNode,
-    node: &Node,
-    pools: &Pools,
-    meter: &mut Meter,
-    name: &str,
-) -> Result<(), Fail>
+/// The node in the first slot of a row, or of the items of a list.
+fn number_below(plan: &Plan<u64>, number: PlanNode, meter: &mut Meter) -> Option<PlanNode>
     requires { number < length (sites_of plan.now.root) }
+    ensures { IfSome result (λ n. n < length (sites_of plan.now.root)) }
 {
-    match slot_of(plan, number, 0, meter) {
-        Some(slot) => try_node(rt, alloc, plan, slot, node, pools, meter, name),
-        None => Ok(()),
+    match plan.sort(number) {
+        Sort::Row => slot_of(plan, number, 0, meter),
+        Sort::List => item_of(plan, number, 0, meter),
+        Sort::Leaf => None,
     }
 }
 
-fn try_item(
-    rt: &impl Abort,
-    alloc: Global,
-    plan: &Plan<u64>,
-    number: PlanNode,
-    node: &Node,
-    pools: &Pools,
-    meter: &mut Meter,
-    name: &str,
-) -> Result<(), Fail>
-    requires { number < length (sites_of plan.now.root) }
-{
-    match item_of(plan, number, 0, meter) {
-        Some(item) => try_node(rt, alloc, plan, item, node, pools, meter, name),
-        None => Ok(()),
+/// The node of the first field of an object, of the values of a map or of the items of a list.
+fn first_below(node: &Node) -> Option<&Node> {
+    match &node.sort {
+        NodeSort::Object(object) => match object.fields.fields.as_slice() {
+            [first, ..] => Some(&first.node),
+            [] => None,
+        },
+        NodeSort::Map(map) => Some(node_below(&map.value)),
+        NodeSort::List(list) => Some(node_below(&list.item)),
+        NodeSort::Scalar(_) | NodeSort::Open => None,
     }
 }
 
-/// The node of the first field of an object.
-fn first_field(node: &Node) -> Option<&Node> {
-    let NodeSort::Object(object) = &node.sort else {
-        return None;
-    };
-    match object.fields.fields.as_slice() {
-        [first, ..] => Some(&first.node),
-        [] => None,
-    }
-}
-
-/// What stands in the first slot of a node, or at each place of a list.
+/// What stands in the first slot of a node, or at each place of a list. There is something where a part has more than one node.
 fn try_below(
     rt: &impl Abort,
     alloc: Global,
@@ -327,21 +321,17 @@ fn try_below(
 ) -> Result<(), Fail>
     requires { number < length (sites_of plan.now.root) }
 {
-    match &node.sort {
-        NodeSort::List(list) => {
-            let item = node_below(&list.item);
-            try_item(rt, alloc, plan, number, item, pools, meter, name)
+    let most = try_node(rt, alloc, plan, number, node, pools, meter, name)?;
+    let Some(node) = first_below(node) else {
+        return Ok(());
+    };
+    match number_below(plan, number, meter) {
+        Some(below) => {
+            try_node(rt, alloc, plan, below, node, pools, meter, name)?;
         }
-        NodeSort::Map(map) => {
-            let value = node_below(&map.value);
-            try_slot(rt, alloc, plan, number, value, pools, meter, name)
-        }
-        NodeSort::Object(_) => match first_field(node) {
-            Some(field) => try_slot(rt, alloc, plan, number, field, pools, meter, name),
-            None => Ok(()),
-        },
-        NodeSort::Scalar(_) | NodeSort::Open => Ok(()),
+        None => holds(rt, most <= 1, "nothing below", name),
     }
+    Ok(())
 }
 
 /// The root, what stands in its first slot, and what stands below that.
@@ -356,40 +346,54 @@ fn try_nodes(
 ) -> Result<(), Fail> {
     let number = plan.root();
     try_node(rt, alloc, plan, number, root, pools, meter, name)?;
-    try_below(rt, alloc, plan, number, root, pools, meter, name)?;
-    let Some(first) = first_field(root) else {
+    let Some(first) = first_below(root) else {
         return Err(Fail::from("no field"));
     };
-    match slot_of(plan, number, 0, meter) {
+    match number_below(plan, number, meter) {
         Some(slot) => try_below(rt, alloc, plan, slot, first, pools, meter, name),
         None => Err(Fail::from("no slot")),
     }
 }
 
-fn try_width(
+/// A page past the last of these samples has the first of those that come next.
+fn try_page(
     rt: &impl Abort,
     alloc: Global,
     plan: &Plan<u64>,
-    root: &Node,
-    pools: &Pools,
+    before: &[Tree],
+    next: &[Tree],
+    count: u32,
+    meter: &mut Meter,
     name: &str,
-) -> Result<(), Fail> {
-    let width = plain_width(alloc, root, pools)?;
-    is_number(rt, plan.width(), width, "the width", name);
+) -> Result<(), Fail>
+    requires least { 1 ≤ count }
+    requires most { count ≤ 10000 }
+{
+    let page = page(alloc, plan, before.last(), count, meter)?;
+    let wanted = next.get(..count as usize).unwrap_or(next);
+    holds(rt, page.items.as_slice() == wanted, "a page", name);
+    let end = next.len() <= count as usize;
+    holds(rt, page.end == end, "the end of a page", name);
     Ok(())
 }
 
-/// What is listed of the samples: here a list of them can be compared with another.
+/// All samples in one page, and a page of two past each of them.
 fn try_samples(
     rt: &impl Abort,
     alloc: Global,
     plan: &Plan<u64>,
     schema: &Schema,
     pools: &Pools,
+    meter: &mut Meter,
     name: &str,
 ) -> Result<(), Fail> {
     let samples = plain_samples(alloc, schema, pools, plan.limit())?;
     holds(rt, samples.len() <= 5000, "few samples", name);
+    try_page(rt, alloc, plan, &[], &samples, 10000, meter, name)?;
+    for place in 0..=samples.len() {
+        let (before, next) = samples.split_at(place);
+        try_page(rt, alloc, plan, before, next, 2, meter, name)?;
+    }
     Ok(())
 }
 
@@ -402,8 +406,9 @@ fn try_given(
     meter: &mut Meter,
     name: &str,
 ) -> Result<(), Fail> {
-    try_width(rt, alloc, plan, schema.root(), pools, name)?;
-    try_samples(rt, alloc, plan, schema, pools, name)?;
+    let width = plain_width(alloc, schema.root(), pools)?;
+    is_number(rt, plan.width(), width, "the width", name);
+    try_samples(rt, alloc, plan, schema, pools, meter, name)?;
     try_nodes(rt, alloc, plan, schema.root(), pools, meter, name)
 }
 

@@ -14,10 +14,8 @@ use Rattle.schema.specs.declared.fault.SFault.{SFault}
 use Rattle.schema.specs.declared.fault.SFault.TheVariants as s
 use Rattle.schema.specs.declared.refused.Refused.{Refused}
 use Rattle.schema.specs.declared.refused.Refused.TheVariants as refused
-use Rattle.crdx.specs.declared.simple.refused.Refused.{Refused as SimpleRefused}
-use Rattle.crdx.specs.declared.simple.refused.Refused.TheVariants as simple
-use Rattle.crdx.specs.declared.plan.fault.PFault.{PFault}
-use Rattle.crdx.specs.declared.plan.fault.PFault.TheVariants as p
+use Rattle.plan.specs.declared.fault.PFault.{PFault}
+use Rattle.plan.specs.declared.fault.PFault.TheVariants as p
 use Rattle.crdx.specs.declared.walk.fault.WFault.{WFault}
 use Rattle.crdx.specs.declared.walk.fault.WFault.TheVariants as w
 
@@ -25,9 +23,9 @@ abbrev pub input_name : Input → List ℕ
 input_name input.Crd = codes "crd"
 input_name input.Object = codes "object"
 input_name input.Pools = codes "pools"
+input_name input.After = codes "after"
 
 abbrev pub code_name : PlaceCode → List ℕ
-code_name code.NotYet = codes "S0"
 code_name code.KeywordForm = codes "S3"
 code_name code.TooLarge = codes "S4"
 code_name code.Form = codes "P1"
@@ -43,11 +41,6 @@ cause_of_reading s.NoMemory = cause.NoMemory
 abbrev pub cause_of_refusal : Refused → Cause
 cause_of_refusal (refused.Violations violations) = cause.Violations violations
 cause_of_refusal refused.NoMemory = cause.NoMemory
-
-abbrev pub cause_of_simple_refusal : SimpleRefused → Cause
-cause_of_simple_refusal (simple.Violations violations) = cause.Violations violations
-cause_of_simple_refusal (simple.NotYet pointer) = cause.Place input.Crd code.NotYet pointer
-cause_of_simple_refusal simple.NoMemory = cause.NoMemory
 
 abbrev pub cause_of_pools : PFault → Cause
 cause_of_pools (p.Form pointer) = cause.Place input.Pools code.Form pointer

@@ -2,10 +2,11 @@
 use Rattle.std.specs.Prelude.{◌≡◌, ◌⊎◌, ◌<◌, ◌++◌, ℕ, List, length, take, Bool, Option, Some, IsSomeAnd, slice_get}
 use Rattle.std.specs.Io.KnownBytes.{Appends, Keeps}
 use Rattle.jtree.specs.Data.{Data}
-use Rattle.crdx.specs.Samples.Sample.{Question, IsSample}
-use Rattle.crdx.specs.Samples.Page.{IsPage}
+use Rattle.plan.specs.Samples.Question.{Question}
+use Rattle.enumerate.specs.Page.{IsPage, IsSampleOf}
 use Rattle.crdx.specs.Output.Line.{line, lines}
 use Rattle.crdx.specs.Output.Sink.{HasFailed}
+use Rattle.crdx.specs.declared.walk.line.Envelope.{Envelope}
 use Rattle.crdx.specs.declared.walk.fault.WFault.{WFault}
 use Rattle.crdx.specs.declared.walk.fault.WFault.TheVariants.{NotASample, NoMemory, Write}
 
@@ -14,26 +15,26 @@ abbrev pub IsProperBeginning : List ℕ → List ℕ → Type 0
 IsProperBeginning part whole = (n : ℕ) × (n < length whole) × (part ≡ take n whole)
 
 -- the lines of the first n items are out, and nothing else; not all of them, unless there are none yet
-pub record IsCutBetweenLines (items : List Data) (n : ℕ) (old new : Option (List ℕ)) : Type 0 where
-  pub out : Appends old new (lines (take n items))
+pub record IsCutBetweenLines (e : Option Envelope) (items : List Data) (n : ℕ) (old new : Option (List ℕ)) : Type 0 where
+  pub out : Appends old new (lines e (take n items))
   pub fewer : (n ≡ 0) ⊎ (n < length items)
 
 -- the lines of the first n items are out, and of the next one a beginning
-pub record IsCutWithinLine (items : List Data) (n : ℕ) (old new : Option (List ℕ)) : Type 0 where
+pub record IsCutWithinLine (e : Option Envelope) (items : List Data) (n : ℕ) (old new : Option (List ℕ)) : Type 0 where
   pub next : Data
   pub is : slice_get items n ≡ Some next
   pub part : List ℕ
-  pub beginning : IsProperBeginning part (line next)
-  pub out : Appends old new (lines (take n items) ++ part)
+  pub beginning : IsProperBeginning part (line e next)
+  pub out : Appends old new (lines e (take n items) ++ part)
 
 -- standard output failed within a line, or behind the last one
-abbrev pub IsCutByFailure : List Data → Option (List ℕ) → Option (List ℕ) → Type 0
-IsCutByFailure items old new = ((n : ℕ) × IsCutWithinLine items n old new) ⊎ Appends old new (lines items)
+abbrev pub IsCutByFailure : Option Envelope → List Data → Option (List ℕ) → Option (List ℕ) → Type 0
+IsCutByFailure e items old new = ((n : ℕ) × IsCutWithinLine e items n old new) ⊎ Appends old new (lines e items)
 
 -- what a walk past this place leaves behind where it fails: what the sink held and holds, and its failures then and now
-abbrev pub IsPartialOutput : Question → Option Data → ℕ → Option (List ℕ) → Option (List ℕ) → ℕ → ℕ → WFault → Type 0
-IsPartialOutput q after total old new before now NotASample = IsSomeAnd after (λ a. IsSample q a → ⊥) × Keeps old new × (now ≡ before)
-IsPartialOutput q after total old new before now (NoMemory n) = (now ≡ before)
-    × ((items : List Data) (end : Bool) → IsPage q after total items end → IsCutBetweenLines items n old new)
-IsPartialOutput q after total old new before now (Write n) = HasFailed before now
-    × ((items : List Data) (end : Bool) → IsPage q after total items end → IsCutWithinLine items n old new)
+abbrev pub IsPartialOutput : Question → Option Data → ℕ → Option Envelope → Option (List ℕ) → Option (List ℕ) → ℕ → ℕ → WFault → Type 0
+IsPartialOutput q after total e old new before now NotASample = IsSomeAnd after (λ a. IsSampleOf q a → ⊥) × Keeps old new × (now ≡ before)
+IsPartialOutput q after total e old new before now (NoMemory n) = (now ≡ before)
+    × ((items : List Data) (end : Bool) → IsPage q after total items end → IsCutBetweenLines e items n old new)
+IsPartialOutput q after total e old new before now (Write n) = HasFailed before now
+    × ((items : List Data) (end : Bool) → IsPage q after total items end → IsCutWithinLine e items n old new)

@@ -2,13 +2,14 @@
 use Rattle.std.specs.Prelude.{◌≡◌, ℕ, List, length, Bool, Option}
 use Rattle.std.specs.Io.KnownBytes.{Appends}
 use Rattle.jtree.specs.Data.{Data}
-use Rattle.crdx.specs.Samples.Sample.{Question}
-use Rattle.crdx.specs.Samples.Page.{IsPage}
+use Rattle.plan.specs.Samples.Question.{Question}
+use Rattle.enumerate.specs.Page.{IsPage}
 use Rattle.crdx.specs.Output.Line.{lines}
+use Rattle.crdx.specs.declared.walk.line.Envelope.{Envelope}
 
 -- exactly the lines of the page are written, `count` of them, and the end is the page's
-pub record WritesPage (q : Question) (after : Option Data) (total : ℕ) (count : ℕ) (end : Bool) (old new : Option (List ℕ)) : Type 0 where
+pub record WritesPage (q : Question) (after : Option Data) (total : ℕ) (e : Option Envelope) (count : ℕ) (end : Bool) (old new : Option (List ℕ)) : Type 0 where
   pub items : List Data
   pub page : IsPage q after total items end
   pub counted : count ≡ length items
-  pub written : Appends old new (lines items)
+  pub written : Appends old new (lines e items)

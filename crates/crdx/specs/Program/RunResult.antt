@@ -1,5 +1,5 @@
 -- What a run answers: its exit status, and what it leaves on standard output (this project's own).
-use Rattle.std.specs.Prelude.{◌≡◌, ◌≢◌, ◌⊎◌, ℕ, List, [], ◌++◌, take, Bool, Option, None, String, map, flat_map, string_bytes, codes}
+use Rattle.std.specs.Prelude.{◌≡◌, ◌≢◌, ◌⊎◌, ℕ, List, [], ◌++◌, take, Bool, Option, Some, IfSome, String, map, flat_map, string_bytes, codes}
 use Rattle.std.specs.Global.{Global}
 use Rattle.std.specs.Io.KnownBytes.{Appends, Keeps}
 use Rattle.jtree.specs.Data.{Data, text}
@@ -13,9 +13,11 @@ use Rattle.crdx.specs.Output.Sink.{HasFailed}
 use Rattle.crdx.specs.Program.Documents.{Documents}
 use Rattle.crdx.specs.Program.ObjectAnswer.{IsObjectAnswer}
 use Rattle.crdx.specs.Program.Phrases.{phrase_of}
-use Rattle.crdx.specs.Program.Requested.{IsRequestedSchema, HasAcceptedSchema, HasSimpleSchema, HasFirstUnknown, IsCrdRefused, IsRequested, ArePoolsRefused, IsRequestedObject, IsObjectRefused}
-use Rattle.crdx.specs.Samples.Page.{IsPage}
-use Rattle.crdx.specs.Samples.Sample.{Question}
+use Rattle.crdx.specs.Program.Requested.{IsRequestedSchema, HasAcceptedSchema, IsCrdRefused, ArePools, IsAfterRefused, IsRequested, ArePoolsRefused, IsRequestedObject, IsObjectRefused}
+use Rattle.plan.specs.Pools.Pools.{Pools}
+use Rattle.plan.specs.Samples.Question.{Question}
+use Rattle.enumerate.specs.Page.{IsPage, IsSampleOf}
+use Rattle.crdx.specs.declared.walk.line.Envelope.{Envelope}
 use Rattle.crdx.specs.declared.arguments.request.CheckArguments.{CheckArguments}
 use Rattle.crdx.specs.declared.arguments.request.ObjectArguments.{ObjectArguments}
 use Rattle.crdx.specs.declared.arguments.request.SampleArguments.{SampleArguments}
@@ -42,31 +44,38 @@ pub data IsAnswer (has : Documents) : Request → ℕ → List ℕ → Type 0 wh
       → IsObjectAnswer N document arguments.command status answer → IsAnswer has (Object arguments) status answer
   -- the violations are on standard error
   no_object : (arguments : ObjectArguments) (breaks : List Break) → HasBreaks has arguments.crd.now arguments.version.now breaks → IsAnswer has (Object arguments) 1 []
-  samples : (arguments : SampleArguments) (q : Question) (items : List Data) (end : Bool) → IsRequested has arguments q → IsPage q None arguments.count items end
-      → IsAnswer has (Sample arguments) 0 (lines items)
+  samples : (arguments : SampleArguments) (q : Question) (after : Option Data) (e : Option Envelope) (items : List Data) (end : Bool) → IsRequested has arguments q after e
+      → IfSome after (IsSampleOf q) → IsPage q after arguments.count items end → IsAnswer has (Sample arguments) 0 (lines e items)
+  -- the tree to go on from is no sample
+  no_sample : (arguments : SampleArguments) (q : Question) (after : Data) (e : Option Envelope) → IsRequested has arguments q (Some after) e → (IsSampleOf q after → ⊥)
+      → IsAnswer has (Sample arguments) 1 []
   no_samples : (arguments : SampleArguments) (breaks : List Break) → HasBreaks has arguments.crd.now arguments.version.now breaks → IsAnswer has (Sample arguments) 1 []
   help : (said : String Global) → IsAnswer has (Help said) 0 (string_bytes said)
   usage_error : (said : String Global) → IsAnswer has (UsageError said) 2 []
 
--- an input of the request is refused; an object or pools only where the schema is taken
+-- an input of the request is refused: an object or pools only where the schema is taken, and the tree to go on from only where the
+-- pools are
 abbrev pub IsInputRefused : Documents → Request → Type 0
 IsInputRefused has (Check arguments) = IsCrdRefused has arguments.crd.now arguments.version.now
 IsInputRefused has (Object arguments) = IsCrdRefused has arguments.crd.now arguments.version.now
     ⊎ (HasAcceptedSchema has arguments.crd.now arguments.version.now × IsObjectRefused has arguments)
 IsInputRefused has (Sample arguments) = IsCrdRefused has arguments.crd.now arguments.version.now
-    ⊎ (((p : List ℕ) × HasFirstUnknown has arguments.crd.now arguments.version.now p) ⊎ (HasSimpleSchema has arguments.crd.now arguments.version.now × ArePoolsRefused has arguments.pools))
+    ⊎ (HasAcceptedSchema has arguments.crd.now arguments.version.now
+    × (ArePoolsRefused has arguments.pools ⊎ (((P : Pools) × ArePools has arguments.pools P) × IsAfterRefused arguments.after)))
 IsInputRefused has _ = ⊥
 
 -- what is out where standard output failed: a beginning of the answer, as a walk leaves it
 abbrev pub IsCutByWrite : Documents → Request → Option (List ℕ) → Option (List ℕ) → Type 0
 IsCutByWrite has (Sample arguments) old new =
-    (q : Question) × IsRequested has arguments q × ((items : List Data) (end : Bool) → IsPage q None arguments.count items end → IsCutByFailure items old new)
+    (q : Question) × (after : Option Data) × (e : Option Envelope) × IsRequested has arguments q after e
+    × ((items : List Data) (end : Bool) → IsPage q after arguments.count items end → IsCutByFailure e items old new)
 IsCutByWrite has request old new = (status : ℕ) × (answer : List ℕ) × IsAnswer has request status answer × (n : ℕ) × Appends old new (take n answer)
 
 -- what is out where memory was wanting: nothing, or whole lines of samples, as a walk leaves them
 abbrev pub IsCutByMemory : Documents → Request → Option (List ℕ) → Option (List ℕ) → Type 0
 IsCutByMemory has (Sample arguments) old new = Keeps old new
-    ⊎ ((q : Question) × IsRequested has arguments q × (n : ℕ) × ((items : List Data) (end : Bool) → IsPage q None arguments.count items end → IsCutBetweenLines items n old new))
+    ⊎ ((q : Question) × (after : Option Data) × (e : Option Envelope) × IsRequested has arguments q after e
+    × (n : ℕ) × ((items : List Data) (end : Bool) → IsPage q after arguments.count items end → IsCutBetweenLines e items n old new))
 IsCutByMemory has request old new = Keeps old new
 
 -- The exit status of a run, with what standard output held and holds, and how often reads of inputs and standard output

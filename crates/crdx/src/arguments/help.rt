@@ -14,10 +14,7 @@ apiextensions.k8s.io/v1, and looks at the schema of one of its versions.
 `crdx check` says which rules that schema breaks and where, or that it is
 structural. `crdx validate` says what is wrong with an object. `crdx prune` and
 `crdx default` print what the API server makes of it. `crdx sample` lists small
-objects, each once and in order.
-
-So far `crdx sample` knows integers, booleans and objects with `properties`
-alone. A schema that breaks no rule and needs more is refused with the code S0.";
+objects, each once and in order.";
 
 /// What stands at the end of `crdx --help`.
 pub(super) const PROGRAM_END: &str = r#"Examples, at the top of the repository:
@@ -31,10 +28,12 @@ Exit status:
   0  The whole answer is on standard output.
   1  The schema breaks rules: they are on standard output under `check`, and
      on standard error under the other commands. Or the object has faults:
-     they are on standard output under `validate`.
+     they are on standard output under `validate`. Or what `sample` is to go
+     on from is no sample.
   2  The command line is refused. Standard error says why.
   3  An input is refused. Standard error has a line with its code, such as
-     `crdx: crd: S2`, `crdx: object: J3` or `crdx: pools: P1 "/integers/0"`.
+     `crdx: crd: S2`, `crdx: object: J3`, `crdx: after: J3` or
+     `crdx: pools: P1 "/integers/0"`.
   4  An input could not be read, or standard output could not be written.
      Standard error says which.
   5  There was not enough memory.
@@ -83,20 +82,21 @@ Faults that an object can have:
 
 Codes of an input that is refused:
   J1   A number is not an integer of 64 bits.
-  J3   The file is not UTF-8 or not JSON, or nests deeper than 127.
-  J4   The file has more than 1,048,576 bytes.
-  S0   The schema breaks no rule, and has something that `sample` does not
-       know yet.
+  J3   The document is not UTF-8 or not JSON, or nests deeper than 127.
+  J4   The document has more than 1,048,576 bytes.
   S1   The file is no CustomResourceDefinition of apiextensions.k8s.io/v1, or
        the version has no schema.
   S2   There is no version of that name.
   S3   The value of a keyword has the wrong form.
   S4   A limit is passed: 512 places in the schema, 24 steps to a place, 32
        properties, 32 names in required, 4 map keys, 64 values in an enum.
-  P1   The pools have the wrong form.
-  P2   The pools have more than 64 integers.
+  P1   The pools have the wrong form: they are an object with any of integers,
+       strings, names and any, each a list, of integers of 64 bits, of texts,
+       of texts, and of any values.
+  P2   The pools have more than 64 integers, 64 strings, 32 names or 64 values
+       of any kind.
 
-A rule, a fault, S0, S3, S4 and P1 come with a JSON pointer to the place. Of a
+A rule, a fault, S3, S4 and P1 come with a JSON pointer to the place. Of a
 schema it begins at openAPIV3Schema, of an object at the object, and "" is the
 whole."#;
 
@@ -177,12 +177,13 @@ pub(super) const SAMPLE: &str = "Lists sample objects of a schema, one on each l
 pub(super) const SAMPLE_LONG: &str = "Lists sample objects of a schema, one on each line, as JSON.
 
 A sample is an object that the schema accepts and that pruning and defaulting
-leave unchanged. Its integers are among the pools, and it has at most as many
-nodes as the limit says. The apiVersion, kind and metadata of the resource are
-left out.
+leave unchanged. Its values are among those of an `enum` or of the pools, and it
+has at most as many nodes as the limit says. The apiVersion, kind and metadata
+of the resource are left out, unless --name is given.
 
 Samples with fewer nodes come first. None comes twice, and none is passed over.
-Standard error says `crdx: end` where no sample is left, else `crdx: more`.";
+Standard error says `crdx: end` where no sample is left, else `crdx: more`. The
+last line, given back by --after, goes on from there.";
 
 pub(super) const SAMPLE_END: &str = r#"Example, at the top of the repository:
   ./crdx sample examples/widget/crd.json v1 \
@@ -199,11 +200,14 @@ pub(super) const CRD_VERSION: &str = "The name of one of its versions, such as v
 
 pub(super) const OBJECT: &str = "A JSON file with the object; without it standard input is read";
 
-pub(super) const POOLS: &str = "A JSON file with the integers that samples may have";
+pub(super) const POOLS: &str = "A JSON file with the values that samples may have";
 
-pub(super) const POOLS_LONG: &str = r#"A JSON file with the integers that samples may have, such as
-{"integers":[0,1]}: at most 64, and no other member. Without this
-option samples have no integers. Both booleans are always there."#;
+pub(super) const POOLS_LONG: &str = r#"A JSON file with the values that samples may have, such as
+{"integers":[0,1],"strings":["x"],"names":["k"],"any":[{}]}: at
+most 64 integers and 64 strings, 32 names of members of maps, and 64
+values where the schema leaves the value open. Each may be left out,
+and without this option all are empty. Both booleans are always
+there, and an `enum` has its own values."#;
 
 pub(super) const LIMIT: &str = "The most nodes of a sample, 1 to 63";
 
@@ -213,3 +217,16 @@ object is one node. Names do not count. So {"spec":{"a":0}} has
 three nodes."#;
 
 pub(super) const COUNT: &str = "The most samples to list, 1 to 10,000";
+
+pub(super) const AFTER: &str = "The sample to go on from, as JSON";
+
+pub(super) const AFTER_LONG: &str =
+    r#"The sample to go on from, as JSON: the first line is the sample
+behind it. Its apiVersion, kind and metadata are not looked at."#;
+
+pub(super) const NAME: &str = "The name to print samples with, as whole resources";
+
+pub(super) const NAME_LONG: &str =
+    r#"The name to print samples with: each line is then a whole resource,
+with the apiVersion and kind of the CustomResourceDefinition and
+this name in its metadata."#;

@@ -164,7 +164,9 @@ fn sample_command<'a>(alloc: Global) -> Result<Command<'a>, AllocError>
         .arg(version_argument(alloc))?
         .arg(pools_option(alloc))?
         .arg(limit_option(alloc))?
-        .arg(count_option(alloc))
+        .arg(count_option(alloc))?
+        .arg(after_option(alloc))?
+        .arg(name_option(alloc))
 }
 
 fn pools_option<'a>(alloc: Global) -> Arg<'a>
@@ -203,6 +205,28 @@ fn count_option<'a>(alloc: Global) -> Arg<'a>
         .default_value("100")
 }
 
+fn after_option<'a>(alloc: Global) -> Arg<'a>
+    ensures rule { rule_of result ≡ option_rule (codes "after") }
+    ensures local { result.global ≡ false }
+{
+    Arg::new(alloc, "after")
+        .long("after")
+        .value_name("JSON")
+        .help(help::AFTER)
+        .long_help(help::AFTER_LONG)
+}
+
+fn name_option<'a>(alloc: Global) -> Arg<'a>
+    ensures rule { rule_of result ≡ option_rule (codes "name") }
+    ensures local { result.global ≡ false }
+{
+    Arg::new(alloc, "name")
+        .long("name")
+        .value_name("NAME")
+        .help(help::NAME)
+        .long_help(help::NAME_LONG)
+}
+
 fn check_arguments<'a>(matches: &ArgMatches<'a>) -> CheckArguments<'a>
     ensures { AreCheckArguments (rows_of (found_of matches.now)) result }
 {
@@ -230,6 +254,8 @@ fn sample_arguments<'a>(matches: &ArgMatches<'a>) -> SampleArguments<'a>
         crd: matches.get_str("CRD").unwrap_or(""),
         version: matches.get_str("VERSION").unwrap_or(""),
         pools: matches.get_str("pools"),
+        after: matches.get_str("after"),
+        name: matches.get_str("name"),
         limit: number_of(matches, "limit", USUAL_LIMIT, MOST_LIMIT),
         count: number_of(matches, "count", USUAL_COUNT, MOST_COUNT),
     }

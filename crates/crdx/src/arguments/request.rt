@@ -10,6 +10,10 @@ pub struct SampleArguments<'a> {
     pub version: &'a str,
     /// The file of the pools, where one is named.
     pub pools: Option<&'a str>,
+    /// The JSON of the sample to go on from, where there is one; its envelope is not judged.
+    pub after: Option<&'a str>,
+    /// The name in the envelope that samples are printed with, where there is one.
+    pub name: Option<&'a str>,
     /// The node limit, 1 to 63.
     pub limit: u32,
     /// How many samples are asked for, 1 to 10,000.

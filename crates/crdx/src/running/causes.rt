@@ -2,10 +2,9 @@
 ghost use Rattle.std.specs.Prelude.{◌≡◌};
 ghost use Rattle.crdx.specs.Internal.ExitStatus.{status};
 
-use crate::plan::PFault;
-use crate::simple;
 use crate::walk::WFault;
 use jtree::JFault;
+use plan::PFault;
 use schema::{Refused, SFault, Violation};
 use std::alloc::AllocError;
 use std::fmt;
@@ -16,6 +15,7 @@ pub(crate) enum Input {
     Crd,
     Object,
     Pools,
+    After,
 }
 
 impl fmt::Display for Input {
@@ -29,6 +29,7 @@ impl fmt::Display for Input {
             Input::Crd => write!(f, "crd"),
             Input::Object => write!(f, "object"),
             Input::Pools => write!(f, "pools"),
+            Input::After => write!(f, "after"),
         }
     }
 }
@@ -36,7 +37,6 @@ impl fmt::Display for Input {
 /// The code of a refusal that names a place.
 #[derive(Clone, Copy, Drop)]
 pub(crate) enum PlaceCode {
-    NotYet,
     KeywordForm,
     TooLarge,
     Form,
@@ -50,7 +50,6 @@ impl fmt::Display for PlaceCode {
 
     fn fmt<W: fmt::Write>(&self, f: &mut fmt::Formatter<W>) -> fmt::Result {
         match self {
-            PlaceCode::NotYet => write!(f, "S0"),
             PlaceCode::KeywordForm => write!(f, "S3"),
             PlaceCode::TooLarge => write!(f, "S4"),
             PlaceCode::Form => write!(f, "P1"),
@@ -134,25 +133,6 @@ impl From<Refused> for Cause {
         match refused {
             Refused::Violations(violations) => Cause::Violations(violations),
             Refused::NoMemory => Cause::NoMemory,
-        }
-    }
-}
-
-impl From<simple::Refused> for Cause {
-    ghost use Rattle.std.specs.Prelude.{◌≡◌};
-    ghost use Rattle.crdx.specs.Internal.ExitStatus.{cause_of_simple_refusal};
-
-    ghost from_gives = { λ refused cause. cause ≡ cause_of_simple_refusal refused };
-
-    fn from(refused: simple::Refused) -> Cause {
-        match refused {
-            simple::Refused::Violations(violations) => Cause::Violations(violations),
-            simple::Refused::NotYet(pointer) => Cause::Place(
-                Input::Crd,
-                PlaceCode::NotYet,
-                pointer,
-            ),
-            simple::Refused::NoMemory => Cause::NoMemory,
         }
     }
 }

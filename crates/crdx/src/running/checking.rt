@@ -10,7 +10,7 @@ use crate::inputs::Inputs;
 use crate::phrases::phrase;
 use crate::running::answer::{Answer, json_text};
 use crate::running::causes::Cause;
-use crate::running::documents::raw_of;
+use crate::running::documents::crd_of;
 use schema::Violation;
 use std::alloc::{AllocError, Global};
 use stored::violations;
@@ -24,8 +24,8 @@ pub(crate) fn check<I: Inputs>(
     ensures answer { IfOk result (λ a. IsAnswer (I.has inputs.old) (Check arguments.now) a.status (string_bytes a.text)) }
     ensures cause { IfErr result (IsInputCause (I.has inputs.old) (I.failures inputs.old) (I.failures inputs.new) (Check arguments.now)) }
 {
-    let raw = raw_of(alloc, arguments.crd, arguments.version, inputs)?;
-    Ok(verdict(alloc, violations(alloc, &raw)?.as_slice())?)
+    let crd = crd_of(alloc, arguments.crd, arguments.version, inputs)?;
+    Ok(verdict(alloc, violations(alloc, &crd.raw)?.as_slice())?)
 }
 
 /// What is said of a schema with these violations.

@@ -1,23 +1,32 @@
-// The schema and the pools that a request names.
-ghost use Rattle.std.specs.Prelude.{◌≡◌, true, Ok, IfOk, IfErr, OnOk};
+// The schema, the pools and the tree to go on from that a request names.
+ghost use Rattle.std.specs.Prelude.{◌≡◌, true, Ok, IfOk, IfErr, OnOk, option_map};
 ghost use Rattle.jtree.specs.Data.{Data};
+ghost use Rattle.jtree.specs.Reads.{Reads};
 ghost use Rattle.jtree.specs.View.{data_of};
-ghost use Rattle.crdx.specs.Objects.Accepted.{AllKnown, IsNodeAt};
 ghost use Rattle.schema.specs.Nodes.ByPlace.{AreNodesOf};
 ghost use Rattle.schema.specs.Rules.Breaks.{IsUnbroken};
 ghost use Rattle.stored.specs.Schemas.Accepted.{IsBroken};
-ghost use Rattle.crdx.specs.Internal.Cause.{IsUnreadCause, IsReadCause, IsBrokenCause, IsUnknownCause, IsSchemaCause, IsPoolsCause};
-ghost use Rattle.crdx.specs.Program.Requested.{IsRequestedSchema, IsAcceptedSchema, IsSimpleSchema, ArePools};
+ghost use Rattle.crdx.specs.Internal.Cause.{IsUnreadCause, IsReadCause, IsSchemaCause, IsPoolsCause, IsAfterCause, IsTextCause};
+ghost use Rattle.crdx.specs.Program.Requested.{IsRequestedCrd, ArePools, IsAfter};
 ghost use Rattle.crdx.specs.Program.Documents.{AreAmong, file_name};
+ghost use Rattle.crdx.specs.Program.Envelope.{body_of as body};
 
+use crate::envelope::split;
 use crate::inputs::{InFault, Inputs};
-use crate::plan::Pools;
 use crate::running::causes::{Cause, Input};
-use crate::simple;
-use jtree::{JFault, Tree};
-use schema::{RawSchema, read_crd};
+use jtree::{JFault, Text, Tree};
+use plan::Pools;
+use schema::{Crd, read_crd};
 use std::alloc::Global;
-use stored::{Schema, accept, violations};
+use stored::{Schema, accept};
+
+/// A schema that breaks no rule, and the group and the kind of its resources.
+#[derive(Drop)]
+pub(crate) struct Accepted {
+    pub group: Text,
+    pub kind: Text,
+    pub schema: Schema,
+}
 
 /// The schema of a version of the CustomResourceDefinition of this name, where it breaks no rule.
 pub(crate) fn accepted_schema<I: Inputs>(
@@ -25,64 +34,35 @@ pub(crate) fn accepted_schema<I: Inputs>(
     crd: &str,
     version: &str,
     inputs: &mut I,
-) -> Result<Schema, Cause>
-    ensures accepted { IfOk result (λ schema. (raw : Data) × IsAcceptedSchema (I.has inputs.old) crd.now version.now raw × AreNodesOf true schema raw) }
-    ensures cause { IfErr result (IsSchemaCause (I.has inputs.old) (I.failures inputs.old) (I.failures inputs.new) crd.now version.now IsBrokenCause) }
+) -> Result<Accepted, Cause>
+    ensures accepted { IfOk result (λ a. (raw : Data) × IsRequestedCrd (I.has inputs.old) crd.now version.now a.group a.kind raw × IsUnbroken (IsBroken raw) × AreNodesOf true a.schema raw) }
+    ensures cause { IfErr result (IsSchemaCause (I.has inputs.old) (I.failures inputs.old) (I.failures inputs.new) crd.now version.now) }
     ensures stays { AreAmong (I.has inputs.new) (I.has inputs.old) }
     ensures unfailed { OnOk result (I.failures inputs.new ≡ I.failures inputs.old) }
 {
-    let raw = raw_of(alloc, crd, version, inputs)?;
-    Ok(accept(alloc, raw)?)
+    let crd = crd_of(alloc, crd, version, inputs)?;
+    let schema = accept(alloc, crd.raw)?;
+    Ok(Accepted {
+        group: crd.group,
+        kind: crd.kind,
+        schema,
+    })
 }
 
-/// The schema of a version of the CustomResourceDefinition of this name, where `sample` knows all of it.
-pub(crate) fn simple_schema<I: Inputs>(
+/// What is read of the CustomResourceDefinition of this name.
+pub(crate) fn crd_of<I: Inputs>(
     alloc: Global,
     crd: &str,
     version: &str,
     inputs: &mut I,
-) -> Result<simple::Schema, Cause>
-    ensures accepted { IfOk result (λ schema. (raw : Data) × IsSimpleSchema (I.has inputs.old) crd.now version.now raw × IsNodeAt true schema raw) }
-    ensures cause { IfErr result (IsSchemaCause (I.has inputs.old) (I.failures inputs.old) (I.failures inputs.new) crd.now version.now IsUnknownCause) }
-    ensures stays { AreAmong (I.has inputs.new) (I.has inputs.old) }
-    ensures unfailed { OnOk result (I.failures inputs.new ≡ I.failures inputs.old) }
-{
-    let raw = raw_of(alloc, crd, version, inputs)?;
-    match simple_of(alloc, raw) {
-        Ok(schema) => Ok(schema),
-        Err(cause) => Err(cause),
-    }
-}
-
-/// The schema, where it breaks no rule and `sample` knows all of it.
-fn simple_of(alloc: Global, raw: RawSchema) -> Result<simple::Schema, Cause>
-    ensures unbroken { OnOk result (IsUnbroken (IsBroken raw)) }
-    ensures known { OnOk result (AllKnown true raw) }
-    ensures node { IfOk result (λ schema. IsNodeAt true schema raw) }
-    ensures cause { IfErr result (IsUnknownCause raw) }
-{
-    let found = violations(alloc, &raw)?;
-    if found.as_slice().is_empty() {
-        Ok(simple::accept(alloc, raw)?)
-    } else {
-        Err(Cause::Violations(found))
-    }
-}
-
-/// The schema of a version of the CustomResourceDefinition of this name, as written.
-pub(crate) fn raw_of<I: Inputs>(
-    alloc: Global,
-    crd: &str,
-    version: &str,
-    inputs: &mut I,
-) -> Result<RawSchema, Cause>
-    ensures ok { IfOk result (λ raw. IsRequestedSchema (I.has inputs.old) crd.now version.now raw) }
+) -> Result<Crd, Cause>
+    ensures ok { IfOk result (λ c. IsRequestedCrd (I.has inputs.old) crd.now version.now c.group c.kind c.raw) }
     ensures cause { IfErr result (IsReadCause (I.has inputs.old) (I.failures inputs.old) (I.failures inputs.new) crd.now version.now) }
     ensures stays { AreAmong (I.has inputs.new) (I.has inputs.old) }
     ensures unfailed { OnOk result (I.failures inputs.new ≡ I.failures inputs.old) }
 {
     let document = document(inputs, Input::Crd, Some(crd))?;
-    Ok(read_crd(alloc, &document, version)?.raw)
+    Ok(read_crd(alloc, &document, version)?)
 }
 
 /// The pools of the document of this name, and empty pools where there is no name.
@@ -116,5 +96,31 @@ pub(crate) fn document<I: Inputs>(
         Err(InFault::Failed) => Err(Cause::Unread(input)),
         Err(InFault::Document(JFault::NoMemory)) => Err(Cause::NoMemory),
         Err(InFault::Document(fault)) => Err(Cause::Document(input, fault)),
+    }
+}
+
+/// The tree to go on from: what the text is read as, without its envelope; none without a text.
+pub(crate) fn after_of(alloc: Global, text: Option<&str>) -> Result<Option<Tree>, Cause>
+    ensures ok { IfOk result (λ t. IsAfter text.entry (option_map data_of t)) }
+    ensures cause { IfErr result (IsAfterCause text.entry) }
+{
+    match text {
+        Some(text) => Ok(Some(body_of(alloc, text)?)),
+        None => Ok(None),
+    }
+}
+
+/// What the text is read as, without its envelope.
+fn body_of(alloc: Global, text: &str) -> Result<Tree, Cause>
+    ensures ok { IfOk result (λ t. (document : Data) × Reads text.now document × (data_of t ≡ body document)) }
+    ensures cause { IfErr result (IsTextCause text.now) }
+{
+    match Tree::from_bytes(alloc, text.as_bytes()) {
+        Ok(mut tree) => {
+            drop(split(&mut tree));
+            Ok(tree)
+        }
+        Err(JFault::NoMemory) => Err(Cause::NoMemory),
+        Err(fault) => Err(Cause::Document(Input::After, fault)),
     }
 }

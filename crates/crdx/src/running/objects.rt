@@ -1,5 +1,5 @@
 // What `validate`, `prune` and `default` answer.
-ghost use Rattle.std.specs.Prelude.{◌≡◌, map, Ok, IfOk, IfErr, string_bytes};
+ghost use Rattle.std.specs.Prelude.{◌≡◌, None, map, Ok, IfOk, IfErr, string_bytes};
 ghost use Rattle.jtree.specs.Data.{Data};
 ghost use Rattle.jtree.specs.View.{data_of};
 ghost use Rattle.schema.specs.Nodes.View.{node_of};
@@ -36,8 +36,8 @@ pub(crate) fn judge_object<I: Inputs>(
     ensures answer { IfOk result (λ a. IsAnswer (I.has inputs.old) (Object arguments.now) a.status (string_bytes a.text)) }
     ensures cause { IfErr result (IsInputCause (I.has inputs.old) (I.failures inputs.old) (I.failures inputs.new) (Object arguments.now)) }
 {
-    let schema = accepted_schema(alloc, arguments.crd, arguments.version, inputs)?;
-    match judge_at(alloc, arguments, schema.root(), inputs) {
+    let accepted = accepted_schema(alloc, arguments.crd, arguments.version, inputs)?;
+    match judge_at(alloc, arguments, accepted.schema.root(), inputs) {
         Ok(answer) => Ok(answer),
         Err(cause) => Err(cause),
     }
@@ -98,7 +98,7 @@ fn validate(alloc: Global, node: &Node, body: &Tree) -> Result<Answer, AllocErro
 
 /// The line of a body with its envelope.
 fn print(alloc: Global, mut body: Tree, envelope: Parts) -> Result<Answer, AllocError>
-    ensures { IfOk result (λ a. (a.status ≡ 0) × ((whole : Data) × IsJoined (data_of body) envelope whole × (string_bytes a.text ≡ line whole))) }
+    ensures { IfOk result (λ a. (a.status ≡ 0) × ((whole : Data) × IsJoined (data_of body) envelope whole × (string_bytes a.text ≡ line None whole))) }
 {
     join(&mut body, envelope)?;
     let mut text = body.to_text(alloc).map_err(|_| AllocError)?;

@@ -1,57 +1,121 @@
 // What `sample` writes.
-ghost use Rattle.std.specs.Prelude.{◌≡◌, None, IfOk, IfErr, OnOk};
+ghost use Rattle.std.specs.Prelude.{◌≡◌, ◌≤◌, Option, IfOk, IfErr, OnOk, IfSome, option_map};
+ghost use Rattle.jtree.specs.Data.{Data};
+ghost use Rattle.jtree.specs.View.{data_of};
+ghost use Rattle.plan.specs.Samples.Question.{Question};
+ghost use Rattle.enumerate.specs.Page.{IsSampleOf};
 ghost use Rattle.crdx.specs.Internal.Cause.{IsInputCause, IsSampleCause};
 ghost use Rattle.crdx.specs.Output.Walk.{WritesPage};
-ghost use Rattle.crdx.specs.Program.Requested.{IsRequested};
-ghost use Rattle.crdx.specs.Samples.Sample.{Question};
+ghost use Rattle.crdx.specs.Program.Requested.{IsRequested, envelope_for};
 ghost use Rattle.crdx.specs.declared.arguments.request.Request.TheVariants.{Sample};
+ghost use Rattle.crdx.specs.declared.walk.line.Envelope.{Envelope as EnvelopeData};
 
 use crate::arguments::SampleArguments;
 use crate::inputs::Inputs;
-use crate::plan::Plan;
 use crate::running::causes::Cause;
-use crate::running::documents::{pools_of, simple_schema};
+use crate::running::documents::{accepted_schema, after_of, pools_of};
 use crate::sink::Sink;
-use crate::walk::{Walked, walk};
-use std::alloc::Global;
+use crate::walk::{Envelope, Walked, walk};
+use jtree::{Text, Tree};
+use plan::Plan;
+use std::alloc::{AllocError, Global};
 
-/// Lists samples. Inputs are judged in the order CustomResourceDefinition, pools, and the first refusal ends the run.
+/// The most samples that are held at a time.
+const PAGE: u32 = 64;
+
+/// What is asked: a plan, the tree to go on from, and the envelope that samples are printed with.
+#[derive(Drop)]
+struct Asked {
+    plan: Plan<u64>,
+    after: Option<Tree>,
+    envelope: Option<Envelope>,
+}
+
+/// Lists samples. Inputs are judged in the order CustomResourceDefinition, its schema, pools, the tree to go on from, and the
+/// first refusal ends the run.
 pub(crate) fn sample<I: Inputs, W: Sink>(
     alloc: Global,
     arguments: &SampleArguments<'_>,
     inputs: &mut I,
     out: &mut W,
 ) -> Result<Walked, Cause>
-    ensures sampled { IfOk result (λ walked. (q : Question) × IsRequested (I.has inputs.old) arguments.now q
-        × WritesPage q None arguments.now.count walked.lines walked.end (W.taken out.old) (W.taken out.new)) }
+    ensures sampled { IfOk result (λ walked. (q : Question) × (after : Option Data) × (e : Option EnvelopeData) × IsRequested (I.has inputs.old) arguments.now q after e
+        × IfSome after (IsSampleOf q) × WritesPage q after arguments.now.count e walked.lines walked.end (W.taken out.old) (W.taken out.new)) }
     ensures unfailed { OnOk result (W.failures out.new ≡ W.failures out.old) }
     ensures cause { IfErr result (IsSampleCause (I.has inputs.old) (I.failures inputs.old) (I.failures inputs.new) arguments.now
         (W.taken out.old) (W.taken out.new) (W.failures out.old) (W.failures out.new)) }
 {
-    let plan = plan_of(alloc, arguments, inputs)?;
-    let walked = walk(alloc, &plan, None, arguments.count, out)?;
+    let mut asked = asked_of(alloc, arguments, inputs)?;
+    let mut meter = asked.plan.meter();
+    let walked = walk(
+        alloc,
+        &asked.plan,
+        asked.after.as_ref(),
+        PAGE,
+        arguments.count,
+        asked.envelope.as_ref(),
+        &mut meter,
+        out,
+    )?;
     match out.flush() {
         Ok(()) => Ok(walked),
         Err(_) => Err(Cause::Write(walked.lines)),
     }
 }
 
-/// The plan of the question that the arguments ask.
-fn plan_of<I: Inputs>(
+/// What the arguments ask.
+fn asked_of<I: Inputs>(
     alloc: Global,
     arguments: &SampleArguments<'_>,
     inputs: &mut I,
-) -> Result<Plan, Cause>
-    ensures plan { IfOk result (λ plan. IsRequested (I.has inputs.old) arguments.now plan) }
+) -> Result<Asked, Cause>
+    ensures asked { IfOk result (λ a. IsRequested (I.has inputs.old) arguments.now a.plan (option_map data_of a.after) a.envelope) }
     ensures cause { IfErr result (IsInputCause (I.has inputs.old) (I.failures inputs.old) (I.failures inputs.new) (Sample arguments.now)) }
 {
-    let schema = match simple_schema(alloc, arguments.crd, arguments.version, inputs) {
-        Ok(schema) => schema,
+    let accepted = match accepted_schema(alloc, arguments.crd, arguments.version, inputs) {
+        Ok(accepted) => accepted,
         Err(cause) => return Err(cause),
     };
     let pools = match pools_of(alloc, arguments.pools, inputs) {
         Ok(pools) => pools,
         Err(cause) => return Err(cause),
     };
-    Ok(Plan::new(schema, pools, arguments.limit)?)
+    let after = match after_of(alloc, arguments.after) {
+        Ok(after) => after,
+        Err(cause) => return Err(cause),
+    };
+    let envelope = envelope_named(
+        alloc,
+        &accepted.group,
+        arguments.version,
+        &accepted.kind,
+        arguments.name,
+    )?;
+    Ok(Asked {
+        plan: Plan::new(alloc, accepted.schema, pools, arguments.limit)?,
+        after,
+        envelope,
+    })
+}
+
+/// The envelope of resources of this group, version, kind and name; none without a name.
+fn envelope_named(
+    alloc: Global,
+    group: &Text,
+    version: &str,
+    kind: &Text,
+    name: Option<&str>,
+) -> Result<Option<Envelope>, AllocError>
+    ensures { IfOk result (λ e. e ≡ envelope_for group.now version.now kind.now name.entry) }
+{
+    match name {
+        Some(name) => Ok(Some(Envelope {
+            api_version: Text {
+                text: format!(in alloc; "{}/{version}", group.as_str())?,
+            },
+            kind: kind.copy(alloc)?,
+            name: Text::from_str(alloc, name)?,
+        })),
+        None => Ok(None),
+    }
 }

@@ -1,9 +1,11 @@
 // Lines put together to blocks, so that one call of the sink takes many of them.
 ghost use Rattle.std.specs.Prelude.{◌≡◌, IfOk};
+ghost use Rattle.enumerate.specs.View.{trees_of};
+ghost use Rattle.std.specs.Option.{option_copied};
 ghost use Rattle.crdx.specs.Output.Line.{lines};
 ghost use Rattle.crdx.specs.Internal.Block.{HasEnds, IsCountOfEnds};
-ghost use Rattle.crdx.specs.Samples.View.{trees_of};
 
+use crate::walk::line::{Envelope, append_line};
 use jtree::Tree;
 use std::alloc::{AllocError, Global};
 
@@ -15,15 +17,18 @@ pub(crate) struct Block {
 }
 
 /// The lines of the trees.
-pub(crate) fn block_of(alloc: Global, trees: &[Tree]) -> Result<Block, AllocError>
-    ensures lines { IfOk result (λ block. block.bytes.items ≡ lines (trees_of trees.now)) }
-    ensures ends { IfOk result (λ block. HasEnds (trees_of trees.now) block.ends.items) }
+pub(crate) fn block_of(
+    alloc: Global,
+    trees: &[Tree],
+    envelope: Option<&Envelope>,
+) -> Result<Block, AllocError>
+    ensures lines { IfOk result (λ block. block.bytes.items ≡ lines (option_copied envelope.entry) (trees_of trees.now)) }
+    ensures ends { IfOk result (λ block. HasEnds (option_copied envelope.entry) (trees_of trees.now) block.ends.items) }
 {
     let mut bytes = Vec::new(alloc);
     let mut ends = Vec::new(alloc);
     for tree in trees {
-        bytes = tree.append_text(bytes)?;
-        bytes.push(b'\n')?;
+        bytes = append_line(alloc, bytes, tree, envelope)?;
         ends.push(bytes.len())?;
     }
     Ok(Block { bytes, ends })

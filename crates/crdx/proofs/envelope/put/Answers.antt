@@ -3,7 +3,7 @@ use Rattle.jtree.specs.Data.{AreMembers}
 use Rattle.jtree.specs.Path.{member_at}
 use Rattle.jtree.specs.View.{data_of, members_of}
 use Rattle.crdx.proofs.EnvelopeLemmas.{written, inserted, put_at}
-use Rattle.crdx.proofs.FilledNames.{replaced_sorted}
+use Rattle.crdx.proofs.NameLemmas.{replaced_sorted}
 use Rattle.crdx.proofs.envelope.put.Goals as goal
 
 pub returns-in-Ok-clause-put : goal.returns-in-Ok-clause-put

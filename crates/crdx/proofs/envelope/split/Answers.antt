@@ -1,11 +1,11 @@
 use Rattle.std.proofs.Common.{None, refl, ap, ◌∙◌}
 use Rattle.jtree.specs.Data.{object, no_members}
 use Rattle.jtree.specs.Path.{member_at}
-use Rattle.crdx.specs.Objects.ByLevel.{in_front}
-use Rattle.crdx.specs.Objects.Filled.{without}
+use Rattle.crdx.specs.Internal.Members.{in_front}
+use Rattle.crdx.specs.Internal.Members.{without}
 use Rattle.crdx.specs.Program.Envelope.{onto}
 use Rattle.crdx.proofs.EnvelopeLemmas.{api_version, kind, metadata, body_is, envelope_is}
-use Rattle.crdx.proofs.FilledNames.{replaced_elsewhere}
+use Rattle.crdx.proofs.NameLemmas.{replaced_elsewhere}
 use Rattle.crdx.proofs.envelope.split.Goals as goal
 
 pub returns-in-Object-clause-body : goal.returns-in-Object-clause-body

@@ -2,10 +2,10 @@ use Rattle.std.proofs.Common.{◌≡◌, ◌∙◌, None, sym, ap, subst}
 use Rattle.jtree.specs.Data.{AreMembers}
 use Rattle.jtree.specs.Path.{member_at}
 use Rattle.jtree.specs.View.{members_of}
-use Rattle.crdx.specs.Objects.ByLevel.{in_front}
-use Rattle.crdx.specs.Objects.Filled.{without}
+use Rattle.crdx.specs.Internal.Members.{in_front}
+use Rattle.crdx.specs.Internal.Members.{without}
 use Rattle.crdx.proofs.EnvelopeLemmas.{removed, absent, taken}
-use Rattle.crdx.proofs.FilledNames.{replaced_at, replaced_sorted}
+use Rattle.crdx.proofs.NameLemmas.{replaced_at, replaced_sorted}
 use Rattle.crdx.proofs.envelope.take.Goals as goal
 
 pub returns-in-Ok-clause-rest : goal.returns-in-Ok-clause-rest

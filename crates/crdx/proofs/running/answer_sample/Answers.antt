@@ -5,9 +5,8 @@ use Rattle.crdx.proofs.running.answer_sample.Goals as goal
 
 pub returns-in-Ok : goal.returns-in-Ok
 returns-in-Ok g c =
-    let sampled = c.in-Ok.ensures.sampled in
-    let wrote = sampled.2 in
-    answered 0 (lines wrote.items) (samples c.args.arguments.now sampled.0 wrote.items c.in-Ok.walked.end sampled.1 wrote.page) wrote.written c.in-Ok.ensures.unfailed
+    let (q, after, e, asked, sample, wrote) = c.in-Ok.ensures.sampled in
+    answered 0 (lines e wrote.items) (samples c.args.arguments.now q after e wrote.items c.in-Ok.walked.end asked sample wrote.page) wrote.written c.in-Ok.ensures.unfailed
 
 pub returns-in-Err : goal.returns-in-Err
 returns-in-Err g c = result_of_sample _ _ _ c.args.arguments.now _ _ _ _ c.in-Err.cause c.report.result c.in-Err.ensures.cause c.report.ensures

@@ -11,7 +11,9 @@ returns-clause-app c =
     let second = c.in_ok-arg-2.ensures.shape c.version_argument.ensures.local ∙ ap₂ with_rule first c.version_argument.ensures.rule in
     let third = c.in_ok-arg-3.ensures.shape c.pools_option.ensures.local ∙ ap₂ with_rule second c.pools_option.ensures.rule in
     let fourth = c.in_ok-arg-4.ensures.shape c.limit_option.ensures.local ∙ ap₂ with_rule third c.limit_option.ensures.rule in
-    IfOk-weaker c.arg-5.result _ _ (λ r adds. adds.shape c.count_option.ensures.local ∙ ap₂ with_rule fourth c.count_option.ensures.rule) c.arg-5.ensures
+    let fifth = c.in_ok-arg-5.ensures.shape c.count_option.ensures.local ∙ ap₂ with_rule fourth c.count_option.ensures.rule in
+    let sixth = c.in_ok-arg-6.ensures.shape c.after_option.ensures.local ∙ ap₂ with_rule fifth c.after_option.ensures.rule in
+    IfOk-weaker c.arg-7.result _ _ (λ r adds. adds.shape c.name_option.ensures.local ∙ ap₂ with_rule sixth c.name_option.ensures.rule) c.arg-7.ensures
 
 pub returns-clause-local : goal.returns-clause-local
 returns-clause-local c =
@@ -21,4 +23,6 @@ returns-clause-local c =
     let second = c.in_ok-arg-2.ensures.globals ∙ ap₂ (λ g h. g || h) first c.version_argument.ensures.local in
     let third = c.in_ok-arg-3.ensures.globals ∙ ap₂ (λ g h. g || h) second c.pools_option.ensures.local in
     let fourth = c.in_ok-arg-4.ensures.globals ∙ ap₂ (λ g h. g || h) third c.limit_option.ensures.local in
-    IfOk-weaker c.arg-5.result _ _ (λ r adds. adds.globals ∙ ap₂ (λ g h. g || h) fourth c.count_option.ensures.local) c.arg-5.ensures
+    let fifth = c.in_ok-arg-5.ensures.globals ∙ ap₂ (λ g h. g || h) fourth c.count_option.ensures.local in
+    let sixth = c.in_ok-arg-6.ensures.globals ∙ ap₂ (λ g h. g || h) fifth c.after_option.ensures.local in
+    IfOk-weaker c.arg-7.result _ _ (λ r adds. adds.globals ∙ ap₂ (λ g h. g || h) sixth c.name_option.ensures.local) c.arg-7.ensures

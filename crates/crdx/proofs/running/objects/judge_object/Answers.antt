@@ -9,20 +9,20 @@ use Rattle.crdx.specs.declared.running.causes.Input.TheVariants as input
 use Rattle.crdx.proofs.RunLemmas.{object_schema, object_input}
 use Rattle.crdx.proofs.running.objects.judge_object.Goals as goal
 
-pub returns-in_err-schema-clause-cause : goal.returns-in_err-schema-clause-cause
-returns-in_err-schema-clause-cause g c =
+pub returns-in_err-accepted-clause-cause : goal.returns-in_err-accepted-clause-cause
+returns-in_err-accepted-clause-cause g c =
     let p = err_from_is_err_and c.from_residual.result c.from_residual.ensures.1 in
-    rw (p.1, p.2) (object_schema (g.I.Inputs.has c.args.inputs.now) (g.I.Inputs.failures c.args.inputs.now) (g.I.Inputs.failures c.accepted_schema.new.inputs) c.args.arguments.now c.in_err-schema.field-0.0 c.in_err-schema.ensures.cause)
+    rw (p.1, p.2) (object_schema (g.I.Inputs.has c.args.inputs.now) (g.I.Inputs.failures c.args.inputs.now) (g.I.Inputs.failures c.accepted_schema.new.inputs) c.args.arguments.now c.in_err-accepted.field-0.0 c.in_err-accepted.ensures.cause)
 
 pub returns-in-Ok-clause-answer : goal.returns-in-Ok-clause-answer
 returns-in-Ok-clause-answer g c =
-    let accepted = c.in_ok-schema.ensures.accepted in
+    let (raw, asked, unbroken, nodes) = c.in_ok-accepted.ensures.accepted in
     let said = c.in-Ok.ensures.answer in
     object c.args.arguments.now (node_of c.root.result.now) said.0 c.in-Ok.answer.status _ (record {
-      raw = accepted.0;
-      accepted = accepted.1;
-      nodes = subst (λ N. AreNodesOf true N accepted.0) (sym c.root.ensures.node) accepted.2;
-      at_hand = c.in_ok-schema.ensures.stays (file_name c.args.arguments.now.object) _ said.1;
+      raw = raw;
+      accepted = record { asked = (c.in_ok-accepted.accepted.group, (c.in_ok-accepted.accepted.kind, asked)); unbroken = unbroken };
+      nodes = subst (λ N. AreNodesOf true N raw) (sym c.root.ensures.node) nodes;
+      at_hand = c.in_ok-accepted.ensures.stays (file_name c.args.arguments.now.object) _ said.1;
     }) said.2
 
 pub returns-clause-cause : goal.returns-clause-cause
@@ -30,6 +30,6 @@ returns-clause-cause g c =
     let later = g.I.Inputs.has c.accepted_schema.new.inputs in
     let read = g.I.Inputs.failures c.judge_at.new.inputs in
     let cause = c.in-Err.cause in
-    let accepted = c.in_ok-schema.ensures.accepted in
-    let why = subst (λ n. IsUnreadCause later n read input.Object (file_name c.args.arguments.now.object) cause) c.in_ok-schema.ensures.unfailed c.in-Err.ensures.cause in
-    object_input (g.I.Inputs.has c.args.inputs.now) (g.I.Inputs.failures c.args.inputs.now) read c.args.arguments.now later cause c.in_ok-schema.ensures.stays (accepted.0, accepted.1) why
+    let (raw, asked, unbroken, nodes) = c.in_ok-accepted.ensures.accepted in
+    let why = subst (λ n. IsUnreadCause later n read input.Object (file_name c.args.arguments.now.object) cause) c.in_ok-accepted.ensures.unfailed c.in-Err.ensures.cause in
+    object_input (g.I.Inputs.has c.args.inputs.now) (g.I.Inputs.failures c.args.inputs.now) read c.args.arguments.now later cause c.in_ok-accepted.ensures.stays (raw, record { asked = (c.in_ok-accepted.accepted.group, (c.in_ok-accepted.accepted.kind, asked)); unbroken = unbroken }) why

@@ -1,7 +1,0 @@
-use Rattle.std.proofs.Common.{◌≡◌, drop}
-use Rattle.jtree.specs.View.{members_of}
-use Rattle.crdx.specs.Internal.PoolForm.{members_break}
-use Rattle.crdx.proofs.plan.pool_form.check_members.Given as goal
-
-abbrev pub invariant-loop-member : goal.invariant-loop-member
-invariant-loop-member l = members_break (members_of (drop l.member-index l.member-items)) ≡ members_break (members_of l.member-items)

@@ -1,0 +1,47 @@
+use Rattle.std.proofs.Common.{refl, subst}
+use Rattle.crdx.specs.Internal.Cause.{IsPoolsCause}
+use Rattle.crdx.proofs.RunLemmas.{sample_schema, pools_input, pools_before, after_input}
+use Rattle.crdx.proofs.running.sampling.asked_of.Goals as goal
+
+pub returns-in-Err-clause-cause : goal.returns-in-Err-clause-cause
+returns-in-Err-clause-cause g c =
+    sample_schema (g.I.Inputs.has c.args.inputs.now) (g.I.Inputs.failures c.args.inputs.now) (g.I.Inputs.failures c.accepted_schema.new.inputs) c.args.arguments.now c.in-Err.cause c.in-Err.ensures.cause
+
+pub returns-in-Err-pools_of-clause-cause : goal.returns-in-Err-pools_of-clause-cause
+returns-in-Err-pools_of-clause-cause g c =
+    let (raw, asked, unbroken, nodes) = c.in-Ok.ensures.accepted in
+    let later = g.I.Inputs.has c.accepted_schema.new.inputs in
+    let read = g.I.Inputs.failures c.pools_of.new.inputs in
+    let cause = c.in-Err-pools_of.cause in
+    let why = subst (λ n. IsPoolsCause later n read c.args.arguments.now.pools cause) c.in-Ok.ensures.unfailed c.in-Err-pools_of.ensures.cause in
+    pools_input (g.I.Inputs.has c.args.inputs.now) later (g.I.Inputs.failures c.args.inputs.now) read c.args.arguments.now cause c.in-Ok.ensures.stays
+    (raw, record { asked = (c.in-Ok.accepted.group, (c.in-Ok.accepted.kind, asked)); unbroken = unbroken }) why
+
+pub returns-in-Err-after_of-clause-cause : goal.returns-in-Err-after_of-clause-cause
+returns-in-Err-after_of-clause-cause g c =
+    let (raw, asked, unbroken, nodes) = c.in-Ok.ensures.accepted in
+    let has = g.I.Inputs.has c.args.inputs.now in
+    let later = g.I.Inputs.has c.accepted_schema.new.inputs in
+    let arguments = c.args.arguments.now in
+    let pools = c.in-Ok-pools_of.pools in
+    after_input has (g.I.Inputs.failures c.args.inputs.now) (g.I.Inputs.failures c.pools_of.new.inputs) arguments arguments.after c.in-Err-after_of.cause refl
+    (raw, record { asked = (c.in-Ok.accepted.group, (c.in-Ok.accepted.kind, asked)); unbroken = unbroken })
+    pools (pools_before has later arguments.pools pools c.in-Ok.ensures.stays c.in-Ok-pools_of.ensures.ok) c.in-Err-after_of.ensures.cause
+
+pub returns-clause-asked : goal.returns-clause-asked
+returns-clause-asked g c =
+    let (raw, asked, unbroken, nodes) = c.in-Ok.ensures.accepted in
+    let arguments = c.args.arguments.now in
+    let pools = pools_before (g.I.Inputs.has c.args.inputs.now) (g.I.Inputs.has c.accepted_schema.new.inputs) arguments.pools c.in-Ok-pools_of.pools c.in-Ok.ensures.stays c.in-Ok-pools_of.ensures.ok in
+    rw c.in_ok-new.ensures.ok (record {
+      group = c.in-Ok.accepted.group;
+      kind = c.in-Ok.accepted.kind;
+      raw = raw;
+      asked = asked;
+      unbroken = unbroken;
+      root = nodes;
+      pools = pools;
+      limit = refl;
+      resumed = c.in-Ok-after_of.ensures.ok;
+      envelope = c.in_ok-envelope.ensures;
+    })
