@@ -154,9 +154,17 @@ best() {
     echo "$least"
 }
 
-# ratio NAME TIME TIME: the first time over the second
+stop() {
+    echo "cost.sh: $1" >&2
+    exit 1
+}
+
+# ratio NAME TIME TIME [MOST]: the first time over the second; fails where it is above MOST
 ratio() {
-    awk -v name="$1" -v one="$2" -v other="$3" 'BEGIN { printf "%s: %.2f (%.1f ms against %.1f ms)\n", name, one / other, one / 1000, other / 1000 }'
+    awk -v name="$1" -v one="$2" -v other="$3" -v most="${4-}" 'BEGIN {
+        printf "%s: %.2f (%.1f ms against %.1f ms)\n", name, one / other, one / 1000, other / 1000
+        exit most != "" && one > most * other
+    }' || stop "$1: more than $4"
 }
 
 # peak WORD..: the peak memory of a run of these words, in KiB
@@ -223,7 +231,7 @@ listed=$(best "${many[@]}")
 printed=$(best ./crdx prune "$folder/preserving" v1 "$folder/list-of-lines")
 echo "$(wc -l <"$folder/lines") samples, $(stat -c %s "$folder/lines") bytes"
 ratio 'listed, against cat of the lines' "$listed" "$(best cat "$folder/lines")"
-ratio 'listed, against reading and printing them again (at most 2)' "$listed" "$printed"
+ratio 'listed, against reading and printing them again (at most 2)' "$listed" "$printed" 2
 echo "peak memory of 10,000 samples, and of 64: $(peak "${many[@]}") KiB, $(peak "${many[@]::8}" --count 64) KiB"
 
 # 640 samples past the first and past the millionth of those that all have 62 nodes
@@ -231,5 +239,5 @@ echo '{"type":"object","required":["t"],"properties":{"t":{"type":"array","minIt
 past() {
     ./crdx sample "$folder/fifteen" v1 --limit 63 --count 640 --after "$(fifteen "$1")"
 }
-[ "$(past 999999 2>/dev/null | head -n 1)" = "$(fifteen 1000000)" ] || echo 'cost.sh: another sample past the millionth than wanted' >&2
+[ "$(past 999999 2>/dev/null | head -n 1)" = "$(fifteen 1000000)" ] || stop 'another sample past the millionth than wanted'
 ratio 'past the millionth sample, against past the first (about 1)' "$(best past 999999)" "$(best past 0)"

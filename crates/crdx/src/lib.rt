@@ -1,4 +1,4 @@
-//! Explains the schema of a Kubernetes custom resource, and lists its small objects exhaustively.
+//! Checks the schema of a Kubernetes custom resource and objects of it, and lists its small objects exhaustively.
 #![tactic(auto)]
 
 pub mod arguments;

@@ -43,7 +43,7 @@ module _ (q : Question) (i c : ℕ) (rule : RuleOfParts q.pools q.limit (site q 
   first_fresh used k no_items first within some a = absurd (omega (arith, some, a.nodes_are))
   first_fresh used k (item d ds) first within some a = (d, item_fresh q i c rule ends first.item used k within d ds a)
 
-  pub set_free : (n : ℕ) (used : List Tree) → AreFirst q i c (items_of used) → distinct_of (site q i).node ≡ Whole → AreSetItems q.pools (site q c).node → HasSizeAt q c n → (m : ℕ) → HasMore q.pools q.limit (site q i).node (length used + 1) m → (v : Data) × IsUnusedPart q c n (trees_of used) v
+  pub set_free : (n : ℕ) (used : List Tree) → AreFirst q i c (items_of used) → distinct_of (site q i).node ≡ Whole → AreSetItems q.pools (site q i).node (site q c).node → HasSizeAt q c n → (m : ℕ) → HasMore q.pools q.limit (site q i).node (length used + 1) m → (v : Data) × IsUnusedPart q c n (trees_of used) v
   set_free n used first whole set has m more =
       let k = items_count (items_from (length used) more.items) in
       let nodes : items_count (items_of used) ≡ length used = one_each q.pools (site q c).node (items_of used) set.one first.are ∙ counted used in

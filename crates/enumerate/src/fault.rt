@@ -1,11 +1,10 @@
 ghost use Rattle.std.specs.Prelude.{◌≡◌};
 ghost use Rattle.enumerate.specs.declared.fault.EFault.TheVariants.{NoMemory};
 
-use jtree::JFault;
 use std::alloc::{AllocError, AllocFailed};
 use thiserror::Error;
 
-/// Why no page was answered.
+/// Why no page, no enumeration or no next sample was answered. Each is displayed as its code.
 #[derive(Clone, Copy, Debug, PartialEq, Eq, Drop, Error)]
 pub enum EFault {
     /// The tree to go on from is no sample.
@@ -14,18 +13,9 @@ pub enum EFault {
     /// An allocation failed.
     #[error("E2")]
     NoMemory,
-    /// The enumeration has ended.
+    /// The enumeration had ended. `Live::advance` alone answers it.
     #[error("E3")]
     Ended,
-}
-
-// A copy of a tree fails for memory alone.
-impl From<JFault> for EFault {
-    ghost from_gives = { λ _ e. e ≡ NoMemory };
-
-    fn from(_refused: JFault) -> EFault {
-        EFault::NoMemory
-    }
 }
 
 impl From<AllocError> for EFault {

@@ -1,6 +1,6 @@
 use jtree::Tree;
 
-/// Some samples of a plan.
+/// The first samples of a plan past a place.
 #[derive(Drop)]
 pub struct Page {
     /// The samples, in the tree order, each once.

@@ -98,11 +98,12 @@ join_count (None ∷ gs) hs = join_count gs hs
 join_count (Some v ∷ gs) hs = omega (arith, join_count gs hs)
 
 row_completes : PartLaws → (P : Pools) (s : Site) → IsNode s.node → sort_of s.node ≡ Row → (front : List (Option Data)) (place m : ℕ) → AreFillings P (take place (slots P s)) front → HasRest P s place (filled_count front) m
-    → RowCompletes P s front m
+    → RowCompletes P s place front m
 row_completes laws P s o is front place m h r =
     let are = rw (take-append-drop place (slots P s)) at (join_are P (take place (slots P s)) (drop place (slots P s)) front r.fillings h r.are) in
     record {
       back = r.fillings;
+      are = r.are;
       part = (laws.row P s _ o is).1 (inr (record { fillings = front ++ r.fillings; is = refl; are = are; within = rw (join_count front r.fillings) r.within }));
       nodes_are = r.nodes_are;
     }

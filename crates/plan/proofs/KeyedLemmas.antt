@@ -120,6 +120,9 @@ module _ {P : Pools} {M : Node} {alike : Data → Data → Bool} (K : Keyed P M 
   apart_count : (ds : Items) → AreParts P M ds → are_apart alike ds ≡ true → fault.items_count ds ≤ length K.keys
   apart_count ds h a = omega (arith, keys_length K.key ds, apart_length same_tuple tuple_laws (item_keys K.key ds) K.keys (keys_apart ds h a) (known_keys ds h))
 
+  pub at_most : (n : ℕ) → length K.keys ≡ n → (ds : Items) → AreParts P M ds → are_apart alike ds ≡ true → fault.items_count ds ≤ n
+  at_most n l ds h a = omega (arith, apart_count ds h a, l)
+
   -- one item more, with a key that no other has
   one_apart : (front back : Items) (w : Data) → AreParts P M front → AreParts P M back → IsPart P M w → are_apart alike (items_then front back) ≡ true → (Among (item_keys K.key (items_then front back)) (K.key w) → ⊥)
       → are_apart alike (items_then front (item w back)) ≡ true

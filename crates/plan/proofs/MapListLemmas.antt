@@ -34,6 +34,7 @@ use Rattle.plan.specs.Internal.PartLaws.{IsObjectPart, PartLaws}
 use Rattle.plan.specs.Internal.Keyed.{Keyed}
 use Rattle.plan.proofs.ApartLemmas.{map_same, same_map, among_filter, filter_among}
 use Rattle.plan.proofs.TupleLemmas.{same_tree, all_tuples}
+use Rattle.plan.proofs.KeyedLemmas.{at_most}
 use Rattle.plan.proofs.FillingLemmas.{in_slots, in_nodes}
 use Rattle.plan.proofs.PartLemmas.{StoredLaw, slot_of_field, field_of_slot, fields_in_order, among_name, name_among}
 use Rattle.plan.proofs.SetLemmas.{plain_leaf, scalar_one, scalar_no_null}
@@ -219,7 +220,14 @@ only_objects laws P s o row never v = let r = laws.row P s v o row in ((λ p. el
 pub map_told : StoredLaw → PartLaws → (P : Pools) (n : Bool) (t : Option (List ℕ)) (N : Node) (keys : List (List ℕ)) (b : Bounds) → IsNode N → HasKeys N keys → AreMapItems P (node n t (list N Map keys b)) (record { node = N; keys = keys })
 map_told stored laws P n t (node m u (object fs preserves type c)) keys b o h =
     let s : Site = record { node = node m u (object fs preserves type c); keys = keys } in
-    record { row = refl; never_null = h.0; alike = objects_told P s (only_objects laws P s o refl h.0) keys (have_keys stored P fs keys o h.2) }
+    let law = only_objects laws P s o refl h.0 in
+    let have = have_keys stored P fs keys o h.2 in
+    record {
+      row = refl;
+      never_null = h.0;
+      alike = objects_told P s law keys have;
+      most = λ ds counts are apart count. let k = objects_keyed P s law keys have counts count in at_most k.0 (product counts) k.1 ds are apart;
+    }
 map_told stored laws P n t N keys b o h = absurd h
 
 pub map_keyed : StoredLaw → PartLaws → (P : Pools) (N : Node) (keys : List (List ℕ)) (counts : List ℕ) → IsNode N → HasKeys N keys → AreCounts P (filter is_key (slots P (record { node = N; keys = keys }))) counts

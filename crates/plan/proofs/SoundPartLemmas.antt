@@ -13,9 +13,10 @@ use Rattle.plan.specs.Samples.Candidates.{distinct_of}
 use Rattle.plan.specs.Samples.Keys.{AreInOrder, AreKeySlots, AreSetItems, AreMapItems, HasSoundParts}
 use Rattle.plan.specs.Internal.PartLaws.{PartLaws}
 use Rattle.plan.specs.declared.sort.Distinct.TheVariants.{Whole, Keys}
+use Rattle.plan.proofs.KeyedLemmas.{at_most}
 use Rattle.plan.proofs.MapListLemmas.{slot_key, have_keys, map_told}
 use Rattle.plan.proofs.PartLemmas.{StoredLaw, fields_in_order, name_of_value_slot, values_in_order}
-use Rattle.plan.proofs.SetLemmas.{plain_leaf, scalar_one}
+use Rattle.plan.proofs.SetLemmas.{plain_leaf, scalar_one, set_keyed}
 use Rattle.plan.proofs.SoundLemmas.{AreKeysOf}
 
 slots_in_order : (P : Pools) (N : Node) (keys : List (List ℕ)) → IsNode N → AreInOrder (slots_at P N keys)
@@ -44,8 +45,13 @@ key_slots stored P N keys o (inr h) = own_keys stored P N keys o h
 
 -- ---- items
 
-set_items : StoredLaw → (P : Pools) (N : Node) (M : Site) → item_site_at N ≡ Some M → distinct_of N ≡ Whole → HasSoundItems N → AreSetItems P M.node
-set_items stored P (node n t (list K Set keys b)) M is whole h = subst (λ s. AreSetItems P (Site.node s)) (same_Some _ M is) (record { leaf = plain_leaf K h; one = scalar_one stored P K h })
+set_items : StoredLaw → (P : Pools) (N : Node) (M : Site) → item_site_at N ≡ Some M → distinct_of N ≡ Whole → HasSoundItems N → AreSetItems P N M.node
+set_items stored P (node n t (list K Set keys b)) M is whole h =
+    subst (λ s. AreSetItems P (node n t (list K Set keys b)) (Site.node s)) (same_Some _ M is) (record {
+      leaf = plain_leaf K h;
+      one = scalar_one stored P K h;
+      most = λ ds count are apart candidates. let k = set_keyed stored P K count h candidates in at_most k.0 count k.1 ds are apart;
+    })
 set_items stored P (node n t (list K Map keys b)) M is whole h = absurd (cc)
 set_items stored P (node n t (list K Atomic keys b)) M is whole h = absurd (cc)
 set_items stored P N M is whole h = absurd (cc)

@@ -15,7 +15,7 @@ use jtree::Text;
 use std::alloc::AllocError;
 use std::marker::Model;
 
-/// The number of a node of a plan.
+/// A node of a plan. Only a plan hands it out, and it goes back to the same plan.
 #[derive(Clone, Copy)]
 pub struct PlanNode {
     number: usize,

@@ -16,7 +16,7 @@ pub enum PFault {
     /// An allocation failed.
     #[error("P3")]
     NoMemory,
-    /// The node limit is not 1 to 63.
+    /// The node limit is 0, or not below the `BITS` of the plan's sets: with `u64`, not 1 to 63.
     #[error("P4")]
     BadLimit,
 }

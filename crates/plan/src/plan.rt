@@ -24,7 +24,9 @@ pub struct Slot<'a> {
     pub later: u64,
 }
 
-/// The nodes of a schema over pools and within a node limit, with the sizes of what may stand at each of them.
+/// The nodes of a schema over pools and within a node limit, with the sizes of what may stand at each of them, as sets `Z`.
+///
+/// The calls that take a node take one that this plan has handed out.
 #[derive(Drop)]
 pub struct Plan<Z: SizeSet> {
     schema: Schema,
@@ -138,7 +140,7 @@ impl<Z: SizeSet> Plan<Z> {
     }
 
     /// The sizes up to the limit that the slots of a row from `place` on can still take, where `taken` slots before it are
-    /// filled.
+    /// filled. The caller asks at a row, and keeps `place` at most the number of its slots and `taken` at most `place`.
     pub fn rest(&self, node: PlanNode, place: u64, taken: u32) -> Z
         requires node { node < length (sites_of self.now.root) }
         requires row { sort_of (site_at (sites_of self.now.root) node).node ≡ sort.Row }
@@ -152,7 +154,7 @@ impl<Z: SizeSet> Plan<Z> {
         }
     }
 
-    /// The sizes up to the limit that the items of a list can still take after `taken` items.
+    /// The sizes up to the limit that the items of a list can still take after `taken` items. The caller asks at a list.
     pub fn more(&self, node: PlanNode, taken: u32) -> Z
         requires node { node < length (sites_of self.now.root) }
         requires list { sort_of (site_at (sites_of self.now.root) node).node ≡ sort.List }
@@ -170,7 +172,7 @@ impl<Z: SizeSet> Plan<Z> {
         }
     }
 
-    /// Which items may not stand in one list.
+    /// Which items may not stand in one list; `Free` where the node is no list.
     pub fn distinct(&self, node: PlanNode) -> Distinct
         requires { node < length (sites_of self.now.root) }
         ensures { result ≡ distinct_of (site_at (sites_of self.now.root) node).node }
@@ -181,7 +183,7 @@ impl<Z: SizeSet> Plan<Z> {
         }
     }
 
-    /// The number of candidates of a leaf.
+    /// The number of candidates of a leaf. The caller asks at a leaf.
     pub fn count(&self, node: PlanNode) -> u64
         requires node { node < length (sites_of self.now.root) }
         requires leaf { sort_of (site_at (sites_of self.now.root) node).node ≡ sort.Leaf }
@@ -201,7 +203,7 @@ impl<Z: SizeSet> Plan<Z> {
         width
     }
 
-    /// Slot `place` of a row, counted from 0 in the order of names; none past the last. It is one step.
+    /// Slot `place` of a row, counted from 0 in the order of names; none past the last. The caller asks at a row. It is one step.
     pub fn slot(&self, node: PlanNode, place: u64, meter: &mut Meter) -> Option<Slot<'_>>
         requires node { node < length (sites_of self.now.root) }
         requires row { sort_of (site_at (sites_of self.now.root) node).node ≡ sort.Row }
@@ -231,7 +233,7 @@ impl<Z: SizeSet> Plan<Z> {
     }
 
     /// The node of the item at `place` of a list, the same for each place; none where no list of the node within the limit has
-    /// an item there. It is one step.
+    /// an item there. The caller asks at a list. It is one step.
     pub fn item(&self, node: PlanNode, place: u32, meter: &mut Meter) -> Option<PlanNode>
         requires node { node < length (sites_of self.now.root) }
         requires list { sort_of (site_at (sites_of self.now.root) node).node ≡ sort.List }
@@ -248,7 +250,8 @@ impl<Z: SizeSet> Plan<Z> {
         }
     }
 
-    /// Candidate `place` of a leaf, counted from 0 in the tree order; none past the last. It is one step.
+    /// Candidate `place` of a leaf, counted from 0 in the tree order; none past the last. The caller asks at a leaf. It is one
+    /// step.
     pub fn candidate(&self, node: PlanNode, place: u64, meter: &mut Meter) -> Option<&Tree>
         requires node { node < length (sites_of self.now.root) }
         requires leaf { sort_of (site_at (sites_of self.now.root) node).node ≡ sort.Leaf }

@@ -177,9 +177,9 @@ pub(super) const SAMPLE: &str = "Lists sample objects of a schema, one on each l
 pub(super) const SAMPLE_LONG: &str = "Lists sample objects of a schema, one on each line, as JSON.
 
 A sample is an object that the schema accepts and that pruning and defaulting
-leave unchanged. Its values are among those of an `enum` or of the pools, and it
-has at most as many nodes as the limit says. The apiVersion, kind and metadata
-of the resource are left out, unless --name is given.
+leave unchanged. Its integers and texts are among those of an `enum` or of the
+pools, and it has at most as many nodes as the limit says. The apiVersion, kind
+and metadata of the resource are left out, unless --name is given.
 
 Samples with fewer nodes come first. None comes twice, and none is passed over.
 Standard error says `crdx: end` where no sample is left, else `crdx: more`. The

@@ -1,5 +1,5 @@
 -- What was begun by the sizes that can follow can be completed (this project's own).
-use Rattle.std.specs.Prelude.{◌≡◌, ◌≢◌, ℕ, ◌*◌, ◌≤◌, ◌<◌, ◌↔◌, List, [], ◌∷◌, ◌++◌, length, Bool, true, false, Option, Some, take, filter, Contains, All, AllPairs, ◌&&◌}
+use Rattle.std.specs.Prelude.{◌≡◌, ◌≢◌, ℕ, ◌*◌, ◌≤◌, ◌<◌, ◌↔◌, List, [], ◌∷◌, ◌++◌, length, Bool, true, false, Option, Some, take, drop, filter, Contains, All, AllPairs, ◌&&◌}
 use Rattle.jtree.specs.Data.{Data, Items, no_items, item}
 use Rattle.jtree.specs.Data as tree
 use Rattle.jtree.specs.Nodes.{items_count}
@@ -17,9 +17,10 @@ use Rattle.plan.specs.declared.sort.Sort.TheVariants.{Row}
 
 -- ---- objects and maps
 
--- the slots behind a place, filled with m nodes, complete those before it to a part
-pub record RowCompletes (P : Pools) (s : Site) (front : List (Option Data)) (m : ℕ) : Type 0 where
+-- the slots from a place on, filled with m nodes, complete those before it to a part
+pub record RowCompletes (P : Pools) (s : Site) (place : ℕ) (front : List (Option Data)) (m : ℕ) : Type 0 where
   pub back : List (Option Data)
+  pub are : AreFillings P (drop place (slots P s)) back
   pub part : IsPart P s.node (tree.object (members_in (slots P s) (front ++ back)))
   pub nodes_are : filled_nodes back ≡ m
 
@@ -70,7 +71,7 @@ HasFree P ss used chosen = (t : List Data) × (IsTuple P ss t × (Contains used 
 
 pub record NoDeadEnd (P : Pools) (limit : ℕ) (s : Site) : Type 0 where
   pub rows : (front : List (Option Data)) (place m : ℕ) → sort_of s.node ≡ Row → AreFillings P (take place (slots P s)) front → place ≤ length (slots P s)
-      → HasRest P s place (filled_count front) m → RowCompletes P s front m
+      → HasRest P s place (filled_count front) m → RowCompletes P s place front m
   pub lists : (M : Site) (front : Items) (m : ℕ) → item_site s ≡ Some M → AreParts P M.node front → are_apart (alike_at s.node) front ≡ true
       → HasMore P limit s.node (fault.items_count front) m → ListCompletes P s.node front m
   -- the first keys of an item, where other items use these tuples

@@ -1,4 +1,4 @@
--- Steps: slots, list places and candidates that were handed out (this project's own).
+-- Steps: calls for a slot, an item or a candidate, whatever is answered (this project's own).
 use Rattle.std.specs.Prelude.{ℕ, ◌+◌, ◌*◌, ◌-◌, ◌^◌, min}
 
 -- so many steps more; the count stays at its greatest
