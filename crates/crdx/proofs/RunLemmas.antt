@@ -1,5 +1,6 @@
 -- How the causes of a run and its status go together with what is asked of the documents at hand.
 use Rattle.std.proofs.Common.{◌≡◌, ◌≢◌, ◌⊎◌, ℕ, List, [], ◌∷◌, Option, Some, None, Bor, Ok, Err, refl, ap, subst, inl, inr, take, map, string_bytes, IsSomeAnd, Bool, codes, ◌∙◌, arith}
+use Rattle.std.specs.Prelude.{IfSome}
 use Rattle.std.specs.Io.KnownBytes.{Appends, Keeps}
 use Rattle.jtree.specs.Data.{Data}
 use Rattle.jtree.specs.Internal.OrderLaws.{tree_total}
@@ -138,7 +139,7 @@ pools_input has later unread read arguments _ among accepted why = absurd why
 -- pools of documents that were at hand before
 pub pools_before : (has later : Documents) (name : Option (Bor (List ℕ))) (P : Pools) → AreAmong later has → ArePools later name P → ArePools has name P
 pools_before has later None P among is = is
-pools_before has later (Some n) P among is = (is.0, among (Some n.now) (Ok is.0) is.1, is.2, is.3)
+pools_before has later (Some n) P among is = (is.0, among (Some n.now) (Ok is.0) is.1, is.2, is.3, is.4)
 
 text_input : (has : Documents) (unread read : ℕ) (arguments : SampleArguments) (text : Bor (List ℕ)) (cause : Cause) → arguments.after ≡ Some text → HasAcceptedSchema has arguments.crd.now arguments.version.now
     → (P : Pools) → ArePools has arguments.pools P → IsTextCause text.now cause → IsInputCause has unread read (Sample arguments) cause
@@ -186,14 +187,19 @@ module _ (has : Documents) (unread read : ℕ) (request : Request) (old new : Op
 pub walk_cause : (q : Question) (after : Option Data) (count : ℕ) (e : Option Envelope) (old new : Option (List ℕ)) (before now : ℕ) (fault : WFault)
     → IsPartialOutput q after count e old new before now fault → IsWalkCause q after count e old new before now (cause_of_walk fault)
 walk_cause q after count e old new before now w.NotASample is = is
-walk_cause q after count e old new before now (w.NoMemory n) is = (is.0, (n, is.1))
-walk_cause q after count e old new before now (w.Write n) is = (is.0, λ items end page. inl (n, is.1 items end page))
+walk_cause q after count e old new before now (w.NoMemory n) (same, inl none) = (same, inl none.1)
+walk_cause q after count e old new before now (w.NoMemory n) (same, inr (sample, cut)) = (same, inr (sample, n, cut))
+walk_cause q after count e old new before now (w.Write n) is = (is.0, is.1, λ items end page. inl (n, is.2 items end page))
 
 -- all lines were taken, and the flush behind them failed
 pub flush_cause : (q : Question) (after : Option Data) (count : ℕ) (e : Option Envelope) (lines_out n : ℕ) (end : Bool) (old new : Option (List ℕ)) (before now : ℕ)
-    → WritesPage q after count e lines_out end old new → HasFailed before now → IsWalkCause q after count e old new before now (Write n)
-flush_cause q after count e lines_out n end old new before now wrote failed =
-    (failed, λ items end' page. inr (subst (λ us. Appends old new (lines e us)) (same_items tree_total q after count wrote.items items end end' wrote.page page) wrote.written))
+    → IfSome after (IsSampleOf q) → WritesPage q after count e lines_out end old new → HasFailed before now → IsWalkCause q after count e old new before now (Write n)
+flush_cause q after count e lines_out n end old new before now sample wrote failed = (
+  failed,
+  sample,
+  λ items end' page.
+      inr (subst (λ us. Appends old new (lines e us)) (same_items tree_total q after count wrote.items items end end' wrote.page page) wrote.written),
+)
 
 module _ (has : Documents) (unread read : ℕ) (arguments : SampleArguments) (old new : Option (List ℕ)) (before now : ℕ) where
   -- the tree to go on from is no sample
@@ -202,11 +208,16 @@ module _ (has : Documents) (unread read : ℕ) (arguments : SampleArguments) (ol
   result_of_no_sample q None e asked none keeps same = absurd none
   result_of_no_sample q (Some a) e asked none keeps same = answered 1 [] (no_sample arguments q a e asked none) (Appends-nothing old new keeps) same
 
+  cut_by_memory : (q : Question) (after : Option Data) (e : Option Envelope) → IsRequested has arguments q after e
+      → IsWalkCause q after arguments.count e old new before now NoMemory → IsCutByMemory has (Sample arguments) old new
+  cut_by_memory q after e asked (same, inl keeps) = inl keeps
+  cut_by_memory q after e asked (same, inr (sample, n, cut)) = inr (q, after, e, asked, sample, n, cut)
+
   result_of_walk : (q : Question) (after : Option Data) (e : Option Envelope) (cause : Cause) (answer : ℕ) → IsRequested has arguments q after e → IsWalkCause q after arguments.count e old new before now cause
       → (answer ≡ status cause) ⊎ (answer ≡ 5) → IsRunResult has unread read (Sample arguments) old new before now answer
-  result_of_walk q after e (Write n) answer asked why is = unwritten answer is why.0 (q, after, e, asked, why.1)
-  result_of_walk q after e NoMemory answer asked why (inl five) = rw five (no_memory (inr (q, after, e, asked, why.1.0, why.1.1)) why.0)
-  result_of_walk q after e NoMemory answer asked why (inr five) = rw five (no_memory (inr (q, after, e, asked, why.1.0, why.1.1)) why.0)
+  result_of_walk q after e (Write n) answer asked why is = unwritten answer is why.0 (q, after, e, asked, why.1, why.2)
+  result_of_walk q after e NoMemory answer asked why (inl five) = rw five (no_memory (cut_by_memory q after e asked why) why.0)
+  result_of_walk q after e NoMemory answer asked why (inr five) = rw five (no_memory (cut_by_memory q after e asked why) why.0)
   result_of_walk q after e NotASample answer asked why (inl one) = rw one (result_of_no_sample q after e asked why.0 why.1 why.2)
   result_of_walk q after e NotASample answer asked why (inr five) = result_of_nothing has unread read (Sample arguments) old new before now answer why.1 why.2 five
   result_of_walk q after e _ answer asked why is = absurd why

@@ -28,24 +28,30 @@ use Rattle.crdx.proofs.WrittenLemmas.{lines-append, lines_front, cut_within}
 
 module _ (q : Question) (after : Option Data) (total : ℕ) (e : Option Envelope) (old mid new : Option (List ℕ)) (unfailed failed : ℕ) where
   -- a page was written in part behind others: so it stands with the items of any page with all the room
-  pub partial_output_of_lines : (front more : List Data) (count n : ℕ) (end : Bool) (fault : WFault) → n ≡ length front → IsPage q after count (front ++ more) end → count ≤ total → Appends old mid (lines e front)
+  pub partial_output_of_lines : (front more : List Data) (count n : ℕ) (end : Bool) (fault : WFault) → IfSome after (IsSampleOf q) → n ≡ length front
+      → IsPage q after count (front ++ more) end → count ≤ total → Appends old mid (lines e front)
       → ArePartialLines e more n mid new unfailed failed fault → IsPartialOutput q after total e old new unfailed failed fault
-  partial_output_of_lines front more count n end NotASample place p le before s = absurd s
-  partial_output_of_lines front more count n end (NoMemory m) place p le before s = (
+  partial_output_of_lines front more count n end NotASample sample place p le before s = absurd s
+  partial_output_of_lines front more count n end (NoMemory m) sample place p le before s = (
     s.0,
-    λ us d r.
-        let k = s.1.0 in
-        let rest = begins tree_total q after count total (front ++ more) us end d p r le in
-        let is : us ≡ front ++ (more ++ rest.0) = rest.1 ∙ append_assoc front more rest.0 in
-        let at : m ≡ length front + k = s.1.1 ∙ ap (λ i. i + k) place in
-        let text : lines e front ++ lines e (take k more) ≡ lines e (take m us) = sym (lines_front e front more rest.0 k (omega (arith, s.1.2))) ∙ (λ i. lines e (take (sym at i) (sym is i))) in
-        record {
-          out = subst (Appends old new) text (Appends-trans old mid new (lines e front) (lines e (take k more)) before s.1.3);
-          fewer = inr (omega (arith, at, s.1.2, ap length is, length-append front (more ++ rest.0), length-append more rest.0));
-        },
+    inr (
+      sample,
+      λ us d r.
+          let k = s.1.0 in
+          let rest = begins tree_total q after count total (front ++ more) us end d p r le in
+          let is : us ≡ front ++ (more ++ rest.0) = rest.1 ∙ append_assoc front more rest.0 in
+          let at : m ≡ length front + k = s.1.1 ∙ ap (λ i. i + k) place in
+          let text : lines e front ++ lines e (take k more) ≡ lines e (take m us) =
+          sym (lines_front e front more rest.0 k (omega (arith, s.1.2))) ∙ (λ i. lines e (take (sym at i) (sym is i))) in
+          record {
+            out = subst (Appends old new) text (Appends-trans old mid new (lines e front) (lines e (take k more)) before s.1.3);
+            fewer = omega (arith, at, s.1.2, ap length is, length-append front (more ++ rest.0), length-append more rest.0);
+          },
+    ),
   )
-  partial_output_of_lines front more count n end (Write m) place p le before s = (
+  partial_output_of_lines front more count n end (Write m) sample place p le before s = (
     s.0,
+    sample,
     λ us d r.
         let k = s.1.0 in
         let rest = begins tree_total q after count total (front ++ more) us end d p r le in
@@ -63,7 +69,7 @@ partial_output_of_pages q after total e old new items us end p lt out r =
     let front : take (length items) us ≡ items = ap (λ vs. take (length items) vs) rest.1 ∙ take-append_seam items rest.0 in
     record {
       out = subst (λ vs. Appends old new (lines e vs)) (sym front) out;
-      fewer = inr (longer tree_total q after (length items) total items us end p r lt);
+      fewer = longer tree_total q after (length items) total items us end p r lt;
     }
 
 -- the page past the last item, joined on
@@ -121,11 +127,10 @@ module _ (q : Question) (after : Option Data) (total : ℕ) (e : Option Envelope
   -- the first page was not written whole
   pub cut_first : (count : ℕ) (old new : Option (List ℕ)) (unfailed failed : ℕ) (fault : WFault) → count ≤ total → IsPartialPage q after count e 0 old new unfailed failed fault
       → IsPartialOutput q after total e old new unfailed failed fault
-  cut_first count old new unfailed failed fault le (inl (inl is, keeps, same)) =
-      rw is (same, λ us d r. record { out = Appends-nothing old new keeps; fewer = inl refl })
+  cut_first count old new unfailed failed fault le (inl (inl is, keeps, same)) = rw is (same, inl (refl, keeps))
   cut_first count old new unfailed failed fault le (inl (inr (is, none), keeps, same)) = rw is (none, keeps, same)
   cut_first count old new unfailed failed fault le (inr (sample, (items, end, page, part))) =
-      partial_output_of_lines q after total e old old new unfailed failed [] items count 0 end fault refl page le (Appends-nil old) part
+      partial_output_of_lines q after total e old old new unfailed failed [] items count 0 end fault sample refl page le (Appends-nil old) part
 
   -- the last sample that is out is a sample
   last_is_sample : (items : List Data) (last : Option Data) (count : ℕ) (end : Bool) → IsPage q after count items end → 0 < length items → IsLast items last → IsSomeAnd last (λ a. IsSampleOf q a → ⊥) → ⊥
@@ -134,16 +139,19 @@ module _ (q : Question) (after : Option Data) (total : ℕ) (e : Option Envelope
       none (All-contains (IsPastSample q after) items l p.samples (subst (λ us. Contains us l) (sym is) (contains (front ++ l ∷ []) l (among_right front (l ∷ []) l (inl refl))))).sample
 
   -- a later page was not written whole
-  pub cut_later : (k lines_then : ℕ) (last : Option Data) (goes : Bool) (old mid new : Option (List ℕ)) (unfailed failed : ℕ) (fault : WFault) → goes ≡ false → 1 ≤ k → lines_then + k ≤ total
+  pub cut_later : (k lines_then : ℕ) (last : Option Data) (goes : Bool) (old mid new : Option (List ℕ)) (unfailed failed : ℕ) (fault : WFault)
+      → IfSome after (IsSampleOf q) → goes ≡ false → 1 ≤ k → lines_then + k ≤ total
       → IsSoFar q after total e lines_then goes last old mid → IsPartialPage q last k e lines_then mid new unfailed failed fault → IsPartialOutput q after total e old new unfailed failed fault
-  cut_later k lines_then last goes old mid new unfailed failed fault not_yet some le s (inl (inl is, keeps, same)) =
-      rw (is, s.counted) (same, λ us d r. partial_output_of_pages q after total e old new s.items us d (subst (IsPage q after (length s.items) s.items) not_yet s.page) (omega (arith, s.counted, some, le)) (Appends-kept old mid new (lines e s.items) s.written keeps) r)
-  cut_later k lines_then last goes old mid new unfailed failed fault not_yet some le s (inl (inr (is, none), keeps, same)) =
+  cut_later k lines_then last goes old mid new unfailed failed fault sample not_yet some le s (inl (inl is, keeps, same)) =
+      let page = subst (IsPage q after (length s.items) s.items) not_yet s.page in
+      let out = Appends-kept old mid new (lines e s.items) s.written keeps in
+      rw (is, s.counted) (same, inr (sample, λ us d r. partial_output_of_pages q after total e old new s.items us d page (omega (arith, s.counted, some, le)) out r))
+  cut_later k lines_then last goes old mid new unfailed failed fault sample not_yet some le s (inl (inr (is, none), keeps, same)) =
       let going = s.going_on not_yet in
       absurd (last_is_sample s.items last (length s.items) goes s.page going.0 going.1 none)
-  cut_later k lines_then last goes old mid new unfailed failed fault not_yet some le s (inr (sample, (items, end, page, part))) =
+  cut_later k lines_then last goes old mid new unfailed failed fault sample not_yet some le s (inr (last_sample, (items, end, page, part))) =
       let going = s.going_on not_yet in
-      partial_output_of_lines q after total e old mid new unfailed failed s.items items (length s.items + k) lines_then end fault s.counted
+      partial_output_of_lines q after total e old mid new unfailed failed s.items items (length s.items + k) lines_then end fault sample s.counted
       (page_onto q after k s.items items last end (subst (IsPage q after (length s.items) s.items) not_yet s.page) going.0 going.1 page) (omega (arith, s.counted, le)) s.written part
 
 -- a tree that is lent, as the place to go on from

@@ -1,5 +1,5 @@
 -- Why a run has no answer, said of the documents at hand; the counts are those of the reads that failed, before and now.
-use Rattle.std.specs.Prelude.{◌≡◌, ◌≢◌, ◌⊎◌, ℕ, List, [], Bool, Option, Some, IsSomeAnd, Err}
+use Rattle.std.specs.Prelude.{◌≡◌, ◌≢◌, ◌⊎◌, ℕ, List, [], Bool, Option, Some, IfSome, IsSomeAnd, Err}
 use Rattle.std.specs.Borrow.{Bor}
 use Rattle.std.specs.Io.KnownBytes.{Keeps}
 use Rattle.jtree.specs.Data.{Data}
@@ -85,9 +85,10 @@ IsInputCause has before now request _ = IsInputRefused has request
 -- why a walk over the samples of a question stopped, by what is out and by the failures of standard output
 abbrev pub IsWalkCause : Question → Option Data → ℕ → Option Envelope → Option (List ℕ) → Option (List ℕ) → ℕ → ℕ → Cause → Type 0
 IsWalkCause q after count e old new before now NotASample = IsSomeAnd after (λ a. IsSampleOf q a → ⊥) × Keeps old new × (now ≡ before)
-IsWalkCause q after count e old new before now (Write n) = HasFailed before now × ((items : List Data) (end : Bool) → IsPage q after count items end → IsCutByFailure e items old new)
-IsWalkCause q after count e old new before now NoMemory = (now ≡ before)
-    × ((n : ℕ) × ((items : List Data) (end : Bool) → IsPage q after count items end → IsCutBetweenLines e items n old new))
+IsWalkCause q after count e old new before now (Write n) = HasFailed before now × IfSome after (IsSampleOf q)
+    × ((items : List Data) (end : Bool) → IsPage q after count items end → IsCutByFailure e items old new)
+IsWalkCause q after count e old new before now NoMemory = (now ≡ before) × (Keeps old new
+    ⊎ (IfSome after (IsSampleOf q) × (n : ℕ) × ((items : List Data) (end : Bool) → IsPage q after count items end → IsCutBetweenLines e items n old new)))
 IsWalkCause q after count e old new before now _ = ⊥
 
 -- why `sample` has no answer

@@ -1,5 +1,5 @@
 -- What is out where the writing of lines stops early (this project's own).
-use Rattle.std.specs.Prelude.{◌≡◌, ◌⊎◌, ◌<◌, ◌++◌, ℕ, List, length, take, Bool, Option, Some, IsSomeAnd, slice_get}
+use Rattle.std.specs.Prelude.{◌≡◌, ◌⊎◌, ◌<◌, ◌++◌, ℕ, List, length, take, Bool, Option, Some, IfSome, IsSomeAnd, slice_get}
 use Rattle.std.specs.Io.KnownBytes.{Appends, Keeps}
 use Rattle.jtree.specs.Data.{Data}
 use Rattle.plan.specs.Samples.Question.{Question}
@@ -14,10 +14,10 @@ use Rattle.crdx.specs.declared.walk.fault.WFault.TheVariants.{NotASample, NoMemo
 abbrev pub IsProperBeginning : List ℕ → List ℕ → Type 0
 IsProperBeginning part whole = (n : ℕ) × (n < length whole) × (part ≡ take n whole)
 
--- the lines of the first n items are out, and nothing else; not all of them, unless there are none yet
+-- the lines of the first n items are out, and nothing else; not all of them
 pub record IsCutBetweenLines (e : Option Envelope) (items : List Data) (n : ℕ) (old new : Option (List ℕ)) : Type 0 where
   pub out : Appends old new (lines e (take n items))
-  pub fewer : (n ≡ 0) ⊎ (n < length items)
+  pub fewer : n < length items
 
 -- the lines of the first n items are out, and of the next one a beginning
 pub record IsCutWithinLine (e : Option Envelope) (items : List Data) (n : ℕ) (old new : Option (List ℕ)) : Type 0 where
@@ -31,10 +31,11 @@ pub record IsCutWithinLine (e : Option Envelope) (items : List Data) (n : ℕ) (
 abbrev pub IsCutByFailure : Option Envelope → List Data → Option (List ℕ) → Option (List ℕ) → Type 0
 IsCutByFailure e items old new = ((n : ℕ) × IsCutWithinLine e items n old new) ⊎ Appends old new (lines e items)
 
--- what a walk past this place leaves behind where it fails: what the sink held and holds, and its failures then and now
+-- what a walk past this place leaves behind where it fails: what the sink held and holds, and its failures then and now; lines are
+-- out only past a sample, or past nothing
 abbrev pub IsPartialOutput : Question → Option Data → ℕ → Option Envelope → Option (List ℕ) → Option (List ℕ) → ℕ → ℕ → WFault → Type 0
 IsPartialOutput q after total e old new before now NotASample = IsSomeAnd after (λ a. IsSampleOf q a → ⊥) × Keeps old new × (now ≡ before)
-IsPartialOutput q after total e old new before now (NoMemory n) = (now ≡ before)
-    × ((items : List Data) (end : Bool) → IsPage q after total items end → IsCutBetweenLines e items n old new)
-IsPartialOutput q after total e old new before now (Write n) = HasFailed before now
+IsPartialOutput q after total e old new before now (NoMemory n) = (now ≡ before) × (((n ≡ 0) × Keeps old new)
+    ⊎ (IfSome after (IsSampleOf q) × ((items : List Data) (end : Bool) → IsPage q after total items end → IsCutBetweenLines e items n old new)))
+IsPartialOutput q after total e old new before now (Write n) = HasFailed before now × IfSome after (IsSampleOf q)
     × ((items : List Data) (end : Bool) → IsPage q after total items end → IsCutWithinLine e items n old new)

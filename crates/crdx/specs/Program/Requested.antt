@@ -14,7 +14,7 @@ use Rattle.schema.specs.Nodes.ByPlace.{AreNodesOf}
 use Rattle.schema.specs.declared.fault.SFault.{SFault}
 use Rattle.schema.specs.declared.fault.SFault.TheVariants as s
 use Rattle.stored.specs.Schemas.Accepted.{IsBroken}
-use Rattle.plan.specs.Pools.Pools.{Pools}
+use Rattle.plan.specs.Pools.Pools.{Pools, AreSmall}
 use Rattle.plan.specs.Pools.Document.{HasForm, pools_of}
 use Rattle.plan.specs.Pools.PoolsFault.{IsPoolsFault}
 use Rattle.plan.specs.Samples.Question.{Question}
@@ -56,7 +56,7 @@ IsCrdRefused has crd version = ((fault : JFault) × (fault ≢ j.NoMemory) × ha
 -- the pools of the document of this name, and empty ones without a name
 abbrev pub ArePools : Documents → Option (Bor (List ℕ)) → Pools → Type 0
 ArePools has None P = P ≡ record { integers = []; strings = []; names = []; any = [] }
-ArePools has (Some name) P = (document : Data) × has (Some name.now) (Ok document) × HasForm document × (P ≡ pools_of document)
+ArePools has (Some name) P = (document : Data) × has (Some name.now) (Ok document) × HasForm document × (P ≡ pools_of document) × AreSmall P
 
 -- a fault of the document of this name as pools
 abbrev pub HasPoolsFault : Documents → Option (Bor (List ℕ)) → PFault → Type 0

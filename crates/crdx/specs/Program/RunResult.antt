@@ -64,17 +64,17 @@ IsInputRefused has (Sample arguments) = IsCrdRefused has arguments.crd.now argum
     × (ArePoolsRefused has arguments.pools ⊎ (((P : Pools) × ArePools has arguments.pools P) × IsAfterRefused arguments.after)))
 IsInputRefused has _ = ⊥
 
--- what is out where standard output failed: a beginning of the answer, as a walk leaves it
+-- what is out where standard output failed: a beginning of the answer, as a walk past a sample, or past nothing, leaves it
 abbrev pub IsCutByWrite : Documents → Request → Option (List ℕ) → Option (List ℕ) → Type 0
 IsCutByWrite has (Sample arguments) old new =
-    (q : Question) × (after : Option Data) × (e : Option Envelope) × IsRequested has arguments q after e
+    (q : Question) × (after : Option Data) × (e : Option Envelope) × IsRequested has arguments q after e × IfSome after (IsSampleOf q)
     × ((items : List Data) (end : Bool) → IsPage q after arguments.count items end → IsCutByFailure e items old new)
 IsCutByWrite has request old new = (status : ℕ) × (answer : List ℕ) × IsAnswer has request status answer × (n : ℕ) × Appends old new (take n answer)
 
--- what is out where memory was wanting: nothing, or whole lines of samples, as a walk leaves them
+-- what is out where memory was wanting: nothing, or whole lines of samples, as a walk past a sample, or past nothing, leaves them
 abbrev pub IsCutByMemory : Documents → Request → Option (List ℕ) → Option (List ℕ) → Type 0
 IsCutByMemory has (Sample arguments) old new = Keeps old new
-    ⊎ ((q : Question) × (after : Option Data) × (e : Option Envelope) × IsRequested has arguments q after e
+    ⊎ ((q : Question) × (after : Option Data) × (e : Option Envelope) × IsRequested has arguments q after e × IfSome after (IsSampleOf q)
     × (n : ℕ) × ((items : List Data) (end : Bool) → IsPage q after arguments.count items end → IsCutBetweenLines e items n old new))
 IsCutByMemory has request old new = Keeps old new
 

@@ -23,9 +23,9 @@ use std::alloc::{AllocError, Global};
 /// The most samples that are held at a time.
 const PAGE: u32 = 64;
 
-/// What is asked: a plan, the tree to go on from, and the envelope that samples are printed with.
+/// What samples are listed from: a plan, the tree to go on from, and the envelope that they are printed with.
 #[derive(Drop)]
-struct Asked {
+struct SampleInputs {
     plan: Plan<u64>,
     after: Option<Tree>,
     envelope: Option<Envelope>,
@@ -45,15 +45,15 @@ pub(crate) fn sample<I: Inputs, W: Sink>(
     ensures cause { IfErr result (IsSampleCause (I.has inputs.old) (I.failures inputs.old) (I.failures inputs.new) arguments.now
         (W.taken out.old) (W.taken out.new) (W.failures out.old) (W.failures out.new)) }
 {
-    let mut asked = asked_of(alloc, arguments, inputs)?;
-    let mut meter = asked.plan.meter();
+    let mut sample_inputs = sample_inputs(alloc, arguments, inputs)?;
+    let mut meter = sample_inputs.plan.meter();
     let walked = walk(
         alloc,
-        &asked.plan,
-        asked.after.as_ref(),
+        &sample_inputs.plan,
+        sample_inputs.after.as_ref(),
         PAGE,
         arguments.count,
-        asked.envelope.as_ref(),
+        sample_inputs.envelope.as_ref(),
         &mut meter,
         out,
     )?;
@@ -63,13 +63,13 @@ pub(crate) fn sample<I: Inputs, W: Sink>(
     }
 }
 
-/// What the arguments ask.
-fn asked_of<I: Inputs>(
+/// What the arguments ask for: a plan of the schema and the pools, the tree to go on from, and the envelope.
+fn sample_inputs<I: Inputs>(
     alloc: Global,
     arguments: &SampleArguments<'_>,
     inputs: &mut I,
-) -> Result<Asked, Cause>
-    ensures asked { IfOk result (λ a. IsRequested (I.has inputs.old) arguments.now a.plan (option_map data_of a.after) a.envelope) }
+) -> Result<SampleInputs, Cause>
+    ensures requested { IfOk result (λ a. IsRequested (I.has inputs.old) arguments.now a.plan (option_map data_of a.after) a.envelope) }
     ensures cause { IfErr result (IsInputCause (I.has inputs.old) (I.failures inputs.old) (I.failures inputs.new) (Sample arguments.now)) }
 {
     let accepted = match accepted_schema(alloc, arguments.crd, arguments.version, inputs) {
@@ -91,7 +91,7 @@ fn asked_of<I: Inputs>(
         &accepted.kind,
         arguments.name,
     )?;
-    Ok(Asked {
+    Ok(SampleInputs {
         plan: Plan::new(alloc, accepted.schema, pools, arguments.limit)?,
         after,
         envelope,

@@ -14,26 +14,34 @@ use Rattle.crdx.proofs.running.sampling.sample.Goals as goal
 
 pub returns-in_err-walked-clause-cause : goal.returns-in_err-walked-clause-cause
 returns-in_err-walked-clause-cause g c =
-    let asked = c.in_ok-asked.asked in
-    let after = option_map data_of asked.after in
+    let inputs = c.in_ok-sample_inputs.sample_inputs in
+    let after = option_map data_of inputs.after in
     let place : resume_point c.as_ref.result ≡ after = resumed c.as_ref.result ∙ ap (option_map data_of) c.as_ref.ensures.value in
-    let cut : IsPartialOutput asked.plan after c.args.arguments.now.count asked.envelope (g.W.Sink.taken c.args.out.now) (g.W.Sink.taken c.walk.new.out) (g.W.Sink.failures c.args.out.now) (g.W.Sink.failures c.walk.new.out) c.in_err-walked.field-0.0 =
+    let cut : IsPartialOutput inputs.plan after c.args.arguments.now.count inputs.envelope (g.W.Sink.taken c.args.out.now) (g.W.Sink.taken c.walk.new.out)
+    (g.W.Sink.failures c.args.out.now) (g.W.Sink.failures c.walk.new.out) c.in_err-walked.field-0.0 =
     rw (← place, ← c.as_ref-2.ensures.value, ← c.meter-meter.ensures.same) c.in_err-walked.ensures.cut in
     let p = err_from_is_err_and c.from_residual-in_err-walked.result c.from_residual-in_err-walked.ensures.1 in
-    rw (p.1, p.2) (inr (asked.plan, after, asked.envelope, c.in_ok-asked.ensures.asked, walk_cause asked.plan after c.args.arguments.now.count asked.envelope _ _ _ _ _ cut))
+    rw (p.1, p.2) (inr (
+      inputs.plan,
+      after,
+      inputs.envelope,
+      c.in_ok-sample_inputs.ensures.requested,
+      walk_cause inputs.plan after c.args.arguments.now.count inputs.envelope _ _ _ _ _ cut,
+    ))
 
 pub returns-in-Ok-clause-sampled : goal.returns-in-Ok-clause-sampled
 returns-in-Ok-clause-sampled g c =
-    let asked = c.in_ok-asked.asked in
-    let after = option_map data_of asked.after in
+    let inputs = c.in_ok-sample_inputs.sample_inputs in
+    let after = option_map data_of inputs.after in
     let place : resume_point c.as_ref.result ≡ after = resumed c.as_ref.result ∙ ap (option_map data_of) c.as_ref.ensures.value in
-    let sample : IfSome after (IsSampleOf asked.plan) = rw (← place, ← c.meter-meter.ensures.same) c.in_ok-walked.ensures.sample in
-    let wrote : WritesPage asked.plan after c.args.arguments.now.count asked.envelope c.in_ok-walked.walked.lines c.in_ok-walked.walked.end (g.W.Sink.taken c.args.out.now) (g.W.Sink.taken c.walk.new.out) =
+    let sample : IfSome after (IsSampleOf inputs.plan) = rw (← place, ← c.meter-meter.ensures.same) c.in_ok-walked.ensures.sample in
+    let wrote : WritesPage inputs.plan after c.args.arguments.now.count inputs.envelope c.in_ok-walked.walked.lines c.in_ok-walked.walked.end
+    (g.W.Sink.taken c.args.out.now) (g.W.Sink.taken c.walk.new.out) =
     rw (← place, ← c.as_ref-2.ensures.value, ← c.meter-meter.ensures.same) c.in_ok-walked.ensures.lines in (
-      asked.plan,
+      inputs.plan,
       after,
-      asked.envelope,
-      c.in_ok-asked.ensures.asked,
+      inputs.envelope,
+      c.in_ok-sample_inputs.ensures.requested,
       sample,
       record {
         items = wrote.items;
@@ -45,19 +53,21 @@ returns-in-Ok-clause-sampled g c =
 
 pub returns-clause-cause : goal.returns-clause-cause
 returns-clause-cause g c =
-    let asked = c.in_ok-asked.asked in
-    let after = option_map data_of asked.after in
+    let inputs = c.in_ok-sample_inputs.sample_inputs in
+    let after = option_map data_of inputs.after in
     let place : resume_point c.as_ref.result ≡ after = resumed c.as_ref.result ∙ ap (option_map data_of) c.as_ref.ensures.value in
-    let wrote : WritesPage asked.plan after c.args.arguments.now.count asked.envelope c.in_ok-walked.walked.lines c.in_ok-walked.walked.end (g.W.Sink.taken c.args.out.now) (g.W.Sink.taken c.walk.new.out) =
+    let wrote : WritesPage inputs.plan after c.args.arguments.now.count inputs.envelope c.in_ok-walked.walked.lines c.in_ok-walked.walked.end
+    (g.W.Sink.taken c.args.out.now) (g.W.Sink.taken c.walk.new.out) =
     rw (← place, ← c.as_ref-2.ensures.value, ← c.meter-meter.ensures.same) c.in_ok-walked.ensures.lines in
+    let sample : IfSome after (IsSampleOf inputs.plan) = rw (← place, ← c.meter-meter.ensures.same) c.in_ok-walked.ensures.sample in
     let failed = failed_once _ _ (c.in-Err.ensures.err ∙ ap one_more c.in_ok-walked.ensures.unfailed) in
     inr (
-      asked.plan,
+      inputs.plan,
       after,
-      asked.envelope,
-      c.in_ok-asked.ensures.asked,
-      flush_cause asked.plan after c.args.arguments.now.count asked.envelope _ c.in_ok-walked.walked.lines c.in_ok-walked.walked.end
-          (g.W.Sink.taken c.args.out.now) (g.W.Sink.taken c.flush.new.self) _ _ (record {
+      inputs.envelope,
+      c.in_ok-sample_inputs.ensures.requested,
+      flush_cause inputs.plan after c.args.arguments.now.count inputs.envelope _ c.in_ok-walked.walked.lines c.in_ok-walked.walked.end
+          (g.W.Sink.taken c.args.out.now) (g.W.Sink.taken c.flush.new.self) _ _ sample (record {
             items = wrote.items;
             page = wrote.page;
             counted = wrote.counted;

@@ -28,7 +28,7 @@ returns-in-Err-write_page-clause-cut g c =
     let part : IsPartialPage q last c.min-count.result e c.pages.so_far.lines (g.W.Sink.taken c.pages.out) (g.W.Sink.taken c.write_page-in-pages.new.out) (g.W.Sink.failures c.args.out.now) (g.W.Sink.failures c.write_page-in-pages.new.out) c.in-Err-write_page.fault =
     rw (← same, ← c.pages.invariant.failures) c.in-Err-write_page.ensures.err in
     cut_later q (resume_point c.args.after) c.args.total e c.min-count.result c.pages.so_far.lines last c.pages.so_far.end _ _ _ _ _ c.in-Err-write_page.fault
-    c.pages-test.true (omega arith) (omega arith) c.pages.invariant.so_far part
+    c.pages.invariant.sample c.pages-test.true (omega arith) (omega arith) c.pages.invariant.so_far part
 
 pub pages-preserved : goal.pages-preserved
 pages-preserved g c =

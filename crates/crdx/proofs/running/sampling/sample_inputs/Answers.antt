@@ -1,7 +1,7 @@
 use Rattle.std.proofs.Common.{refl, subst}
 use Rattle.crdx.specs.Internal.Cause.{IsPoolsCause}
 use Rattle.crdx.proofs.RunLemmas.{sample_schema, pools_input, pools_before, after_input}
-use Rattle.crdx.proofs.running.sampling.asked_of.Goals as goal
+use Rattle.crdx.proofs.running.sampling.sample_inputs.Goals as goal
 
 pub returns-in-Err-clause-cause : goal.returns-in-Err-clause-cause
 returns-in-Err-clause-cause g c =
@@ -28,8 +28,8 @@ returns-in-Err-after_of-clause-cause g c =
     (raw, record { asked = (c.in-Ok.accepted.group, (c.in-Ok.accepted.kind, asked)); unbroken = unbroken })
     pools (pools_before has later arguments.pools pools c.in-Ok.ensures.stays c.in-Ok-pools_of.ensures.ok) c.in-Err-after_of.ensures.cause
 
-pub returns-clause-asked : goal.returns-clause-asked
-returns-clause-asked g c =
+pub returns-clause-requested : goal.returns-clause-requested
+returns-clause-requested g c =
     let (raw, asked, unbroken, nodes) = c.in-Ok.ensures.accepted in
     let arguments = c.args.arguments.now in
     let pools = pools_before (g.I.Inputs.has c.args.inputs.now) (g.I.Inputs.has c.accepted_schema.new.inputs) arguments.pools c.in-Ok-pools_of.pools c.in-Ok.ensures.stays c.in-Ok-pools_of.ensures.ok in
