@@ -334,8 +334,15 @@ fn is_narrow(rt: &impl Abort, text: &str) {
     }
 }
 
+fn is_shown(rt: &impl Abort, output: &Output, line: &str) {
+    let out = output.out.text();
+    holds(rt, !out.is_empty(), "some output", line);
+    is_number(rt, output.status as u64, 0, "the status", line);
+    is_narrow(rt, out);
+}
+
 fn try_shown(rt: &impl Abort, alloc: Global, line: &str) -> Result<(), AllocError> {
-    is_narrow(rt, run_of(alloc, line)?.out.text());
+    is_shown(rt, &run_of(alloc, line)?, line);
     Ok(())
 }
 

@@ -16,13 +16,16 @@ use std::alloc::{AllocError, Global};
 use std::process::Abort;
 use std::test::Fail;
 
-const REQUIRED_LONG_MAP_LIST: &str =
+/// `LONG_MAP_LIST`, required.
+pub const REQUIRED_LONG_MAP_LIST: &str =
     r#"{"type":"object","required":["m"],"properties":{"m":{"type":"array","minItems":3,"x-kubernetes-list-type":"map","x-kubernetes-list-map-keys":["k"],"items":{"type":"object","properties":{"k":{"type":"string"},"v":{"type":"integer"}},"required":["k"]}}}}"#;
 
-const LONG_SET: &str =
+/// A required set of at least 21 integers.
+pub const LONG_SET: &str =
     r#"{"type":"object","required":["s"],"properties":{"s":{"type":"array","minItems":21,"x-kubernetes-list-type":"set","items":{"type":"integer"}}}}"#;
 
-const TWENTY: &str = r#"{"integers":[0,1,2,3,4,5,6,7,8,9,10,11,12,13,14,15,16,17,18,19]}"#;
+/// Pools of twenty integers.
+pub const TWENTY: &str = r#"{"integers":[0,1,2,3,4,5,6,7,8,9,10,11,12,13,14,15,16,17,18,19]}"#;
 
 /// The first of the ten lines.
 const SEVEN_LINES: &str = r#"{}
@@ -265,20 +268,20 @@ static PLACES: [(&str, (&str, &str, u32), &str, u64, &str); 18] = [
         (SPEC, ZERO_AND_ONE, 4),
         r#"{"spec":{"a":0,"b":false}}"#,
         60,
-        "a next sample",
+        r#"{"spec":{"a":0,"b":true}}"#,
     ),
     (
         "the last sample",
         (SPEC, ZERO_AND_ONE, 4),
         r#"{"spec":{"a":1,"b":true}}"#,
         60,
-        "no next sample",
+        "none",
     ),
     (
         "an object without a default",
         (DEFAULTED, ZERO_AND_SEVEN, 3),
         r#"{"spec":{}}"#,
-        32,
+        48,
         "no sample",
     ),
     (
@@ -286,7 +289,7 @@ static PLACES: [(&str, (&str, &str, u32), &str, u64, &str); 18] = [
         (DEFAULTED, ZERO_AND_SEVEN, 3),
         r#"{"spec":{"f":7}}"#,
         48,
-        "no next sample",
+        "none",
     ),
     (
         "items with equal keys",
@@ -328,16 +331,29 @@ static PLACES: [(&str, (&str, &str, u32), &str, u64, &str); 18] = [
         (MAP_LIST, TWO_TEXTS, 8),
         r#"{"m":[{"k":"b"},{"k":"a"}]}"#,
         108,
-        "a next sample",
+        r#"{"m":[{"k":"a"},{"k":"b","v":0}]}"#,
     ),
 ];
 
-fn said_of_place(alloc: Global, plan: &Plan<u64>, place: &Tree, meter: &mut Meter) -> &'static str {
+fn said_of_live(alloc: Global, live: &Live<'_, u64>) -> Result<String, Fail> {
+    match live.tree() {
+        Some(tree) => Ok(tree.to_text(alloc)?),
+        None => Err(Fail::from("ended")),
+    }
+}
+
+/// The next sample, or why there is none.
+fn said_of_place(
+    alloc: Global,
+    plan: &Plan<u64>,
+    place: &Tree,
+    meter: &mut Meter,
+) -> Result<String, Fail> {
     match Live::after(alloc, plan, place, meter) {
-        Ok(Some(_next)) => "a next sample",
-        Ok(None) => "no next sample",
-        Err(EFault::NotASample) => "no sample",
-        Err(_) => "another fault",
+        Ok(Some(next)) => said_of_live(alloc, &next),
+        Ok(None) => Ok(String::from_str(alloc, "none")?),
+        Err(EFault::NotASample) => Ok(String::from_str(alloc, "no sample")?),
+        Err(fault) => Err(fault.into()),
     }
 }
 
@@ -351,9 +367,8 @@ fn is_place(
     let (name, _given, place, steps, wanted) = *row;
     let place = Tree::from_bytes(alloc, place.as_bytes())?;
     let found = said_of_place(alloc, plan, &place, meter);
-    is_text(rt, found, wanted, "the answer", name);
     holds(rt, meter.steps() <= steps, "few steps", name);
-    Ok(())
+    is_said(rt, found, wanted, "the answer", name)
 }
 
 fn try_place(
@@ -374,10 +389,11 @@ fn places(rt: HostRuntime) -> Result<(), Fail> {
     Ok(())
 }
 
-// A name, a schema with its pools and limit, how many samples there are, and the most steps from one to the next.
-static ENUMERATIONS: [(&str, (&str, &str, u32), usize, u64); 2] = [
-    ("two fields", (SPEC, ZERO_AND_ONE, 4), 10, 60),
-    ("a map list", (MAP_LIST, TWO_TEXTS, 8), 14, 108),
+// A name, a schema with its pools and limit, how many samples there are, the most steps from one to the next, and the
+// most steps of a page of them all.
+static ENUMERATIONS: [(&str, (&str, &str, u32), u32, u64, u64); 2] = [
+    ("two fields", (SPEC, ZERO_AND_ONE, 4), 10, 60, 660),
+    ("a map list", (MAP_LIST, TWO_TEXTS, 8), 14, 108, 1620),
 ];
 
 fn stands_at(live: &Live<'_, u64>, wanted: &Tree) -> bool {
@@ -414,27 +430,27 @@ fn goes_through(
     rt: &impl Abort,
     live: &mut Live<'_, u64>,
     samples: &[Tree],
-    row: &(&str, (&str, &str, u32), usize, u64),
+    row: &(&str, (&str, &str, u32), u32, u64, u64),
     meter: &mut Meter,
 ) {
-    let (name, _given, count, steps) = *row;
+    let (name, _given, count, steps, _most) = *row;
     for (place, sample) in samples.iter().enumerate() {
         holds(rt, stands_at(live, sample), "a sample", name);
-        let more = place.saturating_add(1) < count;
+        let more = place.saturating_add(1) < count as usize;
         moves(rt, live, Ok(more), steps, meter, name);
     }
 }
 
-/// An enumeration goes through the samples of a page, in as many steps.
+/// An enumeration goes through these samples, and then it is over.
 fn is_enumerated(
     rt: &impl Abort,
     alloc: Global,
     plan: &Plan<u64>,
     samples: &[Tree],
-    row: &(&str, (&str, &str, u32), usize, u64),
+    row: &(&str, (&str, &str, u32), u32, u64, u64),
     meter: &mut Meter,
 ) -> Result<(), Fail> {
-    let (name, _given, count, steps) = *row;
+    let (name, _given, count, steps, _most) = *row;
     is_number(rt, samples.len() as u64, count as u64, "the number", name);
     let Some(mut live) = Live::first(alloc, plan, meter)? else {
         return Err(Fail::from("no sample"));
@@ -445,28 +461,31 @@ fn is_enumerated(
     Ok(())
 }
 
+/// An enumeration goes through the samples of a page of as many as there are.
 fn is_paged(
     rt: &impl Abort,
     alloc: Global,
     plan: &Plan<u64>,
-    row: &(&str, (&str, &str, u32), usize, u64),
+    row: &(&str, (&str, &str, u32), u32, u64, u64),
     meter: &mut Meter,
     other: &mut Meter,
 ) -> Result<(), Fail> {
-    let page = page(alloc, plan, None, 100, meter)?;
+    let page = page(alloc, plan, None, row.2.clamp(1, 10000), meter)?;
+    holds(rt, page.end, "the end", row.0);
     is_enumerated(rt, alloc, plan, &page.items, row, other)
 }
 
 fn try_enumeration(
     rt: &impl Abort,
     alloc: Global,
-    row: &(&str, (&str, &str, u32), usize, u64),
+    row: &(&str, (&str, &str, u32), u32, u64, u64),
 ) -> Result<(), Fail> {
     let mut plan = made(alloc, row.1)?;
     let mut meter = plan.meter();
     let mut other = plan.meter();
     is_paged(rt, alloc, &plan, row, &mut meter, &mut other)?;
     holds(rt, meter.steps() > 0, "some steps", row.0);
+    holds(rt, meter.steps() <= row.4, "few steps", row.0);
     is_number(rt, other.steps(), meter.steps(), "the steps", row.0);
     Ok(())
 }
@@ -490,7 +509,7 @@ static WALKS: [(
     &str,
     u64,
     bool,
-); 12] = [
+); 17] = [
     (
         "pages of one",
         (SPEC, ZERO_AND_ONE, 4),
@@ -522,7 +541,17 @@ static WALKS: [(
         false,
     ),
     (
-        "as many lines as there are",
+        "as many lines as there are, by pages of one",
+        (SPEC, ZERO_AND_ONE, 4),
+        None,
+        1,
+        10,
+        TEN_LINES,
+        10,
+        true,
+    ),
+    (
+        "as many lines as there are, by pages of three",
         (SPEC, ZERO_AND_ONE, 4),
         None,
         3,
@@ -532,10 +561,50 @@ static WALKS: [(
         true,
     ),
     (
+        "as many lines as there are, by a page of 64",
+        (SPEC, ZERO_AND_ONE, 4),
+        None,
+        64,
+        10,
+        TEN_LINES,
+        10,
+        true,
+    ),
+    (
+        "a line more, by pages of one",
+        (SPEC, ZERO_AND_ONE, 4),
+        None,
+        1,
+        11,
+        TEN_LINES,
+        10,
+        true,
+    ),
+    (
+        "a line more, by pages of three",
+        (SPEC, ZERO_AND_ONE, 4),
+        None,
+        3,
+        11,
+        TEN_LINES,
+        10,
+        true,
+    ),
+    (
         "a line more, by pages of five",
         (SPEC, ZERO_AND_ONE, 4),
         None,
         5,
+        11,
+        TEN_LINES,
+        10,
+        true,
+    ),
+    (
+        "a line more, by a page of 64",
+        (SPEC, ZERO_AND_ONE, 4),
+        None,
+        64,
         11,
         TEN_LINES,
         10,

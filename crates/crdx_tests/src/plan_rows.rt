@@ -386,7 +386,7 @@ static REST: [(&str, u64, u32, &[u32]); 7] = [
 ];
 
 // The sizes that the slots of a row from a place on can take; none where there is no such place.
-fn rest_of(
+pub fn rest_of(
     plan: &Plan<u64>,
     node: PlanNode,
     place: u64,
@@ -467,7 +467,7 @@ static MORE: [(&str, u32, &[u32]); 4] = [
     ("three items", 3, &[]),
 ];
 
-fn more_of(plan: &Plan<u64>, node: PlanNode, taken: u32) -> Option<u64>
+pub fn more_of(plan: &Plan<u64>, node: PlanNode, taken: u32) -> Option<u64>
     requires { node < length (sites_of plan.now.root) }
 {
     match plan.sort(node) {
@@ -1042,6 +1042,7 @@ fn laws(rt: HostRuntime) -> Result<(), Fail> {
     stored_by_parts();
     let plan = plan_of(&rt, rt.alloc(), (MAP_LIST, TWO_TEXTS, 8), "a map list")?;
     plan.no_dead_end();
+    plan.sound_parts();
     is_number(&rt, plan.width(), 2, "the width", "a map list");
     Ok(())
 }

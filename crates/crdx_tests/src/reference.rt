@@ -6,7 +6,7 @@ ghost use Rattle.schema.specs.Nodes.View.{node_of};
 
 use jtree::{Items, Member, Members, Text, Tree};
 use plan::Pools;
-use schema::{Below, Fields, Node, ScalarKind, ScalarNode, Sort};
+use schema::{Below, Bounds, Fields, Node, ScalarKind, ScalarNode, Sort};
 use std::alloc::Global;
 use std::test::Fail;
 use stored::{Schema, is_stored};
@@ -73,11 +73,118 @@ pub fn node_below(below: &Below) -> &Node
     &below.node
 }
 
-/// A name, and what may stand under it.
+/// A name, whether something must stand under it, and what may.
 #[derive(Drop)]
-struct Choice {
+pub struct Choice {
     name: Text,
-    values: Vec<Tree>,
+    must: bool,
+    pub values: Vec<Tree>,
+}
+
+/// The slots of an object or a map, each with its parts of at most `limit` nodes; none of another node.
+pub fn plain_slots(
+    alloc: Global,
+    node: &Node,
+    pools: &Pools,
+    limit: u64,
+) -> Result<Vec<Choice>, Fail> {
+    match &node.sort {
+        Sort::Object(object) => field_slots(alloc, &object.fields, pools, limit),
+        Sort::Map(map) => name_slots(alloc, node_below(&map.value), pools, limit),
+        Sort::Scalar(_) | Sort::Open | Sort::List(_) => Ok(Vec::new(alloc)),
+    }
+}
+
+/// Something must stand under a field that is required or has a default.
+fn field_slots(
+    alloc: Global,
+    fields: &Fields,
+    pools: &Pools,
+    limit: u64,
+) -> Result<Vec<Choice>, Fail> {
+    let mut slots = Vec::new(alloc);
+    for field in &fields.fields {
+        let values = plain_parts(alloc, &field.node, pools, limit)?;
+        let name = field.name.copy(alloc)?;
+        let must = field.required || field.default.is_some();
+        slots.push(Choice { name, must, values })?;
+    }
+    Ok(slots)
+}
+
+fn name_slots(alloc: Global, node: &Node, pools: &Pools, limit: u64) -> Result<Vec<Choice>, Fail> {
+    let mut slots = Vec::new(alloc);
+    for name in names_of(alloc, pools)? {
+        let values = plain_parts(alloc, node, pools, limit)?;
+        let must = false;
+        slots.push(Choice { name, must, values })?;
+    }
+    Ok(slots)
+}
+
+/// What may stand in these slots, of at most `limit` nodes together: none is left empty that must be filled.
+pub fn plain_rows(alloc: Global, slots: &[Choice], limit: u64) -> Result<Vec<Members>, Fail> {
+    let mut kept = Vec::new(alloc);
+    for row in rows_of(alloc, slots, limit)? {
+        if is_filled(&row, slots) {
+            kept.push(row)?;
+        }
+    }
+    Ok(kept)
+}
+
+fn is_filled(row: &Members, slots: &[Choice]) -> bool {
+    for slot in slots {
+        if slot.must && row.get(slot.name.as_str()).is_none() {
+            return false;
+        }
+    }
+    true
+}
+
+/// The numbers of nodes of those rows with which, and with `taken` members more, the bounds hold.
+pub fn plain_rest(
+    alloc: Global,
+    rows: &[Members],
+    bounds: Bounds,
+    taken: u64,
+) -> Result<Vec<u32>, Fail> {
+    let mut counts = Vec::new(alloc);
+    for row in rows {
+        if is_within(bounds, taken.saturating_add(row.members.len() as u64)) {
+            counts.push(row.nodes().min(99) as u32)?;
+        }
+    }
+    counts.sort_unstable();
+    counts.dedup();
+    Ok(counts)
+}
+
+fn is_within(bounds: Bounds, count: u64) -> bool {
+    bounds.least.unwrap_or(0) <= count && count <= bounds.most.unwrap_or(u64::MAX)
+}
+
+/// The numbers of nodes of the items behind the first `taken`, over the lists among these parts that have so many.
+pub fn plain_more(alloc: Global, parts: &[Tree], taken: u32) -> Result<Vec<u32>, Fail> {
+    let mut counts = Vec::new(alloc);
+    for part in parts {
+        if let Some(count) = nodes_behind(part, taken) {
+            counts.push(count)?;
+        }
+    }
+    counts.sort_unstable();
+    counts.dedup();
+    Ok(counts)
+}
+
+fn nodes_behind(part: &Tree, taken: u32) -> Option<u32> {
+    match part {
+        Tree::List(list) => match list.items.get(taken as usize..) {
+            Some(behind) => Some(items_nodes(behind).min(99) as u32),
+            None => None,
+        },
+        _ => None,
+    }
 }
 
 /// The values over pools of at most `limit` nodes that can stand at a node, stored or not.
@@ -176,7 +283,8 @@ fn field_choices(
     for field in &fields.fields {
         let values = values_at(alloc, &field.node, pools, room)?;
         let name = field.name.copy(alloc)?;
-        choices.push(Choice { name, values })?;
+        let must = false;
+        choices.push(Choice { name, must, values })?;
     }
     Ok(choices)
 }
@@ -186,7 +294,8 @@ fn name_choices(alloc: Global, node: &Node, pools: &Pools, room: u64) -> Result<
     let mut choices = Vec::new(alloc);
     for name in names_of(alloc, pools)? {
         let values = values_at(alloc, node, pools, room)?;
-        choices.push(Choice { name, values })?;
+        let must = false;
+        choices.push(Choice { name, must, values })?;
     }
     Ok(choices)
 }
@@ -209,6 +318,14 @@ fn push_objects(
     choices: &[Choice],
     room: u64,
 ) -> Result<(), Fail> {
+    for row in rows_of(alloc, choices, room)? {
+        values.push(Tree::Object(row))?;
+    }
+    Ok(())
+}
+
+/// Some of the names, with one of the values under each, of at most `room` nodes.
+fn rows_of(alloc: Global, choices: &[Choice], room: u64) -> Result<Vec<Members>, Fail> {
     let mut rows = Vec::new(alloc);
     rows.push(Members {
         members: Vec::new(alloc),
@@ -217,10 +334,7 @@ fn push_objects(
         let mut longer = longer_rows(alloc, &rows, choice, room)?;
         rows.append(&mut longer)?;
     }
-    for row in rows {
-        values.push(Tree::Object(row))?;
-    }
-    Ok(())
+    Ok(rows)
 }
 
 /// Each row with each value under the name in front of it, where there is room.
@@ -327,7 +441,7 @@ fn push_longer_lists(
     list: &Items,
     room: u64,
 ) -> Result<(), Fail> {
-    let used = items_nodes(list);
+    let used = items_nodes(&list.items);
     for item in items {
         if item.nodes().saturating_add(used) <= room {
             longer.push(with_item(alloc, item, list)?)?;
@@ -336,9 +450,9 @@ fn push_longer_lists(
     Ok(())
 }
 
-fn items_nodes(list: &Items) -> u64 {
+fn items_nodes(items: &[Tree]) -> u64 {
     let mut nodes: u64 = 0;
-    for item in &list.items {
+    for item in items {
         nodes = nodes.saturating_add(item.nodes());
     }
     nodes

@@ -1,12 +1,13 @@
 //! The plain reference, and walks, against lists of samples that were made by hand.
 use crate::documents::{
-    DEFAULTED, LABELS, MAP_LIST, NAMES, NULLABLE, OPEN, OPEN_NULLABLE, REPEATED, SET, SPEC,
-    TEN_LINES, TRUTHS, TWO_TEXTS, ZERO_AND_ONE, ZERO_AND_SEVEN,
+    DEFAULTED, LABELS, LONG_MAP_LIST, MAP_LIST, NAMES, NULLABLE, OPEN, OPEN_NULLABLE, REPEATED,
+    SET, SPEC, TEN_LINES, TRUTHS, TWO_TEXTS, ZERO_AND_ONE, ZERO_AND_SEVEN,
 };
 use crate::fakes::FailingSink;
-use crate::harness::{is_number, is_said, made, pools_of, schema_of};
-use crate::page_rows::{lines_of, walked};
+use crate::harness::{holds, is_number, is_said, made, pools_of, schema_of};
+use crate::page_rows::{REQUIRED_LONG_MAP_LIST, lines_of, walked};
 use crate::reference::plain_samples;
+use crate::small_plans::try_plan;
 use enumerate::page;
 use jtree::Tree;
 use plan::{Meter, Plan};
@@ -26,14 +27,15 @@ const INT_OR_STRING: &str =
 const LISTS_OF_LISTS: &str =
     r#"{"type":"object","properties":{"l":{"type":"array","items":{"type":"array","items":{"type":"integer"}}}}}"#;
 
-const TWO_INTEGER_KEYS: &str =
+/// A map list with the integers `a` and `c` as its keys and a truth value `b`.
+pub const TWO_INTEGER_KEYS: &str =
     r#"{"type":"object","properties":{"m":{"type":"array","x-kubernetes-list-type":"map","x-kubernetes-list-map-keys":["a","c"],"items":{"type":"object","properties":{"a":{"type":"integer"},"b":{"type":"boolean"},"c":{"type":"integer"}},"required":["a","c"]}}}}"#;
 
 const ALL_POOLS: &str =
     r#"{"any":[{"q":1},"z"],"integers":[0,1],"names":["k"],"strings":["a","b"]}"#;
 
 // A name, a schema with its pools and limit, and all samples.
-static SAMPLES: [(&str, (&str, &str, u32), &str); 15] = [
+static SAMPLES: [(&str, (&str, &str, u32), &str); 16] = [
     ("two fields", (SPEC, ZERO_AND_ONE, 4), TEN_LINES),
     ("one node", (SPEC, ZERO_AND_ONE, 1), "{}\n"),
     (
@@ -104,6 +106,16 @@ static SAMPLES: [(&str, (&str, &str, u32), &str); 15] = [
 "#,
     ),
     (
+        "a map over two names",
+        (LABELS, r#"{"names":["k","j"],"strings":["x"]}"#, 4),
+        r#"{}
+{"labels":{}}
+{"labels":{"k":"x"}}
+{"labels":{"j":"x"}}
+{"labels":{"j":"x","k":"x"}}
+"#,
+    ),
+    (
         "a map over names with a repeat",
         (LABELS, NAMES, 4),
         r#"{}
@@ -170,7 +182,8 @@ fn listed(alloc: Global, given: (&str, &str, u32)) -> Result<Vec<Tree>, Fail> {
     plain_samples(alloc, &schema_of(alloc, schema)?, &pools, limit)
 }
 
-fn plain_lines(alloc: Global, given: (&str, &str, u32)) -> Result<String, Fail> {
+/// The lines of all samples, by the plain reference.
+pub fn plain_lines(alloc: Global, given: (&str, &str, u32)) -> Result<String, Fail> {
     lines_of(alloc, &listed(alloc, given)?)
 }
 
@@ -197,6 +210,58 @@ fn samples(rt: HostRuntime) -> Result<(), Fail> {
         is_said(&rt, walked_lines(rt.alloc(), *given), wanted, "lines", name)?;
     }
     Ok(())
+}
+
+/// A plan of at most so many nodes is as the plain reference has it.
+fn is_plain(
+    rt: &impl Abort,
+    alloc: Global,
+    schema: &str,
+    pools: &str,
+    limit: u32,
+    name: &str,
+) -> Result<(), Fail> {
+    let name = format!(in alloc; "{name}, of at most {limit} nodes")?;
+    try_plan(rt, alloc, schema, pools, limit, name.as_str())
+}
+
+fn are_plain(
+    rt: &impl Abort,
+    alloc: Global,
+    schema: &str,
+    pools: &str,
+    name: &str,
+) -> Result<(), Fail> {
+    for limit in 1..9 {
+        is_plain(rt, alloc, schema, pools, limit, name)?;
+    }
+    Ok(())
+}
+
+#[test]
+fn plans_at_each_limit(rt: HostRuntime) -> Result<(), Fail> {
+    for (name, given, _lines) in &SAMPLES {
+        are_plain(&rt, rt.alloc(), given.0, given.1, name)?;
+    }
+    Ok(())
+}
+
+#[test]
+fn plans_of_long_lists(rt: HostRuntime) -> Result<(), Fail> {
+    are_plain(
+        &rt,
+        rt.alloc(),
+        LONG_MAP_LIST,
+        TWO_TEXTS,
+        "a list that cannot be",
+    )?;
+    are_plain(
+        &rt,
+        rt.alloc(),
+        REQUIRED_LONG_MAP_LIST,
+        TWO_TEXTS,
+        "a required list that cannot be",
+    )
 }
 
 fn of_nodes(samples: &[Tree], nodes: u64) -> u64 {
@@ -227,25 +292,39 @@ fn are_many(rt: &impl Abort, alloc: Global, samples: &[Tree], name: &str) -> Res
     is_said(rt, first, wanted, "the first of nine nodes", name)
 }
 
-fn many_listed(rt: &impl Abort, alloc: Global) -> Result<(), Fail> {
-    let given = (TWO_INTEGER_KEYS, ZERO_AND_ONE, 9);
-    are_many(rt, alloc, &listed(alloc, given)?, "plain samples")
+/// One page has these samples, and no other one is left.
+fn are_paged(
+    rt: &impl Abort,
+    alloc: Global,
+    plan: &Plan<u64>,
+    samples: &[Tree],
+    meter: &mut Meter,
+) -> Result<(), Fail> {
+    let page = page(alloc, plan, None, 100, meter)?;
+    holds(
+        rt,
+        page.items.as_slice() == samples,
+        "a page",
+        "many samples",
+    );
+    holds(rt, page.end, "the end", "many samples");
+    Ok(())
 }
 
-fn many_paged(
+fn try_many(
     rt: &impl Abort,
     alloc: Global,
     plan: &Plan<u64>,
     meter: &mut Meter,
 ) -> Result<(), Fail> {
-    let page = page(alloc, plan, None, 100, meter)?;
-    are_many(rt, alloc, &page.items, "a page")
+    let samples = listed(alloc, (TWO_INTEGER_KEYS, ZERO_AND_ONE, 9))?;
+    are_many(rt, alloc, &samples, "many samples")?;
+    are_paged(rt, alloc, plan, &samples, meter)
 }
 
 #[test]
 fn many_samples(rt: HostRuntime) -> Result<(), Fail> {
-    many_listed(&rt, rt.alloc())?;
     let mut plan = made(rt.alloc(), (TWO_INTEGER_KEYS, ZERO_AND_ONE, 9))?;
     let mut meter = plan.meter();
-    many_paged(&rt, rt.alloc(), &plan, &mut meter)
+    try_many(&rt, rt.alloc(), &plan, &mut meter)
 }

@@ -125,7 +125,7 @@ static ROWS: [(&str, &str, &str, &str, &str, &str, u8); 13] = [
         1,
     ),
     (
-        "a bad default, judged before what `sample` does not know",
+        "a bad default of a definition that is sampled",
         "crdx sample crd.json v1",
         BAD_DEFAULT,
         "{}",

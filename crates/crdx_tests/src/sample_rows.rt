@@ -1,7 +1,12 @@
 //! `sample`: what is listed, and what is said of the inputs that are refused.
-use crate::documents::{BROKEN, BROKEN_LINES, TEN_LINES, WIDGET, ZERO_AND_ONE};
+use crate::documents::{
+    BROKEN, BROKEN_LINES, LONG_MAP_LIST, TEN_LINES, TWO_TEXTS, WIDGET, ZERO_AND_ONE,
+};
 use crate::fakes::{FailingSink, FakeInputs};
-use crate::harness::{is_answer, run_on};
+use crate::harness::{definition, is_answer, run_on};
+use crate::limit_rows::repeated;
+use crate::page_rows::{LONG_SET, REQUIRED_LONG_MAP_LIST, TWENTY};
+use crate::reference_rows::{TWO_INTEGER_KEYS, plain_lines};
 use std::alloc::{AllocError, Global};
 use std::process::Abort;
 use std::test::Fail;
@@ -58,6 +63,9 @@ const NAMED_LINES: &str = r#"{"apiVersion":"example.org/v1","kind":"Widget","met
 const NAMED_AFTER: &str =
     r#"crdx sample crd.json v1 --pools pools.json --limit 4 --count 1 --name w --after {"apiVersion":"example.org/v1","kind":"Widget","metadata":{"name":"w"},"spec":{}}"#;
 
+const OTHER_AFTER: &str =
+    r#"crdx sample crd.json v1 --pools pools.json --limit 4 --count 1 --name w --after {"apiVersion":"example.org/v1","kind":"Other","metadata":{"name":"w"},"spec":{}}"#;
+
 const NAMED_LINE: &str =
     r#"{"apiVersion":"example.org/v1","kind":"Widget","metadata":{"name":"w"},"spec":{"b":false}}
 "#;
@@ -99,7 +107,7 @@ const NEGATIVE_LINES: &str = r#"{}
 "#;
 
 // A name, a command line, the two documents, standard output, standard error and the status.
-static ROWS: [(&str, &str, &str, &str, &str, &str, u8); 32] = [
+static ROWS: [(&str, &str, &str, &str, &str, &str, u8); 36] = [
     (
         "every sample of four nodes",
         "crdx sample crd.json v1 --pools pools.json --limit 4",
@@ -308,6 +316,15 @@ static ROWS: [(&str, &str, &str, &str, &str, &str, u8); 32] = [
         0,
     ),
     (
+        "a sample to go on from with an envelope of another kind",
+        OTHER_AFTER,
+        WIDGET,
+        ZERO_AND_ONE,
+        NAMED_LINE,
+        "crdx: more\n",
+        0,
+    ),
+    (
         "a sample to go on from",
         "crdx sample crd.json v1 --pools pools.json --limit 4 --after {\"spec\":{\"b\":false}}",
         WIDGET,
@@ -371,6 +388,33 @@ static ROWS: [(&str, &str, &str, &str, &str, &str, u8); 32] = [
         3,
     ),
     (
+        "a text among integers",
+        "crdx sample crd.json v1 --pools pools.json",
+        WIDGET,
+        r#"{"integers":[0,"x"]}"#,
+        "",
+        "crdx: pools: P1 \"/integers/1\"\n",
+        3,
+    ),
+    (
+        "a pool of numbers",
+        "crdx sample crd.json v1 --pools pools.json",
+        WIDGET,
+        r#"{"floats":[]}"#,
+        "",
+        "crdx: pools: P1 \"/floats\"\n",
+        3,
+    ),
+    (
+        "pools that are a list",
+        "crdx sample crd.json v1 --pools pools.json",
+        WIDGET,
+        "[]",
+        "",
+        "crdx: pools: P1 \"\"\n",
+        3,
+    ),
+    (
         "a pool of another name",
         "crdx sample crd.json v1 --pools pools.json",
         WIDGET,
@@ -407,5 +451,88 @@ fn samples(rt: HostRuntime) -> Result<(), Fail> {
     for row in &ROWS {
         try_row(&rt, rt.alloc(), row)?;
     }
+    Ok(())
+}
+
+// A name, what stands before the entries of a pool, and an entry of which there is one too many.
+static LARGE: [(&str, &str, &str); 2] = [
+    ("65 integers", r#"{"integers":["#, "0"),
+    ("65 texts", r#"{"strings":["#, r#""""#),
+];
+
+fn try_large(rt: &impl Abort, alloc: Global, row: &(&str, &str, &str)) -> Result<(), AllocError> {
+    let (name, head, entry) = *row;
+    let pools = repeated(alloc, head, entry, 65, "]}")?;
+    let command = "crdx sample crd.json v1 --pools pools.json";
+    let err = "crdx: pools: P2\n";
+    try_row(
+        rt,
+        alloc,
+        &(name, command, WIDGET, pools.as_str(), "", err, 3),
+    )
+}
+
+#[test]
+fn large_pools(rt: HostRuntime) -> Result<(), Fail> {
+    for row in &LARGE {
+        try_large(&rt, rt.alloc(), row)?;
+    }
+    Ok(())
+}
+
+// A name, a schema, pools, and standard output.
+static WHOLE: [(&str, &str, &str, &str); 3] = [
+    (
+        "a map list of more items than keys",
+        LONG_MAP_LIST,
+        TWO_TEXTS,
+        "{}\n",
+    ),
+    (
+        "a required map list of more items than keys",
+        REQUIRED_LONG_MAP_LIST,
+        TWO_TEXTS,
+        "",
+    ),
+    (
+        "a required set of more items than values",
+        LONG_SET,
+        TWENTY,
+        "",
+    ),
+];
+
+// All samples are listed.
+fn try_whole(
+    rt: &impl Abort,
+    alloc: Global,
+    command: &str,
+    row: &(&str, &str, &str, &str),
+) -> Result<(), AllocError> {
+    let (name, schema, pools, out) = *row;
+    let crd = definition(alloc, schema)?;
+    try_row(
+        rt,
+        alloc,
+        &(name, command, crd.as_str(), pools, out, "crdx: end\n", 0),
+    )
+}
+
+#[test]
+fn whole_lists(rt: HostRuntime) -> Result<(), Fail> {
+    let command = "crdx sample crd.json v1 --pools pools.json --limit 63";
+    for row in &WHOLE {
+        try_whole(&rt, rt.alloc(), command, row)?;
+    }
+    Ok(())
+}
+
+// 74 samples, which are more than the program asks for at once.
+#[test]
+fn more_than_a_page(rt: HostRuntime) -> Result<(), Fail> {
+    let lines = plain_lines(rt.alloc(), (TWO_INTEGER_KEYS, ZERO_AND_ONE, 9))?;
+    let command = "crdx sample crd.json v1 --pools pools.json --limit 9";
+    let row = ("74 samples", TWO_INTEGER_KEYS, ZERO_AND_ONE, lines.as_str());
+    try_whole(&rt, rt.alloc(), command, &row)?;
     Ok(())
 }

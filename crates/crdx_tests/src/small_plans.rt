@@ -5,12 +5,15 @@ ghost use Rattle.plan.specs.Samples.Candidates.{sort_of};
 ghost use Rattle.plan.specs.declared.sort.Sort.TheVariants as sort;
 
 use crate::harness::{holds, is_number, made, pools_of, schema_of};
-use crate::plan_rows::{are_sizes, item_of, place_of, slot_of};
-use crate::reference::{node_below, plain_parts, plain_samples, plain_width};
+use crate::plan_rows::{are_sizes, item_of, more_of, place_of, rest_of, slot_of};
+use crate::reference::{
+    Choice, node_below, plain_more, plain_parts, plain_rest, plain_rows, plain_samples,
+    plain_slots, plain_width,
+};
 use enumerate::page;
-use jtree::Tree;
+use jtree::{Members, Tree};
 use plan::{Meter, Plan, PlanNode, Pools, Sort};
-use schema::{Node, Sort as NodeSort};
+use schema::{Bounds, Fields, Node, Sort as NodeSort};
 use std::alloc::Global;
 use std::process::Abort;
 use std::test::Fail;
@@ -259,57 +262,205 @@ fn try_leaf(
     Ok(())
 }
 
-/// The sizes are the numbers of nodes of the parts, and the candidates of a leaf are its parts. Answers the greatest size, and 0
-/// where there is none.
-fn try_node(
+/// The number of nodes of the largest of these parts, and 0 where there is none.
+fn largest(parts: &[Tree]) -> u64 {
+    match parts.last() {
+        Some(part) => part.nodes(),
+        None => 0,
+    }
+}
+
+fn is_size(
+    rt: &impl Abort,
+    alloc: Global,
+    sizes: u64,
+    parts: &[Tree],
+    name: &str,
+) -> Result<(), Fail> {
+    let wanted = counts(alloc, parts)?;
+    are_sizes(rt, alloc, sizes, &wanted, "the sizes", name)
+}
+
+/// What can follow behind so many items, up to more than a list within the limit has.
+fn try_more(
+    rt: &impl Abort,
+    alloc: Global,
+    plan: &Plan<u64>,
+    number: PlanNode,
+    parts: &[Tree],
+    name: &str,
+) -> Result<(), Fail>
+    requires { number < length (sites_of plan.now.root) }
+{
+    for taken in 0..=plan.limit() {
+        is_more(rt, alloc, more_of(plan, number, taken), parts, taken, name)?;
+    }
+    Ok(())
+}
+
+fn is_more(
+    rt: &impl Abort,
+    alloc: Global,
+    found: Option<u64>,
+    parts: &[Tree],
+    taken: u32,
+    name: &str,
+) -> Result<(), Fail> {
+    let Some(more) = found else {
+        return Err(Fail::from("no list"));
+    };
+    let wanted = plain_more(alloc, parts, taken)?;
+    are_sizes(rt, alloc, more, &wanted, "what can follow", name)
+}
+
+/// What the slots of a row can take from each place on.
+fn all_rests(
+    rt: &impl Abort,
+    alloc: Global,
+    plan: &Plan<u64>,
+    number: PlanNode,
+    bounds: Bounds,
+    slots: &[Choice],
+    meter: &mut Meter,
+    name: &str,
+) -> Result<(), Fail>
+    requires { number < length (sites_of plan.now.root) }
+{
+    for place in 0..=slots.len() {
+        let (_, behind) = slots.split_at(place);
+        rests_at(
+            rt,
+            alloc,
+            plan,
+            number,
+            bounds,
+            behind,
+            place_of(place),
+            meter,
+            name,
+        )?;
+    }
+    Ok(())
+}
+
+fn rests_at(
+    rt: &impl Abort,
+    alloc: Global,
+    plan: &Plan<u64>,
+    number: PlanNode,
+    bounds: Bounds,
+    behind: &[Choice],
+    place: u64,
+    meter: &mut Meter,
+    name: &str,
+) -> Result<(), Fail>
+    requires { number < length (sites_of plan.now.root) }
+{
+    let rows = plain_rows(alloc, behind, u64::from(plan.limit()))?;
+    rests_with(rt, alloc, plan, number, bounds, &rows, place, meter, name)
+}
+
+fn rests_with(
+    rt: &impl Abort,
+    alloc: Global,
+    plan: &Plan<u64>,
+    number: PlanNode,
+    bounds: Bounds,
+    rows: &[Members],
+    place: u64,
+    meter: &mut Meter,
+    name: &str,
+) -> Result<(), Fail>
+    requires { number < length (sites_of plan.now.root) }
+{
+    for taken in 0..=place.min(99) as u32 {
+        let found = rest_of(plan, number, place, taken, meter);
+        is_rest(rt, alloc, found, rows, bounds, taken, name)?;
+    }
+    Ok(())
+}
+
+fn is_rest(
+    rt: &impl Abort,
+    alloc: Global,
+    found: Option<u64>,
+    rows: &[Members],
+    bounds: Bounds,
+    taken: u32,
+    name: &str,
+) -> Result<(), Fail> {
+    let Some(rest) = found else {
+        return Err(Fail::from("no place"));
+    };
+    let wanted = plain_rest(alloc, rows, bounds, u64::from(taken))?;
+    are_sizes(rt, alloc, rest, &wanted, "the rest", name)
+}
+
+/// What a plan says of a node, of which these are the parts, and of each node below it.
+#[cycle(nodes)]
+fn try_nodes(
     rt: &impl Abort,
     alloc: Global,
     plan: &Plan<u64>,
     number: PlanNode,
     node: &Node,
+    parts: &[Tree],
     pools: &Pools,
     meter: &mut Meter,
     name: &str,
-) -> Result<u32, Fail>
+) -> Result<(), Fail>
     requires { number < length (sites_of plan.now.root) }
 {
     try_leaf(rt, alloc, plan, number, node, pools, meter, name)?;
-    let parts = plain_parts(alloc, node, pools, u64::from(plan.limit()))?;
-    let wanted = counts(alloc, &parts)?;
-    are_sizes(rt, alloc, plan.sizes(number), &wanted, "the sizes", name)?;
-    match wanted.last() {
-        Some(most) => Ok(*most),
-        None => Ok(0),
-    }
-}
-
-/// The node in the first slot of a row, or of the items of a list.
-fn number_below(plan: &Plan<u64>, number: PlanNode, meter: &mut Meter) -> Option<PlanNode>
-    requires { number < length (sites_of plan.now.root) }
-    ensures { IfSome result (λ n. n < length (sites_of plan.now.root)) }
-{
-    match plan.sort(number) {
-        Sort::Row => slot_of(plan, number, 0, meter),
-        Sort::List => item_of(plan, number, 0, meter),
-        Sort::Leaf => None,
-    }
-}
-
-/// The node of the first field of an object, of the values of a map or of the items of a list.
-fn first_below(node: &Node) -> Option<&Node> {
+    is_size(rt, alloc, plan.sizes(number), parts, name)?;
     match &node.sort {
-        NodeSort::Object(object) => match object.fields.fields.as_slice() {
-            [first, ..] => Some(&first.node),
-            [] => None,
-        },
-        NodeSort::Map(map) => Some(node_below(&map.value)),
-        NodeSort::List(list) => Some(node_below(&list.item)),
-        NodeSort::Scalar(_) | NodeSort::Open => None,
+        NodeSort::Scalar(_) | NodeSort::Open => Ok(()),
+        NodeSort::Object(_) | NodeSort::Map(_) => try_row(
+            rt, alloc, plan, number, node, pools, meter, name,
+        ),
+        NodeSort::List(list) => {
+            try_more(rt, alloc, plan, number, parts, name)?;
+            let has_items = largest(parts) > 1;
+            try_items(
+                rt,
+                alloc,
+                plan,
+                number,
+                node_below(&list.item),
+                has_items,
+                pools,
+                meter,
+                name,
+            )
+        }
     }
 }
 
-/// What stands in the first slot of a node, or at each place of a list. There is something where a part has more than one node.
-fn try_below(
+#[cycle(nodes)]
+fn try_items(
+    rt: &impl Abort,
+    alloc: Global,
+    plan: &Plan<u64>,
+    number: PlanNode,
+    item: &Node,
+    has_items: bool,
+    pools: &Pools,
+    meter: &mut Meter,
+    name: &str,
+) -> Result<(), Fail>
+    requires { number < length (sites_of plan.now.root) }
+{
+    let found = item_of(plan, number, 0, meter);
+    holds(rt, found.is_some() == has_items, "an item", name);
+    let Some(below) = found else {
+        return Ok(());
+    };
+    let parts = plain_parts(alloc, item, pools, u64::from(plan.limit()))?;
+    try_nodes(rt, alloc, plan, below, item, &parts, pools, meter, name)
+}
+
+#[cycle(nodes)]
+fn try_row(
     rt: &impl Abort,
     alloc: Global,
     plan: &Plan<u64>,
@@ -321,37 +472,120 @@ fn try_below(
 ) -> Result<(), Fail>
     requires { number < length (sites_of plan.now.root) }
 {
-    let most = try_node(rt, alloc, plan, number, node, pools, meter, name)?;
-    let Some(node) = first_below(node) else {
-        return Ok(());
-    };
-    match number_below(plan, number, meter) {
-        Some(below) => {
-            try_node(rt, alloc, plan, below, node, pools, meter, name)?;
+    let slots = plain_slots(alloc, node, pools, u64::from(plan.limit()))?;
+    try_slots(rt, alloc, plan, number, node, &slots, pools, meter, name)
+}
+
+/// What a plan says of the slots of an object or a map: of each of an object, and of the first of a map.
+#[cycle(nodes)]
+fn try_slots(
+    rt: &impl Abort,
+    alloc: Global,
+    plan: &Plan<u64>,
+    number: PlanNode,
+    node: &Node,
+    slots: &[Choice],
+    pools: &Pools,
+    meter: &mut Meter,
+    name: &str,
+) -> Result<(), Fail>
+    requires { number < length (sites_of plan.now.root) }
+{
+    match &node.sort {
+        NodeSort::Object(object) => {
+            all_rests(rt, alloc, plan, number, object.bounds, slots, meter, name)?;
+            try_fields(
+                rt,
+                alloc,
+                plan,
+                number,
+                &object.fields,
+                slots,
+                pools,
+                meter,
+                name,
+            )
         }
-        None => holds(rt, most <= 1, "nothing below", name),
+        NodeSort::Map(map) => {
+            all_rests(rt, alloc, plan, number, map.bounds, slots, meter, name)?;
+            try_slot(
+                rt,
+                alloc,
+                plan,
+                number,
+                0,
+                node_below(&map.value),
+                slots.first(),
+                pools,
+                meter,
+                name,
+            )
+        }
+        NodeSort::Scalar(_) | NodeSort::Open | NodeSort::List(_) => Ok(()),
+    }
+}
+
+#[cycle(nodes)]
+fn try_fields(
+    rt: &impl Abort,
+    alloc: Global,
+    plan: &Plan<u64>,
+    number: PlanNode,
+    fields: &Fields,
+    slots: &[Choice],
+    pools: &Pools,
+    meter: &mut Meter,
+    name: &str,
+) -> Result<(), Fail>
+    requires { number < length (sites_of plan.now.root) }
+{
+    for (place, field) in fields.fields.iter().enumerate() {
+        try_slot(
+            rt,
+            alloc,
+            plan,
+            number,
+            place,
+            &field.node,
+            slots.get(place),
+            pools,
+            meter,
+            name,
+        )?;
     }
     Ok(())
 }
 
-/// The root, what stands in its first slot, and what stands below that.
-fn try_nodes(
+#[cycle(nodes)]
+fn try_slot(
     rt: &impl Abort,
     alloc: Global,
     plan: &Plan<u64>,
-    root: &Node,
+    number: PlanNode,
+    place: usize,
+    node: &Node,
+    slot: Option<&Choice>,
     pools: &Pools,
     meter: &mut Meter,
     name: &str,
-) -> Result<(), Fail> {
-    let number = plan.root();
-    try_node(rt, alloc, plan, number, root, pools, meter, name)?;
-    let Some(first) = first_below(root) else {
-        return Err(Fail::from("no field"));
-    };
-    match number_below(plan, number, meter) {
-        Some(slot) => try_below(rt, alloc, plan, slot, first, pools, meter, name),
-        None => Err(Fail::from("no slot")),
+) -> Result<(), Fail>
+    requires { number < length (sites_of plan.now.root) }
+{
+    let found = slot_of(plan, number, place_of(place), meter);
+    holds(rt, found.is_some() == slot.is_some(), "a slot", name);
+    match (found, slot) {
+        (Some(below), Some(slot)) => try_nodes(
+            rt,
+            alloc,
+            plan,
+            below,
+            node,
+            &slot.values,
+            pools,
+            meter,
+            name,
+        ),
+        _ => Ok(()),
     }
 }
 
@@ -382,18 +616,29 @@ fn try_samples(
     rt: &impl Abort,
     alloc: Global,
     plan: &Plan<u64>,
-    schema: &Schema,
-    pools: &Pools,
+    samples: &[Tree],
     meter: &mut Meter,
     name: &str,
 ) -> Result<(), Fail> {
-    let samples = plain_samples(alloc, schema, pools, plan.limit())?;
     holds(rt, samples.len() <= 5000, "few samples", name);
-    try_page(rt, alloc, plan, &[], &samples, 10000, meter, name)?;
+    try_page(rt, alloc, plan, &[], samples, 10000, meter, name)?;
     for place in 0..=samples.len() {
         let (before, next) = samples.split_at(place);
         try_page(rt, alloc, plan, before, next, 2, meter, name)?;
     }
+    Ok(())
+}
+
+fn try_width(
+    rt: &impl Abort,
+    alloc: Global,
+    plan: &Plan<u64>,
+    root: &Node,
+    pools: &Pools,
+    name: &str,
+) -> Result<(), Fail> {
+    let width = plain_width(alloc, root, pools)?;
+    is_number(rt, plan.width(), width, "the width", name);
     Ok(())
 }
 
@@ -406,10 +651,21 @@ fn try_given(
     meter: &mut Meter,
     name: &str,
 ) -> Result<(), Fail> {
-    let width = plain_width(alloc, schema.root(), pools)?;
-    is_number(rt, plan.width(), width, "the width", name);
-    try_samples(rt, alloc, plan, schema, pools, meter, name)?;
-    try_nodes(rt, alloc, plan, schema.root(), pools, meter, name)
+    let root = schema.root();
+    try_width(rt, alloc, plan, root, pools, name)?;
+    let samples = plain_samples(alloc, schema, pools, plan.limit())?;
+    try_samples(rt, alloc, plan, &samples, meter, name)?;
+    try_nodes(
+        rt,
+        alloc,
+        plan,
+        plan.root(),
+        root,
+        &samples,
+        pools,
+        meter,
+        name,
+    )
 }
 
 fn try_made(
@@ -427,7 +683,7 @@ fn try_made(
 }
 
 /// What a plan says of its nodes, against the plain reference.
-fn try_plan(
+pub fn try_plan(
     rt: &impl Abort,
     alloc: Global,
     schema: &str,
