@@ -5,11 +5,10 @@ ghost use Rattle.plan.specs.Samples.Candidates.{sort_of};
 ghost use Rattle.plan.specs.declared.sort.Sort.TheVariants as sort;
 
 use crate::documents::{
-    DEFAULTED, FIFTEEN, LABELS, LONG_MAP_LIST, MAP_LIST, NAMES, NULLABLE, OPEN, OPEN_NULLABLE,
-    REPEATED, SET, SPEC, TRUTHS, TWO_TEXTS, ZERO_AND_ONE, ZERO_AND_SEVEN,
+    DEFAULTED, FIFTEEN, LABELS, LONG_MAP_LIST, MAP_LIST, NAMES, NULLABLE, OPEN, REPEATED, SET,
+    SPEC, TRUTHS, TWO_TEXTS, ZERO_AND_ONE, ZERO_AND_SEVEN,
 };
-use crate::harness::{holds, is_number, is_said, is_tree, made, pools_of, schema_of};
-use jtree::Tree;
+use crate::harness::{holds, is_number, is_said, made, pools_of, schema_of};
 use plan::{Distinct, Meter, PFault, Plan, PlanNode, SizeSet, Sort};
 use schema::items_told_apart;
 use std::alloc::{AllocError, Global};
@@ -19,8 +18,6 @@ use stored::stored_by_parts;
 
 const THREE_KEYS: &str =
     r#"{"type":"object","properties":{"m":{"type":"array","x-kubernetes-list-type":"map","x-kubernetes-list-map-keys":["d","a","c"],"items":{"type":"object","properties":{"a":{"type":"integer"},"b":{"type":"string"},"c":{"type":"boolean"},"d":{"type":"string"}},"required":["a","c","d"]}}}}"#;
-
-const TREES: &str = r#"{"any":[null,{"q":1},"z",{"q":1}]}"#;
 
 const FOUR_NODES: &str = r#"{"any":[[1,2,3]]}"#;
 
@@ -107,282 +104,171 @@ pub fn are_sizes(
     Ok(())
 }
 
-// A name, a schema with its pools and limit, a node, and its sizes.
-static SIZES: [(&str, (&str, &str, u32), At, &[u32]); 21] = [
+// What is asked of a node: its sizes, what the slots from a place on can take behind so many filled ones, or what can follow
+// behind so many items.
+#[derive(Clone, Copy)]
+enum Asked {
+    Sizes,
+    Rest(u64, u32),
+    More(u32),
+}
+
+// A name, a schema with its pools and limit, a node, what is asked of it, and the sizes that are answered.
+static SIZES: [(&str, (&str, &str, u32), At, Asked, &[u32]); 22] = [
     (
-        "at least two of three truth values",
+        "the sizes of at least two of three truth values",
         (TRUTHS, "{}", 4),
         At::First,
+        Asked::Sizes,
         &[3, 4],
     ),
     (
-        "the root above truth values",
+        "the sizes of the root above truth values",
         (TRUTHS, "{}", 4),
         At::Root,
+        Asked::Sizes,
         &[1, 4],
     ),
     (
-        "a map list",
+        "the sizes of a map list",
         (MAP_LIST, TWO_TEXTS, 8),
         At::First,
+        Asked::Sizes,
         &[1, 3, 4, 5, 6, 7],
     ),
     (
-        "a map list of more items than keys",
+        "the sizes of a map list of more items than keys",
         (LONG_MAP_LIST, TWO_TEXTS, 63),
         At::First,
+        Asked::Sizes,
         &[],
     ),
     (
-        "the root above a list that cannot be",
+        "the sizes of the root above a list that cannot be",
         (LONG_MAP_LIST, TWO_TEXTS, 63),
         At::Root,
+        Asked::Sizes,
         &[1],
     ),
     (
-        "a root of one node",
-        (SPEC, ZERO_AND_ONE, 1),
-        At::Root,
-        &[1],
+        "the sizes of fifteen objects",
+        (FIFTEEN, "{}", 63),
+        At::First,
+        Asked::Sizes,
+        &[61],
     ),
-    ("fifteen objects", (FIFTEEN, "{}", 63), At::First, &[61]),
     (
-        "the root above fifteen objects",
+        "the sizes of the root above fifteen objects",
         (FIFTEEN, "{}", 63),
         At::Root,
+        Asked::Sizes,
         &[62],
     ),
-    ("a set", (SET, REPEATED, 4), At::First, &[1, 2, 3]),
     (
-        "a set with the highest limit",
+        "the sizes of a set with the highest limit",
         (SET, REPEATED, 63),
         At::First,
+        Asked::Sizes,
         &[1, 2, 3],
     ),
     (
-        "an object that may be null",
-        (NULLABLE, "{}", 2),
-        At::First,
-        &[1],
-    ),
-    (
-        "the root above an object that may be null",
-        (NULLABLE, "{}", 2),
-        At::Root,
-        &[1, 2],
-    ),
-    (
-        "an object with a default",
-        (DEFAULTED, ZERO_AND_SEVEN, 3),
-        At::First,
-        &[2],
-    ),
-    (
-        "the root above a default",
+        "the sizes of the root above a default",
         (DEFAULTED, ZERO_AND_SEVEN, 3),
         At::Root,
+        Asked::Sizes,
         &[1, 3],
     ),
     (
-        "a map over names with a repeat",
-        (LABELS, NAMES, 4),
-        At::First,
-        &[1, 2, 3],
-    ),
-    ("any value", (OPEN, TREES, 3), At::First, &[1, 2]),
-    (
-        "any value or null",
-        (OPEN_NULLABLE, TREES, 3),
-        At::First,
-        &[1, 2],
-    ),
-    (
-        "a value of more nodes than the limit",
+        "the sizes of a value of more nodes than the limit",
         (OPEN, FOUR_NODES, 2),
         At::First,
+        Asked::Sizes,
         &[],
     ),
-    ("an integer", (SPEC, ZERO_AND_ONE, 4), At::Slot(0), &[1]),
     (
-        "an integer without candidates",
+        "the sizes of an integer without candidates",
         (SPEC, "{}", 4),
         At::Slot(0),
+        Asked::Sizes,
         &[],
     ),
     (
-        "an object of a truth value alone",
-        (SPEC, "{}", 4),
+        "the rest behind no slot",
+        (TRUTHS, "{}", 4),
         At::First,
-        &[1, 2],
-    ),
-];
-
-fn try_sizes(
-    rt: &impl Abort,
-    alloc: Global,
-    plan: &Plan<u64>,
-    meter: &mut Meter,
-    at: At,
-    wanted: &[u32],
-    name: &str,
-) -> Result<(), Fail> {
-    let Some(node) = node_at(plan, at, meter) else {
-        holds(rt, false, "a node", name);
-        return Ok(());
-    };
-    are_sizes(rt, alloc, plan.sizes(node), wanted, "the sizes", name)
-}
-
-fn have_sizes(
-    rt: &impl Abort,
-    alloc: Global,
-    given: (&str, &str, u32),
-    at: At,
-    wanted: &[u32],
-    name: &str,
-) -> Result<(), Fail> {
-    let mut plan = plan_of(rt, alloc, given, name)?;
-    let mut meter = plan.meter();
-    try_sizes(rt, alloc, &plan, &mut meter, at, wanted, name)
-}
-
-#[test]
-fn sizes(rt: HostRuntime) -> Result<(), Fail> {
-    for (name, given, at, wanted) in &SIZES {
-        have_sizes(&rt, rt.alloc(), *given, *at, wanted, name)?;
-    }
-    Ok(())
-}
-
-// A name, a schema with its pools and limit, and the numbers of nodes of all objects that are stored as they are.
-static ENUMERATED: [(&str, (&str, &str, u32), &[u32]); 12] = [
-    (
-        "two optional fields of one object",
-        (
-            r#"{"type":"object","properties":{"a":{"type":"object","properties":{"x":{"type":"integer"},"y":{"type":"boolean"}}}}}"#,
-            r#"{"integers":[3]}"#,
-            4,
-        ),
-        &[1, 2, 3, 4],
-    ),
-    (
-        "a required field without candidates",
-        (
-            r#"{"type":"object","properties":{"a":{"type":"integer"},"b":{"type":"boolean"}},"required":["a"]}"#,
-            "{}",
-            6,
-        ),
-        &[],
-    ),
-    (
-        "bounds on an integer that leave one",
-        (
-            r#"{"type":"object","properties":{"a":{"type":"integer","minimum":2,"maximum":4}},"required":["a"]}"#,
-            r#"{"integers":[1,3,5]}"#,
-            6,
-        ),
-        &[2],
-    ),
-    (
-        "a map of maps",
-        (
-            r#"{"type":"object","properties":{"m":{"type":"object","additionalProperties":{"type":"object","minProperties":1,"additionalProperties":{"type":"boolean"}}}}}"#,
-            r#"{"names":["p","q"]}"#,
-            6,
-        ),
-        &[1, 2, 4, 5, 6],
-    ),
-    (
-        "a map of at least two members",
-        (
-            r#"{"type":"object","properties":{"m":{"type":"object","minProperties":2,"additionalProperties":{"type":"integer"}}},"required":["m"]}"#,
-            r#"{"names":["p","q","r"],"integers":[1]}"#,
-            6,
-        ),
-        &[4, 5],
-    ),
-    (
-        "a list of pairs",
-        (
-            r#"{"type":"object","properties":{"l":{"type":"array","items":{"type":"object","properties":{"a":{"type":"integer"},"b":{"type":"boolean"}},"required":["a","b"]},"x-kubernetes-list-type":"atomic"}}}"#,
-            r#"{"integers":[0]}"#,
-            6,
-        ),
-        &[1, 2, 5],
-    ),
-    (
-        "a set of two values",
-        (
-            r#"{"type":"object","properties":{"s":{"type":"array","items":{"type":"boolean"},"x-kubernetes-list-type":"set"}},"required":["s"]}"#,
-            "{}",
-            3,
-        ),
+        Asked::Rest(0, 0),
         &[2, 3],
     ),
     (
-        "a map list by two keys",
-        (
-            r#"{"type":"object","properties":{"m":{"type":"array","items":{"type":"object","properties":{"i":{"type":"integer"},"k":{"type":"boolean"}},"required":["i","k"]},"minItems":1,"x-kubernetes-list-type":"map","x-kubernetes-list-map-keys":["i","k"]}},"required":["m"]}"#,
-            r#"{"integers":[0]}"#,
-            6,
-        ),
-        &[5],
+        "the rest behind an empty slot",
+        (TRUTHS, "{}", 4),
+        At::First,
+        Asked::Rest(1, 0),
+        &[2],
     ),
     (
-        "open values of one and of four nodes",
-        (
-            r#"{"type":"object","properties":{"x":{"x-kubernetes-preserve-unknown-fields":true},"y":{"x-kubernetes-preserve-unknown-fields":true}}}"#,
-            r#"{"any":["t",{"a":[1,2]}]}"#,
-            5,
-        ),
-        &[1, 2, 3, 5],
+        "the rest behind a filled slot",
+        (TRUTHS, "{}", 4),
+        At::First,
+        Asked::Rest(1, 1),
+        &[1, 2],
     ),
     (
-        "a default beside an optional field",
-        (
-            r#"{"type":"object","properties":{"a":{"type":"integer","default":1},"b":{"type":"object","properties":{"c":{"type":"boolean"}},"required":["c"]}}}"#,
-            r#"{"integers":[1]}"#,
-            6,
-        ),
-        &[2, 4],
+        "the rest behind two empty slots",
+        (TRUTHS, "{}", 4),
+        At::First,
+        Asked::Rest(2, 0),
+        &[],
     ),
     (
-        "exactly one of three fields",
-        (
-            r#"{"type":"object","properties":{"o":{"type":"object","properties":{"a":{"type":"boolean"},"b":{"type":"object"},"c":{"type":"object","properties":{"d":{"type":"boolean"}},"required":["d"],"nullable":true}},"maxProperties":1,"minProperties":1}},"required":["o"]}"#,
-            "{}",
-            6,
-        ),
-        &[3, 4],
+        "the rest behind a filled slot of two",
+        (TRUTHS, "{}", 4),
+        At::First,
+        Asked::Rest(2, 1),
+        &[1],
     ),
     (
-        "a list of lists",
-        (
-            r#"{"type":"object","properties":{"s":{"type":"array","minItems":2,"items":{"type":"array","items":{"type":"boolean"},"maxItems":1}}},"required":["s"]}"#,
-            "{}",
-            6,
-        ),
-        &[4, 5, 6],
+        "the rest behind two filled slots of three",
+        (TRUTHS, "{}", 4),
+        At::First,
+        Asked::Rest(3, 2),
+        &[0],
     ),
-];
-
-#[test]
-fn sizes_of_all_objects(rt: HostRuntime) -> Result<(), Fail> {
-    for (name, given, wanted) in &ENUMERATED {
-        have_sizes(&rt, rt.alloc(), *given, At::Root, wanted, name)?;
-    }
-    Ok(())
-}
-
-// A name, a place of the slots of `o`, how many before it are filled, and the sizes that those from it on can take.
-static REST: [(&str, u64, u32, &[u32]); 7] = [
-    ("no slot", 0, 0, &[2, 3]),
-    ("an empty slot", 1, 0, &[2]),
-    ("a filled slot", 1, 1, &[1, 2]),
-    ("two empty slots", 2, 0, &[]),
-    ("a filled slot of two", 2, 1, &[1]),
-    ("two filled slots of three", 3, 2, &[0]),
-    ("a filled slot of three", 3, 1, &[]),
+    (
+        "the rest behind a filled slot of three",
+        (TRUTHS, "{}", 4),
+        At::First,
+        Asked::Rest(3, 1),
+        &[],
+    ),
+    (
+        "what can follow behind no item",
+        (MAP_LIST, TWO_TEXTS, 8),
+        At::First,
+        Asked::More(0),
+        &[0, 2, 3, 4, 5, 6],
+    ),
+    (
+        "what can follow behind one item",
+        (MAP_LIST, TWO_TEXTS, 8),
+        At::First,
+        Asked::More(1),
+        &[0, 2, 3],
+    ),
+    (
+        "what can follow behind two items",
+        (MAP_LIST, TWO_TEXTS, 8),
+        At::First,
+        Asked::More(2),
+        &[0],
+    ),
+    (
+        "what can follow behind three items",
+        (MAP_LIST, TWO_TEXTS, 8),
+        At::First,
+        Asked::More(3),
+        &[],
+    ),
 ];
 
 // The sizes that the slots of a row from a place on can take; none where there is no such place.
@@ -421,52 +307,6 @@ fn rest_at(
     }
 }
 
-fn try_rest(
-    rt: &impl Abort,
-    alloc: Global,
-    plan: &Plan<u64>,
-    meter: &mut Meter,
-    row: &(&str, u64, u32, &[u32]),
-) -> Result<(), Fail> {
-    let (name, place, taken, wanted) = *row;
-    let Some(node) = node_at(plan, At::First, meter) else {
-        holds(rt, false, "a node", name);
-        return Ok(());
-    };
-    let Some(rest) = rest_of(plan, node, place, taken, meter) else {
-        holds(rt, false, "a place", name);
-        return Ok(());
-    };
-    are_sizes(rt, alloc, rest, wanted, "the rest", name)
-}
-
-fn all_rests(
-    rt: &impl Abort,
-    alloc: Global,
-    plan: &Plan<u64>,
-    meter: &mut Meter,
-) -> Result<(), Fail> {
-    for row in &REST {
-        try_rest(rt, alloc, plan, meter, row)?;
-    }
-    Ok(())
-}
-
-#[test]
-fn rests(rt: HostRuntime) -> Result<(), Fail> {
-    let mut plan = made(rt.alloc(), (TRUTHS, "{}", 4))?;
-    let mut meter = plan.meter();
-    all_rests(&rt, rt.alloc(), &plan, &mut meter)
-}
-
-// A name, how many items there are, and the sizes that items behind them can take.
-static MORE: [(&str, u32, &[u32]); 4] = [
-    ("no item", 0, &[0, 2, 3, 4, 5, 6]),
-    ("one item", 1, &[0, 2, 3]),
-    ("two items", 2, &[0]),
-    ("three items", 3, &[]),
-];
-
 pub fn more_of(plan: &Plan<u64>, node: PlanNode, taken: u32) -> Option<u64>
     requires { node < length (sites_of plan.now.root) }
 {
@@ -476,122 +316,141 @@ pub fn more_of(plan: &Plan<u64>, node: PlanNode, taken: u32) -> Option<u64>
     }
 }
 
-fn try_more(
+fn try_sizes(
     rt: &impl Abort,
     alloc: Global,
     plan: &Plan<u64>,
     meter: &mut Meter,
-    row: &(&str, u32, &[u32]),
+    row: &(&str, (&str, &str, u32), At, Asked, &[u32]),
 ) -> Result<(), Fail> {
-    let (name, taken, wanted) = *row;
-    let Some(node) = node_at(plan, At::First, meter) else {
+    let (name, _given, at, asked, wanted) = *row;
+    let Some(node) = node_at(plan, at, meter) else {
         holds(rt, false, "a node", name);
         return Ok(());
     };
-    let Some(more) = more_of(plan, node, taken) else {
-        holds(rt, false, "a list", name);
+    let found = match asked {
+        Asked::Sizes => Some(plan.sizes(node)),
+        Asked::Rest(place, taken) => rest_of(plan, node, place, taken, meter),
+        Asked::More(taken) => more_of(plan, node, taken),
+    };
+    let Some(sizes) = found else {
+        holds(rt, false, "an answer", name);
         return Ok(());
     };
-    are_sizes(rt, alloc, more, wanted, "what can follow", name)
+    are_sizes(rt, alloc, sizes, wanted, "the sizes", name)
 }
 
-fn all_more(
+fn have_sizes(
     rt: &impl Abort,
     alloc: Global,
-    plan: &Plan<u64>,
-    meter: &mut Meter,
+    row: &(&str, (&str, &str, u32), At, Asked, &[u32]),
 ) -> Result<(), Fail> {
-    for row in &MORE {
-        try_more(rt, alloc, plan, meter, row)?;
+    let mut plan = plan_of(rt, alloc, row.1, row.0)?;
+    let mut meter = plan.meter();
+    try_sizes(rt, alloc, &plan, &mut meter, row)
+}
+
+#[test]
+fn sizes(rt: HostRuntime) -> Result<(), Fail> {
+    for row in &SIZES {
+        have_sizes(&rt, rt.alloc(), row)?;
     }
     Ok(())
 }
 
-#[test]
-fn more_items(rt: HostRuntime) -> Result<(), Fail> {
-    let mut plan = made(rt.alloc(), (MAP_LIST, TWO_TEXTS, 8))?;
-    let mut meter = plan.meter();
-    all_more(&rt, rt.alloc(), &plan, &mut meter)
-}
-
-// A name, a schema with its pools and limit, which items of the root's first slot may not stand together, and at how many
-// places there are items.
-static LISTS: [(&str, (&str, &str, u32), Distinct, u32); 4] = [
-    ("a map list", (MAP_LIST, TWO_TEXTS, 8), Distinct::Keys, 2),
-    ("a set", (SET, REPEATED, 4), Distinct::Whole, 2),
-    ("fifteen objects", (FIFTEEN, "{}", 63), Distinct::Free, 15),
+// A name, a schema with its pools and limit, a node, its sort, whether null is accepted there, and, of a list, which items may
+// not stand together.
+static SORTS: [(&str, (&str, &str, u32), At, Sort, bool, Option<Distinct>); 6] = [
     (
-        "a list that cannot be",
-        (LONG_MAP_LIST, TWO_TEXTS, 63),
-        Distinct::Keys,
-        0,
+        "an integer",
+        (SPEC, ZERO_AND_ONE, 4),
+        At::Slot(0),
+        Sort::Leaf,
+        false,
+        None,
+    ),
+    (
+        "an object that may be null",
+        (NULLABLE, "{}", 2),
+        At::First,
+        Sort::Row,
+        true,
+        None,
+    ),
+    (
+        "a map",
+        (LABELS, NAMES, 4),
+        At::First,
+        Sort::Row,
+        false,
+        None,
+    ),
+    (
+        "a map list",
+        (MAP_LIST, TWO_TEXTS, 8),
+        At::First,
+        Sort::List,
+        false,
+        Some(Distinct::Keys),
+    ),
+    (
+        "a set",
+        (SET, REPEATED, 4),
+        At::First,
+        Sort::List,
+        false,
+        Some(Distinct::Whole),
+    ),
+    (
+        "fifteen objects",
+        (FIFTEEN, "{}", 63),
+        At::First,
+        Sort::List,
+        false,
+        Some(Distinct::Free),
     ),
 ];
 
-fn has_items(
-    rt: &impl Abort,
-    plan: &Plan<u64>,
-    node: PlanNode,
-    count: u32,
-    meter: &mut Meter,
-    name: &str,
-)
-    requires { node < length (sites_of plan.now.root) }
-{
-    for place in 0..count {
-        let item = item_of(plan, node, place, meter);
-        assert!(rt; item.is_some(), "an item at {place} of {name}");
-    }
-    let behind = item_of(plan, node, count, meter);
-    holds(rt, behind.is_none(), "no item behind the last", name);
-}
-
-fn try_list(
+fn try_sort(
     rt: &impl Abort,
     plan: &Plan<u64>,
     meter: &mut Meter,
-    distinct: Distinct,
-    count: u32,
-    name: &str,
+    row: &(&str, (&str, &str, u32), At, Sort, bool, Option<Distinct>),
 ) {
-    let Some(node) = node_at(plan, At::First, meter) else {
+    let (name, _given, at, sort, nullable, distinct) = *row;
+    let Some(node) = node_at(plan, at, meter) else {
         holds(rt, false, "a node", name);
         return;
     };
-    assert_eq!(rt; plan.sort(node), Sort::List, "the sort of {name}");
-    assert_eq!(rt; plan.distinct(node), distinct, "the items of {name}");
-    has_items(rt, plan, node, count, meter, name);
+    assert_eq!(rt; plan.sort(node), sort, "the sort of {name}");
+    assert_eq!(rt; plan.null_ok(node), nullable, "null at {name}");
+    if let Some(distinct) = distinct {
+        assert_eq!(rt; plan.distinct(node), distinct, "the items of {name}");
+    }
 }
 
-fn is_list(
+fn is_sorted(
     rt: &impl Abort,
     alloc: Global,
-    row: &(&str, (&str, &str, u32), Distinct, u32),
+    row: &(&str, (&str, &str, u32), At, Sort, bool, Option<Distinct>),
 ) -> Result<(), Fail> {
-    let (name, given, distinct, count) = *row;
-    let mut plan = plan_of(rt, alloc, given, name)?;
+    let mut plan = plan_of(rt, alloc, row.1, row.0)?;
     let mut meter = plan.meter();
-    try_list(rt, &plan, &mut meter, distinct, count, name);
+    try_sort(rt, &plan, &mut meter, row);
     Ok(())
 }
 
 #[test]
-fn lists(rt: HostRuntime) -> Result<(), Fail> {
-    for row in &LISTS {
-        is_list(&rt, rt.alloc(), row)?;
+fn sorts(rt: HostRuntime) -> Result<(), Fail> {
+    for row in &SORTS {
+        is_sorted(&rt, rt.alloc(), row)?;
     }
     Ok(())
 }
 
 // A name, a schema with its pools and limit, a node, and the names of its slots, each with whether something must stand
 // there, whether it is a key, and how many tuples the keys behind it have.
-static SLOTS: [(&str, (&str, &str, u32), At, &[(&str, bool, bool, u64)]); 6] = [
-    (
-        "an item of a map list",
-        (MAP_LIST, TWO_TEXTS, 8),
-        At::Item,
-        &[("k", true, true, 1), ("v", false, false, 1)],
-    ),
+static SLOTS: [(&str, (&str, &str, u32), At, &[(&str, bool, bool, u64)]); 3] = [
     (
         "an item of a map list with three keys",
         (THREE_KEYS, TWO_TEXTS, 8),
@@ -615,22 +474,6 @@ static SLOTS: [(&str, (&str, &str, u32), At, &[(&str, bool, bool, u64)]); 6] = [
         At::First,
         &[("j", false, false, 1), ("k", false, false, 1)],
     ),
-    (
-        "required fields",
-        (FIFTEEN, "{}", 63),
-        At::Item,
-        &[
-            ("a", true, false, 1),
-            ("b", true, false, 1),
-            ("c", true, false, 1),
-        ],
-    ),
-    (
-        "an object without properties",
-        (NULLABLE, "{}", 2),
-        At::First,
-        &[],
-    ),
 ];
 
 // The name of a slot, whether something must stand there, whether it is a key, and the tuples of the keys behind it.
@@ -640,26 +483,28 @@ fn slot_parts<'a>(
     place: u64,
     meter: &mut Meter,
 ) -> Option<(&'a str, bool, bool, u64)>
-    requires node { node < length (sites_of plan.now.root) }
-    requires row { sort_of (site_at (sites_of plan.now.root) node).node ≡ sort.Row }
+    requires { node < length (sites_of plan.now.root) }
 {
-    match plan.slot(node, place, meter) {
-        Some(slot) => Some((slot.name, slot.must, slot.key, slot.later)),
-        None => None,
+    match plan.sort(node) {
+        Sort::Row => match plan.slot(node, place, meter) {
+            Some(slot) => Some((slot.name, slot.must, slot.key, slot.later)),
+            None => None,
+        },
+        Sort::Leaf | Sort::List => None,
     }
 }
 
-fn has_slots(
+fn try_slots(
     rt: &impl Abort,
     plan: &Plan<u64>,
-    node: PlanNode,
-    wanted: &[(&str, bool, bool, u64)],
     meter: &mut Meter,
-    name: &str,
-)
-    requires node { node < length (sites_of plan.now.root) }
-    requires row { sort_of (site_at (sites_of plan.now.root) node).node ≡ sort.Row }
-{
+    row: &(&str, (&str, &str, u32), At, &[(&str, bool, bool, u64)]),
+) {
+    let (name, _given, at, wanted) = *row;
+    let Some(node) = node_at(plan, at, meter) else {
+        holds(rt, false, "a node", name);
+        return;
+    };
     for (place, slot) in wanted.iter().enumerate() {
         let found = slot_parts(plan, node, place_of(place), meter);
         assert_eq!(rt; found, Some(*slot), "a slot of {name}");
@@ -668,33 +513,14 @@ fn has_slots(
     holds(rt, behind.is_none(), "no slot behind the last", name);
 }
 
-fn try_slots(
-    rt: &impl Abort,
-    plan: &Plan<u64>,
-    meter: &mut Meter,
-    at: At,
-    wanted: &[(&str, bool, bool, u64)],
-    name: &str,
-) {
-    let Some(node) = node_at(plan, at, meter) else {
-        holds(rt, false, "a node", name);
-        return;
-    };
-    match plan.sort(node) {
-        Sort::Row => has_slots(rt, plan, node, wanted, meter, name),
-        Sort::Leaf | Sort::List => holds(rt, false, "a row", name),
-    }
-}
-
 fn have_slots(
     rt: &impl Abort,
     alloc: Global,
     row: &(&str, (&str, &str, u32), At, &[(&str, bool, bool, u64)]),
 ) -> Result<(), Fail> {
-    let (name, given, at, wanted) = *row;
-    let mut plan = plan_of(rt, alloc, given, name)?;
+    let mut plan = plan_of(rt, alloc, row.1, row.0)?;
     let mut meter = plan.meter();
-    try_slots(rt, &plan, &mut meter, at, wanted, name);
+    try_slots(rt, &plan, &mut meter, row);
     Ok(())
 }
 
@@ -702,194 +528,6 @@ fn have_slots(
 fn slots(rt: HostRuntime) -> Result<(), Fail> {
     for row in &SLOTS {
         have_slots(&rt, rt.alloc(), row)?;
-    }
-    Ok(())
-}
-
-// A name, a schema with its pools and limit, a node, and its candidates in the tree order.
-static CANDIDATES: [(&str, (&str, &str, u32), At, &[&str]); 6] = [
-    (
-        "integers",
-        (SPEC, ZERO_AND_ONE, 4),
-        At::Slot(0),
-        &["0", "1"],
-    ),
-    (
-        "truth values",
-        (SPEC, ZERO_AND_ONE, 4),
-        At::Slot(1),
-        &["false", "true"],
-    ),
-    ("items of a set", (SET, REPEATED, 4), At::Item, &["1", "2"]),
-    (
-        "any value but null",
-        (OPEN, TREES, 3),
-        At::First,
-        &[r#""z""#, r#"{"q":1}"#],
-    ),
-    (
-        "any value or null",
-        (OPEN_NULLABLE, TREES, 3),
-        At::First,
-        &["null", r#""z""#, r#"{"q":1}"#],
-    ),
-    (
-        "a value of more nodes than the limit",
-        (OPEN, FOUR_NODES, 2),
-        At::First,
-        &["[1,2,3]"],
-    ),
-];
-
-fn is_candidate(
-    rt: &impl Abort,
-    alloc: Global,
-    found: Option<&Tree>,
-    wanted: &str,
-    name: &str,
-) -> Result<(), Fail> {
-    let Some(tree) = found else {
-        holds(rt, false, "a candidate", name);
-        return Ok(());
-    };
-    is_tree(rt, alloc, tree, wanted, "a candidate", name)
-}
-
-fn has_candidates(
-    rt: &impl Abort,
-    alloc: Global,
-    plan: &Plan<u64>,
-    node: PlanNode,
-    wanted: &[&str],
-    meter: &mut Meter,
-    name: &str,
-) -> Result<(), Fail>
-    requires node { node < length (sites_of plan.now.root) }
-    requires leaf { sort_of (site_at (sites_of plan.now.root) node).node ≡ sort.Leaf }
-{
-    let count = wanted.len();
-    is_number(rt, plan.count(node), count as u64, "the count", name);
-    for (place, text) in wanted.iter().enumerate() {
-        let found = plan.candidate(node, place_of(place), meter);
-        is_candidate(rt, alloc, found, text, name)?;
-    }
-    let behind = plan.candidate(node, place_of(count), meter);
-    holds(rt, behind.is_none(), "no candidate behind the last", name);
-    Ok(())
-}
-
-fn try_candidates(
-    rt: &impl Abort,
-    alloc: Global,
-    plan: &Plan<u64>,
-    meter: &mut Meter,
-    at: At,
-    wanted: &[&str],
-    name: &str,
-) -> Result<(), Fail> {
-    let Some(node) = node_at(plan, at, meter) else {
-        holds(rt, false, "a node", name);
-        return Ok(());
-    };
-    match plan.sort(node) {
-        Sort::Leaf => has_candidates(rt, alloc, plan, node, wanted, meter, name),
-        Sort::Row | Sort::List => {
-            holds(rt, false, "a leaf", name);
-            Ok(())
-        }
-    }
-}
-
-fn have_candidates(
-    rt: &impl Abort,
-    alloc: Global,
-    row: &(&str, (&str, &str, u32), At, &[&str]),
-) -> Result<(), Fail> {
-    let (name, given, at, wanted) = *row;
-    let mut plan = plan_of(rt, alloc, given, name)?;
-    let mut meter = plan.meter();
-    try_candidates(rt, alloc, &plan, &mut meter, at, wanted, name)
-}
-
-#[test]
-fn candidates(rt: HostRuntime) -> Result<(), Fail> {
-    for row in &CANDIDATES {
-        have_candidates(&rt, rt.alloc(), row)?;
-    }
-    Ok(())
-}
-
-// A name, a schema with its pools and limit, a node, its sort, and whether null is accepted there.
-static SORTS: [(&str, (&str, &str, u32), At, Sort, bool); 7] = [
-    (
-        "a root",
-        (SPEC, ZERO_AND_ONE, 4),
-        At::Root,
-        Sort::Row,
-        false,
-    ),
-    (
-        "an object",
-        (SPEC, ZERO_AND_ONE, 4),
-        At::First,
-        Sort::Row,
-        false,
-    ),
-    (
-        "an integer",
-        (SPEC, ZERO_AND_ONE, 4),
-        At::Slot(0),
-        Sort::Leaf,
-        false,
-    ),
-    (
-        "an object that may be null",
-        (NULLABLE, "{}", 2),
-        At::First,
-        Sort::Row,
-        true,
-    ),
-    ("a map", (LABELS, NAMES, 4), At::First, Sort::Row, false),
-    ("any value", (OPEN, TREES, 3), At::First, Sort::Leaf, false),
-    (
-        "any value or null",
-        (OPEN_NULLABLE, TREES, 3),
-        At::First,
-        Sort::Leaf,
-        true,
-    ),
-];
-
-fn try_sort(
-    rt: &impl Abort,
-    plan: &Plan<u64>,
-    meter: &mut Meter,
-    row: &(&str, (&str, &str, u32), At, Sort, bool),
-) {
-    let (name, _given, at, sort, nullable) = *row;
-    let Some(node) = node_at(plan, at, meter) else {
-        holds(rt, false, "a node", name);
-        return;
-    };
-    assert_eq!(rt; plan.sort(node), sort, "the sort of {name}");
-    assert_eq!(rt; plan.null_ok(node), nullable, "null at {name}");
-}
-
-fn is_sorted(
-    rt: &impl Abort,
-    alloc: Global,
-    row: &(&str, (&str, &str, u32), At, Sort, bool),
-) -> Result<(), Fail> {
-    let mut plan = plan_of(rt, alloc, row.1, row.0)?;
-    let mut meter = plan.meter();
-    try_sort(rt, &plan, &mut meter, row);
-    Ok(())
-}
-
-#[test]
-fn sorts(rt: HostRuntime) -> Result<(), Fail> {
-    for row in &SORTS {
-        is_sorted(&rt, rt.alloc(), row)?;
     }
     Ok(())
 }
@@ -908,22 +546,18 @@ static WIDTHS: [(&str, (&str, &str, u32), u64, u64); 4] = [
     ),
 ];
 
-fn has_width(rt: &impl Abort, plan: &Plan<u64>, row: &(&str, (&str, &str, u32), u64, u64)) {
-    let (name, _given, wanted, bound) = *row;
-    let width = plan.width();
-    is_number(rt, width, wanted, "the width", name);
-    let limit = plan.limit() as u64;
-    let found = limit.wrapping_add(1).wrapping_mul(width.wrapping_add(1));
-    is_number(rt, found.wrapping_mul(4), bound, "the bound", name);
-}
-
 fn try_width(
     rt: &impl Abort,
     alloc: Global,
     row: &(&str, (&str, &str, u32), u64, u64),
 ) -> Result<(), Fail> {
-    let plan = plan_of(rt, alloc, row.1, row.0)?;
-    has_width(rt, &plan, row);
+    let (name, given, wanted, bound) = *row;
+    let plan = plan_of(rt, alloc, given, name)?;
+    let width = plan.width();
+    is_number(rt, width, wanted, "the width", name);
+    let limit = plan.limit() as u64;
+    let found = limit.wrapping_add(1).wrapping_mul(width.wrapping_add(1));
+    is_number(rt, found.wrapping_mul(4), bound, "the bound", name);
     Ok(())
 }
 
@@ -936,12 +570,10 @@ fn widths(rt: HostRuntime) -> Result<(), Fail> {
 }
 
 // A name, a limit, and the limit of the plan, or the code of the fault.
-static LIMITS: [(&str, u32, &str); 6] = [
+static LIMITS: [(&str, u32, &str); 4] = [
     ("no node", 0, "P4"),
-    ("one node", 1, "1"),
     ("63 nodes", 63, "63"),
     ("64 nodes", 64, "P4"),
-    ("65 nodes", 65, "P4"),
     ("the highest number", 4_294_967_295, "P4"),
 ];
 
@@ -965,73 +597,6 @@ fn limits(rt: HostRuntime) -> Result<(), Fail> {
         let said = limit_said(rt.alloc(), *limit);
         is_said(&rt, said, wanted, "what is made", name)?;
     }
-    Ok(())
-}
-
-fn has_steps(rt: &impl Abort, meter: &Meter, wanted: u64, name: &str) {
-    is_number(rt, meter.steps(), wanted, "the steps", name);
-}
-
-// Asks for the candidates of the text at a place of an item: one that there is, and one that there is not.
-fn count_candidates(rt: &impl Abort, plan: &Plan<u64>, node: PlanNode, meter: &mut Meter)
-    requires { node < length (sites_of plan.now.root) }
-{
-    if let Sort::Leaf = plan.sort(node) {
-        let _ = plan.candidate(node, 0, meter);
-        has_steps(rt, meter, 4, "a candidate");
-        let _ = plan.candidate(node, 9, meter);
-        has_steps(rt, meter, 5, "no candidate");
-        let _ = plan.count(node);
-    }
-    has_steps(rt, meter, 5, "the count");
-}
-
-fn count_slots(rt: &impl Abort, plan: &Plan<u64>, item: PlanNode, meter: &mut Meter)
-    requires { item < length (sites_of plan.now.root) }
-{
-    let Some(slot) = slot_of(plan, item, 0, meter) else {
-        holds(rt, false, "a slot", "an item");
-        return;
-    };
-    has_steps(rt, meter, 3, "a slot of an item");
-    count_candidates(rt, plan, slot, meter);
-    let _ = slot_of(plan, item, 9, meter);
-    has_steps(rt, meter, 6, "no slot");
-    let _ = plan.sizes(item);
-    let _ = rest_of(plan, item, 0, 0, meter);
-    has_steps(rt, meter, 6, "the sizes and the rest");
-}
-
-fn count_items(rt: &impl Abort, plan: &Plan<u64>, list: PlanNode, meter: &mut Meter)
-    requires { list < length (sites_of plan.now.root) }
-{
-    let Some(item) = item_of(plan, list, 0, meter) else {
-        holds(rt, false, "an item", "a list");
-        return;
-    };
-    has_steps(rt, meter, 2, "an item");
-    count_slots(rt, plan, item, meter);
-    let _ = item_of(plan, list, 9, meter);
-    has_steps(rt, meter, 7, "no item");
-    let _ = more_of(plan, list, 0);
-    has_steps(rt, meter, 7, "what can follow");
-}
-
-fn count_steps(rt: &impl Abort, plan: &Plan<u64>, meter: &mut Meter) {
-    has_steps(rt, meter, 0, "a meter");
-    let Some(list) = node_at(plan, At::First, meter) else {
-        holds(rt, false, "a slot", "a root");
-        return;
-    };
-    has_steps(rt, meter, 1, "a slot");
-    count_items(rt, plan, list, meter);
-}
-
-#[test]
-fn steps(rt: HostRuntime) -> Result<(), Fail> {
-    let mut plan = plan_of(&rt, rt.alloc(), (MAP_LIST, TWO_TEXTS, 8), "a map list")?;
-    let mut meter = plan.meter();
-    count_steps(&rt, &plan, &mut meter);
     Ok(())
 }
 

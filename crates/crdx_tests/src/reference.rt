@@ -1,5 +1,5 @@
-//! All samples of a small plan, by the definitions alone: every value that can stand at a node is made, and what is stored is kept.
-//! It is slow, and of `plan` it uses nothing but the pools.
+//! All samples of a small plan, by the definitions alone: at each node every value over the parts below it is made, and what is
+//! stored is kept. It is slow, and of `plan` it uses nothing but the pools.
 ghost use Rattle.std.specs.Prelude.{◌≡◌, IsTrue};
 ghost use Rattle.jtree.specs.Data.{IsNameBefore};
 ghost use Rattle.schema.specs.Nodes.View.{node_of};
@@ -9,61 +9,52 @@ use plan::Pools;
 use schema::{Below, Bounds, Fields, Node, ScalarKind, ScalarNode, Sort};
 use std::alloc::Global;
 use std::test::Fail;
-use stored::{Schema, is_stored};
+use stored::is_stored;
 
-/// The samples of a schema over pools of at most `limit` nodes, in the tree order, each once.
-pub fn plain_samples(
-    alloc: Global,
-    schema: &Schema,
-    pools: &Pools,
-    limit: u32,
-) -> Result<Vec<Tree>, Fail> {
-    plain_parts(alloc, schema.root(), pools, u64::from(limit))
-}
-
-/// The parts of a node over pools of at most `limit` nodes, in the tree order, each once.
+/// The parts of a node over pools of at most `limit` nodes, in the tree order, each once: what is stored of the values that
+/// can stand there.
+#[cycle(parts)]
 pub fn plain_parts(
     alloc: Global,
     node: &Node,
     pools: &Pools,
     limit: u64,
 ) -> Result<Vec<Tree>, Fail> {
-    let mut parts = Vec::new(alloc);
-    for value in values_at(alloc, node, pools, limit)? {
-        if is_stored(node, &value) {
-            parts.push(value)?;
-        }
-    }
-    parts.sort_unstable();
-    parts.dedup();
-    Ok(parts)
-}
-
-/// The slots of an object or a map, or the candidates of another node that is no list: the most that one node has.
-#[cycle(width)]
-pub fn plain_width(alloc: Global, node: &Node, pools: &Pools) -> Result<u64, Fail> {
+    let mut values = Vec::new(alloc);
+    let room = limit.saturating_sub(1);
     match &node.sort {
-        Sort::Object(object) => fields_width(alloc, &object.fields, pools),
-        Sort::Map(map) => {
-            let names = names_of(alloc, pools)?;
-            let below = plain_width(alloc, node_below(&map.value), pools)?;
-            Ok(below.max(names.len() as u64))
+        Sort::Scalar(scalar) => push_scalars(alloc, &mut values, scalar, pools)?,
+        Sort::Open => push_copies(alloc, &mut values, pools.any())?,
+        Sort::Object(object) => {
+            let slots = field_slots(alloc, &object.fields, pools, room)?;
+            push_objects(alloc, &mut values, &slots, room)?;
         }
-        Sort::List(list) => plain_width(alloc, node_below(&list.item), pools),
-        Sort::Scalar(_) | Sort::Open => {
-            let parts = plain_parts(alloc, node, pools, u64::MAX)?;
-            Ok(parts.len() as u64)
+        Sort::Map(map) => {
+            let slots = name_slots(alloc, node_below(&map.value), pools, room)?;
+            push_objects(alloc, &mut values, &slots, room)?;
+        }
+        Sort::List(list) => {
+            let items = plain_parts(alloc, node_below(&list.item), pools, room)?;
+            push_lists(alloc, &mut values, &items, room)?;
         }
     }
+    if node.nullable {
+        values.push(Tree::Null)?;
+    }
+    stored_of(alloc, node, values, limit)
 }
 
-#[cycle(width)]
-fn fields_width(alloc: Global, fields: &Fields, pools: &Pools) -> Result<u64, Fail> {
-    let mut width = fields.fields.len() as u64;
-    for field in &fields.fields {
-        width = width.max(plain_width(alloc, &field.node, pools)?);
+/// Those of at most `limit` nodes that are stored.
+fn stored_of(alloc: Global, node: &Node, values: Vec<Tree>, limit: u64) -> Result<Vec<Tree>, Fail> {
+    let mut kept = Vec::new(alloc);
+    for value in values {
+        if value.nodes() <= limit && is_stored(node, &value) {
+            kept.push(value)?;
+        }
     }
-    Ok(width)
+    kept.sort_unstable();
+    kept.dedup();
+    Ok(kept)
 }
 
 /// The node below a map or a list.
@@ -96,6 +87,7 @@ pub fn plain_slots(
 }
 
 /// Something must stand under a field that is required or has a default.
+#[cycle(parts)]
 fn field_slots(
     alloc: Global,
     fields: &Fields,
@@ -112,6 +104,7 @@ fn field_slots(
     Ok(slots)
 }
 
+#[cycle(parts)]
 fn name_slots(alloc: Global, node: &Node, pools: &Pools, limit: u64) -> Result<Vec<Choice>, Fail> {
     let mut slots = Vec::new(alloc);
     for name in names_of(alloc, pools)? {
@@ -122,15 +115,24 @@ fn name_slots(alloc: Global, node: &Node, pools: &Pools, limit: u64) -> Result<V
     Ok(slots)
 }
 
-/// What may stand in these slots, of at most `limit` nodes together: none is left empty that must be filled.
-pub fn plain_rows(alloc: Global, slots: &[Choice], limit: u64) -> Result<Vec<Members>, Fail> {
-    let mut kept = Vec::new(alloc);
+/// The numbers of nodes of what may stand in these slots, of at most `limit` nodes together: none is left empty that must be
+/// filled, and with `taken` members more the bounds hold.
+pub fn plain_rest(
+    alloc: Global,
+    slots: &[Choice],
+    limit: u64,
+    bounds: Bounds,
+    taken: u64,
+) -> Result<Vec<u32>, Fail> {
+    let mut counts = Vec::new(alloc);
     for row in rows_of(alloc, slots, limit)? {
-        if is_filled(&row, slots) {
-            kept.push(row)?;
+        if is_filled(&row, slots) && is_within(&row, bounds, taken) {
+            counts.push(row.nodes().min(99) as u32)?;
         }
     }
-    Ok(kept)
+    counts.sort_unstable();
+    counts.dedup();
+    Ok(counts)
 }
 
 fn is_filled(row: &Members, slots: &[Choice]) -> bool {
@@ -142,25 +144,8 @@ fn is_filled(row: &Members, slots: &[Choice]) -> bool {
     true
 }
 
-/// The numbers of nodes of those rows with which, and with `taken` members more, the bounds hold.
-pub fn plain_rest(
-    alloc: Global,
-    rows: &[Members],
-    bounds: Bounds,
-    taken: u64,
-) -> Result<Vec<u32>, Fail> {
-    let mut counts = Vec::new(alloc);
-    for row in rows {
-        if is_within(bounds, taken.saturating_add(row.members.len() as u64)) {
-            counts.push(row.nodes().min(99) as u32)?;
-        }
-    }
-    counts.sort_unstable();
-    counts.dedup();
-    Ok(counts)
-}
-
-fn is_within(bounds: Bounds, count: u64) -> bool {
+fn is_within(row: &Members, bounds: Bounds, taken: u64) -> bool {
+    let count = taken.saturating_add(row.members.len() as u64);
     bounds.least.unwrap_or(0) <= count && count <= bounds.most.unwrap_or(u64::MAX)
 }
 
@@ -168,61 +153,15 @@ fn is_within(bounds: Bounds, count: u64) -> bool {
 pub fn plain_more(alloc: Global, parts: &[Tree], taken: u32) -> Result<Vec<u32>, Fail> {
     let mut counts = Vec::new(alloc);
     for part in parts {
-        if let Some(count) = nodes_behind(part, taken) {
-            counts.push(count)?;
+        if let Tree::List(list) = part {
+            if let Some(behind) = list.items.get(taken as usize..) {
+                counts.push(items_nodes(behind).min(99) as u32)?;
+            }
         }
     }
     counts.sort_unstable();
     counts.dedup();
     Ok(counts)
-}
-
-fn nodes_behind(part: &Tree, taken: u32) -> Option<u32> {
-    match part {
-        Tree::List(list) => match list.items.get(taken as usize..) {
-            Some(behind) => Some(items_nodes(behind).min(99) as u32),
-            None => None,
-        },
-        _ => None,
-    }
-}
-
-/// The values over pools of at most `limit` nodes that can stand at a node, stored or not.
-#[cycle(values)]
-fn values_at(alloc: Global, node: &Node, pools: &Pools, limit: u64) -> Result<Vec<Tree>, Fail> {
-    let mut values = Vec::new(alloc);
-    let room = limit.saturating_sub(1);
-    match &node.sort {
-        Sort::Scalar(scalar) => push_scalars(alloc, &mut values, scalar, pools)?,
-        Sort::Open => push_copies(alloc, &mut values, pools.any())?,
-        Sort::Object(object) => {
-            let choices = field_choices(alloc, &object.fields, pools, room)?;
-            push_objects(alloc, &mut values, &choices, room)?;
-        }
-        Sort::Map(map) => {
-            let choices = name_choices(alloc, node_below(&map.value), pools, room)?;
-            push_objects(alloc, &mut values, &choices, room)?;
-        }
-        Sort::List(list) => {
-            let items = values_at(alloc, node_below(&list.item), pools, room)?;
-            push_lists(alloc, &mut values, &items, room)?;
-        }
-    }
-    if node.nullable {
-        values.push(Tree::Null)?;
-    }
-    within(alloc, values, limit)
-}
-
-/// Those of at most `limit` nodes.
-fn within(alloc: Global, trees: Vec<Tree>, limit: u64) -> Result<Vec<Tree>, Fail> {
-    let mut kept = Vec::new(alloc);
-    for tree in trees {
-        if tree.nodes() <= limit {
-            kept.push(tree)?;
-        }
-    }
-    Ok(kept)
 }
 
 fn push_copies(alloc: Global, values: &mut Vec<Tree>, trees: &[Tree]) -> Result<(), Fail> {
@@ -242,7 +181,11 @@ fn push_scalars(
         return push_copies(alloc, values, &choices.items);
     }
     match scalar.kind {
-        ScalarKind::Boolean => push_truths(values),
+        ScalarKind::Boolean => {
+            values.push(Tree::Bool(false))?;
+            values.push(Tree::Bool(true))?;
+            Ok(())
+        }
         ScalarKind::Integer => push_integers(values, pools),
         ScalarKind::String => push_strings(alloc, values, pools),
         ScalarKind::IntOrString => {
@@ -250,12 +193,6 @@ fn push_scalars(
             push_strings(alloc, values, pools)
         }
     }
-}
-
-fn push_truths(values: &mut Vec<Tree>) -> Result<(), Fail> {
-    values.push(Tree::Bool(false))?;
-    values.push(Tree::Bool(true))?;
-    Ok(())
 }
 
 fn push_integers(values: &mut Vec<Tree>, pools: &Pools) -> Result<(), Fail> {
@@ -270,34 +207,6 @@ fn push_strings(alloc: Global, values: &mut Vec<Tree>, pools: &Pools) -> Result<
         values.push(Tree::Text(text.copy(alloc)?))?;
     }
     Ok(())
-}
-
-#[cycle(values)]
-fn field_choices(
-    alloc: Global,
-    fields: &Fields,
-    pools: &Pools,
-    room: u64,
-) -> Result<Vec<Choice>, Fail> {
-    let mut choices = Vec::new(alloc);
-    for field in &fields.fields {
-        let values = values_at(alloc, &field.node, pools, room)?;
-        let name = field.name.copy(alloc)?;
-        let must = false;
-        choices.push(Choice { name, must, values })?;
-    }
-    Ok(choices)
-}
-
-#[cycle(values)]
-fn name_choices(alloc: Global, node: &Node, pools: &Pools, room: u64) -> Result<Vec<Choice>, Fail> {
-    let mut choices = Vec::new(alloc);
-    for name in names_of(alloc, pools)? {
-        let values = values_at(alloc, node, pools, room)?;
-        let must = false;
-        choices.push(Choice { name, must, values })?;
-    }
-    Ok(choices)
 }
 
 /// The names of the pools, by bytes, each once.
@@ -403,18 +312,14 @@ fn push_lists(
     items: &[Tree],
     room: u64,
 ) -> Result<(), Fail> {
-    for list in lists_of(alloc, items, room)? {
-        values.push(Tree::List(list))?;
-    }
-    Ok(())
-}
-
-fn lists_of(alloc: Global, items: &[Tree], room: u64) -> Result<Vec<Items>, Fail> {
     let mut lists = Vec::new(alloc);
     for most in 0..room.saturating_add(1) {
         lists = longer_lists(alloc, items, &lists, most)?;
     }
-    Ok(lists)
+    for list in lists {
+        values.push(Tree::List(list))?;
+    }
+    Ok(())
 }
 
 /// The empty list, and each of the lists with each item in front of it, where there is room.

@@ -4,13 +4,11 @@ use crate::documents::{
     SET, SPEC, TEN_LINES, TRUTHS, TWO_TEXTS, ZERO_AND_ONE, ZERO_AND_SEVEN,
 };
 use crate::fakes::FailingSink;
-use crate::harness::{holds, is_number, is_said, made, pools_of, schema_of};
+use crate::harness::{is_number, is_said, is_tree, pools_of, schema_of};
 use crate::page_rows::{REQUIRED_LONG_MAP_LIST, lines_of, walked};
-use crate::reference::plain_samples;
+use crate::reference::plain_parts;
 use crate::small_plans::try_plan;
-use enumerate::page;
 use jtree::Tree;
-use plan::{Meter, Plan};
 use std::alloc::Global;
 use std::process::Abort;
 use std::test::Fail;
@@ -176,10 +174,17 @@ static SAMPLES: [(&str, (&str, &str, u32), &str); 16] = [
     ),
 ];
 
+// A name, and the schema of a map list of more items than keys.
+static LONG_LISTS: [(&str, &str); 2] = [
+    ("a list that cannot be", LONG_MAP_LIST),
+    ("a required list that cannot be", REQUIRED_LONG_MAP_LIST),
+];
+
 fn listed(alloc: Global, given: (&str, &str, u32)) -> Result<Vec<Tree>, Fail> {
     let (schema, pools, limit) = given;
     let pools = pools_of(alloc, pools)?;
-    plain_samples(alloc, &schema_of(alloc, schema)?, &pools, limit)
+    let schema = schema_of(alloc, schema)?;
+    plain_parts(alloc, schema.root(), &pools, u64::from(limit))
 }
 
 /// The lines of all samples, by the plain reference.
@@ -243,25 +248,10 @@ fn plans_at_each_limit(rt: HostRuntime) -> Result<(), Fail> {
     for (name, given, _lines) in &SAMPLES {
         are_plain(&rt, rt.alloc(), given.0, given.1, name)?;
     }
+    for (name, schema) in &LONG_LISTS {
+        are_plain(&rt, rt.alloc(), schema, TWO_TEXTS, name)?;
+    }
     Ok(())
-}
-
-#[test]
-fn plans_of_long_lists(rt: HostRuntime) -> Result<(), Fail> {
-    are_plain(
-        &rt,
-        rt.alloc(),
-        LONG_MAP_LIST,
-        TWO_TEXTS,
-        "a list that cannot be",
-    )?;
-    are_plain(
-        &rt,
-        rt.alloc(),
-        REQUIRED_LONG_MAP_LIST,
-        TWO_TEXTS,
-        "a required list that cannot be",
-    )
 }
 
 fn of_nodes(samples: &[Tree], nodes: u64) -> u64 {
@@ -274,57 +264,27 @@ fn of_nodes(samples: &[Tree], nodes: u64) -> u64 {
     count
 }
 
-fn first_of_nodes(alloc: Global, samples: &[Tree], nodes: u64) -> Result<String, Fail> {
-    for sample in samples {
-        if sample.nodes() == nodes {
-            return Ok(sample.to_text(alloc)?);
-        }
-    }
-    Err(Fail::from("no sample of so many nodes"))
-}
-
-/// Of 74 samples 48 have nine nodes.
+/// Of 74 samples 48 have nine nodes, and stand behind the others.
 fn are_many(rt: &impl Abort, alloc: Global, samples: &[Tree], name: &str) -> Result<(), Fail> {
     is_number(rt, samples.len() as u64, 74, "the number", name);
     is_number(rt, of_nodes(samples, 9), 48, "nine nodes", name);
+    let Some(first) = samples.get(26) else {
+        return Err(Fail::from("no sample of nine nodes"));
+    };
     let wanted = r#"{"m":[{"a":0,"c":0},{"a":0,"b":false,"c":1}]}"#;
-    let first = first_of_nodes(alloc, samples, 9);
-    is_said(rt, first, wanted, "the first of nine nodes", name)
-}
-
-/// One page has these samples, and no other one is left.
-fn are_paged(
-    rt: &impl Abort,
-    alloc: Global,
-    plan: &Plan<u64>,
-    samples: &[Tree],
-    meter: &mut Meter,
-) -> Result<(), Fail> {
-    let page = page(alloc, plan, None, 100, meter)?;
-    holds(
-        rt,
-        page.items.as_slice() == samples,
-        "a page",
-        "many samples",
-    );
-    holds(rt, page.end, "the end", "many samples");
-    Ok(())
-}
-
-fn try_many(
-    rt: &impl Abort,
-    alloc: Global,
-    plan: &Plan<u64>,
-    meter: &mut Meter,
-) -> Result<(), Fail> {
-    let samples = listed(alloc, (TWO_INTEGER_KEYS, ZERO_AND_ONE, 9))?;
-    are_many(rt, alloc, &samples, "many samples")?;
-    are_paged(rt, alloc, plan, &samples, meter)
+    is_tree(rt, alloc, first, wanted, "the first of nine nodes", name)
 }
 
 #[test]
 fn many_samples(rt: HostRuntime) -> Result<(), Fail> {
-    let mut plan = made(rt.alloc(), (TWO_INTEGER_KEYS, ZERO_AND_ONE, 9))?;
-    let mut meter = plan.meter();
-    try_many(&rt, rt.alloc(), &plan, &mut meter)
+    let samples = listed(rt.alloc(), (TWO_INTEGER_KEYS, ZERO_AND_ONE, 9))?;
+    are_many(&rt, rt.alloc(), &samples, "many samples")?;
+    is_plain(
+        &rt,
+        rt.alloc(),
+        TWO_INTEGER_KEYS,
+        ZERO_AND_ONE,
+        9,
+        "many samples",
+    )
 }

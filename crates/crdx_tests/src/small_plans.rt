@@ -6,12 +6,9 @@ ghost use Rattle.plan.specs.declared.sort.Sort.TheVariants as sort;
 
 use crate::harness::{holds, is_number, made, pools_of, schema_of};
 use crate::plan_rows::{are_sizes, item_of, more_of, place_of, rest_of, slot_of};
-use crate::reference::{
-    Choice, node_below, plain_more, plain_parts, plain_rest, plain_rows, plain_samples,
-    plain_slots, plain_width,
-};
+use crate::reference::{Choice, node_below, plain_more, plain_parts, plain_rest, plain_slots};
 use enumerate::page;
-use jtree::{Members, Tree};
+use jtree::Tree;
 use plan::{Meter, Plan, PlanNode, Pools, Sort};
 use schema::{Bounds, Fields, Node, Sort as NodeSort};
 use std::alloc::Global;
@@ -194,16 +191,6 @@ const POOLS: &str =
 const FEW: &str =
     r#"{"any":[[true,[]],false],"integers":[7],"names":["p","a/b"],"strings":["bb"]}"#;
 
-// The numbers of nodes of trees in order, each once.
-fn counts(alloc: Global, trees: &[Tree]) -> Result<Vec<u32>, Fail> {
-    let mut counts = Vec::new(alloc);
-    for tree in trees {
-        counts.push(tree.nodes().min(99) as u32)?;
-    }
-    counts.dedup();
-    Ok(counts)
-}
-
 fn is_same(found: Option<&Tree>, wanted: &Tree) -> bool {
     match found {
         Some(tree) => *tree == *wanted,
@@ -232,13 +219,6 @@ fn are_candidates(
     holds(rt, behind.is_none(), "no candidate behind the last", name);
 }
 
-fn is_leaf(node: &Node) -> bool {
-    match &node.sort {
-        NodeSort::Scalar(_) | NodeSort::Open => true,
-        NodeSort::Object(_) | NodeSort::Map(_) | NodeSort::List(_) => false,
-    }
-}
-
 /// The candidates of a leaf are all parts, also those of more nodes than the limit.
 fn try_leaf(
     rt: &impl Abort,
@@ -253,23 +233,15 @@ fn try_leaf(
     requires { number < length (sites_of plan.now.root) }
 {
     if let Sort::Leaf = plan.sort(number) {
-        holds(rt, is_leaf(node), "no leaf", name);
         let parts = plain_parts(alloc, node, pools, u64::MAX)?;
         are_candidates(rt, plan, number, &parts, meter, name);
     } else {
-        holds(rt, !is_leaf(node), "a leaf", name);
+        holds(rt, false, "a leaf", name);
     }
     Ok(())
 }
 
-/// The number of nodes of the largest of these parts, and 0 where there is none.
-fn largest(parts: &[Tree]) -> u64 {
-    match parts.last() {
-        Some(part) => part.nodes(),
-        None => 0,
-    }
-}
-
+/// The sizes are the numbers of nodes of these trees in order.
 fn is_size(
     rt: &impl Abort,
     alloc: Global,
@@ -277,7 +249,11 @@ fn is_size(
     parts: &[Tree],
     name: &str,
 ) -> Result<(), Fail> {
-    let wanted = counts(alloc, parts)?;
+    let mut wanted = Vec::new(alloc);
+    for part in parts {
+        wanted.push(part.nodes().min(99) as u32)?;
+    }
+    wanted.dedup();
     are_sizes(rt, alloc, sizes, &wanted, "the sizes", name)
 }
 
@@ -356,44 +332,15 @@ fn rests_at(
 ) -> Result<(), Fail>
     requires { number < length (sites_of plan.now.root) }
 {
-    let rows = plain_rows(alloc, behind, u64::from(plan.limit()))?;
-    rests_with(rt, alloc, plan, number, bounds, &rows, place, meter, name)
-}
-
-fn rests_with(
-    rt: &impl Abort,
-    alloc: Global,
-    plan: &Plan<u64>,
-    number: PlanNode,
-    bounds: Bounds,
-    rows: &[Members],
-    place: u64,
-    meter: &mut Meter,
-    name: &str,
-) -> Result<(), Fail>
-    requires { number < length (sites_of plan.now.root) }
-{
     for taken in 0..=place.min(99) as u32 {
-        let found = rest_of(plan, number, place, taken, meter);
-        is_rest(rt, alloc, found, rows, bounds, taken, name)?;
+        let Some(rest) = rest_of(plan, number, place, taken, meter) else {
+            return Err(Fail::from("no place"));
+        };
+        let limit = u64::from(plan.limit());
+        let wanted = plain_rest(alloc, behind, limit, bounds, u64::from(taken))?;
+        are_sizes(rt, alloc, rest, &wanted, "the rest", name)?;
     }
     Ok(())
-}
-
-fn is_rest(
-    rt: &impl Abort,
-    alloc: Global,
-    found: Option<u64>,
-    rows: &[Members],
-    bounds: Bounds,
-    taken: u32,
-    name: &str,
-) -> Result<(), Fail> {
-    let Some(rest) = found else {
-        return Err(Fail::from("no place"));
-    };
-    let wanted = plain_rest(alloc, rows, bounds, u64::from(taken))?;
-    are_sizes(rt, alloc, rest, &wanted, "the rest", name)
 }
 
 /// What a plan says of a node, of which these are the parts, and of each node below it.
@@ -411,16 +358,20 @@ fn try_nodes(
 ) -> Result<(), Fail>
     requires { number < length (sites_of plan.now.root) }
 {
-    try_leaf(rt, alloc, plan, number, node, pools, meter, name)?;
     is_size(rt, alloc, plan.sizes(number), parts, name)?;
     match &node.sort {
-        NodeSort::Scalar(_) | NodeSort::Open => Ok(()),
+        NodeSort::Scalar(_) | NodeSort::Open => try_leaf(
+            rt, alloc, plan, number, node, pools, meter, name,
+        ),
         NodeSort::Object(_) | NodeSort::Map(_) => try_row(
             rt, alloc, plan, number, node, pools, meter, name,
         ),
         NodeSort::List(list) => {
             try_more(rt, alloc, plan, number, parts, name)?;
-            let has_items = largest(parts) > 1;
+            let has_items = match parts.last() {
+                Some(part) => part.nodes() > 1,
+                None => false,
+            };
             try_items(
                 rt,
                 alloc,
@@ -459,6 +410,7 @@ fn try_items(
     try_nodes(rt, alloc, plan, below, item, &parts, pools, meter, name)
 }
 
+/// What a plan says of the slots of an object or a map: of each of an object, and of the first of a map.
 #[cycle(nodes)]
 fn try_row(
     rt: &impl Abort,
@@ -473,41 +425,23 @@ fn try_row(
     requires { number < length (sites_of plan.now.root) }
 {
     let slots = plain_slots(alloc, node, pools, u64::from(plan.limit()))?;
-    try_slots(rt, alloc, plan, number, node, &slots, pools, meter, name)
-}
-
-/// What a plan says of the slots of an object or a map: of each of an object, and of the first of a map.
-#[cycle(nodes)]
-fn try_slots(
-    rt: &impl Abort,
-    alloc: Global,
-    plan: &Plan<u64>,
-    number: PlanNode,
-    node: &Node,
-    slots: &[Choice],
-    pools: &Pools,
-    meter: &mut Meter,
-    name: &str,
-) -> Result<(), Fail>
-    requires { number < length (sites_of plan.now.root) }
-{
     match &node.sort {
         NodeSort::Object(object) => {
-            all_rests(rt, alloc, plan, number, object.bounds, slots, meter, name)?;
+            all_rests(rt, alloc, plan, number, object.bounds, &slots, meter, name)?;
             try_fields(
                 rt,
                 alloc,
                 plan,
                 number,
                 &object.fields,
-                slots,
+                &slots,
                 pools,
                 meter,
                 name,
             )
         }
         NodeSort::Map(map) => {
-            all_rests(rt, alloc, plan, number, map.bounds, slots, meter, name)?;
+            all_rests(rt, alloc, plan, number, map.bounds, &slots, meter, name)?;
             try_slot(
                 rt,
                 alloc,
@@ -629,19 +563,6 @@ fn try_samples(
     Ok(())
 }
 
-fn try_width(
-    rt: &impl Abort,
-    alloc: Global,
-    plan: &Plan<u64>,
-    root: &Node,
-    pools: &Pools,
-    name: &str,
-) -> Result<(), Fail> {
-    let width = plain_width(alloc, root, pools)?;
-    is_number(rt, plan.width(), width, "the width", name);
-    Ok(())
-}
-
 fn try_given(
     rt: &impl Abort,
     alloc: Global,
@@ -652,8 +573,7 @@ fn try_given(
     name: &str,
 ) -> Result<(), Fail> {
     let root = schema.root();
-    try_width(rt, alloc, plan, root, pools, name)?;
-    let samples = plain_samples(alloc, schema, pools, plan.limit())?;
+    let samples = plain_parts(alloc, root, pools, u64::from(plan.limit()))?;
     try_samples(rt, alloc, plan, &samples, meter, name)?;
     try_nodes(
         rt,
