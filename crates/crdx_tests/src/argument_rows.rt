@@ -121,7 +121,7 @@ static MISTAKES: [(&str, &str, &str); 16] = [
 ];
 
 // A name, a command line, and a line of the help, or the version. The status is 0.
-static HELP: [(&str, &str, &str); 11] = [
+static HELP: [(&str, &str, &str); 18] = [
     ("an option", "crdx --help", "Usage: crdx <COMMAND>\n"),
     ("a command", "crdx help", "Usage: crdx <COMMAND>\n"),
     (
@@ -159,6 +159,37 @@ static HELP: [(&str, &str, &str); 11] = [
         "crdx default -h",
         "Usage: crdx default <CRD> <VERSION> [OBJECT]\n",
     ),
+    ("a short option alone", "crdx -h", "Usage: crdx <COMMAND>\n"),
+    (
+        "a short option of a sample",
+        "crdx sample -h",
+        "Usage: crdx sample [OPTIONS] <CRD> <VERSION>\n",
+    ),
+    (
+        "an option of a check",
+        "crdx check --help",
+        "Usage: crdx check <CRD> <VERSION>\n",
+    ),
+    (
+        "a short option of a validation",
+        "crdx validate -h",
+        "Usage: crdx validate <CRD> <VERSION> [OBJECT]\n",
+    ),
+    (
+        "an option of pruning",
+        "crdx prune --help",
+        "Usage: crdx prune <CRD> <VERSION> [OBJECT]\n",
+    ),
+    (
+        "a short option of pruning",
+        "crdx prune -h",
+        "Usage: crdx prune <CRD> <VERSION> [OBJECT]\n",
+    ),
+    (
+        "an option of defaulting",
+        "crdx default --help",
+        "Usage: crdx default <CRD> <VERSION> [OBJECT]\n",
+    ),
     ("the version", "crdx --version", "crdx 0.1.0\n"),
     ("the version, for short", "bin/crdx_cli -V", "crdx 0.1.0\n"),
 ];
@@ -175,64 +206,43 @@ static NUMBERS: [&str; 31] = [
     "F10", "F11", "F12", "F13", "F14",
 ];
 
-// Command lines whose help is shown on a screen of 80 columns.
-static SHOWN: [&str; 12] = [
-    "crdx -h",
-    "crdx --help",
-    "crdx check -h",
-    "crdx check --help",
-    "crdx validate -h",
-    "crdx validate --help",
-    "crdx prune -h",
-    "crdx prune --help",
-    "crdx default -h",
-    "crdx default --help",
-    "crdx sample -h",
-    "crdx sample --help",
-];
-
-fn said_of_sample(alloc: Global, asked: &SampleArguments<'_>) -> Result<String, AllocError> {
-    let SampleArguments {
-        crd,
-        version,
-        pools,
-        after,
-        name,
-        limit,
-        count,
-    } = asked;
-    let pools = pools.unwrap_or("-");
-    let after = after.unwrap_or("-");
-    let name = name.unwrap_or("-");
-    format!(in alloc; "sample {crd} {version} {pools} {after} {name} {limit} {count}")
-}
-
-fn said_of_check(alloc: Global, asked: &CheckArguments<'_>) -> Result<String, AllocError> {
-    let CheckArguments { crd, version } = asked;
-    format!(in alloc; "check {crd} {version}")
-}
-
-fn said_of_object(alloc: Global, asked: &ObjectArguments<'_>) -> Result<String, AllocError> {
-    let ObjectArguments {
-        command,
-        crd,
-        version,
-        object,
-    } = asked;
-    let command = match command {
-        ObjectCommand::Validate => "validate",
-        ObjectCommand::Prune => "prune",
-        ObjectCommand::Default => "default",
-    };
-    let object = object.unwrap_or("-");
-    format!(in alloc; "{command} {crd} {version} {object}")
-}
-
 fn said(alloc: Global, request: &Request<'_>) -> Result<String, AllocError> {
     match request {
-        Request::Sample(asked) => said_of_sample(alloc, asked),
-        Request::Check(asked) => said_of_check(alloc, asked),
-        Request::Object(asked) => said_of_object(alloc, asked),
+        Request::Sample(
+            SampleArguments {
+                crd,
+                version,
+                pools,
+                after,
+                name,
+                limit,
+                count,
+            },
+        ) => {
+            let pools = pools.unwrap_or("-");
+            let after = after.unwrap_or("-");
+            let name = name.unwrap_or("-");
+            format!(in alloc; "sample {crd} {version} {pools} {after} {name} {limit} {count}")
+        }
+        Request::Check(CheckArguments { crd, version }) => {
+            format!(in alloc; "check {crd} {version}")
+        }
+        Request::Object(
+            ObjectArguments {
+                command,
+                crd,
+                version,
+                object,
+            },
+        ) => {
+            let command = match command {
+                ObjectCommand::Validate => "validate",
+                ObjectCommand::Prune => "prune",
+                ObjectCommand::Default => "default",
+            };
+            let object = object.unwrap_or("-");
+            format!(in alloc; "{command} {crd} {version} {object}")
+        }
         _ => String::from_str(alloc, "another request"),
     }
 }
@@ -242,15 +252,10 @@ fn asked(alloc: Global, line: &str) -> Result<String, Fail> {
     Ok(said(alloc, &parse_arguments(alloc, words.as_slice()))?)
 }
 
-fn try_request(rt: &impl Abort, alloc: Global, row: &(&str, &str, &str)) -> Result<(), Fail> {
-    let (name, line, wanted) = *row;
-    is_said(rt, asked(alloc, line), wanted, "what is asked", name)
-}
-
 #[test]
 fn requests(rt: HostRuntime) -> Result<(), Fail> {
-    for row in &REQUESTS {
-        try_request(&rt, rt.alloc(), row)?;
+    for (name, line, wanted) in &REQUESTS {
+        is_said(&rt, asked(rt.alloc(), line), wanted, "what is asked", name)?;
     }
     Ok(())
 }
@@ -267,37 +272,43 @@ fn is_mistaken(rt: &impl Abort, output: &Output, wanted: &str, name: &str) {
     is_number(rt, output.status as u64, 2, "the status", name);
 }
 
-fn try_mistake(rt: &impl Abort, alloc: Global, row: &(&str, &str, &str)) -> Result<(), AllocError> {
-    let (name, line, wanted) = *row;
-    is_mistaken(rt, &run_of(alloc, line)?, wanted, name);
-    Ok(())
-}
-
-#[test]
-fn mistakes(rt: HostRuntime) -> Result<(), Fail> {
-    for row in &MISTAKES {
-        try_mistake(&rt, rt.alloc(), row)?;
-    }
-    Ok(())
-}
-
+// The help fits 80 columns.
 fn is_helped(rt: &impl Abort, output: &Output, wanted: &str, name: &str) {
     let out = output.out.text();
     assert!(rt; out.contains(wanted), "standard output of {name}: {out}");
+    for line in out.lines() {
+        assert!(rt;
+            line.chars().count() <= 80,
+            "a line of more than 80 columns: {line}"
+        );
+    }
     is_text(rt, output.err.text(), "", "standard error", name);
     is_number(rt, output.status as u64, 0, "the status", name);
 }
 
-fn try_help(rt: &impl Abort, alloc: Global, row: &(&str, &str, &str)) -> Result<(), AllocError> {
+fn try_words(
+    rt: &impl Abort,
+    alloc: Global,
+    row: &(&str, &str, &str),
+    mistaken: bool,
+) -> Result<(), AllocError> {
     let (name, line, wanted) = *row;
-    is_helped(rt, &run_of(alloc, line)?, wanted, name);
+    let output = run_of(alloc, line)?;
+    if mistaken {
+        is_mistaken(rt, &output, wanted, name);
+    } else {
+        is_helped(rt, &output, wanted, name);
+    }
     Ok(())
 }
 
 #[test]
-fn help(rt: HostRuntime) -> Result<(), Fail> {
+fn mistakes_and_help(rt: HostRuntime) -> Result<(), Fail> {
+    for row in &MISTAKES {
+        try_words(&rt, rt.alloc(), row, true)?;
+    }
     for row in &HELP {
-        try_help(&rt, rt.alloc(), row)?;
+        try_words(&rt, rt.alloc(), row, false)?;
     }
     Ok(())
 }
@@ -311,45 +322,24 @@ fn is_explained(text: &str, answer: &str) -> bool {
     false
 }
 
-fn are_explained(rt: &impl Abort, text: &str, answers: &[&str]) {
-    for answer in answers {
-        holds(rt, is_explained(text, answer), "the line", answer);
-    }
-}
-
 #[test]
 fn help_explains_each_answer(rt: HostRuntime) -> Result<(), Fail> {
     let output = run_of(rt.alloc(), "crdx --help")?;
-    are_explained(&rt, output.out.text(), &ANSWERS);
-    are_explained(&rt, output.out.text(), &NUMBERS);
-    Ok(())
-}
-
-fn is_narrow(rt: &impl Abort, text: &str) {
-    for line in text.lines() {
-        assert!(rt;
-            line.chars().count() <= 80,
-            "a line of more than 80 columns: {line}"
+    for answer in &ANSWERS {
+        holds(
+            &rt,
+            is_explained(output.out.text(), answer),
+            "the line",
+            answer,
         );
     }
-}
-
-fn is_shown(rt: &impl Abort, output: &Output, line: &str) {
-    let out = output.out.text();
-    holds(rt, !out.is_empty(), "some output", line);
-    is_number(rt, output.status as u64, 0, "the status", line);
-    is_narrow(rt, out);
-}
-
-fn try_shown(rt: &impl Abort, alloc: Global, line: &str) -> Result<(), AllocError> {
-    is_shown(rt, &run_of(alloc, line)?, line);
-    Ok(())
-}
-
-#[test]
-fn help_fits_80_columns(rt: HostRuntime) -> Result<(), Fail> {
-    for line in &SHOWN {
-        try_shown(&rt, rt.alloc(), line)?;
+    for answer in &NUMBERS {
+        holds(
+            &rt,
+            is_explained(output.out.text(), answer),
+            "the line",
+            answer,
+        );
     }
     Ok(())
 }

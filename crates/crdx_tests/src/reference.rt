@@ -1,5 +1,5 @@
-//! All samples of a small plan, by the definitions alone: at each node every value over the parts below it is made, and what is
-//! stored is kept. It is slow, and of `plan` it uses nothing but the pools.
+//! All samples of a small plan, by the definitions alone: every value that can stand at a node is made, and what is stored is kept.
+//! It is slow, and of `plan` it uses nothing but the pools.
 ghost use Rattle.std.specs.Prelude.{◌≡◌, IsTrue};
 ghost use Rattle.jtree.specs.Data.{IsNameBefore};
 ghost use Rattle.schema.specs.Nodes.View.{node_of};
@@ -11,49 +11,59 @@ use std::alloc::Global;
 use std::test::Fail;
 use stored::is_stored;
 
-/// The parts of a node over pools of at most `limit` nodes, in the tree order, each once: what is stored of the values that
-/// can stand there.
-#[cycle(parts)]
+/// The parts of a node over pools of at most `limit` nodes, in the tree order, each once.
 pub fn plain_parts(
     alloc: Global,
     node: &Node,
     pools: &Pools,
     limit: u64,
 ) -> Result<Vec<Tree>, Fail> {
+    let mut parts = Vec::new(alloc);
+    for value in values_at(alloc, node, pools, limit)? {
+        if is_stored(node, &value) {
+            parts.push(value)?;
+        }
+    }
+    parts.sort_unstable();
+    parts.dedup();
+    Ok(parts)
+}
+
+/// The values over pools of at most `limit` nodes that can stand at a node, stored or not.
+#[cycle(values)]
+fn values_at(alloc: Global, node: &Node, pools: &Pools, limit: u64) -> Result<Vec<Tree>, Fail> {
     let mut values = Vec::new(alloc);
     let room = limit.saturating_sub(1);
     match &node.sort {
         Sort::Scalar(scalar) => push_scalars(alloc, &mut values, scalar, pools)?,
         Sort::Open => push_copies(alloc, &mut values, pools.any())?,
         Sort::Object(object) => {
-            let slots = field_slots(alloc, &object.fields, pools, room)?;
-            push_objects(alloc, &mut values, &slots, room)?;
+            let choices = field_choices(alloc, &object.fields, pools, room)?;
+            push_objects(alloc, &mut values, &choices, room)?;
         }
         Sort::Map(map) => {
-            let slots = name_slots(alloc, node_below(&map.value), pools, room)?;
-            push_objects(alloc, &mut values, &slots, room)?;
+            let choices = name_choices(alloc, node_below(&map.value), pools, room)?;
+            push_objects(alloc, &mut values, &choices, room)?;
         }
         Sort::List(list) => {
-            let items = plain_parts(alloc, node_below(&list.item), pools, room)?;
+            let items = values_at(alloc, node_below(&list.item), pools, room)?;
             push_lists(alloc, &mut values, &items, room)?;
         }
     }
     if node.nullable {
         values.push(Tree::Null)?;
     }
-    stored_of(alloc, node, values, limit)
+    within(alloc, values, limit)
 }
 
-/// Those of at most `limit` nodes that are stored.
-fn stored_of(alloc: Global, node: &Node, values: Vec<Tree>, limit: u64) -> Result<Vec<Tree>, Fail> {
+/// Those of at most `limit` nodes.
+fn within(alloc: Global, trees: Vec<Tree>, limit: u64) -> Result<Vec<Tree>, Fail> {
     let mut kept = Vec::new(alloc);
-    for value in values {
-        if value.nodes() <= limit && is_stored(node, &value) {
-            kept.push(value)?;
+    for tree in trees {
+        if tree.nodes() <= limit {
+            kept.push(tree)?;
         }
     }
-    kept.sort_unstable();
-    kept.dedup();
     Ok(kept)
 }
 
@@ -87,7 +97,6 @@ pub fn plain_slots(
 }
 
 /// Something must stand under a field that is required or has a default.
-#[cycle(parts)]
 fn field_slots(
     alloc: Global,
     fields: &Fields,
@@ -104,7 +113,6 @@ fn field_slots(
     Ok(slots)
 }
 
-#[cycle(parts)]
 fn name_slots(alloc: Global, node: &Node, pools: &Pools, limit: u64) -> Result<Vec<Choice>, Fail> {
     let mut slots = Vec::new(alloc);
     for name in names_of(alloc, pools)? {
@@ -207,6 +215,34 @@ fn push_strings(alloc: Global, values: &mut Vec<Tree>, pools: &Pools) -> Result<
         values.push(Tree::Text(text.copy(alloc)?))?;
     }
     Ok(())
+}
+
+#[cycle(values)]
+fn field_choices(
+    alloc: Global,
+    fields: &Fields,
+    pools: &Pools,
+    room: u64,
+) -> Result<Vec<Choice>, Fail> {
+    let mut choices = Vec::new(alloc);
+    for field in &fields.fields {
+        let values = values_at(alloc, &field.node, pools, room)?;
+        let name = field.name.copy(alloc)?;
+        let must = false;
+        choices.push(Choice { name, must, values })?;
+    }
+    Ok(choices)
+}
+
+#[cycle(values)]
+fn name_choices(alloc: Global, node: &Node, pools: &Pools, room: u64) -> Result<Vec<Choice>, Fail> {
+    let mut choices = Vec::new(alloc);
+    for name in names_of(alloc, pools)? {
+        let values = values_at(alloc, node, pools, room)?;
+        let must = false;
+        choices.push(Choice { name, must, values })?;
+    }
+    Ok(choices)
 }
 
 /// The names of the pools, by bytes, each once.

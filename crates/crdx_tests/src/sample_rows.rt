@@ -4,7 +4,6 @@ use crate::documents::{
 };
 use crate::fakes::{FailingSink, FakeInputs};
 use crate::harness::{definition, is_answer, run_on};
-use crate::limit_rows::repeated;
 use crate::page_rows::{LONG_SET, REQUIRED_LONG_MAP_LIST, TWENTY};
 use crate::reference_rows::{TWO_INTEGER_KEYS, plain_lines};
 use std::alloc::{AllocError, Global};
@@ -450,32 +449,6 @@ fn try_row(
 fn samples(rt: HostRuntime) -> Result<(), Fail> {
     for row in &ROWS {
         try_row(&rt, rt.alloc(), row)?;
-    }
-    Ok(())
-}
-
-// A name, what stands before the entries of a pool, and an entry of which there is one too many.
-static LARGE: [(&str, &str, &str); 2] = [
-    ("65 integers", r#"{"integers":["#, "0"),
-    ("65 texts", r#"{"strings":["#, r#""""#),
-];
-
-fn try_large(rt: &impl Abort, alloc: Global, row: &(&str, &str, &str)) -> Result<(), AllocError> {
-    let (name, head, entry) = *row;
-    let pools = repeated(alloc, head, entry, 65, "]}")?;
-    let command = "crdx sample crd.json v1 --pools pools.json";
-    let err = "crdx: pools: P2\n";
-    try_row(
-        rt,
-        alloc,
-        &(name, command, WIDGET, pools.as_str(), "", err, 3),
-    )
-}
-
-#[test]
-fn large_pools(rt: HostRuntime) -> Result<(), Fail> {
-    for row in &LARGE {
-        try_large(&rt, rt.alloc(), row)?;
     }
     Ok(())
 }

@@ -1,4 +1,4 @@
-//! Sets of sizes: their members, unions, sums up to a limit, and the next member.
+//! Sets of sizes: their members, sums up to a limit, and the next member.
 use plan::SizeSet;
 use std::alloc::Global;
 use std::process::Abort;
@@ -28,23 +28,6 @@ fn has_members<S: SizeSet>(
     }
     assert_eq!(rt; members.as_slice(), wanted, "the members of {name}");
     Ok(())
-}
-
-// A name, the members of two sets, and those of their union.
-static UNIONS: [(&str, &[u32], &[u32], &[u32]); 4] = [
-    ("two empty sets", &[], &[], &[]),
-    ("the least and the greatest size", &[0], &[63], &[0, 63]),
-    ("sets with a member in common", &[1, 3], &[3, 9], &[1, 3, 9]),
-    ("a set and the empty one", &[2, 40], &[], &[2, 40]),
-];
-
-#[test]
-fn unions(rt: HostRuntime) -> Result<(), Fail> {
-    for (name, left, right, wanted) in &UNIONS {
-        let union = set_of::<u64>(&rt, left, name).union(set_of(&rt, right, name));
-        has_members(&rt, rt.alloc(), union, wanted, name)?;
-    }
-    has_members(&rt, rt.alloc(), u64::one(63), &[63], "the set of 63 alone")
 }
 
 // A name, the members of two sets, a limit, and the sums up to it.
@@ -81,24 +64,6 @@ fn next_members(rt: HostRuntime) -> Result<(), Fail> {
     for (name, members, n, wanted) in &NEXT {
         let next = set_of::<u64>(&rt, members, name).next(*n);
         assert_eq!(rt; next, *wanted, "the next member from {name}");
-    }
-    Ok(())
-}
-
-// A name, the members of a set, a number, and whether it is a member.
-static MEMBERS: [(&str, &[u32], u32, bool); 5] = [
-    ("a member", &[3, 9], 9, true),
-    ("a number between members", &[3, 9], 4, false),
-    ("the greatest size", &[63], 63, true),
-    ("the first number that is no size", &[63], 64, false),
-    ("0 and the empty set", &[], 0, false),
-];
-
-#[test]
-fn members(rt: HostRuntime) -> Result<(), Fail> {
-    for (name, members, n, wanted) in &MEMBERS {
-        let is_member = set_of::<u64>(&rt, members, name).has(*n);
-        assert_eq!(rt; is_member, *wanted, "membership of {name}");
     }
     Ok(())
 }
