@@ -1,7 +1,7 @@
 //! Trees: reading and writing, their order, pointers and what stands under a name.
-use crate::harness::{holds, is_number, is_said};
+use crate::harness::{holds, is_number, is_said, is_text};
 use crate::limit_rows::nested;
-use jtree::{Tree, order_in_words, order_is_total, push_index, push_name};
+use jtree::{Text, Tree, order_in_words, order_is_total, push_index, push_name};
 use serde_json::Value;
 use std::alloc::Global;
 use std::process::Abort;
@@ -137,6 +137,18 @@ fn behind_others(rt: HostRuntime) -> Result<(), Fail> {
         "the text",
         "a tree behind others",
     )
+}
+
+fn copied_text(alloc: Global, text: &str) -> Result<Text, Fail> {
+    let text = Text::from_str(alloc, text)?;
+    Ok(text.copy(alloc)?)
+}
+
+#[test]
+fn copies_of_texts(rt: HostRuntime) -> Result<(), Fail> {
+    let text = copied_text(rt.alloc(), "abc")?;
+    is_text(&rt, text.as_str(), "abc", "the text", "a copy");
+    Ok(())
 }
 
 // The bytes can be too many to be shown.
