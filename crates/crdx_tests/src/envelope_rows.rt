@@ -75,32 +75,3 @@ fn split_and_join(rt: HostRuntime) -> Result<(), Fail> {
     }
     Ok(())
 }
-
-fn move_envelope(whole: &mut Tree, other: &mut Tree) -> Result<(), Fail> {
-    Ok(join(other, split(whole))?)
-}
-
-fn joined_over(alloc: Global, whole: &str, other: &str) -> Result<Tree, Fail> {
-    let mut whole = Tree::from_bytes(alloc, whole.as_bytes())?;
-    let mut other = Tree::from_bytes(alloc, other.as_bytes())?;
-    move_envelope(&mut whole, &mut other)?;
-    Ok(other)
-}
-
-// What is put back takes the place of what stands under the same names.
-#[test]
-fn join_over(rt: HostRuntime) -> Result<(), Fail> {
-    let tree = joined_over(
-        rt.alloc(),
-        r#"{"kind":"Widget","metadata":{},"spec":1}"#,
-        r#"{"apiVersion":"v1","kind":0,"spec":2}"#,
-    )?;
-    is_tree(
-        &rt,
-        rt.alloc(),
-        &tree,
-        r#"{"apiVersion":"v1","kind":"Widget","metadata":{},"spec":2}"#,
-        "the tree",
-        "an envelope over another",
-    )
-}

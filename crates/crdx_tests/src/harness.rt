@@ -2,7 +2,7 @@
 use crate::fakes::{FailingSink, FakeInputs, Reads};
 use jtree::Tree;
 use plan::{Plan, Pools};
-use schema::{Crd, SFault, Shape, read_crd, shape};
+use schema::{Crd, SFault, read_crd};
 use std::alloc::{AllocError, Global};
 use std::process::Abort;
 use std::test::Fail;
@@ -138,16 +138,10 @@ pub fn crd_of(alloc: Global, schema: &str) -> Result<Result<Crd, SFault>, Fail> 
     read(alloc, definition(alloc, schema)?.as_str())
 }
 
-/// The shape of a schema that breaks no rule.
-pub fn shape_of(alloc: Global, schema: &str) -> Result<Shape, Fail> {
-    let crd = crd_of(alloc, schema)??;
-    Ok(shape(alloc, &crd.raw)?)
-}
-
-/// As `shape_of`, of an object with one field, `x`, of this schema.
-pub fn shape_of_field(alloc: Global, field: &str) -> Result<Shape, Fail> {
+/// As `schema_of`, of an object with one field, `x`, of this schema.
+pub fn schema_of_field(alloc: Global, field: &str) -> Result<Schema, Fail> {
     let schema = format!(in alloc; r#"{{"type":"object","properties":{{"x":{field}}}}}"#)?;
-    shape_of(alloc, schema.as_str())
+    schema_of(alloc, schema.as_str())
 }
 
 fn fault_text(alloc: Global, fault: &SFault) -> Result<String, AllocError> {

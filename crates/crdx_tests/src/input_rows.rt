@@ -3,7 +3,6 @@ use crate::documents::{BROKEN, WIDGET, ZERO_AND_ONE};
 use crate::fakes::{FailingSink, FakeInputs, Reads};
 use crate::harness::{is_number, is_said, run_on};
 use crdx::inputs::{InFault, Inputs, Outside};
-use jtree::Tree;
 use std::alloc::{AllocError, Global};
 use std::env::Env;
 use std::process::Abort;
@@ -18,14 +17,6 @@ static FILES: [(&str, &str, usize, &str); 3] = [
     ("a list that is cut", "[1,", 0, "J3"),
 ];
 
-fn said(alloc: Global, read: Result<Tree, InFault>) -> Result<String, Fail> {
-    match read {
-        Ok(tree) => Ok(tree.to_text(alloc)?),
-        Err(InFault::Document(fault)) => Ok(fault.to_string(alloc)?),
-        Err(InFault::Failed) => Ok(String::from_str(alloc, "read failed")?),
-    }
-}
-
 /// A text with so many spaces behind it.
 pub fn padded(alloc: Global, head: &str, spaces: usize) -> Result<String, Fail> {
     let mut text = String::from_str(alloc, head)?;
@@ -35,8 +26,15 @@ pub fn padded(alloc: Global, head: &str, spaces: usize) -> Result<String, Fail> 
     Ok(text)
 }
 
+// Where no file is.
+static NO_FILES: [&str; 2] = ["no such file", "/"];
+
 fn said_of_file(rt: &(impl Files + Input + AllocGlobal), path: &str) -> Result<String, Fail> {
-    said(rt.alloc(), Outside::new(rt).tree(Some(path)))
+    match Outside::new(rt).tree(Some(path)) {
+        Ok(tree) => Ok(tree.to_text(rt.alloc())?),
+        Err(InFault::Document(fault)) => Ok(fault.to_string(rt.alloc())?),
+        Err(InFault::Failed) => Ok(String::from_str(rt.alloc(), "read failed")?),
+    }
 }
 
 fn said_of_text(
@@ -75,24 +73,17 @@ fn try_files(rt: &(impl Files + Input + AllocGlobal + Abort), path: &str) -> Res
 
 #[test]
 fn files(rt: HostRuntime) -> Result<(), Fail> {
+    for path in &NO_FILES {
+        is_said(
+            &rt,
+            said_of_file(&rt, path),
+            "read failed",
+            "what is read",
+            path,
+        )?;
+    }
     let path = path_of(&rt, process::id(rt.process()))?;
     try_files(&rt, path.as_str())
-}
-
-fn try_no_file(rt: &(impl Files + Input + AllocGlobal + Abort), name: &str) -> Result<(), Fail> {
-    is_said(
-        rt,
-        said_of_file(rt, name),
-        "read failed",
-        "what is read",
-        name,
-    )
-}
-
-#[test]
-fn files_that_fail(rt: HostRuntime) -> Result<(), Fail> {
-    try_no_file(&rt, "no such file")?;
-    try_no_file(&rt, "/")
 }
 
 // A name, a command line, a definition, and how often the definition, the pools, the object and any other input are read.

@@ -30,7 +30,7 @@ pub fn repeated(
 // A name, what stands before the entries, an entry, how many there are, what stands behind them, and what is answered.
 //
 // Forms are judged before limits, and the first limit in path order is named.
-static LISTS: [(&str, &str, &str, usize, &str, &str); 10] = [
+static LISTS: [(&str, &str, &str, usize, &str, &str); 12] = [
     (
         "512 places",
         r#"{"anyOf":["#,
@@ -97,6 +97,22 @@ static LISTS: [(&str, &str, &str, usize, &str, &str); 10] = [
         r#"],"enum":[]}"#,
         "S4 /anyOf/511",
     ),
+    (
+        "32 properties",
+        r#"{"properties":{"q":{"properties":{"p0":{},"p1":{},"p2":{},"p3":{},"p4":{},"p5":{},"p6":{},"p7":{},"p8":{},"p9":{},"p10":{},"p11":{},"p12":{},"p13":{},"p14":{},"p15":{},"p16":{},"p17":{},"p18":{},"p19":{},"p20":{},"p21":{},"p22":{},"p23":{},"p24":{},"p25":{},"p26":{},"p27":{},"p28":{},"p29":{},"p30":{},"#,
+        r#""p31":{}"#,
+        1,
+        "}}}}",
+        "read",
+    ),
+    (
+        "33 properties",
+        r#"{"properties":{"q":{"properties":{"p0":{},"p1":{},"p2":{},"p3":{},"p4":{},"p5":{},"p6":{},"p7":{},"p8":{},"p9":{},"p10":{},"p11":{},"p12":{},"p13":{},"p14":{},"p15":{},"p16":{},"p17":{},"p18":{},"p19":{},"p20":{},"p21":{},"p22":{},"p23":{},"p24":{},"p25":{},"p26":{},"p27":{},"p28":{},"p29":{},"p30":{},"#,
+        r#""p31":{},"p32":{}"#,
+        1,
+        "}}}}",
+        "S4 /properties/q/properties",
+    ),
 ];
 
 fn try_list(
@@ -109,49 +125,6 @@ fn try_list(
     try_schema(rt, alloc, name, schema.as_str(), wanted)
 }
 
-#[test]
-fn lists(rt: HostRuntime) -> Result<(), Fail> {
-    for row in &LISTS {
-        try_list(&rt, rt.alloc(), row)?;
-    }
-    Ok(())
-}
-
-fn push_property(alloc: Global, text: &mut String, i: usize) -> Result<(), AllocError> {
-    let property = format!(in alloc; r#""p{i}":{{}}"#)?;
-    push_entry(text, i, property.as_str())
-}
-
-// Properties `p0`, `p1` and so on.
-fn properties(alloc: Global, count: usize) -> Result<String, AllocError> {
-    let mut text = String::from_str(alloc, r#"{"properties":{"q":{"properties":{"#)?;
-    for i in 0..count {
-        push_property(alloc, &mut text, i)?;
-    }
-    text.push_str("}}}}")?;
-    Ok(text)
-}
-
-// A name, how many properties, and what is answered.
-static PROPERTIES: [(&str, usize, &str); 2] = [
-    ("32 properties", 32, "read"),
-    ("33 properties", 33, "S4 /properties/q/properties"),
-];
-
-fn try_properties(rt: &impl Abort, alloc: Global, row: &(&str, usize, &str)) -> Result<(), Fail> {
-    let (name, count, wanted) = *row;
-    let schema = properties(alloc, count)?;
-    try_schema(rt, alloc, name, schema.as_str(), wanted)
-}
-
-#[test]
-fn properties_at_the_limit(rt: HostRuntime) -> Result<(), Fail> {
-    for row in &PROPERTIES {
-        try_properties(&rt, rt.alloc(), row)?;
-    }
-    Ok(())
-}
-
 fn push_times(text: &mut String, part: &str, times: usize) -> Result<(), AllocError> {
     for _ in 0..times {
         text.push_str(part)?;
@@ -159,12 +132,18 @@ fn push_times(text: &mut String, part: &str, times: usize) -> Result<(), AllocEr
     Ok(())
 }
 
-// A schema of lists in lists, so many deep.
-fn nested(alloc: Global, depth: usize) -> Result<String, AllocError> {
+/// A text so many times, a text between, and another text so many times.
+pub fn nested(
+    alloc: Global,
+    before: &str,
+    times: usize,
+    middle: &str,
+    behind: &str,
+) -> Result<String, AllocError> {
     let mut text = String::new(alloc);
-    push_times(&mut text, r#"{"items":"#, depth)?;
-    text.push_str("{}")?;
-    push_times(&mut text, "}", depth)?;
+    push_times(&mut text, before, times)?;
+    text.push_str(middle)?;
+    push_times(&mut text, behind, times)?;
     Ok(text)
 }
 
@@ -180,12 +159,15 @@ static DEPTHS: [(&str, usize, &str); 2] = [
 
 fn try_depth(rt: &impl Abort, alloc: Global, row: &(&str, usize, &str)) -> Result<(), Fail> {
     let (name, depth, wanted) = *row;
-    let schema = nested(alloc, depth)?;
+    let schema = nested(alloc, r#"{"items":"#, depth, "{}", "}")?;
     try_schema(rt, alloc, name, schema.as_str(), wanted)
 }
 
 #[test]
-fn steps_at_the_limit(rt: HostRuntime) -> Result<(), Fail> {
+fn limits(rt: HostRuntime) -> Result<(), Fail> {
+    for row in &LISTS {
+        try_list(&rt, rt.alloc(), row)?;
+    }
     for row in &DEPTHS {
         try_depth(&rt, rt.alloc(), row)?;
     }

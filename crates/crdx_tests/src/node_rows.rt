@@ -1,13 +1,13 @@
 //! The node of a schema, or why it has none.
 use crate::harness::{crd_of, is_said};
 use crate::node_text::node_text;
-use schema::{Node, RawSchema, Shape, Sort, nodes_are_unique, shape};
+use schema::{Node, Shape, Sort, nodes_are_unique, shape};
 use std::alloc::Global;
 use std::process::Abort;
 use std::test::Fail;
 
-// The node of the first field of an object.
-fn first_field(root: &Node) -> Result<&Node, Fail> {
+/// The node of the first field of an object.
+pub fn first_field(root: &Node) -> Result<&Node, Fail> {
     let Sort::Object(object) = &root.sort else {
         return Err(Fail::from("no object"));
     };
@@ -25,21 +25,17 @@ fn shape_said(alloc: Global, shape: &Shape, is_field: bool) -> Result<String, Fa
     }
 }
 
-fn raw_said(alloc: Global, raw: &RawSchema, is_field: bool) -> Result<String, Fail> {
-    match shape(alloc, raw) {
+// The text of the node of the root, or of its first field; or the refusal.
+fn said(alloc: Global, schema: &str, is_field: bool) -> Result<String, Fail> {
+    let crd = crd_of(alloc, schema)??;
+    match shape(alloc, &crd.raw) {
         Ok(shape) => shape_said(alloc, &shape, is_field),
         Err(refused) => Ok(refused.to_string(alloc)?),
     }
 }
 
-// The text of the node of the root, or of its first field; or the refusal.
-fn said(alloc: Global, schema: &str, is_field: bool) -> Result<String, Fail> {
-    let crd = crd_of(alloc, schema)??;
-    raw_said(alloc, &crd.raw, is_field)
-}
-
 // A name, the schema of a field, and its node or its refusal.
-static NODES: [(&str, &str, &str); 22] = [
+static NODES: [(&str, &str, &str); 16] = [
     ("an integer", r#"{"type":"integer"}"#, "integer"),
     (
         "a description, and null",
@@ -47,34 +43,9 @@ static NODES: [(&str, &str, &str); 22] = [
         "boolean nullable description=on or off",
     ),
     (
-        "lengths of a text",
-        r#"{"type":"string","nullable":false,"minLength":1,"maxLength":2}"#,
-        "string least=1 most=2",
-    ),
-    (
         "int-or-string",
         r#"{"x-kubernetes-int-or-string":true}"#,
         "int-or-string",
-    ),
-    (
-        "enum, with a repeat",
-        r#"{"type":"integer","enum":[1,-2,1],"minimum":-1,"maximum":9}"#,
-        "integer choice=1 choice=-2 choice=1 minimum=-1 maximum=9",
-    ),
-    (
-        "an exclusive minimum",
-        r#"{"type":"integer","minimum":0,"exclusiveMinimum":true,"exclusiveMaximum":false}"#,
-        "integer minimum=0 exclusiveMinimum",
-    ),
-    (
-        "an exclusive maximum",
-        r#"{"type":"integer","maximum":0,"exclusiveMaximum":true}"#,
-        "integer maximum=0 exclusiveMaximum",
-    ),
-    (
-        "keywords without effect",
-        r#"{"type":"string","enum":["a"],"title":"t","example":1}"#,
-        r#"string choice="a""#,
     ),
     ("an object", r#"{"type":"object"}"#, "object"),
     (
@@ -127,11 +98,6 @@ static NODES: [(&str, &str, &str); 22] = [
         r#"{"type":"","x-kubernetes-preserve-unknown-fields":true}"#,
         "open",
     ),
-    (
-        "the tests of junctors",
-        r#"{"type":"integer","allOf":[{"minimum":1},{"maximum":5,"not":{"enum":[3]}}],"anyOf":[{}],"oneOf":[{"minimum":2},{"minLength":1}],"not":{"enum":[4,5]}}"#,
-        "integer allOf( minimum=1) allOf( maximum=5 not) anyOf() oneOf( minimum=2) oneOf( least=1) not( choice=4 choice=5)",
-    ),
     ("a number", r#"{"type":"number"}"#, "violations"),
     ("no type", "{}", "violations"),
 ];
@@ -178,29 +144,19 @@ fn try_field(rt: &impl Abort, alloc: Global, row: &(&str, &str, &str)) -> Result
     )
 }
 
-#[test]
-fn nodes(rt: HostRuntime) -> Result<(), Fail> {
-    for row in &NODES {
-        try_field(&rt, rt.alloc(), row)?;
-    }
-    Ok(())
-}
-
 fn try_root(rt: &impl Abort, alloc: Global, row: &(&str, &str, &str)) -> Result<(), Fail> {
     let (name, schema, wanted) = *row;
     is_said(rt, said(alloc, schema, false), wanted, "the node", name)
 }
 
 #[test]
-fn roots(rt: HostRuntime) -> Result<(), Fail> {
+fn nodes(rt: HostRuntime) -> Result<(), Fail> {
+    nodes_are_unique();
+    for row in &NODES {
+        try_field(&rt, rt.alloc(), row)?;
+    }
     for row in &ROOTS {
         try_root(&rt, rt.alloc(), row)?;
     }
     Ok(())
-}
-
-/// The law is no more than its contract.
-#[test]
-fn law() {
-    nodes_are_unique();
 }

@@ -2,14 +2,13 @@
 ghost use Rattle.std.specs.Prelude.{◌≤◌};
 
 use crate::documents::{
-    DEFAULTED, FIFTEEN, LONG_MAP_LIST, MAP_LIST, REPEATED, SET, SPEC, TEN_LINES, TWO_TEXTS,
-    ZERO_AND_ONE, ZERO_AND_SEVEN,
+    DEFAULTED, FIFTEEN, MAP_LIST, REPEATED, SET, SPEC, TEN_LINES, TWO_TEXTS, ZERO_AND_ONE,
+    ZERO_AND_SEVEN,
 };
 use crate::fakes::FailingSink;
-use crate::harness::{holds, is_number, is_said, is_text, is_tree, made};
-use crate::limit_rows::repeated;
+use crate::harness::{holds, is_number, is_said, is_text, made};
 use crdx::walk::{WFault, Walked, pages_agree, walk};
-use enumerate::{EFault, Live, Page, page};
+use enumerate::{EFault, Live, page};
 use jtree::{JFault, Tree};
 use plan::{Meter, Plan};
 use std::alloc::{AllocError, Global};
@@ -77,180 +76,116 @@ pub fn lines_of(alloc: Global, items: &[Tree]) -> Result<String, Fail> {
     Ok(lines)
 }
 
-// A name, the place that a page of three items goes on from, its lines, and whether it is the last.
-static PAGES: [(&str, Option<&str>, &str, bool); 5] = [
+// A name, a schema with its pools and limit, the place that a page of three items goes on from, its lines, whether it is the
+// last, and the most steps that it takes.
+//
+// The last one stands amid 8^15 samples.
+static PAGES: [(&str, (&str, &str, u32), Option<&str>, &str, bool, u64); 6] = [
     (
         "the first page",
+        (SPEC, ZERO_AND_ONE, 4),
         None,
         r#"{}
 {"spec":{}}
 {"spec":{"b":false}}
 "#,
         false,
+        240,
     ),
     (
         "the second page",
+        (SPEC, ZERO_AND_ONE, 4),
         Some(r#"{"spec":{"b":false}}"#),
         r#"{"spec":{"b":true}}
 {"spec":{"a":0}}
 {"spec":{"a":1}}
 "#,
         false,
+        240,
     ),
     (
         "the third page",
+        (SPEC, ZERO_AND_ONE, 4),
         Some(r#"{"spec":{"a":1}}"#),
         r#"{"spec":{"a":0,"b":false}}
 {"spec":{"a":0,"b":true}}
 {"spec":{"a":1,"b":false}}
 "#,
         false,
+        240,
     ),
     (
         "the fourth page",
+        (SPEC, ZERO_AND_ONE, 4),
         Some(r#"{"spec":{"a":1,"b":false}}"#),
         r#"{"spec":{"a":1,"b":true}}
 "#,
         true,
+        240,
     ),
     (
         "the page past the last sample",
+        (SPEC, ZERO_AND_ONE, 4),
         Some(r#"{"spec":{"a":1,"b":true}}"#),
         "",
         true,
+        240,
+    ),
+    (
+        "fifteen items",
+        (FIFTEEN, "{}", 63),
+        Some(
+            r#"{"t":[{"a":true,"b":true,"c":true},{"a":false,"b":false,"c":false},{"a":false,"b":false,"c":false},{"a":false,"b":false,"c":false},{"a":false,"b":false,"c":false},{"a":false,"b":false,"c":false},{"a":false,"b":false,"c":false},{"a":false,"b":false,"c":false},{"a":false,"b":false,"c":false},{"a":false,"b":false,"c":false},{"a":false,"b":false,"c":false},{"a":false,"b":false,"c":false},{"a":false,"b":false,"c":false},{"a":false,"b":false,"c":false},{"a":false,"b":false,"c":false}]}"#,
+        ),
+        r#"{"t":[{"a":true,"b":true,"c":true},{"a":false,"b":false,"c":false},{"a":false,"b":false,"c":false},{"a":false,"b":false,"c":false},{"a":false,"b":false,"c":false},{"a":false,"b":false,"c":false},{"a":false,"b":false,"c":false},{"a":false,"b":false,"c":false},{"a":false,"b":false,"c":false},{"a":false,"b":false,"c":false},{"a":false,"b":false,"c":false},{"a":false,"b":false,"c":false},{"a":false,"b":false,"c":false},{"a":false,"b":false,"c":false},{"a":false,"b":false,"c":true}]}
+{"t":[{"a":true,"b":true,"c":true},{"a":false,"b":false,"c":false},{"a":false,"b":false,"c":false},{"a":false,"b":false,"c":false},{"a":false,"b":false,"c":false},{"a":false,"b":false,"c":false},{"a":false,"b":false,"c":false},{"a":false,"b":false,"c":false},{"a":false,"b":false,"c":false},{"a":false,"b":false,"c":false},{"a":false,"b":false,"c":false},{"a":false,"b":false,"c":false},{"a":false,"b":false,"c":false},{"a":false,"b":false,"c":false},{"a":false,"b":true,"c":false}]}
+{"t":[{"a":true,"b":true,"c":true},{"a":false,"b":false,"c":false},{"a":false,"b":false,"c":false},{"a":false,"b":false,"c":false},{"a":false,"b":false,"c":false},{"a":false,"b":false,"c":false},{"a":false,"b":false,"c":false},{"a":false,"b":false,"c":false},{"a":false,"b":false,"c":false},{"a":false,"b":false,"c":false},{"a":false,"b":false,"c":false},{"a":false,"b":false,"c":false},{"a":false,"b":false,"c":false},{"a":false,"b":false,"c":false},{"a":false,"b":true,"c":true}]}
+"#,
+        false,
+        4096,
     ),
 ];
+
+fn is_page(
+    rt: &impl Abort,
+    alloc: Global,
+    plan: &Plan<u64>,
+    row: &(&str, (&str, &str, u32), Option<&str>, &str, bool, u64),
+    meter: &mut Meter,
+) -> Result<(), Fail> {
+    let (name, _given, after, lines, end, steps) = *row;
+    let place = place_of(alloc, after)?;
+    let page = page(alloc, plan, place.as_ref(), 3, meter)?;
+    holds(rt, page.end == end, "the end", name);
+    holds(rt, meter.steps() <= steps, "few steps", name);
+    is_said(rt, lines_of(alloc, &page.items), lines, "the lines", name)
+}
 
 fn try_page(
     rt: &impl Abort,
     alloc: Global,
-    plan: &Plan<u64>,
-    row: &(&str, Option<&str>, &str, bool),
-    meter: &mut Meter,
+    row: &(&str, (&str, &str, u32), Option<&str>, &str, bool, u64),
 ) -> Result<(), Fail> {
-    let (name, after, lines, end) = *row;
-    let place = place_of(alloc, after)?;
-    let page = page(alloc, plan, place.as_ref(), 3, meter)?;
-    holds(rt, page.end == end, "the end", name);
-    is_said(rt, lines_of(alloc, &page.items), lines, "the lines", name)
-}
-
-fn all_pages(
-    rt: &impl Abort,
-    alloc: Global,
-    plan: &Plan<u64>,
-    meter: &mut Meter,
-) -> Result<(), Fail> {
-    for row in &PAGES {
-        try_page(rt, alloc, plan, row, meter)?;
-    }
-    Ok(())
+    let mut plan = made(alloc, row.1)?;
+    let mut meter = plan.meter();
+    is_page(rt, alloc, &plan, row, &mut meter)
 }
 
 #[test]
 fn pages(rt: HostRuntime) -> Result<(), Fail> {
-    let mut plan = made(rt.alloc(), (SPEC, ZERO_AND_ONE, 4))?;
-    let mut meter = plan.meter();
-    all_pages(&rt, rt.alloc(), &plan, &mut meter)
-}
-
-// The last of fifteen items: that of an object, and those of the three next ones.
-static LAST_ITEMS: [&str; 4] = [
-    r#"{"a":false,"b":false,"c":false}"#,
-    r#"{"a":false,"b":false,"c":true}"#,
-    r#"{"a":false,"b":true,"c":false}"#,
-    r#"{"a":false,"b":true,"c":true}"#,
-];
-
-/// An object with fifteen items: the first one is all true, and all but the last one are all false.
-fn fifteen(alloc: Global, last: &str) -> Result<String, AllocError> {
-    let tail = format!(in alloc; ",{last}]}}")?;
-    let head = r#"{"t":[{"a":true,"b":true,"c":true},"#;
-    repeated(alloc, head, LAST_ITEMS[0], 13, tail.as_str())
-}
-
-fn is_fifteen(rt: &impl Abort, alloc: Global, item: &Tree, last: &str) -> Result<(), Fail> {
-    let wanted = fifteen(alloc, last)?;
-    is_tree(
-        rt,
-        alloc,
-        item,
-        wanted.as_str(),
-        "a sample",
-        "fifteen items",
-    )
-}
-
-fn are_fifteen(rt: &impl Abort, alloc: Global, page: &Page) -> Result<(), Fail> {
-    let name = "fifteen items";
-    holds(rt, !page.end, "no end", name);
-    is_number(rt, page.items.len() as u64, 3, "the number", name);
-    for (item, last) in page.items.iter().zip(LAST_ITEMS.iter().skip(1)) {
-        is_fifteen(rt, alloc, item, last)?;
+    pages_agree();
+    for row in &PAGES {
+        try_page(&rt, rt.alloc(), row)?;
     }
     Ok(())
 }
 
-fn fifteen_tree(alloc: Global) -> Result<Tree, Fail> {
-    let text = fifteen(alloc, LAST_ITEMS[0])?;
-    Ok(Tree::from_bytes(alloc, text.as_bytes())?)
-}
-
-fn try_fifteen(
-    rt: &impl Abort,
-    alloc: Global,
-    plan: &Plan<u64>,
-    place: &Tree,
-    meter: &mut Meter,
-) -> Result<(), Fail> {
-    are_fifteen(rt, alloc, &page(alloc, plan, Some(place), 3, meter)?)?;
-    holds(rt, meter.steps() <= 4096, "few steps", "fifteen items");
-    Ok(())
-}
-
-/// A place amid 8^15 samples.
-#[test]
-fn a_page_of_many(rt: HostRuntime) -> Result<(), Fail> {
-    let place = fifteen_tree(rt.alloc())?;
-    let mut plan = made(rt.alloc(), (FIFTEEN, "{}", 63))?;
-    let mut meter = plan.meter();
-    try_fifteen(&rt, rt.alloc(), &plan, &place, &mut meter)
-}
-
 // A name, a schema with its pools and limit, a place to go on from, how many steps that takes at most, and what is answered.
-static PLACES: [(&str, (&str, &str, u32), &str, u64, &str); 18] = [
+static PLACES: [(&str, (&str, &str, u32), &str, u64, &str); 13] = [
     (
         "another member",
         (SPEC, ZERO_AND_ONE, 4),
         r#"{"zzz":1}"#,
-        60,
-        "no sample",
-    ),
-    (
-        "an integer of no pool",
-        (SPEC, ZERO_AND_ONE, 4),
-        r#"{"spec":{"a":2}}"#,
-        60,
-        "no sample",
-    ),
-    (
-        "null for an integer",
-        (SPEC, ZERO_AND_ONE, 4),
-        r#"{"spec":{"a":null}}"#,
-        60,
-        "no sample",
-    ),
-    (
-        "a truth value for an integer",
-        (SPEC, ZERO_AND_ONE, 4),
-        r#"{"spec":{"a":true}}"#,
-        60,
-        "no sample",
-    ),
-    (
-        "a list for an object",
-        (SPEC, ZERO_AND_ONE, 4),
-        r#"{"spec":[]}"#,
         60,
         "no sample",
     ),
@@ -283,13 +218,6 @@ static PLACES: [(&str, (&str, &str, u32), &str, u64, &str); 18] = [
         r#"{"spec":{}}"#,
         48,
         "no sample",
-    ),
-    (
-        "an object with a default",
-        (DEFAULTED, ZERO_AND_SEVEN, 3),
-        r#"{"spec":{"f":7}}"#,
-        48,
-        "none",
     ),
     (
         "items with equal keys",
@@ -418,14 +346,6 @@ fn moves(
     holds(rt, meter.steps() <= most, "few steps", name);
 }
 
-fn is_over(rt: &impl Abort, live: &mut Live<'_, u64>, meter: &mut Meter, name: &str) {
-    for _ in 0..2 {
-        holds(rt, live.tree().is_none(), "no sample", name);
-        moves(rt, live, Err(EFault::Ended), 0, meter, name);
-    }
-    holds(rt, live.tree().is_none(), "no sample", name);
-}
-
 fn goes_through(
     rt: &impl Abort,
     live: &mut Live<'_, u64>,
@@ -439,6 +359,11 @@ fn goes_through(
         let more = place.saturating_add(1) < count as usize;
         moves(rt, live, Ok(more), steps, meter, name);
     }
+    for _ in 0..2 {
+        holds(rt, live.tree().is_none(), "no sample", name);
+        moves(rt, live, Err(EFault::Ended), 0, meter, name);
+    }
+    holds(rt, live.tree().is_none(), "no sample", name);
 }
 
 /// An enumeration goes through these samples, and then it is over.
@@ -457,7 +382,6 @@ fn is_enumerated(
     };
     holds(rt, meter.steps() <= steps, "few steps", name);
     goes_through(rt, &mut live, samples, row, meter);
-    is_over(rt, &mut live, meter, name);
     Ok(())
 }
 
@@ -499,26 +423,29 @@ fn enumerations(rt: HostRuntime) -> Result<(), Fail> {
 }
 
 // A name, a schema with its pools and limit, a place to go on from, the size of a page and the number of lines that are asked
-// for, and the lines with their number and whether no sample is left.
+// for, how many bytes there is room for, what is out, and what is answered.
 static WALKS: [(
     &str,
     (&str, &str, u32),
     Option<&str>,
     u32,
     u32,
+    usize,
     &str,
-    u64,
-    bool,
-); 17] = [
+    Result<Walked, WFault>,
+); 14] = [
     (
         "pages of one",
         (SPEC, ZERO_AND_ONE, 4),
         None,
         1,
         7,
+        1000,
         SEVEN_LINES,
-        7,
-        false,
+        Ok(Walked {
+            lines: 7,
+            end: false,
+        }),
     ),
     (
         "pages of three",
@@ -526,9 +453,12 @@ static WALKS: [(
         None,
         3,
         7,
+        1000,
         SEVEN_LINES,
-        7,
-        false,
+        Ok(Walked {
+            lines: 7,
+            end: false,
+        }),
     ),
     (
         "a page of 64",
@@ -536,9 +466,12 @@ static WALKS: [(
         None,
         64,
         7,
+        1000,
         SEVEN_LINES,
-        7,
-        false,
+        Ok(Walked {
+            lines: 7,
+            end: false,
+        }),
     ),
     (
         "as many lines as there are, by pages of one",
@@ -546,9 +479,12 @@ static WALKS: [(
         None,
         1,
         10,
+        1000,
         TEN_LINES,
-        10,
-        true,
+        Ok(Walked {
+            lines: 10,
+            end: true,
+        }),
     ),
     (
         "as many lines as there are, by pages of three",
@@ -556,9 +492,12 @@ static WALKS: [(
         None,
         3,
         10,
+        1000,
         TEN_LINES,
-        10,
-        true,
+        Ok(Walked {
+            lines: 10,
+            end: true,
+        }),
     ),
     (
         "as many lines as there are, by a page of 64",
@@ -566,9 +505,12 @@ static WALKS: [(
         None,
         64,
         10,
+        1000,
         TEN_LINES,
-        10,
-        true,
+        Ok(Walked {
+            lines: 10,
+            end: true,
+        }),
     ),
     (
         "a line more, by pages of one",
@@ -576,29 +518,12 @@ static WALKS: [(
         None,
         1,
         11,
+        1000,
         TEN_LINES,
-        10,
-        true,
-    ),
-    (
-        "a line more, by pages of three",
-        (SPEC, ZERO_AND_ONE, 4),
-        None,
-        3,
-        11,
-        TEN_LINES,
-        10,
-        true,
-    ),
-    (
-        "a line more, by pages of five",
-        (SPEC, ZERO_AND_ONE, 4),
-        None,
-        5,
-        11,
-        TEN_LINES,
-        10,
-        true,
+        Ok(Walked {
+            lines: 10,
+            end: true,
+        }),
     ),
     (
         "a line more, by a page of 64",
@@ -606,9 +531,12 @@ static WALKS: [(
         None,
         64,
         11,
+        1000,
         TEN_LINES,
-        10,
-        true,
+        Ok(Walked {
+            lines: 10,
+            end: true,
+        }),
     ),
     (
         "the lines past the third",
@@ -616,9 +544,12 @@ static WALKS: [(
         Some(r#"{"spec":{"b":false}}"#),
         2,
         7,
+        1000,
         LAST_LINES,
-        7,
-        true,
+        Ok(Walked {
+            lines: 7,
+            end: true,
+        }),
     ),
     (
         "no line past the last",
@@ -626,9 +557,12 @@ static WALKS: [(
         Some(r#"{"spec":{"a":1,"b":true}}"#),
         64,
         10000,
+        1000,
         "",
-        0,
-        true,
+        Ok(Walked {
+            lines: 0,
+            end: true,
+        }),
     ),
     (
         "a set at the greatest limit",
@@ -636,39 +570,12 @@ static WALKS: [(
         None,
         4,
         10000,
+        1000,
         SIX_SETS,
-        6,
-        true,
-    ),
-    (
-        "a map list of more items than keys",
-        (LONG_MAP_LIST, TWO_TEXTS, 63),
-        None,
-        64,
-        100,
-        "{}\n",
-        1,
-        true,
-    ),
-    (
-        "a required map list of more items than keys",
-        (REQUIRED_LONG_MAP_LIST, TWO_TEXTS, 63),
-        None,
-        64,
-        100,
-        "",
-        0,
-        true,
-    ),
-    (
-        "a required set of more items than values",
-        (LONG_SET, TWENTY, 63),
-        None,
-        64,
-        100,
-        "",
-        0,
-        true,
+        Ok(Walked {
+            lines: 6,
+            end: true,
+        }),
     ),
     (
         "one node",
@@ -676,9 +583,35 @@ static WALKS: [(
         None,
         1,
         1,
+        1000,
         "{}\n",
-        1,
-        true,
+        Ok(Walked {
+            lines: 1,
+            end: true,
+        }),
+    ),
+    (
+        "a place that is no sample",
+        (SPEC, ZERO_AND_ONE, 4),
+        Some(r#"{"zzz":1}"#),
+        64,
+        100,
+        1000,
+        "",
+        Err(WFault::NotASample),
+    ),
+    (
+        "room for 40 bytes",
+        (SPEC, ZERO_AND_ONE, 4),
+        None,
+        64,
+        100,
+        40,
+        r#"{}
+{"spec":{}}
+{"spec":{"b":false}}
+{"sp"#,
+        Err(WFault::Write(3)),
     ),
 ];
 
@@ -720,17 +653,17 @@ fn try_walk(
         Option<&str>,
         u32,
         u32,
+        usize,
         &str,
-        u64,
-        bool,
+        Result<Walked, WFault>,
     ),
 ) -> Result<(), Fail> {
-    let (name, given, place, page, total, wanted, lines, end) = *row;
-    let mut sink = FailingSink::endless(alloc);
+    let (name, given, place, page, total, room, wanted, answer) = *row;
+    let mut sink = FailingSink::new(alloc, room, usize::MAX, false);
     let page = page.clamp(1, 10000);
     let total = total.clamp(1, 10000);
     let found = walked(alloc, given, place, page, total, &mut sink)?;
-    assert_eq!(rt; found, Ok(Walked { lines, end }), "the answer of {name}");
+    assert_eq!(rt; found, answer, "the answer of {name}");
     is_text(rt, sink.text(), wanted, "the output", name);
     Ok(())
 }
@@ -739,48 +672,6 @@ fn try_walk(
 fn walks(rt: HostRuntime) -> Result<(), Fail> {
     for row in &WALKS {
         try_walk(&rt, rt.alloc(), row)?;
-    }
-    Ok(())
-}
-
-// A name, a place to go on from, how many bytes there is room for, what is answered, and what is out.
-static STOPS: [(&str, Option<&str>, usize, WFault, &str); 2] = [
-    (
-        "a place that is no sample",
-        Some(r#"{"zzz":1}"#),
-        1000,
-        WFault::NotASample,
-        "",
-    ),
-    (
-        "room for 40 bytes",
-        None,
-        40,
-        WFault::Write(3),
-        r#"{}
-{"spec":{}}
-{"spec":{"b":false}}
-{"sp"#,
-    ),
-];
-
-fn try_stop(
-    rt: &impl Abort,
-    alloc: Global,
-    row: &(&str, Option<&str>, usize, WFault, &str),
-) -> Result<(), Fail> {
-    let (name, place, room, fault, wanted) = *row;
-    let mut sink = FailingSink::new(alloc, room, usize::MAX, false);
-    let found = walked(alloc, (SPEC, ZERO_AND_ONE, 4), place, 64, 100, &mut sink)?;
-    assert_eq!(rt; found, Err(fault), "the answer of {name}");
-    is_text(rt, sink.text(), wanted, "the output", name);
-    Ok(())
-}
-
-#[test]
-fn stops(rt: HostRuntime) -> Result<(), Fail> {
-    for row in &STOPS {
-        try_stop(&rt, rt.alloc(), row)?;
     }
     Ok(())
 }
@@ -804,10 +695,4 @@ fn codes_of_faults(rt: HostRuntime) -> Result<(), Fail> {
         try_code(&rt, rt.alloc(), fault, code)?;
     }
     Ok(())
-}
-
-/// The law is no more than its contract.
-#[test]
-fn laws() {
-    pages_agree();
 }

@@ -260,25 +260,9 @@ static FIRST_BREAKS: [(&str, &str, &str); 6] = [
 
 #[test]
 fn forms(rt: HostRuntime) -> Result<(), Fail> {
-    all_schemas(&rt, rt.alloc(), &FORMS)
-}
-
-#[test]
-fn texts(rt: HostRuntime) -> Result<(), Fail> {
-    all_schemas(&rt, rt.alloc(), &TEXTS)
-}
-
-#[test]
-fn schemas(rt: HostRuntime) -> Result<(), Fail> {
-    all_schemas(&rt, rt.alloc(), &SCHEMAS)
-}
-
-#[test]
-fn numbers(rt: HostRuntime) -> Result<(), Fail> {
-    all_schemas(&rt, rt.alloc(), &NUMBERS)
-}
-
-#[test]
-fn first_breaks(rt: HostRuntime) -> Result<(), Fail> {
+    all_schemas(&rt, rt.alloc(), &FORMS)?;
+    all_schemas(&rt, rt.alloc(), &TEXTS)?;
+    all_schemas(&rt, rt.alloc(), &SCHEMAS)?;
+    all_schemas(&rt, rt.alloc(), &NUMBERS)?;
     all_schemas(&rt, rt.alloc(), &FIRST_BREAKS)
 }

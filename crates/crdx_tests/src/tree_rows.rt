@@ -1,8 +1,9 @@
 //! Trees: reading and writing, their order, pointers and what stands under a name.
-use crate::harness::{holds, is_number, is_said, is_text, is_tree};
-use jtree::{JFault, Text, Tree, order_in_words, order_is_total, push_index, push_name};
+use crate::harness::{holds, is_number, is_said, is_text};
+use crate::limit_rows::nested;
+use jtree::{Text, Tree, order_in_words, order_is_total, push_index, push_name};
 use serde_json::Value;
-use std::alloc::{AllocError, Global};
+use std::alloc::Global;
 use std::process::Abort;
 use std::test::Fail;
 
@@ -14,18 +15,8 @@ fn outcome(alloc: Global, bytes: &[u8]) -> Result<String, Fail> {
     }
 }
 
-fn is_outcome(
-    rt: &impl Abort,
-    alloc: Global,
-    bytes: &[u8],
-    wanted: &str,
-    name: &str,
-) -> Result<(), Fail> {
-    is_said(rt, outcome(alloc, bytes), wanted, "what is read", name)
-}
-
 // A document, and its compact text or the fault.
-static DOCUMENTS: [(&str, &str); 23] = [
+static DOCUMENTS: [(&str, &str); 25] = [
     ("null", "null"),
     (" [ true , false ] ", "[true,false]"),
     (
@@ -55,154 +46,77 @@ static DOCUMENTS: [(&str, &str); 23] = [
     ("nul", "J3"),
     (r#""\u0041\/\u00e9\ud83d\ude00""#, r#""A/é😀""#),
     (r#""a\"b\\c""#, r#""a\"b\\c""#),
+    ("\"/\u{7f}é😀\"", "\"/\u{7f}é😀\""),
+    (
+        r#""\u0000\u0001\u0002\u0003\u0004\u0005\u0006\u0007\b\t\n\u000b\f\r\u000e\u000f\u0010\u0011\u0012\u0013\u0014\u0015\u0016\u0017\u0018\u0019\u001a\u001b\u001c\u001d\u001e\u001f""#,
+        r#""\u0000\u0001\u0002\u0003\u0004\u0005\u0006\u0007\b\t\n\u000b\f\r\u000e\u000f\u0010\u0011\u0012\u0013\u0014\u0015\u0016\u0017\u0018\u0019\u001a\u001b\u001c\u001d\u001e\u001f""#,
+    ),
+];
+
+// Bytes that are no text, or none: what they are, and what is read.
+static NO_TEXTS: [(&[u8], &str, &str); 2] = [
+    (b"", "no byte", "J3"),
+    (b"\"\xff\"", "a byte of 255", "J3"),
 ];
 
 #[test]
 fn documents(rt: HostRuntime) -> Result<(), Fail> {
     for (document, wanted) in &DOCUMENTS {
-        is_outcome(&rt, rt.alloc(), document.as_bytes(), wanted, document)?;
+        is_said(
+            &rt,
+            outcome(rt.alloc(), document.as_bytes()),
+            wanted,
+            "what is read",
+            document,
+        )?;
     }
-    is_outcome(&rt, rt.alloc(), b"", "J3", "no byte")?;
-    is_outcome(&rt, rt.alloc(), b"\"\xff\"", "J3", "a byte of 255")
-}
-
-fn pushed(bytes: &mut Vec<u8>, byte: u8, count: usize) -> Result<(), Fail> {
-    for _ in 0..count {
-        bytes.push(byte)?;
+    for (bytes, name, wanted) in &NO_TEXTS {
+        is_said(
+            &rt,
+            outcome(rt.alloc(), bytes),
+            wanted,
+            "what is read",
+            name,
+        )?;
     }
     Ok(())
 }
 
-fn nested(alloc: Global, depth: usize) -> Result<Vec<u8>, Fail> {
-    let mut bytes = Vec::new(alloc);
-    pushed(&mut bytes, b'[', depth)?;
-    pushed(&mut bytes, b']', depth)?;
-    Ok(bytes)
-}
+// A name, a text that is repeated, how often, a text behind that, a text that is repeated as often, and what is read.
+static BORDERS: [(&str, &str, usize, &str, &str, &str); 4] = [
+    ("128 lists", "[", 128, "", "]", "J3"),
+    ("1,048,576 bytes", " ", 1_048_575, "7", "", "7"),
+    ("1,048,577 bytes", " ", 1_048_576, "7", "", "J4"),
+    ("the length goes first", " ", 1_048_576, "nul", "", "J4"),
+];
 
-fn padded(alloc: Global, spaces: usize) -> Result<Vec<u8>, Fail> {
-    let mut bytes = Vec::new(alloc);
-    pushed(&mut bytes, b' ', spaces)?;
-    bytes.push(b'7')?;
-    Ok(bytes)
-}
-
-fn try_deepest(rt: &impl Abort, alloc: Global) -> Result<(), Fail> {
-    let text = String::from_utf8(nested(alloc, 127)?)?;
-    is_outcome(rt, alloc, text.as_bytes(), text.as_str(), "127 lists")
-}
-
-fn try_too_deep(rt: &impl Abort, alloc: Global) -> Result<(), Fail> {
-    is_outcome(rt, alloc, &nested(alloc, 128)?, "J3", "128 lists")
-}
-
-// Spaces before a digit.
-fn try_padded(
+fn try_border(
     rt: &impl Abort,
     alloc: Global,
-    spaces: usize,
-    wanted: &str,
-    name: &str,
+    row: &(&str, &str, usize, &str, &str, &str),
 ) -> Result<(), Fail> {
-    is_outcome(rt, alloc, &padded(alloc, spaces)?, wanted, name)
-}
-
-fn try_long_and_bad(rt: &impl Abort, alloc: Global) -> Result<(), Fail> {
-    let mut bad = padded(alloc, 1_048_576)?;
-    bad.push(255)?;
-    is_outcome(rt, alloc, &bad, "J4", "the length goes first")
+    let (name, before, times, middle, behind, wanted) = *row;
+    let text = nested(alloc, before, times, middle, behind)?;
+    is_said(
+        rt,
+        outcome(alloc, text.as_bytes()),
+        wanted,
+        "what is read",
+        name,
+    )
 }
 
 #[test]
 fn borders(rt: HostRuntime) -> Result<(), Fail> {
-    try_deepest(&rt, rt.alloc())?;
-    try_too_deep(&rt, rt.alloc())?;
-    try_padded(&rt, rt.alloc(), 1_048_575, "7", "1,048,576 bytes")?;
-    try_padded(&rt, rt.alloc(), 1_048_576, "J4", "1,048,577 bytes")?;
-    try_long_and_bad(&rt, rt.alloc())
-}
-
-// A control character from 0 to 31, and its text.
-static CONTROLS: [(u8, &str); 32] = [
-    (0, r#""\u0000""#),
-    (1, r#""\u0001""#),
-    (2, r#""\u0002""#),
-    (3, r#""\u0003""#),
-    (4, r#""\u0004""#),
-    (5, r#""\u0005""#),
-    (6, r#""\u0006""#),
-    (7, r#""\u0007""#),
-    (8, r#""\b""#),
-    (9, r#""\t""#),
-    (10, r#""\n""#),
-    (11, r#""\u000b""#),
-    (12, r#""\f""#),
-    (13, r#""\r""#),
-    (14, r#""\u000e""#),
-    (15, r#""\u000f""#),
-    (16, r#""\u0010""#),
-    (17, r#""\u0011""#),
-    (18, r#""\u0012""#),
-    (19, r#""\u0013""#),
-    (20, r#""\u0014""#),
-    (21, r#""\u0015""#),
-    (22, r#""\u0016""#),
-    (23, r#""\u0017""#),
-    (24, r#""\u0018""#),
-    (25, r#""\u0019""#),
-    (26, r#""\u001a""#),
-    (27, r#""\u001b""#),
-    (28, r#""\u001c""#),
-    (29, r#""\u001d""#),
-    (30, r#""\u001e""#),
-    (31, r#""\u001f""#),
-];
-
-fn written(alloc: Global, text: &str) -> Result<String, Fail> {
-    let tree = Tree::Text(Text::from_str(alloc, text)?);
-    Ok(tree.to_text(alloc)?)
-}
-
-fn is_written(
-    rt: &impl Abort,
-    alloc: Global,
-    text: &str,
-    wanted: &str,
-    name: &str,
-) -> Result<(), Fail> {
-    is_said(rt, written(alloc, text), wanted, "the text", name)
-}
-
-fn try_control(rt: &impl Abort, alloc: Global, code: u8, wanted: &str) -> Result<(), Fail> {
-    let mut text = String::new(alloc);
-    text.push(char::from(code))?;
-    is_written(rt, alloc, text.as_str(), wanted, wanted)
-}
-
-#[test]
-fn escapes(rt: HostRuntime) -> Result<(), Fail> {
-    for (code, wanted) in &CONTROLS {
-        try_control(&rt, rt.alloc(), *code, wanted)?;
+    for row in &BORDERS {
+        try_border(&rt, rt.alloc(), row)?;
     }
-    is_written(&rt, rt.alloc(), "\"", r#""\"""#, "a quote")?;
-    is_written(&rt, rt.alloc(), "\\", r#""\\""#, "a backslash")?;
-    is_written(
-        &rt,
-        rt.alloc(),
-        "/\u{7f}é😀",
-        "\"/\u{7f}é😀\"",
-        "other characters",
-    )
+    Ok(())
 }
 
 fn tree_of_value(alloc: Global, document: &str) -> Result<Tree, Fail> {
     let value = Value::from_str(alloc, document)?;
     Ok(Tree::from_value(alloc, &value)?)
-}
-
-fn copied(alloc: Global, document: &str) -> Result<Tree, Fail> {
-    let tree = tree_of_value(alloc, document)?;
-    Ok(tree.copy(alloc)?)
 }
 
 // The text of a tree behind other bytes.
@@ -211,39 +125,23 @@ fn appended(alloc: Global, tree: &Tree, before: &str) -> Result<String, Fail> {
     Ok(String::from_utf8(tree.append_text(bytes)?)?)
 }
 
+#[test]
+fn behind_others(rt: HostRuntime) -> Result<(), Fail> {
+    let document = r#"{"a":[1,null,true,"x"],"b":{"c":-5}}"#;
+    let behind = r#"> {"a":[1,null,true,"x"],"b":{"c":-5}}"#;
+    let tree = tree_of_value(rt.alloc(), document)?;
+    is_said(
+        &rt,
+        appended(rt.alloc(), &tree, "> "),
+        behind,
+        "the text",
+        "a tree behind others",
+    )
+}
+
 fn copied_text(alloc: Global, text: &str) -> Result<Text, Fail> {
     let text = Text::from_str(alloc, text)?;
     Ok(text.copy(alloc)?)
-}
-
-fn try_copy(
-    rt: &impl Abort,
-    alloc: Global,
-    copy: &Tree,
-    document: &str,
-    behind: &str,
-) -> Result<(), Fail> {
-    is_tree(rt, alloc, copy, document, "the text", "a copy")?;
-    is_said(
-        rt,
-        appended(alloc, copy, "> "),
-        behind,
-        "the text",
-        "a copy behind others",
-    )
-}
-
-#[test]
-fn copies(rt: HostRuntime) -> Result<(), Fail> {
-    let document = r#"{"a":[1,null,true,"x"],"b":{"c":-5}}"#;
-    let behind = r#"> {"a":[1,null,true,"x"],"b":{"c":-5}}"#;
-    try_copy(
-        &rt,
-        rt.alloc(),
-        &copied(rt.alloc(), document)?,
-        document,
-        behind,
-    )
 }
 
 #[test]
@@ -251,11 +149,6 @@ fn copies_of_texts(rt: HostRuntime) -> Result<(), Fail> {
     let text = copied_text(rt.alloc(), "abc")?;
     is_text(&rt, text.as_str(), "abc", "the text", "a copy");
     Ok(())
-}
-
-fn chain(alloc: Global, depth: usize) -> Result<Tree, Fail> {
-    let bytes = nested(alloc, depth)?;
-    Ok(Tree::from_bytes(alloc, &bytes)?)
 }
 
 // The bytes can be too many to be shown.
@@ -271,11 +164,6 @@ fn is_whole(
     Ok(())
 }
 
-fn is_copied(rt: &impl Abort, alloc: Global, bytes: &[u8], name: &str) -> Result<(), Fail> {
-    let tree = Tree::from_bytes(alloc, bytes)?;
-    is_copy(rt, alloc, &tree, bytes, name)
-}
-
 fn is_copy(
     rt: &impl Abort,
     alloc: Global,
@@ -288,19 +176,16 @@ fn is_copy(
     is_whole(rt, alloc, &copy, bytes, name)
 }
 
-fn are_in_order(rt: &impl Abort, alloc: Global) -> Result<(), Fail> {
-    let shorter = chain(alloc, 126)?;
-    let longer = chain(alloc, 127)?;
-    holds(rt, shorter < longer, "the order", "two chains");
-    Ok(())
+// What is read is copied, compared and written.
+fn is_copied(rt: &impl Abort, alloc: Global, bytes: &[u8], name: &str) -> Result<(), Fail> {
+    let tree = Tree::from_bytes(alloc, bytes)?;
+    is_copy(rt, alloc, &tree, bytes, name)
 }
 
-// The deepest chain is read, copied, compared and written.
 #[test]
 fn deepest_chain(rt: HostRuntime) -> Result<(), Fail> {
-    are_in_order(&rt, rt.alloc())?;
-    let bytes = nested(rt.alloc(), 127)?;
-    is_copied(&rt, rt.alloc(), &bytes, "the deepest chain")
+    let text = nested(rt.alloc(), "[", 127, "", "]")?;
+    is_copied(&rt, rt.alloc(), text.as_bytes(), "the deepest chain")
 }
 
 fn ones(alloc: Global) -> Result<Vec<u8>, Fail> {
@@ -335,15 +220,11 @@ fn token(alloc: Global, name: &str) -> Result<String, Fail> {
     Ok(text)
 }
 
-fn push_steps(text: &mut String) -> Result<(), JFault> {
-    push_index(text, 0)?;
-    push_name(text, "y")?;
-    push_index(text, 18_446_744_073_709_551_615)
-}
-
 fn behind_x(alloc: Global) -> Result<String, Fail> {
     let mut text = String::from_str(alloc, "/x")?;
-    push_steps(&mut text)?;
+    push_index(&mut text, 0)?;
+    push_name(&mut text, "y")?;
+    push_index(&mut text, 18_446_744_073_709_551_615)?;
     Ok(text)
 }
 
@@ -403,25 +284,12 @@ fn are_ordered(rt: &impl Abort, earlier: &Tree, later: &Tree, row: &str) {
     holds(rt, later.cmp(earlier).is_gt(), "greater, by `cmp`,", row);
     holds(rt, *earlier < *later, "less, by `<`,", row);
     holds(rt, *earlier != *later, "two trees", row);
-}
-
-fn is_its_copy(rt: &impl Abort, alloc: Global, tree: &Tree, row: &str) -> Result<(), Fail> {
-    let copy = tree.copy(alloc)?;
-    holds(rt, tree.cmp(&copy).is_eq(), "a copy, by `cmp`,", row);
-    holds(rt, *tree == copy, "a copy", row);
-    Ok(())
-}
-
-// A tree that was read, and is equal to its copy.
-fn read(rt: &impl Abort, alloc: Global, document: &str, row: &str) -> Result<Tree, Fail> {
-    let tree = Tree::from_bytes(alloc, document.as_bytes())?;
-    is_its_copy(rt, alloc, &tree, row)?;
-    Ok(tree)
+    holds(rt, later.cmp(later).is_eq(), "equal, by `cmp`,", row);
 }
 
 fn is_before(rt: &impl Abort, alloc: Global, row: &str, later: &str) -> Result<(), Fail> {
-    let earlier = read(rt, alloc, row, row)?;
-    let later = read(rt, alloc, later, row)?;
+    let earlier = Tree::from_bytes(alloc, row.as_bytes())?;
+    let later = Tree::from_bytes(alloc, later.as_bytes())?;
     are_ordered(rt, &earlier, &later, row);
     Ok(())
 }
@@ -436,115 +304,84 @@ fn order(rt: HostRuntime) -> Result<(), Fail> {
     Ok(())
 }
 
-// A document, and how many nodes it has.
-static COUNTS: [(&str, u64); 5] = [
-    ("null", 1),
-    ("[]", 1),
-    ("{}", 1),
-    (r#"{"spec":{"a":0,"b":false}}"#, 4),
-    (r#"[[],[0,"x"],{"name":null}]"#, 7),
+// A document, how many nodes it has, a name, what stands there, its text if it is one, and whether that is `x`.
+static PARTS: [(&str, u64, &str, &str, Option<&str>, bool); 10] = [
+    ("null", 1, "a", "none", None, false),
+    ("[]", 1, "a", "none", None, false),
+    ("{}", 1, "a", "none", None, false),
+    (
+        r#"{"spec":{"a":0,"b":false}}"#,
+        4,
+        "spec",
+        r#"{"a":0,"b":false}"#,
+        None,
+        false,
+    ),
+    (
+        r#"[[],[0,"x"],{"name":null}]"#,
+        7,
+        "name",
+        "none",
+        None,
+        false,
+    ),
+    (
+        r#"{"a":"x","b":1,"":""}"#,
+        4,
+        "a",
+        r#""x""#,
+        Some("x"),
+        true,
+    ),
+    (r#"{"a":"x","b":1,"":""}"#, 4, "b", "1", None, false),
+    (r#"{"a":"x","b":1,"":""}"#, 4, "", r#""""#, Some(""), false),
+    (r#"{"a":"x","b":1,"":""}"#, 4, "c", "none", None, false),
+    (r#"["x"]"#, 2, "x", "none", None, false),
 ];
 
-fn try_count(rt: &impl Abort, alloc: Global, text: &str, wanted: u64) -> Result<(), Fail> {
-    let tree = Tree::from_bytes(alloc, text.as_bytes())?;
-    is_number(rt, tree.nodes(), wanted, "the nodes", text);
-    if let Tree::Object(members) = &tree {
-        let nodes = members.nodes().saturating_add(1);
-        is_number(rt, nodes, wanted, "the nodes by the members", text);
-    }
-    Ok(())
-}
-
-#[test]
-fn nodes(rt: HostRuntime) -> Result<(), Fail> {
-    for (text, wanted) in &COUNTS {
-        try_count(&rt, rt.alloc(), text, *wanted)?;
-    }
-    Ok(())
-}
-
-fn try_part(rt: &impl Abort, alloc: Global, found: &Tree) -> Result<(), Fail> {
-    is_number(rt, found.nodes(), 1, "the nodes", "a part of a part");
-    holds(rt, found.get("a").is_none(), "no part", "an integer");
-    is_tree(rt, alloc, found, "2", "the text", "a part of a part")
-}
-
-fn part<'a>(tree: &'a Tree, name: &str) -> Result<&'a Tree, Fail> {
+fn said_of_part(alloc: Global, tree: &Tree, name: &str) -> Result<String, Fail> {
     match tree.get(name) {
-        Some(part) => Ok(part),
-        None => Err(Fail::from("no part")),
+        Some(part) => Ok(part.to_text(alloc)?),
+        None => Ok(String::from_str(alloc, "none")?),
     }
 }
 
-fn try_parts(rt: &impl Abort, alloc: Global, tree: &Tree) -> Result<(), Fail> {
-    holds(rt, tree.get("ab").is_none(), "no part `ab`", "an object");
-    try_part(rt, alloc, part(part(tree, "b")?, "a")?)
+fn try_part(
+    rt: &impl Abort,
+    alloc: Global,
+    tree: &Tree,
+    row: &(&str, u64, &str, &str, Option<&str>, bool),
+) -> Result<(), Fail> {
+    let (document, nodes, name, part, text, is_x) = *row;
+    is_number(rt, tree.nodes(), nodes, "the nodes", document);
+    if let Tree::Object(members) = tree {
+        let found = members.nodes().saturating_add(1);
+        is_number(rt, found, nodes, "the nodes by the members", document);
+    }
+    holds(rt, tree.get_text(name) == text, "the text", document);
+    holds(rt, tree.has_text(name, "x") == is_x, "the test", document);
+    is_said(
+        rt,
+        said_of_part(alloc, tree, name),
+        part,
+        "the part",
+        document,
+    )
+}
+
+fn try_document(
+    rt: &impl Abort,
+    alloc: Global,
+    row: &(&str, u64, &str, &str, Option<&str>, bool),
+) -> Result<(), Fail> {
+    let tree = Tree::from_bytes(alloc, row.0.as_bytes())?;
+    try_part(rt, alloc, &tree, row)
 }
 
 #[test]
 fn parts(rt: HostRuntime) -> Result<(), Fail> {
-    let tree = Tree::from_bytes(rt.alloc(), br#"{"a":1,"b":{"a":2},"c":[]}"#)?;
-    try_parts(&rt, rt.alloc(), &tree)
-}
-
-// A name of `{"a":"x","b":1,"":""}`, the text that stands there, if one does, and whether it is `x`.
-static TEXTS: [(&str, Option<&str>, bool); 4] = [
-    ("a", Some("x"), true),
-    ("b", None, false),
-    ("", Some(""), false),
-    ("c", None, false),
-];
-
-fn try_text(rt: &impl Abort, tree: &Tree, row: &(&str, Option<&str>, bool)) {
-    let (name, text, is_x) = *row;
-    holds(rt, tree.get_text(name) == text, "the text", name);
-    holds(rt, tree.has_text(name, "x") == is_x, "the test", name);
-}
-
-#[test]
-fn texts(rt: HostRuntime) -> Result<(), Fail> {
-    let tree = Tree::from_bytes(rt.alloc(), br#"{"a":"x","b":1,"":""}"#)?;
-    for row in &TEXTS {
-        try_text(&rt, &tree, row);
+    for row in &PARTS {
+        try_document(&rt, rt.alloc(), row)?;
     }
-    Ok(())
-}
-
-#[test]
-fn texts_of_a_list(rt: HostRuntime) -> Result<(), Fail> {
-    let list = Tree::from_bytes(rt.alloc(), br#"["a"]"#)?;
-    holds(&rt, list.get_text("a").is_none(), "no text", "a list");
-    holds(&rt, !list.has_text("a", "a"), "the test", "a list");
-    Ok(())
-}
-
-// A list of 500,000 times 0, and this digit.
-fn push_zeros_and(bytes: &mut Vec<u8>, last: u8) -> Result<(), AllocError> {
-    bytes.push(b'[')?;
-    for _ in 0..500_000 {
-        bytes.extend_from_slice(b"0,")?;
-    }
-    bytes.push(last)?;
-    Ok(bytes.push(b']')?)
-}
-
-fn zeros_and(alloc: Global, last: u8) -> Result<Tree, Fail> {
-    let mut bytes = Vec::new(alloc);
-    push_zeros_and(&mut bytes, last)?;
-    Ok(Tree::from_bytes(alloc, bytes.as_slice())?)
-}
-
-fn are_apart(rt: &impl Abort, zeros: &Tree, others: &Tree) {
-    holds(rt, *zeros < *others, "the order", "two long lists");
-    holds(rt, *zeros != *others, "the difference", "two long lists");
-    is_number(rt, zeros.nodes(), 500_002, "the nodes", "a long list");
-}
-
-// Two long lists that differ at the end alone: each comparison visits each node once.
-#[test]
-fn long_lists_compared(rt: HostRuntime) -> Result<(), Fail> {
-    let zeros = zeros_and(rt.alloc(), b'0')?;
-    let others = zeros_and(rt.alloc(), b'1')?;
-    are_apart(&rt, &zeros, &others);
     Ok(())
 }
