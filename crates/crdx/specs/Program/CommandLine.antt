@@ -38,8 +38,11 @@ abbrev pub sample_app : App
 sample_app = with_rule (with_rule (with_rule (with_rule (with_rule (with_rule (with_rule (new_app (codes "sample")) (required_rule (codes "CRD"))) (required_rule (codes "VERSION")))
     (option_rule (codes "pools"))) (number_rule (codes "limit") 63 (codes "8"))) (number_rule (codes "count") 10000 (codes "100"))) (option_rule (codes "after"))) (option_rule (codes "name"))
 
+abbrev pub top_app : App
+top_app = on_top (λ s. record s { has_version = true; subcommand_required = true }) (new_app (codes "crdx"))
+
 abbrev pub crdx_app : App
-crdx_app = with_subcommand (with_subcommand (with_subcommand (with_subcommand (with_subcommand (on_top (λ s. record s { has_version = true; subcommand_required = true }) (new_app (codes "crdx")))
+crdx_app = with_subcommand (with_subcommand (with_subcommand (with_subcommand (with_subcommand top_app
     check_app.top) (object_app (codes "validate")).top) (object_app (codes "prune")).top) (object_app (codes "default")).top) sample_app.top
 
 -- what `clap` refuses of the arguments after the program's name, and the command that they name with what stands for each of its arguments

@@ -4,9 +4,9 @@ ghost use Rattle.clap.specs.Words.{found_of};
 ghost use Rattle.clap.specs.Kinds.{FailsBy};
 ghost use Rattle.clap.specs.Values.{kind_of};
 ghost use Rattle.clap.specs.Walk.{rule_of, rows_of};
-ghost use Rattle.clap.specs.Simple.{app_of, new_rule, subcommand_rows_of};
+ghost use Rattle.clap.specs.Simple.{App, app_of, new_rule, subcommand_rows_of, with_subcommand};
 ghost use Rattle.clap.specs.declared.builder.command.Command.TheViews.{out-Command};
-ghost use Rattle.crdx.specs.Program.CommandLine.{required_rule, option_rule, number_rule, check_app, object_app, sample_app, faults, entered, IsCommand, AreCheckArguments, AreObjectArguments, AreSampleArguments, Asks, IsRequestOf, IsUsageErrorOrMemory, IsNumberOf};
+ghost use Rattle.crdx.specs.Program.CommandLine.{required_rule, option_rule, number_rule, top_app, check_app, object_app, sample_app, crdx_app, faults, entered, IsCommand, AreCheckArguments, AreObjectArguments, AreSampleArguments, Asks, IsRequestOf, IsUsageErrorOrMemory, IsNumberOf};
 
 use crate::arguments::help;
 use crate::arguments::request::{
@@ -62,37 +62,65 @@ fn matches_of<'a>(alloc: Global, arguments: &'a [String]) -> Result<ArgMatches<'
     ensures command { IfOk result (λ m. subcommand_rows_of m ≡ entered (map string_bytes arguments.entry.now)) }
     ensures kinds { FailsBy (faults (map string_bytes arguments.entry.now)) result }
 {
-    let command = Command::new(alloc, "crdx")
-        .bin_name("crdx")?
-        .version(help::VERSION)
-        .about(help::PROGRAM)
-        .long_about(help::PROGRAM_LONG)
-        .after_long_help(help::PROGRAM_END)
-        .subcommand_required(true)
-        .subcommand(check_command(alloc)?)?
-        .subcommand(object_command(
-            alloc,
-            "validate",
-            help::VALIDATE,
-            help::VALIDATE_LONG,
-            help::VALIDATE_END,
-        )?)?
-        .subcommand(object_command(
-            alloc,
-            "prune",
-            help::PRUNE,
-            help::PRUNE_LONG,
-            help::PRUNE_END,
-        )?)?
-        .subcommand(object_command(
-            alloc,
-            "default",
-            help::DEFAULT,
-            help::DEFAULT_LONG,
-            help::DEFAULT_END,
-        )?)?
-        .subcommand(sample_command(alloc)?)?;
+    let command = crdx_command(alloc)?;
     command.try_get_matches_from(arguments)
+}
+
+fn crdx_command<'a>(alloc: Global) -> Result<Command<'a>, AllocError>
+    ensures { IfOk result (λ c. app_of c ≡ crdx_app) }
+{
+    let command = add_command(top_command(alloc)?, check_command(alloc))?;
+    let validate = object_command(
+        alloc,
+        "validate",
+        help::VALIDATE,
+        help::VALIDATE_LONG,
+        help::VALIDATE_END,
+    );
+    let command = add_command(command, validate)?;
+    let prune = object_command(
+        alloc,
+        "prune",
+        help::PRUNE,
+        help::PRUNE_LONG,
+        help::PRUNE_END,
+    );
+    let command = add_command(command, prune)?;
+    let default = object_command(
+        alloc,
+        "default",
+        help::DEFAULT,
+        help::DEFAULT_LONG,
+        help::DEFAULT_END,
+    );
+    let command = add_command(command, default)?;
+    add_command(command, sample_command(alloc))
+}
+
+/// The program's own name, version and help.
+fn top_command<'a>(alloc: Global) -> Result<Command<'a>, AllocError>
+    ensures { IfOk result (λ c. app_of c ≡ top_app) }
+{
+    let command = Command::new(alloc, "crdx").bin_name("crdx")?;
+    Ok(
+        command
+            .version(help::VERSION)
+            .about(help::PROGRAM)
+            .long_about(help::PROGRAM_LONG)
+            .after_long_help(help::PROGRAM_END)
+            .subcommand_required(true),
+    )
+}
+
+/// The command with one more below it, which has been made or has met want of memory.
+fn add_command<'a>(
+    command: Command<'a>,
+    below: Result<Command<'a>, AllocError>,
+) -> Result<Command<'a>, AllocError>
+    requires { IfOk below (λ b. (out-Command b).has_globals ≡ false) }
+    ensures { (a : App) → IfOk below.entry (λ b. app_of b ≡ a) → IfOk result (λ c. app_of c ≡ with_subcommand (app_of command.entry) a.top) }
+{
+    command.subcommand(below?)
 }
 
 /// The arguments that `check` takes.

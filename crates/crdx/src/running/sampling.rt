@@ -4,7 +4,7 @@ ghost use Rattle.jtree.specs.Data.{Data};
 ghost use Rattle.jtree.specs.View.{data_of};
 ghost use Rattle.plan.specs.Samples.Question.{Question};
 ghost use Rattle.enumerate.specs.Page.{IsSampleOf};
-ghost use Rattle.crdx.specs.Internal.Cause.{IsInputCause, IsSampleCause};
+ghost use Rattle.crdx.specs.Internal.Cause.{IsInputCause, IsSampleCause, IsWalkCause};
 ghost use Rattle.crdx.specs.Output.Walk.{WritesPage};
 ghost use Rattle.crdx.specs.Program.Requested.{IsRequested, envelope_for};
 ghost use Rattle.crdx.specs.declared.arguments.request.Request.TheVariants.{Sample};
@@ -46,14 +46,32 @@ pub(crate) fn sample<I: Inputs, W: Sink>(
         (W.taken out.old) (W.taken out.new) (W.failures out.old) (W.failures out.new)) }
 {
     let mut sample_inputs = sample_inputs(alloc, arguments, inputs)?;
-    let mut meter = sample_inputs.plan.meter();
+    write_samples(alloc, &mut sample_inputs, arguments.count, out)
+}
+
+/// Writes the first `count` samples past the tree to go on from, and flushes.
+fn write_samples<W: Sink>(
+    alloc: Global,
+    inputs: &mut SampleInputs,
+    count: u32,
+    out: &mut W,
+) -> Result<Walked, Cause>
+    requires least { 1 ≤ count }
+    requires most { count ≤ 10000 }
+    ensures sampled { IfOk result (λ walked. IfSome (option_map data_of inputs.old.after) (IsSampleOf inputs.old.plan)
+        × WritesPage inputs.old.plan (option_map data_of inputs.old.after) count inputs.old.envelope walked.lines walked.end (W.taken out.old) (W.taken out.new)) }
+    ensures unfailed { OnOk result (W.failures out.new ≡ W.failures out.old) }
+    ensures cause { IfErr result (IsWalkCause inputs.old.plan (option_map data_of inputs.old.after) count inputs.old.envelope
+        (W.taken out.old) (W.taken out.new) (W.failures out.old) (W.failures out.new)) }
+{
+    let mut meter = inputs.plan.meter();
     let walked = walk(
         alloc,
-        &sample_inputs.plan,
-        sample_inputs.after.as_ref(),
+        &inputs.plan,
+        inputs.after.as_ref(),
         PAGE,
-        arguments.count,
-        sample_inputs.envelope.as_ref(),
+        count,
+        inputs.envelope.as_ref(),
         &mut meter,
         out,
     )?;

@@ -1,76 +1,14 @@
-use Rattle.std.proofs.Common.{◌≡◌, inr, ap, ◌∙◌, option_map}
-use Rattle.std.specs.Option.{IfSome}
-use Rattle.std.proofs.lemmas.Result.{err_from_is_err_and}
-use Rattle.std.proofs.KnownBytes.{Appends-kept}
+use Rattle.std.proofs.Common.{inr, option_map}
+use Rattle.std.proofs.lemmas.Result.{IfOk-weaker, IfErr-weaker}
 use Rattle.jtree.specs.View.{data_of}
-use Rattle.enumerate.specs.Page.{IsSampleOf}
-use Rattle.enumerate.specs.View.{resume_point}
-use Rattle.crdx.specs.Output.PartialOutput.{IsPartialOutput}
-use Rattle.crdx.specs.Output.Sink.{one_more}
-use Rattle.crdx.specs.Output.Walk.{WritesPage}
-use Rattle.crdx.proofs.RunLemmas.{walk_cause, flush_cause, failed_once}
-use Rattle.crdx.proofs.WalkLemmas.{resumed}
 use Rattle.crdx.proofs.running.sampling.sample.Goals as goal
 
-pub returns-in_err-walked-clause-cause : goal.returns-in_err-walked-clause-cause
-returns-in_err-walked-clause-cause g c =
+pub returns-clause-sampled : goal.returns-clause-sampled
+returns-clause-sampled g c =
     let inputs = c.in_ok-sample_inputs.sample_inputs in
-    let after = option_map data_of inputs.after in
-    let place : resume_point c.as_ref.result ≡ after = resumed c.as_ref.result ∙ ap (option_map data_of) c.as_ref.ensures.value in
-    let cut : IsPartialOutput inputs.plan after c.args.arguments.now.count inputs.envelope (g.W.Sink.taken c.args.out.now) (g.W.Sink.taken c.walk.new.out)
-    (g.W.Sink.failures c.args.out.now) (g.W.Sink.failures c.walk.new.out) c.in_err-walked.field-0.0 =
-    rw (← place, ← c.as_ref-2.ensures.value, ← c.meter-meter.ensures.same) c.in_err-walked.ensures.cut in
-    let p = err_from_is_err_and c.from_residual-in_err-walked.result c.from_residual-in_err-walked.ensures.1 in
-    rw (p.1, p.2) (inr (
-      inputs.plan,
-      after,
-      inputs.envelope,
-      c.in_ok-sample_inputs.ensures.requested,
-      walk_cause inputs.plan after c.args.arguments.now.count inputs.envelope _ _ _ _ _ cut,
-    ))
-
-pub returns-in-Ok-clause-sampled : goal.returns-in-Ok-clause-sampled
-returns-in-Ok-clause-sampled g c =
-    let inputs = c.in_ok-sample_inputs.sample_inputs in
-    let after = option_map data_of inputs.after in
-    let place : resume_point c.as_ref.result ≡ after = resumed c.as_ref.result ∙ ap (option_map data_of) c.as_ref.ensures.value in
-    let sample : IfSome after (IsSampleOf inputs.plan) = rw (← place, ← c.meter-meter.ensures.same) c.in_ok-walked.ensures.sample in
-    let wrote : WritesPage inputs.plan after c.args.arguments.now.count inputs.envelope c.in_ok-walked.walked.lines c.in_ok-walked.walked.end
-    (g.W.Sink.taken c.args.out.now) (g.W.Sink.taken c.walk.new.out) =
-    rw (← place, ← c.as_ref-2.ensures.value, ← c.meter-meter.ensures.same) c.in_ok-walked.ensures.lines in (
-      inputs.plan,
-      after,
-      inputs.envelope,
-      c.in_ok-sample_inputs.ensures.requested,
-      sample,
-      record {
-        items = wrote.items;
-        page = wrote.page;
-        counted = wrote.counted;
-        written = Appends-kept _ _ _ _ wrote.written c.in-Ok.ensures.keeps;
-      },
-    )
+    IfOk-weaker c.write_samples.result _ _ (λ walked is. (inputs.plan, option_map data_of inputs.after, inputs.envelope, c.in_ok-sample_inputs.ensures.requested, is.0, is.1)) c.write_samples.ensures.sampled
 
 pub returns-clause-cause : goal.returns-clause-cause
 returns-clause-cause g c =
     let inputs = c.in_ok-sample_inputs.sample_inputs in
-    let after = option_map data_of inputs.after in
-    let place : resume_point c.as_ref.result ≡ after = resumed c.as_ref.result ∙ ap (option_map data_of) c.as_ref.ensures.value in
-    let wrote : WritesPage inputs.plan after c.args.arguments.now.count inputs.envelope c.in_ok-walked.walked.lines c.in_ok-walked.walked.end
-    (g.W.Sink.taken c.args.out.now) (g.W.Sink.taken c.walk.new.out) =
-    rw (← place, ← c.as_ref-2.ensures.value, ← c.meter-meter.ensures.same) c.in_ok-walked.ensures.lines in
-    let sample : IfSome after (IsSampleOf inputs.plan) = rw (← place, ← c.meter-meter.ensures.same) c.in_ok-walked.ensures.sample in
-    let failed = failed_once _ _ (c.in-Err.ensures.err ∙ ap one_more c.in_ok-walked.ensures.unfailed) in
-    inr (
-      inputs.plan,
-      after,
-      inputs.envelope,
-      c.in_ok-sample_inputs.ensures.requested,
-      flush_cause inputs.plan after c.args.arguments.now.count inputs.envelope _ c.in_ok-walked.walked.lines c.in_ok-walked.walked.end
-          (g.W.Sink.taken c.args.out.now) (g.W.Sink.taken c.flush.new.self) _ _ sample (record {
-            items = wrote.items;
-            page = wrote.page;
-            counted = wrote.counted;
-            written = Appends-kept _ _ _ _ wrote.written c.in-Err.ensures.keeps;
-          }) failed,
-    )
+    IfErr-weaker c.write_samples.result _ _ (λ cause is. inr (inputs.plan, option_map data_of inputs.after, inputs.envelope, c.in_ok-sample_inputs.ensures.requested, is)) c.write_samples.ensures.cause
