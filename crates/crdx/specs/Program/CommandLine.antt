@@ -28,22 +28,23 @@ option_rule id = record (new_rule id) { long = Some id; value_names = 1 }
 abbrev pub number_rule : Text → ℕ → Text → Rule
 number_rule id most usual = record (option_rule id) { parser = Some (Signed (pos 1) (pos most)); defaults = usual ∷ [] }
 
-abbrev pub check_app : App
-check_app = with_rule (with_rule (new_app (codes "check")) (required_rule (codes "CRD"))) (required_rule (codes "VERSION"))
+-- a command that is told a definition and a version
+abbrev pub crd_app : Text → App
+crd_app name = with_rule (with_rule (new_app name) (required_rule (codes "CRD"))) (required_rule (codes "VERSION"))
 
 abbrev pub object_app : Text → App
-object_app name = with_rule (with_rule (with_rule (new_app name) (required_rule (codes "CRD"))) (required_rule (codes "VERSION"))) (new_rule (codes "OBJECT"))
+object_app name = with_rule (crd_app name) (new_rule (codes "OBJECT"))
 
 abbrev pub sample_app : App
-sample_app = with_rule (with_rule (with_rule (with_rule (with_rule (with_rule (with_rule (new_app (codes "sample")) (required_rule (codes "CRD"))) (required_rule (codes "VERSION")))
-    (option_rule (codes "pools"))) (number_rule (codes "limit") 63 (codes "8"))) (number_rule (codes "count") 10000 (codes "100"))) (option_rule (codes "after"))) (option_rule (codes "name"))
+sample_app = with_rule (with_rule (with_rule (with_rule (with_rule (crd_app (codes "sample")) (option_rule (codes "pools")))
+    (number_rule (codes "limit") 63 (codes "8"))) (number_rule (codes "count") 10000 (codes "100"))) (option_rule (codes "after"))) (option_rule (codes "name"))
 
 abbrev pub top_app : App
 top_app = on_top (λ s. record s { has_version = true; subcommand_required = true }) (new_app (codes "crdx"))
 
 abbrev pub crdx_app : App
 crdx_app = with_subcommand (with_subcommand (with_subcommand (with_subcommand (with_subcommand top_app
-    check_app.top) (object_app (codes "validate")).top) (object_app (codes "prune")).top) (object_app (codes "default")).top) sample_app.top
+    (crd_app (codes "check")).top) (object_app (codes "validate")).top) (object_app (codes "prune")).top) (object_app (codes "default")).top) sample_app.top
 
 -- what `clap` refuses of the arguments after the program's name, and the command that they name with what stands for each of its arguments
 unfoldable pub faults : List Text → Kinds

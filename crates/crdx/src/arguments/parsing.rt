@@ -6,7 +6,7 @@ ghost use Rattle.clap.specs.Values.{kind_of};
 ghost use Rattle.clap.specs.Walk.{rule_of, rows_of};
 ghost use Rattle.clap.specs.Simple.{App, app_of, new_rule, subcommand_rows_of, with_subcommand};
 ghost use Rattle.clap.specs.declared.builder.command.Command.TheViews.{out-Command};
-ghost use Rattle.crdx.specs.Program.CommandLine.{required_rule, option_rule, number_rule, top_app, check_app, object_app, sample_app, crdx_app, faults, entered, IsCommand, AreCheckArguments, AreObjectArguments, AreSampleArguments, Asks, IsRequestOf, IsUsageErrorOrMemory, IsNumberOf};
+ghost use Rattle.crdx.specs.Program.CommandLine.{required_rule, option_rule, number_rule, top_app, crd_app, object_app, sample_app, crdx_app, faults, entered, IsCommand, AreCheckArguments, AreObjectArguments, AreSampleArguments, Asks, IsRequestOf, IsUsageErrorOrMemory, IsNumberOf};
 
 use crate::arguments::help;
 use crate::arguments::request::{
@@ -69,7 +69,14 @@ fn matches_of<'a>(alloc: Global, arguments: &'a [String]) -> Result<ArgMatches<'
 fn crdx_command<'a>(alloc: Global) -> Result<Command<'a>, AllocError>
     ensures { IfOk result (λ c. app_of c ≡ crdx_app) }
 {
-    let command = add_command(top_command(alloc)?, check_command(alloc))?;
+    let check = crd_command(
+        alloc,
+        "check",
+        help::CHECK,
+        help::CHECK_LONG,
+        help::CHECK_END,
+    );
+    let command = add_command(top_command(alloc)?, check)?;
     let validate = object_command(
         alloc,
         "validate",
@@ -123,15 +130,21 @@ fn add_command<'a>(
     command.subcommand(below?)
 }
 
-/// The arguments that `check` takes.
-fn check_command<'a>(alloc: Global) -> Result<Command<'a>, AllocError>
-    ensures app { IfOk result (λ c. app_of c ≡ check_app) }
+/// The command of this name, with the arguments that `check` takes, and each other command too.
+fn crd_command<'a>(
+    alloc: Global,
+    name: &'a str,
+    about: &'a str,
+    long_about: &'a str,
+    end: &'a str,
+) -> Result<Command<'a>, AllocError>
+    ensures app { IfOk result (λ c. app_of c ≡ crd_app name.now) }
     ensures local { IfOk result (λ c. (out-Command c).has_globals ≡ false) }
 {
-    Command::new(alloc, "check")
-        .about(help::CHECK)
-        .long_about(help::CHECK_LONG)
-        .after_long_help(help::CHECK_END)
+    Command::new(alloc, name)
+        .about(about)
+        .long_about(long_about)
+        .after_long_help(end)
         .arg(crd_argument(alloc))?
         .arg(version_argument(alloc))
 }
@@ -163,13 +176,7 @@ fn object_command<'a>(
     ensures app { IfOk result (λ c. app_of c ≡ object_app name.now) }
     ensures local { IfOk result (λ c. (out-Command c).has_globals ≡ false) }
 {
-    Command::new(alloc, name)
-        .about(about)
-        .long_about(long_about)
-        .after_long_help(end)
-        .arg(crd_argument(alloc))?
-        .arg(version_argument(alloc))?
-        .arg(object_argument(alloc))
+    crd_command(alloc, name, about, long_about, end)?.arg(object_argument(alloc))
 }
 
 fn object_argument<'a>(alloc: Global) -> Arg<'a>
@@ -184,17 +191,18 @@ fn sample_command<'a>(alloc: Global) -> Result<Command<'a>, AllocError>
     ensures app { IfOk result (λ c. app_of c ≡ sample_app) }
     ensures local { IfOk result (λ c. (out-Command c).has_globals ≡ false) }
 {
-    Command::new(alloc, "sample")
-        .about(help::SAMPLE)
-        .long_about(help::SAMPLE_LONG)
-        .after_long_help(help::SAMPLE_END)
-        .arg(crd_argument(alloc))?
-        .arg(version_argument(alloc))?
-        .arg(pools_option(alloc))?
-        .arg(limit_option(alloc))?
-        .arg(count_option(alloc))?
-        .arg(after_option(alloc))?
-        .arg(name_option(alloc))
+    crd_command(
+        alloc,
+        "sample",
+        help::SAMPLE,
+        help::SAMPLE_LONG,
+        help::SAMPLE_END,
+    )?
+    .arg(pools_option(alloc))?
+    .arg(limit_option(alloc))?
+    .arg(count_option(alloc))?
+    .arg(after_option(alloc))?
+    .arg(name_option(alloc))
 }
 
 fn pools_option<'a>(alloc: Global) -> Arg<'a>

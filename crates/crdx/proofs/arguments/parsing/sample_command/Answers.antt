@@ -1,28 +1,20 @@
-use Rattle.std.proofs.Common.{codes, ap, ap₂, ◌≡◌, ◌∙◌, ◌||◌}
+use Rattle.std.proofs.Common.{ap₂, ◌∙◌, ◌||◌}
 use Rattle.std.proofs.lemmas.Result.{IfOk-weaker}
-use Rattle.clap.specs.Simple.{app_of, app_of_fields, new_app, with_rule}
+use Rattle.clap.specs.Simple.{with_rule}
 use Rattle.crdx.proofs.arguments.parsing.sample_command.Goals as goal
 
 pub returns-clause-app : goal.returns-clause-app
 returns-clause-app c =
-    let about : app_of c.about.result ≡ new_app (codes "sample") = ap app_of_fields c.about.ensures ∙ c.new.ensures.app in
-    let texts : app_of c.after_long_help.result ≡ new_app (codes "sample") = ap app_of_fields c.after_long_help.ensures ∙ (ap app_of_fields c.long_about.ensures ∙ about) in
-    let first = c.in_ok-arg.ensures.shape c.crd_argument.ensures.local ∙ ap₂ with_rule texts c.crd_argument.ensures.rule in
-    let second = c.in_ok-arg-2.ensures.shape c.version_argument.ensures.local ∙ ap₂ with_rule first c.version_argument.ensures.rule in
-    let third = c.in_ok-arg-3.ensures.shape c.pools_option.ensures.local ∙ ap₂ with_rule second c.pools_option.ensures.rule in
-    let fourth = c.in_ok-arg-4.ensures.shape c.limit_option.ensures.local ∙ ap₂ with_rule third c.limit_option.ensures.rule in
-    let fifth = c.in_ok-arg-5.ensures.shape c.count_option.ensures.local ∙ ap₂ with_rule fourth c.count_option.ensures.rule in
-    let sixth = c.in_ok-arg-6.ensures.shape c.after_option.ensures.local ∙ ap₂ with_rule fifth c.after_option.ensures.rule in
-    IfOk-weaker c.arg-7.result _ _ (λ r adds. adds.shape c.name_option.ensures.local ∙ ap₂ with_rule sixth c.name_option.ensures.rule) c.arg-7.ensures
+    let first = c.in_ok-arg.ensures.shape c.pools_option.ensures.local ∙ ap₂ with_rule c.in_ok-crd_command.ensures.app c.pools_option.ensures.rule in
+    let second = c.in_ok-arg-2.ensures.shape c.limit_option.ensures.local ∙ ap₂ with_rule first c.limit_option.ensures.rule in
+    let third = c.in_ok-arg-3.ensures.shape c.count_option.ensures.local ∙ ap₂ with_rule second c.count_option.ensures.rule in
+    let fourth = c.in_ok-arg-4.ensures.shape c.after_option.ensures.local ∙ ap₂ with_rule third c.after_option.ensures.rule in
+    IfOk-weaker c.arg-5.result _ _ (λ r adds. adds.shape c.name_option.ensures.local ∙ ap₂ with_rule fourth c.name_option.ensures.rule) c.arg-5.ensures
 
 pub returns-clause-local : goal.returns-clause-local
 returns-clause-local c =
-    let about = ap (λ f. f.has_globals) c.about.ensures ∙ c.new.ensures.local in
-    let texts = ap (λ f. f.has_globals) c.after_long_help.ensures ∙ (ap (λ f. f.has_globals) c.long_about.ensures ∙ about) in
-    let first = c.in_ok-arg.ensures.globals ∙ ap₂ (λ g h. g || h) texts c.crd_argument.ensures.local in
-    let second = c.in_ok-arg-2.ensures.globals ∙ ap₂ (λ g h. g || h) first c.version_argument.ensures.local in
-    let third = c.in_ok-arg-3.ensures.globals ∙ ap₂ (λ g h. g || h) second c.pools_option.ensures.local in
-    let fourth = c.in_ok-arg-4.ensures.globals ∙ ap₂ (λ g h. g || h) third c.limit_option.ensures.local in
-    let fifth = c.in_ok-arg-5.ensures.globals ∙ ap₂ (λ g h. g || h) fourth c.count_option.ensures.local in
-    let sixth = c.in_ok-arg-6.ensures.globals ∙ ap₂ (λ g h. g || h) fifth c.after_option.ensures.local in
-    IfOk-weaker c.arg-7.result _ _ (λ r adds. adds.globals ∙ ap₂ (λ g h. g || h) sixth c.name_option.ensures.local) c.arg-7.ensures
+    let first = c.in_ok-arg.ensures.globals ∙ ap₂ (λ g h. g || h) c.in_ok-crd_command.ensures.local c.pools_option.ensures.local in
+    let second = c.in_ok-arg-2.ensures.globals ∙ ap₂ (λ g h. g || h) first c.limit_option.ensures.local in
+    let third = c.in_ok-arg-3.ensures.globals ∙ ap₂ (λ g h. g || h) second c.count_option.ensures.local in
+    let fourth = c.in_ok-arg-4.ensures.globals ∙ ap₂ (λ g h. g || h) third c.after_option.ensures.local in
+    IfOk-weaker c.arg-5.result _ _ (λ r adds. adds.globals ∙ ap₂ (λ g h. g || h) fourth c.name_option.ensures.local) c.arg-5.ensures
