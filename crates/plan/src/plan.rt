@@ -1,4 +1,6 @@
-ghost use Rattle.std.specs.Prelude.{ℕ};
+ghost use Rattle.std.specs.Prelude.{◌≡◌, ◌≤◌, ◌<◌, ◌⊎◌, ℕ, IfOk, IfErr};
+ghost use Rattle.plan.specs.declared.fault.PFault.TheVariants.{BadLimit, NoMemory};
+ghost use Rattle.plan.specs.Internal.Plan.{IsPlan};
 
 use crate::arena::{Arena, Content, PlanNode};
 use crate::building::build;
@@ -60,7 +62,6 @@ impl<Z: SizeSet> Plan<Z> {
     ghost use Rattle.plan.specs.Samples.NoDeadEnd.{NoDeadEnd, is_key, IsTuple, AreCounts, product, HasFree};
     ghost use Rattle.plan.specs.Samples.Keys.{HasTuples, HasSoundParts};
     ghost use Rattle.plan.specs.Samples.Handed.{IsSlotAt, IsCandidateAt};
-    ghost use Rattle.plan.specs.declared.fault.PFault.TheVariants.{BadLimit, NoMemory};
     ghost use Rattle.stored.specs.Objects.Becomes.{is_nullable};
     ghost use Rattle.plan.specs.Samples.Sites.{Site, Slot as SiteSlot, sites_of, plain, item_site, slots as slots_of};
     ghost use Rattle.plan.specs.Samples.Candidates.{sort_of, distinct_of, HasCount, IsWidth};
@@ -78,22 +79,19 @@ impl<Z: SizeSet> Plan<Z> {
         ensures limit { OnOk result ((1 ≤ limit) × (limit < Z.BITS)) }
         ensures err { IfErr result (λ e. ((e ≡ BadLimit) × ((limit ≡ 0) ⊎ (Z.BITS ≤ limit))) ⊎ ((e ≡ NoMemory) × ((1 ≤ limit) × (limit < Z.BITS)))) }
     {
-        if limit == 0 || limit >= Z::BITS {
-            return Err(PFault::BadLimit);
+        match entries(alloc, &schema, &pools, limit) {
+            Ok((arena, root)) => Ok(Plan {
+                schema,
+                pools,
+                arena,
+                root,
+            }),
+            Err(fault) => {
+                drop(schema);
+                drop(pools);
+                Err(fault)
+            }
         }
-        items_told_apart();
-        let mut arena = Arena {
-            values: Values::new(alloc, &pools)?,
-            limit,
-            entries: Vec::new(alloc),
-        };
-        let root = build(&mut arena, alloc, schema.root(), &[])?;
-        Ok(Plan {
-            schema,
-            pools,
-            arena,
-            root,
-        })
     }
 
     /// The node of the body of a resource.
@@ -298,4 +296,28 @@ impl<Z: SizeSet> Plan<Z> {
     {
         Meter::new()
     }
+}
+
+/// The entries of the schema's nodes, and the root's among them, where a plan can have this limit.
+fn entries<Z: SizeSet>(
+    alloc: Global,
+    schema: &Schema,
+    pools: &Pools,
+    limit: u32,
+) -> Result<(Arena<Z>, PlanNode), PFault>
+    ensures limit { IfOk result (λ made. made.0.limit ≡ limit) }
+    ensures made { IfOk result (λ made. IsPlan Z.holds Z.BITS schema.now pools.now limit made.0.values made.0.entries.items made.1) }
+    ensures err { IfErr result (λ e. ((e ≡ BadLimit) × ((limit ≡ 0) ⊎ (Z.BITS ≤ limit))) ⊎ ((e ≡ NoMemory) × ((1 ≤ limit) × (limit < Z.BITS)))) }
+{
+    if limit == 0 || limit >= Z::BITS {
+        return Err(PFault::BadLimit);
+    }
+    items_told_apart();
+    let mut arena = Arena {
+        values: Values::new(alloc, pools)?,
+        limit,
+        entries: Vec::new(alloc),
+    };
+    let root = build(&mut arena, alloc, schema.root(), &[])?;
+    Ok((arena, root))
 }

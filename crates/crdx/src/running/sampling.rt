@@ -1,23 +1,24 @@
 // What `sample` writes.
-ghost use Rattle.std.specs.Prelude.{◌≡◌, ◌≤◌, Option, IfOk, IfErr, OnOk, IfSome, option_map};
+ghost use Rattle.std.specs.Prelude.{◌≡◌, ◌≤◌, ◌⊎◌, Option, IfOk, IfErr, OnOk, IfSome, option_map};
 ghost use Rattle.jtree.specs.Data.{Data};
 ghost use Rattle.jtree.specs.View.{data_of};
 ghost use Rattle.plan.specs.Samples.Question.{Question};
 ghost use Rattle.enumerate.specs.Page.{IsSampleOf};
-ghost use Rattle.crdx.specs.Internal.Cause.{IsInputCause, IsSampleCause, IsWalkCause};
+ghost use Rattle.crdx.specs.Internal.Cause.{IsInputCause, IsAfterCause, IsSampleCause, IsWalkCause};
 ghost use Rattle.crdx.specs.Output.Walk.{WritesPage};
-ghost use Rattle.crdx.specs.Program.Requested.{IsRequested, envelope_for};
+ghost use Rattle.crdx.specs.Program.Requested.{IsRequested, IsAfter, envelope_for};
 ghost use Rattle.crdx.specs.declared.arguments.request.Request.TheVariants.{Sample};
+ghost use Rattle.crdx.specs.declared.running.causes.Cause.TheVariants.{NoMemory};
 ghost use Rattle.crdx.specs.declared.walk.line.Envelope.{Envelope as EnvelopeData};
 
 use crate::arguments::SampleArguments;
 use crate::inputs::Inputs;
 use crate::running::causes::Cause;
-use crate::running::documents::{accepted_schema, after_of, pools_of};
+use crate::running::documents::{Accepted, accepted_schema, after_of, pools_of};
 use crate::sink::Sink;
 use crate::walk::{Envelope, Walked, walk};
 use jtree::{Text, Tree};
-use plan::Plan;
+use plan::{Plan, Pools};
 use std::alloc::{AllocError, Global};
 
 /// The most samples that are held at a time.
@@ -98,10 +99,21 @@ fn sample_inputs<I: Inputs>(
         Ok(pools) => pools,
         Err(cause) => return Err(cause),
     };
-    let after = match after_of(alloc, arguments.after) {
-        Ok(after) => after,
-        Err(cause) => return Err(cause),
-    };
+    inputs_of(alloc, arguments, accepted, pools)
+}
+
+/// What samples of this schema over these pools are listed from.
+fn inputs_of(
+    alloc: Global,
+    arguments: &SampleArguments<'_>,
+    accepted: Accepted,
+    pools: Pools,
+) -> Result<SampleInputs, Cause>
+    ensures plan { IfOk result (λ a. a.plan ≡ record { root = accepted.schema; pools = pools; limit = arguments.now.limit }) }
+    ensures after { IfOk result (λ a. IsAfter arguments.now.after (option_map data_of a.after)) }
+    ensures envelope { IfOk result (λ a. a.envelope ≡ envelope_for accepted.group arguments.now.version.now accepted.kind arguments.now.name) }
+    ensures cause { IfErr result (λ cause. IsAfterCause arguments.now.after cause ⊎ (cause ≡ NoMemory)) }
+{
     let envelope = envelope_named(
         alloc,
         &accepted.group,
@@ -109,11 +121,15 @@ fn sample_inputs<I: Inputs>(
         &accepted.kind,
         arguments.name,
     )?;
-    Ok(SampleInputs {
-        plan: Plan::new(alloc, accepted.schema, pools, arguments.limit)?,
-        after,
-        envelope,
-    })
+    let plan = Plan::new(alloc, accepted.schema, pools, arguments.limit)?;
+    match after_of(alloc, arguments.after) {
+        Ok(after) => Ok(SampleInputs {
+            plan,
+            after,
+            envelope,
+        }),
+        Err(cause) => Err(cause),
+    }
 }
 
 /// The envelope of resources of this group, version, kind and name; none without a name.
