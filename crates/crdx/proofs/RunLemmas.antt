@@ -149,9 +149,10 @@ text_input has unread read arguments text _ is accepted P are why = absurd why
 
 -- the tree to go on from is read where the schema and the pools are taken
 pub after_input : (has : Documents) (unread read : ℕ) (arguments : SampleArguments) (after : Option (Bor (List ℕ))) (cause : Cause) → arguments.after ≡ after → HasAcceptedSchema has arguments.crd.now arguments.version.now
-    → (P : Pools) → ArePools has arguments.pools P → IsAfterCause after cause → IsInputCause has unread read (Sample arguments) cause
-after_input has unread read arguments None cause is accepted P are why = absurd why
-after_input has unread read arguments (Some text) cause is accepted P are why = text_input has unread read arguments text cause is accepted P are why
+    → (P : Pools) → ArePools has arguments.pools P → IsAfterCause after cause ⊎ (cause ≡ NoMemory) → IsInputCause has unread read (Sample arguments) cause
+after_input has unread read arguments after cause is accepted P are (inr memory) = rw memory tt
+after_input has unread read arguments None cause is accepted P are (inl why) = absurd why
+after_input has unread read arguments (Some text) cause is accepted P are (inl why) = text_input has unread read arguments text cause is accepted P are why
 
 module _ (has : Documents) (unread read : ℕ) (request : Request) (old new : Option (List ℕ)) (before now : ℕ) where
   kept : Keeps old new → (r : Request) → IsCutByMemory has r old new

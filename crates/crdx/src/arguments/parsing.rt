@@ -69,6 +69,7 @@ fn matches_of<'a>(alloc: Global, arguments: &'a [String]) -> Result<ArgMatches<'
 fn crdx_command<'a>(alloc: Global) -> Result<Command<'a>, AllocError>
     ensures { IfOk result (λ c. app_of c ≡ crdx_app) }
 {
+    let command = top_command(alloc);
     let check = crd_command(
         alloc,
         "check",
@@ -76,7 +77,7 @@ fn crdx_command<'a>(alloc: Global) -> Result<Command<'a>, AllocError>
         help::CHECK_LONG,
         help::CHECK_END,
     );
-    let command = add_command(top_command(alloc)?, check)?;
+    let command = add_command(command, check);
     let validate = object_command(
         alloc,
         "validate",
@@ -84,7 +85,7 @@ fn crdx_command<'a>(alloc: Global) -> Result<Command<'a>, AllocError>
         help::VALIDATE_LONG,
         help::VALIDATE_END,
     );
-    let command = add_command(command, validate)?;
+    let command = add_command(command, validate);
     let prune = object_command(
         alloc,
         "prune",
@@ -92,7 +93,7 @@ fn crdx_command<'a>(alloc: Global) -> Result<Command<'a>, AllocError>
         help::PRUNE_LONG,
         help::PRUNE_END,
     );
-    let command = add_command(command, prune)?;
+    let command = add_command(command, prune);
     let default = object_command(
         alloc,
         "default",
@@ -100,7 +101,7 @@ fn crdx_command<'a>(alloc: Global) -> Result<Command<'a>, AllocError>
         help::DEFAULT_LONG,
         help::DEFAULT_END,
     );
-    let command = add_command(command, default)?;
+    let command = add_command(command, default);
     add_command(command, sample_command(alloc))
 }
 
@@ -119,15 +120,27 @@ fn top_command<'a>(alloc: Global) -> Result<Command<'a>, AllocError>
     )
 }
 
-/// The command with one more below it, which has been made or has met want of memory.
+/// The command with one more below it, where both have been made.
 fn add_command<'a>(
-    command: Command<'a>,
+    command: Result<Command<'a>, AllocError>,
     below: Result<Command<'a>, AllocError>,
 ) -> Result<Command<'a>, AllocError>
     requires { IfOk below (λ b. (out-Command b).has_globals ≡ false) }
-    ensures { (a : App) → IfOk below.entry (λ b. app_of b ≡ a) → IfOk result (λ c. app_of c ≡ with_subcommand (app_of command.entry) a.top) }
+    ensures { (a b : App) → IfOk command.entry (λ c. app_of c ≡ a) → IfOk below.entry (λ c. app_of c ≡ b) → IfOk result (λ c. app_of c ≡ with_subcommand a b.top) }
 {
-    command.subcommand(below?)
+    match below {
+        Ok(below) => match command {
+            Ok(command) => command.subcommand(below),
+            Err(refused) => {
+                drop(below);
+                Err(refused)
+            }
+        },
+        Err(refused) => {
+            drop(command);
+            Err(refused)
+        }
+    }
 }
 
 /// The command of this name, with the arguments that `check` takes, and each other command too.

@@ -25,7 +25,9 @@ pub(crate) fn check<I: Inputs>(
     ensures cause { IfErr result (IsInputCause (I.has inputs.old) (I.failures inputs.old) (I.failures inputs.new) (Check arguments.now)) }
 {
     let crd = crd_of(alloc, arguments.crd, arguments.version, inputs)?;
-    Ok(verdict(alloc, violations(alloc, &crd.raw)?.as_slice())?)
+    let violations = violations(alloc, &crd.raw);
+    drop(crd);
+    Ok(verdict(alloc, violations?.as_slice())?)
 }
 
 /// What is said of a schema with these violations.

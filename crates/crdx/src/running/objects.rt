@@ -37,10 +37,9 @@ pub(crate) fn judge_object<I: Inputs>(
     ensures cause { IfErr result (IsInputCause (I.has inputs.old) (I.failures inputs.old) (I.failures inputs.new) (Object arguments.now)) }
 {
     let accepted = accepted_schema(alloc, arguments.crd, arguments.version, inputs)?;
-    match judge_at(alloc, arguments, accepted.schema.root(), inputs) {
-        Ok(answer) => Ok(answer),
-        Err(cause) => Err(cause),
-    }
+    let answer = judge_at(alloc, arguments, accepted.schema.root(), inputs);
+    drop(accepted);
+    answer
 }
 
 /// What is said of the document that is asked about, at the node of its body.

@@ -95,11 +95,13 @@ fn sample_inputs<I: Inputs>(
         Ok(accepted) => accepted,
         Err(cause) => return Err(cause),
     };
-    let pools = match pools_of(alloc, arguments.pools, inputs) {
-        Ok(pools) => pools,
-        Err(cause) => return Err(cause),
-    };
-    inputs_of(alloc, arguments, accepted, pools)
+    match pools_of(alloc, arguments.pools, inputs) {
+        Ok(pools) => inputs_of(alloc, arguments, accepted, pools),
+        Err(cause) => {
+            drop(accepted);
+            Err(cause)
+        }
+    }
 }
 
 /// What samples of this schema over these pools are listed from.
@@ -109,26 +111,42 @@ fn inputs_of(
     accepted: Accepted,
     pools: Pools,
 ) -> Result<SampleInputs, Cause>
-    ensures plan { IfOk result (λ a. a.plan ≡ record { root = accepted.schema; pools = pools; limit = arguments.now.limit }) }
-    ensures after { IfOk result (λ a. IsAfter arguments.now.after (option_map data_of a.after)) }
-    ensures envelope { IfOk result (λ a. a.envelope ≡ envelope_for accepted.group arguments.now.version.now accepted.kind arguments.now.name) }
+    ensures ok { IfOk result (λ a. (a.plan ≡ record { root = accepted.schema; pools = pools; limit = arguments.now.limit })
+        × IsAfter arguments.now.after (option_map data_of a.after) × (a.envelope ≡ envelope_for accepted.group arguments.now.version.now accepted.kind arguments.now.name)) }
     ensures cause { IfErr result (λ cause. IsAfterCause arguments.now.after cause ⊎ (cause ≡ NoMemory)) }
 {
-    let envelope = envelope_named(
+    let envelope = match envelope_named(
         alloc,
         &accepted.group,
         arguments.version,
         &accepted.kind,
         arguments.name,
-    )?;
-    let plan = Plan::new(alloc, accepted.schema, pools, arguments.limit)?;
+    ) {
+        Ok(envelope) => envelope,
+        Err(_) => {
+            drop(accepted);
+            drop(pools);
+            return Err(Cause::NoMemory);
+        }
+    };
+    let plan = match Plan::new(alloc, accepted.schema, pools, arguments.limit) {
+        Ok(plan) => plan,
+        Err(fault) => {
+            drop(envelope);
+            return Err(Cause::from(fault));
+        }
+    };
     match after_of(alloc, arguments.after) {
         Ok(after) => Ok(SampleInputs {
             plan,
             after,
             envelope,
         }),
-        Err(cause) => Err(cause),
+        Err(cause) => {
+            drop(plan);
+            drop(envelope);
+            Err(cause)
+        }
     }
 }
 

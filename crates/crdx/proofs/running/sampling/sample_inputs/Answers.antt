@@ -1,4 +1,5 @@
 use Rattle.std.proofs.Common.{refl, subst}
+use Rattle.std.proofs.lemmas.Result.{IfOk-weaker, IfErr-weaker}
 use Rattle.crdx.specs.Internal.Cause.{IsPoolsCause}
 use Rattle.crdx.proofs.RunLemmas.{sample_schema, pools_input, pools_before, after_input}
 use Rattle.crdx.proofs.running.sampling.sample_inputs.Goals as goal
@@ -17,23 +18,11 @@ returns-in-Err-pools_of-clause-cause g c =
     pools_input (g.I.Inputs.has c.args.inputs.now) later (g.I.Inputs.failures c.args.inputs.now) read c.args.arguments.now cause c.in-Ok.ensures.stays
     (raw, record { asked = (c.in-Ok.accepted.group, (c.in-Ok.accepted.kind, asked)); unbroken = unbroken }) why
 
-pub returns-in-Err-after_of-clause-cause : goal.returns-in-Err-after_of-clause-cause
-returns-in-Err-after_of-clause-cause g c =
+pub returns-in-Ok-pools_of-clause-requested : goal.returns-in-Ok-pools_of-clause-requested
+returns-in-Ok-pools_of-clause-requested g c =
     let (raw, asked, unbroken, nodes) = c.in-Ok.ensures.accepted in
-    let has = g.I.Inputs.has c.args.inputs.now in
-    let later = g.I.Inputs.has c.accepted_schema.new.inputs in
-    let arguments = c.args.arguments.now in
-    let pools = c.in-Ok-pools_of.pools in
-    after_input has (g.I.Inputs.failures c.args.inputs.now) (g.I.Inputs.failures c.pools_of.new.inputs) arguments arguments.after c.in-Err-after_of.cause refl
-    (raw, record { asked = (c.in-Ok.accepted.group, (c.in-Ok.accepted.kind, asked)); unbroken = unbroken })
-    pools (pools_before has later arguments.pools pools c.in-Ok.ensures.stays c.in-Ok-pools_of.ensures.ok) c.in-Err-after_of.ensures.cause
-
-pub returns-clause-requested : goal.returns-clause-requested
-returns-clause-requested g c =
-    let (raw, asked, unbroken, nodes) = c.in-Ok.ensures.accepted in
-    let arguments = c.args.arguments.now in
-    let pools = pools_before (g.I.Inputs.has c.args.inputs.now) (g.I.Inputs.has c.accepted_schema.new.inputs) arguments.pools c.in-Ok-pools_of.pools c.in-Ok.ensures.stays c.in-Ok-pools_of.ensures.ok in
-    rw c.in_ok-new.ensures.ok (record {
+    let pools = pools_before (g.I.Inputs.has c.args.inputs.now) (g.I.Inputs.has c.accepted_schema.new.inputs) c.args.arguments.now.pools c.in-Ok-pools_of.pools c.in-Ok.ensures.stays c.in-Ok-pools_of.ensures.ok in
+    IfOk-weaker c.inputs_of.result _ _ (λ a is. rw is.0 (record {
       group = c.in-Ok.accepted.group;
       kind = c.in-Ok.accepted.kind;
       raw = raw;
@@ -42,6 +31,15 @@ returns-clause-requested g c =
       root = nodes;
       pools = pools;
       limit = refl;
-      resumed = c.in-Ok-after_of.ensures.ok;
-      envelope = c.in_ok-envelope.ensures;
-    })
+      resumed = is.1;
+      envelope = is.2;
+    })) c.inputs_of.ensures.ok
+
+pub returns-in-Ok-pools_of-clause-cause : goal.returns-in-Ok-pools_of-clause-cause
+returns-in-Ok-pools_of-clause-cause g c =
+    let (raw, asked, unbroken, nodes) = c.in-Ok.ensures.accepted in
+    let has = g.I.Inputs.has c.args.inputs.now in
+    let arguments = c.args.arguments.now in
+    let pools = pools_before has (g.I.Inputs.has c.accepted_schema.new.inputs) arguments.pools c.in-Ok-pools_of.pools c.in-Ok.ensures.stays c.in-Ok-pools_of.ensures.ok in
+    IfErr-weaker c.inputs_of.result _ _ (λ cause. after_input has (g.I.Inputs.failures c.args.inputs.now) (g.I.Inputs.failures c.pools_of.new.inputs) arguments arguments.after cause refl
+    (raw, record { asked = (c.in-Ok.accepted.group, (c.in-Ok.accepted.kind, asked)); unbroken = unbroken }) c.in-Ok-pools_of.pools pools) c.inputs_of.ensures.cause
