@@ -1,5 +1,5 @@
 use Rattle.std.proofs.Common.{true, sym, subst}
-use Rattle.std.proofs.lemmas.Result.{err_from_is_err_and}
+use Rattle.std.proofs.lemmas.Result.{err_from_is_err_and, IfOk-weaker, IfErr-weaker}
 use Rattle.schema.specs.Nodes.ByPlace.{AreNodesOf}
 use Rattle.schema.specs.Nodes.View.{node_of}
 use Rattle.crdx.specs.Internal.Cause.{IsUnreadCause}
@@ -14,22 +14,23 @@ returns-in_err-accepted-clause-cause g c =
     let p = err_from_is_err_and c.from_residual.result c.from_residual.ensures.1 in
     rw (p.1, p.2) (object_schema (g.I.Inputs.has c.args.inputs.now) (g.I.Inputs.failures c.args.inputs.now) (g.I.Inputs.failures c.accepted_schema.new.inputs) c.args.arguments.now c.in_err-accepted.field-0.0 c.in_err-accepted.ensures.cause)
 
-pub returns-in-Ok-clause-answer : goal.returns-in-Ok-clause-answer
-returns-in-Ok-clause-answer g c =
+pub returns-clause-answer : goal.returns-clause-answer
+returns-clause-answer g c =
     let (raw, asked, unbroken, nodes) = c.in_ok-accepted.ensures.accepted in
-    let said = c.in-Ok.ensures.answer in
-    object c.args.arguments.now (node_of c.root.result.now) said.0 c.in-Ok.answer.status _ (record {
+    let arguments = c.args.arguments.now in
+    IfOk-weaker c.judge_at-answer.result _ _ (λ a said. object arguments (node_of c.root.result.now) said.0 a.status _ (record {
       raw = raw;
       accepted = record { asked = (c.in_ok-accepted.accepted.group, (c.in_ok-accepted.accepted.kind, asked)); unbroken = unbroken };
       nodes = subst (λ N. AreNodesOf true N raw) (sym c.root.ensures.node) nodes;
-      at_hand = c.in_ok-accepted.ensures.stays (file_name c.args.arguments.now.object) _ said.1;
-    }) said.2
+      at_hand = c.in_ok-accepted.ensures.stays (file_name arguments.object) _ said.1;
+    }) said.2) c.judge_at-answer.ensures.answer
 
 pub returns-clause-cause : goal.returns-clause-cause
 returns-clause-cause g c =
     let later = g.I.Inputs.has c.accepted_schema.new.inputs in
-    let read = g.I.Inputs.failures c.judge_at.new.inputs in
-    let cause = c.in-Err.cause in
+    let read = g.I.Inputs.failures c.judge_at-answer.new.inputs in
+    let arguments = c.args.arguments.now in
     let (raw, asked, unbroken, nodes) = c.in_ok-accepted.ensures.accepted in
-    let why = subst (λ n. IsUnreadCause later n read input.Object (file_name c.args.arguments.now.object) cause) c.in_ok-accepted.ensures.unfailed c.in-Err.ensures.cause in
-    object_input (g.I.Inputs.has c.args.inputs.now) (g.I.Inputs.failures c.args.inputs.now) read c.args.arguments.now later cause c.in_ok-accepted.ensures.stays (raw, record { asked = (c.in_ok-accepted.accepted.group, (c.in_ok-accepted.accepted.kind, asked)); unbroken = unbroken }) why
+    IfErr-weaker c.judge_at-answer.result _ _ (λ cause why.
+    object_input (g.I.Inputs.has c.args.inputs.now) (g.I.Inputs.failures c.args.inputs.now) read arguments later cause c.in_ok-accepted.ensures.stays (raw, record { asked = (c.in_ok-accepted.accepted.group, (c.in_ok-accepted.accepted.kind, asked)); unbroken = unbroken })
+    (subst (λ n. IsUnreadCause later n read input.Object (file_name arguments.object) cause) c.in_ok-accepted.ensures.unfailed why)) c.judge_at-answer.ensures.cause
