@@ -63,7 +63,7 @@ static SOUND: [(&str, &str); 14] = [
 ];
 
 // A name, a schema that breaks rules, and standard output. The status is 1.
-static BROKEN: [(&str, &str, &str); 25] = [
+static BROKEN: [(&str, &str, &str); 16] = [
     (
         "two rules",
         r#"{"type":"object","properties":{"a":{},"b":{"type":"string","uniqueItems":true}}}"#,
@@ -76,13 +76,6 @@ V06 "/properties/b" uniqueItems is true
         r#"{"type":"object","properties":{"a":{"type":"object","properties":{"b":{}}},"a-b":{}}}"#,
         r#"V01 "/properties/a/properties/b" missing type
 V01 "/properties/a-b" missing type
-"#,
-    ),
-    (
-        "types in a junctor",
-        r#"{"type":"object","properties":{"x":{"type":"integer","anyOf":[{"type":"integer"},{"type":"string"}]}}}"#,
-        r#"V03 "/properties/x/anyOf/0" keyword not allowed in a junctor
-V03 "/properties/x/anyOf/1" keyword not allowed in a junctor
 "#,
     ),
     (
@@ -120,20 +113,6 @@ V12 "/properties/f" bad items of a set
         "V01 \"/properties/z\" missing type\n",
     ),
     (
-        "the int-or-string pattern second in allOf",
-        r#"{"type":"object","properties":{"x":{"x-kubernetes-int-or-string":true,"allOf":[{"minimum":1},{"anyOf":[{"type":"integer"},{"type":"string"}]}]}}}"#,
-        r#"V03 "/properties/x/allOf/1/anyOf/0" keyword not allowed in a junctor
-V03 "/properties/x/allOf/1/anyOf/1" keyword not allowed in a junctor
-"#,
-    ),
-    (
-        "the int-or-string pattern turned round",
-        r#"{"type":"object","properties":{"x":{"x-kubernetes-int-or-string":true,"anyOf":[{"type":"string"},{"type":"integer"}]}}}"#,
-        r#"V03 "/properties/x/anyOf/0" keyword not allowed in a junctor
-V03 "/properties/x/anyOf/1" keyword not allowed in a junctor
-"#,
-    ),
-    (
         "an empty type",
         r#"{"type":"object","properties":{"x":{"type":"","x-kubernetes-preserve-unknown-fields":true},"y":{"type":""}}}"#,
         "V01 \"/properties/y\" missing type\n",
@@ -145,30 +124,6 @@ V03 "/properties/x/anyOf/1" keyword not allowed in a junctor
         r#"V17 "" outside the profile
 V01 "/additionalProperties" missing type
 V01 "/additionalProperties/items" missing type
-"#,
-    ),
-    (
-        "keywords of a value in a junctor",
-        r#"{"type":"object","not":{"description":"","default":1,"nullable":false,"additionalProperties":{"type":"string"}}}"#,
-        r#"V16 "" junctor outside the profile
-V03 "/not" keyword not allowed in a junctor
-V03 "/not/additionalProperties" keyword not allowed in a junctor
-"#,
-    ),
-    (
-        "items in a junctor alone",
-        r#"{"type":"object","oneOf":[{"items":{"minimum":1}},{"required":["a"]}]}"#,
-        r#"V16 "" junctor outside the profile
-V16 "/oneOf/0" junctor outside the profile
-V02 "/oneOf/0/items" not specified outside the junctor
-V16 "/oneOf/1" junctor outside the profile
-"#,
-    ),
-    (
-        "items in a junctor and outside",
-        r#"{"type":"object","properties":{"s":{"type":"array","items":{"type":"integer"},"not":{"items":{"minimum":1}}}}}"#,
-        r#"V16 "/properties/s" junctor outside the profile
-V16 "/properties/s/not" junctor outside the profile
 "#,
     ),
     (
@@ -209,6 +164,73 @@ V05 "/properties/xml" keyword not supported
         "V04 \"/properties/metadata\" metadata restricted\n",
     ),
     (
+        "properties beside additionalProperties",
+        r#"{"type":"object","properties":{"a":{"type":"object","additionalProperties":true,"properties":{}},"b":{"type":"object","uniqueItems":false,"id":"","xml":{}}}}"#,
+        r#"V08 "/properties/a" properties with additionalProperties
+V17 "/properties/a" outside the profile
+V05 "/properties/b" keyword not supported
+"#,
+    ),
+    (
+        "a default of items",
+        r#"{"type":"object","properties":{"l":{"type":"array","items":{"type":"integer","default":1}}}}"#,
+        "V15 \"/properties/l/items\" misplaced default\n",
+    ),
+    (
+        "a name with a slash",
+        r#"{"type":"object","properties":{"spec":{"type":"object","properties":{"x/y":{"minimum":1}}}}}"#,
+        "V01 \"/properties/spec/properties/x~1y\" missing type\n",
+    ),
+];
+
+// As in `BROKEN`, of junctors and of values that are integers or texts.
+static BROKEN_JUNCTORS: [(&str, &str, &str); 9] = [
+    (
+        "types in a junctor",
+        r#"{"type":"object","properties":{"x":{"type":"integer","anyOf":[{"type":"integer"},{"type":"string"}]}}}"#,
+        r#"V03 "/properties/x/anyOf/0" keyword not allowed in a junctor
+V03 "/properties/x/anyOf/1" keyword not allowed in a junctor
+"#,
+    ),
+    (
+        "the int-or-string pattern second in allOf",
+        r#"{"type":"object","properties":{"x":{"x-kubernetes-int-or-string":true,"allOf":[{"minimum":1},{"anyOf":[{"type":"integer"},{"type":"string"}]}]}}}"#,
+        r#"V03 "/properties/x/allOf/1/anyOf/0" keyword not allowed in a junctor
+V03 "/properties/x/allOf/1/anyOf/1" keyword not allowed in a junctor
+"#,
+    ),
+    (
+        "the int-or-string pattern turned round",
+        r#"{"type":"object","properties":{"x":{"x-kubernetes-int-or-string":true,"anyOf":[{"type":"string"},{"type":"integer"}]}}}"#,
+        r#"V03 "/properties/x/anyOf/0" keyword not allowed in a junctor
+V03 "/properties/x/anyOf/1" keyword not allowed in a junctor
+"#,
+    ),
+    (
+        "keywords of a value in a junctor",
+        r#"{"type":"object","not":{"description":"","default":1,"nullable":false,"additionalProperties":{"type":"string"}}}"#,
+        r#"V16 "" junctor outside the profile
+V03 "/not" keyword not allowed in a junctor
+V03 "/not/additionalProperties" keyword not allowed in a junctor
+"#,
+    ),
+    (
+        "items in a junctor alone",
+        r#"{"type":"object","oneOf":[{"items":{"minimum":1}},{"required":["a"]}]}"#,
+        r#"V16 "" junctor outside the profile
+V16 "/oneOf/0" junctor outside the profile
+V02 "/oneOf/0/items" not specified outside the junctor
+V16 "/oneOf/1" junctor outside the profile
+"#,
+    ),
+    (
+        "items in a junctor and outside",
+        r#"{"type":"object","properties":{"s":{"type":"array","items":{"type":"integer"},"not":{"items":{"minimum":1}}}}}"#,
+        r#"V16 "/properties/s" junctor outside the profile
+V16 "/properties/s/not" junctor outside the profile
+"#,
+    ),
+    (
         "the int-or-string pattern in allOf, beside a test",
         r#"{"type":"object","properties":{"x":{"x-kubernetes-int-or-string":true,"allOf":[{"minimum":1,"anyOf":[{"type":"integer"},{"type":"string"}]}]}}}"#,
         r#"V03 "/properties/x/allOf/0/anyOf/0" keyword not allowed in a junctor
@@ -228,24 +250,6 @@ V03 "/properties/x/allOf/0/anyOf/1" keyword not allowed in a junctor
         r#"V03 "/properties/x/not/allOf/0/anyOf/0" keyword not allowed in a junctor
 V03 "/properties/x/not/allOf/0/anyOf/1" keyword not allowed in a junctor
 "#,
-    ),
-    (
-        "properties beside additionalProperties",
-        r#"{"type":"object","properties":{"a":{"type":"object","additionalProperties":true,"properties":{}},"b":{"type":"object","uniqueItems":false,"id":"","xml":{}}}}"#,
-        r#"V08 "/properties/a" properties with additionalProperties
-V17 "/properties/a" outside the profile
-V05 "/properties/b" keyword not supported
-"#,
-    ),
-    (
-        "a default of items",
-        r#"{"type":"object","properties":{"l":{"type":"array","items":{"type":"integer","default":1}}}}"#,
-        "V15 \"/properties/l/items\" misplaced default\n",
-    ),
-    (
-        "a name with a slash",
-        r#"{"type":"object","properties":{"spec":{"type":"object","properties":{"x/y":{"minimum":1}}}}}"#,
-        "V01 \"/properties/spec/properties/x~1y\" missing type\n",
     ),
 ];
 
@@ -274,6 +278,14 @@ fn sound_schemas(rt: HostRuntime) -> Result<(), Fail> {
 #[test]
 fn broken_schemas(rt: HostRuntime) -> Result<(), Fail> {
     for (name, schema, out) in &BROKEN {
+        try_check(&rt, rt.alloc(), name, schema, out, "", 1)?;
+    }
+    Ok(())
+}
+
+#[test]
+fn broken_junctors(rt: HostRuntime) -> Result<(), Fail> {
+    for (name, schema, out) in &BROKEN_JUNCTORS {
         try_check(&rt, rt.alloc(), name, schema, out, "", 1)?;
     }
     Ok(())

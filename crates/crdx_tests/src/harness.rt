@@ -123,8 +123,14 @@ pub fn pools_of(alloc: Global, pools: &str) -> Result<Pools, Fail> {
 /// The plan of a schema, pools and a node limit.
 pub fn made(alloc: Global, given: (&str, &str, u32)) -> Result<Plan<u64>, Fail> {
     let (schema, pools, limit) = given;
-    let pools = pools_of(alloc, pools)?;
-    Ok(Plan::new(alloc, schema_of(alloc, schema)?, pools, limit)?)
+    let schema = schema_of(alloc, schema)?;
+    match pools_of(alloc, pools) {
+        Ok(pools) => Ok(Plan::new(alloc, schema, pools, limit)?),
+        Err(fail) => {
+            drop(schema);
+            Err(fail)
+        }
+    }
 }
 
 /// What is read of version `v1` of a document.
@@ -154,7 +160,10 @@ fn fault_text(alloc: Global, fault: &SFault) -> Result<String, AllocError> {
 
 fn said_of(alloc: Global, schema: &str) -> Result<String, Fail> {
     match crd_of(alloc, schema)? {
-        Ok(_crd) => Ok(String::from_str(alloc, "read")?),
+        Ok(crd) => {
+            drop(crd);
+            Ok(String::from_str(alloc, "read")?)
+        }
         Err(fault) => Ok(fault_text(alloc, &fault)?),
     }
 }

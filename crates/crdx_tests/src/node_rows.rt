@@ -28,10 +28,14 @@ fn shape_said(alloc: Global, shape: &Shape, is_field: bool) -> Result<String, Fa
 // The text of the node of the root, or of its first field; or the refusal.
 fn said(alloc: Global, schema: &str, is_field: bool) -> Result<String, Fail> {
     let crd = crd_of(alloc, schema)??;
-    match shape(alloc, &crd.raw) {
-        Ok(shape) => shape_said(alloc, &shape, is_field),
-        Err(refused) => Ok(refused.to_string(alloc)?),
-    }
+    let shape = shape(alloc, &crd.raw);
+    drop(crd);
+    let said = match &shape {
+        Ok(shape) => shape_said(alloc, shape, is_field),
+        Err(refused) => refused.to_string(alloc).map_err(Fail::from),
+    };
+    drop(shape);
+    said
 }
 
 // A name, the schema of a field, and its node or its refusal.

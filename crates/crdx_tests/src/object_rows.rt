@@ -301,9 +301,21 @@ fn try_values(
     row: &(&str, &str, &str, &str),
     stored: bool,
 ) -> Result<(), Fail> {
-    let (name, field, good, bad) = *row;
-    let schema = schema_of_field(alloc, field)?;
-    let node = first_field(schema.root())?;
+    let schema = schema_of_field(alloc, row.1)?;
+    let tried = try_lists(rt, alloc, schema.root(), row, stored);
+    drop(schema);
+    tried
+}
+
+fn try_lists(
+    rt: &impl Abort,
+    alloc: Global,
+    root: &Node,
+    row: &(&str, &str, &str, &str),
+    stored: bool,
+) -> Result<(), Fail> {
+    let (name, _field, good, bad) = *row;
+    let node = first_field(root)?;
     try_list(rt, alloc, node, good, stored, true, name)?;
     try_list(rt, alloc, node, bad, stored, false, name)
 }
@@ -360,9 +372,11 @@ fn try_object(
     alloc: Global,
     row: &(&str, &str, &str, &str, &str, &str),
 ) -> Result<(), Fail> {
-    let schema = schema_of(alloc, row.1)?;
     let mut tree = Tree::from_bytes(alloc, row.2.as_bytes())?;
-    try_tree(rt, alloc, schema.root(), &mut tree, row)
+    let schema = schema_of(alloc, row.1)?;
+    let tried = try_tree(rt, alloc, schema.root(), &mut tree, row);
+    drop(schema);
+    tried
 }
 
 #[test]
@@ -409,8 +423,13 @@ fn answer(alloc: Global, raw: RawSchema) -> Result<String, Fail> {
 fn try_default(rt: &impl Abort, alloc: Global, row: &(&str, &str, &str)) -> Result<(), Fail> {
     let crd = crd_of(alloc, row.1)??;
     let broken = broken_lines(alloc, &crd.raw);
-    is_said(rt, broken, row.2, "what is broken", row.0)?;
-    is_said(rt, answer(alloc, crd.raw), row.2, "the answer", row.0)
+    match is_said(rt, broken, row.2, "what is broken", row.0) {
+        Ok(()) => is_said(rt, answer(alloc, crd.raw), row.2, "the answer", row.0),
+        Err(fail) => {
+            drop(crd);
+            Err(fail)
+        }
+    }
 }
 
 #[test]

@@ -168,7 +168,9 @@ fn try_page(
 ) -> Result<(), Fail> {
     let mut plan = made(alloc, row.1)?;
     let mut meter = plan.meter();
-    is_page(rt, alloc, &plan, row, &mut meter)
+    let paged = is_page(rt, alloc, &plan, row, &mut meter);
+    drop(plan);
+    paged
 }
 
 #[test]
@@ -306,7 +308,9 @@ fn try_place(
 ) -> Result<(), Fail> {
     let mut plan = made(alloc, row.1)?;
     let mut meter = plan.meter();
-    is_place(rt, alloc, &plan, row, &mut meter)
+    let placed = is_place(rt, alloc, &plan, row, &mut meter);
+    drop(plan);
+    placed
 }
 
 #[test]
@@ -407,7 +411,9 @@ fn try_enumeration(
     let mut plan = made(alloc, row.1)?;
     let mut meter = plan.meter();
     let mut other = plan.meter();
-    is_paged(rt, alloc, &plan, row, &mut meter, &mut other)?;
+    let paged = is_paged(rt, alloc, &plan, row, &mut meter, &mut other);
+    drop(plan);
+    paged?;
     holds(rt, meter.steps() > 0, "some steps", row.0);
     holds(rt, meter.steps() <= row.4, "few steps", row.0);
     is_number(rt, other.steps(), meter.steps(), "the steps", row.0);
@@ -629,10 +635,10 @@ pub fn walked(
     requires total_least { 1 ≤ total }
     requires total_most { total ≤ 10000 }
 {
+    let place = place_of(alloc, place)?;
     let mut plan = made(alloc, given)?;
     let mut meter = plan.meter();
-    let place = place_of(alloc, place)?;
-    Ok(walk(
+    let walked = walk(
         alloc,
         &plan,
         place.as_ref(),
@@ -641,7 +647,9 @@ pub fn walked(
         None,
         &mut meter,
         sink,
-    ))
+    );
+    drop(plan);
+    Ok(walked)
 }
 
 fn try_walk(

@@ -347,7 +347,9 @@ fn have_sizes(
 ) -> Result<(), Fail> {
     let mut plan = plan_of(rt, alloc, row.1, row.0)?;
     let mut meter = plan.meter();
-    try_sizes(rt, alloc, &plan, &mut meter, row)
+    let tried = try_sizes(rt, alloc, &plan, &mut meter, row);
+    drop(plan);
+    tried
 }
 
 #[test]
@@ -437,6 +439,7 @@ fn is_sorted(
     let mut plan = plan_of(rt, alloc, row.1, row.0)?;
     let mut meter = plan.meter();
     try_sort(rt, &plan, &mut meter, row);
+    drop(plan);
     Ok(())
 }
 
@@ -521,6 +524,7 @@ fn have_slots(
     let mut plan = plan_of(rt, alloc, row.1, row.0)?;
     let mut meter = plan.meter();
     try_slots(rt, &plan, &mut meter, row);
+    drop(plan);
     Ok(())
 }
 
@@ -556,6 +560,7 @@ fn try_width(
     let width = plan.width();
     is_number(rt, width, wanted, "the width", name);
     let limit = plan.limit() as u64;
+    drop(plan);
     let found = limit.wrapping_add(1).wrapping_mul(width.wrapping_add(1));
     is_number(rt, found.wrapping_mul(4), bound, "the bound", name);
     Ok(())
@@ -578,10 +583,17 @@ static LIMITS: [(&str, u32, &str); 4] = [
 ];
 
 fn limit_said(alloc: Global, limit: u32) -> Result<String, Fail> {
-    let pools = pools_of(alloc, ZERO_AND_ONE)?;
     let schema = schema_of(alloc, SPEC)?;
-    let made = Plan::<u64>::new(alloc, schema, pools, limit);
-    Ok(said_of_made(alloc, &made)?)
+    let made = match pools_of(alloc, ZERO_AND_ONE) {
+        Ok(pools) => Plan::<u64>::new(alloc, schema, pools, limit),
+        Err(fail) => {
+            drop(schema);
+            return Err(fail);
+        }
+    };
+    let said = said_of_made(alloc, &made);
+    drop(made);
+    Ok(said?)
 }
 
 fn said_of_made(alloc: Global, made: &Result<Plan<u64>, PFault>) -> Result<String, AllocError> {
@@ -609,5 +621,6 @@ fn laws(rt: HostRuntime) -> Result<(), Fail> {
     plan.no_dead_end();
     plan.sound_parts();
     is_number(&rt, plan.width(), 2, "the width", "a map list");
+    drop(plan);
     Ok(())
 }

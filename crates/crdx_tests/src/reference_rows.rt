@@ -248,6 +248,11 @@ fn plans_at_each_limit(rt: HostRuntime) -> Result<(), Fail> {
     for (name, given, _lines) in &SAMPLES {
         are_plain(&rt, rt.alloc(), given.0, given.1, name)?;
     }
+    Ok(())
+}
+
+#[test]
+fn plans_of_long_lists(rt: HostRuntime) -> Result<(), Fail> {
     for (name, schema) in &LONG_LISTS {
         are_plain(&rt, rt.alloc(), schema, TWO_TEXTS, name)?;
     }

@@ -106,7 +106,7 @@ const NEGATIVE_LINES: &str = r#"{}
 "#;
 
 // A name, a command line, the two documents, standard output, standard error and the status.
-static ROWS: [(&str, &str, &str, &str, &str, &str, u8); 36] = [
+static SAMPLES: [(&str, &str, &str, &str, &str, &str, u8); 15] = [
     (
         "every sample of four nodes",
         "crdx sample crd.json v1 --pools pools.json --limit 4",
@@ -242,60 +242,10 @@ static ROWS: [(&str, &str, &str, &str, &str, &str, u8); 36] = [
         "crdx: end\n",
         0,
     ),
-    (
-        "a definition that is cut, judged before the pools",
-        "crdx sample crd.json v1 --pools pools.json",
-        CUT,
-        FRACTION,
-        "",
-        "crdx: crd: J3\n",
-        3,
-    ),
-    (
-        "no definition",
-        "crdx sample crd.json v1",
-        NO_DEFINITION,
-        ZERO_AND_ONE,
-        "",
-        "crdx: crd: S1\n",
-        3,
-    ),
-    (
-        "no such version",
-        "crdx sample crd.json v2",
-        WIDGET,
-        ZERO_AND_ONE,
-        "",
-        "crdx: crd: S2\n",
-        3,
-    ),
-    (
-        "a definition that cannot be read",
-        "crdx sample nowhere.json v1",
-        WIDGET,
-        ZERO_AND_ONE,
-        "",
-        "crdx: crd: read failed\n",
-        4,
-    ),
-    (
-        "pools that cannot be read",
-        "crdx sample crd.json v1 --pools nowhere.json",
-        WIDGET,
-        ZERO_AND_ONE,
-        "",
-        "crdx: pools: read failed\n",
-        4,
-    ),
-    (
-        "a schema that breaks rules",
-        "crdx sample crd.json v1",
-        BROKEN,
-        "",
-        "",
-        BROKEN_LINES,
-        1,
-    ),
+];
+
+// As in `SAMPLES`, with envelopes and samples to go on from.
+static RESUMES: [(&str, &str, &str, &str, &str, &str, u8); 7] = [
     (
         "a name",
         "crdx sample crd.json v1 --pools pools.json --limit 4 --count 2 --name w",
@@ -358,6 +308,64 @@ static ROWS: [(&str, &str, &str, &str, &str, &str, u8); 36] = [
         "",
         "crdx: after: J1\n",
         3,
+    ),
+];
+
+// As in `SAMPLES`, of inputs that are refused.
+static REFUSALS: [(&str, &str, &str, &str, &str, &str, u8); 14] = [
+    (
+        "a definition that is cut, judged before the pools",
+        "crdx sample crd.json v1 --pools pools.json",
+        CUT,
+        FRACTION,
+        "",
+        "crdx: crd: J3\n",
+        3,
+    ),
+    (
+        "no definition",
+        "crdx sample crd.json v1",
+        NO_DEFINITION,
+        ZERO_AND_ONE,
+        "",
+        "crdx: crd: S1\n",
+        3,
+    ),
+    (
+        "no such version",
+        "crdx sample crd.json v2",
+        WIDGET,
+        ZERO_AND_ONE,
+        "",
+        "crdx: crd: S2\n",
+        3,
+    ),
+    (
+        "a definition that cannot be read",
+        "crdx sample nowhere.json v1",
+        WIDGET,
+        ZERO_AND_ONE,
+        "",
+        "crdx: crd: read failed\n",
+        4,
+    ),
+    (
+        "pools that cannot be read",
+        "crdx sample crd.json v1 --pools nowhere.json",
+        WIDGET,
+        ZERO_AND_ONE,
+        "",
+        "crdx: pools: read failed\n",
+        4,
+    ),
+    (
+        "a schema that breaks rules",
+        "crdx sample crd.json v1",
+        BROKEN,
+        "",
+        "",
+        BROKEN_LINES,
+        1,
     ),
     (
         "a fraction in pools",
@@ -447,7 +455,23 @@ fn try_row(
 
 #[test]
 fn samples(rt: HostRuntime) -> Result<(), Fail> {
-    for row in &ROWS {
+    for row in &SAMPLES {
+        try_row(&rt, rt.alloc(), row)?;
+    }
+    Ok(())
+}
+
+#[test]
+fn resumes(rt: HostRuntime) -> Result<(), Fail> {
+    for row in &RESUMES {
+        try_row(&rt, rt.alloc(), row)?;
+    }
+    Ok(())
+}
+
+#[test]
+fn refusals(rt: HostRuntime) -> Result<(), Fail> {
+    for row in &REFUSALS {
         try_row(&rt, rt.alloc(), row)?;
     }
     Ok(())

@@ -598,8 +598,18 @@ fn try_made(
     name: &str,
 ) -> Result<(), Fail> {
     let schema = schema_of(alloc, schema)?;
-    let pools = pools_of(alloc, pools)?;
-    try_given(rt, alloc, plan, &schema, &pools, meter, name)
+    match pools_of(alloc, pools) {
+        Ok(pools) => {
+            let tried = try_given(rt, alloc, plan, &schema, &pools, meter, name);
+            drop(pools);
+            drop(schema);
+            tried
+        }
+        Err(fail) => {
+            drop(schema);
+            Err(fail)
+        }
+    }
 }
 
 /// What a plan says of its nodes, against the plain reference.
@@ -613,7 +623,9 @@ pub fn try_plan(
 ) -> Result<(), Fail> {
     let mut plan = made(alloc, (schema, pools, limit))?;
     let mut meter = plan.meter();
-    try_made(rt, alloc, &plan, schema, pools, &mut meter, name)
+    let tried = try_made(rt, alloc, &plan, schema, pools, &mut meter, name);
+    drop(plan);
+    tried
 }
 
 fn all_nodes(
