@@ -110,8 +110,14 @@ pub fn definition(alloc: Global, schema: &str) -> Result<String, AllocError> {
 
 /// The accepted schema of a definition with this schema.
 pub fn schema_of(alloc: Global, schema: &str) -> Result<Schema, Fail> {
-    let crd = crd_of(alloc, schema)??;
-    Ok(accept(alloc, crd.raw)?)
+    let Crd {
+        group,
+        kind,
+        version,
+        raw,
+    } = crd_of(alloc, schema)??;
+    drop((group, kind, version));
+    Ok(accept(alloc, raw)?)
 }
 
 /// The pools of a document.

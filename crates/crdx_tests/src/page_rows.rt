@@ -158,7 +158,9 @@ fn is_page(
     let page = page(alloc, plan, place.as_ref(), 3, meter)?;
     holds(rt, page.end == end, "the end", name);
     holds(rt, meter.steps() <= steps, "few steps", name);
-    is_said(rt, lines_of(alloc, &page.items), lines, "the lines", name)
+    let found = lines_of(alloc, &page.items);
+    drop(page);
+    is_said(rt, found, lines, "the lines", name)
 }
 
 fn try_page(
@@ -280,7 +282,11 @@ fn said_of_place(
     meter: &mut Meter,
 ) -> Result<String, Fail> {
     match Live::after(alloc, plan, place, meter) {
-        Ok(Some(next)) => said_of_live(alloc, &next),
+        Ok(Some(next)) => {
+            let said = said_of_live(alloc, &next);
+            drop(next);
+            said
+        }
         Ok(None) => Ok(String::from_str(alloc, "none")?),
         Err(EFault::NotASample) => Ok(String::from_str(alloc, "no sample")?),
         Err(fault) => Err(fault.into()),

@@ -80,7 +80,11 @@ fn crd_text(alloc: Global, crd: &Crd) -> Result<String, Fail> {
 
 fn said(alloc: Global, document: &str) -> Result<String, Fail> {
     match read(alloc, document)? {
-        Ok(crd) => crd_text(alloc, &crd),
+        Ok(crd) => {
+            let text = crd_text(alloc, &crd);
+            drop(crd);
+            text
+        }
         Err(fault) => Ok(fault.to_string(alloc)?),
     }
 }

@@ -68,12 +68,27 @@ fn answer_of(
 {
     let envelope = split(&mut document);
     match command {
-        ObjectCommand::Validate => validate(alloc, node, &document),
+        ObjectCommand::Validate => {
+            drop(envelope);
+            let answer = validate(alloc, node, &document);
+            drop(document);
+            answer
+        }
         ObjectCommand::Prune => {
             prune(node, &mut document);
             print(alloc, document, envelope)
         }
-        ObjectCommand::Default => print(alloc, complete(alloc, node, &document)?, envelope),
+        ObjectCommand::Default => {
+            let completed = complete(alloc, node, &document);
+            drop(document);
+            match completed {
+                Ok(body) => print(alloc, body, envelope),
+                Err(refused) => {
+                    drop(envelope);
+                    Err(refused)
+                }
+            }
+        }
     }
 }
 

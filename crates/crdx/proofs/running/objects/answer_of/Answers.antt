@@ -9,7 +9,7 @@ returns-in-Prune c = rw (c.in-Prune.is) (IfOk-weaker c.print.result _ _
     (λ a said. pruned_answer (node_of c.args.node.now) (data_of c.args.document) (data_of c.split-envelope.new.tree) (data_of c.prune.new.tree) c.split-envelope.result a
     c.split-envelope.ensures.body c.split-envelope.ensures.parts c.prune.ensures said) c.print.ensures)
 
-pub returns-in_ok-complete-in-Default : goal.returns-in_ok-complete-in-Default
-returns-in_ok-complete-in-Default c = rw (c.in-Default.is) (IfOk-weaker c.print-in-Default.result _ _
-    (λ a said. completed_answer (node_of c.args.node.now) (data_of c.args.document) (data_of c.split-envelope.new.tree) (data_of c.in_ok-complete-in-Default.field-0) c.split-envelope.result a
-    c.split-envelope.ensures.body c.split-envelope.ensures.parts c.in_ok-complete-in-Default.ensures.completed said) c.print-in-Default.ensures)
+pub returns-in-Ok : goal.returns-in-Ok
+returns-in-Ok c = rw (c.in-Default.is) (IfOk-weaker c.print-in-Ok.result _ _
+    (λ a said. completed_answer (node_of c.args.node.now) (data_of c.args.document) (data_of c.split-envelope.new.tree) (data_of c.in-Ok.body) c.split-envelope.result a
+    c.split-envelope.ensures.body c.split-envelope.ensures.parts c.in-Ok.ensures.completed said) c.print-in-Ok.ensures)
