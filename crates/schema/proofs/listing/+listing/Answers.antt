@@ -1,4 +1,4 @@
-use Rattle.std.proofs.Common.{◌≡◌, ◌<◌, ◌+◌, suc, [], ◌∷◌, ◌++◌, IfErr, length, drop, true, false, refl, ap, sym, ◌∙◌, subst, add-one, arith}
+use Rattle.std.proofs.Common.{◌≡◌, ◌+◌, suc, [], ◌∷◌, ◌++◌, IfErr, length, drop, true, false, refl, ap, sym, ◌∙◌, subst, add-one, arith}
 use Rattle.std.specs.Prelude.{map, option_and_then, All}
 use Rattle.std.proofs.lemmas.List.Elements.{All-append, All-cons, All-nil}
 use Rattle.std.proofs.lemmas.List.{at_drop_all, drop_more, length-append}
@@ -27,8 +27,7 @@ list_branches-loop-i-preserved t c =
     let j = junctor_of c.args.junctor in
     let old = c.loop-i.subschemas.items in
     let new = c.list_part.new.subschemas.items in
-    let within : i < length xs = omega arith in
-    let split : drop i xs ≡ x ∷ drop (i + 1) xs = drop_more xs i x within ∙ ap (λ y. y ∷ drop (i + 1) xs) (sym c.item-item.is) in
+    let split : drop i xs ≡ x ∷ drop (i + 1) xs = drop_more xs i x c.loop-i-test.true ∙ ap (λ y. y ∷ drop (i + 1) xs) (sym c.item-item.is) in
     let here = part_events P (a_schema (branch j i)) (data_of x) in
     let rest = item_events P j (i + 1) (items_of (drop (i + 1) xs)) in
     let next : suc i ≡ i + 1 = omega arith in
@@ -57,8 +56,7 @@ list_branches-returns-in-Err t c =
     let j = junctor_of c.args.junctor in
     let old = c.loop-i.subschemas.items in
     let e = c.in-Err.fault in
-    let within : i < length xs = omega arith in
-    let split : drop i xs ≡ x ∷ drop (i + 1) xs = drop_more xs i x within ∙ ap (λ y. y ∷ drop (i + 1) xs) (sym c.item-item.is) in
+    let split : drop i xs ≡ x ∷ drop (i + 1) xs = drop_more xs i x c.loop-i-test.true ∙ ap (λ y. y ∷ drop (i + 1) xs) (sym c.item-item.is) in
     let here = part_events P (a_schema (branch j i)) (data_of x) in
     let rest = item_events P j (suc i) (items_of (drop (i + 1) xs)) in
     let refused = subst (λ s. IsLimitRefusal (limit_break (length old) (part_events P (a_schema s) (data_of x))) e) c.branch-step.ensures c.in-Err.ensures.err in
@@ -76,8 +74,7 @@ list_properties-loop-property-preserved t c =
     let P = place_of c.args.place.now in
     let old = c.loop-property.subschemas.items in
     let new = c.list_part.new.subschemas.items in
-    let within : i < length xs = omega arith in
-    let split : drop i xs ≡ m ∷ drop (i + 1) xs = drop_more xs i m within ∙ ap (λ y. y ∷ drop (i + 1) xs) (sym c.property-item.is) in
+    let split : drop i xs ≡ m ∷ drop (i + 1) xs = drop_more xs i m c.loop-property-test.true ∙ ap (λ y. y ∷ drop (i + 1) xs) (sym c.property-item.is) in
     let here = part_events P (a_schema (property m.name)) (data_of m.tree) in
     let rest = member_events P false (members_of (drop (i + 1) xs)) in
     let events : member_events P false (members_of (drop i xs)) ≡ here ++ rest = ap (λ ys. member_events P false (members_of ys)) split in
@@ -105,8 +102,7 @@ list_properties-returns-in-Err t c =
     let P = place_of c.args.place.now in
     let old = c.loop-property.subschemas.items in
     let e = c.in-Err.fault in
-    let within : i < length xs = omega arith in
-    let split : drop i xs ≡ m ∷ drop (i + 1) xs = drop_more xs i m within ∙ ap (λ y. y ∷ drop (i + 1) xs) (sym c.property-item.is) in
+    let split : drop i xs ≡ m ∷ drop (i + 1) xs = drop_more xs i m c.loop-property-test.true ∙ ap (λ y. y ∷ drop (i + 1) xs) (sym c.property-item.is) in
     let here = part_events P (a_schema (property m.name)) (data_of m.tree) in
     let rest = member_events P false (members_of (drop (i + 1) xs)) in
     let refused = subst (λ k. IsLimitRefusal (limit_break (length old) (part_events P (a_schema (property k)) (data_of m.tree))) e) c.as_str.ensures c.in-Err.ensures.err in
@@ -147,8 +143,8 @@ list_schema-returns t c =
       ok = on_ok_weaker r (λ none. sym along ∙ none) e.ok;
       err = subst (λ o. IfErr r (IsLimitRefusal o)) along e.err;
       contexts = on_ok_weaker r
-      (λ each raw h all. each raw h (subst (All (IsSubschema raw)) (sym items) (All-append (IsSubschema raw) old _ all (All-cons (IsSubschema raw) _ [] (context_subschema raw P c.args.context _ place refl refl h) (All-nil (IsSubschema raw))))))
-      e.contexts;
+          (λ each raw h all. each raw h (subst (All (IsSubschema raw)) (sym items) (All-append (IsSubschema raw) old _ all (All-cons (IsSubschema raw) _ [] (context_subschema raw P c.args.context _ place refl refl h) (All-nil (IsSubschema raw))))))
+          e.contexts;
     }
 
 pub list_keywords-returns-in-Err : goal.list_keywords-returns-in-Err
@@ -160,8 +156,7 @@ list_keywords-returns-in-Err t c =
     let P = place_of c.args.place.now in
     let old = c.loop-member.subschemas.items in
     let e = c.in-Err.fault in
-    let within : i < length xs = omega arith in
-    let split : drop i xs ≡ m ∷ drop (i + 1) xs = drop_more xs i m within ∙ ap (λ y. y ∷ drop (i + 1) xs) (sym c.member-item.is) in
+    let split : drop i xs ≡ m ∷ drop (i + 1) xs = drop_more xs i m c.loop-member-test.true ∙ ap (λ y. y ∷ drop (i + 1) xs) (sym c.member-item.is) in
     let named = c.as_str-keyword.ensures in
     let here = part_events P (part_of m.name) d in
     let rest = member_events P true (members_of (drop (i + 1) xs)) in
@@ -184,8 +179,7 @@ list_keywords-loop-member-preserved t c =
     let P = place_of c.args.place.now in
     let old = c.loop-member.subschemas.items in
     let new = c.list_part.new.subschemas.items in
-    let within : i < length xs = omega arith in
-    let split : drop i xs ≡ m ∷ drop (i + 1) xs = drop_more xs i m within ∙ ap (λ y. y ∷ drop (i + 1) xs) (sym c.member-item.is) in
+    let split : drop i xs ≡ m ∷ drop (i + 1) xs = drop_more xs i m c.loop-member-test.true ∙ ap (λ y. y ∷ drop (i + 1) xs) (sym c.member-item.is) in
     let named = c.as_str-keyword.ensures in
     let here = part_events P (part_of m.name) d in
     let rest = member_events P true (members_of (drop (i + 1) xs)) in
@@ -223,7 +217,7 @@ list_keywords-returns t c =
     let new = c.loop-member.subschemas.items in
     let so_far = c.loop-member.invariant in
     let whole : members_of c.deref-member-items.result.now ≡ c.args.members.now = ap members_of c.deref-member-items.ensures.value ∙ c.members.view_is in
-    let nothing = at_drop_all (λ ys. member_events P true (members_of ys)) c.deref-member-items.result.now c.loop-member.member-index c.loop-member-test.false in
+    let nothing = at_drop_all (λ ys. member_events P true (members_of ys)) _ _ c.loop-member-test.false in
     let grown = subst (λ x. HasGrown old new (member_events P true x)) whole (grown_whole old new _ _ nothing so_far.subschemas so_far.limit) in
     record { subschemas = grown.subschemas; ok = grown.limit; err = tt; contexts = λ raw h all. so_far.contexts raw (subst (λ ms. IsContext raw P (object ms) c.args.context) (sym whole) h) all }
 
@@ -234,7 +228,7 @@ list_properties-returns t c =
     let new = c.loop-property.subschemas.items in
     let so_far = c.loop-property.invariant in
     let whole : members_of c.deref-property-items.result.now ≡ c.args.properties.now = ap members_of c.deref-property-items.ensures.value ∙ c.properties.view_is in
-    let nothing = at_drop_all (λ ys. member_events P false (members_of ys)) c.deref-property-items.result.now c.loop-property.property-index c.loop-property-test.false in
+    let nothing = at_drop_all (λ ys. member_events P false (members_of ys)) _ _ c.loop-property-test.false in
     let grown = subst (λ x. HasGrown old new (member_events P false x)) whole (grown_whole old new _ _ nothing so_far.subschemas so_far.limit) in
     record { subschemas = grown.subschemas; ok = grown.limit; err = tt; contexts = λ raw s h stands all. so_far.contexts raw s h (subst (λ ms. StandsAs s properties (object ms)) (sym whole) stands) all }
 
@@ -245,7 +239,7 @@ list_branches-returns t c =
     let new = c.loop-i.subschemas.items in
     let so_far = c.loop-i.invariant in
     let whole : items_of c.deref-item-items.result.now ≡ c.args.items.now = ap items_of c.deref-item-items.ensures.value ∙ c.items.view_is in
-    let nothing = at_drop_all (λ ys. item_events P (junctor_of c.args.junctor) c.loop-i.i (items_of ys)) c.deref-item-items.result.now c.loop-i.i c.loop-i-test.false in
+    let nothing = at_drop_all (λ ys. item_events P (junctor_of c.args.junctor) c.loop-i.i (items_of ys)) _ _ c.loop-i-test.false in
     let grown = subst (λ x. HasGrown old new (item_events P (junctor_of c.args.junctor) 0 x)) whole (grown_whole old new _ _ nothing so_far.subschemas so_far.limit) in
     record { subschemas = grown.subschemas; ok = grown.limit; err = tt; contexts = λ raw s h stands all. so_far.contexts raw s h (subst (λ ds. StandsAs s (branches (junctor_of c.args.junctor)) (list ds)) (sym whole) stands) all }
 
@@ -257,8 +251,7 @@ list_keywords-returns-then-is_too_long t c =
     let d = data_of m.tree in
     let P = place_of c.args.place.now in
     let n = length c.loop-member.subschemas.items in
-    let within : i < length xs = omega arith in
-    let split : drop i xs ≡ m ∷ drop (i + 1) xs = drop_more xs i m within ∙ ap (λ y. y ∷ drop (i + 1) xs) (sym c.member-item.is) in
+    let split : drop i xs ≡ m ∷ drop (i + 1) xs = drop_more xs i m c.loop-member-test.true ∙ ap (λ y. y ∷ drop (i + 1) xs) (sym c.member-item.is) in
     let named = c.as_str-keyword.ensures in
     let rest = part_events P (part_of m.name) d ++ member_events P true (members_of (drop (i + 1) xs)) in
     let long : keyword_event P m.name d ≡ too_long P m.name ∷ [] = long_keyword P m.name d (ap (λ k. is_past (most_of k) (size d)) (sym named) ∙ sym c.if-is_too_long.ensures) in
