@@ -1,4 +1,4 @@
-use Rattle.std.proofs.Common.{◌≡◌, arith, ◌∙◌, ◌+◌, ap, sym, drop, min}
+use Rattle.std.proofs.Common.{◌≡◌, arith, ◌∙◌, ap, sym, drop, min}
 use Rattle.std.proofs.lemmas.Grind.{common_steps}
 use Rattle.std.proofs.lemmas.List.{take_rest}
 use Rattle.std.specs.Ordering.{ordering_then}
