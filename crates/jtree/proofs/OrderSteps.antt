@@ -19,6 +19,16 @@ pub then_assoc : (a b c : Ordering) → ordering_then (ordering_then a b) c ≡ 
 then_assoc Equal b c = refl
 then_assoc _ b c = refl
 
+-- a step, and what follows it, in the place of both
+pub order_goes_on : (found step rest both next whole : Ordering) → next ≡ ordering_then found step → both ≡ ordering_then step rest
+    → ordering_then found both ≡ whole → ordering_then next rest ≡ whole
+order_goes_on found step rest both next whole p q r =
+    ap (λ o. ordering_then o rest) p ∙ then_assoc found step rest ∙ ap (ordering_then found) (sym q) ∙ r
+
+-- a count that is capped, in the place of the count
+pub count_ends : (found rest counted most whole : ℕ) → counted ≡ min rest most → min (found + rest) most ≡ whole → min (found + counted) most ≡ whole
+count_ends found rest counted most whole p q = omega arith
+
 -- ---- the next part
 
 pub items_step : (xs ys : List Tree) (i : ℕ) (x y : Tree) → i < length xs → i < length ys → x ≡ get_or xs i x → y ≡ get_or ys i y

@@ -301,8 +301,10 @@ fn compare_members(left: &[Member], right: &[Member]) -> Compared
         order: Ordering::Equal,
     };
     for i in 0..both {
-        found.order = found.order.then(right[i].name.cmp(&left[i].name));
-        found = found.then(compare(&left[i].tree, &right[i].tree));
+        let before = &left[i];
+        let after = &right[i];
+        found.order = found.order.then(after.name.cmp(&before.name));
+        found = found.then(compare(&before.tree, &after.tree));
     }
     found.then(Compared {
         left: members_nodes(&left[both..]),

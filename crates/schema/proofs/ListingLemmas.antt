@@ -1,7 +1,7 @@
 -- How a list of places grows along the events of a schema.
-use Rattle.std.proofs.Common.{◌≡◌, ◌+◌, ℕ, suc, List, [], ◌∷◌, ◌++◌, length, false, Some, None, refl, sym, ap, ◌∙◌, inl, inr, arith}
+use Rattle.std.proofs.Common.{◌≡◌, ◌+◌, ℕ, suc, List, [], ◌∷◌, ◌++◌, length, true, false, Some, None, refl, sym, ap, ◌∙◌, inl, inr, arith}
 use Rattle.std.specs.Prelude.{map, nat_lt, nat_le}
-use Rattle.std.proofs.lemmas.List.{append_assoc, length-append, length-map}
+use Rattle.std.proofs.lemmas.List.{append-nil, append_assoc, length-append, length-map, map-append}
 use Rattle.jtree.specs.Data.{Data}
 use Rattle.jtree.specs.Path.{Path}
 use Rattle.jtree.specs.Internal.Lookups.{bool_cases}
@@ -73,8 +73,27 @@ pub grown_limit : (old new : List Subschema) (events rest : List Event) → HasG
 grown_limit old new events rest g =
     ap (λ n. limit_break n rest) (grown_count old new events g.subschemas) ∙ sym (limit_past (length old) events rest g.limit)
 
+-- nothing is left: the list has grown by the places of the whole
+pub grown_whole : (old new : List Subschema) (left whole : List Event) → left ≡ []
+    → map subschema_of new ++ subschemas_of left ≡ map subschema_of old ++ subschemas_of whole
+    → limit_break (length new) left ≡ limit_break (length old) whole → HasGrown old new whole
+grown_whole old new left whole nothing subschemas limit = record {
+  subschemas = sym (append-nil (map subschema_of new)) ∙ ap (λ events. map subschema_of new ++ subschemas_of events) (sym nothing) ∙ subschemas;
+  limit = sym limit ∙ ap (limit_break (length new)) nothing;
+}
+
+-- a list of places with one more, and the places among the events
+pub one_more : (old new : List Subschema) (s : Subschema) (events : List Event) → new ≡ old ++ (s ∷ [])
+    → map subschema_of new ++ subschemas_of events ≡ map subschema_of old ++ (subschema_of s ∷ subschemas_of events)
+one_more old new s events e =
+    ap (λ ys. map subschema_of ys ++ subschemas_of events) e ∙ ap (λ ms. ms ++ subschemas_of events) (map-append subschema_of old (s ∷ []))
+    ∙ append_assoc (map subschema_of old) (subschema_of s ∷ []) (subschemas_of events)
+
 pub short_keyword : (p : Place) (k : List ℕ) (d : Data) → is_past (most_of k) (size d) ≡ false → keyword_event p k d ≡ []
 short_keyword p k d h = rw h refl
+
+pub long_keyword : (p : Place) (k : List ℕ) (d : Data) → is_past (most_of k) (size d) ≡ true → keyword_event p k d ≡ too_long p k ∷ []
+long_keyword p k d h = rw h refl
 
 -- the fault of a whole schema
 pub refusal_names : (raw : Data) (events : List Event) → AreEventsOf raw events → (e : SFault) → IsLimitRefusal (limit_break 0 events) e → IsLimitFaultOf raw e

@@ -1,18 +1,20 @@
-use Rattle.std.proofs.Common.{◌≡◌, ◌<◌, ◌+◌, suc, [], ◌∷◌, ◌++◌, IfErr, length, drop, true, false, refl, ap, sym, ◌∙◌, subst, arith}
-use Rattle.std.specs.Prelude.{map, All}
+use Rattle.std.proofs.Common.{◌≡◌, ◌+◌, suc, [], ◌∷◌, ◌++◌, IfErr, length, drop, true, false, refl, ap, sym, ◌∙◌, subst, add-one, arith}
+use Rattle.std.specs.Prelude.{map, option_and_then, All}
 use Rattle.std.proofs.lemmas.List.Elements.{All-append, All-cons, All-nil}
-use Rattle.std.proofs.lemmas.List.{drop_more, length-append}
+use Rattle.std.proofs.lemmas.List.{at_drop_all, drop_more, length-append}
 use Rattle.std.proofs.lemmas.Result.{on_ok_weaker}
 use Rattle.jtree.specs.Data.{list, object, AreMembers}
+use Rattle.jtree.specs.Path.{name}
+use Rattle.jtree.specs.Pointer.{pointer}
 use Rattle.jtree.specs.View.{data_of, items_of, members_of}
 use Rattle.schema.specs.Document.Limits.{size, most_of}
-use Rattle.schema.specs.Internal.Contexts.{StandsAs}
+use Rattle.schema.specs.Internal.Contexts.{IsContext, StandsAs}
 use Rattle.schema.specs.Internal.Subschemas.{IsSubschema}
-use Rattle.schema.specs.Internal.Events.{properties, branches, is_past, a_schema, part_of, branch, keyword_event, part_events, member_events, item_events, schema_events, subschemas_of, limit_break}
-use Rattle.schema.specs.Document.Places.{property}
+use Rattle.schema.specs.Internal.Events.{entered, too_long, properties, branches, is_past, a_schema, part_of, branch, keyword_event, part_events, member_events, item_events, schema_events, subschemas_of, limit_break}
+use Rattle.schema.specs.Document.Places.{property, place_path, only_object}
 use Rattle.schema.specs.Internal.PlaceView.{step_of, place_of, junctor_of, part_view, subschema_of}
 use Rattle.schema.specs.Internal.Faults.{IsLimitRefusal}
-use Rattle.schema.proofs.ListingLemmas.{HasGrown, grown_subschemas, grown_limit, refusal_stays, short_keyword}
+use Rattle.schema.proofs.ListingLemmas.{HasGrown, grown_whole, one_more, long_keyword, grown_subschemas, grown_limit, refusal_stays, short_keyword}
 use Rattle.schema.proofs.ContextLemmas.{context_subschema, part_stands, property_stands, branch_stands, member_stands, item_stands}
 use Rattle.schema.proofs.listing.+listing.Goals as goal
 
@@ -25,8 +27,7 @@ list_branches-loop-i-preserved t c =
     let j = junctor_of c.args.junctor in
     let old = c.loop-i.subschemas.items in
     let new = c.list_part.new.subschemas.items in
-    let within : i < length xs = omega arith in
-    let split : drop i xs ≡ x ∷ drop (i + 1) xs = drop_more xs i x within ∙ ap (λ y. y ∷ drop (i + 1) xs) (sym c.item-item.is) in
+    let split : drop i xs ≡ x ∷ drop (i + 1) xs = drop_more xs i x c.loop-i-test.true ∙ ap (λ y. y ∷ drop (i + 1) xs) (sym c.item-item.is) in
     let here = part_events P (a_schema (branch j i)) (data_of x) in
     let rest = item_events P j (i + 1) (items_of (drop (i + 1) xs)) in
     let next : suc i ≡ i + 1 = omega arith in
@@ -46,8 +47,8 @@ list_branches-loop-i-preserved t c =
           c.in-Ok.ensures.contexts raw s h here (c.loop-i.invariant.contexts raw s h stands all);
     }
 
-pub list_branches-returns-in-Err-clause-err : goal.list_branches-returns-in-Err-clause-err
-list_branches-returns-in-Err-clause-err t c =
+pub list_branches-returns-in-Err : goal.list_branches-returns-in-Err
+list_branches-returns-in-Err t c =
     let xs = c.deref-item-items.result.now in
     let i = c.loop-i.i in
     let x = c.item-item.result in
@@ -55,15 +56,15 @@ list_branches-returns-in-Err-clause-err t c =
     let j = junctor_of c.args.junctor in
     let old = c.loop-i.subschemas.items in
     let e = c.in-Err.fault in
-    let within : i < length xs = omega arith in
-    let split : drop i xs ≡ x ∷ drop (i + 1) xs = drop_more xs i x within ∙ ap (λ y. y ∷ drop (i + 1) xs) (sym c.item-item.is) in
+    let split : drop i xs ≡ x ∷ drop (i + 1) xs = drop_more xs i x c.loop-i-test.true ∙ ap (λ y. y ∷ drop (i + 1) xs) (sym c.item-item.is) in
     let here = part_events P (a_schema (branch j i)) (data_of x) in
     let rest = item_events P j (suc i) (items_of (drop (i + 1) xs)) in
     let refused = subst (λ s. IsLimitRefusal (limit_break (length old) (part_events P (a_schema s) (data_of x))) e) c.branch-step.ensures c.in-Err.ensures.err in
     let whole : items_of xs ≡ c.args.items.now = ap items_of c.deref-item-items.ensures.value ∙ c.items.view_is in
-    subst (λ o. IsLimitRefusal o e)
+    let err : IsLimitRefusal (limit_break (length c.args.subschemas.now.items) (item_events P j 0 c.args.items.now)) e = subst (λ o. IsLimitRefusal o e)
     (ap (λ ys. limit_break (length old) (item_events P j i (items_of ys))) (sym split) ∙ c.loop-i.invariant.limit ∙ ap (λ ds. limit_break (length c.args.subschemas.now.items) (item_events P j 0 ds)) whole)
-    (refusal_stays (length old) here rest e refused)
+    (refusal_stays (length old) here rest e refused) in
+    record { subschemas = tt; ok = tt; err = err; contexts = tt }
 
 pub list_properties-loop-property-preserved : goal.list_properties-loop-property-preserved
 list_properties-loop-property-preserved t c =
@@ -73,8 +74,7 @@ list_properties-loop-property-preserved t c =
     let P = place_of c.args.place.now in
     let old = c.loop-property.subschemas.items in
     let new = c.list_part.new.subschemas.items in
-    let within : i < length xs = omega arith in
-    let split : drop i xs ≡ m ∷ drop (i + 1) xs = drop_more xs i m within ∙ ap (λ y. y ∷ drop (i + 1) xs) (sym c.property-item.is) in
+    let split : drop i xs ≡ m ∷ drop (i + 1) xs = drop_more xs i m c.loop-property-test.true ∙ ap (λ y. y ∷ drop (i + 1) xs) (sym c.property-item.is) in
     let here = part_events P (a_schema (property m.name)) (data_of m.tree) in
     let rest = member_events P false (members_of (drop (i + 1) xs)) in
     let events : member_events P false (members_of (drop i xs)) ≡ here ++ rest = ap (λ ys. member_events P false (members_of ys)) split in
@@ -94,57 +94,61 @@ list_properties-loop-property-preserved t c =
           c.in-Ok.ensures.contexts raw s h here (c.loop-property.invariant.contexts raw s h stands all);
     }
 
-pub list_properties-returns-in-Err-clause-err : goal.list_properties-returns-in-Err-clause-err
-list_properties-returns-in-Err-clause-err t c =
+pub list_properties-returns-in-Err : goal.list_properties-returns-in-Err
+list_properties-returns-in-Err t c =
     let xs = c.deref-property-items.result.now in
     let i = c.loop-property.property-index in
     let m = c.property-item.result in
     let P = place_of c.args.place.now in
     let old = c.loop-property.subschemas.items in
     let e = c.in-Err.fault in
-    let within : i < length xs = omega arith in
-    let split : drop i xs ≡ m ∷ drop (i + 1) xs = drop_more xs i m within ∙ ap (λ y. y ∷ drop (i + 1) xs) (sym c.property-item.is) in
+    let split : drop i xs ≡ m ∷ drop (i + 1) xs = drop_more xs i m c.loop-property-test.true ∙ ap (λ y. y ∷ drop (i + 1) xs) (sym c.property-item.is) in
     let here = part_events P (a_schema (property m.name)) (data_of m.tree) in
     let rest = member_events P false (members_of (drop (i + 1) xs)) in
     let refused = subst (λ k. IsLimitRefusal (limit_break (length old) (part_events P (a_schema (property k)) (data_of m.tree))) e) c.as_str.ensures c.in-Err.ensures.err in
     let whole : members_of xs ≡ c.args.properties.now = ap members_of c.deref-property-items.ensures.value ∙ c.properties.view_is in
-    subst (λ o. IsLimitRefusal o e)
+    let err : IsLimitRefusal (limit_break (length c.args.subschemas.now.items) (member_events P false c.args.properties.now)) e = subst (λ o. IsLimitRefusal o e)
     (ap (λ ys. limit_break (length old) (member_events P false (members_of ys))) (sym split) ∙ c.loop-property.invariant.limit ∙ ap (λ ms. limit_break (length c.args.subschemas.now.items) (member_events P false ms)) whole)
-    (refusal_stays (length old) here rest e refused)
+    (refusal_stays (length old) here rest e refused) in
+    record { subschemas = tt; ok = tt; err = err; contexts = tt }
 
-pub list_schema-returns-in-Err-clause-err : goal.list_schema-returns-in-Err-clause-err
-list_schema-returns-in-Err-clause-err t c =
+pub list_schema-returns-in-Err : goal.list_schema-returns-in-Err
+list_schema-returns-in-Err t c =
     let P = place_of c.args.place.now in
     let ms = c.args.members.now in
     let same : c.len.result ≡ length c.args.subschemas.now.items = omega arith in
-    subst (λ n. IsLimitRefusal (limit_break n (schema_events P ms)) c.in-Err.fault) same (c.in-Err.ensures.err (object ms) (member_events P true ms))
+    record {
+      subschemas = tt;
+      ok = tt;
+      err = subst (λ n. IsLimitRefusal (limit_break n (schema_events P ms)) c.in-Err.fault) same (c.in-Err.ensures.err (object ms) (member_events P true ms));
+      contexts = tt;
+    }
 
-pub list_schema-returns-clause-ok : goal.list_schema-returns-clause-ok
-list_schema-returns-clause-ok t c =
-    let P = place_of c.args.place.now in
-    let ms = c.args.members.now in
-    let events = member_events P true ms in
-    let r = c.list_keywords.result in
-    let same : c.len.result ≡ length c.args.subschemas.now.items = omega arith in
-    let pushed = simp length-append at (ap length c.in_ok-push.ensures.items) in
-    let count : suc c.len.result ≡ length c.push.new.self.items = omega (arith, pushed) in
-    on_ok_weaker r (λ e. ap (λ n. limit_break n (schema_events P ms)) (sym same) ∙ c.in-Ok.ensures.ok (object ms) events ∙ ap (λ n. limit_break n events) count ∙ e) c.list_keywords.ensures.ok
-
-pub list_schema-returns-clause-err : goal.list_schema-returns-clause-err
-list_schema-returns-clause-err t c =
+pub list_schema-returns : goal.list_schema-returns
+list_schema-returns t c =
     let P = place_of c.args.place.now in
     let ms = c.args.members.now in
     let events = member_events P true ms in
+    let old = c.args.subschemas.now.items in
     let r = c.list_keywords.result in
-    let same : c.len.result ≡ length c.args.subschemas.now.items = omega arith in
-    let pushed = simp length-append at (ap length c.in_ok-push.ensures.items) in
-    let count : suc c.len.result ≡ length c.push.new.self.items = omega (arith, pushed) in
-    let along : limit_break (length c.push.new.self.items) events ≡ limit_break (length c.args.subschemas.now.items) (schema_events P ms) =
+    let e = c.list_keywords.ensures in
+    let place : place_of c.in_ok-copied.field-0.items ≡ P = c.in_ok-copied.ensures in
+    let items = c.in_ok-push.ensures.items in
+    let same : c.len.result ≡ length old = omega arith in
+    let count : suc c.len.result ≡ length c.push.new.self.items = sym (ap length items ∙ length-append old _ ∙ add-one (length old) ∙ ap suc (sym same)) in
+    let along : limit_break (length c.push.new.self.items) events ≡ limit_break (length old) (schema_events P ms) =
     ap (λ n. limit_break n events) (sym count) ∙ sym (c.in-Ok.ensures.ok (object ms) events) ∙ ap (λ n. limit_break n (schema_events P ms)) same in
-    subst (λ o. IfErr r (IsLimitRefusal o)) along c.list_keywords.ensures.err
+    record {
+      subschemas = on_ok_weaker r (λ grown. grown ∙ one_more old _ _ events items ∙ ap (λ p. map subschema_of old ++ (entered p (object ms) ∷ subschemas_of events)) place) e.subschemas;
+      ok = on_ok_weaker r (λ none. sym along ∙ none) e.ok;
+      err = subst (λ o. IfErr r (IsLimitRefusal o)) along e.err;
+      contexts = on_ok_weaker r
+          (λ each raw h all. each raw h (subst (All (IsSubschema raw)) (sym items) (All-append (IsSubschema raw) old _ all (All-cons (IsSubschema raw) _ [] (context_subschema raw P c.args.context _ place refl refl h) (All-nil (IsSubschema raw))))))
+          e.contexts;
+    }
 
-pub list_keywords-returns-in-Err-clause-err : goal.list_keywords-returns-in-Err-clause-err
-list_keywords-returns-in-Err-clause-err t c =
+pub list_keywords-returns-in-Err : goal.list_keywords-returns-in-Err
+list_keywords-returns-in-Err t c =
     let xs = c.deref-member-items.result.now in
     let i = c.loop-member.member-index in
     let m = c.member-item.result in
@@ -152,8 +156,7 @@ list_keywords-returns-in-Err-clause-err t c =
     let P = place_of c.args.place.now in
     let old = c.loop-member.subschemas.items in
     let e = c.in-Err.fault in
-    let within : i < length xs = omega arith in
-    let split : drop i xs ≡ m ∷ drop (i + 1) xs = drop_more xs i m within ∙ ap (λ y. y ∷ drop (i + 1) xs) (sym c.member-item.is) in
+    let split : drop i xs ≡ m ∷ drop (i + 1) xs = drop_more xs i m c.loop-member-test.true ∙ ap (λ y. y ∷ drop (i + 1) xs) (sym c.member-item.is) in
     let named = c.as_str-keyword.ensures in
     let here = part_events P (part_of m.name) d in
     let rest = member_events P true (members_of (drop (i + 1) xs)) in
@@ -162,9 +165,10 @@ list_keywords-returns-in-Err-clause-err t c =
     let events : member_events P true (members_of (drop i xs)) ≡ here ++ rest = ap (λ ys. member_events P true (members_of ys)) split ∙ ap (λ ws. ws ++ (here ++ rest)) short in
     let refused = subst (λ p. IsLimitRefusal (limit_break (length old) (part_events P p d)) e) part c.in-Err.ensures.err in
     let whole : members_of xs ≡ c.args.members.now = ap members_of c.deref-member-items.ensures.value ∙ c.members.view_is in
-    subst (λ o. IsLimitRefusal o e)
+    let err : IsLimitRefusal (limit_break (length c.args.subschemas.now.items) (member_events P true c.args.members.now)) e = subst (λ o. IsLimitRefusal o e)
     (ap (limit_break (length old)) (sym events) ∙ c.loop-member.invariant.limit ∙ ap (λ ms. limit_break (length c.args.subschemas.now.items) (member_events P true ms)) whole)
-    (refusal_stays (length old) here rest e refused)
+    (refusal_stays (length old) here rest e refused) in
+    record { subschemas = tt; ok = tt; err = err; contexts = tt }
 
 pub list_keywords-loop-member-preserved : goal.list_keywords-loop-member-preserved
 list_keywords-loop-member-preserved t c =
@@ -175,8 +179,7 @@ list_keywords-loop-member-preserved t c =
     let P = place_of c.args.place.now in
     let old = c.loop-member.subschemas.items in
     let new = c.list_part.new.subschemas.items in
-    let within : i < length xs = omega arith in
-    let split : drop i xs ≡ m ∷ drop (i + 1) xs = drop_more xs i m within ∙ ap (λ y. y ∷ drop (i + 1) xs) (sym c.member-item.is) in
+    let split : drop i xs ≡ m ∷ drop (i + 1) xs = drop_more xs i m c.loop-member-test.true ∙ ap (λ y. y ∷ drop (i + 1) xs) (sym c.member-item.is) in
     let named = c.as_str-keyword.ensures in
     let here = part_events P (part_of m.name) d in
     let rest = member_events P true (members_of (drop (i + 1) xs)) in
@@ -197,33 +200,78 @@ list_keywords-loop-member-preserved t c =
           c.in-Ok.ensures.contexts raw (object (members_of xs)) h here (c.loop-member.invariant.contexts raw h all);
     }
 
-pub list_branches-returns-clause-contexts : goal.list_branches-returns-clause-contexts
-list_branches-returns-clause-contexts t c =
-    let whole : items_of c.deref-item-items.result.now ≡ c.args.items.now = ap items_of c.deref-item-items.ensures.value ∙ c.items.view_is in
-    λ raw s h stands all. c.loop-i.invariant.contexts raw s h (subst (λ ds. StandsAs s (branches (junctor_of c.args.junctor)) (list ds)) (sym whole) stands) all
+pub list_part-returns-in-Object-tree : goal.list_part-returns-in-Object-tree
+list_part-returns-in-Object-tree t c =
+    let e = c.list_properties.ensures in
+    rw (c.in-Properties.is, c.in-Object-tree.is) record { subschemas = e.subschemas; ok = e.ok; err = e.err; contexts = e.contexts }
 
-pub list_part-returns-in-Object-tree-clause-contexts : goal.list_part-returns-in-Object-tree-clause-contexts
-list_part-returns-in-Object-tree-clause-contexts t c =
-    on_ok_weaker c.list_properties.result
-    (λ e raw s h stands all. e raw s h (let here = subst (λ r. StandsAs s (part_view r) (data_of c.args.tree.now)) c.in-Properties.is stands in subst (λ x. StandsAs s properties (data_of x)) c.in-Object-tree.is here) all)
-    c.list_properties.ensures.contexts
+pub list_part-returns-in-List : goal.list_part-returns-in-List
+list_part-returns-in-List t c =
+    let e = c.list_branches.ensures in
+    rw (c.in-Branches.is, c.in-List.is) record { subschemas = e.subschemas; ok = e.ok; err = e.err; contexts = e.contexts }
 
-pub list_part-returns-in-List-clause-contexts : goal.list_part-returns-in-List-clause-contexts
-list_part-returns-in-List-clause-contexts t c =
-    on_ok_weaker c.list_branches.result
-    (λ e raw s h stands all. e raw s h (let here = subst (λ r. StandsAs s (part_view r) (data_of c.args.tree.now)) c.in-Branches.is stands in subst (λ x. StandsAs s (branches (junctor_of c.in-Branches.junctor)) (data_of x)) c.in-List.is here) all)
-    c.list_branches.ensures.contexts
-
-pub list_properties-returns-clause-contexts : goal.list_properties-returns-clause-contexts
-list_properties-returns-clause-contexts t c =
-    let whole : members_of c.deref-property-items.result.now ≡ c.args.properties.now = ap members_of c.deref-property-items.ensures.value ∙ c.properties.view_is in
-    λ raw s h stands all. c.loop-property.invariant.contexts raw s h (subst (λ ms. StandsAs s properties (object ms)) (sym whole) stands) all
-
-pub list_schema-returns-clause-contexts : goal.list_schema-returns-clause-contexts
-list_schema-returns-clause-contexts t c =
+pub list_keywords-returns : goal.list_keywords-returns
+list_keywords-returns t c =
     let P = place_of c.args.place.now in
-    let steps = c.in_ok-copied.field-0 in
-    let same : place_of steps.items ≡ P = c.in_ok-copied.ensures in
-    on_ok_weaker c.list_keywords.result
-    (λ e raw h all. e raw h (subst (All (IsSubschema raw)) (sym c.in_ok-push.ensures.items) (All-append (IsSubschema raw) c.args.subschemas.now.items _ all (All-cons (IsSubschema raw) _ [] (context_subschema raw P c.args.context _ same refl refl h) (All-nil (IsSubschema raw))))))
-    c.list_keywords.ensures.contexts
+    let old = c.args.subschemas.now.items in
+    let new = c.loop-member.subschemas.items in
+    let so_far = c.loop-member.invariant in
+    let whole : members_of c.deref-member-items.result.now ≡ c.args.members.now = ap members_of c.deref-member-items.ensures.value ∙ c.members.view_is in
+    let nothing = at_drop_all (λ ys. member_events P true (members_of ys)) _ _ c.loop-member-test.false in
+    let grown = subst (λ x. HasGrown old new (member_events P true x)) whole (grown_whole old new _ _ nothing so_far.subschemas so_far.limit) in
+    record { subschemas = grown.subschemas; ok = grown.limit; err = tt; contexts = λ raw h all. so_far.contexts raw (subst (λ ms. IsContext raw P (object ms) c.args.context) (sym whole) h) all }
+
+pub list_properties-returns : goal.list_properties-returns
+list_properties-returns t c =
+    let P = place_of c.args.place.now in
+    let old = c.args.subschemas.now.items in
+    let new = c.loop-property.subschemas.items in
+    let so_far = c.loop-property.invariant in
+    let whole : members_of c.deref-property-items.result.now ≡ c.args.properties.now = ap members_of c.deref-property-items.ensures.value ∙ c.properties.view_is in
+    let nothing = at_drop_all (λ ys. member_events P false (members_of ys)) _ _ c.loop-property-test.false in
+    let grown = subst (λ x. HasGrown old new (member_events P false x)) whole (grown_whole old new _ _ nothing so_far.subschemas so_far.limit) in
+    record { subschemas = grown.subschemas; ok = grown.limit; err = tt; contexts = λ raw s h stands all. so_far.contexts raw s h (subst (λ ms. StandsAs s properties (object ms)) (sym whole) stands) all }
+
+pub list_branches-returns : goal.list_branches-returns
+list_branches-returns t c =
+    let P = place_of c.args.place.now in
+    let old = c.args.subschemas.now.items in
+    let new = c.loop-i.subschemas.items in
+    let so_far = c.loop-i.invariant in
+    let whole : items_of c.deref-item-items.result.now ≡ c.args.items.now = ap items_of c.deref-item-items.ensures.value ∙ c.items.view_is in
+    let nothing = at_drop_all (λ ys. item_events P (junctor_of c.args.junctor) c.loop-i.i (items_of ys)) _ _ c.loop-i-test.false in
+    let grown = subst (λ x. HasGrown old new (item_events P (junctor_of c.args.junctor) 0 x)) whole (grown_whole old new _ _ nothing so_far.subschemas so_far.limit) in
+    record { subschemas = grown.subschemas; ok = grown.limit; err = tt; contexts = λ raw s h stands all. so_far.contexts raw s h (subst (λ ds. StandsAs s (branches (junctor_of c.args.junctor)) (list ds)) (sym whole) stands) all }
+
+pub list_keywords-returns-then-is_too_long : goal.list_keywords-returns-then-is_too_long
+list_keywords-returns-then-is_too_long t c =
+    let xs = c.deref-member-items.result.now in
+    let i = c.loop-member.member-index in
+    let m = c.member-item.result in
+    let d = data_of m.tree in
+    let P = place_of c.args.place.now in
+    let n = length c.loop-member.subschemas.items in
+    let split : drop i xs ≡ m ∷ drop (i + 1) xs = drop_more xs i m c.loop-member-test.true ∙ ap (λ y. y ∷ drop (i + 1) xs) (sym c.member-item.is) in
+    let named = c.as_str-keyword.ensures in
+    let rest = part_events P (part_of m.name) d ++ member_events P true (members_of (drop (i + 1) xs)) in
+    let long : keyword_event P m.name d ≡ too_long P m.name ∷ [] = long_keyword P m.name d (ap (λ k. is_past (most_of k) (size d)) (sym named) ∙ sym c.if-is_too_long.ensures) in
+    let whole : members_of xs ≡ c.args.members.now = ap members_of c.deref-member-items.ensures.value ∙ c.members.view_is in
+    let limit = ap (λ ms. limit_break (length c.args.subschemas.now.items) (member_events P true ms)) (sym whole) ∙ sym c.loop-member.invariant.limit
+    ∙ ap (λ ys. limit_break n (member_events P true (members_of ys))) split ∙ ap (λ ws. limit_break n (ws ++ rest)) long in
+    let path = place_path P ++ (name m.name ∷ []) in
+    let text = c.in_ok-keyword_pointer.ensures ∙ ap (λ k. pointer (place_path P ++ (name k ∷ []))) named in
+    record { subschemas = tt; ok = tt; err = (path, text, limit); contexts = tt }
+
+pub list_part-returns-in_ok-place-in-Object : goal.list_part-returns-in_ok-place-in-Object
+list_part-returns-in_ok-place-in-Object t c =
+    let P = place_of c.args.place.now in
+    let step = step_of c.in-Schema.step in
+    let r = c.list_schema.result in
+    let e = c.list_schema.ensures in
+    let place : place_of c.as_slice.result.now ≡ P ++ (step ∷ []) = ap place_of c.as_slice.ensures.value ∙ c.in_ok-place-in-Object.ensures in
+    rw (c.in-Schema.is, c.in-Object.is, ← place) record {
+      subschemas = e.subschemas;
+      ok = e.ok;
+      err = e.err;
+      contexts = on_ok_weaker r (λ each raw s h stands all. each raw (subst (λ p. IsContext raw p (object c.in-Object.members) c.context_below-context.result) (sym place) (c.context_below-context.ensures raw s P h (ap (option_and_then only_object) stands))) all) e.contexts;
+    }
