@@ -49,7 +49,10 @@ pub fn violations(alloc: Global, raw: &RawSchema) -> Result<Vec<Violation>, Allo
     ensures { IfOk result (λ vs. AreViolations (IsBroken raw.now) vs.items) }
 {
     match judge(alloc, raw) {
-        Ok(_shape) => Ok(Vec::new(alloc)),
+        Ok(shape) => {
+            drop(shape);
+            Ok(Vec::new(alloc))
+        }
         Err(Refused::Violations(violations)) => Ok(violations),
         Err(Refused::NoMemory) => Err(AllocError),
     }
@@ -89,10 +92,17 @@ fn judge_defaults(alloc: Global, raw: &RawSchema, shape: Shape) -> Result<Shape,
 {
     raw.tree();
     nodes_are_unique();
-    let found = bad_defaults(alloc, shape.root())?;
+    let found = match bad_defaults(alloc, shape.root()) {
+        Ok(found) => found,
+        Err(_) => {
+            drop(shape);
+            return Err(Refused::NoMemory);
+        }
+    };
     if found.as_slice().is_empty() {
         Ok(shape)
     } else {
+        drop(shape);
         Err(Refused::Violations(found))
     }
 }

@@ -7,15 +7,15 @@ use Rattle.stored.proofs.DefaultListLemmas.{is_accepted, is_refused}
 use Rattle.stored.proofs.accepting.judge_defaults.Goals as goal
 
 pub returns-then-is_empty-clause-accepted : goal.returns-then-is_empty-clause-accepted
-returns-then-is_empty-clause-accepted c = is_accepted c.args.raw.now c.args.shape c.in_ok-found.found.items c.tree.ensures.sound c.requires.unbroken c.requires.nodes
+returns-then-is_empty-clause-accepted c = is_accepted c.args.raw.now c.args.shape c.in-Ok.found.items c.tree.ensures.sound c.requires.unbroken c.requires.nodes
     (λ M nodes. c.nodes_are_unique.ensures M c.args.shape c.args.raw.now true nodes c.requires.nodes)
-    (subst (λ N. AreAdded [] (defaults_of N) [] (map told c.in_ok-found.found.items)) c.root.ensures.node c.in_ok-found.ensures)
+    (subst (λ N. AreAdded [] (defaults_of N) [] (map told c.in-Ok.found.items)) c.root.ensures.node c.in-Ok.ensures)
     (search (rules, nil_from_length))
 
 pub returns-else-is_empty-clause-refused : goal.returns-else-is_empty-clause-refused
 returns-else-is_empty-clause-refused c = (
-  is_refused c.args.raw.now c.args.shape c.in_ok-found.found.items c.requires.unbroken c.requires.nodes
+  is_refused c.args.raw.now c.args.shape c.in-Ok.found.items c.requires.unbroken c.requires.nodes
       (λ M nodes. c.nodes_are_unique.ensures M c.args.shape c.args.raw.now true nodes c.requires.nodes)
-      (subst (λ N. AreAdded [] (defaults_of N) [] (map told c.in_ok-found.found.items)) c.root.ensures.node c.in_ok-found.ensures),
+      (subst (λ N. AreAdded [] (defaults_of N) [] (map told c.in-Ok.found.items)) c.root.ensures.node c.in-Ok.ensures),
   search (rules, nil_from_length),
 )

@@ -6,3 +6,6 @@ use Rattle.stored.proofs.accepting.violations.Goals as goal
 
 pub returns-in-Ok : goal.returns-in-Ok
 returns-in-Ok c = subst (AreViolations (IsBroken c.args.raw.now)) (sym c.new.ensures.items) (nothing_broken c.args.raw.now _ c.in-Ok.ensures.accepted)
+
+pub returns-in-Err-Violations : goal.returns-in-Err-Violations
+returns-in-Err-Violations c = rw c.in-Err-Violations.field-0-is (rw c.in-Err-Violations.field-0-is at c.in-Err-Violations.ensures.refused).0
