@@ -1,8 +1,8 @@
-use Rattle.std.proofs.Common.{refl, sym, ap, subst, ◌∙◌, arith, ◌≡◌, ◌≢◌, ◌+◌, ◌-◌, ◌*◌, ◌≤◌, ◌<◌, ℕ, List, length, drop, IfNone, None, Some, [], vec_len}
+use Rattle.std.proofs.Common.{refl, sym, ap, subst, ◌∙◌, arith, ◌≡◌, ◌≢◌, ◌+◌, ◌-◌, ◌*◌, ◌≤◌, ◌<◌, ℕ, List, length, drop, IfNone, Option, None, Some, [], vec_len}
 use Rattle.std.proofs.lemmas.Result.{IfOk-weaker}
 use Rattle.std.proofs.lemmas.List.{length-take-le}
 use Rattle.std.proofs.Math.Nat.{mul-le-mul_left, mul-add}
-use Rattle.jtree.specs.Data.{AreMembers, object as object_data, list as list_data, Members as MembersData, Items}
+use Rattle.jtree.specs.Data.{Data, AreMembers, object as object_data, list as list_data, Members as MembersData, Items}
 use Rattle.jtree.specs.Nodes.{most_nodes, node_count, items_count, members_count}
 use Rattle.jtree.specs.Order.{tree_cmp}
 use Rattle.jtree.specs.Internal.Rising.{contained}
@@ -16,8 +16,8 @@ use Rattle.enumerate.specs.Internal.Rows.{fill_cmp, IsRest, IsOpen, still_used, 
 use Rattle.enumerate.proofs.ListLemmas.{some_nodes, site_among, few_items, counted}
 use Rattle.enumerate.proofs.MoveLemmas.{moved_same, item_moved}
 use Rattle.enumerate.proofs.MoveCosts.{one_cost, costs_last, last_kept, last_wider}
-use Rattle.enumerate.proofs.MoveSteps.{row_stands, stand_nodes, none_left, moved_behind, same_used, filled_in, ended, left_out, out_ended, known_behind, known_out, open_here, out_next, out_grown, in_next, in_value, in_grown, key_moved, part_moved}
-use Rattle.enumerate.proofs.MemberCuts.{begins_within, member_here, count_from, kept_one, cut_off, added_kept, grown_kept}
+use Rattle.enumerate.proofs.MoveSteps.{IsEnded, row_stands, stand_nodes, none_left, moved_behind, same_used, filled_in, ended, left_out, out_ended, known_behind, known_out, open_here, out_next, out_grown, in_next, in_value, in_grown, key_moved, part_moved}
+use Rattle.enumerate.proofs.MemberCuts.{IsCut, begins_within, member_here, count_from, kept_one, cut_off, added_kept, grown_kept}
 use Rattle.enumerate.proofs.NullMoves.{row_moved}
 use Rattle.enumerate.proofs.PartRows.{weight_next, row_unless_null}
 use Rattle.enumerate.proofs.RowLemmas.{can_fill}
@@ -36,7 +36,9 @@ use Rattle.enumerate.proofs.WholeListLemmas.{has_item, list_site, part_list, par
 use Rattle.enumerate.proofs.ListWalks.{WereLast, IsWalked, all_left, walk_ended, front_nodes, front_first, front_fresh, front_follow, front_next, front_walked, list_moved, list_stays, double, cost_room, no_more, some_there, empty_len, some_len, walked_last, kept_last}
 use Rattle.enumerate.specs.declared.moved.Moved.TheVariants as moved
 use Rattle.enumerate.specs.declared.moved.Step.TheVariants as step
+use Rattle.enumerate.proofs.moving.+advance.Given.{Over}
 use Rattle.enumerate.proofs.moving.+advance.Goals as goal
+use Rattle.enumerate.proofs.moving.+advance.Goals.{advance_filled-In-Some}
 use Rattle.plan.specs.declared.sort.Distinct.TheVariants as distinct
 
 twice_cost : (w n : ℕ) → 1 ≤ n → (w + 1) * 1 ≤ (w + 1) * (2 * n)
@@ -211,18 +213,30 @@ advance_filled-unreachable-requires g t c =
     let none = c.in_default-pop.ensures.cases.0 in
     omega (arith, count, same, none, c.truncate.new.self.ok.0)
 
+-- what is known of the slot once its member was taken off
+cut_here : (g : Over) (t : ℕ) (c : advance_filled-In-Some g t) → IsCut c.args.taken c.args.members.now.items c.pop.new.self.items c.index.result.now c.in-Some.field-0
+cut_here g t c = cut_off c.args.slot.now.name.now c.args.taken c.args.members.now.items c.advance_slots.new.members.items c.truncate.new.self.items c.pop.new.self.items c.index.result.now c.in-Some.field-0 c.requires.filled c.index.ensures c.in_ok-room.ensures.kept c.truncate.ensures.items c.in-Some.ensures.items
+
+ended_here : (g : Over) (t : ℕ) (c : advance_filled-In-Some g t) (gs : List (Option Data)) → StandIn c.args.plan.now.pools (slots_from c.args.plan.now c.args.node c.args.place) (bounds_at c.args.plan.now c.args.node) c.args.taken (rows_of c.args.used.now) (drop c.args.taken c.args.members.now.items) gs
+    → IsEnded c.args.plan.now c.args.node c.args.place c.args.taken c.in-Last.room (rows_of c.args.used.now) c.args.members.now.items c.in-Some.field-0 gs
+ended_here g t c gs s =
+    let q = c.args.plan.now in
+    let sound = c.sound_parts.ensures.parts _ (site_among q c.args.node c.requires.node) in
+    ended q c.args.node c.args.place c.args.slot.now c.requires.slot sound c.in_ok-room.field-0 c.args.taken c.in-Last.room (rows_of c.args.used.now) (rows_of c.as_slice.result.now) c.args.members.now.items c.pop.new.self.items (drop (c.args.taken + 1) c.advance_slots.new.members.items) c.index.result.now c.in-Some.field-0 gs
+    (cut_here g t c) c.requires.filled (omega (arith, c.requires.limit, c.limit.ensures, c.limit.type_inv)) c.in-Last.is (ap rows_of c.as_slice.ensures.value ∙ c.in_ok-same.ensures) c.in_ok-room.ensures.moved s
+
 pub advance_filled-advance_value-requires : goal.advance_filled-advance_value-requires
 advance_filled-advance_value-requires g t c κs within =
     let q = c.args.plan.now in
     let sound = c.sound_parts.ensures.parts _ (site_among q c.args.node c.requires.node) in
-    let cut = cut_off c.args.slot.now.name.now c.args.taken c.args.members.now.items c.advance_slots.new.members.items c.truncate.new.self.items c.pop.new.self.items c.index.result.now c.in-Some.field-0 c.requires.filled c.index.ensures c.in_ok-room.ensures.kept c.truncate.ensures.items c.in-Some.ensures.items in
+    let cut = cut_here g t (goal.at.advance_filled-advance_value-requires g t c).In-Some in
     let f = filled_in q c.args.node c.args.place c.args.slot.now c.requires.slot sound c.args.taken (rows_of c.args.used.now) c.args.members.now.items c.in-Some.field-0 c.requires.stand.0 (omega (arith, c.requires.limit, c.limit.ensures, c.limit.type_inv)) cut.there c.requires.filled c.requires.stand.1 in
     (omega (arith, c.decreases), (within, (c.requires.node, (c.requires.slot, (c.requires.known, (f.1.value, omega (arith, cut.nodes_are, c.requires.limit)))))))
 
 pub advance_filled-returns-in_err-tree-clause-steps : goal.advance_filled-returns-in_err-tree-clause-steps
 advance_filled-returns-in_err-tree-clause-steps g t c = λ w wide.
     let q = c.args.plan.now in
-    let cut = cut_off c.args.slot.now.name.now c.args.taken c.args.members.now.items c.advance_slots.new.members.items c.truncate.new.self.items c.pop.new.self.items c.index.result.now c.in-Some.field-0 c.requires.filled c.index.ensures c.in_ok-room.ensures.kept c.truncate.ensures.items c.in-Some.ensures.items in
+    let cut = cut_here g t (goal.at.advance_filled-returns-in_err-tree-clause-steps g t c).In-Some in
     let scaled = ap (λ n. (w + 1) * n) cut.nodes_are in
     let behind = subst (λ st. CostsLastSlots st q c.args.node (c.args.place + 1) c.args.meter.now c.advance_slots.new.meter (members_count (members_of (drop (c.args.taken + 1) c.args.members.now.items)))) c.in-Last.is c.in_ok-room.ensures.last w wide in
     omega (arith, scaled, behind, c.advance_value.ensures.steps w wide)
@@ -233,19 +247,14 @@ advance_filled-put_member-requires-clause-taken g t c = c.requires.taken
 pub advance_filled-put_member-requires-clause-limit : goal.advance_filled-put_member-requires-clause-limit
 advance_filled-put_member-requires-clause-limit g t c =
     let q = c.args.plan.now in
-    let sound = c.sound_parts.ensures.parts _ (site_among q c.args.node c.requires.node) in
-    let cut = cut_off c.args.slot.now.name.now c.args.taken c.args.members.now.items c.advance_slots.new.members.items c.truncate.new.self.items c.pop.new.self.items c.index.result.now c.in-Some.field-0 c.requires.filled c.index.ensures c.in_ok-room.ensures.kept c.truncate.ensures.items c.in-Some.ensures.items in
-    let e = ended q c.args.node c.args.place c.args.slot.now c.requires.slot sound c.in_ok-room.field-0 c.args.taken c.in-Last.room (rows_of c.args.used.now) (rows_of c.as_slice.result.now) c.args.members.now.items c.pop.new.self.items (drop (c.args.taken + 1) c.advance_slots.new.members.items) c.index.result.now c.in-Some.field-0 c.requires.stand.0
-    cut c.requires.filled (omega (arith, c.requires.limit, c.limit.ensures, c.limit.type_inv)) c.in-Last.is (ap rows_of c.as_slice.ensures.value ∙ c.in_ok-same.ensures) c.in_ok-room.ensures.moved c.requires.stand.1 in
+    let e = ended_here g t (goal.at.advance_filled-put_member-requires-clause-limit g t c).In-Some c.requires.stand.0 c.requires.stand.1 in
     omega (arith, e.nodes_are, some_nodes (data_of c.in-Some.field-0.tree), c.requires.limit)
 
 pub advance_filled-put_member-requires-clause-open : goal.advance_filled-put_member-requires-clause-open
 advance_filled-put_member-requires-clause-open g t c =
     let q = c.args.plan.now in
     let sound = c.sound_parts.ensures.parts _ (site_among q c.args.node c.requires.node) in
-    let cut = cut_off c.args.slot.now.name.now c.args.taken c.args.members.now.items c.advance_slots.new.members.items c.truncate.new.self.items c.pop.new.self.items c.index.result.now c.in-Some.field-0 c.requires.filled c.index.ensures c.in_ok-room.ensures.kept c.truncate.ensures.items c.in-Some.ensures.items in
-    let e = ended q c.args.node c.args.place c.args.slot.now c.requires.slot sound c.in_ok-room.field-0 c.args.taken c.in-Last.room (rows_of c.args.used.now) (rows_of c.as_slice.result.now) c.args.members.now.items c.pop.new.self.items (drop (c.args.taken + 1) c.advance_slots.new.members.items) c.index.result.now c.in-Some.field-0 c.requires.stand.0
-    cut c.requires.filled (omega (arith, c.requires.limit, c.limit.ensures, c.limit.type_inv)) c.in-Last.is (ap rows_of c.as_slice.ensures.value ∙ c.in_ok-same.ensures) c.in_ok-room.ensures.moved c.requires.stand.1 in
+    let e = ended_here g t (goal.at.advance_filled-put_member-requires-clause-open g t c).In-Some c.requires.stand.0 c.requires.stand.1 in
     let next = subst (λ m. IsMoved (IsValue q.pools (slot_in q c.args.node c.args.place) (slots_from q c.args.node (c.args.place + 1)) (rows_of c.args.used.now) (node_count (data_of c.in-Some.field-0.tree))) (data_of c.in-Some.field-0.tree) m) c.in-To.is c.in_ok-tree.ensures.ok in
     record {
       known = known_behind q c.args.node c.args.place sound c.requires.slot.first (rows_of c.args.used.now) (data_of c.in-To.tree) c.requires.known;
@@ -256,10 +265,7 @@ advance_filled-put_member-requires-clause-open g t c =
 pub advance_filled-returns-in_err-put_member-in-To-clause-steps : goal.advance_filled-returns-in_err-put_member-in-To-clause-steps
 advance_filled-returns-in_err-put_member-in-To-clause-steps g t c = λ w wide.
     let q = c.args.plan.now in
-    let sound = c.sound_parts.ensures.parts _ (site_among q c.args.node c.requires.node) in
-    let cut = cut_off c.args.slot.now.name.now c.args.taken c.args.members.now.items c.advance_slots.new.members.items c.truncate.new.self.items c.pop.new.self.items c.index.result.now c.in-Some.field-0 c.requires.filled c.index.ensures c.in_ok-room.ensures.kept c.truncate.ensures.items c.in-Some.ensures.items in
-    let e = ended q c.args.node c.args.place c.args.slot.now c.requires.slot sound c.in_ok-room.field-0 c.args.taken c.in-Last.room (rows_of c.args.used.now) (rows_of c.as_slice.result.now) c.args.members.now.items c.pop.new.self.items (drop (c.args.taken + 1) c.advance_slots.new.members.items) c.index.result.now c.in-Some.field-0 c.requires.stand.0
-    cut c.requires.filled (omega (arith, c.requires.limit, c.limit.ensures, c.limit.type_inv)) c.in-Last.is (ap rows_of c.as_slice.ensures.value ∙ c.in_ok-same.ensures) c.in_ok-room.ensures.moved c.requires.stand.1 in
+    let e = ended_here g t (goal.at.advance_filled-returns-in_err-put_member-in-To-clause-steps g t c).In-Some c.requires.stand.0 c.requires.stand.1 in
     let scaled = ap (λ n. (w + 1) * n) e.nodes_are in
     let left = ap (λ n. (w + 1) * n) e.behind_are in
     let behind = subst (λ st. CostsLastSlots st q c.args.node (c.args.place + 1) c.args.meter.now c.advance_slots.new.meter (members_count (members_of (drop (c.args.taken + 1) c.args.members.now.items)))) c.in-Last.is c.in_ok-room.ensures.last w wide in
@@ -268,16 +274,15 @@ advance_filled-returns-in_err-put_member-in-To-clause-steps g t c = λ w wide.
 pub advance_filled-returns-in-To-clause-kept : goal.advance_filled-returns-in-To-clause-kept
 advance_filled-returns-in-To-clause-kept g t c =
     let q = c.args.plan.now in
-    let cut = cut_off c.args.slot.now.name.now c.args.taken c.args.members.now.items c.advance_slots.new.members.items c.truncate.new.self.items c.pop.new.self.items c.index.result.now c.in-Some.field-0 c.requires.filled c.index.ensures c.in_ok-room.ensures.kept c.truncate.ensures.items c.in-Some.ensures.items in
+    let cut = cut_here g t (goal.at.advance_filled-returns-in-To-clause-kept g t c).In-Some in
     added_kept q.pools (slots_from q c.args.node (c.args.place + 1)) (bounds_at q c.args.node) (c.args.taken + 1) c.in-Last.room c.args.taken _ c.pop.new.self.items (record { name = c.in-Some.field-0.name; tree = c.in-To.tree }) c.put_member.new.members.items c.in_ok-put_member-in-To.ensures.ok cut.count ∙ cut.front_is
 
 pub advance_filled-returns-in-To-clause-moved : goal.advance_filled-returns-in-To-clause-moved
 advance_filled-returns-in-To-clause-moved g t c = λ gs s.
     let q = c.args.plan.now in
     let sound = c.sound_parts.ensures.parts _ (site_among q c.args.node c.requires.node) in
-    let cut = cut_off c.args.slot.now.name.now c.args.taken c.args.members.now.items c.advance_slots.new.members.items c.truncate.new.self.items c.pop.new.self.items c.index.result.now c.in-Some.field-0 c.requires.filled c.index.ensures c.in_ok-room.ensures.kept c.truncate.ensures.items c.in-Some.ensures.items in
-    let e = ended q c.args.node c.args.place c.args.slot.now c.requires.slot sound c.in_ok-room.field-0 c.args.taken c.in-Last.room (rows_of c.args.used.now) (rows_of c.as_slice.result.now) c.args.members.now.items c.pop.new.self.items (drop (c.args.taken + 1) c.advance_slots.new.members.items) c.index.result.now c.in-Some.field-0 gs
-    cut c.requires.filled (omega (arith, c.requires.limit, c.limit.ensures, c.limit.type_inv)) c.in-Last.is (ap rows_of c.as_slice.ensures.value ∙ c.in_ok-same.ensures) c.in_ok-room.ensures.moved s in
+    let cut = cut_here g t (goal.at.advance_filled-returns-in-To-clause-moved g t c).In-Some in
+    let e = ended_here g t (goal.at.advance_filled-returns-in-To-clause-moved g t c).In-Some gs s in
     let next = subst (λ m. IsMoved (IsValue q.pools (slot_in q c.args.node c.args.place) (slots_from q c.args.node (c.args.place + 1)) (rows_of c.args.used.now) (node_count (data_of c.in-Some.field-0.tree))) (data_of c.in-Some.field-0.tree) m) c.in-To.is c.in_ok-tree.ensures.ok in
     in_value q c.args.node c.args.place sound c.requires.slot.first c.args.taken (rows_of c.args.used.now) c.in-Some.field-0 (drop (c.args.taken + 1) c.args.members.now.items) gs e.small e.filled c.in-Last.room (record { name = c.in-Some.field-0.name; tree = c.in-To.tree }) c.pop.new.self.items c.put_member.new.members.items
     cut.count e.filled.name e.room_is e.last next c.in_ok-put_member-in-To.ensures.ok
@@ -285,10 +290,7 @@ advance_filled-returns-in-To-clause-moved g t c = λ gs s.
 pub advance_filled-returns-in-To-clause-steps : goal.advance_filled-returns-in-To-clause-steps
 advance_filled-returns-in-To-clause-steps g t c = λ w wide.
     let q = c.args.plan.now in
-    let sound = c.sound_parts.ensures.parts _ (site_among q c.args.node c.requires.node) in
-    let cut = cut_off c.args.slot.now.name.now c.args.taken c.args.members.now.items c.advance_slots.new.members.items c.truncate.new.self.items c.pop.new.self.items c.index.result.now c.in-Some.field-0 c.requires.filled c.index.ensures c.in_ok-room.ensures.kept c.truncate.ensures.items c.in-Some.ensures.items in
-    let e = ended q c.args.node c.args.place c.args.slot.now c.requires.slot sound c.in_ok-room.field-0 c.args.taken c.in-Last.room (rows_of c.args.used.now) (rows_of c.as_slice.result.now) c.args.members.now.items c.pop.new.self.items (drop (c.args.taken + 1) c.advance_slots.new.members.items) c.index.result.now c.in-Some.field-0 c.requires.stand.0
-    cut c.requires.filled (omega (arith, c.requires.limit, c.limit.ensures, c.limit.type_inv)) c.in-Last.is (ap rows_of c.as_slice.ensures.value ∙ c.in_ok-same.ensures) c.in_ok-room.ensures.moved c.requires.stand.1 in
+    let e = ended_here g t (goal.at.advance_filled-returns-in-To-clause-steps g t c).In-Some c.requires.stand.0 c.requires.stand.1 in
     let scaled = ap (λ n. (w + 1) * n) e.nodes_are in
     let left = ap (λ n. (w + 1) * n) e.behind_are in
     let behind = subst (λ st. CostsLastSlots st q c.args.node (c.args.place + 1) c.args.meter.now c.advance_slots.new.meter (members_count (members_of (drop (c.args.taken + 1) c.args.members.now.items)))) c.in-Last.is c.in_ok-room.ensures.last w wide in
@@ -300,10 +302,7 @@ advance_filled-returns-in-To-clause-last g t c = tt
 pub advance_filled-overflow_add-room : goal.advance_filled-overflow_add-room
 advance_filled-overflow_add-room g t c =
     let q = c.args.plan.now in
-    let sound = c.sound_parts.ensures.parts _ (site_among q c.args.node c.requires.node) in
-    let cut = cut_off c.args.slot.now.name.now c.args.taken c.args.members.now.items c.advance_slots.new.members.items c.truncate.new.self.items c.pop.new.self.items c.index.result.now c.in-Some.field-0 c.requires.filled c.index.ensures c.in_ok-room.ensures.kept c.truncate.ensures.items c.in-Some.ensures.items in
-    let e = ended q c.args.node c.args.place c.args.slot.now c.requires.slot sound c.in_ok-room.field-0 c.args.taken c.in-Last.room (rows_of c.args.used.now) (rows_of c.as_slice.result.now) c.args.members.now.items c.pop.new.self.items (drop (c.args.taken + 1) c.advance_slots.new.members.items) c.index.result.now c.in-Some.field-0 c.requires.stand.0
-    cut c.requires.filled (omega (arith, c.requires.limit, c.limit.ensures, c.limit.type_inv)) c.in-Last.is (ap rows_of c.as_slice.ensures.value ∙ c.in_ok-same.ensures) c.in_ok-room.ensures.moved c.requires.stand.1 in
+    let e = ended_here g t (goal.at.advance_filled-overflow_add-room g t c).In-Some c.requires.stand.0 c.requires.stand.1 in
     let none = subst (λ m. IsMoved (IsValue q.pools (slot_in q c.args.node c.args.place) (slots_from q c.args.node (c.args.place + 1)) (rows_of c.args.used.now) (node_count (data_of c.in-Some.field-0.tree))) (data_of c.in-Some.field-0.tree) m) c.in-Last-2.is c.in_ok-tree.ensures.ok in
     let own = none.1 in
     omega (arith, e.nodes_are, own, c.requires.limit, c.limit.ensures, c.limit.type_inv)
@@ -311,10 +310,7 @@ advance_filled-overflow_add-room g t c =
 pub advance_filled-overflow_add-size : goal.advance_filled-overflow_add-size
 advance_filled-overflow_add-size g t c =
     let q = c.args.plan.now in
-    let sound = c.sound_parts.ensures.parts _ (site_among q c.args.node c.requires.node) in
-    let cut = cut_off c.args.slot.now.name.now c.args.taken c.args.members.now.items c.advance_slots.new.members.items c.truncate.new.self.items c.pop.new.self.items c.index.result.now c.in-Some.field-0 c.requires.filled c.index.ensures c.in_ok-room.ensures.kept c.truncate.ensures.items c.in-Some.ensures.items in
-    let e = ended q c.args.node c.args.place c.args.slot.now c.requires.slot sound c.in_ok-room.field-0 c.args.taken c.in-Last.room (rows_of c.args.used.now) (rows_of c.as_slice.result.now) c.args.members.now.items c.pop.new.self.items (drop (c.args.taken + 1) c.advance_slots.new.members.items) c.index.result.now c.in-Some.field-0 c.requires.stand.0
-    cut c.requires.filled (omega (arith, c.requires.limit, c.limit.ensures, c.limit.type_inv)) c.in-Last.is (ap rows_of c.as_slice.ensures.value ∙ c.in_ok-same.ensures) c.in_ok-room.ensures.moved c.requires.stand.1 in
+    let e = ended_here g t (goal.at.advance_filled-overflow_add-size g t c).In-Some c.requires.stand.0 c.requires.stand.1 in
     let none = subst (λ m. IsMoved (IsValue q.pools (slot_in q c.args.node c.args.place) (slots_from q c.args.node (c.args.place + 1)) (rows_of c.args.used.now) (node_count (data_of c.in-Some.field-0.tree))) (data_of c.in-Some.field-0.tree) m) c.in-Last-2.is c.in_ok-tree.ensures.ok in
     let own = none.1 in
     omega (arith, e.nodes_are, own, c.requires.limit, c.limit.ensures, c.limit.type_inv)
@@ -325,10 +321,7 @@ advance_filled-grow_slots-requires-clause-taken g t c = c.requires.taken
 pub advance_filled-grow_slots-requires-clause-limit : goal.advance_filled-grow_slots-requires-clause-limit
 advance_filled-grow_slots-requires-clause-limit g t c =
     let q = c.args.plan.now in
-    let sound = c.sound_parts.ensures.parts _ (site_among q c.args.node c.requires.node) in
-    let cut = cut_off c.args.slot.now.name.now c.args.taken c.args.members.now.items c.advance_slots.new.members.items c.truncate.new.self.items c.pop.new.self.items c.index.result.now c.in-Some.field-0 c.requires.filled c.index.ensures c.in_ok-room.ensures.kept c.truncate.ensures.items c.in-Some.ensures.items in
-    let e = ended q c.args.node c.args.place c.args.slot.now c.requires.slot sound c.in_ok-room.field-0 c.args.taken c.in-Last.room (rows_of c.args.used.now) (rows_of c.as_slice.result.now) c.args.members.now.items c.pop.new.self.items (drop (c.args.taken + 1) c.advance_slots.new.members.items) c.index.result.now c.in-Some.field-0 c.requires.stand.0
-    cut c.requires.filled (omega (arith, c.requires.limit, c.limit.ensures, c.limit.type_inv)) c.in-Last.is (ap rows_of c.as_slice.ensures.value ∙ c.in_ok-same.ensures) c.in_ok-room.ensures.moved c.requires.stand.1 in
+    let e = ended_here g t (goal.at.advance_filled-grow_slots-requires-clause-limit g t c).In-Some c.requires.stand.0 c.requires.stand.1 in
     let none = subst (λ m. IsMoved (IsValue q.pools (slot_in q c.args.node c.args.place) (slots_from q c.args.node (c.args.place + 1)) (rows_of c.args.used.now) (node_count (data_of c.in-Some.field-0.tree))) (data_of c.in-Some.field-0.tree) m) c.in-Last-2.is c.in_ok-tree.ensures.ok in
     let own = none.1 in
     omega (arith, e.nodes_are, own, c.requires.limit)
@@ -337,9 +330,7 @@ pub advance_filled-grow_slots-requires-clause-open : goal.advance_filled-grow_sl
 advance_filled-grow_slots-requires-clause-open g t c =
     let q = c.args.plan.now in
     let sound = c.sound_parts.ensures.parts _ (site_among q c.args.node c.requires.node) in
-    let cut = cut_off c.args.slot.now.name.now c.args.taken c.args.members.now.items c.advance_slots.new.members.items c.truncate.new.self.items c.pop.new.self.items c.index.result.now c.in-Some.field-0 c.requires.filled c.index.ensures c.in_ok-room.ensures.kept c.truncate.ensures.items c.in-Some.ensures.items in
-    let e = ended q c.args.node c.args.place c.args.slot.now c.requires.slot sound c.in_ok-room.field-0 c.args.taken c.in-Last.room (rows_of c.args.used.now) (rows_of c.as_slice.result.now) c.args.members.now.items c.pop.new.self.items (drop (c.args.taken + 1) c.advance_slots.new.members.items) c.index.result.now c.in-Some.field-0 c.requires.stand.0
-    cut c.requires.filled (omega (arith, c.requires.limit, c.limit.ensures, c.limit.type_inv)) c.in-Last.is (ap rows_of c.as_slice.ensures.value ∙ c.in_ok-same.ensures) c.in_ok-room.ensures.moved c.requires.stand.1 in
+    let e = ended_here g t (goal.at.advance_filled-grow_slots-requires-clause-open g t c).In-Some c.requires.stand.0 c.requires.stand.1 in
     let none = subst (λ m. IsMoved (IsValue q.pools (slot_in q c.args.node c.args.place) (slots_from q c.args.node (c.args.place + 1)) (rows_of c.args.used.now) (node_count (data_of c.in-Some.field-0.tree))) (data_of c.in-Some.field-0.tree) m) c.in-Last-2.is c.in_ok-tree.ensures.ok in
     let own = none.1 in
     let whole : filled_nodes c.requires.stand.0 ≡ c.in-Last.room + c.in-Last-2.size = ap filled_nodes e.filled.is ∙ omega (arith, e.room_is, own) in
@@ -349,7 +340,7 @@ advance_filled-grow_slots-requires-clause-open g t c =
 pub advance_filled-returns-clause-kept : goal.advance_filled-returns-clause-kept
 advance_filled-returns-clause-kept g t c =
     let q = c.args.plan.now in
-    let cut = cut_off c.args.slot.now.name.now c.args.taken c.args.members.now.items c.advance_slots.new.members.items c.truncate.new.self.items c.pop.new.self.items c.index.result.now c.in-Some.field-0 c.requires.filled c.index.ensures c.in_ok-room.ensures.kept c.truncate.ensures.items c.in-Some.ensures.items in
+    let cut = cut_here g t (goal.at.advance_filled-returns-clause-kept g t c).In-Some in
     IfOk-weaker c.grow_slots.result _ _ (λ st h. grown_kept st q.pools (slot_in q c.args.node c.args.place) (slots_from q c.args.node (c.args.place + 1)) (bounds_at q c.args.node) c.args.taken (c.in-Last.room + c.in-Last-2.size) (c.in-Last-2.size + 1) c.args.taken (rows_of c.args.used.now) c.pop.new.self.items c.grow_slots.new.members.items h cut.count ∙ cut.front_is) c.grow_slots.ensures.ok
 
 pub advance_filled-returns-clause-moved : goal.advance_filled-returns-clause-moved
@@ -357,9 +348,8 @@ advance_filled-returns-clause-moved g t c =
     IfOk-weaker c.grow_slots.result _ _ (λ st h gs s.
     let q = c.args.plan.now in
     let sound = c.sound_parts.ensures.parts _ (site_among q c.args.node c.requires.node) in
-    let cut = cut_off c.args.slot.now.name.now c.args.taken c.args.members.now.items c.advance_slots.new.members.items c.truncate.new.self.items c.pop.new.self.items c.index.result.now c.in-Some.field-0 c.requires.filled c.index.ensures c.in_ok-room.ensures.kept c.truncate.ensures.items c.in-Some.ensures.items in
-    let e = ended q c.args.node c.args.place c.args.slot.now c.requires.slot sound c.in_ok-room.field-0 c.args.taken c.in-Last.room (rows_of c.args.used.now) (rows_of c.as_slice.result.now) c.args.members.now.items c.pop.new.self.items (drop (c.args.taken + 1) c.advance_slots.new.members.items) c.index.result.now c.in-Some.field-0 gs
-    cut c.requires.filled (omega (arith, c.requires.limit, c.limit.ensures, c.limit.type_inv)) c.in-Last.is (ap rows_of c.as_slice.ensures.value ∙ c.in_ok-same.ensures) c.in_ok-room.ensures.moved s in
+    let cut = cut_here g t (goal.at.advance_filled-returns-clause-moved g t c).In-Some in
+    let e = ended_here g t (goal.at.advance_filled-returns-clause-moved g t c).In-Some gs s in
     let none = subst (λ m. IsMoved (IsValue q.pools (slot_in q c.args.node c.args.place) (slots_from q c.args.node (c.args.place + 1)) (rows_of c.args.used.now) (node_count (data_of c.in-Some.field-0.tree))) (data_of c.in-Some.field-0.tree) m) c.in-Last-2.is c.in_ok-tree.ensures.ok in
     in_grown q c.args.node c.args.place sound c.requires.slot.first c.args.taken (rows_of c.args.used.now) c.in-Some.field-0 (drop (c.args.taken + 1) c.args.members.now.items) gs e.small e.filled st c.in-Last.room c.in-Last-2.size c.pop.new.self.items c.grow_slots.new.members.items
     cut.count e.room_is none.1 e.last none.0 h) c.grow_slots.ensures.ok
@@ -367,10 +357,7 @@ advance_filled-returns-clause-moved g t c =
 pub advance_filled-returns-clause-steps : goal.advance_filled-returns-clause-steps
 advance_filled-returns-clause-steps g t c = λ w wide.
     let q = c.args.plan.now in
-    let sound = c.sound_parts.ensures.parts _ (site_among q c.args.node c.requires.node) in
-    let cut = cut_off c.args.slot.now.name.now c.args.taken c.args.members.now.items c.advance_slots.new.members.items c.truncate.new.self.items c.pop.new.self.items c.index.result.now c.in-Some.field-0 c.requires.filled c.index.ensures c.in_ok-room.ensures.kept c.truncate.ensures.items c.in-Some.ensures.items in
-    let e = ended q c.args.node c.args.place c.args.slot.now c.requires.slot sound c.in_ok-room.field-0 c.args.taken c.in-Last.room (rows_of c.args.used.now) (rows_of c.as_slice.result.now) c.args.members.now.items c.pop.new.self.items (drop (c.args.taken + 1) c.advance_slots.new.members.items) c.index.result.now c.in-Some.field-0 c.requires.stand.0
-    cut c.requires.filled (omega (arith, c.requires.limit, c.limit.ensures, c.limit.type_inv)) c.in-Last.is (ap rows_of c.as_slice.ensures.value ∙ c.in_ok-same.ensures) c.in_ok-room.ensures.moved c.requires.stand.1 in
+    let e = ended_here g t (goal.at.advance_filled-returns-clause-steps g t c).In-Some c.requires.stand.0 c.requires.stand.1 in
     let none = subst (λ m. IsMoved (IsValue q.pools (slot_in q c.args.node c.args.place) (slots_from q c.args.node (c.args.place + 1)) (rows_of c.args.used.now) (node_count (data_of c.in-Some.field-0.tree))) (data_of c.in-Some.field-0.tree) m) c.in-Last-2.is c.in_ok-tree.ensures.ok in
     let own = none.1 in
     let scaled = ap (λ n. (w + 1) * n) e.nodes_are in
@@ -384,7 +371,7 @@ pub advance_filled-returns-clause-last : goal.advance_filled-returns-clause-last
 advance_filled-returns-clause-last g t c =
     IfOk-weaker c.grow_slots.result _ _ (λ st k. last_kept st c.args.plan.now c.args.node (c.args.place + 1) c.args.meter.now c.advance_value.new.meter c.grow_slots.new.meter (members_count (members_of (drop c.args.taken c.args.members.now.items))) (λ w wide.
     let q = c.args.plan.now in
-    let cut = cut_off c.args.slot.now.name.now c.args.taken c.args.members.now.items c.advance_slots.new.members.items c.truncate.new.self.items c.pop.new.self.items c.index.result.now c.in-Some.field-0 c.requires.filled c.index.ensures c.in_ok-room.ensures.kept c.truncate.ensures.items c.in-Some.ensures.items in
+    let cut = cut_here g t (goal.at.advance_filled-returns-clause-last g t c).In-Some in
     let scaled = ap (λ n. (w + 1) * n) cut.nodes_are in
     let behind = subst (λ st. CostsLastSlots st q c.args.node (c.args.place + 1) c.args.meter.now c.advance_slots.new.meter (members_count (members_of (drop (c.args.taken + 1) c.args.members.now.items)))) c.in-Last.is c.in_ok-room.ensures.last w wide in
     let value = subst (λ m. CostsLast m q c.advance_slots.new.meter c.advance_value.new.meter (node_count (data_of c.in-Some.field-0.tree))) c.in-Last-2.is c.in_ok-tree.ensures.last w wide in
