@@ -1,12 +1,13 @@
-use Rattle.std.proofs.Common.{refl, sym, ap, subst, ◌∙◌, arith, ◌≡◌, ◌≢◌, ◌+◌, ◌-◌, ◌*◌, ◌≤◌, ◌<◌, ℕ, List, length, drop, IfNone, None, Some, [], vec_len}
+use Rattle.std.proofs.Common.{refl, sym, ap, subst, ◌∙◌, arith, ◌≡◌, ◌≢◌, ◌+◌, ◌-◌, ◌*◌, ◌≤◌, ◌<◌, ℕ, List, length, drop, IfNone, Option, None, Some, [], vec_len}
 use Rattle.std.proofs.lemmas.Result.{IfOk-weaker}
 use Rattle.std.proofs.lemmas.List.{length-take-le}
 use Rattle.std.proofs.Math.Nat.{mul-le-mul_left, mul-add}
-use Rattle.jtree.specs.Data.{AreMembers, object as object_data, list as list_data, Members as MembersData, Items}
+use Rattle.jtree.specs.Data.{Data, AreMembers, object as object_data, list as list_data, Members as MembersData, Items}
 use Rattle.jtree.specs.Nodes.{most_nodes, node_count, items_count, members_count}
 use Rattle.jtree.specs.Order.{tree_cmp}
 use Rattle.jtree.specs.Internal.Rising.{contained}
 use Rattle.jtree.specs.declared.value.Member.{Member}
+use Rattle.plan.specs.Samples.Candidates.{IsWidth}
 use Rattle.plan.specs.Samples.Sites.{Site, sites_of}
 use Rattle.enumerate.specs.Least.{IsNext}
 use Rattle.enumerate.specs.Internal.Nodes.{site, IsPartOf, Costs}
@@ -16,8 +17,8 @@ use Rattle.enumerate.specs.Internal.Rows.{fill_cmp, IsRest, IsOpen, still_used, 
 use Rattle.enumerate.proofs.ListLemmas.{some_nodes, site_among, few_items, counted}
 use Rattle.enumerate.proofs.MoveLemmas.{moved_same, item_moved}
 use Rattle.enumerate.proofs.MoveCosts.{one_cost, costs_last, last_kept, last_wider}
-use Rattle.enumerate.proofs.MoveSteps.{row_stands, stand_nodes, none_left, moved_behind, same_used, filled_in, ended, left_out, out_ended, known_behind, known_out, open_here, out_next, out_grown, in_next, in_value, in_grown, key_moved, part_moved}
-use Rattle.enumerate.proofs.MemberCuts.{begins_within, member_here, count_from, kept_one, cut_off, added_kept, grown_kept}
+use Rattle.enumerate.proofs.MoveSteps.{IsEnded, IsOutEnded, row_stands, stand_nodes, none_left, moved_behind, same_used, filled_in, ended, left_out, out_ended, known_behind, known_out, open_here, out_next, out_grown, in_next, in_value, in_grown, key_moved, part_moved}
+use Rattle.enumerate.proofs.MemberCuts.{IsCut, begins_within, member_here, count_from, kept_one, cut_off, added_kept, grown_kept}
 use Rattle.enumerate.proofs.NullMoves.{row_moved}
 use Rattle.enumerate.proofs.PartRows.{weight_next, row_unless_null}
 use Rattle.enumerate.proofs.RowLemmas.{can_fill}
@@ -36,7 +37,9 @@ use Rattle.enumerate.proofs.WholeListLemmas.{has_item, list_site, part_list, par
 use Rattle.enumerate.proofs.ListWalks.{WereLast, IsWalked, all_left, walk_ended, front_nodes, front_first, front_fresh, front_follow, front_next, front_walked, list_moved, list_stays, double, cost_room, no_more, some_there, empty_len, some_len, walked_last, kept_last}
 use Rattle.enumerate.specs.declared.moved.Moved.TheVariants as moved
 use Rattle.enumerate.specs.declared.moved.Step.TheVariants as step
+use Rattle.enumerate.proofs.moving.+advance.Given.{Over}
 use Rattle.enumerate.proofs.moving.+advance.Goals as goal
+use Rattle.enumerate.proofs.moving.+advance.Goals.{advance_filled-In-Some, advance_row-In-Some, advance_row-After-advance_slots, advance_slots-In-Last, advance_items-In-Some, advance_items-In-Last, advance_items-After-advance_item, advance_list-After-advance_items}
 use Rattle.plan.specs.declared.sort.Distinct.TheVariants as distinct
 
 twice_cost : (w n : ℕ) → 1 ≤ n → (w + 1) * 1 ≤ (w + 1) * (2 * n)
@@ -211,18 +214,30 @@ advance_filled-unreachable-requires g t c =
     let none = c.in_default-pop.ensures.cases.0 in
     omega (arith, count, same, none, c.truncate.new.self.ok.0)
 
+-- what is known of the slot once its member was taken off
+cut_here : (g : Over) (t : ℕ) (c : advance_filled-In-Some g t) → IsCut c.args.taken c.args.members.now.items c.pop.new.self.items c.index.result.now c.in-Some.field-0
+cut_here g t c = cut_off c.args.slot.now.name.now c.args.taken c.args.members.now.items c.advance_slots.new.members.items c.truncate.new.self.items c.pop.new.self.items c.index.result.now c.in-Some.field-0 c.requires.filled c.index.ensures c.in_ok-room.ensures.kept c.truncate.ensures.items c.in-Some.ensures.items
+
+ended_here : (g : Over) (t : ℕ) (c : advance_filled-In-Some g t) (gs : List (Option Data)) → StandIn c.args.plan.now.pools (slots_from c.args.plan.now c.args.node c.args.place) (bounds_at c.args.plan.now c.args.node) c.args.taken (rows_of c.args.used.now) (drop c.args.taken c.args.members.now.items) gs
+    → IsEnded c.args.plan.now c.args.node c.args.place c.args.taken c.in-Last.room (rows_of c.args.used.now) c.args.members.now.items c.in-Some.field-0 gs
+ended_here g t c gs s =
+    let q = c.args.plan.now in
+    let sound = c.sound_parts.ensures.parts _ (site_among q c.args.node c.requires.node) in
+    ended q c.args.node c.args.place c.args.slot.now c.requires.slot sound c.in_ok-room.field-0 c.args.taken c.in-Last.room (rows_of c.args.used.now) (rows_of c.as_slice.result.now) c.args.members.now.items c.pop.new.self.items (drop (c.args.taken + 1) c.advance_slots.new.members.items) c.index.result.now c.in-Some.field-0 gs
+    (cut_here g t c) c.requires.filled (omega (arith, c.requires.limit, c.limit.ensures, c.limit.type_inv)) c.in-Last.is (ap rows_of c.as_slice.ensures.value ∙ c.in_ok-same.ensures) c.in_ok-room.ensures.moved s
+
 pub advance_filled-advance_value-requires : goal.advance_filled-advance_value-requires
 advance_filled-advance_value-requires g t c κs within =
     let q = c.args.plan.now in
     let sound = c.sound_parts.ensures.parts _ (site_among q c.args.node c.requires.node) in
-    let cut = cut_off c.args.slot.now.name.now c.args.taken c.args.members.now.items c.advance_slots.new.members.items c.truncate.new.self.items c.pop.new.self.items c.index.result.now c.in-Some.field-0 c.requires.filled c.index.ensures c.in_ok-room.ensures.kept c.truncate.ensures.items c.in-Some.ensures.items in
+    let cut = cut_here g t (goal.at.advance_filled-advance_value-requires g t c).In-Some in
     let f = filled_in q c.args.node c.args.place c.args.slot.now c.requires.slot sound c.args.taken (rows_of c.args.used.now) c.args.members.now.items c.in-Some.field-0 c.requires.stand.0 (omega (arith, c.requires.limit, c.limit.ensures, c.limit.type_inv)) cut.there c.requires.filled c.requires.stand.1 in
     (omega (arith, c.decreases), (within, (c.requires.node, (c.requires.slot, (c.requires.known, (f.1.value, omega (arith, cut.nodes_are, c.requires.limit)))))))
 
 pub advance_filled-returns-in_err-tree-clause-steps : goal.advance_filled-returns-in_err-tree-clause-steps
 advance_filled-returns-in_err-tree-clause-steps g t c = λ w wide.
     let q = c.args.plan.now in
-    let cut = cut_off c.args.slot.now.name.now c.args.taken c.args.members.now.items c.advance_slots.new.members.items c.truncate.new.self.items c.pop.new.self.items c.index.result.now c.in-Some.field-0 c.requires.filled c.index.ensures c.in_ok-room.ensures.kept c.truncate.ensures.items c.in-Some.ensures.items in
+    let cut = cut_here g t (goal.at.advance_filled-returns-in_err-tree-clause-steps g t c).In-Some in
     let scaled = ap (λ n. (w + 1) * n) cut.nodes_are in
     let behind = subst (λ st. CostsLastSlots st q c.args.node (c.args.place + 1) c.args.meter.now c.advance_slots.new.meter (members_count (members_of (drop (c.args.taken + 1) c.args.members.now.items)))) c.in-Last.is c.in_ok-room.ensures.last w wide in
     omega (arith, scaled, behind, c.advance_value.ensures.steps w wide)
@@ -233,19 +248,14 @@ advance_filled-put_member-requires-clause-taken g t c = c.requires.taken
 pub advance_filled-put_member-requires-clause-limit : goal.advance_filled-put_member-requires-clause-limit
 advance_filled-put_member-requires-clause-limit g t c =
     let q = c.args.plan.now in
-    let sound = c.sound_parts.ensures.parts _ (site_among q c.args.node c.requires.node) in
-    let cut = cut_off c.args.slot.now.name.now c.args.taken c.args.members.now.items c.advance_slots.new.members.items c.truncate.new.self.items c.pop.new.self.items c.index.result.now c.in-Some.field-0 c.requires.filled c.index.ensures c.in_ok-room.ensures.kept c.truncate.ensures.items c.in-Some.ensures.items in
-    let e = ended q c.args.node c.args.place c.args.slot.now c.requires.slot sound c.in_ok-room.field-0 c.args.taken c.in-Last.room (rows_of c.args.used.now) (rows_of c.as_slice.result.now) c.args.members.now.items c.pop.new.self.items (drop (c.args.taken + 1) c.advance_slots.new.members.items) c.index.result.now c.in-Some.field-0 c.requires.stand.0
-    cut c.requires.filled (omega (arith, c.requires.limit, c.limit.ensures, c.limit.type_inv)) c.in-Last.is (ap rows_of c.as_slice.ensures.value ∙ c.in_ok-same.ensures) c.in_ok-room.ensures.moved c.requires.stand.1 in
+    let e = ended_here g t (goal.at.advance_filled-put_member-requires-clause-limit g t c).In-Some c.requires.stand.0 c.requires.stand.1 in
     omega (arith, e.nodes_are, some_nodes (data_of c.in-Some.field-0.tree), c.requires.limit)
 
 pub advance_filled-put_member-requires-clause-open : goal.advance_filled-put_member-requires-clause-open
 advance_filled-put_member-requires-clause-open g t c =
     let q = c.args.plan.now in
     let sound = c.sound_parts.ensures.parts _ (site_among q c.args.node c.requires.node) in
-    let cut = cut_off c.args.slot.now.name.now c.args.taken c.args.members.now.items c.advance_slots.new.members.items c.truncate.new.self.items c.pop.new.self.items c.index.result.now c.in-Some.field-0 c.requires.filled c.index.ensures c.in_ok-room.ensures.kept c.truncate.ensures.items c.in-Some.ensures.items in
-    let e = ended q c.args.node c.args.place c.args.slot.now c.requires.slot sound c.in_ok-room.field-0 c.args.taken c.in-Last.room (rows_of c.args.used.now) (rows_of c.as_slice.result.now) c.args.members.now.items c.pop.new.self.items (drop (c.args.taken + 1) c.advance_slots.new.members.items) c.index.result.now c.in-Some.field-0 c.requires.stand.0
-    cut c.requires.filled (omega (arith, c.requires.limit, c.limit.ensures, c.limit.type_inv)) c.in-Last.is (ap rows_of c.as_slice.ensures.value ∙ c.in_ok-same.ensures) c.in_ok-room.ensures.moved c.requires.stand.1 in
+    let e = ended_here g t (goal.at.advance_filled-put_member-requires-clause-open g t c).In-Some c.requires.stand.0 c.requires.stand.1 in
     let next = subst (λ m. IsMoved (IsValue q.pools (slot_in q c.args.node c.args.place) (slots_from q c.args.node (c.args.place + 1)) (rows_of c.args.used.now) (node_count (data_of c.in-Some.field-0.tree))) (data_of c.in-Some.field-0.tree) m) c.in-To.is c.in_ok-tree.ensures.ok in
     record {
       known = known_behind q c.args.node c.args.place sound c.requires.slot.first (rows_of c.args.used.now) (data_of c.in-To.tree) c.requires.known;
@@ -256,10 +266,7 @@ advance_filled-put_member-requires-clause-open g t c =
 pub advance_filled-returns-in_err-put_member-in-To-clause-steps : goal.advance_filled-returns-in_err-put_member-in-To-clause-steps
 advance_filled-returns-in_err-put_member-in-To-clause-steps g t c = λ w wide.
     let q = c.args.plan.now in
-    let sound = c.sound_parts.ensures.parts _ (site_among q c.args.node c.requires.node) in
-    let cut = cut_off c.args.slot.now.name.now c.args.taken c.args.members.now.items c.advance_slots.new.members.items c.truncate.new.self.items c.pop.new.self.items c.index.result.now c.in-Some.field-0 c.requires.filled c.index.ensures c.in_ok-room.ensures.kept c.truncate.ensures.items c.in-Some.ensures.items in
-    let e = ended q c.args.node c.args.place c.args.slot.now c.requires.slot sound c.in_ok-room.field-0 c.args.taken c.in-Last.room (rows_of c.args.used.now) (rows_of c.as_slice.result.now) c.args.members.now.items c.pop.new.self.items (drop (c.args.taken + 1) c.advance_slots.new.members.items) c.index.result.now c.in-Some.field-0 c.requires.stand.0
-    cut c.requires.filled (omega (arith, c.requires.limit, c.limit.ensures, c.limit.type_inv)) c.in-Last.is (ap rows_of c.as_slice.ensures.value ∙ c.in_ok-same.ensures) c.in_ok-room.ensures.moved c.requires.stand.1 in
+    let e = ended_here g t (goal.at.advance_filled-returns-in_err-put_member-in-To-clause-steps g t c).In-Some c.requires.stand.0 c.requires.stand.1 in
     let scaled = ap (λ n. (w + 1) * n) e.nodes_are in
     let left = ap (λ n. (w + 1) * n) e.behind_are in
     let behind = subst (λ st. CostsLastSlots st q c.args.node (c.args.place + 1) c.args.meter.now c.advance_slots.new.meter (members_count (members_of (drop (c.args.taken + 1) c.args.members.now.items)))) c.in-Last.is c.in_ok-room.ensures.last w wide in
@@ -268,16 +275,15 @@ advance_filled-returns-in_err-put_member-in-To-clause-steps g t c = λ w wide.
 pub advance_filled-returns-in-To-clause-kept : goal.advance_filled-returns-in-To-clause-kept
 advance_filled-returns-in-To-clause-kept g t c =
     let q = c.args.plan.now in
-    let cut = cut_off c.args.slot.now.name.now c.args.taken c.args.members.now.items c.advance_slots.new.members.items c.truncate.new.self.items c.pop.new.self.items c.index.result.now c.in-Some.field-0 c.requires.filled c.index.ensures c.in_ok-room.ensures.kept c.truncate.ensures.items c.in-Some.ensures.items in
+    let cut = cut_here g t (goal.at.advance_filled-returns-in-To-clause-kept g t c).In-Some in
     added_kept q.pools (slots_from q c.args.node (c.args.place + 1)) (bounds_at q c.args.node) (c.args.taken + 1) c.in-Last.room c.args.taken _ c.pop.new.self.items (record { name = c.in-Some.field-0.name; tree = c.in-To.tree }) c.put_member.new.members.items c.in_ok-put_member-in-To.ensures.ok cut.count ∙ cut.front_is
 
 pub advance_filled-returns-in-To-clause-moved : goal.advance_filled-returns-in-To-clause-moved
 advance_filled-returns-in-To-clause-moved g t c = λ gs s.
     let q = c.args.plan.now in
     let sound = c.sound_parts.ensures.parts _ (site_among q c.args.node c.requires.node) in
-    let cut = cut_off c.args.slot.now.name.now c.args.taken c.args.members.now.items c.advance_slots.new.members.items c.truncate.new.self.items c.pop.new.self.items c.index.result.now c.in-Some.field-0 c.requires.filled c.index.ensures c.in_ok-room.ensures.kept c.truncate.ensures.items c.in-Some.ensures.items in
-    let e = ended q c.args.node c.args.place c.args.slot.now c.requires.slot sound c.in_ok-room.field-0 c.args.taken c.in-Last.room (rows_of c.args.used.now) (rows_of c.as_slice.result.now) c.args.members.now.items c.pop.new.self.items (drop (c.args.taken + 1) c.advance_slots.new.members.items) c.index.result.now c.in-Some.field-0 gs
-    cut c.requires.filled (omega (arith, c.requires.limit, c.limit.ensures, c.limit.type_inv)) c.in-Last.is (ap rows_of c.as_slice.ensures.value ∙ c.in_ok-same.ensures) c.in_ok-room.ensures.moved s in
+    let cut = cut_here g t (goal.at.advance_filled-returns-in-To-clause-moved g t c).In-Some in
+    let e = ended_here g t (goal.at.advance_filled-returns-in-To-clause-moved g t c).In-Some gs s in
     let next = subst (λ m. IsMoved (IsValue q.pools (slot_in q c.args.node c.args.place) (slots_from q c.args.node (c.args.place + 1)) (rows_of c.args.used.now) (node_count (data_of c.in-Some.field-0.tree))) (data_of c.in-Some.field-0.tree) m) c.in-To.is c.in_ok-tree.ensures.ok in
     in_value q c.args.node c.args.place sound c.requires.slot.first c.args.taken (rows_of c.args.used.now) c.in-Some.field-0 (drop (c.args.taken + 1) c.args.members.now.items) gs e.small e.filled c.in-Last.room (record { name = c.in-Some.field-0.name; tree = c.in-To.tree }) c.pop.new.self.items c.put_member.new.members.items
     cut.count e.filled.name e.room_is e.last next c.in_ok-put_member-in-To.ensures.ok
@@ -285,10 +291,7 @@ advance_filled-returns-in-To-clause-moved g t c = λ gs s.
 pub advance_filled-returns-in-To-clause-steps : goal.advance_filled-returns-in-To-clause-steps
 advance_filled-returns-in-To-clause-steps g t c = λ w wide.
     let q = c.args.plan.now in
-    let sound = c.sound_parts.ensures.parts _ (site_among q c.args.node c.requires.node) in
-    let cut = cut_off c.args.slot.now.name.now c.args.taken c.args.members.now.items c.advance_slots.new.members.items c.truncate.new.self.items c.pop.new.self.items c.index.result.now c.in-Some.field-0 c.requires.filled c.index.ensures c.in_ok-room.ensures.kept c.truncate.ensures.items c.in-Some.ensures.items in
-    let e = ended q c.args.node c.args.place c.args.slot.now c.requires.slot sound c.in_ok-room.field-0 c.args.taken c.in-Last.room (rows_of c.args.used.now) (rows_of c.as_slice.result.now) c.args.members.now.items c.pop.new.self.items (drop (c.args.taken + 1) c.advance_slots.new.members.items) c.index.result.now c.in-Some.field-0 c.requires.stand.0
-    cut c.requires.filled (omega (arith, c.requires.limit, c.limit.ensures, c.limit.type_inv)) c.in-Last.is (ap rows_of c.as_slice.ensures.value ∙ c.in_ok-same.ensures) c.in_ok-room.ensures.moved c.requires.stand.1 in
+    let e = ended_here g t (goal.at.advance_filled-returns-in-To-clause-steps g t c).In-Some c.requires.stand.0 c.requires.stand.1 in
     let scaled = ap (λ n. (w + 1) * n) e.nodes_are in
     let left = ap (λ n. (w + 1) * n) e.behind_are in
     let behind = subst (λ st. CostsLastSlots st q c.args.node (c.args.place + 1) c.args.meter.now c.advance_slots.new.meter (members_count (members_of (drop (c.args.taken + 1) c.args.members.now.items)))) c.in-Last.is c.in_ok-room.ensures.last w wide in
@@ -300,10 +303,7 @@ advance_filled-returns-in-To-clause-last g t c = tt
 pub advance_filled-overflow_add-room : goal.advance_filled-overflow_add-room
 advance_filled-overflow_add-room g t c =
     let q = c.args.plan.now in
-    let sound = c.sound_parts.ensures.parts _ (site_among q c.args.node c.requires.node) in
-    let cut = cut_off c.args.slot.now.name.now c.args.taken c.args.members.now.items c.advance_slots.new.members.items c.truncate.new.self.items c.pop.new.self.items c.index.result.now c.in-Some.field-0 c.requires.filled c.index.ensures c.in_ok-room.ensures.kept c.truncate.ensures.items c.in-Some.ensures.items in
-    let e = ended q c.args.node c.args.place c.args.slot.now c.requires.slot sound c.in_ok-room.field-0 c.args.taken c.in-Last.room (rows_of c.args.used.now) (rows_of c.as_slice.result.now) c.args.members.now.items c.pop.new.self.items (drop (c.args.taken + 1) c.advance_slots.new.members.items) c.index.result.now c.in-Some.field-0 c.requires.stand.0
-    cut c.requires.filled (omega (arith, c.requires.limit, c.limit.ensures, c.limit.type_inv)) c.in-Last.is (ap rows_of c.as_slice.ensures.value ∙ c.in_ok-same.ensures) c.in_ok-room.ensures.moved c.requires.stand.1 in
+    let e = ended_here g t (goal.at.advance_filled-overflow_add-room g t c).In-Some c.requires.stand.0 c.requires.stand.1 in
     let none = subst (λ m. IsMoved (IsValue q.pools (slot_in q c.args.node c.args.place) (slots_from q c.args.node (c.args.place + 1)) (rows_of c.args.used.now) (node_count (data_of c.in-Some.field-0.tree))) (data_of c.in-Some.field-0.tree) m) c.in-Last-2.is c.in_ok-tree.ensures.ok in
     let own = none.1 in
     omega (arith, e.nodes_are, own, c.requires.limit, c.limit.ensures, c.limit.type_inv)
@@ -311,10 +311,7 @@ advance_filled-overflow_add-room g t c =
 pub advance_filled-overflow_add-size : goal.advance_filled-overflow_add-size
 advance_filled-overflow_add-size g t c =
     let q = c.args.plan.now in
-    let sound = c.sound_parts.ensures.parts _ (site_among q c.args.node c.requires.node) in
-    let cut = cut_off c.args.slot.now.name.now c.args.taken c.args.members.now.items c.advance_slots.new.members.items c.truncate.new.self.items c.pop.new.self.items c.index.result.now c.in-Some.field-0 c.requires.filled c.index.ensures c.in_ok-room.ensures.kept c.truncate.ensures.items c.in-Some.ensures.items in
-    let e = ended q c.args.node c.args.place c.args.slot.now c.requires.slot sound c.in_ok-room.field-0 c.args.taken c.in-Last.room (rows_of c.args.used.now) (rows_of c.as_slice.result.now) c.args.members.now.items c.pop.new.self.items (drop (c.args.taken + 1) c.advance_slots.new.members.items) c.index.result.now c.in-Some.field-0 c.requires.stand.0
-    cut c.requires.filled (omega (arith, c.requires.limit, c.limit.ensures, c.limit.type_inv)) c.in-Last.is (ap rows_of c.as_slice.ensures.value ∙ c.in_ok-same.ensures) c.in_ok-room.ensures.moved c.requires.stand.1 in
+    let e = ended_here g t (goal.at.advance_filled-overflow_add-size g t c).In-Some c.requires.stand.0 c.requires.stand.1 in
     let none = subst (λ m. IsMoved (IsValue q.pools (slot_in q c.args.node c.args.place) (slots_from q c.args.node (c.args.place + 1)) (rows_of c.args.used.now) (node_count (data_of c.in-Some.field-0.tree))) (data_of c.in-Some.field-0.tree) m) c.in-Last-2.is c.in_ok-tree.ensures.ok in
     let own = none.1 in
     omega (arith, e.nodes_are, own, c.requires.limit, c.limit.ensures, c.limit.type_inv)
@@ -325,10 +322,7 @@ advance_filled-grow_slots-requires-clause-taken g t c = c.requires.taken
 pub advance_filled-grow_slots-requires-clause-limit : goal.advance_filled-grow_slots-requires-clause-limit
 advance_filled-grow_slots-requires-clause-limit g t c =
     let q = c.args.plan.now in
-    let sound = c.sound_parts.ensures.parts _ (site_among q c.args.node c.requires.node) in
-    let cut = cut_off c.args.slot.now.name.now c.args.taken c.args.members.now.items c.advance_slots.new.members.items c.truncate.new.self.items c.pop.new.self.items c.index.result.now c.in-Some.field-0 c.requires.filled c.index.ensures c.in_ok-room.ensures.kept c.truncate.ensures.items c.in-Some.ensures.items in
-    let e = ended q c.args.node c.args.place c.args.slot.now c.requires.slot sound c.in_ok-room.field-0 c.args.taken c.in-Last.room (rows_of c.args.used.now) (rows_of c.as_slice.result.now) c.args.members.now.items c.pop.new.self.items (drop (c.args.taken + 1) c.advance_slots.new.members.items) c.index.result.now c.in-Some.field-0 c.requires.stand.0
-    cut c.requires.filled (omega (arith, c.requires.limit, c.limit.ensures, c.limit.type_inv)) c.in-Last.is (ap rows_of c.as_slice.ensures.value ∙ c.in_ok-same.ensures) c.in_ok-room.ensures.moved c.requires.stand.1 in
+    let e = ended_here g t (goal.at.advance_filled-grow_slots-requires-clause-limit g t c).In-Some c.requires.stand.0 c.requires.stand.1 in
     let none = subst (λ m. IsMoved (IsValue q.pools (slot_in q c.args.node c.args.place) (slots_from q c.args.node (c.args.place + 1)) (rows_of c.args.used.now) (node_count (data_of c.in-Some.field-0.tree))) (data_of c.in-Some.field-0.tree) m) c.in-Last-2.is c.in_ok-tree.ensures.ok in
     let own = none.1 in
     omega (arith, e.nodes_are, own, c.requires.limit)
@@ -337,9 +331,7 @@ pub advance_filled-grow_slots-requires-clause-open : goal.advance_filled-grow_sl
 advance_filled-grow_slots-requires-clause-open g t c =
     let q = c.args.plan.now in
     let sound = c.sound_parts.ensures.parts _ (site_among q c.args.node c.requires.node) in
-    let cut = cut_off c.args.slot.now.name.now c.args.taken c.args.members.now.items c.advance_slots.new.members.items c.truncate.new.self.items c.pop.new.self.items c.index.result.now c.in-Some.field-0 c.requires.filled c.index.ensures c.in_ok-room.ensures.kept c.truncate.ensures.items c.in-Some.ensures.items in
-    let e = ended q c.args.node c.args.place c.args.slot.now c.requires.slot sound c.in_ok-room.field-0 c.args.taken c.in-Last.room (rows_of c.args.used.now) (rows_of c.as_slice.result.now) c.args.members.now.items c.pop.new.self.items (drop (c.args.taken + 1) c.advance_slots.new.members.items) c.index.result.now c.in-Some.field-0 c.requires.stand.0
-    cut c.requires.filled (omega (arith, c.requires.limit, c.limit.ensures, c.limit.type_inv)) c.in-Last.is (ap rows_of c.as_slice.ensures.value ∙ c.in_ok-same.ensures) c.in_ok-room.ensures.moved c.requires.stand.1 in
+    let e = ended_here g t (goal.at.advance_filled-grow_slots-requires-clause-open g t c).In-Some c.requires.stand.0 c.requires.stand.1 in
     let none = subst (λ m. IsMoved (IsValue q.pools (slot_in q c.args.node c.args.place) (slots_from q c.args.node (c.args.place + 1)) (rows_of c.args.used.now) (node_count (data_of c.in-Some.field-0.tree))) (data_of c.in-Some.field-0.tree) m) c.in-Last-2.is c.in_ok-tree.ensures.ok in
     let own = none.1 in
     let whole : filled_nodes c.requires.stand.0 ≡ c.in-Last.room + c.in-Last-2.size = ap filled_nodes e.filled.is ∙ omega (arith, e.room_is, own) in
@@ -349,7 +341,7 @@ advance_filled-grow_slots-requires-clause-open g t c =
 pub advance_filled-returns-clause-kept : goal.advance_filled-returns-clause-kept
 advance_filled-returns-clause-kept g t c =
     let q = c.args.plan.now in
-    let cut = cut_off c.args.slot.now.name.now c.args.taken c.args.members.now.items c.advance_slots.new.members.items c.truncate.new.self.items c.pop.new.self.items c.index.result.now c.in-Some.field-0 c.requires.filled c.index.ensures c.in_ok-room.ensures.kept c.truncate.ensures.items c.in-Some.ensures.items in
+    let cut = cut_here g t (goal.at.advance_filled-returns-clause-kept g t c).In-Some in
     IfOk-weaker c.grow_slots.result _ _ (λ st h. grown_kept st q.pools (slot_in q c.args.node c.args.place) (slots_from q c.args.node (c.args.place + 1)) (bounds_at q c.args.node) c.args.taken (c.in-Last.room + c.in-Last-2.size) (c.in-Last-2.size + 1) c.args.taken (rows_of c.args.used.now) c.pop.new.self.items c.grow_slots.new.members.items h cut.count ∙ cut.front_is) c.grow_slots.ensures.ok
 
 pub advance_filled-returns-clause-moved : goal.advance_filled-returns-clause-moved
@@ -357,9 +349,8 @@ advance_filled-returns-clause-moved g t c =
     IfOk-weaker c.grow_slots.result _ _ (λ st h gs s.
     let q = c.args.plan.now in
     let sound = c.sound_parts.ensures.parts _ (site_among q c.args.node c.requires.node) in
-    let cut = cut_off c.args.slot.now.name.now c.args.taken c.args.members.now.items c.advance_slots.new.members.items c.truncate.new.self.items c.pop.new.self.items c.index.result.now c.in-Some.field-0 c.requires.filled c.index.ensures c.in_ok-room.ensures.kept c.truncate.ensures.items c.in-Some.ensures.items in
-    let e = ended q c.args.node c.args.place c.args.slot.now c.requires.slot sound c.in_ok-room.field-0 c.args.taken c.in-Last.room (rows_of c.args.used.now) (rows_of c.as_slice.result.now) c.args.members.now.items c.pop.new.self.items (drop (c.args.taken + 1) c.advance_slots.new.members.items) c.index.result.now c.in-Some.field-0 gs
-    cut c.requires.filled (omega (arith, c.requires.limit, c.limit.ensures, c.limit.type_inv)) c.in-Last.is (ap rows_of c.as_slice.ensures.value ∙ c.in_ok-same.ensures) c.in_ok-room.ensures.moved s in
+    let cut = cut_here g t (goal.at.advance_filled-returns-clause-moved g t c).In-Some in
+    let e = ended_here g t (goal.at.advance_filled-returns-clause-moved g t c).In-Some gs s in
     let none = subst (λ m. IsMoved (IsValue q.pools (slot_in q c.args.node c.args.place) (slots_from q c.args.node (c.args.place + 1)) (rows_of c.args.used.now) (node_count (data_of c.in-Some.field-0.tree))) (data_of c.in-Some.field-0.tree) m) c.in-Last-2.is c.in_ok-tree.ensures.ok in
     in_grown q c.args.node c.args.place sound c.requires.slot.first c.args.taken (rows_of c.args.used.now) c.in-Some.field-0 (drop (c.args.taken + 1) c.args.members.now.items) gs e.small e.filled st c.in-Last.room c.in-Last-2.size c.pop.new.self.items c.grow_slots.new.members.items
     cut.count e.room_is none.1 e.last none.0 h) c.grow_slots.ensures.ok
@@ -367,10 +358,7 @@ advance_filled-returns-clause-moved g t c =
 pub advance_filled-returns-clause-steps : goal.advance_filled-returns-clause-steps
 advance_filled-returns-clause-steps g t c = λ w wide.
     let q = c.args.plan.now in
-    let sound = c.sound_parts.ensures.parts _ (site_among q c.args.node c.requires.node) in
-    let cut = cut_off c.args.slot.now.name.now c.args.taken c.args.members.now.items c.advance_slots.new.members.items c.truncate.new.self.items c.pop.new.self.items c.index.result.now c.in-Some.field-0 c.requires.filled c.index.ensures c.in_ok-room.ensures.kept c.truncate.ensures.items c.in-Some.ensures.items in
-    let e = ended q c.args.node c.args.place c.args.slot.now c.requires.slot sound c.in_ok-room.field-0 c.args.taken c.in-Last.room (rows_of c.args.used.now) (rows_of c.as_slice.result.now) c.args.members.now.items c.pop.new.self.items (drop (c.args.taken + 1) c.advance_slots.new.members.items) c.index.result.now c.in-Some.field-0 c.requires.stand.0
-    cut c.requires.filled (omega (arith, c.requires.limit, c.limit.ensures, c.limit.type_inv)) c.in-Last.is (ap rows_of c.as_slice.ensures.value ∙ c.in_ok-same.ensures) c.in_ok-room.ensures.moved c.requires.stand.1 in
+    let e = ended_here g t (goal.at.advance_filled-returns-clause-steps g t c).In-Some c.requires.stand.0 c.requires.stand.1 in
     let none = subst (λ m. IsMoved (IsValue q.pools (slot_in q c.args.node c.args.place) (slots_from q c.args.node (c.args.place + 1)) (rows_of c.args.used.now) (node_count (data_of c.in-Some.field-0.tree))) (data_of c.in-Some.field-0.tree) m) c.in-Last-2.is c.in_ok-tree.ensures.ok in
     let own = none.1 in
     let scaled = ap (λ n. (w + 1) * n) e.nodes_are in
@@ -384,7 +372,7 @@ pub advance_filled-returns-clause-last : goal.advance_filled-returns-clause-last
 advance_filled-returns-clause-last g t c =
     IfOk-weaker c.grow_slots.result _ _ (λ st k. last_kept st c.args.plan.now c.args.node (c.args.place + 1) c.args.meter.now c.advance_value.new.meter c.grow_slots.new.meter (members_count (members_of (drop c.args.taken c.args.members.now.items))) (λ w wide.
     let q = c.args.plan.now in
-    let cut = cut_off c.args.slot.now.name.now c.args.taken c.args.members.now.items c.advance_slots.new.members.items c.truncate.new.self.items c.pop.new.self.items c.index.result.now c.in-Some.field-0 c.requires.filled c.index.ensures c.in_ok-room.ensures.kept c.truncate.ensures.items c.in-Some.ensures.items in
+    let cut = cut_here g t (goal.at.advance_filled-returns-clause-last g t c).In-Some in
     let scaled = ap (λ n. (w + 1) * n) cut.nodes_are in
     let behind = subst (λ st. CostsLastSlots st q c.args.node (c.args.place + 1) c.args.meter.now c.advance_slots.new.meter (members_count (members_of (drop (c.args.taken + 1) c.args.members.now.items)))) c.in-Last.is c.in_ok-room.ensures.last w wide in
     let value = subst (λ m. CostsLast m q c.advance_slots.new.meter c.advance_value.new.meter (node_count (data_of c.in-Some.field-0.tree))) c.in-Last-2.is c.in_ok-tree.ensures.last w wide in
@@ -395,28 +383,33 @@ advance_row-unreachable-requires g t c =
     let none = subst (λ r. IfNone r ((ms : MembersData) → data_of c.args.tree ≡ object_data ms → ⊥)) c.in_default.is c.into_members.ensures.none in
     none _ c.requires.row.is
 
+-- the members stand in the slots
+row_here : (g : Over) (t : ℕ) (c : advance_row-In-Some g t) → StandIn c.args.plan.now.pools (slots_from c.args.plan.now c.args.node 0) (bounds_at c.args.plan.now c.args.node) 0 (rows_of c.args.used.now) c.in-Some.members.items c.requires.row.fillings
+row_here g t c = row_stands c.args.plan.now c.args.node (node_count (data_of c.args.tree) - 1) (rows_of c.args.used.now) (data_of c.args.tree) c.in-Some.members.items c.requires.row c.in-Some.ensures.some
+
+row_cost : (g : Over) (t : ℕ) (c : advance_row-After-advance_slots g t) → Costs c.args.plan.now c.args.meter.now c.advance_slots.new.meter (2 * node_count (data_of c.args.tree))
+row_cost g t c = λ w wide.
+    let few = slots_within c.args.plan.now c.args.node c.requires.node c.requires.sort w wide in
+    let count : node_count (data_of c.args.tree) ≡ 1 + members_count (members_of c.in-Some.members.items) = ap node_count c.in-Some.ensures.some in
+    let scaled = ap (λ n. (w + 1) * n) count in
+    omega (arith, few, scaled, c.advance_slots.ensures.steps w wide)
+
 pub advance_row-advance_slots-requires : goal.advance_row-advance_slots-requires
 advance_row-advance_slots-requires g t c κs within =
-    let q = c.args.plan.now in
     let r = c.requires.row in
-    let stand = row_stands q c.args.node (node_count (data_of c.args.tree) - 1) (rows_of c.args.used.now) (data_of c.args.tree) c.in-Some.members.items r c.in-Some.ensures.some in
+    let stand = row_here g t (goal.at.advance_row-advance_slots-requires g t c).In-Some in
     let count : node_count (data_of c.args.tree) ≡ 1 + members_count (members_of c.in-Some.members.items) = ap node_count c.in-Some.ensures.some in
     (omega (arith, c.decreases), (within, (c.requires.node, (c.requires.sort, (omega arith, (omega arith, (c.requires.known, ((r.fillings, stand), omega (arith, count, c.requires.limit)))))))))
 
 pub advance_row-returns-in_err-advance_slots-clause-steps : goal.advance_row-returns-in_err-advance_slots-clause-steps
-advance_row-returns-in_err-advance_slots-clause-steps g t c = λ w wide.
-    let q = c.args.plan.now in
-    let few = slots_within q c.args.node c.requires.node c.requires.sort w wide in
-    let count : node_count (data_of c.args.tree) ≡ 1 + members_count (members_of c.in-Some.members.items) = ap node_count c.in-Some.ensures.some in
-    let scaled = ap (λ n. (w + 1) * n) count in
-    omega (arith, few, scaled, c.advance_slots.ensures.steps w wide)
+advance_row-returns-in_err-advance_slots-clause-steps g t c = row_cost g t (goal.at.advance_row-returns-in_err-advance_slots-clause-steps g t c).After-advance_slots
 
 pub advance_row-invariant_of-result : goal.advance_row-invariant_of-result
 advance_row-invariant_of-result g t c =
     let q = c.args.plan.now in
     let sound = c.sound_parts.ensures.parts _ (site_among q c.args.node c.requires.node) in
     let r = c.requires.row in
-    let stand = row_stands q c.args.node (node_count (data_of c.args.tree) - 1) (rows_of c.args.used.now) (data_of c.args.tree) c.in-Some.members.items r c.in-Some.ensures.some in
+    let stand = row_here g t (goal.at.advance_row-invariant_of-result g t c).In-Some in
     let next = subst (λ st. AreMoved st q.pools (slots_from q c.args.node 0) (bounds_at q c.args.node) 0 (rows_of c.args.used.now) r.fillings c.advance_slots.new.members.items) c.in-Moved.is (c.in_ok-advance_slots.ensures.moved r.fillings stand) in
     subst AreMembers (sym next.are) (in_members q.pools (slots_from q c.args.node 0) next.fillings sound.order next.next.is.0.are)
 
@@ -424,7 +417,7 @@ pub advance_row-overflow_add-result : goal.advance_row-overflow_add-result
 advance_row-overflow_add-result g t c =
     let q = c.args.plan.now in
     let r = c.requires.row in
-    let stand = row_stands q c.args.node (node_count (data_of c.args.tree) - 1) (rows_of c.args.used.now) (data_of c.args.tree) c.in-Some.members.items r c.in-Some.ensures.some in
+    let stand = row_here g t (goal.at.advance_row-overflow_add-result g t c).In-Some in
     let count : node_count (data_of c.args.tree) ≡ 1 + members_count (members_of c.in-Some.members.items) = ap node_count c.in-Some.ensures.some in
     let none = subst (λ st. AreMoved st q.pools (slots_from q c.args.node 0) (bounds_at q c.args.node) 0 (rows_of c.args.used.now) r.fillings c.advance_slots.new.members.items) c.in-Last.is (c.in_ok-advance_slots.ensures.moved r.fillings stand) in
     let left = none.1 in
@@ -437,18 +430,13 @@ advance_row-returns-in-Moved-clause-ok g t c =
     let sound = c.sound_parts.ensures.parts _ (site_among q c.args.node c.requires.node) in
     let r = c.requires.row in
     let nodes = r.rest.nodes_are in
-    let stand = row_stands q c.args.node (node_count (data_of c.args.tree) - 1) (rows_of c.args.used.now) (data_of c.args.tree) c.in-Some.members.items r c.in-Some.ensures.some in
+    let stand = row_here g t (goal.at.advance_row-returns-in-Moved-clause-ok g t c).In-Some in
     let next = subst (λ st. AreMoved st q.pools (slots_from q c.args.node 0) (bounds_at q c.args.node) 0 (rows_of c.args.used.now) r.fillings c.advance_slots.new.members.items) c.in-Moved.is (c.in_ok-advance_slots.ensures.moved r.fillings stand) in
     subst (λ ms. IsNext tree_cmp (IsRow q c.args.node (node_count (data_of c.args.tree) - 1) (rows_of c.args.used.now)) (data_of c.args.tree) (Some (object_data ms))) (sym next.are)
     (row_next q c.args.node (rows_of c.args.used.now) (data_of c.args.tree) r.fillings (Some next.fillings) sound.order r.is stand.rest nodes next.next)
 
 pub advance_row-returns-in-Moved-clause-steps : goal.advance_row-returns-in-Moved-clause-steps
-advance_row-returns-in-Moved-clause-steps g t c = λ w wide.
-    let q = c.args.plan.now in
-    let few = slots_within q c.args.node c.requires.node c.requires.sort w wide in
-    let count : node_count (data_of c.args.tree) ≡ 1 + members_count (members_of c.in-Some.members.items) = ap node_count c.in-Some.ensures.some in
-    let scaled = ap (λ n. (w + 1) * n) count in
-    omega (arith, few, scaled, c.advance_slots.ensures.steps w wide)
+advance_row-returns-in-Moved-clause-steps g t c = row_cost g t (goal.at.advance_row-returns-in-Moved-clause-steps g t c).After-advance_slots
 
 pub advance_row-returns-in-Moved-clause-last : goal.advance_row-returns-in-Moved-clause-last
 advance_row-returns-in-Moved-clause-last g t c = tt
@@ -459,18 +447,13 @@ advance_row-returns-in-Last-clause-ok g t c =
     let sound = c.sound_parts.ensures.parts _ (site_among q c.args.node c.requires.node) in
     let r = c.requires.row in
     let nodes = r.rest.nodes_are in
-    let stand = row_stands q c.args.node (node_count (data_of c.args.tree) - 1) (rows_of c.args.used.now) (data_of c.args.tree) c.in-Some.members.items r c.in-Some.ensures.some in
+    let stand = row_here g t (goal.at.advance_row-returns-in-Last-clause-ok g t c).In-Some in
     let none = subst (λ st. AreMoved st q.pools (slots_from q c.args.node 0) (bounds_at q c.args.node) 0 (rows_of c.args.used.now) r.fillings c.advance_slots.new.members.items) c.in-Last.is (c.in_ok-advance_slots.ensures.moved r.fillings stand) in
     let left = none.1 in
     (row_next q c.args.node (rows_of c.args.used.now) (data_of c.args.tree) r.fillings None sound.order r.is stand.rest nodes none.0, omega (arith, left, nodes, some_nodes (data_of c.args.tree)))
 
 pub advance_row-returns-in-Last-clause-steps : goal.advance_row-returns-in-Last-clause-steps
-advance_row-returns-in-Last-clause-steps g t c = λ w wide.
-    let q = c.args.plan.now in
-    let few = slots_within q c.args.node c.requires.node c.requires.sort w wide in
-    let count : node_count (data_of c.args.tree) ≡ 1 + members_count (members_of c.in-Some.members.items) = ap node_count c.in-Some.ensures.some in
-    let scaled = ap (λ n. (w + 1) * n) count in
-    omega (arith, few, scaled, c.advance_slots.ensures.steps w wide)
+advance_row-returns-in-Last-clause-steps g t c = row_cost g t (goal.at.advance_row-returns-in-Last-clause-steps g t c).After-advance_slots
 
 pub advance_row-returns-in-Last-clause-last : goal.advance_row-returns-in-Last-clause-last
 advance_row-returns-in-Last-clause-last g t c = λ w wide.
@@ -567,6 +550,15 @@ advance_slots-returns-in_default-2-clause-steps g t c = λ w wide.
 pub advance_slots-returns-in_default-2-clause-last : goal.advance_slots-returns-in_default-2-clause-last
 advance_slots-returns-in_default-2-clause-last g t c = tt
 
+out_here : (g : Over) (t : ℕ) (c : advance_slots-In-Last g t) (gs : List (Option Data)) → StandIn c.args.plan.now.pools (slots_from c.args.plan.now c.args.node c.args.place) (bounds_at c.args.plan.now c.args.node) c.args.taken (rows_of c.args.used.now) (drop c.args.taken c.args.members.now.items) gs
+    → IsOutEnded c.args.plan.now c.args.node c.args.place c.args.taken c.in-Last.room (rows_of c.args.used.now) (drop c.args.taken c.args.members.now.items) gs
+out_here g t c gs st =
+    let q = c.args.plan.now in
+    let sound = c.sound_parts.ensures.parts _ (site_among q c.args.node c.requires.node) in
+    let s = slot_of q c.args.node c.args.place c.in-Some.slot c.in-Some.ensures.some c.in-Some.ensures.below c.in-Some.ensures.later c.in-Some.ensures.followed in
+    out_ended q c.args.node c.args.place c.in-Some.slot s sound c.in_ok-room.field-0 c.args.taken c.in-Last.room (rows_of c.args.used.now) c.args.members.now.items c.as_slice.result.now (drop c.args.taken c.advance_slots.new.members.items) gs
+    c.as_slice.ensures.value (λ h. let yes = c.begins.ensures.1 h in let no = c.if-begins.false in cc) (omega (arith, c.requires.limit, c.limit.ensures, c.limit.type_inv)) c.in-Last.is c.in_ok-room.ensures.moved st
+
 pub advance_slots-grow_slots-requires-clause-slot : goal.advance_slots-grow_slots-requires-clause-slot
 advance_slots-grow_slots-requires-clause-slot g t c = slot_of c.args.plan.now c.args.node c.args.place c.in-Some.slot c.in-Some.ensures.some c.in-Some.ensures.below c.in-Some.ensures.later c.in-Some.ensures.followed
 
@@ -575,11 +567,7 @@ advance_slots-grow_slots-requires-clause-taken g t c = c.requires.taken
 
 pub advance_slots-grow_slots-requires-clause-limit : goal.advance_slots-grow_slots-requires-clause-limit
 advance_slots-grow_slots-requires-clause-limit g t c =
-    let q = c.args.plan.now in
-    let sound = c.sound_parts.ensures.parts _ (site_among q c.args.node c.requires.node) in
-    let s = slot_of q c.args.node c.args.place c.in-Some.slot c.in-Some.ensures.some c.in-Some.ensures.below c.in-Some.ensures.later c.in-Some.ensures.followed in
-    let e = out_ended q c.args.node c.args.place c.in-Some.slot s sound c.in_ok-room.field-0 c.args.taken c.in-Last.room (rows_of c.args.used.now) c.args.members.now.items c.as_slice.result.now (drop c.args.taken c.advance_slots.new.members.items) c.requires.stand.0
-    c.as_slice.ensures.value (λ h. let yes = c.begins.ensures.1 h in let no = c.if-begins.false in cc) (omega (arith, c.requires.limit, c.limit.ensures, c.limit.type_inv)) c.in-Last.is c.in_ok-room.ensures.moved c.requires.stand.1 in
+    let e = out_here g t (goal.at.advance_slots-grow_slots-requires-clause-limit g t c).In-Last c.requires.stand.0 c.requires.stand.1 in
     omega (arith, e.nodes_are, c.requires.limit)
 
 pub advance_slots-grow_slots-requires-clause-open : goal.advance_slots-grow_slots-requires-clause-open
@@ -587,8 +575,7 @@ advance_slots-grow_slots-requires-clause-open g t c =
     let q = c.args.plan.now in
     let sound = c.sound_parts.ensures.parts _ (site_among q c.args.node c.requires.node) in
     let s = slot_of q c.args.node c.args.place c.in-Some.slot c.in-Some.ensures.some c.in-Some.ensures.below c.in-Some.ensures.later c.in-Some.ensures.followed in
-    let e = out_ended q c.args.node c.args.place c.in-Some.slot s sound c.in_ok-room.field-0 c.args.taken c.in-Last.room (rows_of c.args.used.now) c.args.members.now.items c.as_slice.result.now (drop c.args.taken c.advance_slots.new.members.items) c.requires.stand.0
-    c.as_slice.ensures.value (λ h. let yes = c.begins.ensures.1 h in let no = c.if-begins.false in cc) (omega (arith, c.requires.limit, c.limit.ensures, c.limit.type_inv)) c.in-Last.is c.in_ok-room.ensures.moved c.requires.stand.1 in
+    let e = out_here g t (goal.at.advance_slots-grow_slots-requires-clause-open g t c).In-Last c.requires.stand.0 c.requires.stand.1 in
     subst (λ m. IsOpen q.pools (slots_from q c.args.node c.args.place) (bounds_at q c.args.node) c.args.taken m (rows_of c.args.used.now)) (ap filled_nodes e.is ∙ e.room_is)
     (open_here q c.args.node c.args.place sound s.first c.args.taken (rows_of c.args.used.now) (drop c.args.taken c.args.members.now.items) c.requires.stand.0 c.requires.known c.requires.stand.1)
 
@@ -605,8 +592,7 @@ advance_slots-returns-clause-moved g t c =
     let q = c.args.plan.now in
     let sound = c.sound_parts.ensures.parts _ (site_among q c.args.node c.requires.node) in
     let s = slot_of q c.args.node c.args.place c.in-Some.slot c.in-Some.ensures.some c.in-Some.ensures.below c.in-Some.ensures.later c.in-Some.ensures.followed in
-    let e = out_ended q c.args.node c.args.place c.in-Some.slot s sound c.in_ok-room.field-0 c.args.taken c.in-Last.room (rows_of c.args.used.now) c.args.members.now.items c.as_slice.result.now (drop c.args.taken c.advance_slots.new.members.items) gs
-    c.as_slice.ensures.value (λ h. let yes = c.begins.ensures.1 h in let no = c.if-begins.false in cc) (omega (arith, c.requires.limit, c.limit.ensures, c.limit.type_inv)) c.in-Last.is c.in_ok-room.ensures.moved st in
+    let e = out_here g t (goal.at.advance_slots-returns-clause-moved g t c).In-Last gs st in
     let front = c.truncate.ensures.items ∙ c.in_ok-room.ensures.kept in
     let count : length c.truncate.new.self.items ≡ c.args.taken = ap (λ (ms : List Member). length ms) front ∙ length-take-le c.args.taken c.args.members.now.items c.requires.within in
     out_grown q c.args.node c.args.place sound s.first m c.args.taken (rows_of c.args.used.now) gs e.rest c.in-Last.room c.truncate.new.self.items c.grow_slots.new.members.items e.is e.small e.free count e.room_is e.last h) c.grow_slots.ensures.ok
@@ -614,11 +600,9 @@ advance_slots-returns-clause-moved g t c =
 pub advance_slots-returns-clause-steps : goal.advance_slots-returns-clause-steps
 advance_slots-returns-clause-steps g t c = λ w wide.
     let q = c.args.plan.now in
-    let sound = c.sound_parts.ensures.parts _ (site_among q c.args.node c.requires.node) in
     let s = slot_of q c.args.node c.args.place c.in-Some.slot c.in-Some.ensures.some c.in-Some.ensures.below c.in-Some.ensures.later c.in-Some.ensures.followed in
     let fewer = one_fewer q c.args.node c.args.place s.first in
-    let e = out_ended q c.args.node c.args.place c.in-Some.slot s sound c.in_ok-room.field-0 c.args.taken c.in-Last.room (rows_of c.args.used.now) c.args.members.now.items c.as_slice.result.now (drop c.args.taken c.advance_slots.new.members.items) c.requires.stand.0
-    c.as_slice.ensures.value (λ h. let yes = c.begins.ensures.1 h in let no = c.if-begins.false in cc) (omega (arith, c.requires.limit, c.limit.ensures, c.limit.type_inv)) c.in-Last.is c.in_ok-room.ensures.moved c.requires.stand.1 in
+    let e = out_here g t (goal.at.advance_slots-returns-clause-steps g t c).In-Last c.requires.stand.0 c.requires.stand.1 in
     let scaled = ap (λ n. (w + 1) * n) e.nodes_are in
     let behind = subst (λ m. CostsLastSlots m q c.args.node (c.args.place + 1) c.slot.new.meter c.advance_slots.new.meter (members_count (members_of (drop c.args.taken c.args.members.now.items)))) c.in-Last.is c.in_ok-room.ensures.last w wide in
     omega (arith, c.slot.ensures.step, fewer, scaled, behind, c.grow_slots.ensures.steps w wide)
@@ -791,6 +775,22 @@ advance_item-returns-in_ok-used-in-Keys-clause-last g t c = c.advance_row.ensure
 pub advance_items-loop-item-init : goal.advance_items-loop-item-init
 advance_items-loop-item-init g t c = record { last = all_left c.args.plan.now c.args.node (items_of c.args.items.now.items); steps = λ w wide. omega arith }
 
+-- the items in front of the one that was taken from the end
+nodes_here : (g : Over) (t : ℕ) (c : advance_items-In-Some g t) → items_count (items_of c.args.items.now.items) ≡ items_count (items_of c.pop.new.self.items) + (node_count (data_of c.in-Some.item) + c.loop-item.room)
+nodes_here g t c = front_nodes c.args.plan.now c.args.node c.loop-item.room (items_of c.args.items.now.items) c.loop-item.items.items c.pop.new.self.items c.in-Some.item c.in-Some.ensures.items c.loop-item.invariant.last
+
+last_here : (g : Over) (t : ℕ) (c : advance_items-In-Last g t) → IsNext tree_cmp (IsFreshItem c.args.plan.now c.args.node c.args.child (node_count (data_of c.in-Some.item)) (items_of c.pop.new.self.items)) (data_of c.in-Some.item) None × (node_count (data_of c.in-Some.item) ≡ c.in-Last.size)
+last_here g t c = item_moved c.args.plan.now c.args.node c.args.child c.in-Some.item c.as_slice.result.now c.pop.new.self.items c.in_ok-next.field-0 (moved.Last c.in-Last.size) c.as_slice.ensures.value c.in-Last.is c.in_ok-next.ensures.ok
+
+-- a move of the item leaves as much as it takes to grow other items in its place
+item_cost : (g : Over) (t : ℕ) (c : advance_items-After-advance_item g t) (w : ℕ) → IsWidth c.args.plan.now.pools c.args.plan.now.root w → c.advance_item.new.meter + (w + 1) * c.loop-item.room ≤ c.args.meter.now + (w + 1) * (2 * items_count (items_of c.args.items.now.items))
+item_cost g t c w wide =
+    let n = node_count (data_of c.in-Some.item) in
+    let old = items_of c.args.items.now.items in
+    let nodes = front_nodes c.args.plan.now c.args.node c.loop-item.room old c.loop-item.items.items c.pop.new.self.items c.in-Some.item c.in-Some.ensures.items c.loop-item.invariant.last in
+    let room = cost_room (w + 1) n c.loop-item.room (items_count old) (omega (arith, nodes)) in
+    omega (arith, room, double (w + 1) n, c.loop-item.invariant.steps w wide, c.advance_item.ensures.steps w wide)
+
 pub advance_items-advance_item-requires : goal.advance_items-advance_item-requires
 advance_items-advance_item-requires g t c κs within-it =
     let q = c.args.plan.now in
@@ -802,7 +802,7 @@ advance_items-advance_item-requires g t c κs within-it =
     let one = c.in-Some.item in
     let within : 1 + items_count old ≤ q.limit = omega (arith, c.requires.limit) in
     let top : q.limit ≤ most_nodes = omega (arith, c.limit.ensures, c.limit.type_inv) in
-    let nodes = front_nodes q i c.loop-item.room old c.loop-item.items.items front one c.in-Some.ensures.items c.loop-item.invariant.last in (
+    let nodes = nodes_here g t (goal.at.advance_items-advance_item-requires g t c).In-Some in (
       omega (arith, c.decreases),
       (
         within-it,
@@ -823,34 +823,10 @@ advance_items-advance_item-requires g t c κs within-it =
     )
 
 pub advance_items-returns-in_err-next-clause-steps : goal.advance_items-returns-in_err-next-clause-steps
-advance_items-returns-in_err-next-clause-steps g t c =
-    let q = c.args.plan.now in
-    let i = c.args.node in
-    let old = items_of c.args.items.now.items in
-    let front = c.pop.new.self.items in
-    let one = c.in-Some.item in
-    let nodes = front_nodes q i c.loop-item.room old c.loop-item.items.items front one c.in-Some.ensures.items c.loop-item.invariant.last in
-    λ w wide.
-    let room = cost_room (w + 1) (node_count (data_of one)) c.loop-item.room (items_count old) (omega (arith, nodes)) in
-    let twice = double (w + 1) (node_count (data_of one)) in
-    let before = c.loop-item.invariant.steps w wide in
-    let found = c.advance_item.ensures.steps w wide in
-    omega (arith, room, twice, before, found)
+advance_items-returns-in_err-next-clause-steps g t c = λ w wide. omega (arith, item_cost g t (goal.at.advance_items-returns-in_err-next-clause-steps g t c).After-advance_item w wide)
 
 pub advance_items-returns-in_err-push-in-To-clause-steps : goal.advance_items-returns-in_err-push-in-To-clause-steps
-advance_items-returns-in_err-push-in-To-clause-steps g t c =
-    let q = c.args.plan.now in
-    let i = c.args.node in
-    let old = items_of c.args.items.now.items in
-    let front = c.pop.new.self.items in
-    let one = c.in-Some.item in
-    let nodes = front_nodes q i c.loop-item.room old c.loop-item.items.items front one c.in-Some.ensures.items c.loop-item.invariant.last in
-    λ w wide.
-    let room = cost_room (w + 1) (node_count (data_of one)) c.loop-item.room (items_count old) (omega (arith, nodes)) in
-    let twice = double (w + 1) (node_count (data_of one)) in
-    let before = c.loop-item.invariant.steps w wide in
-    let found = c.advance_item.ensures.steps w wide in
-    omega (arith, room, twice, before, found)
+advance_items-returns-in_err-push-in-To-clause-steps g t c = λ w wide. omega (arith, item_cost g t (goal.at.advance_items-returns-in_err-push-in-To-clause-steps g t c).After-advance_item w wide)
 
 pub advance_items-first_items-requires-clause-follow : goal.advance_items-first_items-requires-clause-follow
 advance_items-first_items-requires-clause-follow g t c =
@@ -866,19 +842,7 @@ advance_items-first_items-requires-clause-follow g t c =
     front_follow q i k (c.no_dead_end.ensures.parts _ there) (c.no_dead_end.ensures.completed _ there) c.requires.item old c.requires.part within top c.loop-item.room c.loop-item.items.items front one c.in-Some.ensures.items c.loop-item.invariant.last c.in-To.next c.push.new.self.items (item_moved q i k one c.as_slice.result.now front _ (moved.To c.in-To.next) c.as_slice.ensures.value c.in-To.is c.in_ok-next.ensures.ok) c.in_ok-push-in-To.ensures.items
 
 pub advance_items-returns-in_err-first_items-in-To-clause-steps : goal.advance_items-returns-in_err-first_items-in-To-clause-steps
-advance_items-returns-in_err-first_items-in-To-clause-steps g t c =
-    let q = c.args.plan.now in
-    let i = c.args.node in
-    let old = items_of c.args.items.now.items in
-    let front = c.pop.new.self.items in
-    let one = c.in-Some.item in
-    let nodes = front_nodes q i c.loop-item.room old c.loop-item.items.items front one c.in-Some.ensures.items c.loop-item.invariant.last in
-    λ w wide.
-    let room = cost_room (w + 1) (node_count (data_of one)) c.loop-item.room (items_count old) (omega (arith, nodes)) in
-    let twice = double (w + 1) (node_count (data_of one)) in
-    let before = c.loop-item.invariant.steps w wide in
-    let found = c.advance_item.ensures.steps w wide in
-    omega (arith, room, twice, before, found, c.first_items.ensures.steps w wide)
+advance_items-returns-in_err-first_items-in-To-clause-steps g t c = λ w wide. omega (arith, item_cost g t (goal.at.advance_items-returns-in_err-first_items-in-To-clause-steps g t c).After-advance_item w wide, c.first_items.ensures.steps w wide)
 
 pub advance_items-returns-in-To-clause-moved : goal.advance_items-returns-in-To-clause-moved
 advance_items-returns-in-To-clause-moved g t c =
@@ -895,44 +859,24 @@ advance_items-returns-in-To-clause-moved g t c =
     (subst (λ l. AddsItems q i c.loop-item.room l c.first_items.new.items.items) c.in_ok-push-in-To.ensures.items c.in_ok-first_items-in-To.ensures.ok)
 
 pub advance_items-returns-in-To-clause-steps : goal.advance_items-returns-in-To-clause-steps
-advance_items-returns-in-To-clause-steps g t c =
-    let q = c.args.plan.now in
-    let i = c.args.node in
-    let old = items_of c.args.items.now.items in
-    let front = c.pop.new.self.items in
-    let one = c.in-Some.item in
-    let nodes = front_nodes q i c.loop-item.room old c.loop-item.items.items front one c.in-Some.ensures.items c.loop-item.invariant.last in
-    λ w wide.
-    let room = cost_room (w + 1) (node_count (data_of one)) c.loop-item.room (items_count old) (omega (arith, nodes)) in
-    let twice = double (w + 1) (node_count (data_of one)) in
-    let before = c.loop-item.invariant.steps w wide in
-    let found = c.advance_item.ensures.steps w wide in
-    omega (arith, room, twice, before, found, c.first_items.ensures.steps w wide)
+advance_items-returns-in-To-clause-steps g t c = λ w wide. omega (arith, item_cost g t (goal.at.advance_items-returns-in-To-clause-steps g t c).After-advance_item w wide, c.first_items.ensures.steps w wide)
 
 pub advance_items-overflow_add-room : goal.advance_items-overflow_add-room
 advance_items-overflow_add-room g t c =
     let q = c.args.plan.now in
-    let i = c.args.node in
-    let k = c.args.child in
     let old = items_of c.args.items.now.items in
-    let front = c.pop.new.self.items in
-    let one = c.in-Some.item in
     let within : 1 + items_count old ≤ q.limit = omega (arith, c.requires.limit) in
-    let nodes = front_nodes q i c.loop-item.room old c.loop-item.items.items front one c.in-Some.ensures.items c.loop-item.invariant.last in
-    let last = item_moved q i k one c.as_slice.result.now front _ (moved.Last c.in-Last.size) c.as_slice.ensures.value c.in-Last.is c.in_ok-next.ensures.ok in
+    let nodes = nodes_here g t (goal.at.advance_items-overflow_add-room g t c).In-Some in
+    let last = last_here g t (goal.at.advance_items-overflow_add-room g t c).In-Last in
     omega (arith, nodes, last.1, within, c.limit.ensures, c.limit.type_inv)
 
 pub advance_items-overflow_add-size : goal.advance_items-overflow_add-size
 advance_items-overflow_add-size g t c =
     let q = c.args.plan.now in
-    let i = c.args.node in
-    let k = c.args.child in
     let old = items_of c.args.items.now.items in
-    let front = c.pop.new.self.items in
-    let one = c.in-Some.item in
     let within : 1 + items_count old ≤ q.limit = omega (arith, c.requires.limit) in
-    let nodes = front_nodes q i c.loop-item.room old c.loop-item.items.items front one c.in-Some.ensures.items c.loop-item.invariant.last in
-    let last = item_moved q i k one c.as_slice.result.now front _ (moved.Last c.in-Last.size) c.as_slice.ensures.value c.in-Last.is c.in_ok-next.ensures.ok in
+    let nodes = nodes_here g t (goal.at.advance_items-overflow_add-size g t c).In-Some in
+    let last = last_here g t (goal.at.advance_items-overflow_add-size g t c).In-Last in
     omega (arith, nodes, last.1, within, c.limit.ensures, c.limit.type_inv)
 
 pub advance_items-grow_items-requires-clause-first : goal.advance_items-grow_items-requires-clause-first
@@ -951,26 +895,19 @@ advance_items-grow_items-requires-clause-first g t c =
 pub advance_items-grow_items-requires-clause-within : goal.advance_items-grow_items-requires-clause-within
 advance_items-grow_items-requires-clause-within g t c =
     let q = c.args.plan.now in
-    let i = c.args.node in
-    let k = c.args.child in
     let old = items_of c.args.items.now.items in
-    let front = c.pop.new.self.items in
-    let one = c.in-Some.item in
     let within : 1 + items_count old ≤ q.limit = omega (arith, c.requires.limit) in
-    let nodes = front_nodes q i c.loop-item.room old c.loop-item.items.items front one c.in-Some.ensures.items c.loop-item.invariant.last in
-    let last = item_moved q i k one c.as_slice.result.now front _ (moved.Last c.in-Last.size) c.as_slice.ensures.value c.in-Last.is c.in_ok-next.ensures.ok in
+    let nodes = nodes_here g t (goal.at.advance_items-grow_items-requires-clause-within g t c).In-Some in
+    let last = last_here g t (goal.at.advance_items-grow_items-requires-clause-within g t c).In-Last in
     omega (arith, nodes, last.1, within)
 
 pub advance_items-returns-in_err-grow_items-in-Last-clause-steps : goal.advance_items-returns-in_err-grow_items-in-Last-clause-steps
 advance_items-returns-in_err-grow_items-in-Last-clause-steps g t c =
     let q = c.args.plan.now in
-    let i = c.args.node in
-    let k = c.args.child in
     let old = items_of c.args.items.now.items in
-    let front = c.pop.new.self.items in
     let one = c.in-Some.item in
-    let nodes = front_nodes q i c.loop-item.room old c.loop-item.items.items front one c.in-Some.ensures.items c.loop-item.invariant.last in
-    let last = item_moved q i k one c.as_slice.result.now front _ (moved.Last c.in-Last.size) c.as_slice.ensures.value c.in-Last.is c.in_ok-next.ensures.ok in
+    let nodes = nodes_here g t (goal.at.advance_items-returns-in_err-grow_items-in-Last-clause-steps g t c).In-Some in
+    let last = last_here g t (goal.at.advance_items-returns-in_err-grow_items-in-Last-clause-steps g t c).In-Last in
     let cost = subst (λ m. CostsLast m q c.loop-item.meter c.advance_item.new.meter (node_count (data_of one))) c.in-Last.is c.in_ok-next.ensures.last in
     λ w wide.
     let room = cost_room (w + 1) (node_count (data_of one)) c.loop-item.room (items_count old) (omega (arith, nodes)) in
@@ -990,19 +927,16 @@ advance_items-returns-in-Moved-clause-moved g t c =
     let one = c.in-Some.item in
     let within : 1 + items_count old ≤ q.limit = omega (arith, c.requires.limit) in
     let top : q.limit ≤ most_nodes = omega (arith, c.limit.ensures, c.limit.type_inv) in
-    let last = item_moved q i k one c.as_slice.result.now front _ (moved.Last c.in-Last.size) c.as_slice.ensures.value c.in-Last.is c.in_ok-next.ensures.ok in
+    let last = last_here g t (goal.at.advance_items-returns-in-Moved-clause-moved g t c).In-Last in
     subst (λ s. IsWalked s q i (c.loop-item.room + c.in-Last.size) old front c.grow_items.new.items.items) c.in-Moved.is (front_walked q i k (c.no_dead_end.ensures.parts _ there) (c.no_dead_end.ensures.completed _ there) c.requires.item old c.requires.part within top c.loop-item.room c.loop-item.items.items front one c.in-Some.ensures.items c.loop-item.invariant.last last.0 c.in_ok-grow_items-in-Last.field-0 c.in-Last.size c.grow_items.new.items.items last.1 c.in_ok-grow_items-in-Last.ensures.ok)
 
 pub advance_items-returns-in-Moved-clause-steps : goal.advance_items-returns-in-Moved-clause-steps
 advance_items-returns-in-Moved-clause-steps g t c =
     let q = c.args.plan.now in
-    let i = c.args.node in
-    let k = c.args.child in
     let old = items_of c.args.items.now.items in
-    let front = c.pop.new.self.items in
     let one = c.in-Some.item in
-    let nodes = front_nodes q i c.loop-item.room old c.loop-item.items.items front one c.in-Some.ensures.items c.loop-item.invariant.last in
-    let last = item_moved q i k one c.as_slice.result.now front _ (moved.Last c.in-Last.size) c.as_slice.ensures.value c.in-Last.is c.in_ok-next.ensures.ok in
+    let nodes = nodes_here g t (goal.at.advance_items-returns-in-Moved-clause-steps g t c).In-Some in
+    let last = last_here g t (goal.at.advance_items-returns-in-Moved-clause-steps g t c).In-Last in
     let cost = subst (λ m. CostsLast m q c.loop-item.meter c.advance_item.new.meter (node_count (data_of one))) c.in-Last.is c.in_ok-next.ensures.last in
     λ w wide.
     let room = cost_room (w + 1) (node_count (data_of one)) c.loop-item.room (items_count old) (omega (arith, nodes)) in
@@ -1022,7 +956,7 @@ advance_items-loop-item-preserved g t c =
     let one = c.in-Some.item in
     let within : 1 + items_count old ≤ q.limit = omega (arith, c.requires.limit) in
     let top : q.limit ≤ most_nodes = omega (arith, c.limit.ensures, c.limit.type_inv) in
-    let last = item_moved q i k one c.as_slice.result.now front _ (moved.Last c.in-Last.size) c.as_slice.ensures.value c.in-Last.is c.in_ok-next.ensures.ok in
+    let last = last_here g t (goal.at.advance_items-loop-item-preserved g t c).In-Last in
     let cost = subst (λ m. CostsLast m q c.loop-item.meter c.advance_item.new.meter (node_count (data_of one))) c.in-Last.is c.in_ok-next.ensures.last in
     let walked = front_walked q i k (c.no_dead_end.ensures.parts _ there) (c.no_dead_end.ensures.completed _ there) c.requires.item old c.requires.part within top c.loop-item.room c.loop-item.items.items front one c.in-Some.ensures.items c.loop-item.invariant.last last.0 c.in_ok-grow_items-in-Last.field-0 c.in-Last.size c.grow_items.new.items.items last.1 c.in_ok-grow_items-in-Last.ensures.ok in
     let kept = kept_last c.in_ok-grow_items-in-Last.field-0 c.advance_item.new.meter c.grow_items.new.meter c.in_default-2.not-Moved c.in_ok-grow_items-in-Last.ensures.last in
@@ -1109,8 +1043,8 @@ advance_list-advance_items-requires g t c κs within =
     let part = subst (IsPart q.pools (site q i).node) is c.requires.part in
     (omega (arith, c.decreases), (within, (c.requires.node, (c.in-Some-item.ensures.below, (c.in-Some-item.ensures.some, (part, omega (arith, count, c.requires.limit)))))))
 
-pub advance_list-returns-in_err-advance_items-clause-steps : goal.advance_list-returns-in_err-advance_items-clause-steps
-advance_list-returns-in_err-advance_items-clause-steps g t c =
+list_cost : (g : Over) (t : ℕ) (c : advance_list-After-advance_items g t) → Costs c.args.plan.now c.args.meter.now c.advance_items.new.meter (2 * node_count (data_of c.args.tree))
+list_cost g t c =
     let old = items_of c.in-Some.items.items in
     let is : data_of c.args.tree ≡ list_data old = c.in-Some.ensures.some in
     let count : node_count (data_of c.args.tree) ≡ 1 + items_count old = ap node_count is in
@@ -1119,6 +1053,9 @@ advance_list-returns-in_err-advance_items-clause-steps g t c =
     let twice = double (w + 1) (items_count old) in
     let whole : (w + 1) * (2 * node_count (data_of c.args.tree)) ≡ (w + 1) * (2 * (1 + items_count old)) = ap (λ x. (w + 1) * (2 * x)) count in
     omega (arith, room, twice, whole, c.item.ensures.step, c.advance_items.ensures.steps w wide)
+
+pub advance_list-returns-in_err-advance_items-clause-steps : goal.advance_list-returns-in_err-advance_items-clause-steps
+advance_list-returns-in_err-advance_items-clause-steps g t c = list_cost g t (goal.at.advance_list-returns-in_err-advance_items-clause-steps g t c).After-advance_items
 
 pub advance_list-overflow_add-result : goal.advance_list-overflow_add-result
 advance_list-overflow_add-result g t c =
@@ -1144,15 +1081,7 @@ advance_list-returns-in-Moved-clause-ok g t c =
     subst (λ d. IsNext tree_cmp (IsPartOf q i (node_count d)) d (Some (list_data new))) (sym is) (list_moved q i M.0 rule M.1 old within new (subst (λ s. AreItemsMoved s q i old new) c.in-Moved.is c.in_ok-advance_items.ensures.moved))
 
 pub advance_list-returns-in-Moved-clause-steps : goal.advance_list-returns-in-Moved-clause-steps
-advance_list-returns-in-Moved-clause-steps g t c =
-    let old = items_of c.in-Some.items.items in
-    let is : data_of c.args.tree ≡ list_data old = c.in-Some.ensures.some in
-    let count : node_count (data_of c.args.tree) ≡ 1 + items_count old = ap node_count is in
-    λ w wide.
-    let room = cost_room (w + 1) 1 (items_count old) (1 + items_count old) (omega arith) in
-    let twice = double (w + 1) (items_count old) in
-    let whole : (w + 1) * (2 * node_count (data_of c.args.tree)) ≡ (w + 1) * (2 * (1 + items_count old)) = ap (λ x. (w + 1) * (2 * x)) count in
-    omega (arith, room, twice, whole, c.item.ensures.step, c.advance_items.ensures.steps w wide)
+advance_list-returns-in-Moved-clause-steps g t c = list_cost g t (goal.at.advance_list-returns-in-Moved-clause-steps g t c).After-advance_items
 
 pub advance_list-returns-in-Last-clause-ok : goal.advance_list-returns-in-Last-clause-ok
 advance_list-returns-in-Last-clause-ok g t c =
@@ -1168,15 +1097,7 @@ advance_list-returns-in-Last-clause-ok g t c =
     (subst (λ d. IsNext tree_cmp (IsPartOf q i (node_count d)) d None) (sym is) (list_stays q i M.0 rule M.1 old within last.0), omega (arith, count, last.1))
 
 pub advance_list-returns-in-Last-clause-steps : goal.advance_list-returns-in-Last-clause-steps
-advance_list-returns-in-Last-clause-steps g t c =
-    let old = items_of c.in-Some.items.items in
-    let is : data_of c.args.tree ≡ list_data old = c.in-Some.ensures.some in
-    let count : node_count (data_of c.args.tree) ≡ 1 + items_count old = ap node_count is in
-    λ w wide.
-    let room = cost_room (w + 1) 1 (items_count old) (1 + items_count old) (omega arith) in
-    let twice = double (w + 1) (items_count old) in
-    let whole : (w + 1) * (2 * node_count (data_of c.args.tree)) ≡ (w + 1) * (2 * (1 + items_count old)) = ap (λ x. (w + 1) * (2 * x)) count in
-    omega (arith, room, twice, whole, c.item.ensures.step, c.advance_items.ensures.steps w wide)
+advance_list-returns-in-Last-clause-steps g t c = list_cost g t (goal.at.advance_list-returns-in-Last-clause-steps g t c).After-advance_items
 
 pub advance_list-returns-in-Last-clause-last : goal.advance_list-returns-in-Last-clause-last
 advance_list-returns-in-Last-clause-last g t c =
