@@ -12,7 +12,7 @@ use Rattle.jtree.specs.View.{data_of}
 use Rattle.jtree.specs.declared.value.Tree.{Tree}
 use Rattle.plan.specs.Samples.Question.{Question}
 use Rattle.enumerate.specs.Least.{IsLeast}
-use Rattle.enumerate.specs.Live.{Enumeration, IsNextSample, IsAdvanced}
+use Rattle.enumerate.specs.Live.{Enumeration, IsNextSample, IsStarted, IsAdvanced}
 use Rattle.enumerate.specs.Page.{Precedes, IsPast, IsPastSample, IsPage}
 use Rattle.enumerate.specs.View.{trees_of}
 use Rattle.enumerate.proofs.LeastLemmas.{tree_order, not_itself}
@@ -53,6 +53,10 @@ none_so_far q after count at h = record {
   rest = λ v p. inr (none_in (λ u. Precedes u v));
   next = first_next q after at h;
 }
+
+-- an enumeration that was started stands at the next sample
+pub started_next : (q : Question) (after : Option Data) (live : Enumeration) → IsStarted q after (Some live) → IsNextSample live.question after live.at
+started_next q after live start = subst (IsNextSample live.question after) (sym start.1.1.0) (subst (λ r. IsNextSample r after (Some start.1.0)) (sym start.0) start.1.1.1)
 
 goes_past : (after : Option Data) (u v : Data) → IsPast after u → Precedes u v → IsPast after v
 goes_past None u v p h = tt

@@ -1,10 +1,12 @@
 //! Pages of samples.
-ghost use Rattle.std.specs.Prelude.{◌≡◌, ◌+◌, ◌*◌, ◌≤◌, ℕ, Err, IfOk, IfErr, OnOk, IfSome, IsSomeAnd, length};
+ghost use Rattle.std.specs.Prelude.{◌≡◌, ◌+◌, ◌*◌, ◌≤◌, ℕ, Option, Err, IfOk, IfErr, OnOk, IfSome, IsSomeAnd, length};
+ghost use Rattle.jtree.specs.Data.{Data};
 ghost use Rattle.plan.specs.Samples.Steps.{delay};
 ghost use Rattle.plan.specs.Samples.Candidates.{IsWidth};
+ghost use Rattle.enumerate.specs.Live.{IsStarted, IsNextSample, IsWithinDelay};
 ghost use Rattle.enumerate.specs.Page.{IsPage, IsSampleOf};
 ghost use Rattle.enumerate.specs.View.{resume_point, trees_of};
-ghost use Rattle.enumerate.specs.declared.fault.EFault.TheVariants.{NotASample, Ended};
+ghost use Rattle.enumerate.specs.declared.fault.EFault.TheVariants.{NotASample, NoMemory, Ended};
 
 use crate::copying::copy_of;
 use crate::fault::EFault;
@@ -35,16 +37,47 @@ pub fn page<Z: SizeSet>(
     ensures steps { IfOk result (λ page. (width : ℕ) → IsWidth plan.now.pools plan.now.root width
         → meter.new ≤ meter.old + (length page.items.items + 1) * delay plan.now.limit width) }
 {
-    let started = match after {
-        Some(tree) => Live::after(alloc, plan, tree, meter)?,
-        None => Live::first(alloc, plan, meter)?,
-    };
-    let Some(mut live) = started else {
+    let Some(mut live) = started(alloc, plan, after, meter)? else {
         return Ok(Page {
             items: Vec::new(alloc),
             end: true,
         });
     };
+    filled(alloc, &mut live, count, meter)
+}
+
+/// At the first sample past `after`, or at the first sample of all.
+fn started<'p, Z: SizeSet>(
+    alloc: Global,
+    plan: &'p Plan<Z>,
+    after: Option<&Tree>,
+    meter: &mut Meter,
+) -> Result<Option<Live<'p, Z>>, EFault>
+    ensures ok { IfOk result (λ live. IsStarted plan.now (resume_point after.entry) live) }
+    ensures sample { OnOk result (IfSome (resume_point after.entry) (λ a. IsSampleOf plan.now a)) }
+    ensures not_a_sample { result ≡ Err NotASample → IsSomeAnd (resume_point after.entry) (λ a. IsSampleOf plan.now a → ⊥) }
+    ensures never_ended { IfErr result (λ e. e ≡ Ended → ⊥) }
+    ensures steps { IsWithinDelay plan.now meter.old meter.new }
+{
+    match after {
+        Some(tree) => Live::after(alloc, plan, tree, meter),
+        None => Live::first(alloc, plan, meter),
+    }
+}
+
+/// The sample at which the enumeration stands and those behind it, `count` at most.
+fn filled<Z: SizeSet>(
+    alloc: Global,
+    live: &mut Live<'_, Z>,
+    count: u32,
+    meter: &mut Meter,
+) -> Result<Page, EFault>
+    ensures page { IfOk result (λ page. (after : Option Data) → IsNextSample live.old.question after live.old.at
+        → IsPage live.old.question after count (trees_of page.items.items) page.end) }
+    ensures err { IfErr result (λ e. e ≡ NoMemory) }
+    ensures steps { IfOk result (λ page. (width : ℕ) → IsWidth live.old.question.pools live.old.question.root width
+        → meter.new ≤ meter.old + length page.items.items * delay live.old.question.limit width) }
+{
     let mut items = Vec::new(alloc);
     while let Some(tree) = live.tree() {
         if items.len() == count as usize {

@@ -1,8 +1,13 @@
-use Rattle.std.proofs.Common.{subst, arith}
+use Rattle.std.proofs.Common.{◌+◌, subst, sym, arith}
+use Rattle.std.proofs.lemmas.Result.{IfOk-weaker}
 use Rattle.jtree.specs.Nodes.{node_count}
 use Rattle.jtree.specs.View.{data_of}
+use Rattle.enumerate.specs.View.{tree_of}
+use Rattle.enumerate.specs.Internal.Moves.{IsMoved}
+use Rattle.enumerate.specs.Internal.Nodes.{IsPartOf}
+use Rattle.enumerate.specs.Internal.Roots.{IsFirstFrom}
 use Rattle.enumerate.specs.Internal.Steps.{CostsLast}
-use Rattle.enumerate.proofs.RootLemmas.{few, cost_within}
+use Rattle.enumerate.proofs.RootLemmas.{few, cost_within, next_same_size, next_more, next_none}
 use Rattle.enumerate.proofs.root.next_sample.Goals as goal
 
 pub returns-in_err-next-clause-steps : goal.returns-in_err-next-clause-steps
@@ -27,3 +32,23 @@ pub returns-else-size-limit-clause-steps : goal.returns-else-size-limit-clause-s
 returns-else-size-limit-clause-steps g c = λ w wide.
     let small = few c.args.plan.now (data_of c.args.tree) (omega (arith, c.limit-limit.type_inv, c.limit-limit.ensures)) c.requires.sample in
     omega (arith, c.advance.ensures.steps w wide, cost_within w (node_count (data_of c.args.tree)) c.args.plan.now.limit small)
+
+pub returns-in-To-clause-ok : goal.returns-in-To-clause-ok
+returns-in-To-clause-ok g c =
+    let old = data_of c.args.tree in
+    next_same_size c.args.plan.now c.root-root.result c.root-root.ensures.site (omega (arith, c.limit-limit.type_inv, c.limit-limit.ensures)) old (data_of c.in-To.next) c.requires.sample
+    (subst (IsMoved (IsPartOf c.args.plan.now c.root-root.result (node_count old)) old) c.in-To.is c.in_ok-next.ensures.ok)
+
+pub returns-then-size-limit-clause-ok : goal.returns-then-size-limit-clause-ok
+returns-then-size-limit-clause-ok g c =
+    let q = c.args.plan.now in
+    let old = data_of c.args.tree in
+    let last = subst (IsMoved (IsPartOf q c.root-root.result (node_count old)) old) c.in-Last.is c.in_ok-next.ensures.ok in
+    IfOk-weaker c.first_from.result _ _ (λ found h. next_more q c.root-root.result c.root-root.ensures.site (omega (arith, c.limit-limit.type_inv, c.limit-limit.ensures)) old c.requires.sample last.0 (tree_of found)
+    (subst (λ n. IsFirstFrom q (n + 1) (tree_of found)) (sym last.1) h)) c.first_from.ensures.ok
+
+pub returns-else-size-limit-clause-ok : goal.returns-else-size-limit-clause-ok
+returns-else-size-limit-clause-ok g c =
+    let old = data_of c.args.tree in
+    let last = subst (IsMoved (IsPartOf c.args.plan.now c.root-root.result (node_count old)) old) c.in-Last.is c.in_ok-next.ensures.ok in
+    next_none c.args.plan.now c.root-root.result c.root-root.ensures.site (omega (arith, c.limit-limit.type_inv, c.limit-limit.ensures)) old c.requires.sample last.0 (omega (arith, last.1, c.if-size-limit.false, c.limit-limit.ensures))
