@@ -46,20 +46,19 @@ fn write_tree(tree: &Tree, out: &mut Writer) -> Result<(), AllocError>
     ensures before { out.new.before ≡ out.old.before }
 {
     match tree {
-        Tree::Null => out.null()?,
-        Tree::Bool(b) => out.boolean(*b)?,
-        Tree::Int(n) => out.i64(*n)?,
-        Tree::Text(text) => out.string(text.as_str())?,
+        Tree::Null => out.null(),
+        Tree::Bool(b) => out.boolean(*b),
+        Tree::Int(n) => out.i64(*n),
+        Tree::Text(text) => out.string(text.as_str()),
         Tree::List(items) => {
             out.begin_array()?;
-            write_items(items, out)?;
+            write_items(items, out)
         }
         Tree::Object(members) => {
             out.begin_object()?;
-            write_members(members, out)?;
+            write_members(members, out)
         }
     }
-    Ok(())
 }
 
 #[cycle(write)]
@@ -71,8 +70,7 @@ fn write_items(items: &Items, out: &mut Writer) -> Result<(), AllocError>
     for item in &items.items {
         write_tree(item, out)?;
     }
-    out.end_array()?;
-    Ok(())
+    out.end_array()
 }
 
 #[cycle(write)]
@@ -86,6 +84,5 @@ fn write_members(members: &Members, out: &mut Writer) -> Result<(), AllocError>
         out.key(member.name.as_str())?;
         write_tree(&member.tree, out)?;
     }
-    out.end_object()?;
-    Ok(())
+    out.end_object()
 }

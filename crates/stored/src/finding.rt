@@ -120,8 +120,7 @@ fn find_own(
     ])?;
     report.tell_failed(&constraint_tests(node, tree))?;
     report.tell_failed(&bound_tests(node, tree))?;
-    report.tell_failed(&[(13, is_repeated), (14, fails_junctors(node, tree))])?;
-    Ok(())
+    report.tell_failed(&[(13, is_repeated), (14, fails_junctors(node, tree))])
 }
 
 /// Whether a value is neither null nor of the node's kind.
