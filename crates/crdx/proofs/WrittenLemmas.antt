@@ -6,6 +6,7 @@ use Rattle.std.specs.List.{slice_range}
 use Rattle.std.specs.Io.KnownBytes.{Appends}
 use Rattle.std.proofs.KnownBytes.{Appends-trans}
 use Rattle.std.proofs.Math.Seq.{take-append-add, take-add}
+use Rattle.std.proofs.lemmas.Bool.{cases_lt}
 use Rattle.std.proofs.lemmas.Bool.Decides.{nat_tests}
 use Rattle.std.proofs.lemmas.Grind.{flat_map-append}
 use Rattle.std.proofs.lemmas.List.{take_more, take_all, take-append-drop, map-append, take_rest, take-append-le, get_or_append_left, get_or-append-add}
@@ -48,6 +49,22 @@ module _ (e : Option Envelope) where
 
   pub lines_more : (xs : List Data) (v : Data) → lines e (xs ++ v ∷ []) ≡ lines e xs ++ line e v
   lines_more xs v = lines-append xs (v ∷ []) ∙ ap (λ l. lines e xs ++ l) (append-nil (line e v))
+
+  -- one line more, and its end
+  pub ends_more : (items : List Data) (v : Data) (ends : List ℕ) (n : ℕ) → HasEnds e items ends → n ≡ length (lines e (items ++ v ∷ [])) → HasEnds e (items ++ v ∷ []) (ends ++ n ∷ [])
+  ends_more items v ends n h is =
+      let more : length (ends ++ n ∷ []) ≡ length (items ++ v ∷ []) = omega (arith, length-append ends (n ∷ []), length-append items (v ∷ []), h.each) in
+      record {
+        each = more;
+        at = λ k lt. elim (cases_lt k (length items)) [
+          | inl before ↦ get_or_append_left ends (n ∷ []) 0 k (omega (arith, before, h.each))
+              ∙ (h.at k before ∙ ap (λ us. length (lines e us)) (sym (take-append-le (k + 1) items (v ∷ []) (omega (arith, before)))))
+          | inr past ↦
+              let last : k ≡ length ends + 0 = omega (arith, past, lt, length-append items (v ∷ []), h.each) in
+              ap (λ i. get_or (ends ++ n ∷ []) i 0) last ∙ (get_or-append-add ends (n ∷ []) 0 0
+              ∙ (is ∙ ap (λ us. length (lines e us)) (sym (take_all (k + 1) (items ++ v ∷ []) (omega (arith, past, length-append items (v ∷ [])))))))
+        ];
+      }
 
   -- the lines whose ends lie within what is taken are taken
   reached : (items : List Data) (ends : List ℕ) (taken n : ℕ) → HasEnds e items ends → ((k : ℕ) → k < n → get_or ends k 0 ≤ taken) → n ≤ length items → length (lines e (take n items)) ≤ taken

@@ -115,7 +115,8 @@ pub(crate) fn first_slots<Z: SizeSet>(
     }
     grow_slots(
         alloc, plan, node, &slot, place, taken, room, 0, used, members, meter,
-    )
+    )?;
+    Ok(())
 }
 
 /// Appends the first part of the slot at `place` of a size from `from` on, and the first members behind it; or nothing, where there

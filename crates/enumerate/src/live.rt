@@ -9,11 +9,20 @@ use std::alloc::{AllocError, Global};
 use std::marker::Model;
 
 /// The sample at which an enumeration of a plan stands; none once it has ended.
-#[derive(Drop)]
 pub struct Live<'p, Z: SizeSet> {
     alloc: Global,
     plan: &'p Plan<Z>,
     tree: Option<Tree>,
+}
+
+impl<Z: SizeSet> Drop for Live<'_, Z> {
+    fn drop(self) {
+        let Live {
+            alloc: _,
+            plan: _,
+            tree: _,
+        } = self;
+    }
 }
 
 impl<'p, Z: SizeSet> Model for Live<'p, Z> {

@@ -35,9 +35,14 @@ pub struct Member {
 }
 
 /// A text, which a contract sees as its bytes.
-#[derive(Drop)]
 pub struct Text {
     pub text: String,
+}
+
+impl Drop for Text {
+    fn drop(self) {
+        let Text { text: _ } = self;
+    }
 }
 
 impl Model for Text {

@@ -61,7 +61,8 @@ fn build_object<Z: SizeSet>(
     object.fields.reveal_invariant();
     let slots = build_fields(arena, alloc, &object.fields, keys)?;
     let entry = row_entry(arena, alloc, slots, object.bounds, nullable)?;
-    arena.add(entry)
+    let node = arena.add(entry)?;
+    Ok(node)
 }
 
 /// Adds the entries of the fields' nodes, and answers their slots.
@@ -128,7 +129,8 @@ fn build_map<Z: SizeSet>(
     let value = build(arena, alloc, node_below(&map.value), &[])?;
     let slots = value_slots(alloc, arena.values.names.len(), value)?;
     let entry = row_entry(arena, alloc, slots, map.bounds, nullable)?;
-    arena.add(entry)
+    let node = arena.add(entry)?;
+    Ok(node)
 }
 
 #[cycle(build)]
@@ -148,7 +150,8 @@ fn build_list<Z: SizeSet>(
     list.item.reveal_invariant();
     let item = build(arena, alloc, node_below(&list.item), item_keys(list))?;
     let entry = list_entry(arena, alloc, item, list, nullable)?;
-    arena.add(entry)
+    let node = arena.add(entry)?;
+    Ok(node)
 }
 
 /// The names that tell the items of the list apart.
@@ -175,11 +178,12 @@ fn build_leaf<Z: SizeSet>(
 {
     let leaf = leaf_of(alloc, &arena.values, node)?;
     let sizes = leaf_sizes(&arena.values, &leaf, arena.limit);
-    arena.add(Entry {
+    let node = arena.add(Entry {
         sizes,
         nullable: node.nullable,
         content: Content::Leaf(leaf),
-    })
+    })?;
+    Ok(node)
 }
 
 /// The node below another.

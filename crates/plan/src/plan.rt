@@ -29,12 +29,22 @@ pub struct Slot<'a> {
 /// The nodes of a schema over pools and within a node limit, with the sizes of what may stand at each of them, as sets `Z`.
 ///
 /// The calls that take a node take one that this plan has handed out.
-#[derive(Drop)]
 pub struct Plan<Z: SizeSet> {
     schema: Schema,
     pools: Pools,
     arena: Arena<Z>,
     root: PlanNode,
+}
+
+impl<Z: SizeSet> Drop for Plan<Z> {
+    fn drop(self) {
+        let Plan {
+            schema: _,
+            pools: _,
+            arena: _,
+            root: _,
+        } = self;
+    }
 }
 
 impl<Z: SizeSet> Model for Plan<Z> {

@@ -11,12 +11,22 @@ pub const MOST_ENTRIES: usize = 64;
 pub const MOST_NAMES: usize = 32;
 
 /// The values that samples may hold.
-#[derive(Drop)]
 pub struct Pools {
     integers: Vec<i64>,
     strings: Vec<Text>,
     names: Vec<Text>,
     any: Vec<Tree>,
+}
+
+impl Drop for Pools {
+    fn drop(self) {
+        let Pools {
+            integers: _,
+            strings: _,
+            names: _,
+            any: _,
+        } = self;
+    }
 }
 
 impl Model for Pools {

@@ -3,9 +3,14 @@ use std::marker::Model;
 
 /// The schema of a version as it stands in the document, which a contract sees as its data: each keyword has its form, and
 /// no limit is passed.
-#[derive(Drop)]
 pub struct RawSchema {
     tree: Tree,
+}
+
+impl Drop for RawSchema {
+    fn drop(self) {
+        let RawSchema { tree: _ } = self;
+    }
 }
 
 impl Model for RawSchema {

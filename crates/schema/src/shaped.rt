@@ -2,9 +2,14 @@ use crate::node::Node;
 use std::marker::Model;
 
 /// The nodes of a schema that breaks no rule, which a contract sees as the node of the root.
-#[derive(Drop)]
 pub struct Shape {
     root: Node,
+}
+
+impl Drop for Shape {
+    fn drop(self) {
+        let Shape { root: _ } = self;
+    }
 }
 
 impl Model for Shape {

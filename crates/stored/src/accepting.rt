@@ -12,9 +12,14 @@ use std::alloc::{AllocError, Global};
 use std::marker::Model;
 
 /// A schema that breaks none of the rules V01 to V17, which a contract sees as the node of the root.
-#[derive(Drop)]
 pub struct Schema {
     shape: Shape,
+}
+
+impl Drop for Schema {
+    fn drop(self) {
+        let Schema { shape: _ } = self;
+    }
 }
 
 impl Model for Schema {

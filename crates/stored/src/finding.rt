@@ -120,7 +120,8 @@ fn find_own(
     ])?;
     report.tell_failed(&constraint_tests(node, tree))?;
     report.tell_failed(&bound_tests(node, tree))?;
-    report.tell_failed(&[(13, is_repeated), (14, fails_junctors(node, tree))])
+    report.tell_failed(&[(13, is_repeated), (14, fails_junctors(node, tree))])?;
+    Ok(())
 }
 
 /// Whether a value is neither null nor of the node's kind.
