@@ -27,6 +27,11 @@ pub length_trees : (ts : List Tree) → length (trees_of ts) ≡ length ts
 length_trees [] = refl
 length_trees (t ∷ ts) = ap suc (length_trees ts)
 
+-- one tree more
+pub trees_more : (ts : List Tree) (i : ℕ) (t : Tree) → i < length ts → t ≡ get_or ts i t → trees_of (take (i + 1) ts) ≡ trees_of (take i ts) ++ data_of t ∷ []
+trees_more ts i t within is =
+    ap trees_of (take_more ts i t within ∙ ap (λ u. take i ts ++ u ∷ []) (sym is)) ∙ map-append (λ t. data_of t) (take i ts) (t ∷ [])
+
 -- the last tree that is taken off, if there is one
 pub popped : (all rest : List Tree) (last : Option Tree) → all ≡ rest ++ option_to_list last → (0 < length all → IsSome last) → IsLast (trees_of all) (option_map data_of last)
 popped all rest (Some t) is some = (trees_of rest, ap trees_of is ∙ map-append (λ t. data_of t) rest (t ∷ []))
