@@ -1,4 +1,4 @@
--- The walk over the nodes finds all defaults, no others, and in path order of their places. 
+-- The walk over the nodes finds all defaults, no others, and in path order of their places.
 use Rattle.std.proofs.Common.{◌≡◌, ◌≢◌, arith, ℕ, List, [], ◌∷◌, ◌++◌, true, Option, Some, None, refl, ap, sym, ◌∙◌, subst, inl, inr}
 use Rattle.std.specs.Prelude.{map, option_map, codes, All, Contains}
 use Rattle.std.specs.Str.{bytes_eq}
