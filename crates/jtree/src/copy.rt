@@ -60,7 +60,7 @@ fn copy_items(items: &Items, alloc: Global) -> Result<Items, AllocError>
 {
     let mut copies = Vec::with_capacity(alloc, items.items.len())?;
     for item in &items.items {
-        copies.push(copy_tree(item, alloc)?)?;
+        copies.push_reserved(copy_tree(item, alloc)?);
     }
     Ok(Items { items: copies })
 }
@@ -73,7 +73,7 @@ fn copy_members(members: &Members, alloc: Global) -> Result<Members, AllocError>
     for member in &members.members {
         let name = member.name.copy(alloc)?;
         let tree = copy_tree(&member.tree, alloc)?;
-        copies.push(Member { name, tree })?;
+        copies.push_reserved(Member { name, tree });
     }
     Ok(Members { members: copies })
 }

@@ -91,7 +91,7 @@ fn read_items(alloc: Global, values: &Vec<Value>) -> Result<Items, JFault>
     for value in values {
         let tree = read_tree(alloc, value)?;
         tree.reveal_invariant();
-        items.push(tree)?;
+        items.push_reserved(tree);
     }
     Ok(Items { items })
 }
@@ -108,7 +108,7 @@ fn read_members(alloc: Global, map: &Map<String, Value>) -> Result<Members, JFau
         let name = Text::from_str(alloc, key.as_str())?;
         let tree = read_tree(alloc, value)?;
         tree.reveal_invariant();
-        members.push(Member { name, tree })?;
+        members.push_reserved(Member { name, tree });
     }
     Ok(Members { members })
 }

@@ -2,7 +2,7 @@
 use Rattle.std.proofs.Common.{◌≡◌, ◌≢◌, ℕ, List, [], ◌∷◌, ◌++◌, Bool, true, false, Option, Some, None, refl, sym, ◌∙◌, subst, arith}
 use Rattle.std.specs.Prelude.{option_and_then, codes, ◌||◌}
 use Rattle.std.proofs.lemmas.Bool.{and_parts, not-true, true_from_ne_false}
-use Rattle.std.proofs.lemmas.Option.{option_and_then_some, same_Some}
+use Rattle.std.proofs.lemmas.Option.{none-some, option_and_then_some, same_Some}
 use Rattle.jtree.specs.Data.{Data, text, list as list_data, item}
 use Rattle.jtree.specs.Kind.{is_text}
 use Rattle.jtree.specs.Path.{Path, name, index, under, part_at}
@@ -76,7 +76,7 @@ key_below (node n x (object fs p t b)) d k (Some e) h by plain given =
     let f = found_node (field_at k fs) M.0 M.1 in
     let told = (here false _ d h).1 k f.0 f.1 in
     (f.0, f.1, subst IsPlainScalar (sym f.2) (plain_scalar M.0 e M.2 plain), rw (told.0, told.1, by) given)
-key_below (node n x A) d k (Some e) h by plain given = let leads = (node_of_below false _ d e (property k) h (refl, λ is e. absurd (cc)) by).1 in absurd (cc)
+key_below (node n x A) d k (Some e) h by plain given = let M = node_of_below false _ d e (property k) h (refl, λ is e. absurd (cc)) by in absurd (none-some M.0 M.1)
 key_below N d k None h by plain given = absurd (cc)
 
 has_key : (N : Node) (d : Data) (k : List ℕ) → AreNodesOf false N d → is_key d k ≡ true → HasKey N k

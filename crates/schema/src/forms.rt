@@ -9,6 +9,7 @@ ghost use Rattle.schema.specs.Internal.Faults.{IsBreakFault};
 ghost use Rattle.schema.specs.Internal.FormBreak.{form_view, first_break, items_break, members_break, below};
 
 use crate::fault::SFault;
+use crate::keywords::is_one_of;
 use crate::places::{push_index, push_name};
 use jtree::{Items, Members, Tree};
 use std::alloc::{AllocError, Global};
@@ -36,37 +37,48 @@ pub(crate) enum Form {
 fn is_text_keyword(keyword: &str) -> bool
     ensures { result ≡ is_among keyword.now text_keywords }
 {
-    matches!(
+    is_one_of(
         keyword,
-        "type"
-            | "description"
-            | "title"
-            | "format"
-            | "x-kubernetes-list-type"
-            | "x-kubernetes-map-type"
+        &[
+            "type",
+            "description",
+            "title",
+            "format",
+            "x-kubernetes-list-type",
+            "x-kubernetes-map-type",
+        ],
     )
 }
 
 fn is_truth_value_keyword(keyword: &str) -> bool
     ensures { result ≡ is_among keyword.now truth_value_keywords }
 {
-    matches!(
+    is_one_of(
         keyword,
-        "nullable"
-            | "uniqueItems"
-            | "exclusiveMinimum"
-            | "exclusiveMaximum"
-            | "x-kubernetes-int-or-string"
-            | "x-kubernetes-preserve-unknown-fields"
+        &[
+            "nullable",
+            "uniqueItems",
+            "exclusiveMinimum",
+            "exclusiveMaximum",
+            "x-kubernetes-int-or-string",
+            "x-kubernetes-preserve-unknown-fields",
+        ],
     )
 }
 
 fn is_count_keyword(keyword: &str) -> bool
     ensures { result ≡ is_among keyword.now count_keywords }
 {
-    matches!(
+    is_one_of(
         keyword,
-        "minLength" | "maxLength" | "minItems" | "maxItems" | "minProperties" | "maxProperties"
+        &[
+            "minLength",
+            "maxLength",
+            "minItems",
+            "maxItems",
+            "minProperties",
+            "maxProperties",
+        ],
     )
 }
 

@@ -87,7 +87,7 @@ fn is_asked(keyword: &str, keywords: Keywords) -> bool
 fn is_metadata_keyword(keyword: &str) -> bool
     ensures { result ≡ is_among keyword.now metadata_keywords }
 {
-    matches!(keyword, "type" | "description" | "properties")
+    is_one_of(keyword, &["type", "description", "properties"])
 }
 
 fn is_branch_keyword(keyword: &str) -> bool
@@ -118,90 +118,102 @@ fn is_own_keyword(keyword: &str, kind: Kind) -> bool
 fn is_keyword_of_all(keyword: &str) -> bool
     ensures { result ≡ is_among keyword.now keywords_of_all }
 {
-    matches!(
+    is_one_of(
         keyword,
-        "type"
-            | "description"
-            | "title"
-            | "format"
-            | "example"
-            | "externalDocs"
-            | "nullable"
-            | "default"
-            | "uniqueItems"
-            | "x-kubernetes-int-or-string"
-            | "x-kubernetes-preserve-unknown-fields"
-            | "x-kubernetes-list-type"
-            | "x-kubernetes-list-map-keys"
-            | "x-kubernetes-map-type"
+        &[
+            "type",
+            "description",
+            "title",
+            "format",
+            "example",
+            "externalDocs",
+            "nullable",
+            "default",
+            "uniqueItems",
+            "x-kubernetes-int-or-string",
+            "x-kubernetes-preserve-unknown-fields",
+            "x-kubernetes-list-type",
+            "x-kubernetes-list-map-keys",
+            "x-kubernetes-map-type",
+        ],
     )
 }
 
 fn is_junctor_keyword(keyword: &str) -> bool
     ensures { result ≡ is_among keyword.now junctor_keywords }
 {
-    matches!(keyword, "allOf" | "anyOf" | "oneOf" | "not")
+    is_one_of(keyword, &["allOf", "anyOf", "oneOf", "not"])
 }
 
 fn is_outside_keyword(keyword: &str) -> bool
     ensures { result ≡ is_among keyword.now outside_keywords }
 {
-    matches!(
+    is_one_of(
         keyword,
-        "description" | "default" | "additionalProperties" | "nullable"
+        &["description", "default", "additionalProperties", "nullable"],
     )
 }
 
 fn is_unsupported_keyword(keyword: &str) -> bool
     ensures { result ≡ is_among keyword.now unsupported_keywords }
 {
-    matches!(
+    is_one_of(
         keyword,
-        "definitions"
-            | "dependencies"
-            | "deprecated"
-            | "discriminator"
-            | "id"
-            | "patternProperties"
-            | "readOnly"
-            | "writeOnly"
-            | "xml"
-            | "$ref"
+        &[
+            "definitions",
+            "dependencies",
+            "deprecated",
+            "discriminator",
+            "id",
+            "patternProperties",
+            "readOnly",
+            "writeOnly",
+            "xml",
+            "$ref",
+        ],
     )
 }
 
 fn is_keyword_of_scalars(keyword: &str) -> bool
     ensures { result ≡ is_among keyword.now keywords_of_scalars }
 {
-    matches!(
+    is_one_of(
         keyword,
-        "enum"
-            | "minimum"
-            | "maximum"
-            | "exclusiveMinimum"
-            | "exclusiveMaximum"
-            | "minLength"
-            | "maxLength"
+        &[
+            "enum",
+            "minimum",
+            "maximum",
+            "exclusiveMinimum",
+            "exclusiveMaximum",
+            "minLength",
+            "maxLength",
+        ],
     )
 }
 
 fn is_keyword_of_objects(keyword: &str) -> bool
     ensures { result ≡ is_among keyword.now keywords_of_objects }
 {
-    matches!(
+    is_one_of(
         keyword,
-        "properties" | "additionalProperties" | "required" | "minProperties" | "maxProperties"
+        &[
+            "properties",
+            "additionalProperties",
+            "required",
+            "minProperties",
+            "maxProperties",
+        ],
     )
 }
 
 fn is_keyword_of_lists(keyword: &str) -> bool
     ensures { result ≡ is_among keyword.now keywords_of_lists }
 {
-    matches!(keyword, "items" | "minItems" | "maxItems")
+    is_one_of(keyword, &["items", "minItems", "maxItems"])
 }
 
 /// Whether a text is one of these.
-fn is_one_of(text: &str, values: &[&str]) -> bool
+pub(crate) fn is_one_of(text: &str, values: &[&str]) -> bool
     ensures { result ≡ is_among text.now (map (λ w. w.now) values.now) }
 {
     for value in values {

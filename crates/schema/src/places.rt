@@ -5,6 +5,7 @@ ghost use Rattle.jtree.specs.Pointer.{pointer, name_token, index_token};
 ghost use Rattle.schema.specs.Document.Places.{place_path, step_path, is_junctor as is_junctor_of, is_envelope_name as is_envelope_name_of, is_envelope as is_envelope_of};
 ghost use Rattle.schema.specs.Internal.PlaceView.{step_of, place_of};
 
+use crate::keywords::is_one_of;
 use std::alloc::{AllocError, Global};
 
 /// A step from a place of a schema to a place below it.
@@ -40,7 +41,7 @@ pub(crate) fn is_junctor(step: Step<'_>) -> bool
 pub(crate) fn is_envelope_name(name: &str) -> bool
     ensures { result ≡ is_envelope_name_of name.now }
 {
-    name == "apiVersion" || name == "kind" || name == "metadata"
+    is_one_of(name, &["apiVersion", "kind", "metadata"])
 }
 
 /// Whether a place is `apiVersion`, `kind` or `metadata` of the root, or below one of these.

@@ -74,12 +74,11 @@ fn read_node(alloc: Global, schema: &Tree, root: bool) -> Result<Node, AllocErro
     requires { HasNodes root (data_of schema.now) }
     ensures { IfOk result (λ n. IsNodeOf root (node_of n) (data_of schema.now)) }
 {
-    let sort = read_sort(alloc, schema, root)?;
     let description = copy_text(alloc, schema, "description")?;
     Ok(Node {
         nullable: flag(schema, "nullable"),
         description,
-        sort,
+        sort: read_sort(alloc, schema, root)?,
     })
 }
 
@@ -205,13 +204,11 @@ fn read_field(alloc: Global, schema: &Tree, property: &Member) -> Result<Field, 
     ensures { IfOk result (λ f. IsFieldOf f (data_of schema.now) property.now) }
 {
     let name = property.name.copy(alloc)?;
-    let node = read_node(alloc, &property.tree, false)?;
-    let required = is_required(schema, property.name.as_str());
     let default = copy_default(alloc, &property.tree)?;
     Ok(Field {
         name,
-        node,
-        required,
+        node: read_node(alloc, &property.tree, false)?,
+        required: is_required(schema, property.name.as_str()),
         default,
     })
 }

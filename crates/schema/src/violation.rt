@@ -1,3 +1,6 @@
+ghost use Rattle.std.specs.Prelude.{◌≡◌};
+ghost use Rattle.schema.specs.Rules.Breaks.{rule_name};
+
 use std::fmt;
 
 /// A rule of structural schemas and of this project's profile. Each is displayed as its name.
@@ -33,29 +36,34 @@ pub struct Violation {
 
 impl fmt::Display for Rule {
     ghost use Rattle.std.specs.Prelude.{Some};
-    ghost use Rattle.schema.specs.Rules.Breaks.{rule_name};
 
     ghost output = { λ r. Some (rule_name r) };
 
     fn fmt<W: fmt::Write>(&self, f: &mut fmt::Formatter<W>) -> fmt::Result {
-        match self {
-            Rule::V01 => write!(f, "V01"),
-            Rule::V02 => write!(f, "V02"),
-            Rule::V03 => write!(f, "V03"),
-            Rule::V04 => write!(f, "V04"),
-            Rule::V05 => write!(f, "V05"),
-            Rule::V06 => write!(f, "V06"),
-            Rule::V07 => write!(f, "V07"),
-            Rule::V08 => write!(f, "V08"),
-            Rule::V09 => write!(f, "V09"),
-            Rule::V10 => write!(f, "V10"),
-            Rule::V11 => write!(f, "V11"),
-            Rule::V12 => write!(f, "V12"),
-            Rule::V13 => write!(f, "V13"),
-            Rule::V14 => write!(f, "V14"),
-            Rule::V15 => write!(f, "V15"),
-            Rule::V16 => write!(f, "V16"),
-            Rule::V17 => write!(f, "V17"),
-        }
+        f.write_str(name_of(*self))
+    }
+}
+
+fn name_of(rule: Rule) -> &'static str
+    ensures { result.now ≡ rule_name rule }
+{
+    match rule {
+        Rule::V01 => "V01",
+        Rule::V02 => "V02",
+        Rule::V03 => "V03",
+        Rule::V04 => "V04",
+        Rule::V05 => "V05",
+        Rule::V06 => "V06",
+        Rule::V07 => "V07",
+        Rule::V08 => "V08",
+        Rule::V09 => "V09",
+        Rule::V10 => "V10",
+        Rule::V11 => "V11",
+        Rule::V12 => "V12",
+        Rule::V13 => "V13",
+        Rule::V14 => "V14",
+        Rule::V15 => "V15",
+        Rule::V16 => "V16",
+        Rule::V17 => "V17",
     }
 }

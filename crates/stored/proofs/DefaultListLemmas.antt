@@ -3,7 +3,7 @@ use Rattle.std.proofs.Common.{◌≡◌, ◌≢◌, arith, ℕ, List, [], ◌∷
 use Rattle.std.specs.Prelude.{map, option_map, codes, All, Contains}
 use Rattle.std.specs.Str.{bytes_eq}
 use Rattle.std.specs.declared.cmp.Ordering.TheVariants.{Less}
-use Rattle.std.proofs.lemmas.Option.{same_Some}
+use Rattle.std.proofs.lemmas.Option.{none-some, same_Some}
 use Rattle.jtree.specs.Data.{Data}
 use Rattle.jtree.specs.Order.{text_cmp}
 use Rattle.jtree.specs.Path.{name, Path}
@@ -67,7 +67,7 @@ below N M s x is h = record {
 
 field_below : (N : Node) (k : List ℕ) (f : Declared) → field_of N k ≡ Some f → node_below N (property k) ≡ Some f.node
 field_below (node nullable description (object fs preserves type bounds)) k f is = ap (option_map (λ g. g.node)) is
-field_below N k f is = cc
+field_below N k f is = absurd (none-some f is)
 
 own_listed : (N : Node) (k : List ℕ) (f : Declared) → field_of N k ≡ Some f → (default : Option Data) → f.default ≡ default → (x : Default)
     → Among (own_default f.node default) x → IsListed N (behind (property k) x)
@@ -129,7 +129,7 @@ field_among (field l M required default fs) k f x is a = elim (bool_cases (bytes
 field_found : (N : Node) (k : List ℕ) (f : Declared) (x : Default) → field_of N k ≡ Some f → Among (own_default f.node f.default ++ defaults_of f.node) x
     → Among (defaults_of N) (behind (property k) x)
 field_found (node nullable description (object fs preserves type bounds)) k f x is a = field_among fs k f x is a
-field_found N k f x is a = cc
+field_found N k f x is a = absurd (none-some f is)
 
 field_cases : (fs : Fields) (k : List ℕ) (M : Node) → option_map (λ f. f.node) (field_at k fs) ≡ Some M → (f : Declared) × (field_at k fs ≡ Some f) × (f.node ≡ M)
 field_cases fs k M is = elim (option_cases (field_at k fs)) [
@@ -144,7 +144,7 @@ below_found (node nullable description (map_node M' type bounds)) map_value M x 
     among_image (behind map_value) (defaults_of M') x (subst (λ K. Among (defaults_of K) x) (sym (same_Some M' M is)) a)
 below_found (node nullable description (list M' type keys bounds)) items M x is a =
     among_image (behind items) (defaults_of M') x (subst (λ K. Among (defaults_of K) x) (sym (same_Some M' M is)) a)
-below_found N s M x is a = cc
+below_found N s M x is a = absurd (none-some M is)
 
 found_from : (before : Place) (N O : Node) (k : List ℕ) (f : Declared) (d : Data) → node_at N before ≡ Some O → field_of O k ≡ Some f → f.default ≡ Some d
     → Among (defaults_of N) (record { place = before ++ (property k ∷ []); node = f.node; value = d })

@@ -1,5 +1,5 @@
-use Rattle.std.proofs.Common.{◌≡◌, ◌+◌, [], ◌∷◌, ◌++◌, take, Err, sym, ap, ◌∙◌, append_assoc, append-nil}
-use Rattle.std.proofs.lemmas.List.{take_more}
+use Rattle.std.proofs.Common.{◌≡◌, ◌+◌, [], ◌∷◌, ◌++◌, take, Err, sym, ap, ◌∙◌, append_assoc, append-nil, arith}
+use Rattle.std.proofs.lemmas.List.{take_more, length-append}
 use Rattle.std.proofs.lemmas.Result.{err_from_is_err_and}
 use Rattle.serde_json.proofs.Views.{Entry}
 use Rattle.jtree.proofs.Reading.{one_more_item, one_more_member, AreTrees-push, HaveTrees-push, no_items_tree, no_members_tree, AreMembers-sorted}
@@ -21,8 +21,10 @@ read_items-loop-value-preserved t c =
     let v = c.value-item.result in
     let one : take (l.value-index + 1) vs ≡ take l.value-index vs ++ v ∷ [] = take_more vs l.value-index v c.loop-value-test.true ∙ ap (λ w. take l.value-index vs ++ w ∷ []) (sym c.value-item.is) in
     record {
-      read = rw (one, c.in_ok-push.ensures.items) (one_more_item (take l.value-index vs) v l.items.items c.in_ok-tree.tree l.invariant.read c.in_ok-tree.ensures.ok);
-      trees = rw c.in_ok-push.ensures.items (AreTrees-push l.items.items c.in_ok-tree.tree l.invariant.trees c.reveal_invariant.ensures);
+      read = rw (one, c.push_reserved.ensures.items) (one_more_item (take l.value-index vs) v l.items.items c.in_ok-tree.tree l.invariant.read c.in_ok-tree.ensures.ok);
+      trees = rw c.push_reserved.ensures.items (AreTrees-push l.items.items c.in_ok-tree.tree l.invariant.trees c.reveal_invariant.ensures);
+      count = omega (arith, c.push_reserved.ensures.len, l.invariant.count);
+      room = omega (arith, c.push_reserved.ensures.capacity, l.invariant.room);
     }
 
 pub read_members-returns-in_err-tree-clause-not_an_integer : goal.read_members-returns-in_err-tree-clause-not_an_integer
@@ -46,8 +48,10 @@ read_members-loop-key-preserved t c =
     record {
       done = done ++ e ∷ [];
       entries = all ∙ sym (append_assoc done (e ∷ []) left);
-      read = rw c.in_ok-push.ensures.items (one_more_member done e l.members.items _ l.invariant.read c.in_ok-tree.ensures.ok (c.in_ok-name.ensures ∙ c.as_str.ensures.value));
-      trees = rw c.in_ok-push.ensures.items (HaveTrees-push l.members.items _ l.invariant.trees c.reveal_invariant.ensures);
+      read = rw c.push_reserved.ensures.items (one_more_member done e l.members.items _ l.invariant.read c.in_ok-tree.ensures.ok (c.in_ok-name.ensures ∙ c.as_str.ensures.value));
+      trees = rw c.push_reserved.ensures.items (HaveTrees-push l.members.items _ l.invariant.trees c.reveal_invariant.ensures);
+      count = omega (arith, c.push_reserved.ensures.len, l.invariant.count, length-append done (e ∷ []));
+      room = omega (arith, c.push_reserved.ensures.capacity, l.invariant.room);
     }
 
 pub read_members-invariant_of-result : goal.read_members-invariant_of-result

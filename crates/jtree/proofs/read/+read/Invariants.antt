@@ -1,4 +1,5 @@
-use Rattle.std.proofs.Common.{◌≡◌, List, ◌++◌, take, Some}
+use Rattle.std.proofs.Common.{◌≡◌, ◌≤◌, List, length, ◌++◌, take, Some}
+use Rattle.std.specs.Prelude.{vec_len, vec_capacity}
 use Rattle.serde_json.specs.View.{items_view, members_view}
 use Rattle.serde_json.proofs.Views.{Entry}
 use Rattle.jtree.specs.Data.{AreTrees}
@@ -11,6 +12,8 @@ abbrev pub invariant-read_items-loop-value : goal.invariant-read_items-loop-valu
 invariant-read_items-loop-value l = record {
   read : items_tree (items_view (take l.value-index l.value-items)) ≡ Some (items_of l.items.items);
   trees : AreTrees (items_of l.items.items);
+  count : vec_len l.items ≡ l.value-index;
+  room : length l.value-items ≤ vec_capacity l.items;
 }
 
 abbrev pub invariant-read_members-loop-key : goal.invariant-read_members-loop-key
@@ -19,4 +22,6 @@ invariant-read_members-loop-key l = record {
   entries : l.map.entries ≡ done ++ l.key-iterator;
   read : members_tree (members_view done) ≡ Some (members_of l.members.items);
   trees : HaveTrees (members_of l.members.items);
+  count : vec_len l.members ≡ length done;
+  room : length l.map.entries ≤ vec_capacity l.members;
 }
