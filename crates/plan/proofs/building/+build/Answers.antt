@@ -1,4 +1,4 @@
-use Rattle.std.proofs.Common.{take, refl, [], ◌∙◌, length, arith}
+use Rattle.std.proofs.Common.{take, refl, [], ◌∙◌, length, arith, rules}
 use Rattle.std.proofs.lemmas.List.{take_more}
 use Rattle.schema.specs.Nodes.Node.{object, map as map_sort}
 use Rattle.plan.proofs.BuildingLemmas.{field_built, row_built, list_built, last_site}
@@ -57,3 +57,6 @@ build_list-returns-clause-built g t c = λ d.
     list_built g.Z.SizeSet.holds c.args.arena.now.limit c.args.arena.now.values c.args.arena.now.entries.items c.build.new.arena.entries.items c.add_list.new.arena.entries.items c.args.nullable d l.item l.list_type l.keys.items l.bounds c.args.keys.now
     c.in_ok-item.item c.in_ok-node.node c.reveal_invariant.ensures b c.in_ok-node.ensures.number c.in_ok-node.ensures.count
     (rw (c.in_ok-item.ensures.limit, c.in_ok-item.ensures.values) at c.in_ok-node.ensures.right)
+
+pub build_field-returns-clause-slot : goal.build_field-returns-clause-slot
+build_field-returns-clause-slot g t c = record { name_is = λ names. c.in_ok-copy.ensures; must = search rules; key = c.is_key.ensures }
