@@ -1,7 +1,7 @@
 -- What is added to a plan, node by node.
 use Rattle.std.specs.Prelude.{◌≡◌, ℕ, zero, suc, ◌+◌, ◌≤◌, ◌<◌, List, map, take, Bool, true, false, Option, Some, option_map, ◌||◌, is_some}
 use Rattle.std.specs.Str.{bytes_eq}
-use Rattle.std.proofs.Common.{refl, ap, sym, ◌∙◌, inl, inr, arith, [], ◌∷◌, ◌++◌, length, get_or}
+use Rattle.std.proofs.Common.{Result, Ok, Err, IfOk, refl, ap, sym, ◌∙◌, inl, inr, arith, [], ◌∷◌, ◌++◌, length, get_or}
 use Rattle.std.proofs.lemmas.Bool.{cases_Bool}
 use Rattle.std.proofs.lemmas.List.{get_or_append_left, get_or_push, get_or-append-add, append_assoc, length_push, length-append, take_more}
 use Rattle.jtree.specs.View.{data_of}
@@ -158,6 +158,11 @@ node_built holds limit v old new nullable description sort keys n number count r
           let here : site_at sites n ≡ s = rw (← number) at (stand_last sites (length old) below s stand) in
           right P sites values sound (stand_left sites (length old) below (s ∷ []) stand) here before;
     }
+
+-- what three clauses say of a value, if there is one
+pub three_ok : {X E : Type 0} (r : Result X E) (A B C D : X → Type 0) → IfOk r A → IfOk r B → IfOk r C → ((x : X) → A x → B x → C x → D x) → IfOk r D
+three_ok (Ok x) A B C D a b c d = d x a b c
+three_ok (Err e) A B C D a b c d = tt
 
 -- a row whose slots' nodes are there
 pub row_built : {Z : Type 0} (holds : Z → ℕ → Type 0) (limit : ℕ) (v : Values) (old mid new : List (Entry Z)) (nullable : Bool) (description : Option (List ℕ)) (sort : Sort) (keys : List (List ℕ)) (b : Bounds) (es : List SlotEntry) (n : ℕ)

@@ -60,8 +60,7 @@ fn build_object<Z: SizeSet>(
 {
     object.fields.reveal_invariant();
     let slots = build_fields(arena, alloc, &object.fields, keys)?;
-    let node = add_row(arena, alloc, slots, object.bounds, nullable)?;
-    Ok(node)
+    add_row(arena, alloc, slots, object.bounds, nullable)
 }
 
 /// Adds the entries of the fields' nodes, and answers their slots.
@@ -126,8 +125,7 @@ fn build_map<Z: SizeSet>(
     map.value.reveal_invariant();
     let value = build(arena, alloc, node_below(&map.value), &[])?;
     let slots = value_slots(alloc, arena.values.names.len(), value)?;
-    let node = add_row(arena, alloc, slots, map.bounds, nullable)?;
-    Ok(node)
+    add_row(arena, alloc, slots, map.bounds, nullable)
 }
 
 #[cycle(build)]
@@ -146,8 +144,7 @@ fn build_list<Z: SizeSet>(
 {
     list.item.reveal_invariant();
     let item = build(arena, alloc, node_below(&list.item), item_keys(list))?;
-    let node = add_list(arena, alloc, item, list, nullable)?;
-    Ok(node)
+    add_list(arena, alloc, item, list, nullable)
 }
 
 /// The names that tell the items of the list apart.
