@@ -1,7 +1,7 @@
 use Rattle.std.proofs.Common.{take, refl, [], ◌∙◌, length, arith, rules}
 use Rattle.std.proofs.lemmas.List.{take_more}
 use Rattle.schema.specs.Nodes.Node.{object, map as map_sort}
-use Rattle.plan.proofs.BuildingLemmas.{field_built, row_built, list_built, last_site, three_ok}
+use Rattle.plan.proofs.BuildingLemmas.{field_built, no_fields_built, row_built, list_built, last_site, three_ok}
 use Rattle.plan.proofs.building.+build.Goals as goal
 
 pub build_fields-loop-field-preserved : goal.build_fields-loop-field-preserved
@@ -56,3 +56,14 @@ build_list-returns-clause-built g t c =
 
 pub build_field-returns-clause-slot : goal.build_field-returns-clause-slot
 build_field-returns-clause-slot g t c = record { name_is = λ names. c.in_ok-copy.ensures; must = search rules; key = c.is_key.ensures }
+
+pub build_fields-loop-field-init : goal.build_fields-loop-field-init
+build_fields-loop-field-init g t c =
+    let a = c.args.arena.now in
+    record { values = refl; limit = refl; built = rw c.new-slots.ensures.items (no_fields_built g.Z.SizeSet.holds a.limit a.values a.entries.items c.args.keys.now) }
+
+pub build_map-add_row-requires-clause-below : goal.build_map-add_row-requires-clause-below
+build_map-add_row-requires-clause-below g t c = λ k d l. let h = c.in_ok-slots.ensures.below k d l in omega (arith, c.in_ok-value.ensures.built.last)
+
+pub build_list-add_list-requires-clause-item : goal.build_list-add_list-requires-clause-item
+build_list-add_list-requires-clause-item g t c = omega (arith, c.in_ok-item.ensures.built.last)
