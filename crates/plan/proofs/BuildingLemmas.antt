@@ -1,7 +1,7 @@
 -- What is added to a plan, node by node.
-use Rattle.std.specs.Prelude.{◌≡◌, ℕ, zero, suc, ◌+◌, ◌≤◌, ◌<◌, List, map, take, Bool, true, false, Option, Some, option_map, ◌||◌, is_some}
+use Rattle.std.specs.Prelude.{◌≡◌, ℕ, zero, suc, ◌+◌, ◌<◌, List, map, take, Bool, true, false, Option, Some, option_map, ◌||◌, is_some}
 use Rattle.std.specs.Str.{bytes_eq}
-use Rattle.std.proofs.Common.{refl, ap, sym, ◌∙◌, inl, inr, arith, [], ◌∷◌, ◌++◌, length, get_or}
+use Rattle.std.proofs.Common.{Result, Ok, Err, IfOk, refl, ap, sym, ◌∙◌, inl, inr, arith, [], ◌∷◌, ◌++◌, length, get_or}
 use Rattle.std.proofs.lemmas.Bool.{cases_Bool}
 use Rattle.std.proofs.lemmas.List.{get_or_append_left, get_or_push, get_or-append-add, append_assoc, length_push, length-append, take_more}
 use Rattle.jtree.specs.View.{data_of}
@@ -22,7 +22,7 @@ use Rattle.stored.specs.Objects.Becomes.{is_nullable}
 use Rattle.plan.specs.Internal.Values.{AreValues, candidates_of}
 use Rattle.plan.specs.declared.leaf.Leaf.{Leaf}
 use Rattle.plan.specs.declared.arena.Content.TheVariants as content
-use Rattle.plan.specs.Internal.Arena.{IsSlot, AreSlots, IsRight, AreRight, Stand}
+use Rattle.plan.specs.Internal.Arena.{IsSlot, AreSlots, AreRight, Stand}
 use Rattle.plan.specs.Samples.Sites.{site_at}
 use Rattle.plan.specs.Internal.Building.{IsSound, IsSortSound, AreFieldsSound, IsBuilt, AreBuilt, IsFieldSlot}
 use Rattle.plan.specs.declared.values.Values.{Values}
@@ -31,6 +31,7 @@ use Rattle.plan.specs.declared.arena.PlanNode.{PlanNode}
 use Rattle.plan.specs.declared.arena.SlotEntry.{SlotEntry}
 use Rattle.plan.specs.declared.arena.Entry.{Entry}
 use Rattle.plan.proofs.SizeLemmas.{each_push}
+use Rattle.plan.proofs.EntryLemmas.{right_push}
 
 -- ---- names
 
@@ -141,56 +142,52 @@ field_built holds limit v old mid new xs x keys slots s a b f =
           (slots_are_push names sites i slots (field_slots keys (fields_of xs)) s _ (a.slots_are names sites i stands.0 (omega (arith, b.count))) (record { name = f.name_is names; below = omega (arith, b.last); node = site; must = f.must; key = f.key }));
     }
 
--- one entry more that is right
-pub right_push : {Z : Type 0} (holds : Z → ℕ → Type 0) (limit : ℕ) (P : Pools) (v : Values) (sites : List Site) (es : List (Entry Z)) (e : Entry Z) → AreRight holds limit P v sites es → IsRight holds limit P v sites (length es) e → AreRight holds limit P v sites (es ++ e ∷ [])
-right_push {Z = Z} holds limit P v sites es e h here = each_push (λ i (x : Entry Z). IsRight holds limit P v sites i x) es e h here
-
 -- a node whose sites below are there
-pub node_built : {Z : Type 0} (holds : Z → ℕ → Type 0) (limit : ℕ) (v : Values) (old mid new : List (Entry Z)) (nullable : Bool) (description : Option (List ℕ)) (sort : Sort) (keys : List (List ℕ)) (e : Entry Z) (n : ℕ)
-    → length mid ≡ length old + length (sites_below sort) → new ≡ mid ++ e ∷ [] → n ≡ length mid
-    → ((P : Pools) (sites : List Site) → AreValues P v → IsSound (node nullable description sort) → Stand sites (length old) (sites_below sort) → site_at sites (length mid) ≡ record { node = node nullable description sort; keys = keys }
-    → AreRight holds limit P v sites old → AreRight holds limit P v sites mid × IsRight holds limit P v sites (length mid) e)
+pub node_built : {Z : Type 0} (holds : Z → ℕ → Type 0) (limit : ℕ) (v : Values) (old new : List (Entry Z)) (nullable : Bool) (description : Option (List ℕ)) (sort : Sort) (keys : List (List ℕ)) (n : ℕ)
+    → n ≡ length old + length (sites_below sort) → length new ≡ n + 1
+    → ((P : Pools) (sites : List Site) → AreValues P v → IsSound (node nullable description sort) → Stand sites (length old) (sites_below sort) → site_at sites n ≡ record { node = node nullable description sort; keys = keys }
+    → AreRight holds limit P v sites old → AreRight holds limit P v sites new)
     → IsBuilt holds limit v old new (node nullable description sort) keys n
-node_built holds limit v old mid new nullable description sort keys e n count is number right =
+node_built holds limit v old new nullable description sort keys n number count right =
     let s : Site = record { node = node nullable description sort; keys = keys } in
     let below = sites_below sort in
     record {
-      count = rw is (omega (arith, count, length_push mid e, length_push below s));
-      last = rw is (omega (arith, number, length_push mid e));
+      count = omega (arith, length_push below s);
+      last = omega arith;
       right = λ P sites values sound stand before.
-          let left = stand_left sites (length old) below (s ∷ []) stand in
-          let here : site_at sites (length mid) ≡ s = rw (← count) at (stand_last sites (length old) below s stand) in
-          let r = right P sites values sound left here before in
-          rw is (right_push holds limit P v sites mid e r.0 r.1);
+          let here : site_at sites n ≡ s = rw (← number) at (stand_last sites (length old) below s stand) in
+          right P sites values sound (stand_left sites (length old) below (s ∷ []) stand) here before;
     }
 
+-- what three clauses say of a value, if there is one
+pub three_ok : {X E : Type 0} (r : Result X E) (A B C D : X → Type 0) → IfOk r A → IfOk r B → IfOk r C → ((x : X) → A x → B x → C x → D x) → IfOk r D
+three_ok (Ok x) A B C D a b c d = d x a b c
+three_ok (Err e) A B C D a b c d = tt
+
 -- a row whose slots' nodes are there
-pub row_built : {Z : Type 0} (holds : Z → ℕ → Type 0) (limit : ℕ) (v : Values) (old mid new : List (Entry Z)) (nullable : Bool) (description : Option (List ℕ)) (sort : Sort) (keys : List (List ℕ)) (b : Bounds) (es : List SlotEntry) (e : Entry Z) (n : ℕ)
+pub row_built : {Z : Type 0} (holds : Z → ℕ → Type 0) (limit : ℕ) (v : Values) (old mid new : List (Entry Z)) (nullable : Bool) (description : Option (List ℕ)) (sort : Sort) (keys : List (List ℕ)) (b : Bounds) (es : List SlotEntry) (n : ℕ)
     → IsNode (node nullable description sort) → sort_of (node nullable description sort) ≡ Row → bounds_of (node nullable description sort) ≡ b
-    → length mid ≡ length old + length (sites_below sort) → new ≡ mid ++ e ∷ [] → n ≡ length mid
+    → n ≡ length old + length (sites_below sort) → length new ≡ n + 1
     → ((P : Pools) (sites : List Site) → AreValues P v → IsSortSound sort → Stand sites (length old) (sites_below sort) → AreRight holds limit P v sites old → AreRight holds limit P v sites mid)
-    → ((P : Pools) (sites : List Site) → AreValues P v → Stand sites (length old) (sites_below sort) → AreSlots v.names.items sites (length mid) es (slots_at P (node nullable description sort) keys))
-    → ((P : Pools) (sites : List Site) (i : ℕ) → AreRight holds limit P v sites mid → i ≤ length mid → IsNode (site_at sites i).node → sort_of (site_at sites i).node ≡ Row → bounds_of (site_at sites i).node ≡ b → is_nullable (site_at sites i).node ≡ nullable
-    → AreSlots v.names.items sites i es (slots P (site_at sites i)) → IsRight holds limit P v sites i e)
+    → ((P : Pools) (sites : List Site) → AreValues P v → Stand sites (length old) (sites_below sort) → AreSlots v.names.items sites n es (slots_at P (node nullable description sort) keys))
+    → ((P : Pools) (sites : List Site) → AreRight holds limit P v sites mid → IsNode (site_at sites n).node → sort_of (site_at sites n).node ≡ Row → bounds_of (site_at sites n).node ≡ b → is_nullable (site_at sites n).node ≡ nullable
+    → AreSlots v.names.items sites n es (slots P (site_at sites n)) → AreRight holds limit P v sites new)
     → IsBuilt holds limit v old new (node nullable description sort) keys n
-row_built holds limit v old mid new nullable description sort keys b es e n o row bounds count is number below are entry =
-    node_built holds limit v old mid new nullable description sort keys e n count is number
-    (λ P sites values sound stand here right.
-    let m = below P sites values sound.1 stand right in
-    (m, entry P sites (length mid) m (omega arith) (rw here o) (rw here row) (rw here bounds) (rw here refl) (rw here (are P sites values stand))))
+row_built holds limit v old mid new nullable description sort keys b es n o row bounds number count below are right =
+    node_built holds limit v old new nullable description sort keys n number count
+    (λ P sites values sound stand here before. right P sites (below P sites values sound.1 stand before) (rw here o) (rw here row) (rw here bounds) (rw here refl) (rw here (are P sites values stand)))
 
 -- a list whose item is there
-pub list_built : {Z : Type 0} (holds : Z → ℕ → Type 0) (limit : ℕ) (v : Values) (old mid new : List (Entry Z)) (nullable : Bool) (description : Option (List ℕ)) (M : Node) (type : ListType) (item_names : List (List ℕ)) (b : Bounds) (keys : List (List ℕ)) (item : PlanNode) (e : Entry Z) (n : ℕ)
-    → IsNode M → IsBuilt holds limit v old mid M (item_keys type item_names) item → new ≡ mid ++ e ∷ [] → n ≡ length mid
-    → ((P : Pools) (sites : List Site) (i : ℕ) (d : Option (List ℕ)) → AreRight holds limit P v sites mid → (site_at sites i).node ≡ node nullable d (list M type item_names b) → item_site (site_at sites i) ≡ Some (site_at sites item) → item < i
-    → IsNode (site_at sites i).node → HasSoundItems (site_at sites i).node → IsRight holds limit P v sites i e)
+pub list_built : {Z : Type 0} (holds : Z → ℕ → Type 0) (limit : ℕ) (v : Values) (old mid new : List (Entry Z)) (nullable : Bool) (description : Option (List ℕ)) (M : Node) (type : ListType) (item_names : List (List ℕ)) (b : Bounds) (keys : List (List ℕ)) (item : PlanNode) (n : ℕ)
+    → IsNode M → IsBuilt holds limit v old mid M (item_keys type item_names) item → n ≡ length mid → length new ≡ n + 1
+    → ((P : Pools) (sites : List Site) (d : Option (List ℕ)) → AreRight holds limit P v sites mid → (site_at sites n).node ≡ node nullable d (list M type item_names b) → item_site (site_at sites n) ≡ Some (site_at sites item)
+    → IsNode (site_at sites n).node → HasSoundItems (site_at sites n).node → AreRight holds limit P v sites new)
     → IsBuilt holds limit v old new (node nullable description (list M type item_names b)) keys n
-list_built holds limit v old mid new nullable description M type item_names b keys item e n o built is number entry =
-    node_built holds limit v old mid new nullable description (list M type item_names b) keys e n built.count is number
-    (λ P sites values sound stand here right.
-    let m = built.right P sites values sound.1 stand right in
+list_built holds limit v old mid new nullable description M type item_names b keys item n o built number count right =
+    node_built holds limit v old new nullable description (list M type item_names b) keys n (number ∙ built.count) count
+    (λ P sites values sound stand here before.
     let below = last_site sites (length old) item M (item_keys type item_names) (omega (arith, built.last, built.count)) stand in
-    (m, entry P sites (length mid) description m (ap (λ s. Site.node s) here) (rw (here, below) refl) (omega (arith, built.last)) (rw here o) (rw here sound.0)))
+    right P sites description (built.right P sites values sound.1 stand before) (ap (λ s. Site.node s) here) (rw (here, below) refl) (rw here o) (rw here sound.0))
 
 leaf_below : (nullable : Bool) (description : Option (List ℕ)) (sort : Sort) → sort_of (node nullable description sort) ≡ LeafSort → length (sites_below sort) ≡ 0
 leaf_below n t (scalar kind cs) leaf = refl
@@ -201,11 +198,11 @@ leaf_below n t open_ leaf = refl
 
 -- a leaf
 pub leaf_built : {Z : Type 0} (holds : Z → ℕ → Type 0) (limit : ℕ) (v : Values) (old new : List (Entry Z)) (N : Node) (keys : List (List ℕ)) (l : Leaf) (sizes : Z) (n : ℕ) → sort_of N ≡ LeafSort
-    → new ≡ old ++ record { sizes = sizes; nullable = is_nullable N; content = content.Leaf l } ∷ [] → n ≡ length old
+    → new ≡ old ++ record { sizes = sizes; nullable = is_nullable N; content = content.Leaf l } ∷ [] → n ≡ length old → length new ≡ n + 1
     → ((P : Pools) → AreValues P v → AreCandidates P N (candidates_of v l)) → ((P : Pools) → AreValues P v → IsUpTo limit (holds sizes) (HasSize P N)) → IsBuilt holds limit v old new N keys n
-leaf_built holds limit v old new (node nullable description sort) keys l sizes n leaf is number candidates sized =
+leaf_built holds limit v old new (node nullable description sort) keys l sizes n leaf is number count candidates sized =
     let N = node nullable description sort in
     let none : length (sites_below sort) ≡ 0 = leaf_below nullable description sort leaf in
-    node_built holds limit v old old new nullable description sort keys _ n (omega (arith, none)) is number
+    node_built holds limit v old new nullable description sort keys n (omega arith) count
     (λ P sites values sound stand here right.
-    (right, record { sizes = rw here (sized P values); nullable = rw here refl; content = record { sort = rw here leaf; candidates = rw here (candidates P values) } }))
+    right_push holds limit P v sites old new _ n right is number (record { sizes = rw here (sized P values); nullable = rw here refl; content = record { sort = rw here leaf; candidates = rw here (candidates P values) } }))

@@ -22,6 +22,7 @@ use Rattle.plan.specs.declared.arena.SlotEntry.{SlotEntry}
 use Rattle.plan.specs.declared.arena.Content.TheVariants as content
 use Rattle.plan.specs.declared.arena.Entry.{Entry}
 use Rattle.plan.proofs.SiteLemmas.{whole_up_to, row_sizes}
+use Rattle.plan.proofs.SizeLemmas.{each_push}
 
 pub chosen_push : {Z : Type 0} (es : List (Entry Z)) (cs : List (Choice Z)) (xs : List SlotEntry) (c : Choice Z) (x : SlotEntry) → AreChosen es cs xs → IsChosen es c x → AreChosen es (cs ++ c ∷ []) (xs ++ x ∷ [])
 chosen_push es [] [] c x h here = (here, tt)
@@ -60,6 +61,11 @@ slots_drop names sites i (suc n) [] [] h = tt
 slots_drop names sites i (suc n) [] (s ∷ ss) h = absurd h
 slots_drop names sites i (suc n) (x ∷ xs) [] h = absurd h
 slots_drop names sites i (suc n) (x ∷ xs) (s ∷ ss) h = slots_drop names sites i n xs ss h.1
+
+-- one entry more that is right
+pub right_push : {Z : Type 0} (holds : Z → ℕ → Type 0) (limit : ℕ) (P : Pools) (v : Values) (sites : List Site) (old new : List (Entry Z)) (e : Entry Z) (n : ℕ)
+    → AreRight holds limit P v sites old → new ≡ old ++ e ∷ [] → n ≡ length old → IsRight holds limit P v sites n e → AreRight holds limit P v sites new
+right_push {Z = Z} holds limit P v sites old new e n before is number here = rw is (each_push (λ i (x : Entry Z). IsRight holds limit P v sites i x) old e before (rw number at here))
 
 -- the level before the first slot is the last one made
 first_level : {Z : Type 0} (holds : Z → ℕ → Type 0) (limit : ℕ) (b : Bounds) (P : Pools) (ss : List Slot) (levels : List (Vec Z Global)) (level : Vec Z Global) (z : Z) (count : ℕ) → AreLevels holds limit b P ss levels → AreShaped count levels

@@ -105,6 +105,11 @@ pub no_row : {Z : Type 0} (holds : Z → ℕ → Type 0) (limit : ℕ) (P : Pool
 no_row holds limit P v sites i e right (inl l) row = let s = leaf_sort holds limit P v sites i e l.0 right l.1 in let no = sym s ∙ row in cc
 no_row holds limit P v sites i e right (inr l) row = let s = list_sort holds limit P v sites i e l.0 right l.1 in let no = sym s ∙ row in cc
 
+pub no_leaf : {Z : Type 0} (holds : Z → ℕ → Type 0) (limit : ℕ) (P : Pools) (v : Values) (sites : List Site) (i : ℕ) (e : Entry Z) → IsRight holds limit P v sites i e → ((r : RowEntry Z) × (e.content ≡ content.Row r)) ⊎ ((l : ListEntry Z) × (e.content ≡ content.List l))
+    → sort_of (site_at sites i).node ≡ LeafSort → ⊥
+no_leaf holds limit P v sites i e right (inl r) leaf = let s = row_sort holds limit P v sites i e r.0 right r.1 in let no = sym s ∙ leaf in cc
+no_leaf holds limit P v sites i e right (inr l) leaf = let s = list_sort holds limit P v sites i e l.0 right l.1 in let no = sym s ∙ leaf in cc
+
 -- the sites stand at their own numbers
 pub stands_itself : (xs : List Site) → Stand xs 0 xs
 stands_itself xs j s l =

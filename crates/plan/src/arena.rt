@@ -173,6 +173,7 @@ impl<Z: SizeSet> Arena<Z> {
         ensures values { self.new.values ≡ self.old.values }
         ensures limit { self.new.limit ≡ self.old.limit }
         ensures number { IfOk result (λ n. n ≡ length self.old.entries.items) }
+        ensures count { IfOk result (λ n. length self.new.entries.items ≡ n + 1) }
         ensures added { IfOk result (λ _. self.new.entries.items ≡ self.old.entries.items ++ entry ∷ []) }
     {
         let number = self.entries.len();

@@ -15,9 +15,9 @@ ghost use Rattle.plan.specs.Internal.Building.{IsBuilt, AreBuilt, IsFieldSlot};
 
 use crate::SizeSet;
 use crate::arena::{Arena, Content, Entry, PlanNode, SlotEntry, SlotName};
-use crate::entries::row_entry;
+use crate::entries::add_row;
 use crate::leaf::{leaf_of, leaf_sizes};
-use crate::list_entries::list_entry;
+use crate::list_entries::add_list;
 use jtree::Text;
 use schema::{Below, Field, Fields, ListNode, ListType, MapNode, Node, ObjectNode, Sort};
 use std::alloc::{AllocError, Global};
@@ -60,9 +60,7 @@ fn build_object<Z: SizeSet>(
 {
     object.fields.reveal_invariant();
     let slots = build_fields(arena, alloc, &object.fields, keys)?;
-    let entry = row_entry(arena, alloc, slots, object.bounds, nullable)?;
-    let node = arena.add(entry)?;
-    Ok(node)
+    add_row(arena, alloc, slots, object.bounds, nullable)
 }
 
 /// Adds the entries of the fields' nodes, and answers their slots.
@@ -101,10 +99,9 @@ fn build_field<Z: SizeSet>(
     ensures built { IfOk result (λ s. IsBuilt Z.holds arena.old.limit arena.old.values arena.old.entries.items arena.new.entries.items (node_of field.now.node) [] s.node) }
     ensures slot { IfOk result (λ s. IsFieldSlot keys.now field.now.name field.now.required (option_map data_of field.now.default) s) }
 {
-    let name = field.name.copy(alloc)?;
     let node = build(arena, alloc, &field.node, &[])?;
     Ok(SlotEntry {
-        name: SlotName::Field(name),
+        name: SlotName::Field(field.name.copy(alloc)?),
         node,
         must: field.required || field.default.is_some(),
         key: is_key(&field.name, keys),
@@ -128,9 +125,7 @@ fn build_map<Z: SizeSet>(
     map.value.reveal_invariant();
     let value = build(arena, alloc, node_below(&map.value), &[])?;
     let slots = value_slots(alloc, arena.values.names.len(), value)?;
-    let entry = row_entry(arena, alloc, slots, map.bounds, nullable)?;
-    let node = arena.add(entry)?;
-    Ok(node)
+    add_row(arena, alloc, slots, map.bounds, nullable)
 }
 
 #[cycle(build)]
@@ -149,9 +144,7 @@ fn build_list<Z: SizeSet>(
 {
     list.item.reveal_invariant();
     let item = build(arena, alloc, node_below(&list.item), item_keys(list))?;
-    let entry = list_entry(arena, alloc, item, list, nullable)?;
-    let node = arena.add(entry)?;
-    Ok(node)
+    add_list(arena, alloc, item, list, nullable)
 }
 
 /// The names that tell the items of the list apart.

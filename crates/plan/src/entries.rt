@@ -1,18 +1,18 @@
-//! The entries of rows and lists, over the nodes that are there.
-ghost use Rattle.std.specs.Prelude.{◌≡◌, ℕ, ◌≤◌, ◌<◌, List, All, length, IfOk};
+//! The entries of rows, over the nodes that are there.
+ghost use Rattle.std.specs.Prelude.{◌≡◌, ℕ, ◌+◌, ◌≤◌, ◌<◌, List, All, length, IfOk};
 ghost use Rattle.schema.specs.Nodes.Node.{IsNode};
 ghost use Rattle.stored.specs.Objects.Becomes.{is_nullable};
 ghost use Rattle.plan.specs.Pools.Pools.{Pools};
 ghost use Rattle.plan.specs.Samples.Sites.{Site, Slot, slots as slots_of};
 ghost use Rattle.plan.specs.Samples.Candidates.{sort_of};
 ghost use Rattle.plan.specs.Samples.Sizes.{bounds_of};
-ghost use Rattle.plan.specs.Internal.Arena.{AreChosen, AreSlots, AreLater, AreRight, IsRight};
+ghost use Rattle.plan.specs.Internal.Arena.{AreChosen, AreSlots, AreLater, AreRight};
 ghost use Rattle.plan.specs.Samples.Sites.{site_at};
 ghost use Rattle.plan.specs.declared.arena.SlotEntry.{SlotEntry};
 ghost use Rattle.plan.specs.declared.sort.Sort.TheVariants.{Row};
 
 use crate::SizeSet;
-use crate::arena::{Arena, Content, Entry, RowEntry, SlotEntry};
+use crate::arena::{Arena, Content, Entry, PlanNode, RowEntry, SlotEntry};
 use crate::laws::parts_one_level;
 use crate::list_entries::tuples;
 use crate::rows::{Choice, levels};
@@ -56,28 +56,32 @@ fn later_tuples<Z: SizeSet>(
     Ok(later)
 }
 
-/// The entry of a row with these slots.
-pub(crate) fn row_entry<Z: SizeSet>(
-    arena: &Arena<Z>,
+/// Adds the entry of a row with these slots.
+pub(crate) fn add_row<Z: SizeSet>(
+    arena: &mut Arena<Z>,
     alloc: Global,
     slots: Vec<SlotEntry>,
     bounds: Bounds,
     nullable: bool,
-) -> Result<Entry<Z>, AllocError>
-    requires limit { arena.now.limit < Z.BITS }
-    requires room { 1 ≤ arena.now.limit }
-    requires below { All (λ (s : SlotEntry). s.node < length arena.now.entries.items) slots.items }
+) -> Result<PlanNode, AllocError>
+    requires limit { arena.old.limit < Z.BITS }
+    requires room { 1 ≤ arena.old.limit }
+    requires below { All (λ (s : SlotEntry). s.node < length arena.old.entries.items) slots.items }
     requires few { length slots.items < 18446744073709551615 }
-    ensures { IfOk result (λ e. (P : Pools) (sites : List Site) (i : ℕ) → AreRight Z.holds arena.now.limit P arena.now.values sites arena.now.entries.items
-        → i ≤ length arena.now.entries.items → IsNode (site_at sites i).node → sort_of (site_at sites i).node ≡ Row → bounds_of (site_at sites i).node ≡ bounds → is_nullable (site_at sites i).node ≡ nullable
-        → AreSlots arena.now.values.names.items sites i slots.items (slots_of P (site_at sites i)) → IsRight Z.holds arena.now.limit P arena.now.values sites i e) }
+    ensures values { arena.new.values ≡ arena.old.values }
+    ensures limit { arena.new.limit ≡ arena.old.limit }
+    ensures number { IfOk result (λ n. n ≡ length arena.old.entries.items) }
+    ensures count { IfOk result (λ n. length arena.new.entries.items ≡ n + 1) }
+    ensures right { IfOk result (λ n. (P : Pools) (sites : List Site) → AreRight Z.holds arena.old.limit P arena.old.values sites arena.old.entries.items
+        → IsNode (site_at sites n).node → sort_of (site_at sites n).node ≡ Row → bounds_of (site_at sites n).node ≡ bounds → is_nullable (site_at sites n).node ≡ nullable
+        → AreSlots arena.old.values.names.items sites n slots.items (slots_of P (site_at sites n)) → AreRight Z.holds arena.old.limit P arena.old.values sites arena.new.entries.items) }
 {
     parts_one_level();
     let choices = choices(arena, alloc, &slots)?;
     let later = later_tuples(arena, alloc, &slots)?;
     let levels = levels(alloc, &choices, bounds, arena.limit)?;
     let sizes = whole_sizes(levels[slots.len()][0], nullable, arena.limit);
-    Ok(Entry {
+    let node = arena.add(Entry {
         sizes,
         nullable,
         content: Content::Row(RowEntry {
@@ -85,5 +89,6 @@ pub(crate) fn row_entry<Z: SizeSet>(
             later,
             levels,
         }),
-    })
+    })?;
+    Ok(node)
 }

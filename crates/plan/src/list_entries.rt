@@ -1,12 +1,12 @@
 //! The entries of lists, over the nodes that are there.
-ghost use Rattle.std.specs.Prelude.{◌≡◌, ◌<◌, ◌≤◌, ℕ, List, Bool, Option, Some, length, IfOk};
+ghost use Rattle.std.specs.Prelude.{◌≡◌, ◌<◌, ◌≤◌, ℕ, ◌+◌, List, Bool, Option, Some, length, IfOk};
 ghost use Rattle.schema.specs.Nodes.Node.{IsNode, node as node_with};
 ghost use Rattle.schema.specs.Nodes.Items.{HasSoundItems};
 ghost use Rattle.schema.specs.Nodes.View.{list_of};
 ghost use Rattle.plan.specs.Pools.Pools.{Pools};
 ghost use Rattle.plan.specs.Samples.Sites.{Site, item_site, slots, Slot};
 ghost use Rattle.plan.specs.Samples.Candidates.{sort_of, distinct_by};
-ghost use Rattle.plan.specs.Internal.Arena.{AreSlots, AreRight, IsRight};
+ghost use Rattle.plan.specs.Internal.Arena.{AreSlots, AreRight};
 ghost use Rattle.plan.specs.Samples.Sites.{site_at};
 ghost use Rattle.plan.specs.Samples.Keys.{HasTuples};
 ghost use Rattle.plan.specs.Internal.Tuples.{AreKeysLeaves, IsCutTo};
@@ -22,27 +22,31 @@ use schema::{Bounds, ListNode, ListType};
 use std::alloc::{AllocError, Global};
 use stored::stored_by_parts;
 
-/// The entry of a list with this item.
-pub(crate) fn list_entry<Z: SizeSet>(
-    arena: &Arena<Z>,
+/// Adds the entry of a list with this item.
+pub(crate) fn add_list<Z: SizeSet>(
+    arena: &mut Arena<Z>,
     alloc: Global,
     item: PlanNode,
     list: &ListNode,
     nullable: bool,
-) -> Result<Entry<Z>, AllocError>
-    requires limit { arena.now.limit < Z.BITS }
-    requires room { 1 ≤ arena.now.limit }
-    requires item { item < length arena.now.entries.items }
-    ensures { IfOk result (λ e. (P : Pools) (sites : List Site) (i : ℕ) (d : Option (List ℕ)) → AreRight Z.holds arena.now.limit P arena.now.values sites arena.now.entries.items
-        → (site_at sites i).node ≡ node_with nullable d (list_of list.now) → item_site (site_at sites i) ≡ Some (site_at sites item) → item < i → IsNode (site_at sites i).node → HasSoundItems (site_at sites i).node
-        → IsRight Z.holds arena.now.limit P arena.now.values sites i e) }
+) -> Result<PlanNode, AllocError>
+    requires limit { arena.old.limit < Z.BITS }
+    requires room { 1 ≤ arena.old.limit }
+    requires item { item < length arena.old.entries.items }
+    ensures values { arena.new.values ≡ arena.old.values }
+    ensures limit { arena.new.limit ≡ arena.old.limit }
+    ensures number { IfOk result (λ n. n ≡ length arena.old.entries.items) }
+    ensures count { IfOk result (λ n. length arena.new.entries.items ≡ n + 1) }
+    ensures right { IfOk result (λ n. (P : Pools) (sites : List Site) (d : Option (List ℕ)) → AreRight Z.holds arena.old.limit P arena.old.values sites arena.old.entries.items
+        → (site_at sites n).node ≡ node_with nullable d (list_of list.now) → item_site (site_at sites n) ≡ Some (site_at sites item) → IsNode (site_at sites n).node → HasSoundItems (site_at sites n).node
+        → AreRight Z.holds arena.old.limit P arena.old.values sites arena.new.entries.items) }
 {
     parts_one_level();
     let limit = arena.limit;
     let bounds = item_bounds(arena, item, list);
     let more = more_sets(alloc, arena.entry(item).sizes, bounds, limit)?;
     let sizes = whole_sizes(more[0], nullable, limit);
-    Ok(Entry {
+    let node = arena.add(Entry {
         sizes,
         nullable,
         content: Content::List(ListEntry {
@@ -50,7 +54,8 @@ pub(crate) fn list_entry<Z: SizeSet>(
             distinct: distinct(list.list_type),
             more,
         }),
-    })
+    })?;
+    Ok(node)
 }
 
 /// Which items may not stand in a list of this type.

@@ -46,10 +46,10 @@ impl Values {
         ensures { IfOk result (λ v. AreValues pools.now v) }
     {
         Ok(Values {
-            null: Tree::Null,
             scalars: scalars(alloc, pools)?,
             any: with_null(alloc, pools.any())?,
             names: names(alloc, pools.names())?,
+            null: Tree::Null,
         })
     }
 }

@@ -1,7 +1,7 @@
-use Rattle.std.proofs.Common.{take, refl, [], ◌∙◌, length, arith}
+use Rattle.std.proofs.Common.{take, refl, [], ◌∙◌, length, arith, rules}
 use Rattle.std.proofs.lemmas.List.{take_more}
 use Rattle.schema.specs.Nodes.Node.{object, map as map_sort}
-use Rattle.plan.proofs.BuildingLemmas.{field_built, row_built, list_built, last_site}
+use Rattle.plan.proofs.BuildingLemmas.{field_built, no_fields_built, row_built, list_built, last_site, three_ok}
 use Rattle.plan.proofs.building.+build.Goals as goal
 
 pub build_fields-loop-field-preserved : goal.build_fields-loop-field-preserved
@@ -20,40 +20,50 @@ build_fields-loop-field-preserved g t c =
     }
 
 pub build_object-returns-clause-built : goal.build_object-returns-clause-built
-build_object-returns-clause-built g t c = λ d.
-    let holds = g.Z.SizeSet.holds in
-    let limit = c.args.arena.now.limit in
+build_object-returns-clause-built g t c =
     let v = c.args.arena.now.values in
     let o = c.args.object.now in
     let mid = c.build_fields.new.arena.entries.items in
     let b = c.in_ok-slots.ensures.built in
-    row_built holds limit v c.args.arena.now.entries.items mid c.add.new.self.entries.items c.args.nullable d (object o.fields o.preserves o.map_type o.bounds) c.args.keys.now o.bounds c.in_ok-slots.slots.items c.in_ok-entry.entry c.in_ok-node.node
-    c.reveal_invariant.ensures refl refl b.count c.in_ok-node.ensures.added c.in_ok-node.ensures.number
-    (λ P sites values sound stand right. b.right P sites values sound stand right)
-    (λ P sites values stand. b.slots_are v.names.items sites (length mid) stand (omega arith))
-    (rw (c.in_ok-slots.ensures.limit, c.in_ok-slots.ensures.values) at c.in_ok-entry.ensures)
+    let added = c.add_row.ensures in
+    three_ok c.add_row.result _ _ _ _ added.number added.count (rw (c.in_ok-slots.ensures.limit, c.in_ok-slots.ensures.values) at added.right)
+    (λ n number count right d. row_built g.Z.SizeSet.holds c.args.arena.now.limit v c.args.arena.now.entries.items mid c.add_row.new.arena.entries.items c.args.nullable d (object o.fields o.preserves o.map_type o.bounds) c.args.keys.now o.bounds c.in_ok-slots.slots.items n
+    c.reveal_invariant.ensures refl refl (number ∙ b.count) count b.right (λ P sites values stand. b.slots_are v.names.items sites n stand (omega arith)) right)
 
 pub build_map-returns-clause-built : goal.build_map-returns-clause-built
-build_map-returns-clause-built g t c = λ d.
-    let holds = g.Z.SizeSet.holds in
-    let limit = c.args.arena.now.limit in
+build_map-returns-clause-built g t c =
     let v = c.args.arena.now.values in
     let m = c.args.map.now in
+    let old = c.args.arena.now.entries.items in
     let mid = c.build.new.arena.entries.items in
-    let b = rw c.node_below.ensures at c.in_ok-value.ensures.built in
     let p = c.in_ok-value.value in
-    let count = rw c.in_ok-value.ensures.values at c.len.ensures in
-    row_built holds limit v c.args.arena.now.entries.items mid c.add.new.self.entries.items c.args.nullable d (map_sort m.value m.map_type m.bounds) c.args.keys.now m.bounds c.in_ok-slots.slots.items c.in_ok-entry.entry c.in_ok-node.node
-    c.reveal_invariant.ensures refl refl b.count c.in_ok-node.ensures.added c.in_ok-node.ensures.number
-    (λ P sites values sound stand right. b.right P sites values sound stand right)
-    (λ P sites values stand. rw (← values.names) (c.in_ok-slots.ensures.slots v.names.items sites (length mid) m.value (omega (arith, count)) (omega (arith, b.last)) (last_site sites (length c.args.arena.now.entries.items) p m.value [] (omega (arith, b.last, b.count)) stand)))
-    (rw (c.in_ok-value.ensures.limit, c.in_ok-value.ensures.values) at c.in_ok-entry.ensures)
+    let b = rw c.node_below.ensures at c.in_ok-value.ensures.built in
+    let names = rw c.in_ok-value.ensures.values at c.len.ensures in
+    let added = c.add_row.ensures in
+    three_ok c.add_row.result _ _ _ _ added.number added.count (rw (c.in_ok-value.ensures.limit, c.in_ok-value.ensures.values) at added.right)
+    (λ n number count right d. row_built g.Z.SizeSet.holds c.args.arena.now.limit v old mid c.add_row.new.arena.entries.items c.args.nullable d (map_sort m.value m.map_type m.bounds) c.args.keys.now m.bounds c.in_ok-slots.slots.items n
+    c.reveal_invariant.ensures refl refl (number ∙ b.count) count b.right
+    (λ P sites values stand. rw (← values.names) (c.in_ok-slots.ensures.slots v.names.items sites n m.value (omega (arith, names)) (omega (arith, b.last, number)) (last_site sites (length old) p m.value [] (omega (arith, b.last, b.count)) stand))) right)
 
 pub build_list-returns-clause-built : goal.build_list-returns-clause-built
-build_list-returns-clause-built g t c = λ d.
-    let holds = g.Z.SizeSet.holds in
+build_list-returns-clause-built g t c =
     let l = c.args.list.now in
     let b = rw (c.node_below.ensures, c.item_keys.ensures) at c.in_ok-item.ensures.built in
-    list_built holds c.args.arena.now.limit c.args.arena.now.values c.args.arena.now.entries.items c.build.new.arena.entries.items c.add.new.self.entries.items c.args.nullable d l.item l.list_type l.keys.items l.bounds c.args.keys.now
-    c.in_ok-item.item c.in_ok-entry.entry c.in_ok-node.node c.reveal_invariant.ensures b c.in_ok-node.ensures.added c.in_ok-node.ensures.number
-    (rw (c.in_ok-item.ensures.limit, c.in_ok-item.ensures.values) at c.in_ok-entry.ensures)
+    let added = c.add_list.ensures in
+    three_ok c.add_list.result _ _ _ _ added.number added.count (rw (c.in_ok-item.ensures.limit, c.in_ok-item.ensures.values) at added.right)
+    (λ n number count right d. list_built g.Z.SizeSet.holds c.args.arena.now.limit c.args.arena.now.values c.args.arena.now.entries.items c.build.new.arena.entries.items c.add_list.new.arena.entries.items c.args.nullable d l.item l.list_type l.keys.items l.bounds c.args.keys.now
+    c.in_ok-item.item n c.reveal_invariant.ensures b number count right)
+
+pub build_field-returns-clause-slot : goal.build_field-returns-clause-slot
+build_field-returns-clause-slot g t c = record { name_is = λ names. c.in_ok-copy.ensures; must = search rules; key = c.is_key.ensures }
+
+pub build_fields-loop-field-init : goal.build_fields-loop-field-init
+build_fields-loop-field-init g t c =
+    let a = c.args.arena.now in
+    record { values = refl; limit = refl; built = rw c.new-slots.ensures.items (no_fields_built g.Z.SizeSet.holds a.limit a.values a.entries.items c.args.keys.now) }
+
+pub build_map-add_row-requires-clause-below : goal.build_map-add_row-requires-clause-below
+build_map-add_row-requires-clause-below g t c = λ k d l. let h = c.in_ok-slots.ensures.below k d l in omega (arith, c.in_ok-value.ensures.built.last)
+
+pub build_list-add_list-requires-clause-item : goal.build_list-add_list-requires-clause-item
+build_list-add_list-requires-clause-item g t c = omega (arith, c.in_ok-item.ensures.built.last)

@@ -30,3 +30,11 @@ loop-done-preserved g c =
           h whole (omega arith) (c.loop-done.invariant.levels P ss h) c.index-choices-count.is is_behind
           (λ s rest a must b. c.in_ok-level.ensures.level P s rest c.args.bounds a must (rw c.deref.ensures.value b));
     })
+
+pub slot_level-requires-clause-behind : goal.slot_level-requires-clause-behind
+slot_level-requires-clause-behind g c =
+    let test = c.loop-done-test.true in
+    let whole = c.loop-done.invariant.whole in
+    let shaped = rw (← c.index.ensures) at (c.loop-done.invariant.shaped c.loop-done.done c.index.result.now (omega arith)) in
+    let value = ap length c.deref.ensures.value in
+    omega arith
