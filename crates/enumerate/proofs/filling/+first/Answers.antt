@@ -593,3 +593,51 @@ first_item-returns-in_ok-used-in-Keys-clause-ok g t c =
     let some = some_size c.requires.size in
     IfOk-weaker c.first_row.result _ _ (λ v h. item_least q c.args.node c.args.child (c.no_dead_end.ensures.parts _ there) (c.sound_parts.ensures.parts _ there) items c.args.items.now c.args.size (data_of v) some c.requires.first.are
     (subst (λ us. IsLeast tree_cmp (IsRow q c.args.child (c.args.size - 1) us) (data_of v)) (ap rows_of c.as_slice.ensures.value ∙ c.in_ok-used-in-Keys.ensures) h)) c.first_row.ensures.ok
+
+pub first_item-returns-in-Free-clause-steps : goal.first_item-returns-in-Free-clause-steps
+first_item-returns-in-Free-clause-steps g t c = c.first.ensures.steps
+
+pub first_item-returns-in_err-used-in-Keys-clause-steps : goal.first_item-returns-in_err-used-in-Keys-clause-steps
+first_item-returns-in_err-used-in-Keys-clause-steps g t c = λ w wide. omega arith
+
+pub first_item-returns-in_ok-used-in-Keys-clause-steps : goal.first_item-returns-in_ok-used-in-Keys-clause-steps
+first_item-returns-in_ok-used-in-Keys-clause-steps g t c = c.first_row.ensures.steps
+
+pub first_items-returns-in_err-grow_items-clause-steps : goal.first_items-returns-in_err-grow_items-clause-steps
+first_items-returns-in_err-grow_items-clause-steps g t c = c.grow_items.ensures.steps
+
+pub first_items-returns-in_ok-grow_items-clause-steps : goal.first_items-returns-in_ok-grow_items-clause-steps
+first_items-returns-in_ok-grow_items-clause-steps g t c = c.grow_items.ensures.steps
+
+pub first_items-returns-else-room-gt0-clause-steps : goal.first_items-returns-else-room-gt0-clause-steps
+first_items-returns-else-room-gt0-clause-steps g t c = λ w wide. omega arith
+
+pub first_value-returns-clause-steps : goal.first_value-returns-clause-steps
+first_value-returns-clause-steps g t c = c.first.ensures.steps
+
+pub grow_items-returns-in_default-clause-steps : goal.grow_items-returns-in_default-clause-steps
+grow_items-returns-in_default-clause-steps g t c = λ w wide. omega arith
+
+pub grow_items-returns-in_default-clause-last : goal.grow_items-returns-in_default-clause-last
+grow_items-returns-in_default-clause-last g t c = refl
+
+pub grow_items-returns-clause-last : goal.grow_items-returns-clause-last
+grow_items-returns-clause-last g t c = tt
+
+pub grow_slots-returns-in_default-clause-steps : goal.grow_slots-returns-in_default-clause-steps
+grow_slots-returns-in_default-clause-steps g t c = λ w wide. omega arith
+
+pub grow_slots-returns-in_default-clause-last : goal.grow_slots-returns-in_default-clause-last
+grow_slots-returns-in_default-clause-last g t c = refl
+
+pub grow_slots-returns-clause-last : goal.grow_slots-returns-clause-last
+grow_slots-returns-clause-last g t c = tt
+
+pub put_member-returns-in_err-same-clause-steps : goal.put_member-returns-in_err-same-clause-steps
+put_member-returns-in_err-same-clause-steps g t c = λ w wide. omega arith
+
+pub put_member-returns-in_err-push-clause-steps : goal.put_member-returns-in_err-push-clause-steps
+put_member-returns-in_err-push-clause-steps g t c = λ w wide. omega arith
+
+pub put_member-returns-clause-steps : goal.put_member-returns-clause-steps
+put_member-returns-clause-steps g t c = c.first_slots.ensures.steps

@@ -13,7 +13,7 @@ use Rattle.enumerate.specs.Internal.Rows.{slots_from, bounds_at}
 use Rattle.enumerate.specs.Internal.Lists.{AreFirst}
 use Rattle.enumerate.specs.Internal.Membership.{StandFresh, IsFreshRow}
 use Rattle.std.proofs.Common.{ap, sym, refl, subst, ◌∙◌, arith}
-use Rattle.enumerate.proofs.MoveCosts.{costs_within, costs_below, costs_row, costs_first, costs_first_rest}
+use Rattle.enumerate.proofs.MoveCosts.{costs_within, costs_below, costs_row, costs_first, costs_first_rest, costs_wider}
 use Rattle.enumerate.proofs.MembershipLemmas.{lighter, answered, one_slot_less, absent_here, absent_there, filled_here, filled_there, order_at, rule_at, row_part, part_row, list_part, part_list, null_part, item_few, item_steps, next_steps, fresh_in, part_made, part_ends, first_next, goes_on, items_some}
 use Rattle.std.proofs.Common.{take}
 use Rattle.enumerate.proofs.MembershipLemmas.{row_lighter, map_at}
@@ -286,3 +286,46 @@ make_list-loop-place-preserved g t c =
           let cost = next_steps w c.args.items.now c.loop-place.place x (omega arith) (sym c.index-items-place.is) in
           omega (arith, steps, before, cost);
     }
+
+pub is_fresh_item-returns-in-Free-clause-steps : goal.is_fresh_item-returns-in-Free-clause-steps
+is_fresh_item-returns-in-Free-clause-steps g t c = c.is_part.ensures.steps
+
+pub is_fresh_item-returns-then-contains-clause-steps : goal.is_fresh_item-returns-then-contains-clause-steps
+is_fresh_item-returns-then-contains-clause-steps g t c = λ w wide. omega arith
+
+pub is_fresh_item-returns-else-contains-clause-steps : goal.is_fresh_item-returns-else-contains-clause-steps
+is_fresh_item-returns-else-contains-clause-steps g t c = c.is_part-in-Whole.ensures.steps
+
+pub is_fresh_item-returns-in_err-used-in-Keys-clause-steps : goal.is_fresh_item-returns-in_err-used-in-Keys-clause-steps
+is_fresh_item-returns-in_err-used-in-Keys-clause-steps g t c = λ w wide. omega arith
+
+pub is_fresh_item-returns-in_ok-used-in-Keys-clause-steps : goal.is_fresh_item-returns-in_ok-used-in-Keys-clause-steps
+is_fresh_item-returns-in_ok-used-in-Keys-clause-steps g t c = c.is_fresh_row.ensures.steps
+
+pub make_list-returns-then-is_empty-clause-steps : goal.make_list-returns-then-is_empty-clause-steps
+make_list-returns-then-is_empty-clause-steps g t c = λ w wide. omega arith
+
+pub make_list-returns-in_default-clause-steps : goal.make_list-returns-in_default-clause-steps
+make_list-returns-in_default-clause-steps g t c = λ w wide. omega (arith, c.item.ensures.step)
+
+pub stand_fresh-returns-in_default-clause-steps : goal.stand_fresh-returns-in_default-clause-steps
+stand_fresh-returns-in_default-clause-steps g t c = λ w wide. omega (arith, c.slot.ensures.step)
+
+pub stand_fresh-returns-then-slot-clause-steps : goal.stand_fresh-returns-then-slot-clause-steps
+stand_fresh-returns-then-slot-clause-steps g t c = λ w wide. omega (arith, c.slot.ensures.step)
+
+pub stand_fresh-returns-in_default-value_under-clause-steps : goal.stand_fresh-returns-in_default-value_under-clause-steps
+stand_fresh-returns-in_default-value_under-clause-steps g t c =
+    costs_wider c.args.plan.now c.args.node c.args.place c.args.meter.now c.slot.new.meter (members_count (members_of c.args.members.now)) c.slot.ensures.step
+    (one_slot_less c.args.plan.now c.args.node c.args.place c.in-Some.slot c.in-Some.ensures.some) c.stand_fresh.new.meter c.stand_fresh.ensures.steps
+
+pub stand_fresh-stand_fresh-requires : goal.stand_fresh-stand_fresh-requires
+stand_fresh-stand_fresh-requires g t c κs within =
+    let less = one_slot_less c.args.plan.now c.args.node c.args.place c.in-Some.slot c.in-Some.ensures.some in
+    (omega (arith, c.decreases, less), (within, (c.requires.node, (c.requires.row, (omega (arith, c.in-Some.ensures.within), (omega (arith, c.requires.taken), c.requires.limit))))))
+
+pub stand_fresh-overflow_add-place : goal.stand_fresh-overflow_add-place
+stand_fresh-overflow_add-place g t c = omega (arith, c.in-Some.ensures.followed)
+
+pub stand_fresh-overflow_add-place-2 : goal.stand_fresh-overflow_add-place-2
+stand_fresh-overflow_add-place-2 g t c = omega (arith, c.in-Some.ensures.followed)

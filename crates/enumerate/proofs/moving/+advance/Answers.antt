@@ -1032,3 +1032,15 @@ advance_list-returns-in-Last-clause-last g t c =
     λ w wide.
     let whole : (w + 1) * node_count (data_of c.args.tree) ≡ (w + 1) * 1 + (w + 1) * items_count old = ap (λ x. (w + 1) * x) count ∙ mul-add (w + 1) 1 (items_count old) in
     omega (arith, whole, c.item.ensures.step, (subst (λ s. CostsLastStep s q c.item.new.meter c.advance_items.new.meter (items_count old)) c.in-Last.is c.in_ok-advance_items.ensures.last) w wide)
+
+pub advance_item-returns-in_err-used-in-Keys-clause-steps : goal.advance_item-returns-in_err-used-in-Keys-clause-steps
+advance_item-returns-in_err-used-in-Keys-clause-steps g t c = λ w wide. omega arith
+
+pub advance_items-returns-in-To-clause-last : goal.advance_items-returns-in-To-clause-last
+advance_items-returns-in-To-clause-last g t c = tt
+
+pub advance_items-returns-in-Moved-clause-last : goal.advance_items-returns-in-Moved-clause-last
+advance_items-returns-in-Moved-clause-last g t c = tt
+
+pub advance_list-returns-in-Moved-clause-last : goal.advance_list-returns-in-Moved-clause-last
+advance_list-returns-in-Moved-clause-last g t c = tt
