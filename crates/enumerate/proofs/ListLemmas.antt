@@ -18,7 +18,7 @@ use Rattle.plan.specs.Pools.Pools.{Pools}
 use Rattle.plan.specs.Sets.{IsLeastFrom, IsEmptyFrom}
 use Rattle.plan.specs.Samples.Part.{IsPart}
 use Rattle.plan.specs.Samples.Sites.{item_site, sites_of}
-use Rattle.plan.specs.Samples.Sizes.{items_from, HasMore, IsUpTo}
+use Rattle.plan.specs.Samples.Sizes.{items_from, HasSize, HasMore, IsUpTo}
 use Rattle.plan.specs.Samples.RuleOfParts.{RuleOfParts, AreParts, alike_at}
 use Rattle.plan.specs.Samples.NoDeadEnd.{NoDeadEnd, items_then}
 use Rattle.plan.specs.Samples.Question.{Question}
@@ -38,6 +38,9 @@ some_nodes (tree.integer z) = omega arith
 some_nodes (tree.text s) = omega arith
 some_nodes (tree.list ds) = omega arith
 some_nodes (tree.object ms) = omega arith
+
+pub some_size : {P : Pools} {N : Node} {n : ℕ} → HasSize P N n → 1 ≤ n
+some_size h = omega (arith, some_nodes h.part, h.nodes_are)
 
 pub then_then : (ds es fs : Items) → items_then (items_then ds es) fs ≡ items_then ds (items_then es fs)
 then_then no_items es fs = refl

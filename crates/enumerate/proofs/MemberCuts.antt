@@ -74,6 +74,9 @@ member_here k t xs x begin is = drop_more xs t x (begins_within k xs t begin) �
 pub count_from : (items : List Member) (t : ℕ) (one : Member) → drop t items ≡ one ∷ drop (t + 1) items → members_count (members_of (drop t items)) ≡ node_count (data_of one.tree) + members_count (members_of (drop (t + 1) items))
 count_from items t one is = ap (λ ms. members_count (members_of ms)) is
 
+pub count_here : (k : List ℕ) (t : ℕ) (xs : List Member) (x : Member) → Begins k (members_of (drop t xs)) → x ≡ get_or xs t x → members_count (members_of (drop t xs)) ≡ node_count (data_of x.tree) + members_count (members_of (drop (t + 1) xs))
+count_here k t xs x begin is = count_from xs t x (member_here k t xs x begin is)
+
 -- one member was taken off those up to its place
 pub record IsCut (t : ℕ) (old front : List Member) (x one : Member) : Type 0 where
   pub is : one ≡ x

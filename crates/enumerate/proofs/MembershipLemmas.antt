@@ -15,8 +15,6 @@ use Rattle.jtree.specs.Internal.Rising.{Among, contains}
 use Rattle.schema.specs.declared.node.Bounds.{Bounds}
 use Rattle.plan.specs.Pools.Pools.{Pools}
 use Rattle.plan.specs.Samples.Part.{IsPart}
-use Rattle.schema.specs.Nodes.Node.{Node, node, scalar, open_}
-use Rattle.schema.specs.Nodes.Node as nodes
 use Rattle.stored.specs.Objects.Becomes.{is_nullable}
 use Rattle.plan.specs.declared.sort.Distinct.TheVariants.{Keys}
 use Rattle.plan.specs.Samples.Candidates.{distinct_of, sort_of, IsWidth, HasWidthBy}
@@ -27,7 +25,7 @@ use Rattle.jtree.specs.View.{data_of, items_of}
 use Rattle.jtree.specs.declared.value.Tree.{Tree}
 use Rattle.plan.specs.declared.sort.Sort.{Sort}
 use Rattle.plan.specs.declared.sort.Sort.TheVariants as sort
-use Rattle.plan.specs.Samples.Sites.{Site, item_site, Slot, slots, sites_of, item_keys, item_site_at}
+use Rattle.plan.specs.Samples.Sites.{Site, item_site, Slot, slots, sites_of}
 use Rattle.plan.specs.Samples.Handed.{IsSlotAt}
 use Rattle.plan.specs.declared.plan.Slot as handed
 use Rattle.plan.specs.Samples.Sizes.{AreFillings, filled_count, CanFill, HasMore}
@@ -39,6 +37,8 @@ use Rattle.enumerate.specs.Internal.Rows.{slots_from, bounds_at, still_used}
 use Rattle.enumerate.specs.Internal.Candidates.{agreeing_if}
 use Rattle.enumerate.specs.Internal.Lists.{AreFirst, IsFreshItem}
 use Rattle.enumerate.proofs.ListLemmas.{few_items, counted, then_nodes, parts_split, apart_fresh, first_more}
+use Rattle.enumerate.proofs.WholeListLemmas.{list_site}
+use Rattle.enumerate.proofs.WholeListLemmas as lists
 use Rattle.enumerate.specs.Internal.Membership.{still_left, StandFresh, IsFreshRow, IsListOf}
 
 -- ---- measures
@@ -115,14 +115,11 @@ module _ (P : Pools) (b : Bounds) (t : ℕ) (used : List Data) (ms : Members) wh
           let count : t + 1 + filled_count h.fillings ≡ t + (1 + filled_count h.fillings) = omega arith in
           record { fillings = Some d ∷ h.fillings; are = first ∙ ap (member s.name d) h.are; parts = (part, h.parts); ends = subst (λ n. CanFill P [] b n 0) count h.ends; fresh = h.fresh }
 
--- ---- answers and steps
+-- ---- answers
 
 pub answered : {E : Type 0} (r : Result Bool E) (A B : Type 0) → (A → B) → (B → A) → IfOk r (λ is. IsTrue is ↔ A) → IfOk r (λ is. IsTrue is ↔ B)
 answered (Ok is) A B there back h = (λ yes. there (h.0 yes), λ b. h.1 (back b))
 answered (Err e) A B there back h = h
-
-pub split_cost : (w a b m : ℕ) → m ≡ a + b → (w + 1) * m ≡ (w + 1) * a + (w + 1) * b
-split_cost w a b m e = let s : (w + 1) * m ≡ (w + 1) * (a + b) = ap (λ z. (w + 1) * z) e in omega (arith, s)
 
 -- ---- slots as they are handed out
 
@@ -165,13 +162,6 @@ sort_cases : (s : Sort) → (s ≡ sort.Leaf) ⊎ ((s ≡ sort.Row) ⊎ (s ≡ s
 sort_cases sort.Leaf = inl refl
 sort_cases sort.Row = inr (inl refl)
 sort_cases sort.List = inr (inr refl)
-
-item_of : (N : Node) → sort_of N ≡ sort.List → (M : Site) × (item_site_at N ≡ Some M)
-item_of (node nullable description (scalar kind cs)) e = cc
-item_of (node nullable description (nodes.object fs preserves type bounds)) e = cc
-item_of (node nullable description (nodes.map N type bounds)) e = cc
-item_of (node nullable description (nodes.list N type keys bounds)) e = (record { node = N; keys = item_keys type keys }, refl)
-item_of (node nullable description open_) e = cc
 
 -- ---- rows
 
@@ -224,11 +214,9 @@ module _ (q : Question) (i : ℕ) (rule : RuleOfParts q.pools q.limit (site q i)
 
   pub part_list : sort_of (site q i).node ≡ sort.List → node_count v ≤ q.limit → v ≢ null → IsPart q.pools (site q i).node v → IsListOf q i v
   part_list is_list few other part =
-      let M = item_of (site q i).node is_list in
-      elim ((rule.list M.0 v M.1 few).0 part) [
-        | inl none ↦ absurd (other none.0)
-        | inr h ↦ (h.items, (h.is, subst (IsPart q.pools (site q i).node) h.is part))
-      ]
+      let M = list_site (site q i).node is_list in
+      let r = lists.part_list q i M.0 rule M.1 v part few (λ none _. other none) in
+      (r.0, (r.1, subst (IsPart q.pools (site q i).node) r.1 part))
 
   pub null_part : (sort_of (site q i).node ≡ sort.Leaf → ⊥) → 1 ≤ q.limit → v ≡ null → IsPart q.pools (site q i).node v ↔ (is_nullable (site q i).node ≡ true)
   null_part inner some none = elim (sort_cases (sort_of (site q i).node)) [
@@ -238,7 +226,7 @@ module _ (q : Question) (i : ℕ) (rule : RuleOfParts q.pools q.limit (site q i)
       λ may. (rule.row v row).1 (inl (none, may)),
     )
     | inr (inr is_list) ↦
-        let M = item_of (site q i).node is_list in
+        let M = list_site (site q i).node is_list in
         let few : node_count v ≤ q.limit = rw none some in (
           λ part. elim ((rule.list M.0 v M.1 few).0 part) [ inl h ↦ h.1 | inr h ↦ let no : null ≡ list h.items = sym none ∙ h.is in cc ],
           λ may. (rule.list M.0 v M.1 few).1 (inl (none, may)),

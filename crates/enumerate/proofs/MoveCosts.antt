@@ -1,18 +1,116 @@
 -- What moves cost, step by step.
-use Rattle.std.specs.Prelude.{◌≡◌, ℕ, ◌+◌, ◌*◌, ◌≤◌, length}
-use Rattle.std.proofs.Common.{arith}
-use Rattle.std.proofs.Math.Nat.{mul-le-mul_left}
+use Rattle.std.specs.Prelude.{◌≡◌, ℕ, ◌+◌, ◌-◌, ◌*◌, ◌≤◌, length}
+use Rattle.std.proofs.Common.{ap, ◌∙◌, arith}
+use Rattle.std.proofs.Math.Nat.{mul-add, mul-le-mul_left}
+use Rattle.plan.specs.Samples.Candidates.{sort_of}
 use Rattle.plan.specs.Samples.Question.{Question}
-use Rattle.enumerate.specs.Internal.Nodes.{Costs}
+use Rattle.plan.specs.Samples.Steps.{counted}
+use Rattle.plan.specs.declared.sort.Sort.TheVariants as sort
+use Rattle.enumerate.specs.Internal.Nodes.{site, IsNodeOf, Costs}
 use Rattle.enumerate.specs.Internal.Rows.{slots_from, CostsSlots}
-use Rattle.enumerate.specs.Internal.Steps.{KeepsMeter, CostsLast, CostsLastSlots}
+use Rattle.enumerate.specs.Internal.Steps.{KeepsMeter, CostsLast, CostsLastSlots, CostsTwice}
 use Rattle.enumerate.specs.declared.moved.Moved as answer
 use Rattle.enumerate.specs.declared.moved.Moved.TheVariants as moved
 use Rattle.enumerate.specs.declared.moved.Step.{Step}
 use Rattle.enumerate.specs.declared.moved.Step.TheVariants.{Moved, Last}
+use Rattle.enumerate.proofs.MembershipLemmas.{slots_within}
 
-pub one_cost : (w n : ℕ) → 1 ≤ n → (w + 1) * 1 ≤ (w + 1) * n
-one_cost w n some = mul-le-mul_left (w + 1) some
+-- ---- nodes
+
+-- a part of a sum
+pub part_within : (n j m : ℕ) → n + j ≡ m → n ≤ m
+part_within n j m sum = omega (arith, sum)
+
+-- fewer nodes cost no more
+pub cost_within : (w n m : ℕ) → n ≤ m → (w + 1) * n ≤ (w + 1) * m
+cost_within w n m h = mul-le-mul_left (w + 1) h
+
+pub split_cost : (w a b m : ℕ) → m ≡ a + b → (w + 1) * m ≡ (w + 1) * a + (w + 1) * b
+split_cost w a b m e = ap (λ z. (w + 1) * z) e ∙ mul-add (w + 1) a b
+
+module _ (q : Question) where
+  pub costs_within : (old new n m : ℕ) → n ≤ m → Costs q old new n → Costs q old new m
+  costs_within old new n m few h = λ w wide. omega (arith, cost_within w n m few, h w wide)
+
+  pub costs_twice : (old new n : ℕ) → 1 ≤ n → Costs q old new 1 → Costs q old new (2 * n)
+  costs_twice old new n some h = costs_within old new 1 (2 * n) (omega (arith, some)) h
+
+  pub costs_twice_within : (old new n m : ℕ) → n ≤ m → Costs q old new (2 * n) → Costs q old new (2 * m)
+  costs_twice_within old new n m few h = costs_within old new (2 * n) (2 * m) (omega (arith, few)) h
+
+  -- some nodes, and as many as there may be
+  pub costs_then : (old mid new n m : ℕ) → n ≤ m → Costs q old mid n → Costs q mid new m → Costs q old new (2 * m)
+  costs_then old mid new n m few h k = λ w wide. omega (arith, cost_within w n m few, split_cost w m m (2 * m) (omega arith), h w wide, k w wide)
+
+  -- some nodes, and the others
+  pub costs_both : (old mid new n m : ℕ) → n ≤ m → Costs q old mid n → Costs q mid new (m - n) → Costs q old new m
+  costs_both old mid new n m few h k = λ w wide. omega (arith, split_cost w n (m - n) m (omega (arith, few)), h w wide, k w wide)
+
+  -- a node of one step, and those below it
+  pub costs_below : (old mid new n m : ℕ) → mid ≡ counted old 1 → m ≡ 1 + n → Costs q mid new n → Costs q old new m
+  costs_below old mid new n m step e h = λ w wide. omega (arith, step, split_cost w 1 n m e, h w wide)
+
+-- ---- nodes in slots
+
+-- a row, by its slots
+pub costs_row : (q : Question) (i old new n m : ℕ) → IsNodeOf q i → sort_of (site q i).node ≡ sort.Row → m ≡ 1 + n → CostsSlots q i 0 old new n → Costs q old new m
+costs_row q i old new n m at row e h = λ w wide. omega (arith, slots_within q i at row w wide, split_cost w 1 n m e, h w wide)
+
+pub twice_row : (q : Question) (i old new n m : ℕ) → IsNodeOf q i → sort_of (site q i).node ≡ sort.Row → m ≡ 1 + n → CostsTwice q i 0 old new n → Costs q old new (2 * m)
+twice_row q i old new n m at row e h = λ w wide. omega (arith, slots_within q i at row w wide, split_cost w m m (2 * m) (omega arith), split_cost w 1 n m e, h w wide)
+
+module _ (q : Question) (i place : ℕ) where
+  pub costs_slots : (old new n m : ℕ) → n ≤ m → Costs q old new n → CostsSlots q i place old new m
+  costs_slots old new n m few h = λ w wide. omega (arith, cost_within w n m few, h w wide)
+
+  pub costs_both_slots : (old mid new n m : ℕ) → n ≤ m → Costs q old mid n → CostsSlots q i place mid new (m - n) → CostsSlots q i place old new m
+  costs_both_slots old mid new n m few h k = λ w wide. omega (arith, split_cost w n (m - n) m (omega (arith, few)), h w wide, k w wide)
+
+  -- the first member, and those behind it
+  module _ (old mid new : ℕ) where
+    pub costs_first : (a n m : ℕ) → mid ≡ counted old 1 → m ≡ a + n → Costs q mid new a → CostsSlots q i place old new m
+    costs_first a n m step both h = λ w wide. omega (arith, step, split_cost w a n m both, h w wide)
+
+    pub costs_first_rest : (end a n m : ℕ) → mid ≡ counted old 1 → m ≡ a + n → length (slots_from q i place) ≡ 1 + length (slots_from q i (place + 1)) → Costs q mid new a → CostsSlots q i (place + 1) new end n → CostsSlots q i place old end m
+    costs_first_rest end a n m step both fewer h k = λ w wide. omega (arith, step, split_cost w a n m both, fewer, h w wide, k w wide)
+
+  module _ (old mid n : ℕ) (step : mid ≡ counted old 1) (fewer : length (slots_from q i place) ≡ 1 + length (slots_from q i (place + 1))) where
+    -- with the slot before those
+    pub costs_wider : (new : ℕ) → CostsSlots q i (place + 1) mid new n → CostsSlots q i place old new n
+    costs_wider new h = λ w wide. omega (arith, h w wide, step, fewer)
+
+    pub twice_wider : (new : ℕ) → CostsTwice q i (place + 1) mid new n → CostsTwice q i place old new n
+    twice_wider new h = λ w wide. omega (arith, h w wide, step, fewer)
+
+    pub last_wider : (moved : Step) (new : ℕ) → CostsLastSlots moved q i (place + 1) mid new n → CostsLastSlots moved q i place old new n
+    last_wider Moved new h = tt
+    last_wider (Last r) new h = costs_wider new h
+
+    -- it is left out, those behind it have no next one, and others take their place
+    pub twice_out : (new end room : ℕ) → n ≡ room → CostsSlots q i (place + 1) mid new n → CostsSlots q i (place + 1) new end room → CostsTwice q i place old end n
+    twice_out new end room same h k = λ w wide. omega (arith, step, fewer, ap (λ z. (w + 1) * z) same, h w wide, k w wide)
+
+  module _ (old mid a n m : ℕ) (both : m ≡ a + n) where
+    -- a value stays, and those behind it move
+    pub twice_behind : CostsTwice q i place old mid n → CostsTwice q i place old mid m
+    twice_behind h = λ w wide. omega (arith, split_cost w a n m both, h w wide)
+
+    module _ (new : ℕ) (behind : CostsSlots q i place old mid n) where
+      -- those behind a value have no next one, and the value moves
+      pub twice_value : Costs q mid new (2 * a) → CostsTwice q i place old new m
+      twice_value h = λ w wide. omega (arith, split_cost w a n m both, split_cost w a a (2 * a) (omega arith), behind w wide, h w wide)
+
+      pub twice_put : (end room : ℕ) → n ≡ room → Costs q mid new (2 * a) → CostsSlots q i place new end room → CostsTwice q i place old end m
+      twice_put end room same h k = λ w wide. omega (arith, split_cost w a n m both, split_cost w a a (2 * a) (omega arith), ap (λ z. (w + 1) * z) same, behind w wide, h w wide, k w wide)
+
+      -- neither has it
+      pub costs_value : Costs q mid new a → CostsSlots q i place old new m
+      costs_value h = λ w wide. omega (arith, split_cost w a n m both, behind w wide, h w wide)
+
+      pub twice_grown : (end room : ℕ) → m ≡ room → Costs q mid new a → CostsSlots q i place new end room → CostsTwice q i place old end m
+      twice_grown end room same h k = λ w wide. omega (arith, split_cost w a n m both, ap (λ z. (w + 1) * z) same, behind w wide, h w wide, k w wide)
+
+-- ---- where there may be no next one
 
 pub costs_last : (m : answer.Moved) (q : Question) (old new n : ℕ) → Costs q old new n → CostsLast m q old new n
 costs_last (moved.To t) q old new n h = tt
@@ -22,8 +120,3 @@ costs_last (moved.Last k) q old new n h = h
 pub last_kept : (step : Step) (q : Question) (i place old mid new n : ℕ) → CostsSlots q i place old mid n → KeepsMeter step mid new → CostsLastSlots step q i place old new n
 last_kept Moved q i place old mid new n h k = tt
 last_kept (Last r) q i place old mid new n h k = λ w wide. omega (arith, h w wide, k)
-
--- with the slot before those
-pub last_wider : (step : Step) (q : Question) (i place old mid new n : ℕ) → mid ≤ old + 1 → length (slots_from q i place) ≡ 1 + length (slots_from q i (place + 1)) → CostsLastSlots step q i (place + 1) mid new n → CostsLastSlots step q i place old new n
-last_wider Moved q i place old mid new n one fewer h = tt
-last_wider (Last r) q i place old mid new n one fewer h = λ w wide. omega (arith, h w wide, one, fewer)

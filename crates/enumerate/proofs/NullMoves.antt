@@ -41,14 +41,14 @@ no_items_left : (ds : Items) → items_count ds ≡ 0 → ds ≡ no_items
 no_items_left no_items e = refl
 no_items_left (item d ds) e = let some = some_nodes d in absurd (omega (arith, e, some))
 
-module _ (q : Question) (i : ℕ) (rule : RuleOfParts q.pools q.limit (site q i)) (row : sort_of (site q i).node ≡ sort.Row) where
+module _ (q : Question) (i : ℕ) (rule : RuleOfParts q.pools q.limit (site q i)) (is_row : sort_of (site q i).node ≡ sort.Row) where
   row_past : (n : ℕ) (u : Data) → IsPartOf q i n u → (u ≡ null → ⊥) → IsRow q i (n - 1) [] u
-  row_past n u p other = row_unless_null q i rule row n u p (λ is nullable. other is)
+  row_past n u p other = row_unless_null q i rule is_row n u p (λ is nullable. other is)
 
   -- the next row is the next part, where the old one is not null
   pub row_moved : (old : Data) (m : Moved) → IsMoved (IsRow q i (node_count old - 1) []) old m → IsMoved (IsPartOf q i (node_count old)) old m
   row_moved old (To t) h = record {
-    is = (row_plain q i rule row (node_count old) (data_of t) (some_nodes old) h.is.0, h.is.1);
+    is = (row_plain q i rule is_row (node_count old) (data_of t) (some_nodes old) h.is.0, h.is.1);
     least = λ u p less. h.least u (row_past (node_count old) u p.0 (never_null old u p.0.nodes_are p.1), p.1) less;
   }
   row_moved old (Last n) h = ((λ u p less. h.0 u (row_past (node_count old) u p (never_null old u p.nodes_are less)) less), h.1)
@@ -60,7 +60,7 @@ module _ (q : Question) (i : ℕ) (rule : RuleOfParts q.pools q.limit (site q i)
   empty_row h =
       let r : IsRow q i 0 [] (object (members_in (slots_from q i 0) h.fillings)) = record { fillings = h.fillings; is = refl; rest = record { are = h.are; within = h.within; nodes_are = h.nodes_are; fresh = λ c. contained [] _ c } } in
       record {
-        is = (row_plain q i rule row 1 (object no_members) (omega arith) (subst (IsRow q i 0 []) (empty_is _ r) r), refl);
+        is = (row_plain q i rule is_row 1 (object no_members) (omega arith) (subst (IsRow q i 0 []) (empty_is _ r) r), refl);
         least = λ u p less. not_itself tree_cmp tree_order u (object no_members) (empty_is u (row_past 1 u p.0 (past_null u p.1))) less;
       }
 

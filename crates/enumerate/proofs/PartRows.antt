@@ -13,16 +13,13 @@ use Rattle.schema.specs.declared.node.Bounds.{Bounds}
 use Rattle.stored.specs.Objects.Becomes.{is_nullable}
 use Rattle.stored.specs.Objects.StoredByParts.{IsWithin}
 use Rattle.plan.specs.Pools.Pools.{Pools}
-use Rattle.plan.specs.Samples.Sites.{Site, Slot, slots}
+use Rattle.plan.specs.Samples.Sites.{Slot, slots}
 use Rattle.plan.specs.Samples.Sizes.{AreFillings, CanFill, filled_count, filled_nodes}
 use Rattle.plan.specs.Samples.Candidates.{sort_of}
 use Rattle.plan.specs.Samples.RuleOfParts.{RuleOfParts}
 use Rattle.plan.specs.Samples.Keys.{AreKeySlots}
 use Rattle.plan.specs.Samples.Question.{Question}
-use Rattle.plan.specs.Samples.Part.{IsPart}
-use Rattle.plan.specs.declared.sort.Sort.{Sort}
 use Rattle.plan.specs.declared.sort.Sort.TheVariants as sort
-use Rattle.enumerate.proofs.WholeListLemmas.{list_site}
 use Rattle.enumerate.specs.Least.{IsLeast}
 use Rattle.enumerate.specs.Internal.Nodes.{site, IsPartOf, HasSizeAt, weight}
 use Rattle.enumerate.specs.Internal.Rows.{slots_from, bounds_at, IsOpen, IsRow}
@@ -103,12 +100,3 @@ module _ (q : Question) (i : ℕ) (rule : RuleOfParts q.pools q.limit (site q i)
         rest = record { fillings = r.fillings; are = r.rest.are; within = r.rest.within; nodes_are = r.rest.nodes_are };
         free = (_, (known q.pools (slots_from q i 0) r.fillings keys r.rest.are, no_used (slots_from q i 0) _));
       }
-
--- null is a part where it is accepted, and the node no leaf
-null_by : (o : Sort) (s : Site) (P : Pools) (limit : ℕ) → sort_of s.node ≡ o → 1 ≤ limit → RuleOfParts P limit s → (sort_of s.node ≡ sort.Leaf → ⊥) → is_nullable s.node ≡ true → IsPart P s.node null
-null_by sort.Leaf s P limit is some rule inner nullable = absurd (inner is)
-null_by sort.Row s P limit is some rule inner nullable = (rule.row null is).1 (inl (refl, nullable))
-null_by sort.List s P limit is some rule inner nullable = let M = list_site s.node is in (rule.list M.0 null M.1 some).1 (inl (refl, nullable))
-
-pub null_part : (s : Site) (P : Pools) (limit : ℕ) → 1 ≤ limit → RuleOfParts P limit s → (sort_of s.node ≡ sort.Leaf → ⊥) → is_nullable s.node ≡ true → IsPart P s.node null
-null_part s P limit some rule inner nullable = null_by (sort_of s.node) s P limit refl some rule inner nullable

@@ -1,6 +1,5 @@
 -- Samples are the parts of the root within the limit, by size.
-use Rattle.std.proofs.Common.{◌≡◌, ◌<◌, ◌≤◌, ◌+◌, ◌*◌, ℕ, Option, Some, None, refl, sym, subst, arith}
-use Rattle.std.proofs.Math.Nat.{mul-le-mul_left}
+use Rattle.std.proofs.Common.{◌≡◌, ◌<◌, ◌≤◌, ◌+◌, ℕ, Option, Some, None, refl, sym, subst, arith}
 use Rattle.jtree.specs.Data.{Data}
 use Rattle.jtree.specs.Nodes.{node_count, most_nodes}
 use Rattle.jtree.specs.Order.{tree_cmp}
@@ -91,7 +90,3 @@ module _ (q : Question) (i : ℕ) (root : site q i ≡ plain q.root) (small : q.
 
     pub next_none : q.limit ≤ node_count old → IsNextSample q (Some old) None
     next_none full = λ v p. absurd (omega (arith, full, later v p, few q v small p.sample))
-
--- what is within the limit costs at most what the limit does
-pub cost_within : (w n limit : ℕ) → n ≤ limit → (w + 1) * n ≤ (w + 1) * limit
-cost_within w n limit h = mul-le-mul_left (w + 1) h

@@ -67,7 +67,6 @@ pub(crate) fn first_row<Z: SizeSet>(
     ensures ok { IfOk result (λ v. IsLeast tree_cmp (IsRow plan.now node (size - 1) (rows_of used.now)) (data_of v)) }
     ensures steps { Costs plan.now meter.old meter.new size }
 {
-    plan.no_dead_end();
     plan.sound_parts();
     let mut members = Vec::new(alloc);
     first_slots(alloc, plan, node, 0, 0, size - 1, used, &mut members, meter)?;
@@ -95,7 +94,6 @@ pub(crate) fn first_slots<Z: SizeSet>(
     ensures ok { OnOk result (AddsFirst plan.now.pools (slots_from plan.now node place) (bounds_at plan.now node) taken room (rows_of used.now) members.old.items members.new.items) }
     ensures steps { CostsSlots plan.now node place meter.old meter.new room }
 {
-    plan.no_dead_end();
     plan.sound_parts();
     let Some(slot) = plan.slot(node, place, meter) else {
         return Ok(());
@@ -145,7 +143,6 @@ pub(crate) fn grow_slots<Z: SizeSet>(
     ensures steps { CostsSlots plan.now node (place + 1) meter.old meter.new room }
     ensures last { IfOk result (λ step. KeepsMeter step meter.old meter.new) }
 {
-    plan.no_dead_end();
     plan.sound_parts();
     plan.limit();
     let sizes = plan.sizes(slot.node);
@@ -192,7 +189,6 @@ fn first_value<Z: SizeSet>(
     ensures ok { IfOk result (λ v. IsLeast tree_cmp (IsValue plan.now.pools (slot_in plan.now node place) (slots_from plan.now node (place + 1)) (rows_of used.now) size) (data_of v)) }
     ensures steps { Costs plan.now meter.old meter.new size }
 {
-    plan.no_dead_end();
     plan.sound_parts();
     if slot.key {
         return first_key(alloc, plan, slot, size, used, meter);
@@ -225,8 +221,6 @@ pub(crate) fn put_member<Z: SizeSet>(
         (members.old.items ++ member ∷ []) members.new.items) }
     ensures steps { CostsSlots plan.now node (place + 1) meter.old meter.new room }
 {
-    plan.no_dead_end();
-    plan.sound_parts();
     plan.limit();
     let same = still_used(alloc, slot, &member.tree, used)?;
     members.push(member)?;
@@ -261,7 +255,6 @@ fn first_list<Z: SizeSet>(
     ensures steps { Costs plan.now meter.old meter.new size }
 {
     plan.no_dead_end();
-    plan.sound_parts();
     let mut items = Vec::new(alloc);
     if size > 1 {
         let Some(child) = plan.item(node, 0, meter) else {
@@ -290,7 +283,6 @@ pub(crate) fn first_items<Z: SizeSet>(
     ensures steps { Costs plan.now meter.old meter.new room }
 {
     plan.no_dead_end();
-    plan.sound_parts();
     if room > 0 {
         grow_items(alloc, plan, node, child, room, 0, items, meter)?;
     }
@@ -317,8 +309,6 @@ pub(crate) fn grow_items<Z: SizeSet>(
     ensures steps { Costs plan.now meter.old meter.new room }
     ensures last { IfOk result (λ step. KeepsMeter step meter.old meter.new) }
 {
-    plan.no_dead_end();
-    plan.sound_parts();
     plan.limit();
     let more = plan.more(node, items.len() as u32 + 1);
     let Some(size) = least_split(plan.sizes(child), more, room, from) else {

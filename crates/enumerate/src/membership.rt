@@ -41,7 +41,7 @@ pub(crate) fn is_part<Z: SizeSet>(
 }
 
 /// Whether the tree is null.
-fn is_null(tree: &Tree) -> bool
+pub(crate) fn is_null(tree: &Tree) -> bool
     ensures { IsTrue result ↔ (data_of tree.now ≡ null_data) }
 {
     match tree {

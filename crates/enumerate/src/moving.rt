@@ -16,6 +16,7 @@ ghost use Rattle.enumerate.specs.Internal.Moves.{IsMoved, StandIn, Begins, AreMo
 
 use crate::filling::{first_items, grow_items, grow_slots, put_member};
 use crate::leaves::{next_key, next_unused};
+use crate::membership::is_null;
 use crate::moved::{Moved, Step};
 use crate::taken::{references, still_used};
 use jtree::{Items, Member, Members, Tree};
@@ -39,23 +40,12 @@ pub(crate) fn advance<Z: SizeSet>(
     ensures last { IfOk result (λ moved. CostsLast moved plan.now meter.old meter.new (node_count (data_of tree))) }
 {
     plan.no_dead_end();
-    plan.sound_parts();
     plan.limit();
     match plan.sort(node) {
         Sort::Leaf => next_unused(alloc, plan, node, &tree, &[], meter),
         _ if is_null(&tree) => Ok(past_null(alloc, plan, node)),
         Sort::Row => advance_row(alloc, plan, node, tree, &[], meter),
         Sort::List => advance_list(alloc, plan, node, tree, meter),
-    }
-}
-
-/// Whether the tree is null.
-fn is_null(tree: &Tree) -> bool
-    ensures { IsTrue result ↔ (data_of tree.now ≡ null_data) }
-{
-    match tree {
-        Tree::Null => true,
-        _other => false,
     }
 }
 
@@ -67,7 +57,6 @@ fn past_null<Z: SizeSet>(alloc: Global, plan: &Plan<Z>, node: PlanNode) -> Moved
     ensures { IsMoved (IsPartOf plan.now node 1) null_data result }
 {
     plan.no_dead_end();
-    plan.sound_parts();
     match plan.sort(node) {
         Sort::Row if plan.rest(node, 0, 0).has(0) => Moved::To(Tree::Object(Members {
             members: Vec::new(alloc),
@@ -120,7 +109,6 @@ fn advance_row<Z: SizeSet>(
     ensures steps { Costs plan.now meter.old meter.new (2 * node_count (data_of tree)) }
     ensures last { IfOk result (λ moved. CostsLast moved plan.now meter.old meter.new (node_count (data_of tree))) }
 {
-    plan.no_dead_end();
     plan.sound_parts();
     plan.limit();
     let Some(mut members) = into_members(tree) else {
@@ -167,7 +155,6 @@ fn advance_slots<Z: SizeSet>(
     ensures steps { CostsTwice plan.now node place meter.old meter.new (members_count (members_of (drop taken members.old.items))) }
     ensures last { IfOk result (λ step. CostsLastSlots step plan.now node place meter.old meter.new (members_count (members_of (drop taken members.old.items)))) }
 {
-    plan.no_dead_end();
     plan.sound_parts();
     plan.limit();
     let Some(slot) = plan.slot(node, place, meter) else {
@@ -214,7 +201,6 @@ fn advance_filled<Z: SizeSet>(
     ensures steps { CostsTwice plan.now node (place + 1) meter.old meter.new (members_count (members_of (drop taken members.old.items))) }
     ensures last { IfOk result (λ step. CostsLastSlots step plan.now node (place + 1) meter.old meter.new (members_count (members_of (drop taken members.old.items)))) }
 {
-    plan.no_dead_end();
     plan.sound_parts();
     plan.limit();
     let same = still_used(alloc, slot, &members[taken as usize].tree, used)?;
@@ -289,7 +275,6 @@ fn advance_value<Z: SizeSet>(
     ensures steps { Costs plan.now meter.old meter.new (2 * node_count (data_of tree)) }
     ensures last { IfOk result (λ moved. CostsLast moved plan.now meter.old meter.new (node_count (data_of tree))) }
 {
-    plan.no_dead_end();
     plan.sound_parts();
     plan.limit();
     if slot.key {
@@ -317,7 +302,6 @@ fn advance_list<Z: SizeSet>(
     ensures last { IfOk result (λ moved. CostsLast moved plan.now meter.old meter.new (node_count (data_of tree))) }
 {
     plan.no_dead_end();
-    plan.sound_parts();
     plan.limit();
     let Some(mut items) = into_items(tree) else {
         unreachable!()
@@ -354,7 +338,6 @@ fn advance_items<Z: SizeSet>(
     ensures last { IfOk result (λ step. CostsLastStep step plan.now meter.old meter.new (items_count (items_of items.old.items))) }
 {
     plan.no_dead_end();
-    plan.sound_parts();
     plan.limit();
     let mut room = 0;
     while let Some(item) = items.pop() {

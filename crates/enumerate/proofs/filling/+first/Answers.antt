@@ -1,13 +1,13 @@
 use Rattle.std.proofs.lemmas.Result.{IfOk-weaker, on_ok_weaker}
 use Rattle.plan.specs.Samples.Sites.{Site, sites_of}
 use Rattle.enumerate.proofs.KeyItems.{item_open, item_least}
-use Rattle.enumerate.proofs.MembershipLemmas.{lighter, row_lighter, slots_within}
-use Rattle.enumerate.proofs.MoveCosts.{one_cost}
+use Rattle.enumerate.proofs.MembershipLemmas.{lighter, row_lighter, null_part}
+use Rattle.enumerate.proofs.MoveCosts.{part_within, costs_within, costs_both, costs_below, costs_row, costs_slots, costs_both_slots, costs_wider}
 use Rattle.plan.specs.Samples.Sizes.{HasSize}
 use Rattle.enumerate.specs.Internal.Candidates.{IsFreeKey}
 use Rattle.enumerate.proofs.RowSteps.{slot_of, none_at, one_fewer, out_open, out_adds, grown_at, key_there, key_value, key_leaf, part_value, behind_open, place_within, keys_at}
 use Rattle.enumerate.proofs.RowOrder.{in_members, row_least}
-use Rattle.enumerate.proofs.PartRows.{weight_next, null_first, plain_least, plain_open, null_part}
+use Rattle.enumerate.proofs.PartRows.{weight_next, null_first, plain_least, plain_open}
 use Rattle.enumerate.proofs.LeastLemmas.{least_same}
 use Rattle.jtree.specs.Internal.Rising.{contained}
 use Rattle.enumerate.specs.Internal.Candidates.{IsUnusedPart}
@@ -17,7 +17,6 @@ use Rattle.jtree.specs.View.{members_of}
 use Rattle.plan.specs.Samples.Sizes.{CanFill}
 use Rattle.enumerate.specs.Internal.Candidates.{agreeing_if}
 use Rattle.enumerate.proofs.filling.+first.Goals.{first_slots-else-not-slot-via-then-not-slot+else-has, first_slots-else-not-slot-via-else-not-slot}
-use Rattle.std.proofs.Math.Nat.{mul-add}
 use Rattle.std.proofs.Common.{refl, sym, ap, subst, ◌∙◌, arith}
 use Rattle.std.proofs.lemmas.Result.{IfOk-weaker}
 use Rattle.jtree.specs.Data.{list as list_data}
@@ -28,25 +27,24 @@ use Rattle.enumerate.specs.View.{trees_of}
 use Rattle.enumerate.specs.Internal.Candidates.{IsUnusedPart}
 use Rattle.enumerate.specs.Internal.Lists.{FitsItem}
 use Rattle.enumerate.proofs.LeastLemmas.{least_same}
-use Rattle.enumerate.proofs.ListLemmas.{some_nodes, few_items, counted, split_same, fits_same, least_from_same, empty_from_same, adds_none, adds_grown, follow_item, site_among}
+use Rattle.enumerate.proofs.ListLemmas.{some_nodes, some_size, few_items, counted, split_same, fits_same, least_from_same, empty_from_same, adds_none, adds_grown, follow_item, site_among}
 use Rattle.enumerate.proofs.WholeListLemmas.{list_site, list_longer, list_follow, list_first, list_alone, part_fresh, unused_fresh}
 use Rattle.enumerate.proofs.filling.+first.Goals.{first_list-then-size-gt1+in-Some+in_ok-first_items, first_list-else-size-gt1}
 use Rattle.enumerate.proofs.SetItemLemmas.{set_free}
-use Rattle.std.proofs.Common.{◌≡◌, ◌+◌, ◌-◌, ◌*◌, ◌≤◌, ◌<◌, [], ℕ, length, IfNone}
-use Rattle.jtree.specs.Data.{Data}
+use Rattle.std.proofs.Common.{◌≡◌, ◌+◌, ◌-◌, ◌≤◌, ◌<◌, [], ℕ, length, IfNone}
+use Rattle.jtree.specs.Data.{Data, null}
 use Rattle.jtree.specs.Order.{tree_cmp}
 use Rattle.jtree.specs.View.{data_of, items_of}
 use Rattle.plan.specs.Samples.Candidates.{sort_of}
 use Rattle.plan.specs.Samples.Sizes.{HasMore}
 use Rattle.enumerate.specs.Least.{IsLeast}
-use Rattle.enumerate.specs.Internal.Nodes.{site, IsPartOf}
+use Rattle.enumerate.specs.Internal.Nodes.{site, IsPartOf, Costs}
 use Rattle.enumerate.specs.Internal.Candidates.{rows_of}
-use Rattle.enumerate.specs.Internal.Rows.{slots_from, slot_in, bounds_at, IsOpen, AddsFirst, IsRow, still_used}
+use Rattle.enumerate.specs.Internal.Rows.{slots_from, slot_in, bounds_at, IsSlotOf, IsOpen, AddsFirst, IsRow, still_used}
 use Rattle.enumerate.specs.Internal.Lists.{CanFollow, IsFreshItem, AddsItems}
+use Rattle.enumerate.proofs.filling.+first.Given.{Over}
 use Rattle.enumerate.proofs.filling.+first.Goals as goal
-
-split_cost : (k a m : ℕ) → a ≤ m → k * a + k * (m - a) ≡ k * m
-split_cost k a m h = sym (mul-add k a (m - a)) ∙ ap (λ x. k * x) (omega (arith, h))
+use Rattle.enumerate.proofs.filling.+first.Goals.{first_slots-In-Some}
 
 pub first_items-returns-in_ok-grow_items-clause-ok : goal.first_items-returns-in_ok-grow_items-clause-ok
 first_items-returns-in_ok-grow_items-clause-ok g t c =
@@ -86,24 +84,16 @@ grow_items-returns-in_default-clause-ok g t c =
     )
 
 pub grow_items-returns-in_err-item-clause-steps : goal.grow_items-returns-in_err-item-clause-steps
-grow_items-returns-in_err-item-clause-steps g t c = λ w wide.
-    let few : c.in-Some.size ≤ c.args.room = omega (arith, c.in-Some.ensures.1.1.1.1) in
-    omega (arith, split_cost (w + 1) c.in-Some.size c.args.room few, c.first_item.ensures.steps w wide)
+grow_items-returns-in_err-item-clause-steps g t c = costs_within c.args.plan.now c.args.meter.now c.first_item.new.meter c.in-Some.size c.args.room (part_within c.in-Some.size c.in-Some.ensures.1.1.0 c.args.room c.in-Some.ensures.1.1.1.1) c.first_item.ensures.steps
 
 pub grow_items-returns-in_err-push-clause-steps : goal.grow_items-returns-in_err-push-clause-steps
-grow_items-returns-in_err-push-clause-steps g t c = λ w wide.
-    let few : c.in-Some.size ≤ c.args.room = omega (arith, c.in-Some.ensures.1.1.1.1) in
-    omega (arith, split_cost (w + 1) c.in-Some.size c.args.room few, c.first_item.ensures.steps w wide)
+grow_items-returns-in_err-push-clause-steps g t c = costs_within c.args.plan.now c.args.meter.now c.first_item.new.meter c.in-Some.size c.args.room (part_within c.in-Some.size c.in-Some.ensures.1.1.0 c.args.room c.in-Some.ensures.1.1.1.1) c.first_item.ensures.steps
 
 pub grow_items-returns-in_err-first_items-clause-steps : goal.grow_items-returns-in_err-first_items-clause-steps
-grow_items-returns-in_err-first_items-clause-steps g t c = λ w wide.
-    let few : c.in-Some.size ≤ c.args.room = omega (arith, c.in-Some.ensures.1.1.1.1) in
-    omega (arith, split_cost (w + 1) c.in-Some.size c.args.room few, c.first_item.ensures.steps w wide, c.first_items.ensures.steps w wide)
+grow_items-returns-in_err-first_items-clause-steps g t c = costs_both c.args.plan.now c.args.meter.now c.first_item.new.meter c.first_items.new.meter c.in-Some.size c.args.room (part_within c.in-Some.size c.in-Some.ensures.1.1.0 c.args.room c.in-Some.ensures.1.1.1.1) c.first_item.ensures.steps c.first_items.ensures.steps
 
 pub grow_items-returns-clause-steps : goal.grow_items-returns-clause-steps
-grow_items-returns-clause-steps g t c = λ w wide.
-    let few : c.in-Some.size ≤ c.args.room = omega (arith, c.in-Some.ensures.1.1.1.1) in
-    omega (arith, split_cost (w + 1) c.in-Some.size c.args.room few, c.first_item.ensures.steps w wide, c.first_items.ensures.steps w wide)
+grow_items-returns-clause-steps g t c = costs_both c.args.plan.now c.args.meter.now c.first_item.new.meter c.first_items.new.meter c.in-Some.size c.args.room (part_within c.in-Some.size c.in-Some.ensures.1.1.0 c.args.room c.in-Some.ensures.1.1.1.1) c.first_item.ensures.steps c.first_items.ensures.steps
 
 pub grow_items-first_items-requires : goal.grow_items-first_items-requires
 grow_items-first_items-requires g t c κs within =
@@ -150,20 +140,24 @@ first_list-first_items-requires g t c κs within =
     (omega (arith, c.decreases, c.requires.limit), (within, (c.requires.node, (c.in-Some.ensures.below, subst (λ l. CanFollow q c.args.node c.in-Some.child (c.args.size - 1) (items_of l)) (sym c.new-items.ensures.items) follow))))
 
 pub first_list-returns-in_err-first_items-clause-steps : goal.first_list-returns-in_err-first_items-clause-steps
-first_list-returns-in_err-first_items-clause-steps g t c = λ w wide. omega (arith, split_cost (w + 1) 1 c.args.size (omega (arith, c.if-size-gt1.true)), c.item.ensures.step, c.first_items.ensures.steps w wide)
+first_list-returns-in_err-first_items-clause-steps g t c = costs_below c.args.plan.now c.args.meter.now c.item.new.meter c.first_items.new.meter (c.args.size - 1) c.args.size c.item.ensures.step (omega (arith, c.if-size-gt1.true)) c.first_items.ensures.steps
 
 pub first_list-returns-clause-steps : goal.first_list-returns-clause-steps
-first_list-returns-clause-steps g t c = λ w wide. elim c.if-size-gt1.branch [
-  | first_list-then-size-gt1+in-Some+in_ok-first_items b ↦ omega (arith, split_cost (w + 1) 1 c.args.size (omega (arith, b.if-size-gt1.true)), b.item.ensures.step, b.first_items.ensures.steps w wide, b.meter-is)
-  | first_list-else-size-gt1 b ↦ omega (arith, b.meter-is)
-]
+first_list-returns-clause-steps g t c =
+    let q = c.args.plan.now in
+    elim c.if-size-gt1.branch [
+      | first_list-then-size-gt1+in-Some+in_ok-first_items b ↦
+          subst (λ m. Costs q c.args.meter.now m c.args.size) (sym b.meter-is)
+          (costs_below q c.args.meter.now b.item.new.meter b.first_items.new.meter (c.args.size - 1) c.args.size b.item.ensures.step (omega (arith, b.if-size-gt1.true)) b.first_items.ensures.steps)
+      | first_list-else-size-gt1 b ↦ λ w wide. omega (arith, b.meter-is)
+    ]
 
 pub first_list-returns-clause-ok : goal.first_list-returns-clause-ok
 first_list-returns-clause-ok g t c =
     let q = c.args.plan.now in
     let there = site_among q c.args.node c.requires.node in
     let M = list_site (site q c.args.node).node c.requires.list in
-    let some : 1 ≤ c.args.size = omega (arith, some_nodes c.requires.size.part, c.requires.size.nodes_are) in
+    let some = some_size c.requires.size in
     elim c.if-size-gt1.branch [
       | first_list-then-size-gt1+in-Some+in_ok-first_items b ↦
           subst (λ v. IsLeast tree_cmp (IsPartOf q c.args.node c.args.size) (list_data (items_of v.items))) (sym b.items-is)
@@ -202,9 +196,7 @@ first_item-returns-in-Whole-clause-ok g t c =
     (λ u p. (unused_fresh q c.args.node c.args.child c.args.size c.args.items.now u whole).0 p) (λ u f. (unused_fresh q c.args.node c.args.child c.args.size c.args.items.now u whole).1 f) h) c.first_unused.ensures.ok
 
 pub first_item-returns-in-Whole-clause-steps : goal.first_item-returns-in-Whole-clause-steps
-first_item-returns-in-Whole-clause-steps g t c = λ w wide.
-    let some : 1 ≤ c.args.size = omega (arith, some_nodes c.requires.size.part, c.requires.size.nodes_are) in
-    omega (arith, split_cost (w + 1) 1 c.args.size some, c.first_unused.ensures.steps w wide)
+first_item-returns-in-Whole-clause-steps g t c = costs_within c.args.plan.now c.args.meter.now c.first_unused.new.meter 1 c.args.size (some_size c.requires.size) c.first_unused.ensures.steps
 
 pub first_item-first_unused-requires-clause-free : goal.first_item-first_unused-requires-clause-free
 first_item-first_unused-requires-clause-free g t c =
@@ -215,6 +207,13 @@ first_item-first_unused-requires-clause-free g t c =
     ((c.sound_parts.ensures.parts _ there).set (site q c.args.child) c.requires.first.item whole) c.requires.size c.requires.fresh.0 c.requires.fresh.1
 
 -- ---- rows
+
+-- the slot at the place, and those behind it
+slot_here : (g : Over) (t : ℕ) (c : first_slots-In-Some g t) → IsSlotOf c.args.plan.now c.args.node c.args.place c.in-Some.slot
+slot_here g t c = slot_of c.args.plan.now c.args.node c.args.place c.in-Some.slot c.in-Some.ensures.some c.in-Some.ensures.below c.in-Some.ensures.later c.in-Some.ensures.followed
+
+fewer_here : (g : Over) (t : ℕ) (c : first_slots-In-Some g t) → length (slots_from c.args.plan.now c.args.node c.args.place) ≡ 1 + length (slots_from c.args.plan.now c.args.node (c.args.place + 1))
+fewer_here g t c = one_fewer c.args.plan.now c.args.node c.args.place (slot_here g t c).first
 
 pub first_slots-returns-in_default-clause-ok : goal.first_slots-returns-in_default-clause-ok
 first_slots-returns-in_default-clause-ok g t c =
@@ -230,11 +229,11 @@ first_slots-rest-requires-clause-place g t c = omega (arith, c.in-Some.ensures.w
 pub first_slots-first_slots-requires : goal.first_slots-first_slots-requires
 first_slots-first_slots-requires g t c κs within =
     let q = c.args.plan.now in
-    let s = slot_of q c.args.node c.args.place c.in-Some.slot c.in-Some.ensures.some c.in-Some.ensures.below c.in-Some.ensures.later c.in-Some.ensures.followed in
+    let s = slot_here g t (goal.at.first_slots-first_slots-requires g t c).In-Some in
     let sound = c.sound_parts.ensures.parts _ (site_among q c.args.node c.requires.node) in
     let free = sym s.must ∙ c.if-not-slot.true in
     let can = ((c.rest.ensures c.args.room).0 (c.has.ensures.0 c.if-has.true)).1 in
-    let fewer = one_fewer q c.args.node c.args.place s.first in (
+    let fewer = fewer_here g t (goal.at.first_slots-first_slots-requires g t c).In-Some in (
       omega (arith, c.decreases, fewer),
       (within, (c.requires.node, (c.requires.row, (omega (arith, c.requires.taken), (c.requires.limit, out_open q c.args.node c.args.place sound s.first c.args.taken c.args.room (rows_of c.args.used.now) free can c.requires.open))))),
     )
@@ -242,44 +241,32 @@ first_slots-first_slots-requires g t c κs within =
 pub first_slots-returns-then-has-clause-ok : goal.first_slots-returns-then-has-clause-ok
 first_slots-returns-then-has-clause-ok g t c =
     let q = c.args.plan.now in
-    let s = slot_of q c.args.node c.args.place c.in-Some.slot c.in-Some.ensures.some c.in-Some.ensures.below c.in-Some.ensures.later c.in-Some.ensures.followed in
+    let s = slot_here g t (goal.at.first_slots-returns-then-has-clause-ok g t c).In-Some in
     let sound = c.sound_parts.ensures.parts _ (site_among q c.args.node c.requires.node) in
     let free = sym s.must ∙ c.if-not-slot.true in
     on_ok_weaker c.first_slots.result (λ a. out_adds q c.args.node c.args.place sound s.first c.args.taken c.args.room (rows_of c.args.used.now) c.args.members.now.items c.first_slots.new.members.items (omega (arith, c.ranges.room.fits)) free a)
     c.first_slots.ensures.ok
 
 pub first_slots-returns-then-has-clause-steps : goal.first_slots-returns-then-has-clause-steps
-first_slots-returns-then-has-clause-steps g t c = λ w wide.
-    let q = c.args.plan.now in
-    let s = slot_of q c.args.node c.args.place c.in-Some.slot c.in-Some.ensures.some c.in-Some.ensures.below c.in-Some.ensures.later c.in-Some.ensures.followed in
-    let fewer = one_fewer q c.args.node c.args.place s.first in
-    omega (arith, c.slot.ensures.step, c.first_slots.ensures.steps w wide, fewer)
+first_slots-returns-then-has-clause-steps g t c = costs_wider c.args.plan.now c.args.node c.args.place c.args.meter.now c.slot.new.meter c.args.room c.slot.ensures.step (fewer_here g t (goal.at.first_slots-returns-then-has-clause-steps g t c).In-Some) c.first_slots.new.meter c.first_slots.ensures.steps
 
 pub first_slots-grow_slots-requires : goal.first_slots-grow_slots-requires
 first_slots-grow_slots-requires g t c κs within =
     let q = c.args.plan.now in
-    let s = slot_of q c.args.node c.args.place c.in-Some.slot c.in-Some.ensures.some c.in-Some.ensures.below c.in-Some.ensures.later c.in-Some.ensures.followed in
-    let fewer = one_fewer q c.args.node c.args.place s.first in
+    let s = slot_here g t (goal.at.first_slots-grow_slots-requires g t c).In-Some in
+    let fewer = fewer_here g t (goal.at.first_slots-grow_slots-requires g t c).In-Some in
     (omega (arith, c.decreases, fewer), (within, (c.requires.node, (c.requires.row, (s, (c.requires.taken, (c.requires.limit, c.requires.open)))))))
 
 pub first_slots-returns-in_err-grow_slots-clause-steps : goal.first_slots-returns-in_err-grow_slots-clause-steps
-first_slots-returns-in_err-grow_slots-clause-steps g t c = λ w wide.
-    let q = c.args.plan.now in
-    let s = slot_of q c.args.node c.args.place c.in-Some.slot c.in-Some.ensures.some c.in-Some.ensures.below c.in-Some.ensures.later c.in-Some.ensures.followed in
-    let fewer = one_fewer q c.args.node c.args.place s.first in
-    omega (arith, c.slot.ensures.step, c.grow_slots.ensures.steps w wide, fewer)
+first_slots-returns-in_err-grow_slots-clause-steps g t c = costs_wider c.args.plan.now c.args.node c.args.place c.args.meter.now c.slot.new.meter c.args.room c.slot.ensures.step (fewer_here g t (goal.at.first_slots-returns-in_err-grow_slots-clause-steps g t c).In-Some) c.grow_slots.new.meter c.grow_slots.ensures.steps
 
 pub first_slots-returns-clause-steps : goal.first_slots-returns-clause-steps
-first_slots-returns-clause-steps g t c = λ w wide.
-    let q = c.args.plan.now in
-    let s = slot_of q c.args.node c.args.place c.in-Some.slot c.in-Some.ensures.some c.in-Some.ensures.below c.in-Some.ensures.later c.in-Some.ensures.followed in
-    let fewer = one_fewer q c.args.node c.args.place s.first in
-    omega (arith, c.slot.ensures.step, c.grow_slots.ensures.steps w wide, fewer)
+first_slots-returns-clause-steps g t c = costs_wider c.args.plan.now c.args.node c.args.place c.args.meter.now c.slot.new.meter c.args.room c.slot.ensures.step (fewer_here g t (goal.at.first_slots-returns-clause-steps g t c).In-Some) c.grow_slots.new.meter c.grow_slots.ensures.steps
 
 pub first_slots-returns-clause-ok : goal.first_slots-returns-clause-ok
 first_slots-returns-clause-ok g t c =
     let q = c.args.plan.now in
-    let s = slot_of q c.args.node c.args.place c.in-Some.slot c.in-Some.ensures.some c.in-Some.ensures.below c.in-Some.ensures.later c.in-Some.ensures.followed in
+    let s = slot_here g t (goal.at.first_slots-returns-clause-ok g t c).In-Some in
     let sound = c.sound_parts.ensures.parts _ (site_among q c.args.node c.requires.node) in
     grown_at q c.args.node c.args.place sound s.first c.in_ok-grow_slots.field-0 c.args.taken c.args.room (rows_of c.args.used.now) c.args.members.now.items c.grow_slots.new.members.items (omega (arith, c.ranges.room.fits))
     (λ free can. elim c.else-not-slot.branch [
@@ -312,9 +299,7 @@ first_value-returns-then-slot-clause-ok g t c =
     (sym c.requires.slot.key ∙ c.if-slot.true) c.requires.known c.requires.slot.later (subst (λ k. IsLeast tree_cmp (IsFreeKey q c.args.slot.now.node c.args.size k (rows_of c.args.used.now) c.args.slot.now.later) (data_of v)) c.requires.slot.name h)) c.first_key.ensures.ok
 
 pub first_value-returns-then-slot-clause-steps : goal.first_value-returns-then-slot-clause-steps
-first_value-returns-then-slot-clause-steps g t c = λ w wide.
-    let some : 1 ≤ c.args.size = omega (arith, some_nodes c.requires.size.part, c.requires.size.nodes_are) in
-    omega (arith, one_cost w c.args.size some, c.first_key.ensures.steps w wide)
+first_value-returns-then-slot-clause-steps g t c = costs_within c.args.plan.now c.args.meter.now c.first_key.new.meter 1 c.args.size (some_size c.requires.size) c.first_key.ensures.steps
 
 pub first_value-first-requires : goal.first_value-first-requires
 first_value-first-requires g t c κs within =
@@ -408,24 +393,16 @@ grow_slots-returns-clause-ok g t c =
     }
 
 pub grow_slots-returns-in_err-tree-clause-steps : goal.grow_slots-returns-in_err-tree-clause-steps
-grow_slots-returns-in_err-tree-clause-steps g t c = λ w wide.
-    let few : c.in-Some.size ≤ c.args.room = omega (arith, c.in-Some.ensures.1.1.1.1) in
-    omega (arith, split_cost (w + 1) c.in-Some.size c.args.room few, c.first_value.ensures.steps w wide)
+grow_slots-returns-in_err-tree-clause-steps g t c = costs_slots c.args.plan.now c.args.node (c.args.place + 1) c.args.meter.now c.first_value.new.meter c.in-Some.size c.args.room (part_within c.in-Some.size c.in-Some.ensures.1.1.0 c.args.room c.in-Some.ensures.1.1.1.1) c.first_value.ensures.steps
 
 pub grow_slots-returns-in_err-name-clause-steps : goal.grow_slots-returns-in_err-name-clause-steps
-grow_slots-returns-in_err-name-clause-steps g t c = λ w wide.
-    let few : c.in-Some.size ≤ c.args.room = omega (arith, c.in-Some.ensures.1.1.1.1) in
-    omega (arith, split_cost (w + 1) c.in-Some.size c.args.room few, c.first_value.ensures.steps w wide)
+grow_slots-returns-in_err-name-clause-steps g t c = costs_slots c.args.plan.now c.args.node (c.args.place + 1) c.args.meter.now c.first_value.new.meter c.in-Some.size c.args.room (part_within c.in-Some.size c.in-Some.ensures.1.1.0 c.args.room c.in-Some.ensures.1.1.1.1) c.first_value.ensures.steps
 
 pub grow_slots-returns-in_err-put_member-clause-steps : goal.grow_slots-returns-in_err-put_member-clause-steps
-grow_slots-returns-in_err-put_member-clause-steps g t c = λ w wide.
-    let few : c.in-Some.size ≤ c.args.room = omega (arith, c.in-Some.ensures.1.1.1.1) in
-    omega (arith, split_cost (w + 1) c.in-Some.size c.args.room few, c.first_value.ensures.steps w wide, c.put_member.ensures.steps w wide)
+grow_slots-returns-in_err-put_member-clause-steps g t c = costs_both_slots c.args.plan.now c.args.node (c.args.place + 1) c.args.meter.now c.first_value.new.meter c.put_member.new.meter c.in-Some.size c.args.room (part_within c.in-Some.size c.in-Some.ensures.1.1.0 c.args.room c.in-Some.ensures.1.1.1.1) c.first_value.ensures.steps c.put_member.ensures.steps
 
 pub grow_slots-returns-clause-steps : goal.grow_slots-returns-clause-steps
-grow_slots-returns-clause-steps g t c = λ w wide.
-    let few : c.in-Some.size ≤ c.args.room = omega (arith, c.in-Some.ensures.1.1.1.1) in
-    omega (arith, split_cost (w + 1) c.in-Some.size c.args.room few, c.first_value.ensures.steps w wide, c.put_member.ensures.steps w wide)
+grow_slots-returns-clause-steps g t c = costs_both_slots c.args.plan.now c.args.node (c.args.place + 1) c.args.meter.now c.first_value.new.meter c.put_member.new.meter c.in-Some.size c.args.room (part_within c.in-Some.size c.in-Some.ensures.1.1.0 c.args.room c.in-Some.ensures.1.1.1.1) c.first_value.ensures.steps c.put_member.ensures.steps
 
 pub put_member-overflow_add-place : goal.put_member-overflow_add-place
 put_member-overflow_add-place g t c = omega (arith, c.requires.slot.followed)
@@ -480,16 +457,10 @@ first_row-returns-clause-ok g t c =
     subst (λ ms. IsLeast tree_cmp (IsRow q c.args.node (c.args.size - 1) (rows_of c.args.used.now)) (object_data ms)) (sym (ap members_of adds.is ∙ adds.are)) (row_least q c.args.node (c.args.size - 1) (rows_of c.args.used.now) adds.fillings sound.order adds.least)
 
 pub first_row-returns-clause-steps : goal.first_row-returns-clause-steps
-first_row-returns-clause-steps g t c = λ w wide.
-    let q = c.args.plan.now in
-    let few = slots_within q c.args.node c.requires.node c.requires.row w wide in
-    omega (arith, split_cost (w + 1) 1 c.args.size c.requires.some, c.first_slots.ensures.steps w wide, few)
+first_row-returns-clause-steps g t c = costs_row c.args.plan.now c.args.node c.args.meter.now c.first_slots.new.meter (c.args.size - 1) c.args.size c.requires.node c.requires.row (omega (arith, c.requires.some)) c.first_slots.ensures.steps
 
 pub first_row-returns-in_err-first_slots-clause-steps : goal.first_row-returns-in_err-first_slots-clause-steps
-first_row-returns-in_err-first_slots-clause-steps g t c = λ w wide.
-    let q = c.args.plan.now in
-    let few = slots_within q c.args.node c.requires.node c.requires.row w wide in
-    omega (arith, split_cost (w + 1) 1 c.args.size c.requires.some, c.first_slots.ensures.steps w wide, few)
+first_row-returns-in_err-first_slots-clause-steps g t c = costs_row c.args.plan.now c.args.node c.args.meter.now c.first_slots.new.meter (c.args.size - 1) c.args.size c.requires.node c.requires.row (omega (arith, c.requires.some)) c.first_slots.ensures.steps
 
 pub put_member-overflow_add-taken : goal.put_member-overflow_add-taken
 put_member-overflow_add-taken g t c = omega (arith, c.requires.limit, c.limit.ensures, c.limit.type_inv)
@@ -499,7 +470,7 @@ first-first_row-requires g t c κs within =
     let q = c.args.plan.now in
     let there = site_among q c.args.node c.requires.node in
     let row = sym c.in-Row.ensures in
-    let some : 1 ≤ c.args.size = omega (arith, some_nodes c.requires.size.part, c.requires.size.nodes_are) in (
+    let some = some_size c.requires.size in (
       omega (arith, c.decreases, weight_next q c.args.node),
       (
         within,
@@ -554,7 +525,7 @@ first-returns-in_default g t c =
     let one : c.args.size ≡ 1 = omega (arith, c.if-size-eq1.true) in
     record {
       ok = record {
-        is = record { part = null_part (site q c.args.node) q.pools q.limit (omega (arith, one, c.requires.limit)) (c.no_dead_end.ensures.parts _ there) (λ leaf. let no = c.in_default.not-Leaf in no (c.sort.ensures ∙ leaf)) (sym c.null_ok.ensures ∙ c.if-null_ok.true); nodes_are = sym one };
+        is = record { part = (null_part q c.args.node (c.no_dead_end.ensures.parts _ there) null (λ leaf. let no = c.in_default.not-Leaf in no (c.sort.ensures ∙ leaf)) (omega (arith, one, c.requires.limit)) refl).1 (sym c.null_ok.ensures ∙ c.if-null_ok.true); nodes_are = sym one };
         least = λ u p. null_first u (p.nodes_are ∙ one);
       };
       steps = λ w wide. omega arith;
@@ -565,7 +536,7 @@ first-returns-in-Row g t c =
     let q = c.args.plan.now in
     let there = site_among q c.args.node c.requires.node in
     let row = sym c.in-Row.ensures in
-    let some : 1 ≤ c.args.size = omega (arith, some_nodes c.requires.size.part, c.requires.size.nodes_are) in
+    let some = some_size c.requires.size in
     record {
       ok = IfOk-weaker c.first_row.result _ _ (λ v h. plain_least q c.args.node (c.no_dead_end.ensures.parts _ there) row c.args.size (data_of v) some (elim c.if-size-eq1.branch [
         | first-then-size-eq1+else-null_ok w ↦ λ e. sym w.null_ok.ensures ∙ w.if-null_ok.false
@@ -581,9 +552,7 @@ pub first-returns-in-Leaf-clause-ok : goal.first-returns-in-Leaf-clause-ok
 first-returns-in-Leaf-clause-ok g t c = IfOk-weaker c.first_unused.result _ _ (λ v h. least_same tree_cmp (IsUnusedPart c.args.plan.now c.args.node c.args.size []) (IsPartOf c.args.plan.now c.args.node c.args.size) (data_of v) (λ u p. p.0) (λ u p. (p, λ k. contained [] _ k)) h) c.first_unused.ensures.ok
 
 pub first-returns-in-Leaf-clause-steps : goal.first-returns-in-Leaf-clause-steps
-first-returns-in-Leaf-clause-steps g t c = λ w wide.
-    let some : 1 ≤ c.args.size = omega (arith, some_nodes c.requires.size.part, c.requires.size.nodes_are) in
-    omega (arith, one_cost w c.args.size some, c.first_unused.ensures.steps w wide)
+first-returns-in-Leaf-clause-steps g t c = costs_within c.args.plan.now c.args.meter.now c.first_unused.new.meter 1 c.args.size (some_size c.requires.size) c.first_unused.ensures.steps
 
 pub first_item-first_row-requires : goal.first_item-first_row-requires
 first_item-first_row-requires g t c κs within =
@@ -593,7 +562,7 @@ first_item-first_row-requires g t c κs within =
     let there = site_among q c.args.child node in
     let items = (c.sound_parts.ensures.parts _ here).map (site q c.args.child) c.requires.first.item (sym c.distinct.ensures ∙ c.in-Keys.is) in
     let counts = c.sound_parts.ensures.counts _ there in
-    let some : 1 ≤ c.args.size = omega (arith, some_nodes c.requires.size.part, c.requires.size.nodes_are) in (
+    let some = some_size c.requires.size in (
       omega (arith, c.decreases, row_lighter q c.args.child c.args.node c.requires.child),
       (
         within,
@@ -621,6 +590,54 @@ first_item-returns-in_ok-used-in-Keys-clause-ok g t c =
     let here = site_among q c.args.node c.requires.node in
     let there = site_among q c.args.child (omega (arith, c.requires.child, c.requires.node)) in
     let items = (c.sound_parts.ensures.parts _ here).map (site q c.args.child) c.requires.first.item (sym c.distinct.ensures ∙ c.in-Keys.is) in
-    let some : 1 ≤ c.args.size = omega (arith, some_nodes c.requires.size.part, c.requires.size.nodes_are) in
+    let some = some_size c.requires.size in
     IfOk-weaker c.first_row.result _ _ (λ v h. item_least q c.args.node c.args.child (c.no_dead_end.ensures.parts _ there) (c.sound_parts.ensures.parts _ there) items c.args.items.now c.args.size (data_of v) some c.requires.first.are
     (subst (λ us. IsLeast tree_cmp (IsRow q c.args.child (c.args.size - 1) us) (data_of v)) (ap rows_of c.as_slice.ensures.value ∙ c.in_ok-used-in-Keys.ensures) h)) c.first_row.ensures.ok
+
+pub first_item-returns-in-Free-clause-steps : goal.first_item-returns-in-Free-clause-steps
+first_item-returns-in-Free-clause-steps g t c = c.first.ensures.steps
+
+pub first_item-returns-in_err-used-in-Keys-clause-steps : goal.first_item-returns-in_err-used-in-Keys-clause-steps
+first_item-returns-in_err-used-in-Keys-clause-steps g t c = λ w wide. omega arith
+
+pub first_item-returns-in_ok-used-in-Keys-clause-steps : goal.first_item-returns-in_ok-used-in-Keys-clause-steps
+first_item-returns-in_ok-used-in-Keys-clause-steps g t c = c.first_row.ensures.steps
+
+pub first_items-returns-in_err-grow_items-clause-steps : goal.first_items-returns-in_err-grow_items-clause-steps
+first_items-returns-in_err-grow_items-clause-steps g t c = c.grow_items.ensures.steps
+
+pub first_items-returns-in_ok-grow_items-clause-steps : goal.first_items-returns-in_ok-grow_items-clause-steps
+first_items-returns-in_ok-grow_items-clause-steps g t c = c.grow_items.ensures.steps
+
+pub first_items-returns-else-room-gt0-clause-steps : goal.first_items-returns-else-room-gt0-clause-steps
+first_items-returns-else-room-gt0-clause-steps g t c = λ w wide. omega arith
+
+pub first_value-returns-clause-steps : goal.first_value-returns-clause-steps
+first_value-returns-clause-steps g t c = c.first.ensures.steps
+
+pub grow_items-returns-in_default-clause-steps : goal.grow_items-returns-in_default-clause-steps
+grow_items-returns-in_default-clause-steps g t c = λ w wide. omega arith
+
+pub grow_items-returns-in_default-clause-last : goal.grow_items-returns-in_default-clause-last
+grow_items-returns-in_default-clause-last g t c = refl
+
+pub grow_items-returns-clause-last : goal.grow_items-returns-clause-last
+grow_items-returns-clause-last g t c = tt
+
+pub grow_slots-returns-in_default-clause-steps : goal.grow_slots-returns-in_default-clause-steps
+grow_slots-returns-in_default-clause-steps g t c = λ w wide. omega arith
+
+pub grow_slots-returns-in_default-clause-last : goal.grow_slots-returns-in_default-clause-last
+grow_slots-returns-in_default-clause-last g t c = refl
+
+pub grow_slots-returns-clause-last : goal.grow_slots-returns-clause-last
+grow_slots-returns-clause-last g t c = tt
+
+pub put_member-returns-in_err-same-clause-steps : goal.put_member-returns-in_err-same-clause-steps
+put_member-returns-in_err-same-clause-steps g t c = λ w wide. omega arith
+
+pub put_member-returns-in_err-push-clause-steps : goal.put_member-returns-in_err-push-clause-steps
+put_member-returns-in_err-push-clause-steps g t c = λ w wide. omega arith
+
+pub put_member-returns-clause-steps : goal.put_member-returns-clause-steps
+put_member-returns-clause-steps g t c = c.first_slots.ensures.steps

@@ -1,4 +1,4 @@
-use Rattle.std.proofs.Common.{◌≡◌, ◌≢◌, ◌+◌, ◌≤◌, length, drop, ℕ, ◌*◌, true, false, List}
+use Rattle.std.proofs.Common.{◌≡◌, ◌≢◌, ◌+◌, ◌≤◌, drop, ◌*◌, true, false, List}
 use Rattle.jtree.specs.Data.{Data}
 use Rattle.jtree.specs.Data.{member as member_data}
 use Rattle.jtree.specs.Data.{null as null_data}
@@ -13,8 +13,8 @@ use Rattle.enumerate.specs.Internal.Rows.{slots_from, bounds_at}
 use Rattle.enumerate.specs.Internal.Lists.{AreFirst}
 use Rattle.enumerate.specs.Internal.Membership.{StandFresh, IsFreshRow}
 use Rattle.std.proofs.Common.{ap, sym, refl, subst, ◌∙◌, arith}
-use Rattle.std.proofs.Math.Nat.{mul-le-mul_left}
-use Rattle.enumerate.proofs.MembershipLemmas.{lighter, answered, split_cost, one_slot_less, absent_here, absent_there, filled_here, filled_there, order_at, rule_at, row_part, part_row, list_part, part_list, null_part, slots_within, item_few, item_steps, next_steps, fresh_in, part_made, part_ends, first_next, goes_on, items_some}
+use Rattle.enumerate.proofs.MoveCosts.{costs_within, costs_below, costs_row, costs_first, costs_first_rest, costs_wider}
+use Rattle.enumerate.proofs.MembershipLemmas.{lighter, answered, one_slot_less, absent_here, absent_there, filled_here, filled_there, order_at, rule_at, row_part, part_row, list_part, part_list, null_part, item_few, item_steps, next_steps, fresh_in, part_made, part_ends, first_next, goes_on, items_some}
 use Rattle.std.proofs.Common.{take}
 use Rattle.enumerate.proofs.MembershipLemmas.{row_lighter, map_at}
 use Rattle.enumerate.proofs.FreshItemLemmas.{any_found, fresh_item, fresh_row}
@@ -22,20 +22,13 @@ use Rattle.enumerate.proofs.ListLemmas.{some_nodes}
 use Rattle.enumerate.proofs.WholeListLemmas.{always_fresh}
 use Rattle.enumerate.specs.View.{trees_of}
 use Rattle.std.proofs.lemmas.List.{take_all}
-use Rattle.plan.specs.Samples.Question.{Question}
-use Rattle.plan.specs.Samples.Candidates.{IsWidth}
-use Rattle.plan.specs.Samples.Steps.{counted}
-use Rattle.jtree.specs.declared.value.Tree.{Tree}
-use Rattle.jtree.specs.declared.value.Member.{Member}
 use Rattle.enumerate.proofs.membership.+part.Goals as goal
 
--- src/membership.rt:243:27
 pub is_fresh_item-is_part-requires : goal.is_fresh_item-is_part-requires
 is_fresh_item-is_part-requires g t c κs within =
     let below = lighter c.args.plan.now c.args.child c.args.node c.requires.child in
     (omega (arith, c.decreases, below), (within, (omega (arith, c.requires.child, c.requires.node), c.requires.limit)))
 
--- src/membership.rt:246:17
 pub is_fresh_item-returns-then-contains-clause-ok :
     goal.is_fresh_item-returns-then-contains-clause-ok
 is_fresh_item-returns-then-contains-clause-ok g t c =
@@ -43,13 +36,11 @@ is_fresh_item-returns-then-contains-clause-ok g t c =
     let any = any_found (site q c.args.node).node c.args.items.now c.args.item.now (sym c.in-Whole.ensures) in
     (λ no. cc, λ h. let both : true ≡ false = sym c.if-contains.true ∙ (c.contains.ensures.value ∙ (sym any ∙ h.fresh)) in cc)
 
--- src/membership.rt:248:13
 pub is_fresh_item-is_part-requires-in-Whole : goal.is_fresh_item-is_part-requires-in-Whole
 is_fresh_item-is_part-requires-in-Whole g t c κs within =
     let below = lighter c.args.plan.now c.args.child c.args.node c.requires.child in
     (omega (arith, c.decreases, below), (within, (omega (arith, c.requires.child, c.requires.node), c.requires.limit)))
 
--- src/membership.rt:252:13
 pub is_fresh_item-is_fresh_row-requires : goal.is_fresh_item-is_fresh_row-requires
 is_fresh_item-is_fresh_row-requires g t c κs within =
     let q = c.args.plan.now in
@@ -57,13 +48,11 @@ is_fresh_item-is_fresh_row-requires g t c κs within =
     let below = row_lighter q c.args.child c.args.node c.requires.child in
     (omega (arith, c.decreases, below), (within, (omega (arith, c.requires.child, c.requires.node), (map.row, c.requires.limit))))
 
--- src/membership.rt:223:1
 pub is_fresh_item-returns-in-Free-clause-ok : goal.is_fresh_item-returns-in-Free-clause-ok
 is_fresh_item-returns-in-Free-clause-ok g t c =
     let q = c.args.plan.now in
     answered c.is_part.result _ _ (λ part. record { part = record { part = part; nodes_are = refl }; fresh = always_fresh (site q c.args.node).node (sym c.in-Free.ensures) (data_of c.args.item.now) (items_of c.args.items.now) }) (λ h. h.part.part) c.is_part.ensures.ok
 
--- src/membership.rt:223:1
 pub is_fresh_item-returns-else-contains-clause-ok :
     goal.is_fresh_item-returns-else-contains-clause-ok
 is_fresh_item-returns-else-contains-clause-ok g t c =
@@ -71,7 +60,6 @@ is_fresh_item-returns-else-contains-clause-ok g t c =
     let any = any_found (site q c.args.node).node c.args.items.now c.args.item.now (sym c.in-Whole.ensures) in
     answered c.is_part-in-Whole.result _ _ (λ part. record { part = record { part = part; nodes_are = refl }; fresh = any ∙ (sym c.contains.ensures.value ∙ c.if-contains.false) }) (λ h. h.part.part) c.is_part-in-Whole.ensures.ok
 
--- src/membership.rt:223:1
 pub is_fresh_item-returns-in_ok-used-in-Keys-clause-ok :
     goal.is_fresh_item-returns-in_ok-used-in-Keys-clause-ok
 is_fresh_item-returns-in_ok-used-in-Keys-clause-ok g t c =
@@ -88,18 +76,13 @@ is_fresh_item-returns-in_ok-used-in-Keys-clause-ok g t c =
     (λ r. fresh_item q i j rule sound map c.args.items.now v c.requires.first.are (subst (λ us. IsFreshRow q j us v) used r))
     (λ f. subst (λ us. IsFreshRow q j us v) (sym used) (fresh_row q i j rule sound map c.args.items.now v c.requires.first.are f)) c.is_fresh_row.ensures.ok
 
--- src/membership.rt:72:1
 pub is_fresh_row-returns-in-Object-clause-steps : goal.is_fresh_row-returns-in-Object-clause-steps
-is_fresh_row-returns-in-Object-clause-steps g t c w width =
-    let steps = c.stand_fresh.ensures.steps w width in
-    let within = slots_within c.args.plan.now c.args.node c.requires.node c.requires.row w width in
+is_fresh_row-returns-in-Object-clause-steps g t c =
     let m = members_count (members_of c.as_slice.result.now) in
     let members : c.in-Object.object ≡ members_of c.as_slice.result.now = sym c.object.view_is ∙ ap members_of (sym c.as_slice.ensures.value) in
     let count : node_count (data_of c.args.tree.now) ≡ 1 + m = ap (λ t. node_count (data_of t)) c.in-Object.is ∙ ap (λ ms. 1 + members_count ms) members in
-    let cost = split_cost w 1 m (node_count (data_of c.args.tree.now)) count in
-    omega (arith, steps, within, cost)
+    costs_row c.args.plan.now c.args.node c.args.meter.now c.stand_fresh.new.meter m (node_count (data_of c.args.tree.now)) c.requires.node c.requires.row count c.stand_fresh.ensures.steps
 
--- src/membership.rt:21:1
 pub is_part-returns-in_default : goal.is_part-returns-in_default
 is_part-returns-in_default g t c =
     let q = c.args.plan.now in
@@ -111,7 +94,6 @@ is_part-returns-in_default g t c =
       steps = λ w width. omega arith;
     }
 
--- src/membership.rt:21:1
 pub is_part-returns-in-Row : goal.is_part-returns-in-Row
 is_part-returns-in-Row g t c =
     let q = c.args.plan.now in
@@ -125,7 +107,6 @@ is_part-returns-in-Row g t c =
       steps = c.is_fresh_row.ensures.steps;
     }
 
--- src/membership.rt:21:1
 pub is_part-returns-in-List : goal.is_part-returns-in-List
 is_part-returns-in-List g t c =
     let q = c.args.plan.now in
@@ -139,26 +120,20 @@ is_part-returns-in-List g t c =
       steps = c.is_list.ensures.steps;
     }
 
--- src/membership.rt:21:1
 pub is_part-returns-in-Leaf-clause-steps : goal.is_part-returns-in-Leaf-clause-steps
-is_part-returns-in-Leaf-clause-steps g t c = λ w width.
-    let steps = c.is_candidate.ensures.steps w width in
-    let most = mul-le-mul_left (w + 1) (some_nodes (data_of c.args.tree.now)) in
-    omega (arith, steps, most)
+is_part-returns-in-Leaf-clause-steps g t c =
+    costs_within c.args.plan.now c.args.meter.now c.is_candidate.new.meter 1 (node_count (data_of c.args.tree.now)) (some_nodes (data_of c.args.tree.now)) c.is_candidate.ensures.steps
 
--- src/membership.rt:212:9
 pub make_list-returns-in_default-clause-ok : goal.make_list-returns-in_default-clause-ok
 make_list-returns-in_default-clause-ok g t c =
     (λ no. cc, λ part. let h = goes_on c.args.plan.now c.args.node c.args.items.now (sym c.is_empty.ensures ∙ c.if-is_empty.false) c.requires.limit part in absurd (c.in_default.ensures.none h.0 h.1))
 
--- src/membership.rt:215:13
 pub make_list-is_fresh_item-requires : goal.make_list-is_fresh_item-requires
 make_list-is_fresh_item-requires g t c κs within =
     let x = c.index-items-place.result in
     let few = item_few c.args.items.now c.loop-place.place x (omega arith) (sym c.index-items-place.is) in
     (omega (arith, c.decreases), (within, (c.requires.node, (c.in-Some.ensures.below, (c.loop-place.invariant.first, omega (arith, few, c.requires.limit))))))
 
--- src/membership.rt:215:13
 pub make_list-returns-in_err-is_fresh_item-clause-steps :
     goal.make_list-returns-in_err-is_fresh_item-clause-steps
 make_list-returns-in_err-is_fresh_item-clause-steps g t c w width =
@@ -168,7 +143,6 @@ make_list-returns-in_err-is_fresh_item-clause-steps g t c w width =
     let cost = item_steps w c.args.items.now c.loop-place.place x (omega arith) (sym c.index-items-place.is) in
     omega (arith, steps, before, cost, c.item.ensures.step)
 
--- src/membership.rt:216:13
 pub make_list-returns-then-not-branch-clause-ok : goal.make_list-returns-then-not-branch-clause-ok
 make_list-returns-then-not-branch-clause-ok g t c =
     let q = c.args.plan.now in
@@ -183,7 +157,6 @@ make_list-returns-then-not-branch-clause-ok g t c =
           cc,
     )
 
--- src/membership.rt:216:13
 pub make_list-returns-then-not-branch-clause-steps :
     goal.make_list-returns-then-not-branch-clause-steps
 make_list-returns-then-not-branch-clause-steps g t c w width =
@@ -193,13 +166,11 @@ make_list-returns-then-not-branch-clause-steps g t c w width =
     let cost = item_steps w c.args.items.now c.loop-place.place x (omega arith) (sym c.index-items-place.is) in
     omega (arith, steps, before, cost, c.item.ensures.step)
 
--- src/membership.rt:219:24
 pub make_list-overflow_cast-items : goal.make_list-overflow_cast-items
 make_list-overflow_cast-items g t c =
     let few = items_some c.args.items.now in
     omega (arith, few, c.requires.limit, c.limit-most.ensures, c.limit-most.type_inv)
 
--- src/membership.rt:192:1
 pub make_list-returns-clause-ok : goal.make_list-returns-clause-ok
 make_list-returns-clause-ok g t c =
     let q = c.args.plan.now in
@@ -210,15 +181,13 @@ make_list-returns-clause-ok g t c =
       λ part. c.has-2.ensures.1 ((c.more-2.ensures 0).1 (omega arith, part_ends q i c.in-Some.child rule c.in-Some.ensures.some c.args.items.now c.requires.limit part)),
     )
 
--- src/membership.rt:192:1
 pub make_list-returns-clause-steps : goal.make_list-returns-clause-steps
-make_list-returns-clause-steps g t c w width =
-    let before : c.loop-place.meter ≤ c.item.new.meter + (w + 1) * items_count (items_of (take c.loop-place.place c.args.items.now)) = c.loop-place.invariant.steps w width in
-    let all = ap (λ ts. (w + 1) * items_count (items_of ts)) (take_all c.loop-place.place c.args.items.now (omega arith)) in
-    let cost = split_cost w 1 (items_count (items_of c.args.items.now)) (1 + items_count (items_of c.args.items.now)) refl in
-    omega (arith, before, all, cost, c.item.ensures.step)
+make_list-returns-clause-steps g t c =
+    let count = items_count (items_of c.args.items.now) in
+    let all = take_all c.loop-place.place c.args.items.now (omega arith) in
+    costs_below c.args.plan.now c.args.meter.now c.item.new.meter c.loop-place.meter count (1 + count) c.item.ensures.step refl
+    (subst (λ ts. Costs c.args.plan.now c.item.new.meter c.loop-place.meter (items_count (items_of ts))) all c.loop-place.invariant.steps)
 
--- src/membership.rt:121:13
 pub stand_fresh-returns-then-slot-clause-ok : goal.stand_fresh-returns-then-slot-clause-ok
 stand_fresh-returns-then-slot-clause-ok g t c =
     let h = c.in-Some.ensures.some in (
@@ -243,18 +212,10 @@ stand_fresh-is_part-requires g t c κs within =
     let lighter_slot = lighter c.args.plan.now c.in-Some.slot.node c.args.node c.in-Some.ensures.below in
     (omega (arith, c.decreases, lighter_slot), (within, (omega (arith, c.in-Some.ensures.below, c.requires.node), omega (arith, count, c.requires.limit))))
 
-abbrev StepsOfValue : Question → ℕ → ℕ → Tree → List Member → ℕ → Type 0
-StepsOfValue q old new v ms w = (new ≤ old + 1 + (w + 1) * node_count (data_of v)) × ((w + 1) * members_count (members_of ms) ≡ (w + 1) * node_count (data_of v) + (w + 1) * members_count (members_of (drop 1 ms)))
-
-steps_of_value : (q : Question) (old mid new : ℕ) (k : List ℕ) (v : Tree) (ms : List Member) (w : ℕ) → IsWidth q.pools q.root w → members_of ms ≡ member_data k (data_of v) (members_of (drop 1 ms)) → mid ≡ counted old 1 → Costs q mid new (node_count (data_of v)) → StepsOfValue q old new v ms w
-steps_of_value q old mid new k v ms w width first step steps =
-    (omega (arith, step, steps w width), split_cost w (node_count (data_of v)) (members_count (members_of (drop 1 ms))) (members_count (members_of ms)) (ap members_count first))
-
 pub stand_fresh-returns-in_err-is_part-clause-steps :
     goal.stand_fresh-returns-in_err-is_part-clause-steps
-stand_fresh-returns-in_err-is_part-clause-steps g t c w width =
-    let h = steps_of_value c.args.plan.now _ _ _ _ c.in-Some-value_under.tree.now c.args.members.now w width c.in-Some-value_under.ensures.some c.slot.ensures.step c.is_part.ensures.steps in
-    omega (arith, h)
+stand_fresh-returns-in_err-is_part-clause-steps g t c =
+    costs_first c.args.plan.now c.args.node c.args.place c.args.meter.now c.slot.new.meter c.is_part.new.meter (node_count (data_of c.in-Some-value_under.tree.now)) (members_count (members_of (drop 1 c.args.members.now))) (members_count (members_of c.args.members.now)) c.slot.ensures.step (ap members_count c.in-Some-value_under.ensures.some) c.is_part.ensures.steps
 
 pub stand_fresh-returns-then-not-branch-clause-ok :
     goal.stand_fresh-returns-then-not-branch-clause-ok
@@ -272,15 +233,13 @@ stand_fresh-returns-then-not-branch-clause-ok g t c =
 
 pub stand_fresh-returns-then-not-branch-clause-steps :
     goal.stand_fresh-returns-then-not-branch-clause-steps
-stand_fresh-returns-then-not-branch-clause-steps g t c w width =
-    let h = steps_of_value c.args.plan.now _ _ _ _ c.in-Some-value_under.tree.now c.args.members.now w width c.in-Some-value_under.ensures.some c.slot.ensures.step c.is_part.ensures.steps in
-    omega (arith, h)
+stand_fresh-returns-then-not-branch-clause-steps g t c =
+    costs_first c.args.plan.now c.args.node c.args.place c.args.meter.now c.slot.new.meter c.is_part.new.meter (node_count (data_of c.in-Some-value_under.tree.now)) (members_count (members_of (drop 1 c.args.members.now))) (members_count (members_of c.args.members.now)) c.slot.ensures.step (ap members_count c.in-Some-value_under.ensures.some) c.is_part.ensures.steps
 
 pub stand_fresh-returns-in_err-same-clause-steps :
     goal.stand_fresh-returns-in_err-same-clause-steps
-stand_fresh-returns-in_err-same-clause-steps g t c w width =
-    let h = steps_of_value c.args.plan.now _ _ _ _ c.in-Some-value_under.tree.now c.args.members.now w width c.in-Some-value_under.ensures.some c.slot.ensures.step c.is_part.ensures.steps in
-    omega (arith, h)
+stand_fresh-returns-in_err-same-clause-steps g t c =
+    costs_first c.args.plan.now c.args.node c.args.place c.args.meter.now c.slot.new.meter c.is_part.new.meter (node_count (data_of c.in-Some-value_under.tree.now)) (members_count (members_of (drop 1 c.args.members.now))) (members_count (members_of c.args.members.now)) c.slot.ensures.step (ap members_count c.in-Some-value_under.ensures.some) c.is_part.ensures.steps
 
 pub stand_fresh-stand_fresh-requires-2 : goal.stand_fresh-stand_fresh-requires-2
 stand_fresh-stand_fresh-requires-2 g t c κs within =
@@ -307,13 +266,11 @@ stand_fresh-returns-clause-ok g t c =
     (λ st. subst Behind (sym same) (filled_here q c.args.node c.args.place c.in-Some.slot h _ _ _ _ d _ first order st).1) c.stand_fresh-2.ensures.ok
 
 pub stand_fresh-returns-clause-steps : goal.stand_fresh-returns-clause-steps
-stand_fresh-returns-clause-steps g t c w width =
-    let q = c.args.plan.now in
-    let h = steps_of_value q _ _ _ _ c.in-Some-value_under.tree.now c.args.members.now w width c.in-Some-value_under.ensures.some c.slot.ensures.step c.is_part.ensures.steps in
-    let rest = ap (λ ms. (w + 1) * members_count (members_of ms)) c.behind_first-behind.ensures in
-    let more : c.stand_fresh-2.new.meter ≤ c.is_part.new.meter + (length (slots_from q c.args.node (c.args.place + 1)) + 1) + (w + 1) * members_count (members_of c.behind_first-behind.result.now) = c.stand_fresh-2.ensures.steps w width in
-    let less = one_slot_less q c.args.node c.args.place c.in-Some.slot c.in-Some.ensures.some in
-    omega (arith, h, more, less, rest)
+stand_fresh-returns-clause-steps g t c =
+    let behind = c.behind_first-behind.result.now in
+    let count = ap members_count c.in-Some-value_under.ensures.some ∙ ap (λ ms. node_count (data_of c.in-Some-value_under.tree.now) + members_count (members_of ms)) (sym c.behind_first-behind.ensures) in
+    costs_first_rest c.args.plan.now c.args.node c.args.place c.args.meter.now c.slot.new.meter c.is_part.new.meter c.stand_fresh-2.new.meter (node_count (data_of c.in-Some-value_under.tree.now)) (members_count (members_of behind)) (members_count (members_of c.args.members.now)) c.slot.ensures.step count
+    (one_slot_less c.args.plan.now c.args.node c.args.place c.in-Some.slot c.in-Some.ensures.some) c.is_part.ensures.steps c.stand_fresh-2.ensures.steps
 
 pub make_list-loop-place-preserved : goal.make_list-loop-place-preserved
 make_list-loop-place-preserved g t c =
@@ -329,3 +286,46 @@ make_list-loop-place-preserved g t c =
           let cost = next_steps w c.args.items.now c.loop-place.place x (omega arith) (sym c.index-items-place.is) in
           omega (arith, steps, before, cost);
     }
+
+pub is_fresh_item-returns-in-Free-clause-steps : goal.is_fresh_item-returns-in-Free-clause-steps
+is_fresh_item-returns-in-Free-clause-steps g t c = c.is_part.ensures.steps
+
+pub is_fresh_item-returns-then-contains-clause-steps : goal.is_fresh_item-returns-then-contains-clause-steps
+is_fresh_item-returns-then-contains-clause-steps g t c = λ w wide. omega arith
+
+pub is_fresh_item-returns-else-contains-clause-steps : goal.is_fresh_item-returns-else-contains-clause-steps
+is_fresh_item-returns-else-contains-clause-steps g t c = c.is_part-in-Whole.ensures.steps
+
+pub is_fresh_item-returns-in_err-used-in-Keys-clause-steps : goal.is_fresh_item-returns-in_err-used-in-Keys-clause-steps
+is_fresh_item-returns-in_err-used-in-Keys-clause-steps g t c = λ w wide. omega arith
+
+pub is_fresh_item-returns-in_ok-used-in-Keys-clause-steps : goal.is_fresh_item-returns-in_ok-used-in-Keys-clause-steps
+is_fresh_item-returns-in_ok-used-in-Keys-clause-steps g t c = c.is_fresh_row.ensures.steps
+
+pub make_list-returns-then-is_empty-clause-steps : goal.make_list-returns-then-is_empty-clause-steps
+make_list-returns-then-is_empty-clause-steps g t c = λ w wide. omega arith
+
+pub make_list-returns-in_default-clause-steps : goal.make_list-returns-in_default-clause-steps
+make_list-returns-in_default-clause-steps g t c = λ w wide. omega (arith, c.item.ensures.step)
+
+pub stand_fresh-returns-in_default-clause-steps : goal.stand_fresh-returns-in_default-clause-steps
+stand_fresh-returns-in_default-clause-steps g t c = λ w wide. omega (arith, c.slot.ensures.step)
+
+pub stand_fresh-returns-then-slot-clause-steps : goal.stand_fresh-returns-then-slot-clause-steps
+stand_fresh-returns-then-slot-clause-steps g t c = λ w wide. omega (arith, c.slot.ensures.step)
+
+pub stand_fresh-returns-in_default-value_under-clause-steps : goal.stand_fresh-returns-in_default-value_under-clause-steps
+stand_fresh-returns-in_default-value_under-clause-steps g t c =
+    costs_wider c.args.plan.now c.args.node c.args.place c.args.meter.now c.slot.new.meter (members_count (members_of c.args.members.now)) c.slot.ensures.step
+    (one_slot_less c.args.plan.now c.args.node c.args.place c.in-Some.slot c.in-Some.ensures.some) c.stand_fresh.new.meter c.stand_fresh.ensures.steps
+
+pub stand_fresh-stand_fresh-requires : goal.stand_fresh-stand_fresh-requires
+stand_fresh-stand_fresh-requires g t c κs within =
+    let less = one_slot_less c.args.plan.now c.args.node c.args.place c.in-Some.slot c.in-Some.ensures.some in
+    (omega (arith, c.decreases, less), (within, (c.requires.node, (c.requires.row, (omega (arith, c.in-Some.ensures.within), (omega (arith, c.requires.taken), c.requires.limit))))))
+
+pub stand_fresh-overflow_add-place : goal.stand_fresh-overflow_add-place
+stand_fresh-overflow_add-place g t c = omega (arith, c.in-Some.ensures.followed)
+
+pub stand_fresh-overflow_add-place-2 : goal.stand_fresh-overflow_add-place-2
+stand_fresh-overflow_add-place-2 g t c = omega (arith, c.in-Some.ensures.followed)

@@ -1,7 +1,7 @@
 use Rattle.std.proofs.Common.{refl, sym, ap, subst, ◌∙◌, arith, ◌≡◌, ◌≢◌, ◌+◌, ◌-◌, ◌*◌, ◌≤◌, ◌<◌, ℕ, List, length, drop, IfNone, Option, None, Some, [], vec_len}
 use Rattle.std.proofs.lemmas.Result.{IfOk-weaker}
 use Rattle.std.proofs.lemmas.List.{length-take-le}
-use Rattle.std.proofs.Math.Nat.{mul-le-mul_left, mul-add}
+use Rattle.std.proofs.Math.Nat.{mul-add}
 use Rattle.jtree.specs.Data.{Data, AreMembers, object as object_data, list as list_data, Members as MembersData, Items}
 use Rattle.jtree.specs.Nodes.{most_nodes, node_count, items_count, members_count}
 use Rattle.jtree.specs.Order.{tree_cmp}
@@ -13,12 +13,12 @@ use Rattle.enumerate.specs.Least.{IsNext}
 use Rattle.enumerate.specs.Internal.Nodes.{site, IsPartOf, Costs}
 use Rattle.enumerate.specs.Internal.Candidates.{IsUnusedPart, IsFreeKey, rows_of}
 use Rattle.plan.specs.Samples.Sizes.{AreFillings, CanFill, filled_nodes, HasMore}
-use Rattle.enumerate.specs.Internal.Rows.{fill_cmp, IsRest, IsOpen, still_used, slots_from, slot_in, bounds_at, AreUsed, IsRow, IsValue}
+use Rattle.enumerate.specs.Internal.Rows.{fill_cmp, IsRest, IsOpen, IsSlotOf, still_used, slots_from, slot_in, bounds_at, AreUsed, IsRow, IsValue}
 use Rattle.enumerate.proofs.ListLemmas.{some_nodes, site_among, few_items, counted}
 use Rattle.enumerate.proofs.MoveLemmas.{moved_same, item_moved}
-use Rattle.enumerate.proofs.MoveCosts.{one_cost, costs_last, last_kept, last_wider}
+use Rattle.enumerate.proofs.MoveCosts.{costs_within, costs_twice, costs_row, twice_row, costs_wider, twice_wider, last_wider, twice_out, twice_behind, twice_value, twice_put, costs_value, twice_grown, costs_last, last_kept}
 use Rattle.enumerate.proofs.MoveSteps.{IsEnded, IsOutEnded, row_stands, stand_nodes, none_left, moved_behind, same_used, filled_in, ended, left_out, out_ended, known_behind, known_out, open_here, out_next, out_grown, in_next, in_value, in_grown, key_moved, part_moved}
-use Rattle.enumerate.proofs.MemberCuts.{IsCut, begins_within, member_here, count_from, kept_one, cut_off, added_kept, grown_kept}
+use Rattle.enumerate.proofs.MemberCuts.{IsCut, count_here, begins_within, member_here, count_from, kept_one, cut_off, added_kept, grown_kept}
 use Rattle.enumerate.proofs.NullMoves.{row_moved}
 use Rattle.enumerate.proofs.PartRows.{weight_next, row_unless_null}
 use Rattle.enumerate.proofs.RowLemmas.{can_fill}
@@ -32,18 +32,15 @@ use Rattle.enumerate.specs.Internal.Steps.{CostsLast, CostsLastStep, CostsLastSl
 use Rattle.enumerate.specs.Internal.Moves.{IsMoved, StandIn, Begins, AreMoved, AreItemsMoved}
 use Rattle.enumerate.specs.View.{trees_of}
 use Rattle.enumerate.proofs.KeyItems.{items_used, fresh_row, row_fresh}
-use Rattle.enumerate.proofs.MembershipLemmas.{lighter, row_lighter, slots_within}
+use Rattle.enumerate.proofs.MembershipLemmas.{lighter, row_lighter}
 use Rattle.enumerate.proofs.WholeListLemmas.{has_item, list_site, part_list, part_fresh, unused_fresh}
 use Rattle.enumerate.proofs.ListWalks.{WereLast, IsWalked, all_left, walk_ended, front_nodes, front_first, front_fresh, front_follow, front_next, front_walked, list_moved, list_stays, double, cost_room, no_more, some_there, empty_len, some_len, walked_last, kept_last}
 use Rattle.enumerate.specs.declared.moved.Moved.TheVariants as moved
 use Rattle.enumerate.specs.declared.moved.Step.TheVariants as step
 use Rattle.enumerate.proofs.moving.+advance.Given.{Over}
 use Rattle.enumerate.proofs.moving.+advance.Goals as goal
-use Rattle.enumerate.proofs.moving.+advance.Goals.{advance_filled-In-Some, advance_row-In-Some, advance_row-After-advance_slots, advance_slots-In-Last, advance_items-In-Some, advance_items-In-Last, advance_items-After-advance_item, advance_list-After-advance_items}
+use Rattle.enumerate.proofs.moving.+advance.Goals.{advance_filled-In-Some, advance_row-In-Some, advance_row-After-advance_slots, advance_slots-In-Some, advance_slots-In-Last, advance_items-In-Some, advance_items-In-Last, advance_items-After-advance_item, advance_list-After-advance_items}
 use Rattle.plan.specs.declared.sort.Distinct.TheVariants as distinct
-
-twice_cost : (w n : ℕ) → 1 ≤ n → (w + 1) * 1 ≤ (w + 1) * (2 * n)
-twice_cost w n some = mul-le-mul_left (w + 1) (omega (arith, some))
 
 pub advance-past_null-requires : goal.advance-past_null-requires
 advance-past_null-requires g t c = record { node = c.requires.node; no_leaf = λ leaf. let other = c.in_default.not-Leaf in other (c.sort.ensures ∙ leaf); some = omega (arith, some_nodes (data_of c.args.tree), c.requires.limit) }
@@ -112,12 +109,10 @@ advance-returns-in-Leaf-clause-ok g t c =
     IfOk-weaker c.next_unused.result _ _ (λ m h. moved_same (IsUnusedPart q c.args.node n []) (IsPartOf q c.args.node n) (data_of c.args.tree) m (λ u p. p.0) (λ u p. (p, λ k. contained [] _ k)) h) c.next_unused.ensures.ok
 
 pub advance-returns-in-Leaf-clause-steps : goal.advance-returns-in-Leaf-clause-steps
-advance-returns-in-Leaf-clause-steps g t c = λ w wide. omega (arith, twice_cost w (node_count (data_of c.args.tree)) (some_nodes (data_of c.args.tree)), c.next_unused.ensures.steps w wide)
+advance-returns-in-Leaf-clause-steps g t c = costs_twice c.args.plan.now c.args.meter.now c.next_unused.new.meter (node_count (data_of c.args.tree)) (some_nodes (data_of c.args.tree)) c.next_unused.ensures.steps
 
 pub advance-returns-in-Leaf-clause-last : goal.advance-returns-in-Leaf-clause-last
-advance-returns-in-Leaf-clause-last g t c =
-    IfOk-weaker c.next_unused.result _ _ (λ m h. costs_last m c.args.plan.now c.args.meter.now c.next_unused.new.meter (node_count (data_of c.args.tree))
-    (λ w wide. omega (arith, one_cost w (node_count (data_of c.args.tree)) (some_nodes (data_of c.args.tree)), c.next_unused.ensures.steps w wide))) c.next_unused.ensures.ok
+advance-returns-in-Leaf-clause-last g t c = IfOk-weaker c.next_unused.result _ _ (λ m h. costs_last m c.args.plan.now c.args.meter.now c.next_unused.new.meter (node_count (data_of c.args.tree)) (costs_within c.args.plan.now c.args.meter.now c.next_unused.new.meter 1 (node_count (data_of c.args.tree)) (some_nodes (data_of c.args.tree)) c.next_unused.ensures.steps)) c.next_unused.ensures.ok
 
 pub advance_filled-index-requires : goal.advance_filled-index-requires
 advance_filled-index-requires g t c =
@@ -169,11 +164,7 @@ advance_filled-advance_slots-requires g t c κs within =
     )
 
 pub advance_filled-returns-in_err-room-clause-steps : goal.advance_filled-returns-in_err-room-clause-steps
-advance_filled-returns-in_err-room-clause-steps g t c = λ w wide.
-    let here = member_here c.args.slot.now.name.now c.args.taken c.args.members.now.items c.index.result.now c.requires.filled c.index.ensures in
-    let count = count_from c.args.members.now.items c.args.taken c.index.result.now here in
-    let scaled = ap (λ n. (w + 1) * n) count in
-    omega (arith, scaled, c.advance_slots.ensures.steps w wide)
+advance_filled-returns-in_err-room-clause-steps g t c = twice_behind c.args.plan.now c.args.node (c.args.place + 1) c.args.meter.now c.advance_slots.new.meter (node_count (data_of c.index.result.now.tree)) (members_count (members_of (drop (c.args.taken + 1) c.args.members.now.items))) (members_count (members_of (drop c.args.taken c.args.members.now.items))) (count_here c.args.slot.now.name.now c.args.taken c.args.members.now.items c.index.result.now c.requires.filled c.index.ensures) c.advance_slots.ensures.steps
 
 pub advance_filled-returns-in_default-clause-kept : goal.advance_filled-returns-in_default-clause-kept
 advance_filled-returns-in_default-clause-kept g t c =
@@ -194,11 +185,7 @@ advance_filled-returns-in_default-clause-moved g t c = λ gs s.
     (in_next q c.args.node c.args.place sound c.requires.slot.first c.args.taken (rows_of c.args.used.now) c.index.result.now (drop (c.args.taken + 1) c.args.members.now.items) gs f.0 f.1 (drop (c.args.taken + 1) mid) next)
 
 pub advance_filled-returns-in_default-clause-steps : goal.advance_filled-returns-in_default-clause-steps
-advance_filled-returns-in_default-clause-steps g t c = λ w wide.
-    let here = member_here c.args.slot.now.name.now c.args.taken c.args.members.now.items c.index.result.now c.requires.filled c.index.ensures in
-    let count = count_from c.args.members.now.items c.args.taken c.index.result.now here in
-    let scaled = ap (λ n. (w + 1) * n) count in
-    omega (arith, scaled, c.advance_slots.ensures.steps w wide)
+advance_filled-returns-in_default-clause-steps g t c = twice_behind c.args.plan.now c.args.node (c.args.place + 1) c.args.meter.now c.advance_slots.new.meter (node_count (data_of c.index.result.now.tree)) (members_count (members_of (drop (c.args.taken + 1) c.args.members.now.items))) (members_count (members_of (drop c.args.taken c.args.members.now.items))) (count_here c.args.slot.now.name.now c.args.taken c.args.members.now.items c.index.result.now c.requires.filled c.index.ensures) c.advance_slots.ensures.steps
 
 pub advance_filled-returns-in_default-clause-last : goal.advance_filled-returns-in_default-clause-last
 advance_filled-returns-in_default-clause-last g t c = tt
@@ -235,12 +222,7 @@ advance_filled-advance_value-requires g t c κs within =
     (omega (arith, c.decreases), (within, (c.requires.node, (c.requires.slot, (c.requires.known, (f.1.value, omega (arith, cut.nodes_are, c.requires.limit)))))))
 
 pub advance_filled-returns-in_err-tree-clause-steps : goal.advance_filled-returns-in_err-tree-clause-steps
-advance_filled-returns-in_err-tree-clause-steps g t c = λ w wide.
-    let q = c.args.plan.now in
-    let cut = cut_here g t (goal.at.advance_filled-returns-in_err-tree-clause-steps g t c).In-Some in
-    let scaled = ap (λ n. (w + 1) * n) cut.nodes_are in
-    let behind = subst (λ st. CostsLastSlots st q c.args.node (c.args.place + 1) c.args.meter.now c.advance_slots.new.meter (members_count (members_of (drop (c.args.taken + 1) c.args.members.now.items)))) c.in-Last.is c.in_ok-room.ensures.last w wide in
-    omega (arith, scaled, behind, c.advance_value.ensures.steps w wide)
+advance_filled-returns-in_err-tree-clause-steps g t c = twice_value c.args.plan.now c.args.node (c.args.place + 1) c.args.meter.now c.advance_slots.new.meter (node_count (data_of c.in-Some.field-0.tree)) (members_count (members_of (drop (c.args.taken + 1) c.args.members.now.items))) (members_count (members_of (drop c.args.taken c.args.members.now.items))) (cut_here g t (goal.at.advance_filled-returns-in_err-tree-clause-steps g t c).In-Some).nodes_are c.advance_value.new.meter (subst (λ st. CostsLastSlots st c.args.plan.now c.args.node (c.args.place + 1) c.args.meter.now c.advance_slots.new.meter (members_count (members_of (drop (c.args.taken + 1) c.args.members.now.items)))) c.in-Last.is c.in_ok-room.ensures.last) c.advance_value.ensures.steps
 
 pub advance_filled-put_member-requires-clause-taken : goal.advance_filled-put_member-requires-clause-taken
 advance_filled-put_member-requires-clause-taken g t c = c.requires.taken
@@ -264,13 +246,9 @@ advance_filled-put_member-requires-clause-open g t c =
     }
 
 pub advance_filled-returns-in_err-put_member-in-To-clause-steps : goal.advance_filled-returns-in_err-put_member-in-To-clause-steps
-advance_filled-returns-in_err-put_member-in-To-clause-steps g t c = λ w wide.
-    let q = c.args.plan.now in
+advance_filled-returns-in_err-put_member-in-To-clause-steps g t c =
     let e = ended_here g t (goal.at.advance_filled-returns-in_err-put_member-in-To-clause-steps g t c).In-Some c.requires.stand.0 c.requires.stand.1 in
-    let scaled = ap (λ n. (w + 1) * n) e.nodes_are in
-    let left = ap (λ n. (w + 1) * n) e.behind_are in
-    let behind = subst (λ st. CostsLastSlots st q c.args.node (c.args.place + 1) c.args.meter.now c.advance_slots.new.meter (members_count (members_of (drop (c.args.taken + 1) c.args.members.now.items)))) c.in-Last.is c.in_ok-room.ensures.last w wide in
-    omega (arith, e.nodes_are, scaled, left, behind, c.advance_value.ensures.steps w wide, c.put_member.ensures.steps w wide)
+    twice_put c.args.plan.now c.args.node (c.args.place + 1) c.args.meter.now c.advance_slots.new.meter (node_count (data_of c.in-Some.field-0.tree)) (members_count (members_of (drop (c.args.taken + 1) c.args.members.now.items))) (members_count (members_of (drop c.args.taken c.args.members.now.items))) (cut_here g t (goal.at.advance_filled-returns-in_err-put_member-in-To-clause-steps g t c).In-Some).nodes_are c.advance_value.new.meter (subst (λ st. CostsLastSlots st c.args.plan.now c.args.node (c.args.place + 1) c.args.meter.now c.advance_slots.new.meter (members_count (members_of (drop (c.args.taken + 1) c.args.members.now.items)))) c.in-Last.is c.in_ok-room.ensures.last) c.put_member.new.meter c.in-Last.room e.behind_are c.advance_value.ensures.steps c.put_member.ensures.steps
 
 pub advance_filled-returns-in-To-clause-kept : goal.advance_filled-returns-in-To-clause-kept
 advance_filled-returns-in-To-clause-kept g t c =
@@ -289,13 +267,9 @@ advance_filled-returns-in-To-clause-moved g t c = λ gs s.
     cut.count e.filled.name e.room_is e.last next c.in_ok-put_member-in-To.ensures.ok
 
 pub advance_filled-returns-in-To-clause-steps : goal.advance_filled-returns-in-To-clause-steps
-advance_filled-returns-in-To-clause-steps g t c = λ w wide.
-    let q = c.args.plan.now in
+advance_filled-returns-in-To-clause-steps g t c =
     let e = ended_here g t (goal.at.advance_filled-returns-in-To-clause-steps g t c).In-Some c.requires.stand.0 c.requires.stand.1 in
-    let scaled = ap (λ n. (w + 1) * n) e.nodes_are in
-    let left = ap (λ n. (w + 1) * n) e.behind_are in
-    let behind = subst (λ st. CostsLastSlots st q c.args.node (c.args.place + 1) c.args.meter.now c.advance_slots.new.meter (members_count (members_of (drop (c.args.taken + 1) c.args.members.now.items)))) c.in-Last.is c.in_ok-room.ensures.last w wide in
-    omega (arith, e.nodes_are, scaled, left, behind, c.advance_value.ensures.steps w wide, c.put_member.ensures.steps w wide)
+    twice_put c.args.plan.now c.args.node (c.args.place + 1) c.args.meter.now c.advance_slots.new.meter (node_count (data_of c.in-Some.field-0.tree)) (members_count (members_of (drop (c.args.taken + 1) c.args.members.now.items))) (members_count (members_of (drop c.args.taken c.args.members.now.items))) (cut_here g t (goal.at.advance_filled-returns-in-To-clause-steps g t c).In-Some).nodes_are c.advance_value.new.meter (subst (λ st. CostsLastSlots st c.args.plan.now c.args.node (c.args.place + 1) c.args.meter.now c.advance_slots.new.meter (members_count (members_of (drop (c.args.taken + 1) c.args.members.now.items)))) c.in-Last.is c.in_ok-room.ensures.last) c.put_member.new.meter c.in-Last.room e.behind_are c.advance_value.ensures.steps c.put_member.ensures.steps
 
 pub advance_filled-returns-in-To-clause-last : goal.advance_filled-returns-in-To-clause-last
 advance_filled-returns-in-To-clause-last g t c = tt
@@ -356,27 +330,15 @@ advance_filled-returns-clause-moved g t c =
     cut.count e.room_is none.1 e.last none.0 h) c.grow_slots.ensures.ok
 
 pub advance_filled-returns-clause-steps : goal.advance_filled-returns-clause-steps
-advance_filled-returns-clause-steps g t c = λ w wide.
+advance_filled-returns-clause-steps g t c =
     let q = c.args.plan.now in
     let e = ended_here g t (goal.at.advance_filled-returns-clause-steps g t c).In-Some c.requires.stand.0 c.requires.stand.1 in
     let none = subst (λ m. IsMoved (IsValue q.pools (slot_in q c.args.node c.args.place) (slots_from q c.args.node (c.args.place + 1)) (rows_of c.args.used.now) (node_count (data_of c.in-Some.field-0.tree))) (data_of c.in-Some.field-0.tree) m) c.in-Last-2.is c.in_ok-tree.ensures.ok in
-    let own = none.1 in
-    let scaled = ap (λ n. (w + 1) * n) e.nodes_are in
-    let left = ap (λ n. (w + 1) * n) e.behind_are in
-    let mine = ap (λ n. (w + 1) * n) own in
-    let behind = subst (λ st. CostsLastSlots st q c.args.node (c.args.place + 1) c.args.meter.now c.advance_slots.new.meter (members_count (members_of (drop (c.args.taken + 1) c.args.members.now.items)))) c.in-Last.is c.in_ok-room.ensures.last w wide in
-    let value = subst (λ m. CostsLast m q c.advance_slots.new.meter c.advance_value.new.meter (node_count (data_of c.in-Some.field-0.tree))) c.in-Last-2.is c.in_ok-tree.ensures.last w wide in
-    omega (arith, scaled, left, mine, behind, value, c.grow_slots.ensures.steps w wide)
+    twice_grown c.args.plan.now c.args.node (c.args.place + 1) c.args.meter.now c.advance_slots.new.meter (node_count (data_of c.in-Some.field-0.tree)) (members_count (members_of (drop (c.args.taken + 1) c.args.members.now.items))) (members_count (members_of (drop c.args.taken c.args.members.now.items))) (cut_here g t (goal.at.advance_filled-returns-clause-steps g t c).In-Some).nodes_are c.advance_value.new.meter (subst (λ st. CostsLastSlots st c.args.plan.now c.args.node (c.args.place + 1) c.args.meter.now c.advance_slots.new.meter (members_count (members_of (drop (c.args.taken + 1) c.args.members.now.items)))) c.in-Last.is c.in_ok-room.ensures.last) c.grow_slots.new.meter (c.in-Last.room + c.in-Last-2.size) (omega (arith, e.nodes_are, none.1)) (subst (λ m. CostsLast m c.args.plan.now c.advance_slots.new.meter c.advance_value.new.meter (node_count (data_of c.in-Some.field-0.tree))) c.in-Last-2.is c.in_ok-tree.ensures.last) c.grow_slots.ensures.steps
 
 pub advance_filled-returns-clause-last : goal.advance_filled-returns-clause-last
 advance_filled-returns-clause-last g t c =
-    IfOk-weaker c.grow_slots.result _ _ (λ st k. last_kept st c.args.plan.now c.args.node (c.args.place + 1) c.args.meter.now c.advance_value.new.meter c.grow_slots.new.meter (members_count (members_of (drop c.args.taken c.args.members.now.items))) (λ w wide.
-    let q = c.args.plan.now in
-    let cut = cut_here g t (goal.at.advance_filled-returns-clause-last g t c).In-Some in
-    let scaled = ap (λ n. (w + 1) * n) cut.nodes_are in
-    let behind = subst (λ st. CostsLastSlots st q c.args.node (c.args.place + 1) c.args.meter.now c.advance_slots.new.meter (members_count (members_of (drop (c.args.taken + 1) c.args.members.now.items)))) c.in-Last.is c.in_ok-room.ensures.last w wide in
-    let value = subst (λ m. CostsLast m q c.advance_slots.new.meter c.advance_value.new.meter (node_count (data_of c.in-Some.field-0.tree))) c.in-Last-2.is c.in_ok-tree.ensures.last w wide in
-    omega (arith, scaled, behind, value)) k) c.grow_slots.ensures.last
+    IfOk-weaker c.grow_slots.result _ _ (λ st k. last_kept st c.args.plan.now c.args.node (c.args.place + 1) c.args.meter.now c.advance_value.new.meter c.grow_slots.new.meter (members_count (members_of (drop c.args.taken c.args.members.now.items))) (costs_value c.args.plan.now c.args.node (c.args.place + 1) c.args.meter.now c.advance_slots.new.meter (node_count (data_of c.in-Some.field-0.tree)) (members_count (members_of (drop (c.args.taken + 1) c.args.members.now.items))) (members_count (members_of (drop c.args.taken c.args.members.now.items))) (cut_here g t (goal.at.advance_filled-returns-clause-last g t c).In-Some).nodes_are c.advance_value.new.meter (subst (λ st. CostsLastSlots st c.args.plan.now c.args.node (c.args.place + 1) c.args.meter.now c.advance_slots.new.meter (members_count (members_of (drop (c.args.taken + 1) c.args.members.now.items)))) c.in-Last.is c.in_ok-room.ensures.last) (subst (λ m. CostsLast m c.args.plan.now c.advance_slots.new.meter c.advance_value.new.meter (node_count (data_of c.in-Some.field-0.tree))) c.in-Last-2.is c.in_ok-tree.ensures.last)) k) c.grow_slots.ensures.last
 
 pub advance_row-unreachable-requires : goal.advance_row-unreachable-requires
 advance_row-unreachable-requires g t c =
@@ -388,11 +350,7 @@ row_here : (g : Over) (t : ℕ) (c : advance_row-In-Some g t) → StandIn c.args
 row_here g t c = row_stands c.args.plan.now c.args.node (node_count (data_of c.args.tree) - 1) (rows_of c.args.used.now) (data_of c.args.tree) c.in-Some.members.items c.requires.row c.in-Some.ensures.some
 
 row_cost : (g : Over) (t : ℕ) (c : advance_row-After-advance_slots g t) → Costs c.args.plan.now c.args.meter.now c.advance_slots.new.meter (2 * node_count (data_of c.args.tree))
-row_cost g t c = λ w wide.
-    let few = slots_within c.args.plan.now c.args.node c.requires.node c.requires.sort w wide in
-    let count : node_count (data_of c.args.tree) ≡ 1 + members_count (members_of c.in-Some.members.items) = ap node_count c.in-Some.ensures.some in
-    let scaled = ap (λ n. (w + 1) * n) count in
-    omega (arith, few, scaled, c.advance_slots.ensures.steps w wide)
+row_cost g t c = twice_row c.args.plan.now c.args.node c.args.meter.now c.advance_slots.new.meter (members_count (members_of c.in-Some.members.items)) (node_count (data_of c.args.tree)) c.requires.node c.requires.sort (ap node_count c.in-Some.ensures.some) c.advance_slots.ensures.steps
 
 pub advance_row-advance_slots-requires : goal.advance_row-advance_slots-requires
 advance_row-advance_slots-requires g t c κs within =
@@ -456,13 +414,16 @@ pub advance_row-returns-in-Last-clause-steps : goal.advance_row-returns-in-Last-
 advance_row-returns-in-Last-clause-steps g t c = row_cost g t (goal.at.advance_row-returns-in-Last-clause-steps g t c).After-advance_slots
 
 pub advance_row-returns-in-Last-clause-last : goal.advance_row-returns-in-Last-clause-last
-advance_row-returns-in-Last-clause-last g t c = λ w wide.
-    let q = c.args.plan.now in
-    let few = slots_within q c.args.node c.requires.node c.requires.sort w wide in
-    let count : node_count (data_of c.args.tree) ≡ 1 + members_count (members_of c.in-Some.members.items) = ap node_count c.in-Some.ensures.some in
-    let scaled = ap (λ n. (w + 1) * n) count in
-    let ended = subst (λ st. CostsLastSlots st q c.args.node 0 c.args.meter.now c.advance_slots.new.meter (members_count (members_of c.in-Some.members.items))) c.in-Last.is c.in_ok-advance_slots.ensures.last w wide in
-    omega (arith, few, scaled, ended)
+advance_row-returns-in-Last-clause-last g t c =
+    costs_row c.args.plan.now c.args.node c.args.meter.now c.advance_slots.new.meter (members_count (members_of c.in-Some.members.items)) (node_count (data_of c.args.tree)) c.requires.node c.requires.sort (ap node_count c.in-Some.ensures.some)
+    (subst (λ st. CostsLastSlots st c.args.plan.now c.args.node 0 c.args.meter.now c.advance_slots.new.meter (members_count (members_of c.in-Some.members.items))) c.in-Last.is c.in_ok-advance_slots.ensures.last)
+
+-- the slot at the place, and those behind it
+slot_here : (g : Over) (t : ℕ) (c : advance_slots-In-Some g t) → IsSlotOf c.args.plan.now c.args.node c.args.place c.in-Some.slot
+slot_here g t c = slot_of c.args.plan.now c.args.node c.args.place c.in-Some.slot c.in-Some.ensures.some c.in-Some.ensures.below c.in-Some.ensures.later c.in-Some.ensures.followed
+
+fewer_here : (g : Over) (t : ℕ) (c : advance_slots-In-Some g t) → length (slots_from c.args.plan.now c.args.node c.args.place) ≡ 1 + length (slots_from c.args.plan.now c.args.node (c.args.place + 1))
+fewer_here g t c = one_fewer c.args.plan.now c.args.node c.args.place (slot_here g t c).first
 
 pub advance_slots-returns-in_default-clause-kept : goal.advance_slots-returns-in_default-clause-kept
 advance_slots-returns-in_default-clause-kept g t c = refl
@@ -483,8 +444,8 @@ advance_slots-returns-in_default-clause-last g t c = λ w wide. omega (arith, c.
 pub advance_slots-advance_filled-requires : goal.advance_slots-advance_filled-requires
 advance_slots-advance_filled-requires g t c κs within =
     let q = c.args.plan.now in
-    let s = slot_of q c.args.node c.args.place c.in-Some.slot c.in-Some.ensures.some c.in-Some.ensures.below c.in-Some.ensures.later c.in-Some.ensures.followed in
-    let fewer = one_fewer q c.args.node c.args.place s.first in
+    let s = slot_here g t (goal.at.advance_slots-advance_filled-requires g t c).In-Some in
+    let fewer = fewer_here g t (goal.at.advance_slots-advance_filled-requires g t c).In-Some in
     let begun = subst (λ ms. Begins c.in-Some.slot.name.now (members_of (drop c.args.taken ms))) c.as_slice.ensures.value (c.begins.ensures.0 c.if-begins.true) in
     (omega (arith, c.decreases, fewer), (within, (c.requires.node, (c.requires.row, (s, (begun, (c.requires.taken, (c.requires.within, (c.requires.known, (c.requires.stand, c.requires.limit))))))))))
 
@@ -495,18 +456,10 @@ pub advance_slots-returns-then-begins-clause-moved : goal.advance_slots-returns-
 advance_slots-returns-then-begins-clause-moved g t c = c.advance_filled.ensures.moved
 
 pub advance_slots-returns-then-begins-clause-steps : goal.advance_slots-returns-then-begins-clause-steps
-advance_slots-returns-then-begins-clause-steps g t c = λ w wide.
-    let q = c.args.plan.now in
-    let s = slot_of q c.args.node c.args.place c.in-Some.slot c.in-Some.ensures.some c.in-Some.ensures.below c.in-Some.ensures.later c.in-Some.ensures.followed in
-    let fewer = one_fewer q c.args.node c.args.place s.first in
-    omega (arith, c.slot.ensures.step, c.advance_filled.ensures.steps w wide, fewer)
+advance_slots-returns-then-begins-clause-steps g t c = twice_wider c.args.plan.now c.args.node c.args.place c.args.meter.now c.slot.new.meter (members_count (members_of (drop c.args.taken c.args.members.now.items))) c.slot.ensures.step (fewer_here g t (goal.at.advance_slots-returns-then-begins-clause-steps g t c).In-Some) c.advance_filled.new.meter c.advance_filled.ensures.steps
 
 pub advance_slots-returns-then-begins-clause-last : goal.advance_slots-returns-then-begins-clause-last
-advance_slots-returns-then-begins-clause-last g t c =
-    let q = c.args.plan.now in
-    let s = slot_of q c.args.node c.args.place c.in-Some.slot c.in-Some.ensures.some c.in-Some.ensures.below c.in-Some.ensures.later c.in-Some.ensures.followed in
-    let fewer = one_fewer q c.args.node c.args.place s.first in
-    IfOk-weaker c.advance_filled.result _ _ (λ st h. last_wider st q c.args.node c.args.place c.args.meter.now c.slot.new.meter c.advance_filled.new.meter (members_count (members_of (drop c.args.taken c.args.members.now.items))) (omega (arith, c.slot.ensures.step)) fewer h) c.advance_filled.ensures.last
+advance_slots-returns-then-begins-clause-last g t c = IfOk-weaker c.advance_filled.result _ _ (λ st h. last_wider c.args.plan.now c.args.node c.args.place c.args.meter.now c.slot.new.meter (members_count (members_of (drop c.args.taken c.args.members.now.items))) c.slot.ensures.step (fewer_here g t (goal.at.advance_slots-returns-then-begins-clause-last g t c).In-Some) st c.advance_filled.new.meter h) c.advance_filled.ensures.last
 
 pub advance_slots-overflow_add-place : goal.advance_slots-overflow_add-place
 advance_slots-overflow_add-place g t c = omega (arith, c.in-Some.ensures.followed)
@@ -515,17 +468,13 @@ pub advance_slots-advance_slots-requires : goal.advance_slots-advance_slots-requ
 advance_slots-advance_slots-requires g t c κs within =
     let q = c.args.plan.now in
     let sound = c.sound_parts.ensures.parts _ (site_among q c.args.node c.requires.node) in
-    let s = slot_of q c.args.node c.args.place c.in-Some.slot c.in-Some.ensures.some c.in-Some.ensures.below c.in-Some.ensures.later c.in-Some.ensures.followed in
-    let fewer = one_fewer q c.args.node c.args.place s.first in
+    let s = slot_here g t (goal.at.advance_slots-advance_slots-requires g t c).In-Some in
+    let fewer = fewer_here g t (goal.at.advance_slots-advance_slots-requires g t c).In-Some in
     let out = left_out q c.args.node c.args.place c.in-Some.slot s sound c.args.taken (rows_of c.args.used.now) c.args.members.now.items c.as_slice.result.now c.requires.stand.0 c.as_slice.ensures.value (λ h. let yes = c.begins.ensures.1 h in let no = c.if-begins.false in cc) c.requires.stand.1 in
     (omega (arith, c.decreases, fewer), (within, (c.requires.node, (c.requires.row, (omega (arith, c.requires.taken), (c.requires.within, (known_out q c.args.node c.args.place sound s.first (rows_of c.args.used.now) out.1.1.0 c.requires.known, ((out.0, out.1.1.1), c.requires.limit))))))))
 
 pub advance_slots-returns-in_err-room-clause-steps : goal.advance_slots-returns-in_err-room-clause-steps
-advance_slots-returns-in_err-room-clause-steps g t c = λ w wide.
-    let q = c.args.plan.now in
-    let s = slot_of q c.args.node c.args.place c.in-Some.slot c.in-Some.ensures.some c.in-Some.ensures.below c.in-Some.ensures.later c.in-Some.ensures.followed in
-    let fewer = one_fewer q c.args.node c.args.place s.first in
-    omega (arith, c.slot.ensures.step, c.advance_slots.ensures.steps w wide, fewer)
+advance_slots-returns-in_err-room-clause-steps g t c = twice_wider c.args.plan.now c.args.node c.args.place c.args.meter.now c.slot.new.meter (members_count (members_of (drop c.args.taken c.args.members.now.items))) c.slot.ensures.step (fewer_here g t (goal.at.advance_slots-returns-in_err-room-clause-steps g t c).In-Some) c.advance_slots.new.meter c.advance_slots.ensures.steps
 
 pub advance_slots-returns-in_default-2-clause-kept : goal.advance_slots-returns-in_default-2-clause-kept
 advance_slots-returns-in_default-2-clause-kept g t c = c.in_ok-room.ensures.kept
@@ -534,18 +483,14 @@ pub advance_slots-returns-in_default-2-clause-moved : goal.advance_slots-returns
 advance_slots-returns-in_default-2-clause-moved g t c = λ gs st.
     let q = c.args.plan.now in
     let sound = c.sound_parts.ensures.parts _ (site_among q c.args.node c.requires.node) in
-    let s = slot_of q c.args.node c.args.place c.in-Some.slot c.in-Some.ensures.some c.in-Some.ensures.below c.in-Some.ensures.later c.in-Some.ensures.followed in
+    let s = slot_here g t (goal.at.advance_slots-returns-in_default-2-clause-moved g t c).In-Some in
     let out = left_out q c.args.node c.args.place c.in-Some.slot s sound c.args.taken (rows_of c.args.used.now) c.args.members.now.items c.as_slice.result.now gs c.as_slice.ensures.value (λ h. let yes = c.begins.ensures.1 h in let no = c.if-begins.false in cc) st in
     let next = subst (λ m. AreMoved m q.pools (slots_from q c.args.node (c.args.place + 1)) (bounds_at q c.args.node) c.args.taken (rows_of c.args.used.now) out.0 (drop c.args.taken c.advance_slots.new.members.items)) c.in_default-2.is (c.in_ok-room.ensures.moved out.0 out.1.1.1) in
     let nodes = stand_nodes q.pools (slots_from q c.args.node (c.args.place + 1)) (bounds_at q c.args.node) c.args.taken (rows_of c.args.used.now) (drop c.args.taken c.args.members.now.items) out.0 out.1.1.1 in
     out_next q c.args.node c.args.place sound s.first c.args.taken (rows_of c.args.used.now) gs out.0 (drop c.args.taken c.advance_slots.new.members.items) out.1.0 (omega (arith, nodes, c.requires.limit, c.limit.ensures, c.limit.type_inv)) out.1.1.0 next
 
 pub advance_slots-returns-in_default-2-clause-steps : goal.advance_slots-returns-in_default-2-clause-steps
-advance_slots-returns-in_default-2-clause-steps g t c = λ w wide.
-    let q = c.args.plan.now in
-    let s = slot_of q c.args.node c.args.place c.in-Some.slot c.in-Some.ensures.some c.in-Some.ensures.below c.in-Some.ensures.later c.in-Some.ensures.followed in
-    let fewer = one_fewer q c.args.node c.args.place s.first in
-    omega (arith, c.slot.ensures.step, c.advance_slots.ensures.steps w wide, fewer)
+advance_slots-returns-in_default-2-clause-steps g t c = twice_wider c.args.plan.now c.args.node c.args.place c.args.meter.now c.slot.new.meter (members_count (members_of (drop c.args.taken c.args.members.now.items))) c.slot.ensures.step (fewer_here g t (goal.at.advance_slots-returns-in_default-2-clause-steps g t c).In-Some) c.advance_slots.new.meter c.advance_slots.ensures.steps
 
 pub advance_slots-returns-in_default-2-clause-last : goal.advance_slots-returns-in_default-2-clause-last
 advance_slots-returns-in_default-2-clause-last g t c = tt
@@ -560,7 +505,7 @@ out_here g t c gs st =
     c.as_slice.ensures.value (λ h. let yes = c.begins.ensures.1 h in let no = c.if-begins.false in cc) (omega (arith, c.requires.limit, c.limit.ensures, c.limit.type_inv)) c.in-Last.is c.in_ok-room.ensures.moved st
 
 pub advance_slots-grow_slots-requires-clause-slot : goal.advance_slots-grow_slots-requires-clause-slot
-advance_slots-grow_slots-requires-clause-slot g t c = slot_of c.args.plan.now c.args.node c.args.place c.in-Some.slot c.in-Some.ensures.some c.in-Some.ensures.below c.in-Some.ensures.later c.in-Some.ensures.followed
+advance_slots-grow_slots-requires-clause-slot g t c = slot_here g t (goal.at.advance_slots-grow_slots-requires-clause-slot g t c).In-Some
 
 pub advance_slots-grow_slots-requires-clause-taken : goal.advance_slots-grow_slots-requires-clause-taken
 advance_slots-grow_slots-requires-clause-taken g t c = c.requires.taken
@@ -574,7 +519,7 @@ pub advance_slots-grow_slots-requires-clause-open : goal.advance_slots-grow_slot
 advance_slots-grow_slots-requires-clause-open g t c =
     let q = c.args.plan.now in
     let sound = c.sound_parts.ensures.parts _ (site_among q c.args.node c.requires.node) in
-    let s = slot_of q c.args.node c.args.place c.in-Some.slot c.in-Some.ensures.some c.in-Some.ensures.below c.in-Some.ensures.later c.in-Some.ensures.followed in
+    let s = slot_here g t (goal.at.advance_slots-grow_slots-requires-clause-open g t c).In-Some in
     let e = out_here g t (goal.at.advance_slots-grow_slots-requires-clause-open g t c).In-Last c.requires.stand.0 c.requires.stand.1 in
     subst (λ m. IsOpen q.pools (slots_from q c.args.node c.args.place) (bounds_at q c.args.node) c.args.taken m (rows_of c.args.used.now)) (ap filled_nodes e.is ∙ e.room_is)
     (open_here q c.args.node c.args.place sound s.first c.args.taken (rows_of c.args.used.now) (drop c.args.taken c.args.members.now.items) c.requires.stand.0 c.requires.known c.requires.stand.1)
@@ -591,30 +536,20 @@ advance_slots-returns-clause-moved g t c =
     IfOk-weaker c.grow_slots.result _ _ (λ m h gs st.
     let q = c.args.plan.now in
     let sound = c.sound_parts.ensures.parts _ (site_among q c.args.node c.requires.node) in
-    let s = slot_of q c.args.node c.args.place c.in-Some.slot c.in-Some.ensures.some c.in-Some.ensures.below c.in-Some.ensures.later c.in-Some.ensures.followed in
+    let s = slot_here g t (goal.at.advance_slots-returns-clause-moved g t c).In-Some in
     let e = out_here g t (goal.at.advance_slots-returns-clause-moved g t c).In-Last gs st in
     let front = c.truncate.ensures.items ∙ c.in_ok-room.ensures.kept in
     let count : length c.truncate.new.self.items ≡ c.args.taken = ap (λ (ms : List Member). length ms) front ∙ length-take-le c.args.taken c.args.members.now.items c.requires.within in
     out_grown q c.args.node c.args.place sound s.first m c.args.taken (rows_of c.args.used.now) gs e.rest c.in-Last.room c.truncate.new.self.items c.grow_slots.new.members.items e.is e.small e.free count e.room_is e.last h) c.grow_slots.ensures.ok
 
 pub advance_slots-returns-clause-steps : goal.advance_slots-returns-clause-steps
-advance_slots-returns-clause-steps g t c = λ w wide.
-    let q = c.args.plan.now in
-    let s = slot_of q c.args.node c.args.place c.in-Some.slot c.in-Some.ensures.some c.in-Some.ensures.below c.in-Some.ensures.later c.in-Some.ensures.followed in
-    let fewer = one_fewer q c.args.node c.args.place s.first in
+advance_slots-returns-clause-steps g t c =
     let e = out_here g t (goal.at.advance_slots-returns-clause-steps g t c).In-Last c.requires.stand.0 c.requires.stand.1 in
-    let scaled = ap (λ n. (w + 1) * n) e.nodes_are in
-    let behind = subst (λ m. CostsLastSlots m q c.args.node (c.args.place + 1) c.slot.new.meter c.advance_slots.new.meter (members_count (members_of (drop c.args.taken c.args.members.now.items)))) c.in-Last.is c.in_ok-room.ensures.last w wide in
-    omega (arith, c.slot.ensures.step, fewer, scaled, behind, c.grow_slots.ensures.steps w wide)
+    twice_out c.args.plan.now c.args.node c.args.place c.args.meter.now c.slot.new.meter (members_count (members_of (drop c.args.taken c.args.members.now.items))) c.slot.ensures.step (fewer_here g t (goal.at.advance_slots-returns-clause-steps g t c).In-Some) c.advance_slots.new.meter c.grow_slots.new.meter c.in-Last.room e.nodes_are (subst (λ m. CostsLastSlots m c.args.plan.now c.args.node (c.args.place + 1) c.slot.new.meter c.advance_slots.new.meter (members_count (members_of (drop c.args.taken c.args.members.now.items)))) c.in-Last.is c.in_ok-room.ensures.last) c.grow_slots.ensures.steps
 
 pub advance_slots-returns-clause-last : goal.advance_slots-returns-clause-last
 advance_slots-returns-clause-last g t c =
-    let q = c.args.plan.now in
-    let s = slot_of q c.args.node c.args.place c.in-Some.slot c.in-Some.ensures.some c.in-Some.ensures.below c.in-Some.ensures.later c.in-Some.ensures.followed in
-    let fewer = one_fewer q c.args.node c.args.place s.first in
-    IfOk-weaker c.grow_slots.result _ _ (λ m k. last_kept m q c.args.node c.args.place c.args.meter.now c.advance_slots.new.meter c.grow_slots.new.meter (members_count (members_of (drop c.args.taken c.args.members.now.items))) (λ w wide.
-    let behind = subst (λ m. CostsLastSlots m q c.args.node (c.args.place + 1) c.slot.new.meter c.advance_slots.new.meter (members_count (members_of (drop c.args.taken c.args.members.now.items)))) c.in-Last.is c.in_ok-room.ensures.last w wide in
-    omega (arith, c.slot.ensures.step, fewer, behind)) k) c.grow_slots.ensures.last
+    IfOk-weaker c.grow_slots.result _ _ (λ m k. last_kept m c.args.plan.now c.args.node c.args.place c.args.meter.now c.advance_slots.new.meter c.grow_slots.new.meter (members_count (members_of (drop c.args.taken c.args.members.now.items))) (costs_wider c.args.plan.now c.args.node c.args.place c.args.meter.now c.slot.new.meter (members_count (members_of (drop c.args.taken c.args.members.now.items))) c.slot.ensures.step (fewer_here g t (goal.at.advance_slots-returns-clause-last g t c).In-Some) c.advance_slots.new.meter (subst (λ m. CostsLastSlots m c.args.plan.now c.args.node (c.args.place + 1) c.slot.new.meter c.advance_slots.new.meter (members_count (members_of (drop c.args.taken c.args.members.now.items)))) c.in-Last.is c.in_ok-room.ensures.last)) k) c.grow_slots.ensures.last
 
 pub advance_value-next_key-requires-clause-node : goal.advance_value-next_key-requires-clause-node
 advance_value-next_key-requires-clause-node g t c = omega (arith, c.requires.slot.below, c.requires.node)
@@ -637,12 +572,10 @@ advance_value-returns-then-slot-clause-ok g t c =
     (sym c.requires.slot.key ∙ c.if-slot.true) c.requires.known c.requires.slot.later (subst (λ k. IsMoved (IsFreeKey q c.args.slot.now.node n k (rows_of c.args.used.now) c.args.slot.now.later) (data_of c.args.tree) m) c.requires.slot.name h)) c.next_key.ensures.ok
 
 pub advance_value-returns-then-slot-clause-steps : goal.advance_value-returns-then-slot-clause-steps
-advance_value-returns-then-slot-clause-steps g t c = λ w wide. omega (arith, twice_cost w (node_count (data_of c.args.tree)) (some_nodes (data_of c.args.tree)), c.next_key.ensures.steps w wide)
+advance_value-returns-then-slot-clause-steps g t c = costs_twice c.args.plan.now c.args.meter.now c.next_key.new.meter (node_count (data_of c.args.tree)) (some_nodes (data_of c.args.tree)) c.next_key.ensures.steps
 
 pub advance_value-returns-then-slot-clause-last : goal.advance_value-returns-then-slot-clause-last
-advance_value-returns-then-slot-clause-last g t c =
-    IfOk-weaker c.next_key.result _ _ (λ m h. costs_last m c.args.plan.now c.args.meter.now c.next_key.new.meter (node_count (data_of c.args.tree))
-    (λ w wide. omega (arith, one_cost w (node_count (data_of c.args.tree)) (some_nodes (data_of c.args.tree)), c.next_key.ensures.steps w wide))) c.next_key.ensures.ok
+advance_value-returns-then-slot-clause-last g t c = IfOk-weaker c.next_key.result _ _ (λ m h. costs_last m c.args.plan.now c.args.meter.now c.next_key.new.meter (node_count (data_of c.args.tree)) (costs_within c.args.plan.now c.args.meter.now c.next_key.new.meter 1 (node_count (data_of c.args.tree)) (some_nodes (data_of c.args.tree)) c.next_key.ensures.steps)) c.next_key.ensures.ok
 
 pub advance_value-advance-requires : goal.advance_value-advance-requires
 advance_value-advance-requires g t c κs within =
@@ -734,19 +667,10 @@ advance_item-returns-in-Whole-clause-ok g t c =
     (λ u p. (unused_fresh q i k n c.args.items.now u whole).0 p) (λ u f. (unused_fresh q i k n c.args.items.now u whole).1 f) h) c.next_unused.ensures.ok
 
 pub advance_item-returns-in-Whole-clause-steps : goal.advance_item-returns-in-Whole-clause-steps
-advance_item-returns-in-Whole-clause-steps g t c = λ w wide.
-    let some = some_nodes (data_of c.args.item) in
-    let more : (w + 1) * 1 ≤ (w + 1) * (2 * node_count (data_of c.args.item)) = mul-le-mul_left (w + 1) (omega (arith, some)) in
-    omega (arith, more, c.next_unused.ensures.steps w wide)
+advance_item-returns-in-Whole-clause-steps g t c = costs_twice c.args.plan.now c.args.meter.now c.next_unused.new.meter (node_count (data_of c.args.item)) (some_nodes (data_of c.args.item)) c.next_unused.ensures.steps
 
 pub advance_item-returns-in-Whole-clause-last : goal.advance_item-returns-in-Whole-clause-last
-advance_item-returns-in-Whole-clause-last g t c =
-    let q = c.args.plan.now in
-    let n = node_count (data_of c.args.item) in
-    IfOk-weaker c.next_unused.result _ _ (λ m h. costs_last m q c.args.meter.now c.next_unused.new.meter n (λ w wide.
-    let some = some_nodes (data_of c.args.item) in
-    let more : (w + 1) * 1 ≤ (w + 1) * n = mul-le-mul_left (w + 1) some in
-    omega (arith, more, c.next_unused.ensures.steps w wide))) c.next_unused.ensures.ok
+advance_item-returns-in-Whole-clause-last g t c = IfOk-weaker c.next_unused.result _ _ (λ m h. costs_last m c.args.plan.now c.args.meter.now c.next_unused.new.meter (node_count (data_of c.args.item)) (costs_within c.args.plan.now c.args.meter.now c.next_unused.new.meter 1 (node_count (data_of c.args.item)) (some_nodes (data_of c.args.item)) c.next_unused.ensures.steps)) c.next_unused.ensures.ok
 
 pub advance_item-returns-in_ok-used-in-Keys-clause-ok : goal.advance_item-returns-in_ok-used-in-Keys-clause-ok
 advance_item-returns-in_ok-used-in-Keys-clause-ok g t c =
@@ -1108,3 +1032,15 @@ advance_list-returns-in-Last-clause-last g t c =
     λ w wide.
     let whole : (w + 1) * node_count (data_of c.args.tree) ≡ (w + 1) * 1 + (w + 1) * items_count old = ap (λ x. (w + 1) * x) count ∙ mul-add (w + 1) 1 (items_count old) in
     omega (arith, whole, c.item.ensures.step, (subst (λ s. CostsLastStep s q c.item.new.meter c.advance_items.new.meter (items_count old)) c.in-Last.is c.in_ok-advance_items.ensures.last) w wide)
+
+pub advance_item-returns-in_err-used-in-Keys-clause-steps : goal.advance_item-returns-in_err-used-in-Keys-clause-steps
+advance_item-returns-in_err-used-in-Keys-clause-steps g t c = λ w wide. omega arith
+
+pub advance_items-returns-in-To-clause-last : goal.advance_items-returns-in-To-clause-last
+advance_items-returns-in-To-clause-last g t c = tt
+
+pub advance_items-returns-in-Moved-clause-last : goal.advance_items-returns-in-Moved-clause-last
+advance_items-returns-in-Moved-clause-last g t c = tt
+
+pub advance_list-returns-in-Moved-clause-last : goal.advance_list-returns-in-Moved-clause-last
+advance_list-returns-in-Moved-clause-last g t c = tt

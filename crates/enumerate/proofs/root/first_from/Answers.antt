@@ -1,11 +1,11 @@
 use Rattle.std.proofs.Common.{arith}
 use Rattle.jtree.specs.View.{data_of}
-use Rattle.enumerate.proofs.RootLemmas.{found_from, none_from, cost_within}
+use Rattle.enumerate.proofs.MoveCosts.{costs_within}
+use Rattle.enumerate.proofs.RootLemmas.{found_from, none_from}
 use Rattle.enumerate.proofs.root.first_from.Goals as goal
 
 pub returns-in_err-first-in-Some-clause-steps : goal.returns-in_err-first-in-Some-clause-steps
-returns-in_err-first-in-Some-clause-steps g c = λ w wide.
-    omega (arith, c.first.ensures.steps w wide, cost_within w c.in-Some.size c.args.plan.now.limit ((c.sizes.ensures c.in-Some.size).0 c.in-Some.ensures.1).0)
+returns-in_err-first-in-Some-clause-steps g c = costs_within c.args.plan.now c.args.meter.now c.first.new.meter c.in-Some.size c.args.plan.now.limit ((c.sizes.ensures c.in-Some.size).0 c.in-Some.ensures.1).0 c.first.ensures.steps
 
 pub returns-in_ok-first-in-Some-clause-ok : goal.returns-in_ok-first-in-Some-clause-ok
 returns-in_ok-first-in-Some-clause-ok g c =
@@ -13,8 +13,7 @@ returns-in_ok-first-in-Some-clause-ok g c =
     (g.Z.SizeSet.holds c.sizes.result) c.sizes.ensures c.args.from c.in-Some.size (data_of c.in_ok-first-in-Some.field-0) c.in-Some.ensures c.in_ok-first-in-Some.ensures.ok
 
 pub returns-in_ok-first-in-Some-clause-steps : goal.returns-in_ok-first-in-Some-clause-steps
-returns-in_ok-first-in-Some-clause-steps g c = λ w wide.
-    omega (arith, c.first.ensures.steps w wide, cost_within w c.in-Some.size c.args.plan.now.limit ((c.sizes.ensures c.in-Some.size).0 c.in-Some.ensures.1).0)
+returns-in_ok-first-in-Some-clause-steps g c = costs_within c.args.plan.now c.args.meter.now c.first.new.meter c.in-Some.size c.args.plan.now.limit ((c.sizes.ensures c.in-Some.size).0 c.in-Some.ensures.1).0 c.first.ensures.steps
 
 pub returns-in-None-clause-ok : goal.returns-in-None-clause-ok
 returns-in-None-clause-ok g c =

@@ -7,31 +7,26 @@ use Rattle.enumerate.specs.Internal.Moves.{IsMoved}
 use Rattle.enumerate.specs.Internal.Nodes.{IsPartOf}
 use Rattle.enumerate.specs.Internal.Roots.{IsFirstFrom}
 use Rattle.enumerate.specs.Internal.Steps.{CostsLast}
-use Rattle.enumerate.proofs.RootLemmas.{few, cost_within, next_same_size, next_more, next_none}
+use Rattle.enumerate.proofs.MoveCosts.{costs_twice_within, costs_then}
+use Rattle.enumerate.proofs.RootLemmas.{few, next_same_size, next_more, next_none}
 use Rattle.enumerate.proofs.root.next_sample.Goals as goal
 
 pub returns-in_err-next-clause-steps : goal.returns-in_err-next-clause-steps
-returns-in_err-next-clause-steps g c = λ w wide.
-    let small = few c.args.plan.now (data_of c.args.tree) (omega (arith, c.limit-limit.type_inv, c.limit-limit.ensures)) c.requires.sample in
-    omega (arith, c.advance.ensures.steps w wide, cost_within w (node_count (data_of c.args.tree)) c.args.plan.now.limit small)
+returns-in_err-next-clause-steps g c =
+    costs_twice_within c.args.plan.now c.args.meter.now c.advance.new.meter (node_count (data_of c.args.tree)) c.args.plan.now.limit (few c.args.plan.now (data_of c.args.tree) (omega (arith, c.limit-limit.type_inv, c.limit-limit.ensures)) c.requires.sample) c.advance.ensures.steps
 
 pub returns-in-To-clause-steps : goal.returns-in-To-clause-steps
-returns-in-To-clause-steps g c = λ w wide.
-    let small = few c.args.plan.now (data_of c.args.tree) (omega (arith, c.limit-limit.type_inv, c.limit-limit.ensures)) c.requires.sample in
-    omega (arith, c.advance.ensures.steps w wide, cost_within w (node_count (data_of c.args.tree)) c.args.plan.now.limit small)
+returns-in-To-clause-steps g c =
+    costs_twice_within c.args.plan.now c.args.meter.now c.advance.new.meter (node_count (data_of c.args.tree)) c.args.plan.now.limit (few c.args.plan.now (data_of c.args.tree) (omega (arith, c.limit-limit.type_inv, c.limit-limit.ensures)) c.requires.sample) c.advance.ensures.steps
 
 pub returns-then-size-limit-clause-steps : goal.returns-then-size-limit-clause-steps
-returns-then-size-limit-clause-steps g c = λ w wide.
-    let q = c.args.plan.now in
-    let n = node_count (data_of c.args.tree) in
-    let small = few q (data_of c.args.tree) (omega (arith, c.limit-limit.type_inv, c.limit-limit.ensures)) c.requires.sample in
-    let last = subst (λ m. CostsLast m q c.args.meter.now c.advance.new.meter n) c.in-Last.is c.in_ok-next.ensures.last in
-    omega (arith, last w wide, c.first_from.ensures.steps w wide, cost_within w n q.limit small)
+returns-then-size-limit-clause-steps g c =
+    costs_then c.args.plan.now c.args.meter.now c.advance.new.meter c.first_from.new.meter (node_count (data_of c.args.tree)) c.args.plan.now.limit (few c.args.plan.now (data_of c.args.tree) (omega (arith, c.limit-limit.type_inv, c.limit-limit.ensures)) c.requires.sample)
+    (subst (λ m. CostsLast m c.args.plan.now c.args.meter.now c.advance.new.meter (node_count (data_of c.args.tree))) c.in-Last.is c.in_ok-next.ensures.last) c.first_from.ensures.steps
 
 pub returns-else-size-limit-clause-steps : goal.returns-else-size-limit-clause-steps
-returns-else-size-limit-clause-steps g c = λ w wide.
-    let small = few c.args.plan.now (data_of c.args.tree) (omega (arith, c.limit-limit.type_inv, c.limit-limit.ensures)) c.requires.sample in
-    omega (arith, c.advance.ensures.steps w wide, cost_within w (node_count (data_of c.args.tree)) c.args.plan.now.limit small)
+returns-else-size-limit-clause-steps g c =
+    costs_twice_within c.args.plan.now c.args.meter.now c.advance.new.meter (node_count (data_of c.args.tree)) c.args.plan.now.limit (few c.args.plan.now (data_of c.args.tree) (omega (arith, c.limit-limit.type_inv, c.limit-limit.ensures)) c.requires.sample) c.advance.ensures.steps
 
 pub returns-in-To-clause-ok : goal.returns-in-To-clause-ok
 returns-in-To-clause-ok g c =

@@ -1,4 +1,4 @@
-use Rattle.std.proofs.Common.{◌≡◌, ◌↔◌, Bool, true, false, not, IsTrue, refl, sym, ◌∙◌}
+use Rattle.std.proofs.Common.{◌≡◌, ◌↔◌, Bool, true, false, not, IsTrue, refl, sym, ◌∙◌, rules}
 use Rattle.enumerate.proofs.LeafLemmas.{tree_found, found_tree}
 use Rattle.enumerate.proofs.taken.is_free.Goals as goal
 
@@ -12,3 +12,6 @@ returns-in-Items c =
     let t = c.args.tree.now in
     let is = c.contains.ensures.value in
     rw c.in-Items.is (denied c.contains.result _ (λ e. tree_found ts t (sym is ∙ e)) (λ a. is ∙ found_tree ts t a))
+
+pub returns-in-Key : goal.returns-in-Key
+returns-in-Key c = search rules

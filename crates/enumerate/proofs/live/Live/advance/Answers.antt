@@ -1,4 +1,4 @@
-use Rattle.std.proofs.Common.{sym, ◌∙◌}
+use Rattle.std.proofs.Common.{sym, ◌∙◌, rules}
 use Rattle.enumerate.proofs.LiveLemmas.{advanced, within_delay}
 use Rattle.enumerate.proofs.live.Live.advance.Goals as goal
 
@@ -14,3 +14,6 @@ returns-clause-ok g c =
 pub returns-clause-steps : goal.returns-clause-steps
 returns-clause-steps g c =
     within_delay c.args.self.now c.self.inside.plan.now c.self.inside.tree c.args.meter.now c.next_sample.new.meter c.self.view_is c.next_sample.ensures.steps
+
+pub returns-in_err-self-inside-clause-nowhere : goal.returns-in_err-self-inside-clause-nowhere
+returns-in_err-self-inside-clause-nowhere g c = search rules

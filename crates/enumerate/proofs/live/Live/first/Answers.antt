@@ -1,4 +1,4 @@
-use Rattle.std.proofs.Common.{arith}
+use Rattle.std.proofs.Common.{arith, rules}
 use Rattle.enumerate.proofs.live.Live.first.Goals as goal
 
 pub returns-in_err-tree-clause-steps : goal.returns-in_err-tree-clause-steps
@@ -9,3 +9,9 @@ returns-in-Some-clause-steps g c = λ w wide. omega (arith, c.first_from.ensures
 
 pub returns-in-None-clause-steps : goal.returns-in-None-clause-steps
 returns-in-None-clause-steps g c = λ w wide. omega (arith, c.first_from.ensures.steps w wide)
+
+pub returns-in-Some-clause-ok : goal.returns-in-Some-clause-ok
+returns-in-Some-clause-ok g c = search rules
+
+pub returns-in-None-clause-ok : goal.returns-in-None-clause-ok
+returns-in-None-clause-ok g c = search rules
