@@ -3,8 +3,8 @@ ghost use Rattle.std.specs.Prelude.{◌≡◌, ◌≤◌, false, Some, map, IfOk
 ghost use Rattle.clap.specs.Words.{found_of};
 ghost use Rattle.clap.specs.Kinds.{FailsBy};
 ghost use Rattle.clap.specs.Values.{kind_of};
-ghost use Rattle.clap.specs.Walk.{rule_of, rows_of};
-ghost use Rattle.clap.specs.Simple.{App, app_of, new_rule, subcommand_rows_of, with_subcommand};
+ghost use Rattle.clap.specs.Walk.{Rule, rule_of, rows_of};
+ghost use Rattle.clap.specs.Simple.{App, app_of, new_rule, subcommand_rows_of, with_rule, with_subcommand};
 ghost use Rattle.clap.specs.declared.builder.command.Command.TheViews.{out-Command};
 ghost use Rattle.crdx.specs.Program.CommandLine.{required_rule, option_rule, number_rule, top_app, crd_app, object_app, sample_app, crdx_app, faults, entered, IsCommand, AreCheckArguments, AreObjectArguments, AreSampleArguments, Asks, IsRequestOf, IsUsageErrorOrMemory, IsNumberOf};
 
@@ -154,12 +154,30 @@ fn crd_command<'a>(
     ensures app { IfOk result (λ c. app_of c ≡ crd_app name.now) }
     ensures local { IfOk result (λ c. (out-Command c).has_globals ≡ false) }
 {
-    Command::new(alloc, name)
+    let command = Command::new(alloc, name)
         .about(about)
         .long_about(long_about)
         .after_long_help(end)
-        .arg(crd_argument(alloc))?
-        .arg(version_argument(alloc))
+        .arg(crd_argument(alloc));
+    add_argument(command, version_argument(alloc))
+}
+
+/// The command with one more argument, where it has been made.
+fn add_argument<'a>(
+    command: Result<Command<'a>, AllocError>,
+    argument: Arg<'a>,
+) -> Result<Command<'a>, AllocError>
+    requires { argument.global ≡ false }
+    ensures app { (a : App) (r : Rule) → IfOk command.entry (λ c. app_of c ≡ a) → rule_of argument.entry ≡ r → IfOk result (λ c. app_of c ≡ with_rule a r) }
+    ensures local { IfOk command.entry (λ c. (out-Command c).has_globals ≡ false) → IfOk result (λ c. (out-Command c).has_globals ≡ false) }
+{
+    match command {
+        Ok(command) => command.arg(argument),
+        Err(refused) => {
+            drop(argument);
+            Err(refused)
+        }
+    }
 }
 
 fn crd_argument<'a>(alloc: Global) -> Arg<'a>
@@ -189,7 +207,8 @@ fn object_command<'a>(
     ensures app { IfOk result (λ c. app_of c ≡ object_app name.now) }
     ensures local { IfOk result (λ c. (out-Command c).has_globals ≡ false) }
 {
-    crd_command(alloc, name, about, long_about, end)?.arg(object_argument(alloc))
+    let command = crd_command(alloc, name, about, long_about, end);
+    add_argument(command, object_argument(alloc))
 }
 
 fn object_argument<'a>(alloc: Global) -> Arg<'a>
@@ -204,18 +223,18 @@ fn sample_command<'a>(alloc: Global) -> Result<Command<'a>, AllocError>
     ensures app { IfOk result (λ c. app_of c ≡ sample_app) }
     ensures local { IfOk result (λ c. (out-Command c).has_globals ≡ false) }
 {
-    crd_command(
+    let command = crd_command(
         alloc,
         "sample",
         help::SAMPLE,
         help::SAMPLE_LONG,
         help::SAMPLE_END,
-    )?
-    .arg(pools_option(alloc))?
-    .arg(limit_option(alloc))?
-    .arg(count_option(alloc))?
-    .arg(after_option(alloc))?
-    .arg(name_option(alloc))
+    );
+    let command = add_argument(command, pools_option(alloc));
+    let command = add_argument(command, limit_option(alloc));
+    let command = add_argument(command, count_option(alloc));
+    let command = add_argument(command, after_option(alloc));
+    add_argument(command, name_option(alloc))
 }
 
 fn pools_option<'a>(alloc: Global) -> Arg<'a>

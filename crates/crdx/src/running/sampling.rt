@@ -115,39 +115,20 @@ fn inputs_of(
         × IsAfter arguments.now.after (option_map data_of a.after) × (a.envelope ≡ envelope_for accepted.group arguments.now.version.now accepted.kind arguments.now.name)) }
     ensures cause { IfErr result (λ cause. IsAfterCause arguments.now.after cause ⊎ (cause ≡ NoMemory)) }
 {
-    let envelope = match envelope_named(
+    let envelope = envelope_named(
         alloc,
         &accepted.group,
         arguments.version,
         &accepted.kind,
         arguments.name,
-    ) {
-        Ok(envelope) => envelope,
-        Err(_) => {
-            drop(accepted);
-            drop(pools);
-            return Err(Cause::NoMemory);
-        }
-    };
-    let plan = match Plan::new(alloc, accepted.schema, pools, arguments.limit) {
-        Ok(plan) => plan,
-        Err(fault) => {
-            drop(envelope);
-            return Err(Cause::from(fault));
-        }
-    };
-    match after_of(alloc, arguments.after) {
-        Ok(after) => Ok(SampleInputs {
-            plan,
-            after,
-            envelope,
-        }),
-        Err(cause) => {
-            drop(plan);
-            drop(envelope);
-            Err(cause)
-        }
-    }
+    )?;
+    let plan = Plan::new(alloc, accepted.schema, pools, arguments.limit)?;
+    let after = after_of(alloc, arguments.after)?;
+    Ok(SampleInputs {
+        plan,
+        after,
+        envelope,
+    })
 }
 
 /// The envelope of resources of this group, version, kind and name; none without a name.
