@@ -1,7 +1,7 @@
 //! The words of the command line: what they ask for, mistakes, and help.
 use crate::documents::{WIDGET, ZERO_AND_ONE};
 use crate::fakes::{FailingSink, FakeInputs};
-use crate::harness::{Output, holds, is_number, is_said, is_text, run_on, words_of};
+use crate::harness::{Output, holds, holds_of, is_number, is_said, is_text, run_on, words_of};
 use crdx::arguments::{
     CheckArguments, ObjectArguments, ObjectCommand, Request, SampleArguments, parse_arguments,
 };
@@ -267,7 +267,7 @@ fn run_of(alloc: Global, line: &str) -> Result<Output, AllocError> {
 
 fn is_mistaken(rt: &impl Abort, output: &Output, wanted: &str, name: &str) {
     let err = output.err.text();
-    assert!(rt; err.starts_with(wanted), "standard error of {name}: {err}");
+    holds_of(rt, err, err.starts_with(wanted), "standard error", name);
     is_text(rt, output.out.text(), "", "standard output", name);
     is_number(rt, output.status as u64, 2, "the status", name);
 }
@@ -275,11 +275,14 @@ fn is_mistaken(rt: &impl Abort, output: &Output, wanted: &str, name: &str) {
 // The help fits 80 columns.
 fn is_helped(rt: &impl Abort, output: &Output, wanted: &str, name: &str) {
     let out = output.out.text();
-    assert!(rt; out.contains(wanted), "standard output of {name}: {out}");
+    holds_of(rt, out, out.contains(wanted), "standard output", name);
     for line in out.lines() {
-        assert!(rt;
+        holds_of(
+            rt,
+            line,
             line.chars().count() <= 80,
-            "a line of more than 80 columns: {line}"
+            "at most 80 columns",
+            name,
         );
     }
     is_text(rt, output.err.text(), "", "standard error", name);

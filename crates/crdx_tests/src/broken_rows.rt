@@ -1,7 +1,7 @@
 //! Sinks that fail: what is out by then, and what is said of it.
 use crate::documents::{BROKEN, BROKEN_LINES, TEN_LINES, WIDGET, ZERO_AND_ONE};
 use crate::fakes::{FailingSink, FakeInputs};
-use crate::harness::{is_answer, is_text, run_on};
+use crate::harness::{Output, is_answer, is_text, is_value, run_on};
 use crdx::sink::{Plain, Sink, SinkFault};
 use crdx::walk::WFault;
 use std::alloc::{AllocError, Global};
@@ -80,34 +80,27 @@ fn beginning(text: &str, room: usize) -> &str {
     text.get(..room).unwrap_or(text)
 }
 
-/// What a run leaves on this sink.
-fn try_sink(
-    rt: &impl Abort,
+fn run_row(
     alloc: Global,
     row: &(&str, &str, &str, &str, &str, u8),
     sink: FailingSink,
-    out: &str,
-    err: &str,
-    status: u8,
-) -> Result<(), AllocError> {
-    let (name, command, crd, _out, _err, _status) = *row;
-    let inputs = FakeInputs::new(alloc, crd, ZERO_AND_ONE);
-    let output = run_on(alloc, command, inputs, sink)?;
-    is_answer(rt, &output, out, err, status, name);
-    Ok(())
+) -> Result<Output, AllocError> {
+    let inputs = FakeInputs::new(alloc, row.2, ZERO_AND_ONE);
+    run_on(alloc, row.1, inputs, sink)
 }
 
-/// The sink fails when so much is out.
-fn try_failing(
+/// The sink has failed when so much was out.
+fn has_failed(
     rt: &impl Abort,
     alloc: Global,
-    row: &(&str, &str, &str, &str, &str, u8),
-    sink: FailingSink,
+    output: &Output,
     out: &str,
+    name: &str,
 ) -> Result<(), AllocError> {
     let lines = count_lines(out);
     let err = format!(in alloc; "crdx: write failed after {lines} lines\n")?;
-    try_sink(rt, alloc, row, sink, out, err.as_str(), 4)
+    is_answer(rt, output, out, err.as_str(), 4, name);
+    Ok(())
 }
 
 /// The sink takes at most so many bytes a call, and is full behind so many: then it fails, or answers 0.
@@ -119,12 +112,14 @@ fn try_room(
     step: usize,
     answers_zero: bool,
 ) -> Result<(), AllocError> {
+    let (name, _command, _crd, out, err, status) = *row;
     let sink = FailingSink::new(alloc, room, step, answers_zero);
-    if room < row.3.len() {
-        try_failing(rt, alloc, row, sink, beginning(row.3, room))
-    } else {
-        try_sink(rt, alloc, row, sink, row.3, row.4, row.5)
+    let output = run_row(alloc, row, sink)?;
+    if room < out.len() {
+        return has_failed(rt, alloc, &output, beginning(out, room), name);
     }
+    is_answer(rt, &output, out, err, status, name);
+    Ok(())
 }
 
 /// The sink is full behind each byte in turn; then it takes all.
@@ -149,7 +144,8 @@ fn try_unflushed(
 ) -> Result<(), AllocError> {
     let mut sink = FailingSink::endless(alloc);
     sink.flush_fails = true;
-    try_failing(rt, alloc, row, sink, row.3)
+    let output = run_row(alloc, row, sink)?;
+    has_failed(rt, alloc, &output, row.3, row.0)
 }
 
 /// Standard output fails behind each byte in turn, whole and in pieces, and behind all.
@@ -207,13 +203,11 @@ fn is_put<W: Sink>(
     wanted: Result<usize, SinkFault>,
     name: &str,
 ) {
-    let put = sink.put(bytes);
-    assert_eq!(rt; put, wanted, "a write to {name}");
+    is_value(rt, &sink.put(bytes), &wanted, "a write", name);
 }
 
 fn is_flushed<W: Sink>(rt: &impl Abort, sink: &mut W, wanted: Result<(), SinkFault>, name: &str) {
-    let flushed = sink.flush();
-    assert_eq!(rt; flushed, wanted, "a flush of {name}");
+    is_value(rt, &sink.flush(), &wanted, "a flush", name);
 }
 
 fn try_broken_writers(rt: &impl Abort) {

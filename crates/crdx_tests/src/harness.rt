@@ -4,6 +4,7 @@ use jtree::Tree;
 use plan::{Plan, Pools};
 use schema::{Crd, SFault, read_crd};
 use std::alloc::{AllocError, Global};
+use std::fmt::Debug;
 use std::process::Abort;
 use std::test::Fail;
 use stored::{Schema, accept};
@@ -48,19 +49,35 @@ pub fn run_on(
     })
 }
 
+/// Fails unless the value is the one that is wanted.
+pub fn is_value<T: PartialEq + Debug>(
+    rt: &impl Abort,
+    found: &T,
+    wanted: &T,
+    what: &str,
+    name: &str,
+) {
+    assert_eq!(rt; *found, *wanted, "{what} of {name}");
+}
+
 /// Fails unless the text is the one that is wanted.
 pub fn is_text(rt: &impl Abort, found: &str, wanted: &str, what: &str, name: &str) {
-    assert_eq!(rt; found, wanted, "{what} of {name}");
+    is_value(rt, &found, &wanted, what, name);
 }
 
 /// Fails unless the number is the one that is wanted.
 pub fn is_number(rt: &impl Abort, found: u64, wanted: u64, what: &str, name: &str) {
-    assert_eq!(rt; found, wanted, "{what} of {name}");
+    is_value(rt, &found, &wanted, what, name);
 }
 
 /// Fails unless it holds.
 pub fn holds(rt: &impl Abort, is: bool, what: &str, name: &str) {
     assert!(rt; is, "{what} of {name}");
+}
+
+/// Fails with this text unless it holds of it.
+pub fn holds_of(rt: &impl Abort, text: &str, is: bool, what: &str, name: &str) {
+    assert!(rt; is, "{what} of {name}: {text}");
 }
 
 /// Fails unless there is a text, and it is the one that is wanted.
@@ -110,14 +127,8 @@ pub fn definition(alloc: Global, schema: &str) -> Result<String, AllocError> {
 
 /// The accepted schema of a definition with this schema.
 pub fn schema_of(alloc: Global, schema: &str) -> Result<Schema, Fail> {
-    let Crd {
-        group,
-        kind,
-        version,
-        raw,
-    } = crd_of(alloc, schema)??;
-    drop((group, kind, version));
-    Ok(accept(alloc, raw)?)
+    let crd = crd_of(alloc, schema)??;
+    Ok(accept(alloc, crd.raw)?)
 }
 
 /// The pools of a document.
@@ -130,13 +141,8 @@ pub fn pools_of(alloc: Global, pools: &str) -> Result<Pools, Fail> {
 pub fn made(alloc: Global, given: (&str, &str, u32)) -> Result<Plan<u64>, Fail> {
     let (schema, pools, limit) = given;
     let schema = schema_of(alloc, schema)?;
-    match pools_of(alloc, pools) {
-        Ok(pools) => Ok(Plan::new(alloc, schema, pools, limit)?),
-        Err(fail) => {
-            drop(schema);
-            Err(fail)
-        }
-    }
+    let pools = pools_of(alloc, pools)?;
+    Ok(Plan::new(alloc, schema, pools, limit)?)
 }
 
 /// What is read of version `v1` of a document.

@@ -302,9 +302,7 @@ fn try_values(
     stored: bool,
 ) -> Result<(), Fail> {
     let schema = schema_of_field(alloc, row.1)?;
-    let tried = try_lists(rt, alloc, schema.root(), row, stored);
-    drop(schema);
-    tried
+    try_lists(rt, alloc, schema.root(), row, stored)
 }
 
 fn try_lists(
@@ -374,9 +372,7 @@ fn try_object(
 ) -> Result<(), Fail> {
     let mut tree = Tree::from_bytes(alloc, row.2.as_bytes())?;
     let schema = schema_of(alloc, row.1)?;
-    let tried = try_tree(rt, alloc, schema.root(), &mut tree, row);
-    drop(schema);
-    tried
+    try_tree(rt, alloc, schema.root(), &mut tree, row)
 }
 
 #[test]

@@ -6,7 +6,7 @@ use crate::documents::{
     ZERO_AND_SEVEN,
 };
 use crate::fakes::FailingSink;
-use crate::harness::{holds, is_number, is_said, is_text, made};
+use crate::harness::{holds, is_number, is_said, is_text, is_value, made};
 use crdx::walk::{WFault, Walked, pages_agree, walk};
 use enumerate::{EFault, Live, page};
 use jtree::{JFault, Tree};
@@ -170,9 +170,7 @@ fn try_page(
 ) -> Result<(), Fail> {
     let mut plan = made(alloc, row.1)?;
     let mut meter = plan.meter();
-    let paged = is_page(rt, alloc, &plan, row, &mut meter);
-    drop(plan);
-    paged
+    is_page(rt, alloc, &plan, row, &mut meter)
 }
 
 #[test]
@@ -282,11 +280,7 @@ fn said_of_place(
     meter: &mut Meter,
 ) -> Result<String, Fail> {
     match Live::after(alloc, plan, place, meter) {
-        Ok(Some(next)) => {
-            let said = said_of_live(alloc, &next);
-            drop(next);
-            said
-        }
+        Ok(Some(next)) => said_of_live(alloc, &next),
         Ok(None) => Ok(String::from_str(alloc, "none")?),
         Err(EFault::NotASample) => Ok(String::from_str(alloc, "no sample")?),
         Err(fault) => Err(fault.into()),
@@ -314,9 +308,7 @@ fn try_place(
 ) -> Result<(), Fail> {
     let mut plan = made(alloc, row.1)?;
     let mut meter = plan.meter();
-    let placed = is_place(rt, alloc, &plan, row, &mut meter);
-    drop(plan);
-    placed
+    is_place(rt, alloc, &plan, row, &mut meter)
 }
 
 #[test]
@@ -351,7 +343,7 @@ fn moves(
 ) {
     let before = meter.steps();
     let moved = live.advance(meter);
-    assert_eq!(rt; moved, wanted, "a move of {name}");
+    is_value(rt, &moved, &wanted, "a move", name);
     let most = before.saturating_add(steps);
     holds(rt, meter.steps() <= most, "few steps", name);
 }
@@ -369,6 +361,10 @@ fn goes_through(
         let more = place.saturating_add(1) < count as usize;
         moves(rt, live, Ok(more), steps, meter, name);
     }
+    is_over(rt, live, meter, name);
+}
+
+fn is_over(rt: &impl Abort, live: &mut Live<'_, u64>, meter: &mut Meter, name: &str) {
     for _ in 0..2 {
         holds(rt, live.tree().is_none(), "no sample", name);
         moves(rt, live, Err(EFault::Ended), 0, meter, name);
@@ -417,9 +413,7 @@ fn try_enumeration(
     let mut plan = made(alloc, row.1)?;
     let mut meter = plan.meter();
     let mut other = plan.meter();
-    let paged = is_paged(rt, alloc, &plan, row, &mut meter, &mut other);
-    drop(plan);
-    paged?;
+    is_paged(rt, alloc, &plan, row, &mut meter, &mut other)?;
     holds(rt, meter.steps() > 0, "some steps", row.0);
     holds(rt, meter.steps() <= row.4, "few steps", row.0);
     is_number(rt, other.steps(), meter.steps(), "the steps", row.0);
@@ -644,7 +638,7 @@ pub fn walked(
     let place = place_of(alloc, place)?;
     let mut plan = made(alloc, given)?;
     let mut meter = plan.meter();
-    let walked = walk(
+    Ok(walk(
         alloc,
         &plan,
         place.as_ref(),
@@ -653,9 +647,7 @@ pub fn walked(
         None,
         &mut meter,
         sink,
-    );
-    drop(plan);
-    Ok(walked)
+    ))
 }
 
 fn try_walk(
@@ -677,7 +669,7 @@ fn try_walk(
     let page = page.clamp(1, 10000);
     let total = total.clamp(1, 10000);
     let found = walked(alloc, given, place, page, total, &mut sink)?;
-    assert_eq!(rt; found, answer, "the answer of {name}");
+    is_value(rt, &found, &answer, "the answer", name);
     is_text(rt, sink.text(), wanted, "the output", name);
     Ok(())
 }

@@ -8,7 +8,7 @@ use crate::documents::{
     DEFAULTED, FIFTEEN, LABELS, LONG_MAP_LIST, MAP_LIST, NAMES, NULLABLE, OPEN, REPEATED, SET,
     SPEC, TRUTHS, TWO_TEXTS, ZERO_AND_ONE, ZERO_AND_SEVEN,
 };
-use crate::harness::{holds, is_number, is_said, made, pools_of, schema_of};
+use crate::harness::{holds, is_number, is_said, is_value, made, pools_of, schema_of};
 use plan::{Distinct, Meter, PFault, Plan, PlanNode, SizeSet, Sort};
 use schema::items_told_apart;
 use std::alloc::{AllocError, Global};
@@ -100,7 +100,7 @@ pub fn are_sizes(
             sizes.push(n)?;
         }
     }
-    assert_eq!(rt; sizes.as_slice(), wanted, "{what} of {name}");
+    is_value(rt, &sizes.as_slice(), &wanted, what, name);
     Ok(())
 }
 
@@ -347,9 +347,7 @@ fn have_sizes(
 ) -> Result<(), Fail> {
     let mut plan = plan_of(rt, alloc, row.1, row.0)?;
     let mut meter = plan.meter();
-    let tried = try_sizes(rt, alloc, &plan, &mut meter, row);
-    drop(plan);
-    tried
+    try_sizes(rt, alloc, &plan, &mut meter, row)
 }
 
 #[test]
@@ -424,10 +422,10 @@ fn try_sort(
         holds(rt, false, "a node", name);
         return;
     };
-    assert_eq!(rt; plan.sort(node), sort, "the sort of {name}");
-    assert_eq!(rt; plan.null_ok(node), nullable, "null at {name}");
+    is_value(rt, &plan.sort(node), &sort, "the sort", name);
+    holds(rt, plan.null_ok(node) == nullable, "null", name);
     if let Some(distinct) = distinct {
-        assert_eq!(rt; plan.distinct(node), distinct, "the items of {name}");
+        is_value(rt, &plan.distinct(node), &distinct, "the items", name);
     }
 }
 
@@ -439,7 +437,6 @@ fn is_sorted(
     let mut plan = plan_of(rt, alloc, row.1, row.0)?;
     let mut meter = plan.meter();
     try_sort(rt, &plan, &mut meter, row);
-    drop(plan);
     Ok(())
 }
 
@@ -510,7 +507,7 @@ fn try_slots(
     };
     for (place, slot) in wanted.iter().enumerate() {
         let found = slot_parts(plan, node, place_of(place), meter);
-        assert_eq!(rt; found, Some(*slot), "a slot of {name}");
+        is_value(rt, &found, &Some(*slot), "a slot", name);
     }
     let behind = slot_of(plan, node, place_of(wanted.len()), meter);
     holds(rt, behind.is_none(), "no slot behind the last", name);
@@ -524,7 +521,6 @@ fn have_slots(
     let mut plan = plan_of(rt, alloc, row.1, row.0)?;
     let mut meter = plan.meter();
     try_slots(rt, &plan, &mut meter, row);
-    drop(plan);
     Ok(())
 }
 
@@ -560,7 +556,6 @@ fn try_width(
     let width = plan.width();
     is_number(rt, width, wanted, "the width", name);
     let limit = plan.limit() as u64;
-    drop(plan);
     let found = limit.wrapping_add(1).wrapping_mul(width.wrapping_add(1));
     is_number(rt, found.wrapping_mul(4), bound, "the bound", name);
     Ok(())
@@ -584,16 +579,9 @@ static LIMITS: [(&str, u32, &str); 4] = [
 
 fn limit_said(alloc: Global, limit: u32) -> Result<String, Fail> {
     let schema = schema_of(alloc, SPEC)?;
-    let made = match pools_of(alloc, ZERO_AND_ONE) {
-        Ok(pools) => Plan::<u64>::new(alloc, schema, pools, limit),
-        Err(fail) => {
-            drop(schema);
-            return Err(fail);
-        }
-    };
-    let said = said_of_made(alloc, &made);
-    drop(made);
-    Ok(said?)
+    let pools = pools_of(alloc, ZERO_AND_ONE)?;
+    let made = Plan::<u64>::new(alloc, schema, pools, limit);
+    Ok(said_of_made(alloc, &made)?)
 }
 
 fn said_of_made(alloc: Global, made: &Result<Plan<u64>, PFault>) -> Result<String, AllocError> {
@@ -621,6 +609,5 @@ fn laws(rt: HostRuntime) -> Result<(), Fail> {
     plan.no_dead_end();
     plan.sound_parts();
     is_number(&rt, plan.width(), 2, "the width", "a map list");
-    drop(plan);
     Ok(())
 }

@@ -1,14 +1,13 @@
 //! All samples of a small plan, by the definitions alone: every value that can stand at a node is made, and what is stored is kept.
 //! It is slow, and of `plan` it uses nothing but the pools.
-ghost use Rattle.std.specs.Prelude.{◌≡◌, IsTrue};
+ghost use Rattle.std.specs.Prelude.{◌≡◌, IsTrue, IfOk};
 ghost use Rattle.jtree.specs.Data.{IsNameBefore};
 ghost use Rattle.schema.specs.Nodes.View.{node_of};
 
 use jtree::{Items, Member, Members, Text, Tree};
 use plan::Pools;
 use schema::{Below, Bounds, Fields, Node, ScalarKind, ScalarNode, Sort};
-use std::alloc::Global;
-use std::test::Fail;
+use std::alloc::{AllocError, Global};
 use stored::is_stored;
 
 /// The parts of a node over pools of at most `limit` nodes, in the tree order, each once.
@@ -17,7 +16,7 @@ pub fn plain_parts(
     node: &Node,
     pools: &Pools,
     limit: u64,
-) -> Result<Vec<Tree>, Fail> {
+) -> Result<Vec<Tree>, AllocError> {
     let mut parts = Vec::new(alloc);
     for value in values_at(alloc, node, pools, limit)? {
         if is_stored(node, &value) {
@@ -31,33 +30,47 @@ pub fn plain_parts(
 
 /// The values over pools of at most `limit` nodes that can stand at a node, stored or not.
 #[cycle(values)]
-fn values_at(alloc: Global, node: &Node, pools: &Pools, limit: u64) -> Result<Vec<Tree>, Fail> {
-    let mut values = Vec::new(alloc);
-    let room = limit.saturating_sub(1);
-    match &node.sort {
-        Sort::Scalar(scalar) => push_scalars(alloc, &mut values, scalar, pools)?,
-        Sort::Open => push_copies(alloc, &mut values, pools.any())?,
-        Sort::Object(object) => {
-            let choices = field_choices(alloc, &object.fields, pools, room)?;
-            push_objects(alloc, &mut values, &choices, room)?;
-        }
-        Sort::Map(map) => {
-            let choices = name_choices(alloc, node_below(&map.value), pools, room)?;
-            push_objects(alloc, &mut values, &choices, room)?;
-        }
-        Sort::List(list) => {
-            let items = values_at(alloc, node_below(&list.item), pools, room)?;
-            push_lists(alloc, &mut values, &items, room)?;
-        }
-    }
+fn values_at(
+    alloc: Global,
+    node: &Node,
+    pools: &Pools,
+    limit: u64,
+) -> Result<Vec<Tree>, AllocError> {
+    let mut values = values_of(alloc, &node.sort, pools, limit.saturating_sub(1))?;
     if node.nullable {
         values.push(Tree::Null)?;
     }
     within(alloc, values, limit)
 }
 
+/// The values at a node of this sort, null aside, of at most `room` nodes below them.
+#[cycle(values)]
+fn values_of(
+    alloc: Global,
+    sort: &Sort,
+    pools: &Pools,
+    room: u64,
+) -> Result<Vec<Tree>, AllocError> {
+    match sort {
+        Sort::Scalar(scalar) => scalars(alloc, scalar, pools),
+        Sort::Open => copies(alloc, pools.any()),
+        Sort::Object(object) => {
+            let choices = field_choices(alloc, &object.fields, pools, room)?;
+            objects(alloc, &choices, room)
+        }
+        Sort::Map(map) => {
+            let choices = name_choices(alloc, node_below(&map.value), pools, room)?;
+            objects(alloc, &choices, room)
+        }
+        Sort::List(list) => {
+            let items = values_at(alloc, node_below(&list.item), pools, room)?;
+            lists(alloc, &items, room)
+        }
+    }
+}
+
 /// Those of at most `limit` nodes.
-fn within(alloc: Global, trees: Vec<Tree>, limit: u64) -> Result<Vec<Tree>, Fail> {
+fn within(alloc: Global, trees: Vec<Tree>, limit: u64) -> Result<Vec<Tree>, AllocError> {
     let mut kept = Vec::new(alloc);
     for tree in trees {
         if tree.nodes() <= limit {
@@ -88,7 +101,7 @@ pub fn plain_slots(
     node: &Node,
     pools: &Pools,
     limit: u64,
-) -> Result<Vec<Choice>, Fail> {
+) -> Result<Vec<Choice>, AllocError> {
     match &node.sort {
         Sort::Object(object) => field_slots(alloc, &object.fields, pools, limit),
         Sort::Map(map) => name_slots(alloc, node_below(&map.value), pools, limit),
@@ -102,7 +115,7 @@ fn field_slots(
     fields: &Fields,
     pools: &Pools,
     limit: u64,
-) -> Result<Vec<Choice>, Fail> {
+) -> Result<Vec<Choice>, AllocError> {
     let mut slots = Vec::new(alloc);
     for field in &fields.fields {
         let values = plain_parts(alloc, &field.node, pools, limit)?;
@@ -113,7 +126,12 @@ fn field_slots(
     Ok(slots)
 }
 
-fn name_slots(alloc: Global, node: &Node, pools: &Pools, limit: u64) -> Result<Vec<Choice>, Fail> {
+fn name_slots(
+    alloc: Global,
+    node: &Node,
+    pools: &Pools,
+    limit: u64,
+) -> Result<Vec<Choice>, AllocError> {
     let mut slots = Vec::new(alloc);
     for name in names_of(alloc, pools)? {
         let values = plain_parts(alloc, node, pools, limit)?;
@@ -131,7 +149,7 @@ pub fn plain_rest(
     limit: u64,
     bounds: Bounds,
     taken: u64,
-) -> Result<Vec<u32>, Fail> {
+) -> Result<Vec<u32>, AllocError> {
     let mut counts = Vec::new(alloc);
     for row in rows_of(alloc, slots, limit)? {
         if is_filled(&row, slots) && is_within(&row, bounds, taken) {
@@ -158,7 +176,7 @@ fn is_within(row: &Members, bounds: Bounds, taken: u64) -> bool {
 }
 
 /// The numbers of nodes of the items behind the first `taken`, over the lists among these parts that have so many.
-pub fn plain_more(alloc: Global, parts: &[Tree], taken: u32) -> Result<Vec<u32>, Fail> {
+pub fn plain_more(alloc: Global, parts: &[Tree], taken: u32) -> Result<Vec<u32>, AllocError> {
     let mut counts = Vec::new(alloc);
     for part in parts {
         if let Tree::List(list) = part {
@@ -172,45 +190,51 @@ pub fn plain_more(alloc: Global, parts: &[Tree], taken: u32) -> Result<Vec<u32>,
     Ok(counts)
 }
 
-fn push_copies(alloc: Global, values: &mut Vec<Tree>, trees: &[Tree]) -> Result<(), Fail> {
+/// As `Tree::copy`, which fails for memory alone.
+fn copied(alloc: Global, tree: &Tree) -> Result<Tree, AllocError>
+    ensures { IfOk result (λ t. t ≡ tree.now) }
+{
+    tree.copy(alloc).map_err(|_| AllocError)
+}
+
+fn copies(alloc: Global, trees: &[Tree]) -> Result<Vec<Tree>, AllocError> {
+    let mut values = Vec::new(alloc);
     for tree in trees {
-        values.push(tree.copy(alloc)?)?;
+        values.push(copied(alloc, tree)?)?;
     }
-    Ok(())
+    Ok(values)
 }
 
-fn push_scalars(
-    alloc: Global,
-    values: &mut Vec<Tree>,
-    scalar: &ScalarNode,
-    pools: &Pools,
-) -> Result<(), Fail> {
-    if let Some(choices) = &scalar.validations.constraints.choices {
-        return push_copies(alloc, values, &choices.items);
-    }
-    match scalar.kind {
-        ScalarKind::Boolean => {
-            values.push(Tree::Bool(false))?;
-            values.push(Tree::Bool(true))?;
-            Ok(())
-        }
-        ScalarKind::Integer => push_integers(values, pools),
-        ScalarKind::String => push_strings(alloc, values, pools),
-        ScalarKind::IntOrString => {
-            push_integers(values, pools)?;
-            push_strings(alloc, values, pools)
-        }
+fn scalars(alloc: Global, scalar: &ScalarNode, pools: &Pools) -> Result<Vec<Tree>, AllocError> {
+    match &scalar.validations.constraints.choices {
+        Some(choices) => copies(alloc, &choices.items),
+        None => scalars_of(alloc, scalar.kind, pools),
     }
 }
 
-fn push_integers(values: &mut Vec<Tree>, pools: &Pools) -> Result<(), Fail> {
+fn scalars_of(alloc: Global, kind: ScalarKind, pools: &Pools) -> Result<Vec<Tree>, AllocError> {
+    let mut values = Vec::new(alloc);
+    if kind == ScalarKind::Boolean {
+        values.push(Tree::Bool(false))?;
+        values.push(Tree::Bool(true))?;
+    }
+    if kind == ScalarKind::Integer || kind == ScalarKind::IntOrString {
+        push_integers(&mut values, pools)?;
+    }
+    if kind == ScalarKind::String || kind == ScalarKind::IntOrString {
+        push_strings(alloc, &mut values, pools)?;
+    }
+    Ok(values)
+}
+
+fn push_integers(values: &mut Vec<Tree>, pools: &Pools) -> Result<(), AllocError> {
     for integer in pools.integers() {
         values.push(Tree::Int(*integer))?;
     }
     Ok(())
 }
 
-fn push_strings(alloc: Global, values: &mut Vec<Tree>, pools: &Pools) -> Result<(), Fail> {
+fn push_strings(alloc: Global, values: &mut Vec<Tree>, pools: &Pools) -> Result<(), AllocError> {
     for text in pools.strings() {
         values.push(Tree::Text(text.copy(alloc)?))?;
     }
@@ -223,7 +247,7 @@ fn field_choices(
     fields: &Fields,
     pools: &Pools,
     room: u64,
-) -> Result<Vec<Choice>, Fail> {
+) -> Result<Vec<Choice>, AllocError> {
     let mut choices = Vec::new(alloc);
     for field in &fields.fields {
         let values = values_at(alloc, &field.node, pools, room)?;
@@ -235,7 +259,12 @@ fn field_choices(
 }
 
 #[cycle(values)]
-fn name_choices(alloc: Global, node: &Node, pools: &Pools, room: u64) -> Result<Vec<Choice>, Fail> {
+fn name_choices(
+    alloc: Global,
+    node: &Node,
+    pools: &Pools,
+    room: u64,
+) -> Result<Vec<Choice>, AllocError> {
     let mut choices = Vec::new(alloc);
     for name in names_of(alloc, pools)? {
         let values = values_at(alloc, node, pools, room)?;
@@ -246,7 +275,7 @@ fn name_choices(alloc: Global, node: &Node, pools: &Pools, room: u64) -> Result<
 }
 
 /// The names of the pools, by bytes, each once.
-fn names_of(alloc: Global, pools: &Pools) -> Result<Vec<Text>, Fail> {
+fn names_of(alloc: Global, pools: &Pools) -> Result<Vec<Text>, AllocError> {
     let mut names = Vec::new(alloc);
     for name in pools.names() {
         names.push(name.copy(alloc)?)?;
@@ -256,21 +285,17 @@ fn names_of(alloc: Global, pools: &Pools) -> Result<Vec<Text>, Fail> {
     Ok(names)
 }
 
-/// Adds each object that has some of the names, with one of the values under each, of at most `room` nodes below it.
-fn push_objects(
-    alloc: Global,
-    values: &mut Vec<Tree>,
-    choices: &[Choice],
-    room: u64,
-) -> Result<(), Fail> {
+/// Each object that has some of the names, with one of the values under each, of at most `room` nodes below it.
+fn objects(alloc: Global, choices: &[Choice], room: u64) -> Result<Vec<Tree>, AllocError> {
+    let mut values = Vec::new(alloc);
     for row in rows_of(alloc, choices, room)? {
         values.push(Tree::Object(row))?;
     }
-    Ok(())
+    Ok(values)
 }
 
 /// Some of the names, with one of the values under each, of at most `room` nodes.
-fn rows_of(alloc: Global, choices: &[Choice], room: u64) -> Result<Vec<Members>, Fail> {
+fn rows_of(alloc: Global, choices: &[Choice], room: u64) -> Result<Vec<Members>, AllocError> {
     let mut rows = Vec::new(alloc);
     rows.push(Members {
         members: Vec::new(alloc),
@@ -288,7 +313,7 @@ fn longer_rows(
     rows: &[Members],
     choice: &Choice,
     room: u64,
-) -> Result<Vec<Members>, Fail> {
+) -> Result<Vec<Members>, AllocError> {
     let mut longer = Vec::new(alloc);
     for row in rows {
         push_longer_rows(alloc, &mut longer, row, choice, room)?;
@@ -296,19 +321,19 @@ fn longer_rows(
     Ok(longer)
 }
 
+/// The choices come by name, so the name goes in front; if it did not, objects would be missing here.
 fn push_longer_rows(
     alloc: Global,
     longer: &mut Vec<Members>,
     row: &Members,
     choice: &Choice,
     room: u64,
-) -> Result<(), Fail> {
-    if !is_name_before(&choice.name, row) {
-        return Err(Fail::from("names out of order"));
-    }
-    for value in &choice.values {
-        if value.nodes().saturating_add(row.nodes()) <= room {
-            longer.push(with_member(alloc, &choice.name, value, row)?)?;
+) -> Result<(), AllocError> {
+    if is_name_before(&choice.name, row) {
+        for value in &choice.values {
+            if value.nodes().saturating_add(row.nodes()) <= room {
+                longer.push(with_member(alloc, &choice.name, value, row)?)?;
+            }
         }
     }
     Ok(())
@@ -324,38 +349,43 @@ fn is_name_before(name: &Text, row: &Members) -> bool
 }
 
 /// The row with a value under the name in front of it.
-fn with_member(alloc: Global, name: &Text, value: &Tree, row: &Members) -> Result<Members, Fail>
+fn with_member(
+    alloc: Global,
+    name: &Text,
+    value: &Tree,
+    row: &Members,
+) -> Result<Members, AllocError>
     requires { IsNameBefore name.now row.now }
 {
     value.reveal_invariant();
     let mut members = Vec::new(alloc);
     members.push(Member {
         name: name.copy(alloc)?,
-        tree: value.copy(alloc)?,
+        tree: copied(alloc, value)?,
     })?;
     for member in &row.members {
         let name = member.name.copy(alloc)?;
-        let tree = member.tree.copy(alloc)?;
+        let tree = copied(alloc, &member.tree)?;
         members.push(Member { name, tree })?;
     }
     Ok(Members { members })
 }
 
-/// Adds each list of these items, in each order and with repeats, of at most `room` nodes below it.
-fn push_lists(
-    alloc: Global,
-    values: &mut Vec<Tree>,
-    items: &[Tree],
-    room: u64,
-) -> Result<(), Fail> {
+/// Each list of these items, in each order and with repeats, of at most `room` nodes below it.
+fn lists(alloc: Global, items: &[Tree], room: u64) -> Result<Vec<Tree>, AllocError> {
+    let mut values = Vec::new(alloc);
+    for list in item_lists(alloc, items, room)? {
+        values.push(Tree::List(list))?;
+    }
+    Ok(values)
+}
+
+fn item_lists(alloc: Global, items: &[Tree], room: u64) -> Result<Vec<Items>, AllocError> {
     let mut lists = Vec::new(alloc);
     for most in 0..room.saturating_add(1) {
         lists = longer_lists(alloc, items, &lists, most)?;
     }
-    for list in lists {
-        values.push(Tree::List(list))?;
-    }
-    Ok(())
+    Ok(lists)
 }
 
 /// The empty list, and each of the lists with each item in front of it, where there is room.
@@ -364,7 +394,7 @@ fn longer_lists(
     items: &[Tree],
     lists: &[Items],
     room: u64,
-) -> Result<Vec<Items>, Fail> {
+) -> Result<Vec<Items>, AllocError> {
     let mut longer = Vec::new(alloc);
     longer.push(Items {
         items: Vec::new(alloc),
@@ -381,7 +411,7 @@ fn push_longer_lists(
     items: &[Tree],
     list: &Items,
     room: u64,
-) -> Result<(), Fail> {
+) -> Result<(), AllocError> {
     let used = items_nodes(&list.items);
     for item in items {
         if item.nodes().saturating_add(used) <= room {
@@ -400,12 +430,12 @@ fn items_nodes(items: &[Tree]) -> u64 {
 }
 
 /// The list with an item in front of it.
-fn with_item(alloc: Global, item: &Tree, list: &Items) -> Result<Items, Fail> {
+fn with_item(alloc: Global, item: &Tree, list: &Items) -> Result<Items, AllocError> {
     item.reveal_invariant();
     let mut items = Vec::new(alloc);
-    items.push(item.copy(alloc)?)?;
+    items.push(copied(alloc, item)?)?;
     for item in &list.items {
-        items.push(item.copy(alloc)?)?;
+        items.push(copied(alloc, item)?)?;
     }
     Ok(Items { items })
 }

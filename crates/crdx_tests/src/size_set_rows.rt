@@ -1,4 +1,5 @@
 //! Sets of sizes: their members, sums up to a limit, and the next member.
+use crate::harness::is_value;
 use plan::SizeSet;
 use std::alloc::Global;
 use std::process::Abort;
@@ -26,7 +27,7 @@ fn has_members<S: SizeSet>(
             members.push(n)?;
         }
     }
-    assert_eq!(rt; members.as_slice(), wanted, "the members of {name}");
+    is_value(rt, &members.as_slice(), &wanted, "the members", name);
     Ok(())
 }
 
@@ -63,7 +64,7 @@ static NEXT: [(&str, &[u32], u32, Option<u32>); 7] = [
 fn next_members(rt: HostRuntime) -> Result<(), Fail> {
     for (name, members, n, wanted) in &NEXT {
         let next = set_of::<u64>(&rt, members, name).next(*n);
-        assert_eq!(rt; next, *wanted, "the next member from {name}");
+        is_value(&rt, &next, wanted, "the next member", name);
     }
     Ok(())
 }

@@ -598,18 +598,8 @@ fn try_made(
     name: &str,
 ) -> Result<(), Fail> {
     let schema = schema_of(alloc, schema)?;
-    match pools_of(alloc, pools) {
-        Ok(pools) => {
-            let tried = try_given(rt, alloc, plan, &schema, &pools, meter, name);
-            drop(pools);
-            drop(schema);
-            tried
-        }
-        Err(fail) => {
-            drop(schema);
-            Err(fail)
-        }
-    }
+    let pools = pools_of(alloc, pools)?;
+    try_given(rt, alloc, plan, &schema, &pools, meter, name)
 }
 
 /// What a plan says of its nodes, against the plain reference.
@@ -623,9 +613,7 @@ pub fn try_plan(
 ) -> Result<(), Fail> {
     let mut plan = made(alloc, (schema, pools, limit))?;
     let mut meter = plan.meter();
-    let tried = try_made(rt, alloc, &plan, schema, pools, &mut meter, name);
-    drop(plan);
-    tried
+    try_made(rt, alloc, &plan, schema, pools, &mut meter, name)
 }
 
 fn all_nodes(
