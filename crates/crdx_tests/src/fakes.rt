@@ -138,25 +138,26 @@ impl Inputs for FakeInputs<'_> {
 
     fn tree(&mut self, name: Option<&str>) -> Result<Tree, InFault> {
         let text = match name {
-            Some(name) => {
-                if name == "crd.json" {
-                    self.reads.crd = self.reads.crd.saturating_add(1);
-                    self.crd
-                } else if name == "pools.json" {
-                    self.reads.pools = self.reads.pools.saturating_add(1);
-                    self.second
-                } else if name == "object.json" {
-                    self.reads.object = self.reads.object.saturating_add(1);
-                    self.second
-                } else {
-                    self.reads.other = self.reads.other.saturating_add(1);
-                    self.failures = self.failures.saturating_add(1);
-                    return Err(InFault::Failed);
-                }
+            Some("crd.json") => {
+                self.reads.crd = self.reads.crd.saturating_add(1);
+                self.crd
+            }
+            Some("pools.json") => {
+                self.reads.pools = self.reads.pools.saturating_add(1);
+                self.second
+            }
+            Some("object.json") => {
+                self.reads.object = self.reads.object.saturating_add(1);
+                self.second
             }
             None => {
                 self.reads.other = self.reads.other.saturating_add(1);
                 self.second
+            }
+            Some(_) => {
+                self.reads.other = self.reads.other.saturating_add(1);
+                self.failures = self.failures.saturating_add(1);
+                return Err(InFault::Failed);
             }
         };
         match Tree::from_bytes(self.alloc, text.as_bytes()) {
