@@ -1,0 +1,208 @@
+//! All leaves of a stored object, in order.
+ghost use Rattle.std.specs.Prelude.{◌≡◌, ◌++◌, ◌∷◌, [], OnOk, IfOk, IfErr, Some, map, option_map, Decides, codes};
+ghost use Rattle.jtree.specs.Path.{Step, name as name_step};
+ghost use Rattle.jtree.specs.View.{data_of};
+ghost use Rattle.schema.specs.Document.Places.{Place};
+ghost use Rattle.schema.specs.Nodes.ByPlace.{node_at};
+ghost use Rattle.schema.specs.Nodes.Node.{Node as NodeData};
+ghost use Rattle.schema.specs.Nodes.Shape.{IsRootOf};
+ghost use Rattle.schema.specs.Nodes.View.{node_of};
+ghost use Rattle.jtree.specs.Data.{Data};
+ghost use Rattle.stored.specs.declared.fault.LFault.TheVariants.{NotStored};
+ghost use Rattle.stored.specs.Objects.Becomes.{IsStored};
+ghost use Rattle.stored.specs.Objects.Leaves.{is_divided, item_element as item_element_of, elements_of, AreLeaves, AreApart, IsCovered};
+ghost use Rattle.stored.specs.Internal.Pruning.{field_node};
+ghost use Rattle.stored.specs.Internal.LeavesByLevel.{here, below, leaves_below, of_members, of_items, leaves_by_level, part_leaves, walked, added};
+
+use crate::defaults::is_faultless;
+use crate::fault::LFault;
+use crate::fields::field_named;
+use crate::filled::is_filled;
+use crate::leaf::{Leaf, copy_texts, item_element, text_element};
+use crate::pruned::is_pruned;
+use jtree::{Items, Member, Members, Text, Tree};
+use schema::{Fields, ListNode, ListType, MapNode, MapType, Node, Sort, items_told_apart};
+use std::alloc::{AllocError, Global};
+
+/// The leaves of a stored object at its node: what an applier owns of it, each by the elements of its path (apiextensions.k8s.io/v1,
+/// merge markers; Server-Side Apply, FieldsV1). A granular object or map has the leaves of each member, after `f:` and the name; a
+/// set has a leaf for each item, `v:` and its compact JSON text; a map list has the leaves of each item, after `k:` and the compact
+/// JSON text of its keys. Everything else is one leaf as a whole, and so is what is empty. They stand in the order of members by
+/// the bytes of their names and of items by place, and none begins another at a node of a schema that breaks no rule. `NotStored`
+/// where the object is not valid, or pruning or defaulting changes it, and `NoMemory` where an allocation fails. Work is linear
+/// in the object, the nodes and the leaves, but for the items of a set or a map list, which are sorted.
+pub fn leaves(alloc: Global, node: &Node, tree: &Tree) -> Result<Vec<Leaf>, LFault>
+    ensures leaves { IfOk result (λ ls. AreLeaves (node_of node.now) (data_of tree.now) (map elements_of ls.items)) }
+    ensures stored { OnOk result (IsStored (node_of node.now) (data_of tree.now)) }
+    ensures not_stored { IfErr result (λ e. e ≡ NotStored → IsStored (node_of node.now) (data_of tree.now) → ⊥) }
+    ensures apart { IfOk result (λ ls. (raw : Data) (root : NodeData) (p : Place) → IsRootOf root raw → node_at root p ≡ Some (node_of node.now) → AreApart (map elements_of ls.items)) }
+    ensures covered { OnOk result (IsCovered (node_of node.now) (data_of tree.now)) }
+{
+    tree.reveal_invariant();
+    items_told_apart();
+    if !check_stored(alloc, node, tree)? {
+        return Err(LFault::NotStored);
+    }
+    let mut walk = Walk {
+        way: Vec::new(alloc),
+        leaves: Vec::new(alloc),
+    };
+    list(alloc, &mut walk, node, tree)?;
+    Ok(walk.leaves)
+}
+
+/// Whether an object is stored, in time that is close to linear.
+fn check_stored(alloc: Global, node: &Node, tree: &Tree) -> Result<bool, AllocError>
+    ensures { IfOk result (λ b. Decides b (IsStored (node_of node.now) (data_of tree.now))) }
+{
+    let valid = is_faultless(alloc, node, tree)?;
+    Ok(valid && (is_pruned(node, tree) && is_filled(node, tree)))
+}
+
+/// How far the walk over an object has come.
+#[derive(Drop)]
+struct Walk {
+    /// The elements on the way to the place.
+    way: Vec<Text>,
+    /// The leaves so far.
+    leaves: Vec<Leaf>,
+}
+
+impl Walk {
+    /// Adds the place as a leaf.
+    fn add_leaf(&mut self, alloc: Global) -> Result<(), AllocError>
+        ensures { OnOk result (walked self.new ≡ added (walked self.old) (here ∷ [])) }
+    {
+        let elements = copy_texts(alloc, &self.way)?;
+        self.leaves.push(Leaf { elements })?;
+        Ok(())
+    }
+}
+
+/// Adds the leaves of a value.
+#[cycle(list)]
+fn list(alloc: Global, walk: &mut Walk, node: &Node, tree: &Tree) -> Result<(), AllocError>
+    ensures { OnOk result (walked walk.new ≡ added (walked walk.old) (leaves_by_level (node_of node.now) (data_of tree.now))) }
+{
+    if is_divided(node, tree) {
+        list_below(alloc, walk, node, tree)
+    } else {
+        walk.add_leaf(alloc)
+    }
+}
+
+/// Whether the leaves of a value are those of its parts.
+fn is_divided(node: &Node, tree: &Tree) -> bool
+    ensures { result ≡ is_divided (node_of node.now) (data_of tree.now) }
+{
+    match (&node.sort, tree) {
+        (Sort::Object(object), Tree::Object(members)) => {
+            object.map_type == MapType::Granular && !members.members.is_empty()
+        }
+        (Sort::Map(map), Tree::Object(members)) => {
+            map.map_type == MapType::Granular && !members.members.is_empty()
+        }
+        (Sort::List(list), Tree::List(items)) => {
+            list.list_type != ListType::Atomic && !items.items.is_empty()
+        }
+        _ => false,
+    }
+}
+
+/// Adds the leaves of the parts of a value.
+#[cycle(list)]
+fn list_below(alloc: Global, walk: &mut Walk, node: &Node, tree: &Tree) -> Result<(), AllocError>
+    ensures { OnOk result (walked walk.new ≡ added (walked walk.old) (leaves_below (node_of node.now) (data_of tree.now))) }
+{
+    match (&node.sort, tree) {
+        (Sort::Object(object), Tree::Object(members)) => {
+            list_fields(alloc, walk, &object.fields, members)
+        }
+        (Sort::Map(map), Tree::Object(members)) => list_values(alloc, walk, map, members),
+        (Sort::List(list), Tree::List(items)) => list_items(alloc, walk, list, items),
+        _ => Ok(()),
+    }
+}
+
+#[cycle(list)]
+fn list_fields(
+    alloc: Global,
+    walk: &mut Walk,
+    fields: &Fields,
+    members: &Members,
+) -> Result<(), AllocError>
+    ensures { OnOk result (walked walk.new ≡ added (walked walk.old) (of_members (field_node fields.now) members.now)) }
+{
+    for member in &members.members {
+        let node = field_named(fields, member.name.as_str()).map(|field| &field.node);
+        list_member(alloc, walk, node, member)?;
+    }
+    Ok(())
+}
+
+#[cycle(list)]
+fn list_values(
+    alloc: Global,
+    walk: &mut Walk,
+    map: &MapNode,
+    members: &Members,
+) -> Result<(), AllocError>
+    ensures { OnOk result (walked walk.new ≡ added (walked walk.old) (of_members (λ k. Some map.now.value) members.now)) }
+{
+    for member in &members.members {
+        list_member(alloc, walk, Some(&map.value.node), member)?;
+    }
+    Ok(())
+}
+
+#[cycle(list)]
+fn list_items(
+    alloc: Global,
+    walk: &mut Walk,
+    list: &ListNode,
+    items: &Items,
+) -> Result<(), AllocError>
+    ensures { OnOk result (walked walk.new ≡ added (walked walk.old) (of_items list.now.item (item_element_of list.now.list_type list.now.keys.items) 0 items.now)) }
+{
+    for item in &items.items {
+        let element = item_element(alloc, list, item)?;
+        list_part(alloc, walk, element, Some(&list.item.node), item)?;
+    }
+    Ok(())
+}
+
+#[cycle(list)]
+fn list_member(
+    alloc: Global,
+    walk: &mut Walk,
+    node: Option<&Node>,
+    member: &Member,
+) -> Result<(), AllocError>
+    ensures { OnOk result (walked walk.new ≡ added (walked walk.old)
+        (map (below (name_step member.now.name) (codes "f:" ++ member.now.name)) (part_leaves (option_map (λ n. node_of n.now) node.entry) (data_of member.now.tree)))) }
+{
+    let element = text_element(alloc, "f:", member.name.as_str())?;
+    list_part(alloc, walk, element, node, &member.tree)
+}
+
+/// Adds the leaves of a part, to which this element leads. Where no node stands for it, it is one leaf.
+#[cycle(list)]
+fn list_part(
+    alloc: Global,
+    walk: &mut Walk,
+    element: Text,
+    node: Option<&Node>,
+    tree: &Tree,
+) -> Result<(), AllocError>
+    ensures { OnOk result ((s : Step) → walked walk.new ≡ added (walked walk.old)
+        (map (below s element) (part_leaves (option_map (λ n. node_of n.now) node.entry) (data_of tree.now)))) }
+{
+    let depth = walk.way.len();
+    walk.way.push(element)?;
+    match node {
+        Some(node) => list(alloc, walk, node, tree)?,
+        None => walk.add_leaf(alloc)?,
+    }
+    walk.way.truncate(depth);
+    Ok(())
+}
