@@ -68,7 +68,7 @@ repeated_there : (N : Node) (v : Data) (i : ℕ) → repeats N v i ≡ true → 
 repeated_there (node nullable description (list N type keys bounds)) (tree.list ds) i e = let w = item_there ds true i (are_alike type keys) e in (N, w.0, refl, w.1)
 repeated_there _ _ i e = cc
 
-item_tree : (i : ℕ) (ds : Items) (w : Data) → AreTrees ds → item_at i ds ≡ Some w → IsTree w
+pub item_tree : (i : ℕ) (ds : Items) (w : Data) → AreTrees ds → item_at i ds ≡ Some w → IsTree w
 item_tree i no_items w t e = cc
 item_tree zero (item d ds) w t e = subst IsTree (same_Some d w e) t.0
 item_tree (suc i) (item d ds) w t e = item_tree i ds w t.1 e
@@ -202,7 +202,7 @@ led_on N v s path M w e = elim (option_cases (leads N v s)) [
 
 -- ---- all faults
 
-deeper : (N : Node) (v : Data) (s : Step) (M : Node) (w : Data) (p : Path) (t : Test) → leads N v s ≡ Some (at M w) → HasFault M w p t → HasFault N v (s ∷ p) t
+pub deeper : (N : Node) (v : Data) (s : Step) (M : Node) (w : Data) (p : Path) (t : Test) → leads N v s ≡ Some (at M w) → HasFault M w p t → HasFault N v (s ∷ p) t
 deeper N v s M w p t e f = record {
   before = s ∷ f.before;
   last = f.last;

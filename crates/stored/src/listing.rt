@@ -1,6 +1,6 @@
 //! All leaves of a stored object, in order.
-ghost use Rattle.std.specs.Prelude.{◌≡◌, ◌++◌, ◌∷◌, [], OnOk, IfOk, IfErr, Some, map, option_map, Decides, codes};
-ghost use Rattle.jtree.specs.Path.{Step, name as name_step};
+ghost use Rattle.std.specs.Prelude.{◌≡◌, ◌++◌, ℕ, ◌∷◌, [], OnOk, IfOk, IfErr, Some, map, Decides, codes};
+ghost use Rattle.jtree.specs.Path.{name as name_step, index as index_step};
 ghost use Rattle.jtree.specs.View.{data_of};
 ghost use Rattle.schema.specs.Document.Places.{Place};
 ghost use Rattle.schema.specs.Nodes.ByPlace.{node_at};
@@ -12,7 +12,7 @@ ghost use Rattle.stored.specs.declared.fault.LFault.TheVariants.{NotStored};
 ghost use Rattle.stored.specs.Objects.Becomes.{IsStored};
 ghost use Rattle.stored.specs.Objects.Leaves.{is_divided, item_element as item_element_of, elements_of, AreLeaves, AreApart, IsCovered};
 ghost use Rattle.stored.specs.Internal.Pruning.{field_node};
-ghost use Rattle.stored.specs.Internal.LeavesByLevel.{here, below, leaves_below, of_members, of_items, leaves_by_level, part_leaves, walked, added};
+ghost use Rattle.stored.specs.Internal.LeavesByLevel.{divides_object, divides_list, here, below, leaves_below, of_members, of_items, leaves_by_level, part_leaves, walked, added};
 
 use crate::defaults::is_faultless;
 use crate::fault::LFault;
@@ -47,7 +47,7 @@ pub fn leaves(alloc: Global, node: &Node, tree: &Tree) -> Result<Vec<Leaf>, LFau
         way: Vec::new(alloc),
         leaves: Vec::new(alloc),
     };
-    list(alloc, &mut walk, node, tree)?;
+    list_tree(alloc, &mut walk, tree, node)?;
     Ok(walk.leaves)
 }
 
@@ -81,11 +81,11 @@ impl Walk {
 
 /// Adds the leaves of a value.
 #[cycle(list)]
-fn list(alloc: Global, walk: &mut Walk, node: &Node, tree: &Tree) -> Result<(), AllocError>
+fn list_tree(alloc: Global, walk: &mut Walk, tree: &Tree, node: &Node) -> Result<(), AllocError>
     ensures { OnOk result (walked walk.new ≡ added (walked walk.old) (leaves_by_level (node_of node.now) (data_of tree.now))) }
 {
     if is_divided(node, tree) {
-        list_below(alloc, walk, node, tree)
+        list_below(alloc, walk, tree, node)
     } else {
         walk.add_leaf(alloc)
     }
@@ -96,30 +96,42 @@ fn is_divided(node: &Node, tree: &Tree) -> bool
     ensures { result ≡ is_divided (node_of node.now) (data_of tree.now) }
 {
     match (&node.sort, tree) {
-        (Sort::Object(object), Tree::Object(members)) => {
-            object.map_type == MapType::Granular && !members.members.is_empty()
-        }
-        (Sort::Map(map), Tree::Object(members)) => {
-            map.map_type == MapType::Granular && !members.members.is_empty()
-        }
-        (Sort::List(list), Tree::List(items)) => {
-            list.list_type != ListType::Atomic && !items.items.is_empty()
-        }
+        (Sort::Object(object), Tree::Object(members)) => is_object_divided(object.map_type, members),
+        (Sort::Map(map), Tree::Object(members)) => is_object_divided(map.map_type, members),
+        (Sort::List(list), Tree::List(items)) => is_list_divided(list.list_type, items),
         _ => false,
+    }
+}
+
+fn is_object_divided(map_type: MapType, members: &Members) -> bool
+    ensures { result ≡ divides_object map_type members.now }
+{
+    match map_type {
+        MapType::Granular => !members.members.is_empty(),
+        MapType::Atomic => false,
+    }
+}
+
+fn is_list_divided(list_type: ListType, items: &Items) -> bool
+    ensures { result ≡ divides_list list_type items.now }
+{
+    match list_type {
+        ListType::Set | ListType::Map => !items.items.is_empty(),
+        ListType::Atomic => false,
     }
 }
 
 /// Adds the leaves of the parts of a value.
 #[cycle(list)]
-fn list_below(alloc: Global, walk: &mut Walk, node: &Node, tree: &Tree) -> Result<(), AllocError>
+fn list_below(alloc: Global, walk: &mut Walk, tree: &Tree, node: &Node) -> Result<(), AllocError>
     ensures { OnOk result (walked walk.new ≡ added (walked walk.old) (leaves_below (node_of node.now) (data_of tree.now))) }
 {
     match (&node.sort, tree) {
         (Sort::Object(object), Tree::Object(members)) => {
-            list_fields(alloc, walk, &object.fields, members)
+            list_fields(alloc, walk, members, &object.fields)
         }
-        (Sort::Map(map), Tree::Object(members)) => list_values(alloc, walk, map, members),
-        (Sort::List(list), Tree::List(items)) => list_items(alloc, walk, list, items),
+        (Sort::Map(map), Tree::Object(members)) => list_values(alloc, walk, members, map),
+        (Sort::List(list), Tree::List(items)) => list_items(alloc, walk, items, list),
         _ => Ok(()),
     }
 }
@@ -128,30 +140,75 @@ fn list_below(alloc: Global, walk: &mut Walk, node: &Node, tree: &Tree) -> Resul
 fn list_fields(
     alloc: Global,
     walk: &mut Walk,
-    fields: &Fields,
     members: &Members,
+    fields: &Fields,
 ) -> Result<(), AllocError>
     ensures { OnOk result (walked walk.new ≡ added (walked walk.old) (of_members (field_node fields.now) members.now)) }
 {
     for member in &members.members {
-        let node = field_named(fields, member.name.as_str()).map(|field| &field.node);
-        list_member(alloc, walk, node, member)?;
+        list_field(alloc, walk, member, fields)?;
     }
     Ok(())
+}
+
+/// Adds the leaves of a member, which is one leaf where its name is not declared.
+#[cycle(list)]
+fn list_field(
+    alloc: Global,
+    walk: &mut Walk,
+    member: &Member,
+    fields: &Fields,
+) -> Result<(), AllocError>
+    ensures { OnOk result (walked walk.new ≡ added (walked walk.old)
+        (map (below (name_step member.now.name) (codes "f:" ++ member.now.name)) (part_leaves (field_node fields.now member.now.name) (data_of member.now.tree)))) }
+{
+    match field_named(fields, member.name.as_str()) {
+        Some(field) => list_named(alloc, walk, member, &field.node),
+        None => add_named(alloc, walk, member),
+    }
 }
 
 #[cycle(list)]
 fn list_values(
     alloc: Global,
     walk: &mut Walk,
-    map: &MapNode,
     members: &Members,
+    map: &MapNode,
 ) -> Result<(), AllocError>
     ensures { OnOk result (walked walk.new ≡ added (walked walk.old) (of_members (λ k. Some map.now.value) members.now)) }
 {
     for member in &members.members {
-        list_member(alloc, walk, Some(&map.value.node), member)?;
+        list_named(alloc, walk, member, &map.value.node)?;
     }
+    Ok(())
+}
+
+/// Adds the leaves of a member.
+#[cycle(list)]
+fn list_named(
+    alloc: Global,
+    walk: &mut Walk,
+    member: &Member,
+    node: &Node,
+) -> Result<(), AllocError>
+    ensures { OnOk result (walked walk.new ≡ added (walked walk.old)
+        (map (below (name_step member.now.name) (codes "f:" ++ member.now.name)) (leaves_by_level (node_of node.now) (data_of member.now.tree)))) }
+{
+    let depth = walk.way.len();
+    walk.way.push(text_element(alloc, "f:", member.name.as_str())?)?;
+    list_tree(alloc, walk, &member.tree, node)?;
+    walk.way.truncate(depth);
+    Ok(())
+}
+
+/// Adds a member as one leaf.
+fn add_named(alloc: Global, walk: &mut Walk, member: &Member) -> Result<(), AllocError>
+    ensures { OnOk result (walked walk.new ≡ added (walked walk.old) (map (below (name_step member.now.name) (codes "f:" ++ member.now.name)) (here ∷ []))) }
+{
+    let depth = walk.way.len();
+    walk.way.push(text_element(alloc, "f:", member.name.as_str())?)?;
+    walk.add_leaf(alloc)?;
+    walk.way.truncate(depth);
     Ok(())
 }
 
@@ -159,50 +216,31 @@ fn list_values(
 fn list_items(
     alloc: Global,
     walk: &mut Walk,
-    list: &ListNode,
     items: &Items,
+    list: &ListNode,
 ) -> Result<(), AllocError>
     ensures { OnOk result (walked walk.new ≡ added (walked walk.old) (of_items list.now.item (item_element_of list.now.list_type list.now.keys.items) 0 items.now)) }
 {
     for item in &items.items {
-        let element = item_element(alloc, list, item)?;
-        list_part(alloc, walk, element, Some(&list.item.node), item)?;
+        list_item(alloc, walk, item, list)?;
     }
     Ok(())
 }
 
+/// Adds the leaves of an item, which may stand at any index.
 #[cycle(list)]
-fn list_member(
+fn list_item(
     alloc: Global,
     walk: &mut Walk,
-    node: Option<&Node>,
-    member: &Member,
+    item: &Tree,
+    list: &ListNode,
 ) -> Result<(), AllocError>
-    ensures { OnOk result (walked walk.new ≡ added (walked walk.old)
-        (map (below (name_step member.now.name) (codes "f:" ++ member.now.name)) (part_leaves (option_map (λ n. node_of n.now) node.entry) (data_of member.now.tree)))) }
-{
-    let element = text_element(alloc, "f:", member.name.as_str())?;
-    list_part(alloc, walk, element, node, &member.tree)
-}
-
-/// Adds the leaves of a part, to which this element leads. Where no node stands for it, it is one leaf.
-#[cycle(list)]
-fn list_part(
-    alloc: Global,
-    walk: &mut Walk,
-    element: Text,
-    node: Option<&Node>,
-    tree: &Tree,
-) -> Result<(), AllocError>
-    ensures { OnOk result ((s : Step) → walked walk.new ≡ added (walked walk.old)
-        (map (below s element) (part_leaves (option_map (λ n. node_of n.now) node.entry) (data_of tree.now)))) }
+    ensures { OnOk result ((i : ℕ) → walked walk.new ≡ added (walked walk.old)
+        (map (below (index_step i) (item_element_of list.now.list_type list.now.keys.items (data_of item.now))) (leaves_by_level list.now.item (data_of item.now)))) }
 {
     let depth = walk.way.len();
-    walk.way.push(element)?;
-    match node {
-        Some(node) => list(alloc, walk, node, tree)?,
-        None => walk.add_leaf(alloc)?,
-    }
+    walk.way.push(item_element(alloc, list, item)?)?;
+    list_tree(alloc, walk, item, &list.item.node)?;
     walk.way.truncate(depth);
     Ok(())
 }

@@ -1,14 +1,28 @@
 -- For private contracts: the leaves of a value at its node in order, level by level, and how a walk lists them.
-use Rattle.std.specs.Prelude.{ℕ, suc, List, [], ◌∷◌, ◌++◌, map, Bool, Option, Some, None, if◌then◌else◌, codes}
+use Rattle.std.specs.Prelude.{ℕ, suc, List, [], ◌∷◌, ◌++◌, map, Bool, true, false, Option, Some, None, if◌then◌else◌, codes}
 use Rattle.jtree.specs.Data.{Data, Items, no_items, item, Members, no_members, member}
 use Rattle.jtree.specs.Data as tree
 use Rattle.jtree.specs.Path.{Step, name, index}
 use Rattle.schema.specs.Nodes.Node.{Node, node, object, map as map_of, list}
+use Rattle.schema.specs.declared.node.ListType.{ListType}
+use Rattle.schema.specs.declared.node.ListType.TheVariants as list_type
+use Rattle.schema.specs.declared.node.MapType.{MapType}
+use Rattle.schema.specs.declared.node.MapType.TheVariants as map_type
 use Rattle.stored.specs.Objects.Leaves.{is_divided, item_element, LeafAt, elements_of}
 use Rattle.stored.specs.Internal.Pruning.{field_node, by_node}
 use Rattle.stored.specs.declared.listing.Walk.{Walk}
 
 -- ---- by level
+
+-- an object and a list that are not empty, by how they merge
+abbrev pub divides_object : MapType → Members → Bool
+divides_object map_type.Granular (member k d ms) = true
+divides_object _ _ = false
+
+abbrev pub divides_list : ListType → Items → Bool
+divides_list list_type.Atomic ds = false
+divides_list _ no_items = false
+divides_list _ (item d ds) = true
 
 -- the value itself is a leaf
 abbrev pub here : LeafAt
