@@ -6,20 +6,15 @@ use Rattle.jtree.specs.Data as tree
 use Rattle.jtree.specs.Path.{Step, Path, part_by, part_at}
 use Rattle.jtree.specs.Internal.Lookups.{bool_cases, option_cases}
 use Rattle.schema.specs.Nodes.Node.{Node, node, object, map, list}
-use Rattle.schema.specs.declared.node.ListType.TheVariants as list_type
-use Rattle.schema.specs.declared.node.MapType.TheVariants as map_type
-use Rattle.stored.specs.Objects.Parts.{Part, at, free, value_of, pair, node_by, leads}
+use Rattle.stored.specs.Objects.Parts.{Part, at, free, value_of, pair, whole, node_by, leads}
 use Rattle.stored.specs.Objects.Leaves.{is_divided, element, leaf_at, is_simple, HasOneLeaf, IsCovered}
-use Rattle.stored.proofs.LeafLevelLemmas.{down}
+use Rattle.stored.proofs.LeafLevelLemmas.{undivided, down}
 
-simple_is_whole : (N : Node) (v : Data) → is_simple v ≡ true → is_divided N v ≡ true → ⊥
-simple_is_whole N (tree.list ds) simple divided = cc
-simple_is_whole N (tree.object ms) simple divided = cc
-simple_is_whole (node n t (object fs preserves map_type.Granular bounds)) _ simple divided = cc
-simple_is_whole (node n t (map M map_type.Granular bounds)) _ simple divided = cc
-simple_is_whole (node n t (list M list_type.Set keys bounds)) _ simple divided = cc
-simple_is_whole (node n t (list M list_type.Map keys bounds)) _ simple divided = cc
-simple_is_whole _ _ simple divided = cc
+simple_is_whole : (N : Node) (v : Data) → is_simple v ≡ true → pair N v ≡ whole
+simple_is_whole (node n t (object fs preserves type bounds)) (tree.object ms) simple = cc
+simple_is_whole (node n t (map M type bounds)) (tree.object ms) simple = cc
+simple_is_whole (node n t (list M type keys bounds)) (tree.list ds) simple = cc
+simple_is_whole _ _ simple = refl
 
 -- the one beginning of a path at which a part has a leaf
 abbrev IsOnly : Part → Path → Path → Type 0
@@ -68,7 +63,7 @@ one_whole N v path single = record { before = []; after = path; is = refl; eleme
 
 cover : (path : Path) (N : Node) (v d : Data) → part_at v path ≡ Some d → is_simple d ≡ true → HasOneLeaf N v path
 cover [] N v d e simple = elim (bool_cases (is_divided N v)) [
-  | inl divided ↦ let same : d ≡ v = cc in absurd (simple_is_whole N v (subst (λ w. is_simple w ≡ true) same simple) divided)
+  | inl divided ↦ let same : d ≡ v = cc in absurd (undivided N v (simple_is_whole N v (subst (λ w. is_simple w ≡ true) same simple)) divided)
   | inr single ↦ one_whole N v [] single
 ]
 cover (s ∷ path) N v d e simple = elim (bool_cases (is_divided N v)) [

@@ -21,7 +21,7 @@ use Rattle.stored.proofs.LevelLemmas.{among_whole, own_among, repeat_or, or_repe
 -- ---- a value beside its node
 
 -- what a step leads to
-abbrev part_in : Pair → Step → Option Data
+abbrev pub part_in : Pair → Step → Option Data
 part_in (fields fs preserves ms) (name k) = member_at k ms
 part_in (values N ms) (name k) = member_at k ms
 part_in (items N ds) (index i) = item_at i ds
@@ -51,7 +51,7 @@ parts_are (node nullable description (map_of N type bounds)) (tree.object ms) = 
 parts_are (node nullable description (list N type keys bounds)) (tree.list ds) = refl
 parts_are _ _ = refl
 
-part_is : (N : Node) (v : Data) (s : Step) (M : Node) → node_by (pair N v) s ≡ Some M → part_by v s ≡ part_in (pair N v) s
+pub part_is : (N : Node) (v : Data) (s : Step) (M : Node) → node_by (pair N v) s ≡ Some M → part_by v s ≡ part_in (pair N v) s
 part_is (node nullable description (object fs preserves type bounds)) (tree.object ms) (name k) M e = refl
 part_is (node nullable description (map_of N type bounds)) (tree.object ms) (name k) M e = refl
 part_is (node nullable description (list N type keys bounds)) (tree.list ds) (index i) M e = refl
@@ -171,7 +171,7 @@ repeating _ again i M w e d r = cc
 
 -- ---- what a path leads to
 
-leads_both : (N : Node) (v : Data) (s : Step) (M : Node) (w : Data) → leads N v s ≡ Some (at M w) → (node_by (pair N v) s ≡ Some M) × (part_in (pair N v) s ≡ Some w)
+pub leads_both : (N : Node) (v : Data) (s : Step) (M : Node) (w : Data) → leads N v s ≡ Some (at M w) → (node_by (pair N v) s ≡ Some M) × (part_in (pair N v) s ≡ Some w)
 leads_both N v s M w e = elim (option_cases (part_by v s)) [
   | inl none ↦ let x = rw none at e in cc
   | inr u ↦ elim (option_cases (node_by (pair N v) s)) [

@@ -14,7 +14,9 @@ use Rattle.jtree.specs.Internal.Lookups.{bool_cases, option_cases, same_name, me
 use Rattle.jtree.specs.Internal.PathLaws.{same_step}
 use Rattle.jtree.specs.Internal.Rising.{Among, Rising, among_left, among_right, among_parts, rising_join, contains, each_of, all_pairs}
 use Rattle.schema.specs.Nodes.Node.{Node, node, object, map as map_of, list}
-use Rattle.stored.specs.Objects.Parts.{pair, node_by, Part, at, free, part_of, value_of, leads}
+use Rattle.schema.specs.declared.node.ListType.TheVariants as list_type
+use Rattle.schema.specs.declared.node.MapType.TheVariants as map_type
+use Rattle.stored.specs.Objects.Parts.{pair, whole as whole_value, node_by, Part, at, free, part_of, value_of, leads}
 use Rattle.stored.specs.Objects.Leaves.{is_divided, item_element, element, leaf_at, LeafAt, AreLeavesAt}
 use Rattle.stored.specs.Internal.Pruning.{field_node}
 use Rattle.stored.specs.Internal.LeavesByLevel.{here, below, whole, leaves_below, of_members, of_items, leaves_by_level, part_leaves}
@@ -49,6 +51,15 @@ rising_below s e (l ∷ ls) r = (
   λ m a. let x = among_map (below s e) ls m a in subst (Precedes (below s e l)) x.2 (same_step s l.path x.0.path ∙ r.0 x.0 x.1),
   rising_below s e ls r.1,
 )
+
+-- ---- what is divided
+
+pub undivided : (N : Node) (v : Data) → pair N v ≡ whole_value → is_divided N v ≡ true → ⊥
+undivided (node n t (object fs preserves map_type.Granular bounds)) (tree.object ms) e divided = cc
+undivided (node n t (map_of M map_type.Granular bounds)) (tree.object ms) e divided = cc
+undivided (node n t (list M list_type.Set keys bounds)) (tree.list ds) e divided = cc
+undivided (node n t (list M list_type.Map keys bounds)) (tree.list ds) e divided = cc
+undivided _ _ e divided = cc
 
 -- ---- a leaf of a part
 
@@ -186,7 +197,9 @@ standing (node n t (list M type keys bounds)) (tree.list ds) (index i) q l divid
     let x = mapped (at M) (item_at i ds) q e in
     subst (λ p. Among (of_items M (item_element type keys) 0 ds) (below (index i) (item_element type keys (value_of p)) l)) x.2
     (placed_among M (item_element type keys) 0 i i ds x.0 l (omega arith) x.1 (subst (λ p. Among (leaves_in p) l) (sym x.2) a))
-standing _ _ _ q l divided e a = cc
+standing N (tree.object ms) (index i) q l divided e a = absurd (cc)
+standing N (tree.list ds) (name k) q l divided e a = absurd (cc)
+standing N v s q l divided e a = absurd (undivided N v refl divided)
 
 -- ---- at a path
 

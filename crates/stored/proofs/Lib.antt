@@ -28,3 +28,4 @@ pub mod LeafLemmas
 pub mod ListingLemmas
 pub mod LeafLevelLemmas
 pub mod CoveredLemmas
+pub mod ApartLemmas
