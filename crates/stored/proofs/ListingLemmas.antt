@@ -19,11 +19,11 @@ listed_below : (way : List (List ℕ)) (s : Step) (e : List ℕ) (ls : List Leaf
 listed_below way s e [] = refl
 listed_below way s e (l ∷ ls) = rw (listed_below way s e ls) (rw append_assoc refl)
 
--- the way is cut again to what it was
-pub left : (way : List (List ℕ)) (listed : List (List (List ℕ))) (s : Step) (e : List ℕ) (ls : List LeafAt) (q : Walked) (cut : List (List ℕ))
-    → q ≡ added (record { way = way ++ (e ∷ []); listed = listed }) ls → cut ≡ take (length way) q.way
+-- the way is made longer for a part, and cut again to what it was
+pub part_listed : (way pushed : List (List ℕ)) (listed : List (List (List ℕ))) (s : Step) (element e : List ℕ) (ls : List LeafAt) (q : Walked) (depth : ℕ) (cut : List (List ℕ))
+    → element ≡ e → pushed ≡ way ++ (element ∷ []) → q ≡ added (record { way = pushed; listed = listed }) ls → depth ≡ length way → cut ≡ take depth q.way
     → record { way = cut; listed = q.listed } ≡ added (record { way = way; listed = listed }) (map (below s e) ls)
-left way listed s e ls q cut is f = rw (f, is, take-append_seam, listed_below way s e ls) refl
+part_listed way pushed listed s element e ls q depth cut same longer is long f = rw (f, is, long, longer, same, take-append_seam, listed_below way s e ls) refl
 
 -- one member more
 pub members_more : (p q z : Walked) (nodes : List ℕ → Option Node) (ms : List Member) (i : ℕ) (m : Member) → i < length ms → m ≡ get_or ms i m

@@ -5,6 +5,7 @@ ghost use Rattle.jtree.specs.View.{data_of};
 ghost use Rattle.schema.specs.Document.Texts.{is_among};
 ghost use Rattle.stored.specs.Objects.Leaves.{item_element as item_element_of, members_among};
 
+use crate::filling::copy_tree;
 use jtree::{Member, Members, Text, Tree};
 use schema::{ListNode, ListType};
 use std::alloc::{AllocError, Global};
@@ -79,10 +80,8 @@ fn copy_member(alloc: Global, member: &Member) -> Result<Member, AllocError>
     ensures { IfOk result (λ m. m ≡ member.now) }
 {
     let name = member.name.copy(alloc)?;
-    match member.tree.copy(alloc) {
-        Ok(tree) => Ok(Member { name, tree }),
-        Err(_fault) => Err(AllocError),
-    }
+    let tree = copy_tree(alloc, &member.tree)?;
+    Ok(Member { name, tree })
 }
 
 /// Equal texts.

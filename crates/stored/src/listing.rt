@@ -1,5 +1,5 @@
 //! All leaves of a stored object, in order.
-ghost use Rattle.std.specs.Prelude.{◌≡◌, ◌++◌, ℕ, ◌∷◌, [], OnOk, IfOk, IfErr, Some, map, Decides, codes};
+ghost use Rattle.std.specs.Prelude.{◌≡◌, ◌++◌, ℕ, ◌∷◌, [], OnOk, IfOk, IfErr, Some, map, codes};
 ghost use Rattle.jtree.specs.Path.{name as name_step, index as index_step};
 ghost use Rattle.jtree.specs.View.{data_of};
 ghost use Rattle.schema.specs.Document.Places.{Place};
@@ -14,12 +14,10 @@ ghost use Rattle.stored.specs.Objects.Leaves.{is_divided, item_element as item_e
 ghost use Rattle.stored.specs.Internal.Pruning.{field_node};
 ghost use Rattle.stored.specs.Internal.LeavesByLevel.{divides_object, divides_list, here, below, leaves_below, of_members, of_items, leaves_by_level, part_leaves, walked, added};
 
-use crate::defaults::is_faultless;
 use crate::fault::LFault;
 use crate::fields::field_named;
-use crate::filled::is_filled;
 use crate::leaf::{Leaf, copy_texts, item_element, text_element};
-use crate::pruned::is_pruned;
+use crate::storing::check_stored;
 use jtree::{Items, Member, Members, Text, Tree};
 use schema::{Fields, ListNode, ListType, MapNode, MapType, Node, Sort, items_told_apart};
 use std::alloc::{AllocError, Global};
@@ -49,14 +47,6 @@ pub fn leaves(alloc: Global, node: &Node, tree: &Tree) -> Result<Vec<Leaf>, LFau
     };
     list_tree(alloc, &mut walk, tree, node)?;
     Ok(walk.leaves)
-}
-
-/// Whether an object is stored, in time that is close to linear.
-fn check_stored(alloc: Global, node: &Node, tree: &Tree) -> Result<bool, AllocError>
-    ensures { IfOk result (λ b. Decides b (IsStored (node_of node.now) (data_of tree.now))) }
-{
-    let valid = is_faultless(alloc, node, tree)?;
-    Ok(valid && (is_pruned(node, tree) && is_filled(node, tree)))
 }
 
 /// How far the walk over an object has come.

@@ -6,7 +6,7 @@ use Rattle.schema.specs.Nodes.View.{node_of}
 use Rattle.stored.specs.Objects.Leaves.{item_element, elements_of}
 use Rattle.stored.specs.Internal.Pruning.{field_node}
 use Rattle.stored.specs.Internal.LeavesByLevel.{below, of_members, of_items, leaves_by_level, walked, added}
-use Rattle.stored.proofs.ListingLemmas.{left, members_more, items_more}
+use Rattle.stored.proofs.ListingLemmas.{part_listed, members_more, items_more}
 use Rattle.stored.proofs.listing.+list.Goals as goal
 
 pub list_fields-loop-member-preserved : goal.list_fields-loop-member-preserved
@@ -33,23 +33,26 @@ list_items-loop-item-preserved t c =
 pub list_item-returns : goal.list_item-returns
 list_item-returns t c = λ i.
     let old = c.args.walk.now in
+    let listed = map elements_of old.leaves.items in
     let L = c.args.list.now in
-    let ls = leaves_by_level L.item (data_of c.args.item.now) in
+    let v = data_of c.args.item.now in
     let node : node_of c.deref.result.now ≡ L.item = cc in
-    let length_is : c.len-depth.result ≡ length old.way.items = omega (arith, c.len-depth.ensures, old.way.ok.0) in
-    left old.way.items (map elements_of old.leaves.items) (index i) (item_element L.list_type L.keys.items (data_of c.args.item.now)) ls (walked c.list_tree.new.walk) c.truncate.new.self.items
-    (subst (λ w. walked c.list_tree.new.walk ≡ added (record { way = w; listed = map elements_of old.leaves.items }) ls)
-    (c.in_ok-push.ensures.items ∙ ap (λ e. old.way.items ++ (e ∷ [])) c.in_ok-item_element.ensures)
-    (subst (λ N. walked c.list_tree.new.walk ≡ added (record { way = c.push.new.self.items; listed = map elements_of old.leaves.items }) (leaves_by_level N (data_of c.args.item.now))) node c.in_ok-list_tree.ensures))
-    (c.truncate.ensures.items ∙ ap (λ n. take n c.list_tree.new.walk.way.items) length_is)
+    part_listed old.way.items c.push.new.self.items listed (index i) c.in_ok-item_element.field-0 (item_element L.list_type L.keys.items v) (leaves_by_level L.item v) (walked c.list_tree.new.walk)
+    c.len-depth.result c.truncate.new.self.items
+    c.in_ok-item_element.ensures
+    c.in_ok-push.ensures.items
+    (subst (λ N. walked c.list_tree.new.walk ≡ added (record { way = c.push.new.self.items; listed = listed }) (leaves_by_level N v)) node c.in_ok-list_tree.ensures)
+    (omega (arith, c.len-depth.ensures, old.way.ok.0))
+    c.truncate.ensures.items
 
 pub list_named-returns : goal.list_named-returns
 list_named-returns t c =
     let old = c.args.walk.now in
-    let ls = leaves_by_level (node_of c.args.node.now) (data_of c.args.member.now.tree) in
-    let element = c.in_ok-text_element.ensures ∙ ap (λ k. codes "f:" ++ k) c.as_str.ensures in
-    let length_is : c.len-depth.result ≡ length old.way.items = omega (arith, c.len-depth.ensures, old.way.ok.0) in
-    left old.way.items (map elements_of old.leaves.items) (name c.args.member.now.name) (codes "f:" ++ c.args.member.now.name) ls (walked c.list_tree.new.walk) c.truncate.new.self.items
-    (subst (λ w. walked c.list_tree.new.walk ≡ added (record { way = w; listed = map elements_of old.leaves.items }) ls)
-    (c.in_ok-push.ensures.items ∙ ap (λ e. old.way.items ++ (e ∷ [])) element) c.in_ok-list_tree.ensures)
-    (c.truncate.ensures.items ∙ ap (λ n. take n c.list_tree.new.walk.way.items) length_is)
+    let k = c.args.member.now.name in
+    part_listed old.way.items c.push.new.self.items (map elements_of old.leaves.items) (name k) c.in_ok-text_element.field-0 (codes "f:" ++ k)
+    (leaves_by_level (node_of c.args.node.now) (data_of c.args.member.now.tree)) (walked c.list_tree.new.walk) c.len-depth.result c.truncate.new.self.items
+    (rw c.as_str.ensures at c.in_ok-text_element.ensures)
+    c.in_ok-push.ensures.items
+    c.in_ok-list_tree.ensures
+    (omega (arith, c.len-depth.ensures, old.way.ok.0))
+    c.truncate.ensures.items

@@ -1,4 +1,4 @@
-use Rattle.stored.proofs.listing.check_stored.Goals as goal
+use Rattle.stored.proofs.storing.check_stored.Goals as goal
 
 pub returns-then-is_pruned : goal.returns-then-is_pruned
 returns-then-is_pruned c = (
