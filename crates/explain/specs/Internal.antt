@@ -1,0 +1,2 @@
+-- For private contracts and for proofs.
+pub mod FieldCode
