@@ -1,2 +1,4 @@
 -- For private contracts and for proofs.
 pub mod FieldCode
+pub mod Reading
+pub mod Resolving

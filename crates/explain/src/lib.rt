@@ -4,7 +4,12 @@
 mod fault;
 mod field;
 mod listing;
+mod one_text;
+mod reading;
+mod resolving;
 
 pub use fault::XFault;
 pub use field::Field;
 pub use listing::Listing;
+pub use one_text::paths_have_one_text;
+pub use resolving::resolve;

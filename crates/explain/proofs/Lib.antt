@@ -1,0 +1,4 @@
+-- Laws of the definitions of this crate.
+pub mod LetterLemmas
+pub mod ReadingLemmas
+pub mod ResolvingLemmas
