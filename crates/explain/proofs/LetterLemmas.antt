@@ -1,6 +1,8 @@
 -- The letters of names, as a path writes them, and that a step is read back from its text.
-use Rattle.std.proofs.Common.{◌≡◌, ◌≢◌, ◌⊎◌, ◌==◌, ℕ, List, [], ◌∷◌, ◌++◌, Bool, true, false, if◌then◌else◌, flat_map, refl, sym, ap, ◌∙◌, inl, inr, arith, append_assoc}
-use Rattle.std.proofs.lemmas.Bool.{eqb-true, eqb-false}
+use Rattle.std.proofs.Common.{◌≡◌, ◌≢◌, ◌⊎◌, ◌==◌, ◌<◌, ◌≤◌, ℕ, suc, List, [], ◌∷◌, ◌++◌, Bool, true, false, if◌then◌else◌, flat_map, length, get_or, refl, sym, ap, ap₂, ◌∙◌, inl, inr, arith, append_assoc, append-nil}
+use Rattle.std.proofs.lemmas.Bool.{cases_lt, eqb-true, eqb-false}
+use Rattle.std.proofs.lemmas.Str.{encode_ascii, inside_one}
+use Rattle.std.specs.Char.{encode_utf8}
 use Rattle.jtree.specs.Internal.Lookups.{bool_cases}
 use Rattle.explain.specs.Paths.FieldPath.{FieldStep, field, item, value, FieldPath}
 use Rattle.explain.specs.Paths.PathText.{escaped, step_text, path_text}
@@ -153,3 +155,30 @@ one_path (s ∷ p) (t ∷ q) e =
     let r = same_step s t (path_text p) (path_text q) (path_end p) (path_end q) e in
     let rest = one_path p q r.1 in
     λ i. r.0 i ∷ rest i
+
+-- ---- characters that are written as they are
+
+all_plain : (bs : List ℕ) → ((k : ℕ) → k < length bs → IsPlain (get_or bs k 0)) → flat_map escaped bs ≡ bs
+all_plain [] h = refl
+all_plain (b ∷ bs) h = ap₂ (λ (x y : List ℕ). x ++ y) (escaped_plain b (h 0 (omega arith))) (all_plain bs (λ k below. h (suc k) (omega arith)))
+
+plain : (b : ℕ) → b ≢ 126 → b ≢ 47 → b ≢ 91 → b ≢ 123 → IsPlain b
+plain b tilde slash bracket brace = elim (letter_cases b) [
+  | inl e ↦ absurd (tilde e)
+  | inr (inl e) ↦ absurd (slash e)
+  | inr (inr (inl e)) ↦ absurd (bracket e)
+  | inr (inr (inr (inl e))) ↦ absurd (brace e)
+  | inr (inr (inr (inr p))) ↦ p
+]
+
+plain_high : (b : ℕ) → 128 ≤ b → IsPlain b
+plain_high b high = plain b (λ e. omega arith) (λ e. omega arith) (λ e. omega arith) (λ e. omega arith)
+
+pub escaped_other : (c : ℕ) → c ≢ 126 → c ≢ 47 → c ≢ 91 → c ≢ 123 → flat_map escaped (encode_utf8 c) ≡ encode_utf8 c
+escaped_other c tilde slash bracket brace = elim (cases_lt c 128) [
+  | inl small ↦ rw (encode_ascii c small) (ap (λ xs. xs ++ []) (escaped_plain c (plain c tilde slash bracket brace)))
+  | inr big ↦ all_plain (encode_utf8 c) (λ k below. elim (cases_lt (get_or (encode_utf8 c) k 0) 128) [
+    | inl low ↦ absurd (omega (arith, inside_one c [] (encode_utf8 c) k (sym (append-nil _)) below low))
+    | inr high ↦ plain_high (get_or (encode_utf8 c) k 0) high
+  ])
+]

@@ -2,3 +2,6 @@
 pub mod LetterLemmas
 pub mod ReadingLemmas
 pub mod ResolvingLemmas
+pub mod WalkLemmas
+pub mod ListedLemmas
+pub mod FoundLemmas

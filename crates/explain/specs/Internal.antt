@@ -2,3 +2,5 @@
 pub mod FieldCode
 pub mod Reading
 pub mod Resolving
+pub mod ListedByLevel
+pub mod StepView
