@@ -1,6 +1,5 @@
 -- What is listed by level are the declared paths, in order, with what is said of each.
-use Rattle.std.proofs.Common.{◌≡◌, ◌≢◌, ◌⊎◌, ℕ, List, [], ◌∷◌, ◌++◌, Bool, true, false, Option, Some, None, map, option_map, refl, sym, ap, subst, ◌∙◌, inl, inr}
-use Rattle.std.specs.Prelude.{option_and_then}
+use Rattle.std.proofs.Common.{◌≡◌, ◌≢◌, ◌⊎◌, ℕ, List, [], ◌∷◌, Bool, false, Option, Some, None, map, refl, sym, ap, subst, ◌∙◌, inl, inr}
 use Rattle.std.specs.Str.{bytes_eq}
 use Rattle.std.specs.declared.cmp.Ordering.TheVariants.{Less, Equal}
 use Rattle.std.proofs.lemmas.Cmp.{nat_list_cmp_total, tied_itself}
@@ -15,7 +14,6 @@ use Rattle.schema.specs.Nodes.ByPlace.{Declared, field_at, node_below, node_at}
 use Rattle.stored.specs.Objects.Fault.{is_required}
 use Rattle.explain.specs.Paths.FieldPath.{FieldStep, field, item, value, FieldPath, place_step, place_of}
 use Rattle.explain.specs.Paths.FieldOrder.{step_cmp, path_cmp}
-use Rattle.explain.specs.Paths.PathText.{path_text}
 use Rattle.explain.specs.Fields.Field.{Field, declaration, default_of, described}
 use Rattle.explain.specs.Fields.Field as fields
 use Rattle.explain.specs.Fields.Declared.{IsDeclared, AreDeclared, AreFields}

@@ -1,10 +1,10 @@
 -- The reading goes well for the texts of paths alone.
-use Rattle.std.proofs.Common.{◌≡◌, ◌≢◌, ◌⊎◌, ◌+◌, ◌<◌, ◌==◌, ◌||◌, ℕ, suc, List, [], ◌∷◌, ◌++◌, Bool, true, false, if◌then◌else◌, flat_map, length, take, drop, get_or, Decides, refl, sym, ap, subst, ◌∙◌, inl, inr, arith, append_assoc}
+use Rattle.std.proofs.Common.{◌≡◌, ◌≢◌, ◌+◌, ◌<◌, ◌==◌, ℕ, List, [], ◌∷◌, ◌++◌, true, false, flat_map, length, take, drop, get_or, Decides, refl, sym, ap, subst, ◌∙◌, inl, inr, append_assoc}
 use Rattle.std.proofs.lemmas.Bool.{eqb-true}
 use Rattle.std.proofs.lemmas.Grind.{flat_map-append}
 use Rattle.std.proofs.lemmas.List.{append_cancel_left, drop_more, take-append-drop}
 use Rattle.jtree.specs.Internal.Lookups.{bool_cases}
-use Rattle.explain.specs.Paths.FieldPath.{FieldStep, field, item, value, FieldPath}
+use Rattle.explain.specs.Paths.FieldPath.{field, item, value, FieldPath}
 use Rattle.explain.specs.Paths.PathText.{escaped, step_text, path_text}
 use Rattle.explain.specs.declared.reading.Stage.{Stage}
 use Rattle.explain.specs.declared.reading.Stage.TheVariants.{Between, Step, Name, Escape, Item, Value, Wrong}
@@ -159,10 +159,10 @@ other_letter text k left i within sofar other t after =
     let rest = flat_map escaped (drop (i + 1) k) in
     let split : drop i k ≡ b ∷ drop (i + 1) k = drop_more k i 0 within in
     let whole : flat_map escaped k ≡ before ++ (escaped b ++ rest) =
-        ap (flat_map escaped) (sym (take-append-drop i k)) ∙ (flat_map-append escaped (take i k) (drop i k) ∙ ap (λ x. before ++ flat_map escaped x) split)
+    ap (flat_map escaped) (sym (take-append-drop i k)) ∙ (flat_map-append escaped (take i k) (drop i k) ∙ ap (λ x. before ++ flat_map escaped x) split)
     in
     let joined : before ++ left ≡ before ++ (escaped b ++ (rest ++ t)) =
-        tails _ _ _ _ (sym sofar ∙ after.1) ∙ (ap (λ x. x ++ t) whole ∙ (append_assoc before (escaped b ++ rest) t ∙ ap (λ x. before ++ x) (append_assoc (escaped b) rest t)))
+    tails _ _ _ _ (sym sofar ∙ after.1) ∙ (ap (λ x. x ++ t) whole ∙ (append_assoc before (escaped b ++ rest) t ∙ ap (λ x. before ++ x) (append_assoc (escaped b) rest t)))
     in
     other (rest ++ t) (append_cancel_left before left (escaped b ++ (rest ++ t)) joined)
 

@@ -6,10 +6,10 @@ use Rattle.std.proofs.lemmas.Bool.{eqb-true, eqb-false}
 use Rattle.std.proofs.lemmas.List.{drop_more}
 use Rattle.jtree.specs.Data.{Data}
 use Rattle.jtree.specs.View.{data_of}
-use Rattle.jtree.specs.Internal.Lookups.{bool_cases, option_cases, same_name, own_name}
+use Rattle.jtree.specs.Internal.Lookups.{bool_cases, same_name, own_name}
 use Rattle.schema.specs.Nodes.Node.{Node, node, scalar, Validations, object, map, list, open_, Fields, no_fields}
 use Rattle.schema.specs.Nodes.Node as nodes
-use Rattle.schema.specs.Nodes.ByPlace.{Declared, field_at, node_below, node_at}
+use Rattle.schema.specs.Nodes.ByPlace.{node_below, node_at}
 use Rattle.schema.specs.Nodes.View.{node_of, fields_of}
 use Rattle.schema.specs.declared.node.Field.{Field as CodeField}
 use Rattle.schema.specs.declared.node.Bounds.{Bounds}

@@ -1,11 +1,10 @@
 -- How a walk tells the fields that it lists.
-use Rattle.std.proofs.Common.{◌≡◌, ℕ, List, [], ◌∷◌, ◌++◌, Bool, Option, length, map, take, refl, sym, ap, ◌∙◌, append_assoc, append-nil}
-use Rattle.std.proofs.lemmas.List.{map-append}
+use Rattle.std.proofs.Common.{◌≡◌, ℕ, List, [], ◌∷◌, ◌++◌, Bool, Option, length, map, take, refl, append_assoc, append-nil}
 use Rattle.std.proofs.Math.Seq.{take-append_seam}
 use Rattle.jtree.specs.Data.{Data}
 use Rattle.schema.specs.Nodes.Node.{Node}
 use Rattle.explain.specs.Paths.FieldPath.{FieldStep}
-use Rattle.explain.specs.Paths.PathText.{step_text, path_text}
+use Rattle.explain.specs.Paths.PathText.{step_text}
 use Rattle.explain.specs.Fields.Field.{Field}
 use Rattle.explain.specs.Internal.ListedByLevel.{Entry, under, whole, told_as, told_at, Progress, noted, added}
 

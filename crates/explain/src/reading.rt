@@ -42,7 +42,8 @@ fn after_byte(stage: Stage, byte: u8) -> Stage
         Stage::Step if byte == b'[' => Stage::Item,
         Stage::Step if byte == b'{' => Stage::Value,
         Stage::Step | Stage::Name => in_name(byte),
-        Stage::Escape if byte == b'0' || byte == b'1' || byte == b'2' || byte == b'3' => Stage::Name,
+        Stage::Escape if byte == b'0' || byte == b'1' || byte == b'2' || byte == b'3' =>
+            Stage::Name,
         Stage::Item if byte == b']' => Stage::Between,
         Stage::Value if byte == b'}' => Stage::Between,
         _ => Stage::Wrong,

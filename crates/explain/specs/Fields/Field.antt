@@ -1,6 +1,6 @@
 -- What is said of a field: the node at its path, and whether the object above requires it and has a default for it
 -- (OpenAPI 3.0, Schema Object; apiextensions.k8s.io/v1, JSONSchemaProps).
-use Rattle.std.specs.Prelude.{ℕ, List, [], ◌∷◌, Bool, false, Option, Some, None, option_map, option_and_then}
+use Rattle.std.specs.Prelude.{ℕ, List, [], ◌∷◌, Bool, Option, Some, None, option_map, option_and_then}
 use Rattle.jtree.specs.Data.{Data, Items, no_items}
 use Rattle.schema.specs.Nodes.Node.{Node, node, Sort, scalar, object, map, list}
 use Rattle.schema.specs.Nodes.ByPlace.{Declared, node_at}

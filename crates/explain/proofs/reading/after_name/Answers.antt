@@ -1,4 +1,4 @@
-use Rattle.std.proofs.Common.{◌++◌, ◌∷◌, ◌∙◌, ap, flat_map, true}
+use Rattle.std.proofs.Common.{◌++◌, ◌∷◌, ◌∙◌, ap, flat_map}
 use Rattle.std.proofs.lemmas.List.{take_all}
 use Rattle.explain.specs.Paths.PathText.{escaped}
 use Rattle.explain.proofs.ReadingLemmas.{other_letter, longer_name}

@@ -1,4 +1,4 @@
-use Rattle.std.proofs.Common.{◌≡◌, ◌≢◌, ℕ, ◌<◌, get_or}
+use Rattle.std.proofs.Common.{◌≢◌, ℕ, ◌<◌, get_or}
 use Rattle.explain.specs.declared.field.Field.{Field}
 use Rattle.explain.proofs.listing.Listing.field.Given as goal
 

@@ -11,8 +11,8 @@ returns c =
     let N = node_of c.root-root.result.now in
     let es = below N in
     let told : map field_of c.list_below.new.walk.fields.items ≡ map (told_at []) es =
-        ap (λ p. p.told) c.in_ok-list_below.ensures
-        ∙ (ap (λ xs. map field_of xs ++ map (told_at (string_bytes c.new.result)) es) c.new-2.ensures.items ∙ ap (λ at. map (told_at at) es) c.new.ensures.bytes)
+    ap (λ p. p.told) c.in_ok-list_below.ensures
+    ∙ (ap (λ xs. map field_of xs ++ map (told_at (string_bytes c.new.result)) es) c.new-2.ensures.items ∙ ap (λ at. map (told_at at) es) c.new.ensures.bytes)
     in
     subst (λ root. AreFields root (map field_of c.list_below.new.walk.fields.items)) c.root-root.ensures.node
     (subst (AreFields N) (sym told) (are_fields N c.reveal_invariant.ensures))
