@@ -60,31 +60,24 @@ pub record IsInner (text : List ℕ) : Type 0 where
   pub byte : ℕ
   pub more : List ℕ
   pub is : text ≡ byte ∷ more
-  pub slash : byte ≢ 47
-  pub bracket : byte ≢ 91
-  pub brace : byte ≢ 123
+  pub slash : (byte == 47) ≡ false
+  pub bracket : (byte == 91) ≡ false
+  pub brace : (byte == 123) ≡ false
 
-begins : (b : ℕ) (t : List ℕ) → IsInner (escaped b ++ t)
+pub begins : (b : ℕ) (t : List ℕ) → IsInner (escaped b ++ t)
 begins b t = elim (letter_cases b) [
-  | inl e ↦ record { byte = 126; more = 48 ∷ t; is = rw e refl; slash = λ x. omega arith; bracket = λ x. omega arith; brace = λ x. omega arith }
-  | inr (inl e) ↦ record { byte = 126; more = 49 ∷ t; is = rw e refl; slash = λ x. omega arith; bracket = λ x. omega arith; brace = λ x. omega arith }
-  | inr (inr (inl e)) ↦ record { byte = 126; more = 50 ∷ t; is = rw e refl; slash = λ x. omega arith; bracket = λ x. omega arith; brace = λ x. omega arith }
-  | inr (inr (inr (inl e))) ↦ record { byte = 126; more = 51 ∷ t; is = rw e refl; slash = λ x. omega arith; bracket = λ x. omega arith; brace = λ x. omega arith }
-  | inr (inr (inr (inr p))) ↦ record {
-    byte = b;
-    more = t;
-    is = rw (escaped_plain b p) refl;
-    slash = eqb-false b 47 p.slash;
-    bracket = eqb-false b 91 p.bracket;
-    brace = eqb-false b 123 p.brace;
-  }
+  | inl e ↦ record { byte = 126; more = 48 ∷ t; is = rw e refl; slash = refl; bracket = refl; brace = refl }
+  | inr (inl e) ↦ record { byte = 126; more = 49 ∷ t; is = rw e refl; slash = refl; bracket = refl; brace = refl }
+  | inr (inr (inl e)) ↦ record { byte = 126; more = 50 ∷ t; is = rw e refl; slash = refl; bracket = refl; brace = refl }
+  | inr (inr (inr (inl e))) ↦ record { byte = 126; more = 51 ∷ t; is = rw e refl; slash = refl; bracket = refl; brace = refl }
+  | inr (inr (inr (inr p))) ↦ record { byte = b; more = t; is = rw (escaped_plain b p) refl; slash = p.slash; bracket = p.bracket; brace = p.brace }
 ]
 
 -- ---- names and steps
 
 no_end : (t : List ℕ) → IsInner t → IsEnd t → ⊥
 no_end [] i e = let x = i.is in cc
-no_end (b ∷ t) i e = let same : i.byte ≡ b = let x = i.is in cc in i.slash (same ∙ e)
+no_end (b ∷ t) i e = let same : i.byte ≡ b = let x = i.is in cc in eqb-false i.byte 47 i.slash (same ∙ e)
 
 same_names : (k l a b : List ℕ) → IsEnd a → IsEnd b → flat_map escaped k ++ a ≡ flat_map escaped l ++ b → (k ≡ l) × (a ≡ b)
 same_names [] [] a b ea eb e = (refl, e)
@@ -103,12 +96,12 @@ same_names (c ∷ k) (d ∷ l) a b ea eb e =
 no_bracket : (k a : List ℕ) (c : ℕ) (t : List ℕ) → IsEnd a → (c ≡ 91) ⊎ (c ≡ 123) → flat_map escaped k ++ a ≡ c ∷ t → ⊥
 no_bracket [] a c t ea is e =
     let slash : c ≡ 47 = rw e at ea in
-    elim is [ inl f ↦ absurd (omega arith) | inr f ↦ absurd (omega arith) ]
+    elim is [ inl f ↦ omega arith | inr f ↦ omega arith ]
 no_bracket (b ∷ k) a c t ea is e =
     let i = begins b (flat_map escaped k ++ a) in
     let same : i.byte ∷ i.more ≡ c ∷ t = sym i.is ∙ (sym (append_assoc (escaped b) (flat_map escaped k) a) ∙ e) in
     let byte : i.byte ≡ c = cc in
-    elim is [ inl f ↦ absurd (i.bracket (byte ∙ f)) | inr f ↦ absurd (i.brace (byte ∙ f)) ]
+    elim is [ inl f ↦ eqb-false i.byte 91 i.bracket (byte ∙ f) | inr f ↦ eqb-false i.byte 123 i.brace (byte ∙ f) ]
 
 apart : (b c : ℕ) → b ≡ 91 → c ≡ 123 → b ≡ c → ⊥
 apart b c e f g = omega arith

@@ -35,11 +35,11 @@ name_after l (nodes.field m N required default fs) k f before ordered is = elim 
 
 -- ---- an entry is what stands at its path
 
-pub record IsEntry (root : Node) (e : Entry) : Type 0 where
-  pub node_is : node_at root (place_of e.path) ≡ Some e.node
-  pub required_is : is_required (declaration root e.path) ≡ e.required
-  pub default_is : default_of (declaration root e.path) ≡ e.default
-  pub some : e.path ≢ []
+record IsEntry (root : Node) (e : Entry) : Type 0 where
+  node_is : node_at root (place_of e.path) ≡ Some e.node
+  required_is : is_required (declaration root e.path) ≡ e.required
+  default_is : default_of (declaration root e.path) ≡ e.default
+  some : e.path ≢ []
 
 -- that of the step itself, or one below it
 abbrev IsPart : FieldStep → Bool → Option Data → Node → Entry → Type 0
@@ -83,7 +83,7 @@ part_entry root s required default N leads r d e (inl own) = subst (IsEntry root
 part_entry root s required default N leads r d e (inr b) = subst (IsEntry root) (sym b.2) (deeper root s N b.0 leads b.1)
 
 mutual
-  pub each_entry : (N : Node) → IsNode N → (e : Entry) → Among (below N) e → IsEntry N e
+  each_entry : (N : Node) → IsNode N → (e : Entry) → Among (below N) e → IsEntry N e
   each_entry (node nullable description (object fs preserves type bounds)) n e a =
       let r = each_field fs n e a in
       part_entry (node nullable description (object fs preserves type bounds)) (field r.0) r.1.required r.1.default r.1.node (rw r.2 refl) (rw r.2 refl) (rw r.2 refl) e r.3
@@ -189,7 +189,7 @@ names_ascend : (k l : List ℕ) (p q : FieldPath) → text_cmp k l ≡ Less → 
 names_ascend k l p q less = rw less refl
 
 mutual
-  pub node_rising : (N : Node) → IsNode N → Rising Precedes (below N)
+  node_rising : (N : Node) → IsNode N → Rising Precedes (below N)
   node_rising (node nullable description (object fs preserves type bounds)) n = fields_rising fs n
   node_rising (node nullable description (map_of N type bounds)) n = rising_part value false None N n (node_rising N n)
   node_rising (node nullable description (list N type keys bounds)) n = rising_part item false None N n (node_rising N n)

@@ -9,7 +9,7 @@ use Rattle.explain.specs.Paths.PathText.{escaped, step_text, path_text}
 use Rattle.explain.specs.declared.reading.Stage.{Stage}
 use Rattle.explain.specs.declared.reading.Stage.TheVariants.{Between, Step, Name, Escape, Item, Value, Wrong}
 use Rattle.explain.specs.Internal.Reading.{IsPathText, in_name, after_byte, is_read, IsEnd, IsAfterStep}
-use Rattle.explain.proofs.LetterLemmas.{tails, IsPlain, letter_cases, escaped_plain}
+use Rattle.explain.proofs.LetterLemmas.{tails, IsPlain, letter_cases, escaped_plain, begins}
 
 -- ---- what is read is the text of a path
 
@@ -109,9 +109,6 @@ after_slash (value ∷ p) h = h
 plain_read : (b : ℕ) (t : List ℕ) → IsPlain b → is_read Name (b ∷ t) ≡ is_read Name t
 plain_read b t p = rw (p.slash, p.tilde, p.bracket, p.brace) refl
 
-plain_first : (b : ℕ) (t : List ℕ) → IsPlain b → is_read Step (b ∷ t) ≡ is_read Name t
-plain_first b t p = ap (λ s. is_read s t) (no_bracket b p.bracket p.brace) ∙ plain_read b t p
-
 letter_read : (b : ℕ) (t : List ℕ) → is_read Name (escaped b ++ t) ≡ is_read Name t
 letter_read b t = elim (letter_cases b) [
   | inl e ↦ rw e refl
@@ -122,13 +119,9 @@ letter_read b t = elim (letter_cases b) [
 ]
 
 first_read : (b : ℕ) (t : List ℕ) → is_read Step (escaped b ++ t) ≡ is_read Name t
-first_read b t = elim (letter_cases b) [
-  | inl e ↦ rw e refl
-  | inr (inl e) ↦ rw e refl
-  | inr (inr (inl e)) ↦ rw e refl
-  | inr (inr (inr (inl e))) ↦ rw e refl
-  | inr (inr (inr (inr p))) ↦ ap (λ x. is_read Step (x ++ t)) (escaped_plain b p) ∙ plain_first b t p
-]
+first_read b t =
+    let i = begins b t in
+    ap (is_read Step) i.is ∙ (ap (λ s. is_read s i.more) (no_bracket i.byte i.bracket i.brace) ∙ (ap (is_read Name) (sym i.is) ∙ letter_read b t))
 
 name_read : (k t : List ℕ) → is_read Name t ≡ true → is_read Name (flat_map escaped k ++ t) ≡ true
 name_read [] t h = h
@@ -151,21 +144,21 @@ reading t = (from_read t Between, λ r. subst (λ x. is_read Between x ≡ true)
 -- ---- the step to a field
 
 -- the letters so far are those of the name, and the next one is another
-pub other_letter : (text k left : List ℕ) (i : ℕ) → i < length k → text ≡ (47 ∷ flat_map escaped (take i k)) ++ left → ((t : List ℕ) → left ≢ escaped (get_or k i 0) ++ t)
+pub other_letter : (text k rest : List ℕ) (i : ℕ) → i < length k → text ≡ (47 ∷ flat_map escaped (take i k)) ++ rest → ((t : List ℕ) → rest ≢ escaped (get_or k i 0) ++ t)
     → (t : List ℕ) → IsAfterStep (field k) text t → ⊥
-other_letter text k left i within sofar other t after =
+other_letter text k rest i within sofar other t after =
     let b = get_or k i 0 in
     let before = flat_map escaped (take i k) in
-    let rest = flat_map escaped (drop (i + 1) k) in
+    let others = flat_map escaped (drop (i + 1) k) in
     let split : drop i k ≡ b ∷ drop (i + 1) k = drop_more k i 0 within in
-    let whole : flat_map escaped k ≡ before ++ (escaped b ++ rest) =
+    let whole : flat_map escaped k ≡ before ++ (escaped b ++ others) =
     ap (flat_map escaped) (sym (take-append-drop i k)) ∙ (flat_map-append escaped (take i k) (drop i k) ∙ ap (λ x. before ++ flat_map escaped x) split)
     in
-    let joined : before ++ left ≡ before ++ (escaped b ++ (rest ++ t)) =
-    tails _ _ _ _ (sym sofar ∙ after.1) ∙ (ap (λ x. x ++ t) whole ∙ (append_assoc before (escaped b ++ rest) t ∙ ap (λ x. before ++ x) (append_assoc (escaped b) rest t)))
+    let joined : before ++ rest ≡ before ++ (escaped b ++ (others ++ t)) =
+    tails _ _ _ _ (sym sofar ∙ after.1) ∙ (ap (λ x. x ++ t) whole ∙ (append_assoc before (escaped b ++ others) t ∙ ap (λ x. before ++ x) (append_assoc (escaped b) others t)))
     in
-    other (rest ++ t) (append_cancel_left before left (escaped b ++ (rest ++ t)) joined)
+    other (others ++ t) (append_cancel_left before rest (escaped b ++ (others ++ t)) joined)
 
 -- the name is read, and goes on
-pub longer_name : (text k left : List ℕ) → text ≡ step_text (field k) ++ left → (IsEnd left → ⊥) → (t : List ℕ) → IsAfterStep (field k) text t → ⊥
-longer_name text k left sofar other t after = other (subst IsEnd (append_cancel_left (step_text (field k)) t left (sym after.1 ∙ sofar)) after.0)
+pub longer_name : (text k rest : List ℕ) → text ≡ step_text (field k) ++ rest → (IsEnd rest → ⊥) → (t : List ℕ) → IsAfterStep (field k) text t → ⊥
+longer_name text k rest sofar other t after = other (subst IsEnd (append_cancel_left (step_text (field k)) t rest (sym after.1 ∙ sofar)) after.0)

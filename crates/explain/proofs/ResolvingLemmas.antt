@@ -47,7 +47,7 @@ one_step lead t M there only reads text found after s p e = elim (only s) [
       let begins = sym e ∙ ap (λ x. step_text x ++ path_text p) same in
       let led : lead s ≡ Some M = ap lead same ∙ there in
       rw led (after.0 (path_text p) begins p refl)
-  | inr none ↦ rw none (after.1 (λ left is. let same = reads s (path_text p) left (path_end p) (e ∙ is) in let some = sym none ∙ (ap lead same.0 ∙ there) in cc))
+  | inr none ↦ rw none (after.1 (λ rest is. let same = reads s (path_text p) rest (path_end p) (e ∙ is) in let some = sym none ∙ (ap lead same.0 ∙ there) in cc))
 ]
 
 only_value : (nullable : Bool) (description : Option (List ℕ)) (M : Node) (type : MapType) (bounds : Bounds) (s : FieldStep)
@@ -83,7 +83,7 @@ led nullable description fs preserves type bounds text found below item p e = be
 led nullable description fs preserves type bounds text found below value p e = below value p e
 
 -- the first field has another name
-pub other_field : (text : List ℕ) (l : List ℕ) (N : Node) (required : Bool) (default : Option Data) (fs : Fields) → ((left : List ℕ) → IsAfterStep (field l) text left → ⊥)
+pub other_field : (text : List ℕ) (l : List ℕ) (N : Node) (required : Bool) (default : Option Data) (fs : Fields) → ((rest : List ℕ) → IsAfterStep (field l) text rest → ⊥)
     → (s : FieldStep) (p : FieldPath) → step_text s ++ path_text p ≡ text → field_below (nodes.field l N required default fs) s ≡ field_below fs s
 other_field text l N required default fs none (field k) p e = elim (bool_cases (bytes_eq k l)) [
   | inl same ↦ absurd (none (path_text p) (path_end p, sym e ∙ ap (λ n. step_text (field n) ++ path_text p) (same_name k l same)))
@@ -93,10 +93,10 @@ other_field text l N required default fs none item p e = refl
 other_field text l N required default fs none value p e = refl
 
 -- the first field has the name
-pub own_field : (text left : List ℕ) (l : List ℕ) (N : Node) (required : Bool) (default : Option Data) (fs : Fields) (found : Option Node) → IsAfterStep (field l) text left
-    → IsNodeAt N left found → IsNodeBelow (field_below (nodes.field l N required default fs)) text found
-own_field text left l N required default fs found after at s p e =
-    let r = same_step s (field l) (path_text p) left (path_end p) after.0 (e ∙ after.1) in
+pub own_field : (text rest : List ℕ) (l : List ℕ) (N : Node) (required : Bool) (default : Option Data) (fs : Fields) (found : Option Node) → IsAfterStep (field l) text rest
+    → IsNodeAt N rest found → IsNodeBelow (field_below (nodes.field l N required default fs)) text found
+own_field text rest l N required default fs found after at s p e =
+    let r = same_step s (field l) (path_text p) rest (path_end p) after.0 (e ∙ after.1) in
     let named : field_below (nodes.field l N required default fs) s ≡ Some N = ap (field_below (nodes.field l N required default fs)) r.0 ∙ rw (own_name l) refl in
     rw named (at p r.1)
 
@@ -133,13 +133,13 @@ split_at : (xs : List CodeField) (i : ℕ) (f : CodeField) → i < length xs →
 split_at xs i f within is = drop_more xs i f within ∙ ap (λ y. y ∷ drop (i + 1) xs) (sym is)
 
 pub field_passed : (xs : List CodeField) (i : ℕ) (f : CodeField) (text k : List ℕ) → i < length xs → f ≡ get_or xs i f → k ≡ f.name → ArePassed (drop i xs) xs text
-    → ((left : List ℕ) → IsAfterStep (field k) text left → ⊥) → ArePassed (drop (i + 1) xs) xs text
+    → ((rest : List ℕ) → IsAfterStep (field k) text rest → ⊥) → ArePassed (drop (i + 1) xs) xs text
 field_passed xs i f text k within is named passed none s p e =
-    let other = other_field text f.name (node_of f.node) f.required (option_map data_of f.default) (fields_of (drop (i + 1) xs)) (λ left. subst (λ n. IsAfterStep (field n) text left → ⊥) named (none left)) s p e in
+    let other = other_field text f.name (node_of f.node) f.required (option_map data_of f.default) (fields_of (drop (i + 1) xs)) (λ rest. subst (λ n. IsAfterStep (field n) text rest → ⊥) named (none rest)) s p e in
     sym other ∙ (ap (λ ys. field_below (fields_of ys) s) (sym (split_at xs i f within is)) ∙ passed s p e)
 
-pub field_found : (xs : List CodeField) (i : ℕ) (f : CodeField) (text k left : List ℕ) (found : Option Node) → i < length xs → f ≡ get_or xs i f → k ≡ f.name → ArePassed (drop i xs) xs text
-    → IsAfterStep (field k) text left → IsNodeAt (node_of f.node) left found → IsNodeBelow (field_below (fields_of xs)) text found
-field_found xs i f text k left found within is named passed after at s p e =
-    own_field text left f.name (node_of f.node) f.required (option_map data_of f.default) (fields_of (drop (i + 1) xs)) found (subst (λ n. IsAfterStep (field n) text left) named after) at s p e
+pub field_found : (xs : List CodeField) (i : ℕ) (f : CodeField) (text k rest : List ℕ) (found : Option Node) → i < length xs → f ≡ get_or xs i f → k ≡ f.name → ArePassed (drop i xs) xs text
+    → IsAfterStep (field k) text rest → IsNodeAt (node_of f.node) rest found → IsNodeBelow (field_below (fields_of xs)) text found
+field_found xs i f text k rest found within is named passed after at s p e =
+    own_field text rest f.name (node_of f.node) f.required (option_map data_of f.default) (fields_of (drop (i + 1) xs)) found (subst (λ n. IsAfterStep (field n) text rest) named after) at s p e
     ∙ ap (option_and_then (λ M. node_at M (place_of p))) (ap (λ ys. field_below (fields_of ys) s) (sym (split_at xs i f within is)) ∙ passed s p e)

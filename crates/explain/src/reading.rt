@@ -70,15 +70,15 @@ fn may_end(stage: Stage) -> bool
     }
 }
 
-/// What is left of a text after the step to the field of this name, where it begins with that step.
+/// The rest of a text after the step to the field of this name, where it begins with that step.
 pub(crate) fn after_name<'a>(text: &'a [u8], name: &[u8]) -> Option<&'a [u8]>
-    ensures { MatchOption result ((left : List ℕ) → IsAfterStep (field name.now) text.now left → ⊥) (λ left. IsAfterStep (field name.now) text.now left.now) }
+    ensures { MatchOption result ((rest : List ℕ) → IsAfterStep (field name.now) text.now rest → ⊥) (λ rest. IsAfterStep (field name.now) text.now rest.now) }
 {
-    let mut left = after(text, b"/")?;
+    let mut rest = after(text, b"/")?;
     for letter in name {
-        left = after_letter(left, *letter)?;
+        rest = after_letter(rest, *letter)?;
     }
-    if is_end(left) { Some(left) } else { None }
+    if is_end(rest) { Some(rest) } else { None }
 }
 
 /// Whether a step ends before this text.
@@ -91,9 +91,9 @@ fn is_end(text: &[u8]) -> bool
     }
 }
 
-/// What is left after a letter of a name.
+/// The rest of a text after a letter of a name.
 fn after_letter<'a>(text: &'a [u8], letter: u8) -> Option<&'a [u8]>
-    ensures { MatchOption result ((left : List ℕ) → text.now ≢ escaped letter ++ left) (λ left. text.now ≡ escaped letter ++ left.now) }
+    ensures { MatchOption result ((rest : List ℕ) → text.now ≢ escaped letter ++ rest) (λ rest. text.now ≡ escaped letter ++ rest.now) }
 {
     match letter {
         b'~' => after(text, b"~0"),
@@ -104,9 +104,9 @@ fn after_letter<'a>(text: &'a [u8], letter: u8) -> Option<&'a [u8]>
     }
 }
 
-/// What is left of a text after these bytes, where it begins with them.
+/// The rest of a text after these bytes, where it begins with them.
 pub(crate) fn after<'a>(text: &'a [u8], begin: &[u8]) -> Option<&'a [u8]>
-    ensures { MatchOption result ((left : List ℕ) → text.now ≢ begin.now ++ left) (λ left. text.now ≡ begin.now ++ left.now) }
+    ensures { MatchOption result ((rest : List ℕ) → text.now ≢ begin.now ++ rest) (λ rest. text.now ≡ begin.now ++ rest.now) }
 {
     text.strip_prefix(begin)
 }

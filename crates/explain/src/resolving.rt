@@ -64,8 +64,8 @@ fn node_in<'a>(fields: &'a Fields, text: &[u8]) -> Option<&'a Node>
     ensures { IsNodeBelow (field_below fields.now) text.now (option_map (λ n. node_of n.now) result) }
 {
     for field in &fields.fields {
-        if let Some(left) = after_name(text, field.name.as_str().as_bytes()) {
-            return node_at(&field.node, left);
+        if let Some(rest) = after_name(text, field.name.as_str().as_bytes()) {
+            return node_at(&field.node, rest);
         }
     }
     None

@@ -41,6 +41,6 @@ abbrev pub IsEnd : List ℕ → Type 0
 IsEnd [] = Unit {0}
 IsEnd (b ∷ bs) = b ≡ 47
 
--- the text is that of the step and what is left
+-- the text is that of the step and the rest
 abbrev pub IsAfterStep : FieldStep → List ℕ → List ℕ → Type 0
-IsAfterStep s text left = IsEnd left × (text ≡ step_text s ++ left)
+IsAfterStep s text rest = IsEnd rest × (text ≡ step_text s ++ rest)

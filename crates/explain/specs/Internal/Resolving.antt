@@ -19,4 +19,4 @@ field_below fs _ = None
 
 -- and so from the node below one step, where the text begins with that step
 abbrev pub IsNodeAfter : List ℕ → Node → List ℕ → Option Node → Type 0
-IsNodeAfter step M text found = ((left : List ℕ) → text ≡ step ++ left → IsNodeAt M left found) × (((left : List ℕ) → text ≢ step ++ left) → found ≡ None)
+IsNodeAfter step M text found = ((rest : List ℕ) → text ≡ step ++ rest → IsNodeAt M rest found) × (((rest : List ℕ) → text ≢ step ++ rest) → found ≡ None)

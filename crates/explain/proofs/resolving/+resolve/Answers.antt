@@ -10,7 +10,7 @@ use Rattle.explain.proofs.resolving.+resolve.Goals as goal
 pub node_after-returns : goal.node_after-returns
 node_after-returns t c =
     let step = c.args.step.now in (
-      λ left is p e. c.node_at.ensures p (e ∙ append_cancel_left step left c.in_ok-after.field-0.now (sym is ∙ c.in_ok-after.ensures)),
+      λ rest is p e. c.node_at.ensures p (e ∙ append_cancel_left step rest c.in_ok-after.field-0.now (sym is ∙ c.in_ok-after.ensures)),
       λ none. absurd (none c.in_ok-after.field-0.now c.in_ok-after.ensures),
     )
 
@@ -58,7 +58,7 @@ node_in-returns-in-Some t c =
     let i = c.loop-field.field-index in
     let found = option_map (λ m. node_of m.now) c.node_at.result in
     let named : c.as_bytes.result.now ≡ f.name = c.as_bytes.ensures.value ∙ c.as_str.ensures in
-    let below = field_found xs i f c.args.text.now c.as_bytes.result.now c.in-Some.left.now found c.loop-field-test.true c.field-item.is named c.loop-field.invariant c.in-Some.ensures c.node_at.ensures in
+    let below = field_found xs i f c.args.text.now c.as_bytes.result.now c.in-Some.rest.now found c.loop-field-test.true c.field-item.is named c.loop-field.invariant c.in-Some.ensures c.node_at.ensures in
     let same : fields_of xs ≡ c.args.fields.now = ap fields_of c.deref-field-items.ensures.value ∙ c.fields.view_is in
     subst (λ fs. IsNodeBelow (field_below fs) c.args.text.now found) same below
 
@@ -67,4 +67,4 @@ node_in-loop-field-preserved t c =
     let xs = c.deref-field-items.result.now in
     let f = c.field-item.result in
     let named : c.as_bytes.result.now ≡ f.name = c.as_bytes.ensures.value ∙ c.as_str.ensures in
-    field_passed xs c.loop-field.field-index f c.args.text.now c.as_bytes.result.now c.loop-field-test.true c.field-item.is named c.loop-field.invariant (λ left. c.in_default.ensures left)
+    field_passed xs c.loop-field.field-index f c.args.text.now c.as_bytes.result.now c.loop-field-test.true c.field-item.is named c.loop-field.invariant (λ rest. c.in_default.ensures rest)
