@@ -1,6 +1,6 @@
 -- How the causes of a run and its status go together with what is asked of the documents at hand.
 use Rattle.std.proofs.Common.{◌≡◌, ◌≢◌, ◌⊎◌, ℕ, List, [], ◌∷◌, Option, Some, None, Bor, Ok, Err, refl, ap, subst, inl, inr, take, map, string_bytes, IsSomeAnd, Bool, codes, ◌∙◌, arith}
-use Rattle.std.specs.Prelude.{IfSome}
+use Rattle.std.specs.Prelude.{IfSome, IfOk, IfErr, OnErr, Result}
 use Rattle.std.specs.Io.KnownBytes.{Appends, Keeps}
 use Rattle.jtree.specs.Data.{Data}
 use Rattle.jtree.specs.Internal.OrderLaws.{tree_total}
@@ -13,7 +13,7 @@ use Rattle.schema.specs.Document.ReadFault.{IsReadFault}
 use Rattle.schema.specs.declared.fault.SFault.{SFault}
 use Rattle.schema.specs.declared.fault.SFault.TheVariants as s
 use Rattle.schema.specs.declared.violation.Violation.{Violation}
-use Rattle.crdx.specs.Program.RunResult.{IsRunResult, answered, refused, unread_input, unwritten, no_memory, IsInputRefused, IsAnswer, structural, violations, no_object, no_sample, no_samples, told_lines, HasBreaks, IsCutByMemory, IsCutByWrite}
+use Rattle.crdx.specs.Program.RunResult.{Effects, WritesNothing, IsRunResult, answered, refused, unread_input, unwritten, no_memory, IsInputRefused, IsAnswer, structural, violations, no_object, no_sample, no_samples, told_lines, HasBreaks, IsCutByMemory, IsCutByWrite}
 use Rattle.crdx.specs.Output.Line.{lines}
 use Rattle.crdx.specs.Output.PartialOutput.{IsPartialOutput}
 use Rattle.crdx.specs.Output.Walk.{WritesPage}
@@ -154,35 +154,47 @@ after_input has unread read arguments after cause is accepted P are (inr memory)
 after_input has unread read arguments None cause is accepted P are (inl why) = absurd why
 after_input has unread read arguments (Some text) cause is accepted P are (inl why) = text_input has unread read arguments text cause is accepted P are why
 
-module _ (has : Documents) (unread read : ℕ) (request : Request) (old new : Option (List ℕ)) (before now : ℕ) where
-  kept : Keeps old new → (r : Request) → IsCutByMemory has r old new
+module _ (run : Effects) (request : Request) where
+  kept : Keeps run.output_before run.output → (r : Request) → IsCutByMemory run r
   kept keeps (Sample a) = inl keeps
   kept keeps _ = keeps
 
   -- memory was wanting, and nothing is out
-  pub result_of_nothing : (answer : ℕ) → Keeps old new → now ≡ before → answer ≡ 5 → IsRunResult has unread read request old new before now answer
-  result_of_nothing answer keeps same e = rw e (no_memory (kept keeps request) same)
+  pub result_of_nothing : (code : ℕ) → WritesNothing run → code ≡ 5 → IsRunResult run request code
+  result_of_nothing code nothing e = rw e (no_memory (kept nothing.kept request) nothing.unfailed)
 
   -- an input is refused or could not be read, and nothing is out
-  pub result_of_input : (cause : Cause) (answer : ℕ) → IsInputCause has unread read request cause → Keeps old new → now ≡ before → (answer ≡ status cause) ⊎ (answer ≡ 5)
-      → IsRunResult has unread read request old new before now answer
-  result_of_input cause answer why keeps same (inr e) = result_of_nothing answer keeps same e
-  result_of_input (Unread i) answer why keeps same (inl e) = rw e (unread_input why keeps same)
-  result_of_input (Document i fault) answer why keeps same (inl e) = rw e (refused why keeps same)
-  result_of_input (Crd fault) answer why keeps same (inl e) = rw e (refused why keeps same)
-  result_of_input (PoolsCause fault) answer why keeps same (inl e) = rw e (refused why keeps same)
-  result_of_input (Place i c p) answer why keeps same (inl e) = rw e (refused why keeps same)
-  result_of_input (Violations vs) answer why keeps same (inl e) = rw e (answered 1 [] why (Appends-nothing old new keeps) same)
-  result_of_input NotASample answer why keeps same (inl e) = absurd why
-  result_of_input (Write n) answer why keeps same (inl e) = absurd why
-  result_of_input NoMemory answer why keeps same (inl e) = result_of_nothing answer keeps same e
+  pub result_of_input : (cause : Cause) (code : ℕ) → IsInputCause run.documents run.failed_reads_before run.failed_reads request cause → WritesNothing run
+      → (code ≡ status cause) ⊎ (code ≡ 5) → IsRunResult run request code
+  result_of_input cause code why nothing (inr e) = result_of_nothing code nothing e
+  result_of_input (Unread i) code why nothing (inl e) = rw e (unread_input why nothing)
+  result_of_input (Document i fault) code why nothing (inl e) = rw e (refused why nothing)
+  result_of_input (Crd fault) code why nothing (inl e) = rw e (refused why nothing)
+  result_of_input (PoolsCause fault) code why nothing (inl e) = rw e (refused why nothing)
+  result_of_input (Place i c p) code why nothing (inl e) = rw e (refused why nothing)
+  result_of_input (Violations vs) code why nothing (inl e) = rw e (answered 1 [] why (Appends-nothing run.output_before run.output nothing.kept) nothing.unfailed)
+  result_of_input NotASample code why nothing (inl e) = absurd why
+  result_of_input (Write n) code why nothing (inl e) = absurd why
+  result_of_input NoMemory code why nothing (inl e) = result_of_nothing code nothing e
 
-  -- an answer was given, or standard output failed behind a beginning of it
-  pub result_of_given : (answer : Answer) (code : ℕ) → IsAnswer has request answer.status (string_bytes answer.text)
-      → ((n : ℕ) → Appends old new (take n (string_bytes answer.text)) → IsCutByWrite has request old new) → IsGiven answer old new before now code
-      → IsRunResult has unread read request old new before now code
+  -- what is cut where standard output fails within an answer
+  abbrev IsCut : Type 0
+  IsCut = (code : ℕ) (text : List ℕ) → IsAnswer run.documents request code text → (n : ℕ) → Appends run.output_before run.output (take n text) → IsCutByWrite run request
+
+  -- an answer was given, or standard output failed after a beginning of it
+  pub result_of_given : (answer : Answer) (code : ℕ) → IsAnswer run.documents request answer.status (string_bytes answer.text) → IsCut
+      → IsGiven answer run.output_before run.output run.failed_writes_before run.failed_writes code → IsRunResult run request code
   result_of_given answer code is cut (inl given) = rw given.0 (answered answer.status (string_bytes answer.text) is given.1 given.2)
-  result_of_given answer code is cut (inr failed) = unwritten code failed.0 failed.1 (cut failed.2.0 failed.2.1)
+  result_of_given answer code is cut (inr failed) = unwritten code failed.0 failed.1 (cut answer.status (string_bytes answer.text) is failed.2.0 failed.2.1)
+
+  -- an answer was given, or it was said why there is none
+  pub result_of_finished : (r : Result Answer Cause) (code : ℕ) → IfOk r (λ a. IsAnswer run.documents request a.status (string_bytes a.text))
+      → IfErr r (IsInputCause run.documents run.failed_reads_before run.failed_reads request) → IsCut
+      → IfOk r (λ a. IsGiven a run.output_before run.output run.failed_writes_before run.failed_writes code)
+      → IfErr r (λ cause. (code ≡ status cause) ⊎ (code ≡ 5)) → OnErr r (Keeps run.output_before run.output) → OnErr r (run.failed_writes ≡ run.failed_writes_before)
+      → IsRunResult run request code
+  result_of_finished (Ok answer) code is why cut given said kept unfailed = result_of_given answer code is cut given
+  result_of_finished (Err cause) code is why cut given said kept unfailed = result_of_input cause code why (record { kept = kept; unfailed = unfailed }) said
 
 -- why a walk stopped, as the cause that its fault becomes
 pub walk_cause : (q : Question) (after : Option Data) (count : ℕ) (e : Option Envelope) (old new : Option (List ℕ)) (before now : ℕ) (fault : WFault)
@@ -202,31 +214,32 @@ flush_cause q after count e lines_out n end old new before now sample wrote fail
       inr (subst (λ us. Appends old new (lines e us)) (same_items tree_total q after count wrote.items items end end' wrote.page page) wrote.written),
 )
 
-module _ (has : Documents) (unread read : ℕ) (arguments : SampleArguments) (old new : Option (List ℕ)) (before now : ℕ) where
-  -- the tree to go on from is no sample
-  result_of_no_sample : (q : Question) (after : Option Data) (e : Option Envelope) → IsRequested has arguments q after e → IsSomeAnd after (λ a. IsSampleOf q a → ⊥) → Keeps old new → now ≡ before
-      → IsRunResult has unread read (Sample arguments) old new before now 1
-  result_of_no_sample q None e asked none keeps same = absurd none
-  result_of_no_sample q (Some a) e asked none keeps same = answered 1 [] (no_sample arguments q a e asked none) (Appends-nothing old new keeps) same
+module _ (run : Effects) (arguments : SampleArguments) where
+  abbrev IsWalkCauseOf : Question → Option Data → Option Envelope → Cause → Type 0
+  IsWalkCauseOf q after e = IsWalkCause q after arguments.count e run.output_before run.output run.failed_writes_before run.failed_writes
 
-  cut_by_memory : (q : Question) (after : Option Data) (e : Option Envelope) → IsRequested has arguments q after e
-      → IsWalkCause q after arguments.count e old new before now NoMemory → IsCutByMemory has (Sample arguments) old new
+  -- the tree to go on from is no sample
+  result_of_no_sample : (q : Question) (after : Option Data) (e : Option Envelope) → IsRequested run.documents arguments q after e → IsSomeAnd after (λ a. IsSampleOf q a → ⊥) → WritesNothing run
+      → IsRunResult run (Sample arguments) 1
+  result_of_no_sample q None e asked none nothing = absurd none
+  result_of_no_sample q (Some a) e asked none nothing = answered 1 [] (no_sample arguments q a e asked none) (Appends-nothing run.output_before run.output nothing.kept) nothing.unfailed
+
+  cut_by_memory : (q : Question) (after : Option Data) (e : Option Envelope) → IsRequested run.documents arguments q after e → IsWalkCauseOf q after e NoMemory → IsCutByMemory run (Sample arguments)
   cut_by_memory q after e asked (same, inl keeps) = inl keeps
   cut_by_memory q after e asked (same, inr (sample, n, cut)) = inr (q, after, e, asked, sample, n, cut)
 
-  result_of_walk : (q : Question) (after : Option Data) (e : Option Envelope) (cause : Cause) (answer : ℕ) → IsRequested has arguments q after e → IsWalkCause q after arguments.count e old new before now cause
-      → (answer ≡ status cause) ⊎ (answer ≡ 5) → IsRunResult has unread read (Sample arguments) old new before now answer
-  result_of_walk q after e (Write n) answer asked why is = unwritten answer is why.0 (q, after, e, asked, why.1, why.2)
-  result_of_walk q after e NoMemory answer asked why (inl five) = rw five (no_memory (cut_by_memory q after e asked why) why.0)
-  result_of_walk q after e NoMemory answer asked why (inr five) = rw five (no_memory (cut_by_memory q after e asked why) why.0)
-  result_of_walk q after e NotASample answer asked why (inl one) = rw one (result_of_no_sample q after e asked why.0 why.1 why.2)
-  result_of_walk q after e NotASample answer asked why (inr five) = result_of_nothing has unread read (Sample arguments) old new before now answer why.1 why.2 five
-  result_of_walk q after e _ answer asked why is = absurd why
+  result_of_walk : (q : Question) (after : Option Data) (e : Option Envelope) (cause : Cause) (code : ℕ) → IsRequested run.documents arguments q after e → IsWalkCauseOf q after e cause
+      → (code ≡ status cause) ⊎ (code ≡ 5) → IsRunResult run (Sample arguments) code
+  result_of_walk q after e (Write n) code asked why is = unwritten code is why.0 (q, after, e, asked, why.1, why.2)
+  result_of_walk q after e NoMemory code asked why (inl five) = rw five (no_memory (cut_by_memory q after e asked why) why.0)
+  result_of_walk q after e NoMemory code asked why (inr five) = rw five (no_memory (cut_by_memory q after e asked why) why.0)
+  result_of_walk q after e NotASample code asked why (inl one) = rw one (result_of_no_sample q after e asked why.0 (record { kept = why.1; unfailed = why.2 }))
+  result_of_walk q after e NotASample code asked why (inr five) = result_of_nothing run (Sample arguments) code (record { kept = why.1; unfailed = why.2 }) five
+  result_of_walk q after e _ code asked why is = absurd why
 
-  pub result_of_sample : (cause : Cause) (answer : ℕ) → IsSampleCause has unread read arguments old new before now cause → (answer ≡ status cause) ⊎ (answer ≡ 5)
-      → IsRunResult has unread read (Sample arguments) old new before now answer
-  result_of_sample cause answer (inl why) is = result_of_input has unread read (Sample arguments) old new before now cause answer why.0 why.1 why.2 is
-  result_of_sample cause answer (inr (q, after, e, asked, why)) is = result_of_walk q after e cause answer asked why is
+  pub result_of_sample : (cause : Cause) (code : ℕ) → IsSampleCause run arguments cause → (code ≡ status cause) ⊎ (code ≡ 5) → IsRunResult run (Sample arguments) code
+  result_of_sample cause code (inl why) is = result_of_input run (Sample arguments) cause code why.0 why.1 is
+  result_of_sample cause code (inr (q, after, e, asked, why)) is = result_of_walk q after e cause code asked why is
 
 pub failed_once : (before now : ℕ) → now ≡ one_more before → HasFailed before now
 failed_once before now is = grind (arith, nat_tests)

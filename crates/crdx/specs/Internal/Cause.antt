@@ -11,7 +11,7 @@ use Rattle.crdx.specs.Output.PartialOutput.{IsCutBetweenLines, IsCutByFailure}
 use Rattle.crdx.specs.Output.Sink.{HasFailed}
 use Rattle.crdx.specs.Program.Documents.{Documents}
 use Rattle.crdx.specs.Program.Requested.{IsRequestedSchema, HasReadFault, HasPoolsFault, IsRequested}
-use Rattle.crdx.specs.Program.RunResult.{IsAnswer, IsInputRefused}
+use Rattle.crdx.specs.Program.RunResult.{IsAnswer, IsInputRefused, Effects, WritesNothing}
 use Rattle.plan.specs.Samples.Question.{Question}
 use Rattle.enumerate.specs.Page.{IsPage, IsSampleOf}
 use Rattle.crdx.specs.Program.InputFault.{IsNoDocument}
@@ -92,7 +92,8 @@ IsWalkCause q after count e old new before now NoMemory = (now ≡ before) × (K
 IsWalkCause q after count e old new before now _ = ⊥
 
 -- why `sample` has no answer
-abbrev pub IsSampleCause : Documents → ℕ → ℕ → SampleArguments → Option (List ℕ) → Option (List ℕ) → ℕ → ℕ → Cause → Type 0
-IsSampleCause has unread read arguments old new before now cause =
-    (IsInputCause has unread read (Sample arguments) cause × Keeps old new × (now ≡ before))
-    ⊎ ((q : Question) × (after : Option Data) × (e : Option Envelope) × IsRequested has arguments q after e × IsWalkCause q after arguments.count e old new before now cause)
+abbrev pub IsSampleCause : Effects → SampleArguments → Cause → Type 0
+IsSampleCause run arguments cause =
+    (IsInputCause run.documents run.failed_reads_before run.failed_reads (Sample arguments) cause × WritesNothing run)
+    ⊎ ((q : Question) × (after : Option Data) × (e : Option Envelope) × IsRequested run.documents arguments q after e
+    × IsWalkCause q after arguments.count e run.output_before run.output run.failed_writes_before run.failed_writes cause)

@@ -1,5 +1,6 @@
 // What is said on the standard streams, and the exit status.
-ghost use Rattle.std.specs.Prelude.{◌≡◌, ◌⊎◌};
+ghost use Rattle.std.specs.Prelude.{◌≡◌, ◌⊎◌, IfOk, IfErr, OnErr};
+ghost use Rattle.std.specs.Io.KnownBytes.{Keeps};
 ghost use Rattle.crdx.specs.Internal.ExitStatus.{status, IsGiven};
 
 use crate::running::answer::{Answer, json_text};
@@ -8,6 +9,24 @@ use crate::running::checking::violation_lines;
 use crate::sink::{Sink, put_all};
 use crate::walk::Walked;
 use std::alloc::{AllocError, Global};
+
+/// Writes an answer, or says on `err` why there is none, and answers the exit status.
+pub(crate) fn finish<W: Sink, E: Sink>(
+    alloc: Global,
+    answer: &Result<Answer, Cause>,
+    out: &mut W,
+    err: &mut E,
+) -> u8
+    ensures given { IfOk answer.now (λ a. IsGiven a (W.taken out.old) (W.taken out.new) (W.failures out.old) (W.failures out.new) result) }
+    ensures said { IfErr answer.now (λ cause. (result ≡ status cause) ⊎ (result ≡ 5)) }
+    ensures kept { OnErr answer.now (Keeps (W.taken out.old) (W.taken out.new)) }
+    ensures unfailed { OnErr answer.now (W.failures out.new ≡ W.failures out.old) }
+{
+    match answer {
+        Ok(answer) => give(alloc, answer, out, err),
+        Err(cause) => report(alloc, cause, err),
+    }
+}
 
 /// Writes an answer and answers its status; where standard output fails, the status of that.
 pub(crate) fn give<W: Sink, E: Sink>(alloc: Global, answer: &Answer, out: &mut W, err: &mut E) -> u8
