@@ -1,6 +1,6 @@
 -- How the causes of a run and its status go together with what is asked of the documents at hand.
 use Rattle.std.proofs.Common.{◌≡◌, ◌≢◌, ◌⊎◌, ℕ, List, [], ◌∷◌, Option, Some, None, Bor, Ok, Err, refl, ap, subst, inl, inr, take, map, string_bytes, IsSomeAnd, Bool, codes, ◌∙◌, arith}
-use Rattle.std.specs.Prelude.{IfSome, IfOk, IfErr, OnErr, Result}
+use Rattle.std.specs.Prelude.{IfSome, IfOk, IfErr, OnOk, OnErr, Result}
 use Rattle.std.specs.Io.KnownBytes.{Appends, Keeps}
 use Rattle.jtree.specs.Data.{Data}
 use Rattle.jtree.specs.Internal.OrderLaws.{tree_total}
@@ -13,7 +13,7 @@ use Rattle.schema.specs.Document.ReadFault.{IsReadFault}
 use Rattle.schema.specs.declared.fault.SFault.{SFault}
 use Rattle.schema.specs.declared.fault.SFault.TheVariants as s
 use Rattle.schema.specs.declared.violation.Violation.{Violation}
-use Rattle.crdx.specs.Program.RunResult.{Effects, WritesNothing, IsRunResult, answered, refused, unread_input, unwritten, no_memory, IsInputRefused, IsAnswer, structural, violations, no_object, no_sample, no_samples, told_lines, HasBreaks, IsCutByMemory, IsCutByWrite}
+use Rattle.crdx.specs.Program.RunResult.{Effects, WritesNothing, IsRunResult, answered, refused, unread_input, unwritten, no_memory, IsInputRefused, IsAnswer, structural, violations, no_object, samples, no_sample, no_samples, told_lines, HasBreaks, IsCutByMemory, IsCutByWrite}
 use Rattle.crdx.specs.Output.Line.{lines}
 use Rattle.crdx.specs.Output.PartialOutput.{IsPartialOutput}
 use Rattle.crdx.specs.Output.Walk.{WritesPage}
@@ -39,6 +39,7 @@ use Rattle.crdx.specs.declared.arguments.request.ObjectArguments.{ObjectArgument
 use Rattle.crdx.specs.declared.arguments.request.SampleArguments.{SampleArguments}
 use Rattle.crdx.specs.declared.arguments.request.Request.{Request}
 use Rattle.crdx.specs.declared.arguments.request.Request.TheVariants.{Check, Object, Sample}
+use Rattle.crdx.specs.declared.walk.walking.Walked.{Walked}
 use Rattle.crdx.specs.declared.walk.fault.WFault.{WFault}
 use Rattle.crdx.specs.declared.walk.fault.WFault.TheVariants as w
 use Rattle.crdx.specs.Output.Sink.{HasFailed, one_more}
@@ -237,9 +238,19 @@ module _ (run : Effects) (arguments : SampleArguments) where
   result_of_walk q after e NotASample code asked why (inr five) = result_of_nothing run (Sample arguments) code (record { kept = why.1; unfailed = why.2 }) five
   result_of_walk q after e _ code asked why is = absurd why
 
-  pub result_of_sample : (cause : Cause) (code : ℕ) → IsSampleCause run arguments cause → (code ≡ status cause) ⊎ (code ≡ 5) → IsRunResult run (Sample arguments) code
-  result_of_sample cause code (inl why) is = result_of_input run (Sample arguments) cause code why.0 why.1 is
-  result_of_sample cause code (inr (q, after, e, asked, why)) is = result_of_walk q after e cause code asked why is
+  result_of_cause : (cause : Cause) (code : ℕ) → IsSampleCause run arguments cause → (code ≡ status cause) ⊎ (code ≡ 5) → IsRunResult run (Sample arguments) code
+  result_of_cause cause code (inl why) is = result_of_input run (Sample arguments) cause code why.0 why.1 is
+  result_of_cause cause code (inr (q, after, e, asked, why)) is = result_of_walk q after e cause code asked why is
+
+  -- samples were listed, or it was said why not all of them
+  pub result_of_sample : (r : Result Walked Cause) (code : ℕ)
+      → IfOk r (λ walked. (q : Question) × (after : Option Data) × (e : Option Envelope) × IsRequested run.documents arguments q after e × IfSome after (IsSampleOf q)
+      × WritesPage q after arguments.count e walked.lines walked.end run.output_before run.output)
+      → OnOk r (run.failed_writes ≡ run.failed_writes_before) → IfErr r (IsSampleCause run arguments)
+      → OnOk r (code ≡ 0) → IfErr r (λ cause. (code ≡ status cause) ⊎ (code ≡ 5)) → IsRunResult run (Sample arguments) code
+  result_of_sample (Ok walked) code (q, after, e, asked, sample, wrote) unfailed why done said =
+      rw done (answered 0 (lines e wrote.items) (samples arguments q after e wrote.items walked.end asked sample wrote.page) wrote.written unfailed)
+  result_of_sample (Err cause) code listed unfailed why done said = result_of_cause cause code why said
 
 pub failed_once : (before now : ℕ) → now ≡ one_more before → HasFailed before now
 failed_once before now is = grind (arith, nat_tests)

@@ -4,7 +4,6 @@ ghost use Rattle.std.specs.Prelude.{map, string_bytes};
 ghost use Rattle.crdx.specs.Program.RunResult.{IsRunResult};
 ghost use Rattle.crdx.specs.Program.CommandLine.{Asks};
 ghost use Rattle.crdx.specs.declared.arguments.request.Request.{Request};
-ghost use Rattle.crdx.specs.declared.arguments.request.Request.TheVariants.{Sample};
 
 mod answer;
 mod causes;
@@ -14,13 +13,13 @@ mod objects;
 mod reporting;
 mod sampling;
 
-use crate::arguments::{Request, SampleArguments, parse_arguments};
+use crate::arguments::{Request, parse_arguments};
 use crate::inputs::Inputs;
 use crate::running::answer::Answer;
 use crate::running::causes::Cause;
 use crate::running::checking::check;
 use crate::running::objects::judge_object;
-use crate::running::reporting::{finish, give, report, say_end};
+use crate::running::reporting::{finish, finish_samples, give, report};
 use crate::running::sampling::sample;
 use crate::sink::{Sink, put_all};
 use std::alloc::Global;
@@ -46,43 +45,21 @@ pub fn run<I: Inputs, W: Sink, E: Sink>(
     }) request result }
 {
     match parse_arguments(alloc, arguments) {
-        Request::Check(arguments) => { finish(alloc, &check(alloc, &arguments, inputs), out, err) }
-        Request::Object(arguments) => {
-            finish(alloc, &judge_object(alloc, &arguments, inputs), out, err)
+        Request::Check(arguments) => finish(alloc, &check(alloc, &arguments, inputs), out, err),
+        Request::Object(arguments) => finish(
+            alloc,
+            &judge_object(alloc, &arguments, inputs),
+            out,
+            err,
+        ),
+        Request::Sample(arguments) => {
+            finish_samples(alloc, &sample(alloc, &arguments, inputs, out), err)
         }
-        Request::Sample(arguments) => list_samples(alloc, &arguments, inputs, out, err),
         Request::Help(text) => give(alloc, &Answer { status: 0, text }, out, err),
         Request::UsageError(text) => {
             let _ = put_all(err, text.as_bytes());
             2
         }
         Request::NoMemory => report(alloc, &Cause::NoMemory, err),
-    }
-}
-
-/// Lists samples, and says on `err` whether more are left, or why the run has no answer.
-fn list_samples<I: Inputs, W: Sink, E: Sink>(
-    alloc: Global,
-    arguments: &SampleArguments<'_>,
-    inputs: &mut I,
-    out: &mut W,
-    err: &mut E,
-) -> u8
-    ensures { IsRunResult (record {
-      documents = I.has inputs.old;
-      failed_reads_before = I.failures inputs.old;
-      failed_reads = I.failures inputs.new;
-      output_before = W.taken out.old;
-      output = W.taken out.new;
-      failed_writes_before = W.failures out.old;
-      failed_writes = W.failures out.new;
-    }) (Sample arguments.now) result }
-{
-    match sample(alloc, arguments, inputs, out) {
-        Ok(walked) => {
-            say_end(&walked, err);
-            0
-        }
-        Err(cause) => report(alloc, &cause, err),
     }
 }

@@ -1,5 +1,5 @@
 // What is said on the standard streams, and the exit status.
-ghost use Rattle.std.specs.Prelude.{◌≡◌, ◌⊎◌, IfOk, IfErr, OnErr};
+ghost use Rattle.std.specs.Prelude.{◌≡◌, ◌⊎◌, IfOk, IfErr, OnOk, OnErr};
 ghost use Rattle.std.specs.Io.KnownBytes.{Keeps};
 ghost use Rattle.crdx.specs.Internal.ExitStatus.{status, IsGiven};
 
@@ -63,8 +63,26 @@ pub(crate) fn report<E: Sink>(alloc: Global, cause: &Cause, err: &mut E) -> u8
     }
 }
 
+/// Says on `err` whether more samples are left, or why the listing of samples ended early, and answers the exit status.
+pub(crate) fn finish_samples<E: Sink>(
+    alloc: Global,
+    walked: &Result<Walked, Cause>,
+    err: &mut E,
+) -> u8
+    ensures done { OnOk walked.now (result ≡ 0) }
+    ensures said { IfErr walked.now (λ cause. (result ≡ status cause) ⊎ (result ≡ 5)) }
+{
+    match walked {
+        Ok(walked) => {
+            say_end(walked, err);
+            0
+        }
+        Err(cause) => report(alloc, cause, err),
+    }
+}
+
 /// Says on `err` whether more samples are left.
-pub(crate) fn say_end<E: Sink>(walked: &Walked, err: &mut E) {
+fn say_end<E: Sink>(walked: &Walked, err: &mut E) {
     let line: &[u8] = if walked.end {
         b"crdx: end\n"
     } else {

@@ -1,8 +1,8 @@
 use Rattle.std.proofs.Common.{◌≡◌, [], refl, inl, inr, string_bytes}
 use Rattle.std.proofs.KnownBytes.{Keeps-refl, Appends-nil}
 use Rattle.crdx.specs.Program.RunResult.{answered, help, usage_error}
-use Rattle.crdx.specs.declared.arguments.request.Request.TheVariants.{Check, Object, Help, UsageError, NoMemory}
-use Rattle.crdx.proofs.RunLemmas.{result_of_finished, result_of_given, result_of_nothing}
+use Rattle.crdx.specs.declared.arguments.request.Request.TheVariants.{Check, Object, Sample, Help, UsageError, NoMemory}
+use Rattle.crdx.proofs.RunLemmas.{result_of_finished, result_of_given, result_of_sample, result_of_nothing}
 use Rattle.crdx.proofs.running.run.Goals as goal
 
 pub returns-in-Check : goal.returns-in-Check
@@ -21,6 +21,15 @@ returns-in-Object g c =
       c.in-Object.ensures,
       result_of_finished _ request c.judge_object.result c.finish-in-Object.result c.judge_object.ensures.answer c.judge_object.ensures.cause (λ status text is n out. (status, text, is, n, out))
           c.finish-in-Object.ensures.given c.finish-in-Object.ensures.said c.finish-in-Object.ensures.kept c.finish-in-Object.ensures.unfailed,
+    )
+
+pub returns-in-Sample : goal.returns-in-Sample
+returns-in-Sample g c =
+    let arguments = c.in-Sample.arguments in (
+      Sample arguments,
+      c.in-Sample.ensures,
+      result_of_sample _ arguments c.sample.result c.finish_samples.result c.sample.ensures.sampled c.sample.ensures.unfailed c.sample.ensures.cause c.finish_samples.ensures.done
+          c.finish_samples.ensures.said,
     )
 
 pub returns-in-Help : goal.returns-in-Help
