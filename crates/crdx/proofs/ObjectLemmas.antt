@@ -2,7 +2,7 @@
 use Rattle.std.proofs.Common.{◌≡◌, List, [], ◌∷◌, None, length, map, true, false, arith, sym, subst, string_bytes}
 use Rattle.std.specs.Prelude.{◌==◌, codes}
 use Rattle.std.proofs.lemmas.Bool.Decides.{nat_tests}
-use Rattle.jtree.specs.Data.{Data, Members}
+use Rattle.jtree.specs.Data.{Data, IsTree, Members}
 use Rattle.jtree.specs.Internal.Rising.{contained}
 use Rattle.schema.specs.Nodes.Node.{Node}
 use Rattle.stored.specs.Objects.Fault.{IsValid}
@@ -22,7 +22,7 @@ no_fault N v (f ∷ fs, are, same) path t is = cc
 
 -- the line of a body with its envelope
 abbrev pub IsPrinted : Data → Members → Answer → Type 0
-IsPrinted body envelope a = (a.status ≡ 0) × ((whole : Data) × IsJoined body envelope whole × (string_bytes a.text ≡ line None whole))
+IsPrinted body envelope a = (a.status ≡ 0) × IsTree body × ((whole : Data) × IsJoined body envelope whole × (string_bytes a.text ≡ line None whole))
 
 module _ (N : Node) (document : Data) where
   pub valid_answer : (v : Data) (faults : List Fault) → body_of document ≡ v → AreFaults N v faults → (length faults == 0) ≡ true → IsObjectAnswer N document Validate 0 (codes "valid\n")
@@ -38,9 +38,9 @@ module _ (N : Node) (document : Data) where
   pub pruned_answer : (v w : Data) (parts : Members) (a : Answer) → v ≡ body_of document → parts ≡ envelope_in document → IsPruned N v w
       → IsPrinted w parts a → IsObjectAnswer N document Prune a.status (string_bytes a.text)
   pruned_answer v w parts a body envelope is said =
-      rw (said.0, said.1.2) (pruned w said.1.0 (subst (λ u. IsPruned N u w) body is) (subst (λ ps. IsJoined w ps said.1.0) envelope said.1.1))
+      rw (said.0, said.2.2) (pruned w said.2.0 (subst (λ u. IsPruned N u w) body is) said.1 (subst (λ ps. IsJoined w ps said.2.0) envelope said.2.1))
 
   pub completed_answer : (v w : Data) (parts : Members) (a : Answer) → v ≡ body_of document → parts ≡ envelope_in document → IsCompleted N v w
       → IsPrinted w parts a → IsObjectAnswer N document Default a.status (string_bytes a.text)
   completed_answer v w parts a body envelope is said =
-      rw (said.0, said.1.2) (completed w said.1.0 (subst (λ u. IsCompleted N u w) body is) (subst (λ ps. IsJoined w ps said.1.0) envelope said.1.1))
+      rw (said.0, said.2.2) (completed w said.2.0 (subst (λ u. IsCompleted N u w) body is) said.1 (subst (λ ps. IsJoined w ps said.2.0) envelope said.2.1))

@@ -1,6 +1,6 @@
 -- What `validate`, `prune` and `default` answer of a document at the node of its body (this project's own words).
 use Rattle.std.specs.Prelude.{◌≢◌, ◌/◌, ◌%◌, ℕ, List, [], ◌++◌, None, map, flat_map, codes, decimal}
-use Rattle.jtree.specs.Data.{Data, text}
+use Rattle.jtree.specs.Data.{Data, IsTree, text}
 use Rattle.jtree.specs.Text.{compact}
 use Rattle.schema.specs.Nodes.Node.{Node}
 use Rattle.stored.specs.Objects.Fault.{IsValid}
@@ -23,5 +23,5 @@ fault_lines ts = flat_map fault_line ts
 pub data IsObjectAnswer (N : Node) (document : Data) : ObjectCommand → ℕ → List ℕ → Type 0 where
   valid : IsValid N (body_of document) → IsObjectAnswer N document Validate 0 (codes "valid\n")
   faulty : (fs : List Failure) → AreFailures N (body_of document) fs → fs ≢ [] → IsObjectAnswer N document Validate 1 (fault_lines (map told_of fs))
-  pruned : (body whole : Data) → IsPruned N (body_of document) body → IsJoined body (envelope_in document) whole → IsObjectAnswer N document Prune 0 (line None whole)
-  completed : (body whole : Data) → IsCompleted N (body_of document) body → IsJoined body (envelope_in document) whole → IsObjectAnswer N document Default 0 (line None whole)
+  pruned : (body whole : Data) → IsPruned N (body_of document) body → IsTree body → IsJoined body (envelope_in document) whole → IsObjectAnswer N document Prune 0 (line None whole)
+  completed : (body whole : Data) → IsCompleted N (body_of document) body → IsTree body → IsJoined body (envelope_in document) whole → IsObjectAnswer N document Default 0 (line None whole)

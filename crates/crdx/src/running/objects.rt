@@ -1,6 +1,6 @@
 // What `validate`, `prune` and `default` answer.
 ghost use Rattle.std.specs.Prelude.{◌≡◌, None, map, Ok, IfOk, IfErr, string_bytes};
-ghost use Rattle.jtree.specs.Data.{Data};
+ghost use Rattle.jtree.specs.Data.{Data, IsTree};
 ghost use Rattle.jtree.specs.View.{data_of};
 ghost use Rattle.schema.specs.Nodes.View.{node_of};
 ghost use Rattle.stored.specs.Objects.AllFaults.{told};
@@ -112,8 +112,9 @@ fn validate(alloc: Global, node: &Node, body: &Tree) -> Result<Answer, AllocErro
 
 /// The line of a body with its envelope.
 fn print(alloc: Global, mut body: Tree, envelope: Parts) -> Result<Answer, AllocError>
-    ensures { IfOk result (λ a. (a.status ≡ 0) × ((whole : Data) × IsJoined (data_of body) envelope whole × (string_bytes a.text ≡ line None whole))) }
+    ensures { IfOk result (λ a. (a.status ≡ 0) × IsTree (data_of body) × ((whole : Data) × IsJoined (data_of body) envelope whole × (string_bytes a.text ≡ line None whole))) }
 {
+    body.reveal_invariant();
     join(&mut body, envelope)?;
     let mut text = body.to_text(alloc).map_err(|_| AllocError)?;
     text.push_str("\n")?;
