@@ -5,6 +5,7 @@ use Rattle.std.specs.Io.KnownBytes.{Appends, Keeps}
 use Rattle.jtree.specs.Data.{Data}
 use Rattle.jtree.specs.Internal.OrderLaws.{tree_total}
 use Rattle.jtree.specs.Internal.Rising.{contained}
+use Rattle.schema.specs.Nodes.Node.{Node}
 use Rattle.schema.specs.Rules.Breaks.{Break, Breaking, AreViolations, IsUnbroken, told, told_of}
 use Rattle.schema.specs.declared.refused.Refused.{Refused}
 use Rattle.schema.specs.declared.refused.Refused.TheVariants as refusal
@@ -13,14 +14,14 @@ use Rattle.schema.specs.Document.ReadFault.{IsReadFault}
 use Rattle.schema.specs.declared.fault.SFault.{SFault}
 use Rattle.schema.specs.declared.fault.SFault.TheVariants as s
 use Rattle.schema.specs.declared.violation.Violation.{Violation}
-use Rattle.crdx.specs.Program.RunResult.{Effects, WritesNothing, IsRunResult, answered, refused, unread_input, unwritten, no_memory, IsInputRefused, IsAnswer, structural, violations, no_object, samples, no_sample, no_samples, told_lines, HasBreaks, IsCutByMemory, IsCutByWrite}
+use Rattle.crdx.specs.Program.RunResult.{Effects, WritesNothing, IsRunResult, answered, refused, unread_input, unwritten, no_memory, IsInputRefused, IsAnswer, structural, violations, fields, object, samples, no_sample, told_lines, HasBreaks, IsCutByMemory, IsCutByWrite}
 use Rattle.crdx.specs.Output.Line.{lines}
 use Rattle.crdx.specs.Output.PartialOutput.{IsPartialOutput}
 use Rattle.crdx.specs.Output.Walk.{WritesPage}
-use Rattle.crdx.specs.Program.Requested.{IsRequested, IsRequestedSchema, HasAcceptedSchema, IsCrdRefused, ArePools}
+use Rattle.crdx.specs.Program.Requested.{IsRequested, IsRequestedSchema, IsRequestedRoot, HasAcceptedSchema, IsCrdRefused, ArePools}
 use Rattle.crdx.specs.Program.Documents.{Documents, file_name, AreAmong}
 use Rattle.crdx.specs.Internal.ExitStatus.{status, cause_of_reading, cause_of_refusal, cause_of_pools, cause_of_walk, IsGiven}
-use Rattle.crdx.specs.Internal.Cause.{IsUnreadCause, IsReadCause, IsBrokenCause, IsSchemaCause, IsPoolsCause, IsTextCause, IsAfterCause, IsInputCause, IsSampleCause, IsWalkCause}
+use Rattle.crdx.specs.Internal.Cause.{IsUnreadCause, IsReadCause, IsBrokenCause, IsSchemaCause, IsPoolsCause, IsTextCause, IsAfterCause, IsFieldCause, IsObjectCause, IsDocumentCause, IsInputCause, IsSampleCause, IsWalkCause}
 use Rattle.plan.specs.Pools.Pools.{Pools}
 use Rattle.plan.specs.Pools.PoolsFault.{IsPoolsFault}
 use Rattle.plan.specs.Samples.Question.{Question}
@@ -32,13 +33,14 @@ use Rattle.crdx.specs.declared.walk.line.Envelope.{Envelope}
 use Rattle.crdx.specs.declared.running.causes.Input.TheVariants as input
 use Rattle.crdx.specs.declared.running.causes.PlaceCode.TheVariants as code
 use Rattle.crdx.specs.declared.running.causes.Cause.{Cause}
-use Rattle.crdx.specs.declared.running.causes.Cause.TheVariants.{Unread, Document, Crd, Pools as PoolsCause, Place, Violations, NotASample, Write, NoMemory}
+use Rattle.crdx.specs.declared.running.causes.Cause.TheVariants.{Unread, Document, Crd, Pools as PoolsCause, Place, Violations, NoField, NotStored, NotASample, Write, NoMemory}
 use Rattle.crdx.specs.declared.running.answer.Answer.{Answer}
 use Rattle.crdx.specs.declared.arguments.request.CheckArguments.{CheckArguments}
+use Rattle.crdx.specs.declared.arguments.request.ExplainArguments.{ExplainArguments}
 use Rattle.crdx.specs.declared.arguments.request.ObjectArguments.{ObjectArguments}
 use Rattle.crdx.specs.declared.arguments.request.SampleArguments.{SampleArguments}
 use Rattle.crdx.specs.declared.arguments.request.Request.{Request}
-use Rattle.crdx.specs.declared.arguments.request.Request.TheVariants.{Check, Object, Sample}
+use Rattle.crdx.specs.declared.arguments.request.Request.TheVariants.{Check, Explain, Object, Sample}
 use Rattle.crdx.specs.declared.walk.walking.Walked.{Walked}
 use Rattle.crdx.specs.declared.walk.fault.WFault.{WFault}
 use Rattle.crdx.specs.declared.walk.fault.WFault.TheVariants as w
@@ -85,33 +87,41 @@ pub refused_schema : (raw : Data) (r : Refused) → IsRefusal raw r → IsBroken
 refused_schema raw (refusal.Violations vs) is = is
 refused_schema raw refusal.NoMemory is = tt
 
-module _ (has : Documents) (unread read : ℕ) (arguments : ObjectArguments) where
-  object_refused : (raw : Data) (cause : Cause) → IsRequestedSchema has arguments.crd.now arguments.version.now raw → IsBrokenCause raw cause → IsInputCause has unread read (Object arguments) cause
-  object_refused raw (Violations vs) asked why = let found = broken has unread read arguments.crd.now arguments.version.now raw vs.items asked why.0 why.1 in no_object arguments found.0 found.2
-  object_refused raw NoMemory asked why = tt
-  object_refused raw _ asked why = absurd why
+module _ (has : Documents) (unread read : ℕ) (crd version : List ℕ) (request : Request) (no : (breaks : List Break) → HasBreaks has crd version breaks → IsAnswer has request 1 []) where
+  input_of_broken : (raw : Data) (cause : Cause) → IsRequestedSchema has crd version raw → IsBrokenCause raw cause → IsInputCause has unread read request cause
+  input_of_broken raw (Violations vs) asked why = let found = broken has unread read crd version raw vs.items asked why.0 why.1 in no found.0 found.2
+  input_of_broken raw NoMemory asked why = tt
+  input_of_broken raw _ asked why = absurd why
 
-  pub object_schema : (cause : Cause) → IsSchemaCause has unread read arguments.crd.now arguments.version.now cause → IsInputCause has unread read (Object arguments) cause
-  object_schema cause (inl why) = input_of_reading has unread read arguments.crd.now arguments.version.now (Object arguments) cause (λ r. inl r) why
-  object_schema cause (inr why) = object_refused why.0 cause why.1 why.2
+  -- why a request that asks for a schema that breaks no rule has no answer
+  pub input_of_schema : (cause : Cause) → (IsCrdRefused has crd version → IsInputRefused has request) → IsSchemaCause has unread read crd version cause → IsInputCause has unread read request cause
+  input_of_schema cause refuse (inl why) = input_of_reading has unread read crd version request cause refuse why
+  input_of_schema cause refuse (inr why) = input_of_broken why.0 cause why.1 why.2
 
+-- why the fields of the schema that is asked for are not printed
+pub field_input : (has : Documents) (unread read : ℕ) (arguments : ExplainArguments) (N : Node) (cause : Cause) → IsRequestedRoot has arguments.crd.now arguments.version.now N
+    → IsFieldCause N arguments.path cause → IsInputCause has unread read (Explain arguments) cause
+field_input has unread read arguments N (NoField fault) asked why = fields arguments N 1 [] asked why
+field_input has unread read arguments N NoMemory asked why = tt
+field_input has unread read arguments N _ asked why = absurd why
+
+module _ (has later : Documents) (unread read : ℕ) (arguments : ObjectArguments) (N : Node) (among : AreAmong later has) (root : IsRequestedRoot has arguments.crd.now arguments.version.now N) where
   -- the object is read of documents that were at hand before, where the schema breaks no rule
-  pub object_input : (later : Documents) (cause : Cause) → AreAmong later has → HasAcceptedSchema has arguments.crd.now arguments.version.now
-      → IsUnreadCause later unread read input.Object (file_name arguments.object) cause → IsInputCause has unread read (Object arguments) cause
-  object_input later (Unread i) among unbroken why = why.1
-  object_input later (Document i fault) among unbroken why = inr (unbroken, (fault, why.1, among (file_name arguments.object) (Err fault) why.2))
-  object_input later NoMemory among unbroken why = tt
-  object_input later _ among unbroken why = absurd why
+  input_of_object : (cause : Cause) → IsUnreadCause later unread read input.Object (file_name arguments.object) cause → IsInputCause has unread read (Object arguments) cause
+  input_of_object (Unread i) why = why.1
+  input_of_object (Document i fault) why = inr ((root.0, root.1), (fault, why.1, among (file_name arguments.object) (Err fault) why.2))
+  input_of_object NoMemory why = tt
+  input_of_object _ why = absurd why
 
-module _ (has : Documents) (unread read : ℕ) (arguments : SampleArguments) where
-  sample_refused : (raw : Data) (cause : Cause) → IsRequestedSchema has arguments.crd.now arguments.version.now raw → IsBrokenCause raw cause → IsInputCause has unread read (Sample arguments) cause
-  sample_refused raw (Violations vs) asked why = let found = broken has unread read arguments.crd.now arguments.version.now raw vs.items asked why.0 why.1 in no_samples arguments found.0 found.2
-  sample_refused raw NoMemory asked why = tt
-  sample_refused raw _ asked why = absurd why
+  input_of_document : (document : Data) (cause : Cause) → later (file_name arguments.object) (Ok document) → IsObjectCause N document arguments.command cause → IsInputCause has unread read (Object arguments) cause
+  input_of_document document NotStored at why = object arguments N document 1 [] (record { root = root; at_hand = among (file_name arguments.object) (Ok document) at }) why
+  input_of_document document NoMemory at why = tt
+  input_of_document document _ at why = absurd why
 
-  pub sample_schema : (cause : Cause) → IsSchemaCause has unread read arguments.crd.now arguments.version.now cause → IsInputCause has unread read (Sample arguments) cause
-  sample_schema cause (inl why) = input_of_reading has unread read arguments.crd.now arguments.version.now (Sample arguments) cause (λ r. inl r) why
-  sample_schema cause (inr why) = sample_refused why.0 cause why.1 why.2
+  -- why nothing is printed of the object that is asked about
+  pub object_input : (cause : Cause) → IsDocumentCause later unread read N arguments cause → IsInputCause has unread read (Object arguments) cause
+  object_input cause (inl why) = input_of_object cause why
+  object_input cause (inr (document, at, why)) = input_of_document document cause at why
 
 pub cause_of_pools_fault : (has : Documents) (unread read : ℕ) (name : Bor (List ℕ)) (d : Data) (fault : PFault) → has (Some name.now) (Ok d) → IsPoolsFault d fault
     → IsPoolsCause has unread read (Some name) (cause_of_pools fault)
@@ -164,6 +174,10 @@ module _ (run : Effects) (request : Request) where
   pub result_of_nothing : (code : ℕ) → WritesNothing run → code ≡ 5 → IsRunResult run request code
   result_of_nothing code nothing e = rw e (no_memory (kept nothing.kept request) nothing.unfailed)
 
+  -- the answer is no, and nothing is out
+  answered_no : IsAnswer run.documents request 1 [] → WritesNothing run → IsRunResult run request 1
+  answered_no is nothing = answered 1 [] is (Appends-nothing run.output_before run.output nothing.kept) nothing.unfailed
+
   -- an input is refused or could not be read, and nothing is out
   pub result_of_input : (cause : Cause) (code : ℕ) → IsInputCause run.documents run.failed_reads_before run.failed_reads request cause → WritesNothing run
       → (code ≡ status cause) ⊎ (code ≡ 5) → IsRunResult run request code
@@ -173,7 +187,9 @@ module _ (run : Effects) (request : Request) where
   result_of_input (Crd fault) code why nothing (inl e) = rw e (refused why nothing)
   result_of_input (PoolsCause fault) code why nothing (inl e) = rw e (refused why nothing)
   result_of_input (Place i c p) code why nothing (inl e) = rw e (refused why nothing)
-  result_of_input (Violations vs) code why nothing (inl e) = rw e (answered 1 [] why (Appends-nothing run.output_before run.output nothing.kept) nothing.unfailed)
+  result_of_input (Violations vs) code why nothing (inl e) = rw e (answered_no why nothing)
+  result_of_input (NoField fault) code why nothing (inl e) = rw e (answered_no why nothing)
+  result_of_input NotStored code why nothing (inl e) = rw e (answered_no why nothing)
   result_of_input NotASample code why nothing (inl e) = absurd why
   result_of_input (Write n) code why nothing (inl e) = absurd why
   result_of_input NoMemory code why nothing (inl e) = result_of_nothing code nothing e
@@ -223,7 +239,7 @@ module _ (run : Effects) (arguments : SampleArguments) where
   result_of_no_sample : (q : Question) (after : Option Data) (e : Option Envelope) → IsRequested run.documents arguments q after e → IsSomeAnd after (λ a. IsSampleOf q a → ⊥) → WritesNothing run
       → IsRunResult run (Sample arguments) 1
   result_of_no_sample q None e asked none nothing = absurd none
-  result_of_no_sample q (Some a) e asked none nothing = answered 1 [] (no_sample arguments q a e asked none) (Appends-nothing run.output_before run.output nothing.kept) nothing.unfailed
+  result_of_no_sample q (Some a) e asked none nothing = answered_no run (Sample arguments) (no_sample arguments q a e asked none) nothing
 
   cut_by_memory : (q : Question) (after : Option Data) (e : Option Envelope) → IsRequested run.documents arguments q after e → IsWalkCauseOf q after e NoMemory → IsCutByMemory run (Sample arguments)
   cut_by_memory q after e asked (same, inl keeps) = inl keeps

@@ -9,6 +9,7 @@ mod answer;
 mod causes;
 mod checking;
 mod documents;
+mod explaining;
 mod objects;
 mod reporting;
 mod sampling;
@@ -18,6 +19,7 @@ use crate::inputs::Inputs;
 use crate::running::answer::Answer;
 use crate::running::causes::Cause;
 use crate::running::checking::check;
+use crate::running::explaining::explain;
 use crate::running::objects::judge_object;
 use crate::running::reporting::{finish, finish_samples, give, report};
 use crate::running::sampling::sample;
@@ -46,6 +48,7 @@ pub fn run<I: Inputs, W: Sink, E: Sink>(
 {
     match parse_arguments(alloc, arguments) {
         Request::Check(arguments) => finish(alloc, &check(alloc, &arguments, inputs), out, err),
+        Request::Explain(arguments) => finish(alloc, &explain(alloc, &arguments, inputs), out, err),
         Request::Object(arguments) => finish(
             alloc,
             &judge_object(alloc, &arguments, inputs),

@@ -11,18 +11,20 @@ use Rattle.crdx.specs.Output.Line.{lines}
 use Rattle.crdx.specs.Output.PartialOutput.{IsCutBetweenLines, IsCutByFailure}
 use Rattle.crdx.specs.Output.Sink.{HasFailed}
 use Rattle.crdx.specs.Program.Documents.{Documents}
+use Rattle.crdx.specs.Program.FieldAnswer.{IsFieldAnswer}
 use Rattle.crdx.specs.Program.ObjectAnswer.{IsObjectAnswer}
 use Rattle.crdx.specs.Program.Phrases.{phrase_of}
-use Rattle.crdx.specs.Program.Requested.{IsRequestedSchema, HasAcceptedSchema, IsCrdRefused, ArePools, IsAfterRefused, IsRequested, ArePoolsRefused, IsRequestedObject, IsObjectRefused}
+use Rattle.crdx.specs.Program.Requested.{IsRequestedSchema, HasAcceptedSchema, IsCrdRefused, ArePools, IsAfterRefused, IsRequested, ArePoolsRefused, IsRequestedRoot, IsRequestedObject, IsObjectRefused}
 use Rattle.plan.specs.Pools.Pools.{Pools}
 use Rattle.plan.specs.Samples.Question.{Question}
 use Rattle.enumerate.specs.Page.{IsPage, IsSampleOf}
 use Rattle.crdx.specs.declared.walk.line.Envelope.{Envelope}
 use Rattle.crdx.specs.declared.arguments.request.CheckArguments.{CheckArguments}
+use Rattle.crdx.specs.declared.arguments.request.ExplainArguments.{ExplainArguments}
 use Rattle.crdx.specs.declared.arguments.request.ObjectArguments.{ObjectArguments}
 use Rattle.crdx.specs.declared.arguments.request.SampleArguments.{SampleArguments}
 use Rattle.crdx.specs.declared.arguments.request.Request.{Request}
-use Rattle.crdx.specs.declared.arguments.request.Request.TheVariants.{Check, Object, Sample, Help, UsageError}
+use Rattle.crdx.specs.declared.arguments.request.Request.TheVariants.{Check, Explain, Object, Sample, Help, UsageError}
 
 -- the line of a violation: the rule, the pointer of the place as a JSON text, and what is wrong there
 abbrev pub told_line : Told → List ℕ
@@ -40,9 +42,12 @@ pub data IsAnswer (has : Documents) : Request → ℕ → List ℕ → Type 0 wh
   structural : (arguments : CheckArguments) → HasAcceptedSchema has arguments.crd.now arguments.version.now → IsAnswer has (Check arguments) 0 (codes "structural\n")
   violations : (arguments : CheckArguments) (breaks : List Break) → HasBreaks has arguments.crd.now arguments.version.now breaks
       → IsAnswer has (Check arguments) 1 (told_lines (map told_of breaks))
+  fields : (arguments : ExplainArguments) (N : Node) (status : ℕ) (answer : List ℕ) → IsRequestedRoot has arguments.crd.now arguments.version.now N
+      → IsFieldAnswer N arguments.path status answer → IsAnswer has (Explain arguments) status answer
+  -- the violations are on standard error
+  no_fields : (arguments : ExplainArguments) (breaks : List Break) → HasBreaks has arguments.crd.now arguments.version.now breaks → IsAnswer has (Explain arguments) 1 []
   object : (arguments : ObjectArguments) (N : Node) (document : Data) (status : ℕ) (answer : List ℕ) → IsRequestedObject has arguments N document
       → IsObjectAnswer N document arguments.command status answer → IsAnswer has (Object arguments) status answer
-  -- the violations are on standard error
   no_object : (arguments : ObjectArguments) (breaks : List Break) → HasBreaks has arguments.crd.now arguments.version.now breaks → IsAnswer has (Object arguments) 1 []
   samples : (arguments : SampleArguments) (q : Question) (after : Option Data) (e : Option Envelope) (items : List Data) (end : Bool) → IsRequested has arguments q after e
       → IfSome after (IsSampleOf q) → IsPage q after arguments.count items end → IsAnswer has (Sample arguments) 0 (lines e items)
@@ -57,6 +62,7 @@ pub data IsAnswer (has : Documents) : Request → ℕ → List ℕ → Type 0 wh
 -- pools are
 abbrev pub IsInputRefused : Documents → Request → Type 0
 IsInputRefused has (Check arguments) = IsCrdRefused has arguments.crd.now arguments.version.now
+IsInputRefused has (Explain arguments) = IsCrdRefused has arguments.crd.now arguments.version.now
 IsInputRefused has (Object arguments) = IsCrdRefused has arguments.crd.now arguments.version.now
     ⊎ (HasAcceptedSchema has arguments.crd.now arguments.version.now × IsObjectRefused has arguments)
 IsInputRefused has (Sample arguments) = IsCrdRefused has arguments.crd.now arguments.version.now

@@ -9,6 +9,7 @@ use crate::running::checking::violation_lines;
 use crate::sink::{Sink, put_all};
 use crate::walk::Walked;
 use std::alloc::{AllocError, Global};
+use stored::LFault;
 
 /// Writes an answer, or says on `err` why there is none, and answers the exit status.
 pub(crate) fn finish<W: Sink, E: Sink>(
@@ -103,6 +104,8 @@ fn line_of(alloc: Global, cause: &Cause) -> Result<String, AllocError> {
             format!(in alloc; "crdx: {input}: {code} {pointer}\n")
         }
         Cause::Violations(violations) => violation_lines(alloc, violations),
+        Cause::NoField(fault) => format!(in alloc; "crdx: explain: {fault}\n"),
+        Cause::NotStored => format!(in alloc; "crdx: object: {}\n", LFault::NotStored),
         Cause::NotASample => format!(in alloc; "crdx: after: not a sample\n"),
         Cause::Write(lines) => format!(in alloc; "crdx: write failed after {lines} lines\n"),
         Cause::NoMemory => format!(in alloc; "crdx: out of memory\n"),

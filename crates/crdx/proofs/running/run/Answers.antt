@@ -1,7 +1,7 @@
-use Rattle.std.proofs.Common.{◌≡◌, [], refl, inl, inr, string_bytes}
+use Rattle.std.proofs.Common.{◌≡◌, [], refl, inl, inr}
 use Rattle.std.proofs.KnownBytes.{Keeps-refl, Appends-nil}
 use Rattle.crdx.specs.Program.RunResult.{answered, help, usage_error}
-use Rattle.crdx.specs.declared.arguments.request.Request.TheVariants.{Check, Object, Sample, Help, UsageError, NoMemory}
+use Rattle.crdx.specs.declared.arguments.request.Request.TheVariants.{Check, Explain, Object, Sample, Help, UsageError, NoMemory}
 use Rattle.crdx.proofs.RunLemmas.{result_of_finished, result_of_given, result_of_sample, result_of_nothing}
 use Rattle.crdx.proofs.running.run.Goals as goal
 
@@ -12,6 +12,15 @@ returns-in-Check g c =
       c.in-Check.ensures,
       result_of_finished _ request c.check.result c.finish.result c.check.ensures.answer c.check.ensures.cause (λ status text is n out. (status, text, is, n, out))
           c.finish.ensures.given c.finish.ensures.said c.finish.ensures.kept c.finish.ensures.unfailed,
+    )
+
+pub returns-in-Explain : goal.returns-in-Explain
+returns-in-Explain g c =
+    let request = Explain c.in-Explain.arguments in (
+      request,
+      c.in-Explain.ensures,
+      result_of_finished _ request c.explain.result c.finish-in-Explain.result c.explain.ensures.answer c.explain.ensures.cause (λ status text is n out. (status, text, is, n, out))
+          c.finish-in-Explain.ensures.given c.finish-in-Explain.ensures.said c.finish-in-Explain.ensures.kept c.finish-in-Explain.ensures.unfailed,
     )
 
 pub returns-in-Object : goal.returns-in-Object
