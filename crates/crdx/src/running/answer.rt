@@ -1,8 +1,9 @@
 // A whole answer.
-ghost use Rattle.std.specs.Prelude.{◌≡◌, IfOk, string_bytes};
+ghost use Rattle.std.specs.Prelude.{◌≡◌, IfOk, map, string_bytes};
 ghost use Rattle.jtree.specs.Data as tree;
 ghost use Rattle.jtree.specs.Text.{compact};
 ghost use Rattle.jtree.specs.View.{data_of};
+ghost use Rattle.jtree.specs.declared.value.Tree.TheVariants.{Text as text_tree};
 ghost use Rattle.crdx.specs.Program.TextList.{text_list};
 
 use jtree::{Items, Text, Tree};
@@ -26,11 +27,18 @@ pub(crate) fn json_text(alloc: Global, text: &str) -> Result<String, AllocError>
 pub(crate) fn json_texts(alloc: Global, texts: &[Text]) -> Result<String, AllocError>
     ensures { IfOk result (λ s. string_bytes s ≡ text_list texts.now) }
 {
-    let mut items = Vec::new(alloc);
-    for text in texts {
-        items.push(Tree::Text(text.copy(alloc)?))?;
-    }
+    let items = text_trees(alloc, texts)?;
     json_tree(alloc, &Tree::List(Items { items }))
+}
+
+fn text_trees(alloc: Global, texts: &[Text]) -> Result<Vec<Tree>, AllocError>
+    ensures { IfOk result (λ v. v.items ≡ map (λ t. text_tree t) texts.now) }
+{
+    let mut trees = Vec::new(alloc);
+    for text in texts {
+        trees.push(Tree::Text(text.copy(alloc)?))?;
+    }
+    Ok(trees)
 }
 
 /// Trees as a JSON list (RFC 8259).
