@@ -19,7 +19,7 @@ use Rattle.std.proofs.lemmas.List.Elements.{All-from_recursion}
 use Rattle.clap.proofs.WalkLemmas.{first_value-rows}
 use Rattle.crdx.specs.Program.CommandLine.{crdx_app, entered, faults, value_of, decimal_value, command_names, IsCommand, IsHelp, IsRequestOf, IsUsageErrorOrMemory, Asks}
 use Rattle.crdx.specs.declared.arguments.request.Request.{Request}
-use Rattle.crdx.specs.declared.arguments.request.Request.TheVariants.{Check, Object, Sample, Help, UsageError, NoMemory}
+use Rattle.crdx.specs.declared.arguments.request.Request.TheVariants.{Check, Explain, Object, Sample, Help, UsageError, NoMemory}
 
 -- the command that was met has this name and these rows
 pub met_as : {Z : Type 0} (s : Option (Box SubCommand Z)) (name : Text) (rows : List Row) → option_map (λ b. (out-SubCommand (box_value b)).name.now) s ≡ Some name
@@ -29,7 +29,7 @@ met_as (Some b) name rows named listed = cc
 
 -- no command was met
 pub none_met : {Z : Type 0} (s : Option (Box SubCommand Z)) (o : Request) → option_map (λ b. (out-SubCommand (box_value b)).name.now) s ≡ None → IsUsageErrorOrMemory o → IsCommand (subcommand_rows s) o
-none_met None (UsageError text) none is = All-from_recursion (λ name. (rows : List Row) → ◌≢◌ {A = Option (Text × List Row)} None (Some (name, rows))) command_names (λ rows e. cc, (λ rows e. cc, (λ rows e. cc, (λ rows e. cc, (λ rows e. cc, tt)))))
+none_met None (UsageError text) none is = All-from_recursion (λ name. (rows : List Row) → ◌≢◌ {A = Option (Text × List Row)} None (Some (name, rows))) command_names (λ rows e. cc, (λ rows e. cc, (λ rows e. cc, (λ rows e. cc, (λ rows e. cc, (λ rows e. cc, (λ rows e. cc, tt)))))))
 none_met None NoMemory none is = tt
 none_met None _ none is = absurd is
 none_met (Some b) o none is = cc
@@ -63,6 +63,7 @@ faults_are arguments = refl
 -- what is asked where `clap` takes the arguments, and where it refuses them
 pub asks_command : (arguments : List Text) (named : Option (Text × List Row)) (o : Request) → named ≡ entered arguments → faults arguments ≡ [] → IsCommand named o → Asks arguments o
 asks_command arguments named (Check w) same none is = (none, subst (λ n. IsCommand n (Check w)) same is)
+asks_command arguments named (Explain w) same none is = (none, subst (λ n. IsCommand n (Explain w)) same is)
 asks_command arguments named (Object w) same none is = (none, subst (λ n. IsCommand n (Object w)) same is)
 asks_command arguments named (Sample w) same none is = (none, subst (λ n. IsCommand n (Sample w)) same is)
 asks_command arguments named (Help text) same none is = absurd is
@@ -75,6 +76,7 @@ no_help k memory (inr version) = cc
 
 pub asks_refused : (arguments : List Text) (e : Error) (o : Request) → HasKind (faults arguments) e → IsRequestOf (kind_of e) o → Asks arguments o
 asks_refused arguments e (Check w) has is = absurd is
+asks_refused arguments e (Explain w) has is = absurd is
 asks_refused arguments e (Object w) has is = absurd is
 asks_refused arguments e (Sample w) has is = absurd is
 asks_refused arguments e (Help text) (inl memory) is = absurd (no_help (kind_of e) memory is)

@@ -3,6 +3,7 @@ pub mod WrittenLemmas
 pub mod WalkLemmas
 pub mod InputLemmas
 pub mod ObjectLemmas
+pub mod LineLemmas
 pub mod RunLemmas
 pub mod CommandLineLemmas
 pub mod NameLemmas

@@ -1,10 +1,11 @@
 -- How the causes of a run and its status go together with what is asked of the documents at hand.
 use Rattle.std.proofs.Common.{◌≡◌, ◌≢◌, ◌⊎◌, ℕ, List, [], ◌∷◌, Option, Some, None, Bor, Ok, Err, refl, ap, subst, inl, inr, take, map, string_bytes, IsSomeAnd, Bool, codes, ◌∙◌, arith}
-use Rattle.std.specs.Prelude.{IfSome}
+use Rattle.std.specs.Prelude.{IfSome, IfOk, IfErr, OnOk, OnErr, Result}
 use Rattle.std.specs.Io.KnownBytes.{Appends, Keeps}
 use Rattle.jtree.specs.Data.{Data}
 use Rattle.jtree.specs.Internal.OrderLaws.{tree_total}
 use Rattle.jtree.specs.Internal.Rising.{contained}
+use Rattle.schema.specs.Nodes.Node.{Node}
 use Rattle.schema.specs.Rules.Breaks.{Break, Breaking, AreViolations, IsUnbroken, told, told_of}
 use Rattle.schema.specs.declared.refused.Refused.{Refused}
 use Rattle.schema.specs.declared.refused.Refused.TheVariants as refusal
@@ -13,14 +14,14 @@ use Rattle.schema.specs.Document.ReadFault.{IsReadFault}
 use Rattle.schema.specs.declared.fault.SFault.{SFault}
 use Rattle.schema.specs.declared.fault.SFault.TheVariants as s
 use Rattle.schema.specs.declared.violation.Violation.{Violation}
-use Rattle.crdx.specs.Program.RunResult.{IsRunResult, answered, refused, unread_input, unwritten, no_memory, IsInputRefused, IsAnswer, structural, violations, no_object, no_sample, no_samples, told_lines, HasBreaks, IsCutByMemory, IsCutByWrite}
+use Rattle.crdx.specs.Program.RunResult.{Effects, WritesNothing, IsRunResult, answered, refused, unread_input, unwritten, no_memory, IsInputRefused, IsAnswer, structural, violations, fields, object, samples, no_sample, told_lines, HasBreaks, IsCutByMemory, IsCutByWrite}
 use Rattle.crdx.specs.Output.Line.{lines}
 use Rattle.crdx.specs.Output.PartialOutput.{IsPartialOutput}
 use Rattle.crdx.specs.Output.Walk.{WritesPage}
-use Rattle.crdx.specs.Program.Requested.{IsRequested, IsRequestedSchema, HasAcceptedSchema, IsCrdRefused, ArePools}
+use Rattle.crdx.specs.Program.Requested.{IsRequested, IsRequestedSchema, IsRequestedRoot, HasAcceptedSchema, IsCrdRefused, ArePools}
 use Rattle.crdx.specs.Program.Documents.{Documents, file_name, AreAmong}
 use Rattle.crdx.specs.Internal.ExitStatus.{status, cause_of_reading, cause_of_refusal, cause_of_pools, cause_of_walk, IsGiven}
-use Rattle.crdx.specs.Internal.Cause.{IsUnreadCause, IsReadCause, IsBrokenCause, IsSchemaCause, IsPoolsCause, IsTextCause, IsAfterCause, IsInputCause, IsSampleCause, IsWalkCause}
+use Rattle.crdx.specs.Internal.Cause.{IsUnreadCause, IsReadCause, IsBrokenCause, IsSchemaCause, IsPoolsCause, IsTextCause, IsAfterCause, IsFieldCause, IsObjectCause, IsDocumentCause, IsInputCause, IsSampleCause, IsWalkCause}
 use Rattle.plan.specs.Pools.Pools.{Pools}
 use Rattle.plan.specs.Pools.PoolsFault.{IsPoolsFault}
 use Rattle.plan.specs.Samples.Question.{Question}
@@ -32,13 +33,15 @@ use Rattle.crdx.specs.declared.walk.line.Envelope.{Envelope}
 use Rattle.crdx.specs.declared.running.causes.Input.TheVariants as input
 use Rattle.crdx.specs.declared.running.causes.PlaceCode.TheVariants as code
 use Rattle.crdx.specs.declared.running.causes.Cause.{Cause}
-use Rattle.crdx.specs.declared.running.causes.Cause.TheVariants.{Unread, Document, Crd, Pools as PoolsCause, Place, Violations, NotASample, Write, NoMemory}
+use Rattle.crdx.specs.declared.running.causes.Cause.TheVariants.{Unread, Document, Crd, Pools as PoolsCause, Place, Violations, NoField, NotStored, NotASample, Write, NoMemory}
 use Rattle.crdx.specs.declared.running.answer.Answer.{Answer}
 use Rattle.crdx.specs.declared.arguments.request.CheckArguments.{CheckArguments}
+use Rattle.crdx.specs.declared.arguments.request.ExplainArguments.{ExplainArguments}
 use Rattle.crdx.specs.declared.arguments.request.ObjectArguments.{ObjectArguments}
 use Rattle.crdx.specs.declared.arguments.request.SampleArguments.{SampleArguments}
 use Rattle.crdx.specs.declared.arguments.request.Request.{Request}
-use Rattle.crdx.specs.declared.arguments.request.Request.TheVariants.{Check, Object, Sample}
+use Rattle.crdx.specs.declared.arguments.request.Request.TheVariants.{Check, Explain, Object, Sample}
+use Rattle.crdx.specs.declared.walk.walking.Walked.{Walked}
 use Rattle.crdx.specs.declared.walk.fault.WFault.{WFault}
 use Rattle.crdx.specs.declared.walk.fault.WFault.TheVariants as w
 use Rattle.crdx.specs.Output.Sink.{HasFailed, one_more}
@@ -84,33 +87,41 @@ pub refused_schema : (raw : Data) (r : Refused) → IsRefusal raw r → IsBroken
 refused_schema raw (refusal.Violations vs) is = is
 refused_schema raw refusal.NoMemory is = tt
 
-module _ (has : Documents) (unread read : ℕ) (arguments : ObjectArguments) where
-  object_refused : (raw : Data) (cause : Cause) → IsRequestedSchema has arguments.crd.now arguments.version.now raw → IsBrokenCause raw cause → IsInputCause has unread read (Object arguments) cause
-  object_refused raw (Violations vs) asked why = let found = broken has unread read arguments.crd.now arguments.version.now raw vs.items asked why.0 why.1 in no_object arguments found.0 found.2
-  object_refused raw NoMemory asked why = tt
-  object_refused raw _ asked why = absurd why
+module _ (has : Documents) (unread read : ℕ) (crd version : List ℕ) (request : Request) (no : (breaks : List Break) → HasBreaks has crd version breaks → IsAnswer has request 1 []) where
+  input_of_broken : (raw : Data) (cause : Cause) → IsRequestedSchema has crd version raw → IsBrokenCause raw cause → IsInputCause has unread read request cause
+  input_of_broken raw (Violations vs) asked why = let found = broken has unread read crd version raw vs.items asked why.0 why.1 in no found.0 found.2
+  input_of_broken raw NoMemory asked why = tt
+  input_of_broken raw _ asked why = absurd why
 
-  pub object_schema : (cause : Cause) → IsSchemaCause has unread read arguments.crd.now arguments.version.now cause → IsInputCause has unread read (Object arguments) cause
-  object_schema cause (inl why) = input_of_reading has unread read arguments.crd.now arguments.version.now (Object arguments) cause (λ r. inl r) why
-  object_schema cause (inr why) = object_refused why.0 cause why.1 why.2
+  -- why a request that asks for a schema that breaks no rule has no answer
+  pub input_of_schema : (cause : Cause) → (IsCrdRefused has crd version → IsInputRefused has request) → IsSchemaCause has unread read crd version cause → IsInputCause has unread read request cause
+  input_of_schema cause refuse (inl why) = input_of_reading has unread read crd version request cause refuse why
+  input_of_schema cause refuse (inr why) = input_of_broken why.0 cause why.1 why.2
 
+-- why the fields of the schema that is asked for are not printed
+pub field_input : (has : Documents) (unread read : ℕ) (arguments : ExplainArguments) (N : Node) (cause : Cause) → IsRequestedRoot has arguments.crd.now arguments.version.now N
+    → IsFieldCause N arguments.path cause → IsInputCause has unread read (Explain arguments) cause
+field_input has unread read arguments N (NoField fault) asked why = fields arguments N 1 [] asked why
+field_input has unread read arguments N NoMemory asked why = tt
+field_input has unread read arguments N _ asked why = absurd why
+
+module _ (has later : Documents) (unread read : ℕ) (arguments : ObjectArguments) (N : Node) (among : AreAmong later has) (root : IsRequestedRoot has arguments.crd.now arguments.version.now N) where
   -- the object is read of documents that were at hand before, where the schema breaks no rule
-  pub object_input : (later : Documents) (cause : Cause) → AreAmong later has → HasAcceptedSchema has arguments.crd.now arguments.version.now
-      → IsUnreadCause later unread read input.Object (file_name arguments.object) cause → IsInputCause has unread read (Object arguments) cause
-  object_input later (Unread i) among unbroken why = why.1
-  object_input later (Document i fault) among unbroken why = inr (unbroken, (fault, why.1, among (file_name arguments.object) (Err fault) why.2))
-  object_input later NoMemory among unbroken why = tt
-  object_input later _ among unbroken why = absurd why
+  input_of_object : (cause : Cause) → IsUnreadCause later unread read input.Object (file_name arguments.object) cause → IsInputCause has unread read (Object arguments) cause
+  input_of_object (Unread i) why = why.1
+  input_of_object (Document i fault) why = inr ((root.0, root.1), (fault, why.1, among (file_name arguments.object) (Err fault) why.2))
+  input_of_object NoMemory why = tt
+  input_of_object _ why = absurd why
 
-module _ (has : Documents) (unread read : ℕ) (arguments : SampleArguments) where
-  sample_refused : (raw : Data) (cause : Cause) → IsRequestedSchema has arguments.crd.now arguments.version.now raw → IsBrokenCause raw cause → IsInputCause has unread read (Sample arguments) cause
-  sample_refused raw (Violations vs) asked why = let found = broken has unread read arguments.crd.now arguments.version.now raw vs.items asked why.0 why.1 in no_samples arguments found.0 found.2
-  sample_refused raw NoMemory asked why = tt
-  sample_refused raw _ asked why = absurd why
+  input_of_document : (document : Data) (cause : Cause) → later (file_name arguments.object) (Ok document) → IsObjectCause N document arguments.command cause → IsInputCause has unread read (Object arguments) cause
+  input_of_document document NotStored at why = object arguments N document 1 [] (record { root = root; at_hand = among (file_name arguments.object) (Ok document) at }) why
+  input_of_document document NoMemory at why = tt
+  input_of_document document _ at why = absurd why
 
-  pub sample_schema : (cause : Cause) → IsSchemaCause has unread read arguments.crd.now arguments.version.now cause → IsInputCause has unread read (Sample arguments) cause
-  sample_schema cause (inl why) = input_of_reading has unread read arguments.crd.now arguments.version.now (Sample arguments) cause (λ r. inl r) why
-  sample_schema cause (inr why) = sample_refused why.0 cause why.1 why.2
+  -- why nothing is printed of the object that is asked about
+  pub object_input : (cause : Cause) → IsDocumentCause later unread read N arguments cause → IsInputCause has unread read (Object arguments) cause
+  object_input cause (inl why) = input_of_object cause why
+  object_input cause (inr (document, at, why)) = input_of_document document cause at why
 
 pub cause_of_pools_fault : (has : Documents) (unread read : ℕ) (name : Bor (List ℕ)) (d : Data) (fault : PFault) → has (Some name.now) (Ok d) → IsPoolsFault d fault
     → IsPoolsCause has unread read (Some name) (cause_of_pools fault)
@@ -154,35 +165,53 @@ after_input has unread read arguments after cause is accepted P are (inr memory)
 after_input has unread read arguments None cause is accepted P are (inl why) = absurd why
 after_input has unread read arguments (Some text) cause is accepted P are (inl why) = text_input has unread read arguments text cause is accepted P are why
 
-module _ (has : Documents) (unread read : ℕ) (request : Request) (old new : Option (List ℕ)) (before now : ℕ) where
-  kept : Keeps old new → (r : Request) → IsCutByMemory has r old new
+module _ (run : Effects) (request : Request) where
+  kept : Keeps run.output_before run.output → (r : Request) → IsCutByMemory run r
   kept keeps (Sample a) = inl keeps
   kept keeps _ = keeps
 
   -- memory was wanting, and nothing is out
-  pub result_of_nothing : (answer : ℕ) → Keeps old new → now ≡ before → answer ≡ 5 → IsRunResult has unread read request old new before now answer
-  result_of_nothing answer keeps same e = rw e (no_memory (kept keeps request) same)
+  pub result_of_nothing : (code : ℕ) → WritesNothing run → code ≡ 5 → IsRunResult run request code
+  result_of_nothing code nothing e = rw e (no_memory (kept nothing.kept request) nothing.unfailed)
+
+  -- the answer is no, and nothing is out
+  answered_no : IsAnswer run.documents request 1 [] → WritesNothing run → IsRunResult run request 1
+  answered_no is nothing = answered 1 [] is (Appends-nothing run.output_before run.output nothing.kept) nothing.unfailed
 
   -- an input is refused or could not be read, and nothing is out
-  pub result_of_input : (cause : Cause) (answer : ℕ) → IsInputCause has unread read request cause → Keeps old new → now ≡ before → (answer ≡ status cause) ⊎ (answer ≡ 5)
-      → IsRunResult has unread read request old new before now answer
-  result_of_input cause answer why keeps same (inr e) = result_of_nothing answer keeps same e
-  result_of_input (Unread i) answer why keeps same (inl e) = rw e (unread_input why keeps same)
-  result_of_input (Document i fault) answer why keeps same (inl e) = rw e (refused why keeps same)
-  result_of_input (Crd fault) answer why keeps same (inl e) = rw e (refused why keeps same)
-  result_of_input (PoolsCause fault) answer why keeps same (inl e) = rw e (refused why keeps same)
-  result_of_input (Place i c p) answer why keeps same (inl e) = rw e (refused why keeps same)
-  result_of_input (Violations vs) answer why keeps same (inl e) = rw e (answered 1 [] why (Appends-nothing old new keeps) same)
-  result_of_input NotASample answer why keeps same (inl e) = absurd why
-  result_of_input (Write n) answer why keeps same (inl e) = absurd why
-  result_of_input NoMemory answer why keeps same (inl e) = result_of_nothing answer keeps same e
+  pub result_of_input : (cause : Cause) (code : ℕ) → IsInputCause run.documents run.failed_reads_before run.failed_reads request cause → WritesNothing run
+      → (code ≡ status cause) ⊎ (code ≡ 5) → IsRunResult run request code
+  result_of_input cause code why nothing (inr e) = result_of_nothing code nothing e
+  result_of_input (Unread i) code why nothing (inl e) = rw e (unread_input why nothing)
+  result_of_input (Document i fault) code why nothing (inl e) = rw e (refused why nothing)
+  result_of_input (Crd fault) code why nothing (inl e) = rw e (refused why nothing)
+  result_of_input (PoolsCause fault) code why nothing (inl e) = rw e (refused why nothing)
+  result_of_input (Place i c p) code why nothing (inl e) = rw e (refused why nothing)
+  result_of_input (Violations vs) code why nothing (inl e) = rw e (answered_no why nothing)
+  result_of_input (NoField fault) code why nothing (inl e) = rw e (answered_no why nothing)
+  result_of_input NotStored code why nothing (inl e) = rw e (answered_no why nothing)
+  result_of_input NotASample code why nothing (inl e) = absurd why
+  result_of_input (Write n) code why nothing (inl e) = absurd why
+  result_of_input NoMemory code why nothing (inl e) = result_of_nothing code nothing e
 
-  -- an answer was given, or standard output failed behind a beginning of it
-  pub result_of_given : (answer : Answer) (code : ℕ) → IsAnswer has request answer.status (string_bytes answer.text)
-      → ((n : ℕ) → Appends old new (take n (string_bytes answer.text)) → IsCutByWrite has request old new) → IsGiven answer old new before now code
-      → IsRunResult has unread read request old new before now code
+  -- what is cut where standard output fails within an answer
+  abbrev IsCut : Type 0
+  IsCut = (code : ℕ) (text : List ℕ) → IsAnswer run.documents request code text → (n : ℕ) → Appends run.output_before run.output (take n text) → IsCutByWrite run request
+
+  -- an answer was given, or standard output failed after a beginning of it
+  pub result_of_given : (answer : Answer) (code : ℕ) → IsAnswer run.documents request answer.status (string_bytes answer.text) → IsCut
+      → IsGiven answer run.output_before run.output run.failed_writes_before run.failed_writes code → IsRunResult run request code
   result_of_given answer code is cut (inl given) = rw given.0 (answered answer.status (string_bytes answer.text) is given.1 given.2)
-  result_of_given answer code is cut (inr failed) = unwritten code failed.0 failed.1 (cut failed.2.0 failed.2.1)
+  result_of_given answer code is cut (inr failed) = unwritten code failed.0 failed.1 (cut answer.status (string_bytes answer.text) is failed.2.0 failed.2.1)
+
+  -- an answer was given, or it was said why there is none
+  pub result_of_finished : (r : Result Answer Cause) (code : ℕ) → IfOk r (λ a. IsAnswer run.documents request a.status (string_bytes a.text))
+      → IfErr r (IsInputCause run.documents run.failed_reads_before run.failed_reads request) → IsCut
+      → IfOk r (λ a. IsGiven a run.output_before run.output run.failed_writes_before run.failed_writes code)
+      → IfErr r (λ cause. (code ≡ status cause) ⊎ (code ≡ 5)) → OnErr r (Keeps run.output_before run.output) → OnErr r (run.failed_writes ≡ run.failed_writes_before)
+      → IsRunResult run request code
+  result_of_finished (Ok answer) code is why cut given said kept unfailed = result_of_given answer code is cut given
+  result_of_finished (Err cause) code is why cut given said kept unfailed = result_of_input cause code why (record { kept = kept; unfailed = unfailed }) said
 
 -- why a walk stopped, as the cause that its fault becomes
 pub walk_cause : (q : Question) (after : Option Data) (count : ℕ) (e : Option Envelope) (old new : Option (List ℕ)) (before now : ℕ) (fault : WFault)
@@ -202,31 +231,42 @@ flush_cause q after count e lines_out n end old new before now sample wrote fail
       inr (subst (λ us. Appends old new (lines e us)) (same_items tree_total q after count wrote.items items end end' wrote.page page) wrote.written),
 )
 
-module _ (has : Documents) (unread read : ℕ) (arguments : SampleArguments) (old new : Option (List ℕ)) (before now : ℕ) where
-  -- the tree to go on from is no sample
-  result_of_no_sample : (q : Question) (after : Option Data) (e : Option Envelope) → IsRequested has arguments q after e → IsSomeAnd after (λ a. IsSampleOf q a → ⊥) → Keeps old new → now ≡ before
-      → IsRunResult has unread read (Sample arguments) old new before now 1
-  result_of_no_sample q None e asked none keeps same = absurd none
-  result_of_no_sample q (Some a) e asked none keeps same = answered 1 [] (no_sample arguments q a e asked none) (Appends-nothing old new keeps) same
+module _ (run : Effects) (arguments : SampleArguments) where
+  abbrev IsWalkCauseOf : Question → Option Data → Option Envelope → Cause → Type 0
+  IsWalkCauseOf q after e = IsWalkCause q after arguments.count e run.output_before run.output run.failed_writes_before run.failed_writes
 
-  cut_by_memory : (q : Question) (after : Option Data) (e : Option Envelope) → IsRequested has arguments q after e
-      → IsWalkCause q after arguments.count e old new before now NoMemory → IsCutByMemory has (Sample arguments) old new
+  -- the tree to go on from is no sample
+  result_of_no_sample : (q : Question) (after : Option Data) (e : Option Envelope) → IsRequested run.documents arguments q after e → IsSomeAnd after (λ a. IsSampleOf q a → ⊥) → WritesNothing run
+      → IsRunResult run (Sample arguments) 1
+  result_of_no_sample q None e asked none nothing = absurd none
+  result_of_no_sample q (Some a) e asked none nothing = answered_no run (Sample arguments) (no_sample arguments q a e asked none) nothing
+
+  cut_by_memory : (q : Question) (after : Option Data) (e : Option Envelope) → IsRequested run.documents arguments q after e → IsWalkCauseOf q after e NoMemory → IsCutByMemory run (Sample arguments)
   cut_by_memory q after e asked (same, inl keeps) = inl keeps
   cut_by_memory q after e asked (same, inr (sample, n, cut)) = inr (q, after, e, asked, sample, n, cut)
 
-  result_of_walk : (q : Question) (after : Option Data) (e : Option Envelope) (cause : Cause) (answer : ℕ) → IsRequested has arguments q after e → IsWalkCause q after arguments.count e old new before now cause
-      → (answer ≡ status cause) ⊎ (answer ≡ 5) → IsRunResult has unread read (Sample arguments) old new before now answer
-  result_of_walk q after e (Write n) answer asked why is = unwritten answer is why.0 (q, after, e, asked, why.1, why.2)
-  result_of_walk q after e NoMemory answer asked why (inl five) = rw five (no_memory (cut_by_memory q after e asked why) why.0)
-  result_of_walk q after e NoMemory answer asked why (inr five) = rw five (no_memory (cut_by_memory q after e asked why) why.0)
-  result_of_walk q after e NotASample answer asked why (inl one) = rw one (result_of_no_sample q after e asked why.0 why.1 why.2)
-  result_of_walk q after e NotASample answer asked why (inr five) = result_of_nothing has unread read (Sample arguments) old new before now answer why.1 why.2 five
-  result_of_walk q after e _ answer asked why is = absurd why
+  result_of_walk : (q : Question) (after : Option Data) (e : Option Envelope) (cause : Cause) (code : ℕ) → IsRequested run.documents arguments q after e → IsWalkCauseOf q after e cause
+      → (code ≡ status cause) ⊎ (code ≡ 5) → IsRunResult run (Sample arguments) code
+  result_of_walk q after e (Write n) code asked why is = unwritten code is why.0 (q, after, e, asked, why.1, why.2)
+  result_of_walk q after e NoMemory code asked why (inl five) = rw five (no_memory (cut_by_memory q after e asked why) why.0)
+  result_of_walk q after e NoMemory code asked why (inr five) = rw five (no_memory (cut_by_memory q after e asked why) why.0)
+  result_of_walk q after e NotASample code asked why (inl one) = rw one (result_of_no_sample q after e asked why.0 (record { kept = why.1; unfailed = why.2 }))
+  result_of_walk q after e NotASample code asked why (inr five) = result_of_nothing run (Sample arguments) code (record { kept = why.1; unfailed = why.2 }) five
+  result_of_walk q after e _ code asked why is = absurd why
 
-  pub result_of_sample : (cause : Cause) (answer : ℕ) → IsSampleCause has unread read arguments old new before now cause → (answer ≡ status cause) ⊎ (answer ≡ 5)
-      → IsRunResult has unread read (Sample arguments) old new before now answer
-  result_of_sample cause answer (inl why) is = result_of_input has unread read (Sample arguments) old new before now cause answer why.0 why.1 why.2 is
-  result_of_sample cause answer (inr (q, after, e, asked, why)) is = result_of_walk q after e cause answer asked why is
+  result_of_cause : (cause : Cause) (code : ℕ) → IsSampleCause run arguments cause → (code ≡ status cause) ⊎ (code ≡ 5) → IsRunResult run (Sample arguments) code
+  result_of_cause cause code (inl why) is = result_of_input run (Sample arguments) cause code why.0 why.1 is
+  result_of_cause cause code (inr (q, after, e, asked, why)) is = result_of_walk q after e cause code asked why is
+
+  -- samples were listed, or it was said why not all of them
+  pub result_of_sample : (r : Result Walked Cause) (code : ℕ)
+      → IfOk r (λ walked. (q : Question) × (after : Option Data) × (e : Option Envelope) × IsRequested run.documents arguments q after e × IfSome after (IsSampleOf q)
+      × WritesPage q after arguments.count e walked.lines walked.end run.output_before run.output)
+      → OnOk r (run.failed_writes ≡ run.failed_writes_before) → IfErr r (IsSampleCause run arguments)
+      → OnOk r (code ≡ 0) → IfErr r (λ cause. (code ≡ status cause) ⊎ (code ≡ 5)) → IsRunResult run (Sample arguments) code
+  result_of_sample (Ok walked) code (q, after, e, asked, sample, wrote) unfailed why done said =
+      rw done (answered 0 (lines e wrote.items) (samples arguments q after e wrote.items walked.end asked sample wrote.page) wrote.written unfailed)
+  result_of_sample (Err cause) code listed unfailed why done said = result_of_cause cause code why said
 
 pub failed_once : (before now : ℕ) → now ≡ one_more before → HasFailed before now
 failed_once before now is = grind (arith, nat_tests)

@@ -4,6 +4,9 @@ pub mod Documents
 pub mod InputFault
 pub mod Phrases
 pub mod Envelope
+pub mod TextList
 pub mod ObjectAnswer
+pub mod FieldLines
+pub mod FieldAnswer
 pub mod Requested
 pub mod RunResult

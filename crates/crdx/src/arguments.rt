@@ -5,4 +5,6 @@ mod parsing;
 mod request;
 
 pub use parsing::{MOST_COUNT, MOST_LIMIT, parse_arguments};
-pub use request::{CheckArguments, ObjectArguments, ObjectCommand, Request, SampleArguments};
+pub use request::{
+    CheckArguments, ExplainArguments, ObjectArguments, ObjectCommand, Request, SampleArguments,
+};

@@ -1,30 +1,35 @@
 -- Why a run has no answer, said of the documents at hand; the counts are those of the reads that failed, before and now.
-use Rattle.std.specs.Prelude.{◌≡◌, ◌≢◌, ◌⊎◌, ℕ, List, [], Bool, Option, Some, IfSome, IsSomeAnd, Err}
+use Rattle.std.specs.Prelude.{◌≡◌, ◌≢◌, ◌⊎◌, ℕ, List, [], Bool, Option, Some, IfSome, IsSomeAnd, Ok, Err}
 use Rattle.std.specs.Borrow.{Bor}
 use Rattle.std.specs.Io.KnownBytes.{Keeps}
 use Rattle.jtree.specs.Data.{Data}
 use Rattle.jtree.specs.declared.fault.JFault.TheVariants as j
+use Rattle.schema.specs.Nodes.Node.{Node}
 use Rattle.schema.specs.Rules.Breaks.{AreViolations}
 use Rattle.schema.specs.declared.fault.SFault.TheVariants as s
 use Rattle.stored.specs.Schemas.Accepted.{IsBroken}
 use Rattle.crdx.specs.Output.PartialOutput.{IsCutBetweenLines, IsCutByFailure}
 use Rattle.crdx.specs.Output.Sink.{HasFailed}
-use Rattle.crdx.specs.Program.Documents.{Documents}
+use Rattle.crdx.specs.Program.Documents.{Documents, file_name}
+use Rattle.crdx.specs.Program.FieldAnswer.{IsFieldAnswer}
+use Rattle.crdx.specs.Program.ObjectAnswer.{IsObjectAnswer}
 use Rattle.crdx.specs.Program.Requested.{IsRequestedSchema, HasReadFault, HasPoolsFault, IsRequested}
-use Rattle.crdx.specs.Program.RunResult.{IsAnswer, IsInputRefused}
+use Rattle.crdx.specs.Program.RunResult.{IsAnswer, IsInputRefused, Effects, WritesNothing}
 use Rattle.plan.specs.Samples.Question.{Question}
 use Rattle.enumerate.specs.Page.{IsPage, IsSampleOf}
 use Rattle.crdx.specs.Program.InputFault.{IsNoDocument}
 use Rattle.crdx.specs.declared.walk.line.Envelope.{Envelope}
 use Rattle.crdx.specs.declared.arguments.request.Request.{Request}
 use Rattle.crdx.specs.declared.arguments.request.Request.TheVariants.{Sample}
+use Rattle.crdx.specs.declared.arguments.request.ObjectArguments.{ObjectArguments}
+use Rattle.crdx.specs.declared.arguments.request.ObjectCommand.{ObjectCommand}
 use Rattle.crdx.specs.declared.arguments.request.SampleArguments.{SampleArguments}
 use Rattle.plan.specs.declared.fault.PFault.TheVariants.{Form}
 use Rattle.crdx.specs.declared.running.causes.Input.{Input}
 use Rattle.crdx.specs.declared.running.causes.Input.TheVariants as input
 use Rattle.crdx.specs.declared.running.causes.PlaceCode.TheVariants as code
 use Rattle.crdx.specs.declared.running.causes.Cause.{Cause}
-use Rattle.crdx.specs.declared.running.causes.Cause.TheVariants.{Unread, Document, Crd, Pools, Place, Violations, NotASample, Write, NoMemory}
+use Rattle.crdx.specs.declared.running.causes.Cause.TheVariants.{Unread, Document, Crd, Pools, Place, Violations, NoField, NotStored, NotASample, Write, NoMemory}
 
 -- why an input gives no document
 abbrev pub IsUnreadCause : Documents → ℕ → ℕ → Input → Option (List ℕ) → Cause → Type 0
@@ -73,10 +78,29 @@ IsTextCause text _ = ⊥
 abbrev pub IsAfterCause : Option (Bor (List ℕ)) → Cause → Type 0
 IsAfterCause after cause = IsSomeAnd after (λ text. IsTextCause text.now cause)
 
+-- why the fields of an accepted schema are not printed
+abbrev pub IsFieldCause : Node → Option (Bor (List ℕ)) → Cause → Type 0
+IsFieldCause root path (NoField fault) = IsFieldAnswer root path 1 []
+IsFieldCause root path NoMemory = Unit {0}
+IsFieldCause root path _ = ⊥
+
+-- why nothing is printed of a document
+abbrev pub IsObjectCause : Node → Data → ObjectCommand → Cause → Type 0
+IsObjectCause N document command NotStored = IsObjectAnswer N document command 1 []
+IsObjectCause N document command NoMemory = Unit {0}
+IsObjectCause N document command _ = ⊥
+
+-- why nothing is printed of the document that is asked about
+abbrev pub IsDocumentCause : Documents → ℕ → ℕ → Node → ObjectArguments → Cause → Type 0
+IsDocumentCause has before now N arguments cause = IsUnreadCause has before now input.Object (file_name arguments.object) cause
+    ⊎ ((document : Data) × has (file_name arguments.object) (Ok document) × IsObjectCause N document arguments.command cause)
+
 -- why a request has no answer before anything is written, or why it is answered with 1 and nothing on standard output
 abbrev pub IsInputCause : Documents → ℕ → ℕ → Request → Cause → Type 0
 IsInputCause has before now request (Unread i) = HasFailed before now
 IsInputCause has before now request (Violations vs) = IsAnswer has request 1 []
+IsInputCause has before now request (NoField fault) = IsAnswer has request 1 []
+IsInputCause has before now request NotStored = IsAnswer has request 1 []
 IsInputCause has before now request NotASample = ⊥
 IsInputCause has before now request (Write n) = ⊥
 IsInputCause has before now request NoMemory = Unit {0}
@@ -92,7 +116,8 @@ IsWalkCause q after count e old new before now NoMemory = (now ≡ before) × (K
 IsWalkCause q after count e old new before now _ = ⊥
 
 -- why `sample` has no answer
-abbrev pub IsSampleCause : Documents → ℕ → ℕ → SampleArguments → Option (List ℕ) → Option (List ℕ) → ℕ → ℕ → Cause → Type 0
-IsSampleCause has unread read arguments old new before now cause =
-    (IsInputCause has unread read (Sample arguments) cause × Keeps old new × (now ≡ before))
-    ⊎ ((q : Question) × (after : Option Data) × (e : Option Envelope) × IsRequested has arguments q after e × IsWalkCause q after arguments.count e old new before now cause)
+abbrev pub IsSampleCause : Effects → SampleArguments → Cause → Type 0
+IsSampleCause run arguments cause =
+    (IsInputCause run.documents run.failed_reads_before run.failed_reads (Sample arguments) cause × WritesNothing run)
+    ⊎ ((q : Question) × (after : Option Data) × (e : Option Envelope) × IsRequested run.documents arguments q after e
+    × IsWalkCause q after arguments.count e run.output_before run.output run.failed_writes_before run.failed_writes cause)

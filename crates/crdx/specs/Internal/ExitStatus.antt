@@ -14,6 +14,8 @@ use Rattle.schema.specs.declared.fault.SFault.{SFault}
 use Rattle.schema.specs.declared.fault.SFault.TheVariants as s
 use Rattle.schema.specs.declared.refused.Refused.{Refused}
 use Rattle.schema.specs.declared.refused.Refused.TheVariants as refused
+use Rattle.stored.specs.declared.fault.LFault.{LFault}
+use Rattle.stored.specs.declared.fault.LFault.TheVariants as l
 use Rattle.plan.specs.declared.fault.PFault.{PFault}
 use Rattle.plan.specs.declared.fault.PFault.TheVariants as p
 use Rattle.crdx.specs.declared.walk.fault.WFault.{WFault}
@@ -42,6 +44,10 @@ abbrev pub cause_of_refusal : Refused → Cause
 cause_of_refusal (refused.Violations violations) = cause.Violations violations
 cause_of_refusal refused.NoMemory = cause.NoMemory
 
+abbrev pub cause_of_leaves : LFault → Cause
+cause_of_leaves l.NotStored = cause.NotStored
+cause_of_leaves l.NoMemory = cause.NoMemory
+
 abbrev pub cause_of_pools : PFault → Cause
 cause_of_pools (p.Form pointer) = cause.Place input.Pools code.Form pointer
 cause_of_pools p.TooLarge = cause.Pools p.TooLarge
@@ -60,8 +66,10 @@ status (cause.Document i fault) = 3
 status (cause.Crd fault) = 3
 status (cause.Pools fault) = 3
 status (cause.Place i c pointer) = 3
-status cause.NotASample = 1
 status (cause.Violations violations) = 1
+status (cause.NoField fault) = 1
+status cause.NotStored = 1
+status cause.NotASample = 1
 status (cause.Write n) = 4
 status cause.NoMemory = 5
 

@@ -9,12 +9,13 @@ use Rattle.clap.specs.declared.builder.value_parser.ValueParser.TheVariants.{Sig
 use Rattle.clap.specs.declared.error.kind.ErrorKind.{ErrorKind}
 use Rattle.clap.specs.declared.error.kind.ErrorKind.TheVariants.{DisplayHelp, DisplayVersion, OutOfMemory}
 use Rattle.crdx.specs.declared.arguments.request.CheckArguments.{CheckArguments}
+use Rattle.crdx.specs.declared.arguments.request.ExplainArguments.{ExplainArguments}
 use Rattle.crdx.specs.declared.arguments.request.ObjectArguments.{ObjectArguments}
 use Rattle.crdx.specs.declared.arguments.request.ObjectCommand.{ObjectCommand}
-use Rattle.crdx.specs.declared.arguments.request.ObjectCommand.TheVariants.{Validate, Prune, Default}
+use Rattle.crdx.specs.declared.arguments.request.ObjectCommand.TheVariants.{Validate, Prune, Default, Leaves}
 use Rattle.crdx.specs.declared.arguments.request.SampleArguments.{SampleArguments}
 use Rattle.crdx.specs.declared.arguments.request.Request.{Request}
-use Rattle.crdx.specs.declared.arguments.request.Request.TheVariants.{Check, Object, Sample, Help, UsageError, NoMemory}
+use Rattle.crdx.specs.declared.arguments.request.Request.TheVariants.{Check, Explain, Object, Sample, Help, UsageError, NoMemory}
 
 -- a word that has to be there
 abbrev pub required_rule : Text → Rule
@@ -32,6 +33,9 @@ number_rule id most usual = record (option_rule id) { parser = Some (Signed (pos
 abbrev pub crd_app : Text → App
 crd_app name = with_rule (with_rule (new_app name) (required_rule (codes "CRD"))) (required_rule (codes "VERSION"))
 
+abbrev pub explain_app : App
+explain_app = with_rule (crd_app (codes "explain")) (new_rule (codes "PATH"))
+
 abbrev pub object_app : Text → App
 object_app name = with_rule (crd_app name) (new_rule (codes "OBJECT"))
 
@@ -43,8 +47,9 @@ abbrev pub top_app : App
 top_app = on_top (λ s. record s { has_version = true; subcommand_required = true }) (new_app (codes "crdx"))
 
 abbrev pub crdx_app : App
-crdx_app = with_subcommand (with_subcommand (with_subcommand (with_subcommand (with_subcommand top_app
-    (crd_app (codes "check")).top) (object_app (codes "validate")).top) (object_app (codes "prune")).top) (object_app (codes "default")).top) sample_app.top
+crdx_app = with_subcommand (with_subcommand (with_subcommand (with_subcommand (with_subcommand (with_subcommand (with_subcommand top_app
+    (crd_app (codes "check")).top) explain_app.top) (object_app (codes "validate")).top) (object_app (codes "prune")).top) (object_app (codes "default")).top)
+    (object_app (codes "leaves")).top) sample_app.top
 
 -- what `clap` refuses of the arguments after the program's name, and the command that they name with what stands for each of its arguments
 unfoldable pub faults : List Text → Kinds
@@ -67,6 +72,10 @@ IsNumberOf id most rows n = (t : Text) → one_of id rows ≡ Some t → IsNumer
 abbrev pub AreCheckArguments : List Row → CheckArguments → Type 0
 AreCheckArguments rows arguments = (arguments.crd.now ≡ value_of (codes "CRD") rows) × (arguments.version.now ≡ value_of (codes "VERSION") rows)
 
+abbrev pub AreExplainArguments : List Row → ExplainArguments → Type 0
+AreExplainArguments rows arguments = (arguments.crd.now ≡ value_of (codes "CRD") rows) × (arguments.version.now ≡ value_of (codes "VERSION") rows)
+    × (option_map (λ s. s.now) arguments.path ≡ first_of (codes "PATH") rows)
+
 abbrev pub AreObjectArguments : ObjectCommand → List Row → ObjectArguments → Type 0
 AreObjectArguments command rows arguments = (arguments.command ≡ command) × (arguments.crd.now ≡ value_of (codes "CRD") rows) × (arguments.version.now ≡ value_of (codes "VERSION") rows)
     × (option_map (λ s. s.now) arguments.object ≡ first_of (codes "OBJECT") rows)
@@ -81,13 +90,15 @@ abbrev pub object_command_name : ObjectCommand → Text
 object_command_name Validate = codes "validate"
 object_command_name Prune = codes "prune"
 object_command_name Default = codes "default"
+object_command_name Leaves = codes "leaves"
 
 abbrev pub command_names : List Text
-command_names = codes "check" ∷ codes "validate" ∷ codes "prune" ∷ codes "default" ∷ codes "sample" ∷ []
+command_names = codes "check" ∷ codes "explain" ∷ codes "validate" ∷ codes "prune" ∷ codes "default" ∷ codes "leaves" ∷ codes "sample" ∷ []
 
 -- what a command that was named asks for
 abbrev pub IsCommand : Option (Text × List Row) → Request → Type 0
 IsCommand named (Check arguments) = (rows : List Row) × (named ≡ Some (codes "check", rows)) × AreCheckArguments rows arguments
+IsCommand named (Explain arguments) = (rows : List Row) × (named ≡ Some (codes "explain", rows)) × AreExplainArguments rows arguments
 IsCommand named (Object arguments) = (rows : List Row) × (named ≡ Some (object_command_name arguments.command, rows)) × AreObjectArguments arguments.command rows arguments
 IsCommand named (Sample arguments) = (rows : List Row) × (named ≡ Some (codes "sample", rows)) × AreSampleArguments rows arguments
 IsCommand named (Help text) = ⊥
@@ -112,6 +123,7 @@ IsUsageErrorOrMemory _ = ⊥
 -- what the arguments ask for; a want of memory says nothing of them
 abbrev pub Asks : List Text → Request → Type 0
 Asks arguments (Check w) = (faults arguments ≡ []) × IsCommand (entered arguments) (Check w)
+Asks arguments (Explain w) = (faults arguments ≡ []) × IsCommand (entered arguments) (Explain w)
 Asks arguments (Object w) = (faults arguments ≡ []) × IsCommand (entered arguments) (Object w)
 Asks arguments (Sample w) = (faults arguments ≡ []) × IsCommand (entered arguments) (Sample w)
 Asks arguments (Help text) = (k : ErrorKind) × IsAmong k (faults arguments) × IsHelp k

@@ -1,16 +1,18 @@
--- What `validate`, `prune` and `default` answer of a document at the node of its body (this project's own words).
+-- What `validate`, `prune`, `default` and `leaves` answer of a document at the node of its body (this project's own words).
 use Rattle.std.specs.Prelude.{◌≢◌, ◌/◌, ◌%◌, ℕ, List, [], ◌++◌, None, map, flat_map, codes, decimal}
-use Rattle.jtree.specs.Data.{Data, text}
+use Rattle.jtree.specs.Data.{Data, IsTree, text, list}
 use Rattle.jtree.specs.Text.{compact}
 use Rattle.schema.specs.Nodes.Node.{Node}
 use Rattle.stored.specs.Objects.Fault.{IsValid}
 use Rattle.stored.specs.Objects.AllFaults.{Failure, AreFailures, Told, told_of}
-use Rattle.stored.specs.Objects.Becomes.{IsPruned, IsCompleted}
+use Rattle.stored.specs.Objects.Becomes.{IsPruned, IsCompleted, IsStored}
+use Rattle.stored.specs.Objects.Leaves.{AreLeaves}
 use Rattle.crdx.specs.Output.Line.{line}
 use Rattle.crdx.specs.Program.Envelope.{body_of, envelope_in, IsJoined}
 use Rattle.crdx.specs.Program.Phrases.{fault_phrase_of}
+use Rattle.crdx.specs.Program.TextList.{text_items}
 use Rattle.crdx.specs.declared.arguments.request.ObjectCommand.{ObjectCommand}
-use Rattle.crdx.specs.declared.arguments.request.ObjectCommand.TheVariants.{Validate, Prune, Default}
+use Rattle.crdx.specs.declared.arguments.request.ObjectCommand.TheVariants.{Validate, Prune, Default, Leaves}
 
 -- the line of a fault: its number in two digits, the path of the place as a JSON text, and what is wrong there
 abbrev pub fault_line : Told → List ℕ
@@ -19,9 +21,19 @@ fault_line t = codes "F" ++ (decimal (t.number / 10) ++ (decimal (t.number % 10)
 abbrev pub fault_lines : List Told → List ℕ
 fault_lines ts = flat_map fault_line ts
 
+-- the line of a leaf: the JSON list of its elements
+abbrev pub leaf_line : List (List ℕ) → List ℕ
+leaf_line elements = line None (list (text_items elements))
+
+abbrev pub leaf_lines : List (List (List ℕ)) → List ℕ
+leaf_lines leaves = flat_map leaf_line leaves
+
 -- the exit status, and the whole text on standard output
 pub data IsObjectAnswer (N : Node) (document : Data) : ObjectCommand → ℕ → List ℕ → Type 0 where
   valid : IsValid N (body_of document) → IsObjectAnswer N document Validate 0 (codes "valid\n")
   faulty : (fs : List Failure) → AreFailures N (body_of document) fs → fs ≢ [] → IsObjectAnswer N document Validate 1 (fault_lines (map told_of fs))
-  pruned : (body whole : Data) → IsPruned N (body_of document) body → IsJoined body (envelope_in document) whole → IsObjectAnswer N document Prune 0 (line None whole)
-  completed : (body whole : Data) → IsCompleted N (body_of document) body → IsJoined body (envelope_in document) whole → IsObjectAnswer N document Default 0 (line None whole)
+  pruned : (body whole : Data) → IsPruned N (body_of document) body → IsTree body → IsJoined body (envelope_in document) whole → IsObjectAnswer N document Prune 0 (line None whole)
+  completed : (body whole : Data) → IsCompleted N (body_of document) body → IsTree body → IsJoined body (envelope_in document) whole → IsObjectAnswer N document Default 0 (line None whole)
+  owned : (leaves : List (List (List ℕ))) → IsStored N (body_of document) → AreLeaves N (body_of document) leaves → IsObjectAnswer N document Leaves 0 (leaf_lines leaves)
+  -- the fault is on standard error
+  not_stored : (IsStored N (body_of document) → ⊥) → IsObjectAnswer N document Leaves 1 []

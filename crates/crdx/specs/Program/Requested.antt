@@ -45,6 +45,10 @@ pub record IsAcceptedSchema (has : Documents) (crd version : List ℕ) (raw : Da
 abbrev pub HasAcceptedSchema : Documents → List ℕ → List ℕ → Type 0
 HasAcceptedSchema has crd version = (raw : Data) × IsAcceptedSchema has crd version raw
 
+-- its root
+abbrev pub IsRequestedRoot : Documents → List ℕ → List ℕ → Node → Type 0
+IsRequestedRoot has crd version N = (raw : Data) × IsAcceptedSchema has crd version raw × AreNodesOf true N raw
+
 -- a fault of the document of this name, read for this version
 abbrev pub HasReadFault : Documents → List ℕ → List ℕ → SFault → Type 0
 HasReadFault has crd version fault = (document : Data) × has (Some crd) (Ok document) × (fault ≢ s.NoMemory) × IsReadFault document version fault
@@ -95,9 +99,7 @@ pub record IsRequested (has : Documents) (arguments : SampleArguments) (q : Ques
 
 -- the document whose body is asked about, and the node of that
 pub record IsRequestedObject (has : Documents) (arguments : ObjectArguments) (N : Node) (document : Data) : Type 0 where
-  pub raw : Data
-  pub accepted : IsAcceptedSchema has arguments.crd.now arguments.version.now raw
-  pub nodes : AreNodesOf true N raw
+  pub root : IsRequestedRoot has arguments.crd.now arguments.version.now N
   pub at_hand : has (file_name arguments.object) (Ok document)
 
 -- there is no document of this name

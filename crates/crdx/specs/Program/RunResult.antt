@@ -11,18 +11,20 @@ use Rattle.crdx.specs.Output.Line.{lines}
 use Rattle.crdx.specs.Output.PartialOutput.{IsCutBetweenLines, IsCutByFailure}
 use Rattle.crdx.specs.Output.Sink.{HasFailed}
 use Rattle.crdx.specs.Program.Documents.{Documents}
+use Rattle.crdx.specs.Program.FieldAnswer.{IsFieldAnswer}
 use Rattle.crdx.specs.Program.ObjectAnswer.{IsObjectAnswer}
 use Rattle.crdx.specs.Program.Phrases.{phrase_of}
-use Rattle.crdx.specs.Program.Requested.{IsRequestedSchema, HasAcceptedSchema, IsCrdRefused, ArePools, IsAfterRefused, IsRequested, ArePoolsRefused, IsRequestedObject, IsObjectRefused}
+use Rattle.crdx.specs.Program.Requested.{IsRequestedSchema, HasAcceptedSchema, IsCrdRefused, ArePools, IsAfterRefused, IsRequested, ArePoolsRefused, IsRequestedRoot, IsRequestedObject, IsObjectRefused}
 use Rattle.plan.specs.Pools.Pools.{Pools}
 use Rattle.plan.specs.Samples.Question.{Question}
 use Rattle.enumerate.specs.Page.{IsPage, IsSampleOf}
 use Rattle.crdx.specs.declared.walk.line.Envelope.{Envelope}
 use Rattle.crdx.specs.declared.arguments.request.CheckArguments.{CheckArguments}
+use Rattle.crdx.specs.declared.arguments.request.ExplainArguments.{ExplainArguments}
 use Rattle.crdx.specs.declared.arguments.request.ObjectArguments.{ObjectArguments}
 use Rattle.crdx.specs.declared.arguments.request.SampleArguments.{SampleArguments}
 use Rattle.crdx.specs.declared.arguments.request.Request.{Request}
-use Rattle.crdx.specs.declared.arguments.request.Request.TheVariants.{Check, Object, Sample, Help, UsageError}
+use Rattle.crdx.specs.declared.arguments.request.Request.TheVariants.{Check, Explain, Object, Sample, Help, UsageError}
 
 -- the line of a violation: the rule, the pointer of the place as a JSON text, and what is wrong there
 abbrev pub told_line : Told → List ℕ
@@ -40,9 +42,12 @@ pub data IsAnswer (has : Documents) : Request → ℕ → List ℕ → Type 0 wh
   structural : (arguments : CheckArguments) → HasAcceptedSchema has arguments.crd.now arguments.version.now → IsAnswer has (Check arguments) 0 (codes "structural\n")
   violations : (arguments : CheckArguments) (breaks : List Break) → HasBreaks has arguments.crd.now arguments.version.now breaks
       → IsAnswer has (Check arguments) 1 (told_lines (map told_of breaks))
+  fields : (arguments : ExplainArguments) (N : Node) (status : ℕ) (answer : List ℕ) → IsRequestedRoot has arguments.crd.now arguments.version.now N
+      → IsFieldAnswer N arguments.path status answer → IsAnswer has (Explain arguments) status answer
+  -- the violations are on standard error
+  no_fields : (arguments : ExplainArguments) (breaks : List Break) → HasBreaks has arguments.crd.now arguments.version.now breaks → IsAnswer has (Explain arguments) 1 []
   object : (arguments : ObjectArguments) (N : Node) (document : Data) (status : ℕ) (answer : List ℕ) → IsRequestedObject has arguments N document
       → IsObjectAnswer N document arguments.command status answer → IsAnswer has (Object arguments) status answer
-  -- the violations are on standard error
   no_object : (arguments : ObjectArguments) (breaks : List Break) → HasBreaks has arguments.crd.now arguments.version.now breaks → IsAnswer has (Object arguments) 1 []
   samples : (arguments : SampleArguments) (q : Question) (after : Option Data) (e : Option Envelope) (items : List Data) (end : Bool) → IsRequested has arguments q after e
       → IfSome after (IsSampleOf q) → IsPage q after arguments.count items end → IsAnswer has (Sample arguments) 0 (lines e items)
@@ -57,6 +62,7 @@ pub data IsAnswer (has : Documents) : Request → ℕ → List ℕ → Type 0 wh
 -- pools are
 abbrev pub IsInputRefused : Documents → Request → Type 0
 IsInputRefused has (Check arguments) = IsCrdRefused has arguments.crd.now arguments.version.now
+IsInputRefused has (Explain arguments) = IsCrdRefused has arguments.crd.now arguments.version.now
 IsInputRefused has (Object arguments) = IsCrdRefused has arguments.crd.now arguments.version.now
     ⊎ (HasAcceptedSchema has arguments.crd.now arguments.version.now × IsObjectRefused has arguments)
 IsInputRefused has (Sample arguments) = IsCrdRefused has arguments.crd.now arguments.version.now
@@ -64,26 +70,42 @@ IsInputRefused has (Sample arguments) = IsCrdRefused has arguments.crd.now argum
     × (ArePoolsRefused has arguments.pools ⊎ (((P : Pools) × ArePools has arguments.pools P) × IsAfterRefused arguments.after)))
 IsInputRefused has _ = ⊥
 
+-- What a run finds outside of it and leaves there: the documents at hand before it, and, before it and after it, how often reads
+-- of inputs have failed, what standard output holds, and how often that has failed.
+pub record Effects : Type 1 where
+  pub documents : Documents
+  pub failed_reads_before : ℕ
+  pub failed_reads : ℕ
+  pub output_before : Option (List ℕ)
+  pub output : Option (List ℕ)
+  pub failed_writes_before : ℕ
+  pub failed_writes : ℕ
+
+-- nothing is written to standard output, and it does not fail
+pub record WritesNothing (run : Effects) : Type 0 where
+  pub kept : Keeps run.output_before run.output
+  pub unfailed : run.failed_writes ≡ run.failed_writes_before
+
 -- what is out where standard output failed: a beginning of the answer, as a walk past a sample, or past nothing, leaves it
-abbrev pub IsCutByWrite : Documents → Request → Option (List ℕ) → Option (List ℕ) → Type 0
-IsCutByWrite has (Sample arguments) old new =
-    (q : Question) × (after : Option Data) × (e : Option Envelope) × IsRequested has arguments q after e × IfSome after (IsSampleOf q)
-    × ((items : List Data) (end : Bool) → IsPage q after arguments.count items end → IsCutByFailure e items old new)
-IsCutByWrite has request old new = (status : ℕ) × (answer : List ℕ) × IsAnswer has request status answer × (n : ℕ) × Appends old new (take n answer)
+abbrev pub IsCutByWrite : Effects → Request → Type 0
+IsCutByWrite run (Sample arguments) =
+    (q : Question) × (after : Option Data) × (e : Option Envelope) × IsRequested run.documents arguments q after e × IfSome after (IsSampleOf q)
+    × ((items : List Data) (end : Bool) → IsPage q after arguments.count items end → IsCutByFailure e items run.output_before run.output)
+IsCutByWrite run request = (status : ℕ) × (answer : List ℕ) × IsAnswer run.documents request status answer × (n : ℕ) × Appends run.output_before run.output (take n answer)
 
 -- what is out where memory was wanting: nothing, or whole lines of samples, as a walk past a sample, or past nothing, leaves them
-abbrev pub IsCutByMemory : Documents → Request → Option (List ℕ) → Option (List ℕ) → Type 0
-IsCutByMemory has (Sample arguments) old new = Keeps old new
-    ⊎ ((q : Question) × (after : Option Data) × (e : Option Envelope) × IsRequested has arguments q after e × IfSome after (IsSampleOf q)
-    × (n : ℕ) × ((items : List Data) (end : Bool) → IsPage q after arguments.count items end → IsCutBetweenLines e items n old new))
-IsCutByMemory has request old new = Keeps old new
+abbrev pub IsCutByMemory : Effects → Request → Type 0
+IsCutByMemory run (Sample arguments) = Keeps run.output_before run.output
+    ⊎ ((q : Question) × (after : Option Data) × (e : Option Envelope) × IsRequested run.documents arguments q after e × IfSome after (IsSampleOf q)
+    × (n : ℕ) × ((items : List Data) (end : Bool) → IsPage q after arguments.count items end → IsCutBetweenLines e items n run.output_before run.output))
+IsCutByMemory run request = Keeps run.output_before run.output
 
--- The exit status of a run, with what standard output held and holds, and how often reads of inputs and standard output
--- had failed before it and have failed now: 3 an input is refused, 4 a read or a write failed, 5 memory was wanting, if
--- only for the line that says of a failed write.
-pub data IsRunResult (has : Documents) (unread read : ℕ) (request : Request) (old new : Option (List ℕ)) (before now : ℕ) : ℕ → Type 0 where
-  answered : (status : ℕ) (answer : List ℕ) → IsAnswer has request status answer → Appends old new answer → now ≡ before → IsRunResult has unread read request old new before now status
-  refused : IsInputRefused has request → Keeps old new → now ≡ before → IsRunResult has unread read request old new before now 3
-  unread_input : HasFailed unread read → Keeps old new → now ≡ before → IsRunResult has unread read request old new before now 4
-  unwritten : (status : ℕ) → (status ≡ 4) ⊎ (status ≡ 5) → HasFailed before now → IsCutByWrite has request old new → IsRunResult has unread read request old new before now status
-  no_memory : IsCutByMemory has request old new → now ≡ before → IsRunResult has unread read request old new before now 5
+-- The exit status of a run with these effects: 3 an input is refused, 4 a read or a write failed, 5 memory was wanting, if only
+-- for the line that says of a failed write.
+pub data IsRunResult (run : Effects) (request : Request) : ℕ → Type 0 where
+  answered : (status : ℕ) (answer : List ℕ) → IsAnswer run.documents request status answer → Appends run.output_before run.output answer → run.failed_writes ≡ run.failed_writes_before
+      → IsRunResult run request status
+  refused : IsInputRefused run.documents request → WritesNothing run → IsRunResult run request 3
+  unread_input : HasFailed run.failed_reads_before run.failed_reads → WritesNothing run → IsRunResult run request 4
+  unwritten : (status : ℕ) → (status ≡ 4) ⊎ (status ≡ 5) → HasFailed run.failed_writes_before run.failed_writes → IsCutByWrite run request → IsRunResult run request status
+  no_memory : IsCutByMemory run request → run.failed_writes ≡ run.failed_writes_before → IsRunResult run request 5

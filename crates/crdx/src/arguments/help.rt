@@ -12,9 +12,10 @@ pub(super) const PROGRAM_LONG: &str =
 crdx reads a JSON file with a CustomResourceDefinition of
 apiextensions.k8s.io/v1, and looks at the schema of one of its versions.
 `crdx check` says which rules that schema breaks and where, or that it is
-structural. `crdx validate` says what is wrong with an object. `crdx prune` and
-`crdx default` print what the API server makes of it. `crdx sample` lists small
-objects, each once and in order.";
+structural. `crdx explain` lists its fields. `crdx validate` says what is wrong
+with an object. `crdx prune` and `crdx default` print what the API server makes
+of it. `crdx leaves` lists the parts of it that can have owners. `crdx sample`
+lists small objects, each once and in order.";
 
 /// What stands at the end of `crdx --help`.
 pub(super) const PROGRAM_END: &str = r#"Examples, at the top of the repository:
@@ -28,8 +29,10 @@ Exit status:
   0  The whole answer is on standard output.
   1  The schema breaks rules: they are on standard output under `check`, and
      on standard error under the other commands. Or the object has faults:
-     they are on standard output under `validate`. Or what `sample` is to go
-     on from is no sample.
+     they are on standard output under `validate`. Or `explain` finds no field
+     at PATH, or the object of `leaves` is not stored: standard error has a line
+     with the code, such as `crdx: explain: X2`. Or what `sample` is to go on
+     from is no sample.
   2  The command line is refused. Standard error says why.
   3  An input is refused. Standard error has a line with its code, such as
      `crdx: crd: S2`, `crdx: object: J3`, `crdx: after: J3` or
@@ -96,6 +99,12 @@ Codes of an input that is refused:
   P2   The pools have more than 64 integers, 64 strings, 32 names or 64 values
        of any kind.
 
+Codes of a path that leads to no field, and of an object without leaves:
+  X1   The text is not written as a path.
+  X2   The schema declares no such field.
+  L1   The object is not stored: it is not valid, or pruning or defaulting
+       changes it.
+
 A rule, a fault, S3, S4 and P1 come with a JSON pointer to the place. Of a
 schema it begins at openAPIV3Schema, of an object at the object, and "" is the
 whole."#;
@@ -120,6 +129,37 @@ pub(super) const CHECK_END: &str = "Examples, at the top of the repository:
 
 `crdx --help` explains the rules, the codes of inputs that are refused, and the
 exit status.";
+
+pub(super) const EXPLAIN: &str = "Lists the fields of a schema, or says all about one of them";
+
+pub(super) const EXPLAIN_LONG: &str =
+    r#"Lists the fields of a schema, one on each line, or says all about one of them.
+
+A line has the path of the field as a JSON text and its type. Then come, where
+they apply, `required`, `nullable`, `list-type=set` or `list-type=map`, the keys
+of a map list, `map-type=atomic`, and the default as JSON, such as
+
+    "/spec/ports" <[]Object> list-type=map keys=["name"]
+    "/spec/ports/[]/name" <string> required
+
+A type is string, integer, boolean or Object, int-or-string for what may be
+either, any for what the schema leaves open, [] and the type of the items for a
+list, or map[string] and the type of the values for a map.
+
+A field comes before the fields below it, and fields beside one another are in
+the order of the bytes of their names. With PATH there are the line of that
+field, its description, and the values of its enum, where it has them.
+
+Paths are written with a / before each step: the name of a field, [] for the
+items of a list, or {} for the values of a map. In a name ~ is written ~0, / is
+written ~1, [ is written ~2, and { is written ~3."#;
+
+pub(super) const EXPLAIN_END: &str = "Examples, at the top of the repository:
+  ./crdx explain examples/issuer/crd.json v1
+  ./crdx explain examples/issuer/crd.json v1 '/spec/acme/solvers/[]/http01'
+
+`crdx --help` explains the codes of paths that lead to no field, the codes of
+inputs that are refused, and the exit status.";
 
 pub(super) const VALIDATE: &str = "Says what is wrong with an object, or that it is valid";
 
@@ -172,6 +212,33 @@ pub(super) const DEFAULT_END: &str = "Example, at the top of the repository:
 `crdx --help` explains the codes of inputs that are refused, and the exit
 status.";
 
+pub(super) const LEAVES: &str = "Lists the parts of a stored object that can have owners";
+
+pub(super) const LEAVES_LONG: &str =
+    r#"Lists the parts of a stored object that can have owners under Server-Side Apply.
+
+Each is a leaf of the object, and has a line: the JSON list of the elements of
+its path, which are written as in managedFields, such as
+
+    ["f:spec","f:ports","k:{\"name\":\"web\"}","f:port"]
+    ["f:spec","f:tags","v:\"blue\""]
+
+An object or a map has the leaves of its members, a set has a leaf for each
+item, and a map list has the leaves of its items, each known by its keys.
+Everything else is one leaf as a whole: scalars, nulls, what is empty, lists,
+objects and maps that are atomic, what the schema leaves open, and members that
+it does not declare.
+
+The object has to be stored: valid, and as pruning and defaulting leave it, such
+as `crdx default` prints a valid object. Its apiVersion, kind and metadata are
+left out."#;
+
+pub(super) const LEAVES_END: &str = "Example, at the top of the repository:
+  ./crdx leaves examples/issuer/crd.json v1 examples/issuer/object.default.json
+
+`crdx --help` explains L1, the codes of inputs that are refused, and the exit
+status.";
+
 pub(super) const SAMPLE: &str = "Lists sample objects of a schema, one on each line";
 
 pub(super) const SAMPLE_LONG: &str = "Lists sample objects of a schema, one on each line, as JSON.
@@ -197,6 +264,15 @@ exit status."#;
 pub(super) const CRD: &str = "A JSON file with a CustomResourceDefinition";
 
 pub(super) const CRD_VERSION: &str = "The name of one of its versions, such as v1";
+
+pub(super) const PATH: &str = "The path of a field, such as /spec/ports/[]/name";
+
+pub(super) const PATH_LONG: &str =
+    r#"The path of a field, such as /spec/ports/[]/name: a / before each
+step, which is the name of a field, [] for the items of a list, or
+{} for the values of a map. In a name ~ is written ~0, / is written
+~1, [ is written ~2, and { is written ~3. Without it all fields are
+listed."#;
 
 pub(super) const OBJECT: &str = "A JSON file with the object; without it standard input is read";
 

@@ -6,11 +6,11 @@ ghost use Rattle.clap.specs.Values.{kind_of};
 ghost use Rattle.clap.specs.Walk.{Rule, rule_of, rows_of};
 ghost use Rattle.clap.specs.Simple.{App, app_of, new_rule, subcommand_rows_of, with_rule, with_subcommand};
 ghost use Rattle.clap.specs.declared.builder.command.Command.TheViews.{out-Command};
-ghost use Rattle.crdx.specs.Program.CommandLine.{required_rule, option_rule, number_rule, top_app, crd_app, object_app, sample_app, crdx_app, faults, entered, IsCommand, AreCheckArguments, AreObjectArguments, AreSampleArguments, Asks, IsRequestOf, IsUsageErrorOrMemory, IsNumberOf};
+ghost use Rattle.crdx.specs.Program.CommandLine.{required_rule, option_rule, number_rule, top_app, crd_app, explain_app, object_app, sample_app, crdx_app, faults, entered, IsCommand, AreCheckArguments, AreExplainArguments, AreObjectArguments, AreSampleArguments, Asks, IsRequestOf, IsUsageErrorOrMemory, IsNumberOf};
 
 use crate::arguments::help;
 use crate::arguments::request::{
-    CheckArguments, ObjectArguments, ObjectCommand, Request, SampleArguments,
+    CheckArguments, ExplainArguments, ObjectArguments, ObjectCommand, Request, SampleArguments,
 };
 use clap::error::ErrorKind;
 use clap::{Arg, ArgMatches, Command, Error};
@@ -50,9 +50,11 @@ fn request_of_named<'a>(alloc: Global, name: &str, found: &ArgMatches<'a>) -> Re
 {
     match name {
         "check" => Request::Check(check_arguments(found)),
+        "explain" => Request::Explain(explain_arguments(found)),
         "validate" => Request::Object(object_arguments(ObjectCommand::Validate, found)),
         "prune" => Request::Object(object_arguments(ObjectCommand::Prune, found)),
         "default" => Request::Object(object_arguments(ObjectCommand::Default, found)),
+        "leaves" => Request::Object(object_arguments(ObjectCommand::Leaves, found)),
         "sample" => Request::Sample(sample_arguments(found)),
         _ => usage_error(alloc, "error: no such command\n"),
     }
@@ -78,6 +80,7 @@ fn crdx_command<'a>(alloc: Global) -> Result<Command<'a>, AllocError>
         help::CHECK_END,
     );
     let command = add_command(command, check);
+    let command = add_command(command, explain_command(alloc));
     let validate = object_command(
         alloc,
         "validate",
@@ -102,6 +105,14 @@ fn crdx_command<'a>(alloc: Global) -> Result<Command<'a>, AllocError>
         help::DEFAULT_END,
     );
     let command = add_command(command, default);
+    let leaves = object_command(
+        alloc,
+        "leaves",
+        help::LEAVES,
+        help::LEAVES_LONG,
+        help::LEAVES_END,
+    );
+    let command = add_command(command, leaves);
     add_command(command, sample_command(alloc))
 }
 
@@ -196,7 +207,31 @@ fn version_argument<'a>(alloc: Global) -> Arg<'a>
         .help(help::CRD_VERSION)
 }
 
-/// The command of this name, with the arguments that `validate`, `prune` and `default` take.
+/// The arguments that `explain` takes.
+fn explain_command<'a>(alloc: Global) -> Result<Command<'a>, AllocError>
+    ensures app { IfOk result (λ c. app_of c ≡ explain_app) }
+    ensures local { IfOk result (λ c. (out-Command c).has_globals ≡ false) }
+{
+    let command = crd_command(
+        alloc,
+        "explain",
+        help::EXPLAIN,
+        help::EXPLAIN_LONG,
+        help::EXPLAIN_END,
+    );
+    add_argument(command, path_argument(alloc))
+}
+
+fn path_argument<'a>(alloc: Global) -> Arg<'a>
+    ensures rule { rule_of result ≡ new_rule (codes "PATH") }
+    ensures local { result.global ≡ false }
+{
+    Arg::new(alloc, "PATH")
+        .help(help::PATH)
+        .long_help(help::PATH_LONG)
+}
+
+/// The command of this name, with the arguments that `validate`, `prune`, `default` and `leaves` take.
 fn object_command<'a>(
     alloc: Global,
     name: &'a str,
@@ -301,6 +336,16 @@ fn check_arguments<'a>(matches: &ArgMatches<'a>) -> CheckArguments<'a>
     CheckArguments {
         crd: matches.get_str("CRD").unwrap_or(""),
         version: matches.get_str("VERSION").unwrap_or(""),
+    }
+}
+
+fn explain_arguments<'a>(matches: &ArgMatches<'a>) -> ExplainArguments<'a>
+    ensures { AreExplainArguments (rows_of (found_of matches.now)) result }
+{
+    ExplainArguments {
+        crd: matches.get_str("CRD").unwrap_or(""),
+        version: matches.get_str("VERSION").unwrap_or(""),
+        path: matches.get_str("PATH"),
     }
 }
 

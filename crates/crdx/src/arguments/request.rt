@@ -33,6 +33,17 @@ pub struct CheckArguments<'a> {
     pub version: &'a str,
 }
 
+/// The arguments of `explain`.
+#[derive(Drop)]
+pub struct ExplainArguments<'a> {
+    /// The file of the CustomResourceDefinition.
+    pub crd: &'a str,
+    /// The version whose schema is asked for.
+    pub version: &'a str,
+    /// The path of the field that is asked for; without one all fields are.
+    pub path: Option<&'a str>,
+}
+
 /// What is asked about an object.
 #[derive(Clone, Copy, Drop)]
 pub enum ObjectCommand {
@@ -42,9 +53,11 @@ pub enum ObjectCommand {
     Prune,
     /// The object pruned, and with its defaults.
     Default,
+    /// The leaves of the object, where it is stored.
+    Leaves,
 }
 
-/// The arguments of `validate`, `prune` and `default`.
+/// The arguments of `validate`, `prune`, `default` and `leaves`.
 #[derive(Drop)]
 pub struct ObjectArguments<'a> {
     pub command: ObjectCommand,
@@ -61,6 +74,8 @@ pub struct ObjectArguments<'a> {
 pub enum Request<'a> {
     /// To judge a schema.
     Check(CheckArguments<'a>),
+    /// To list the fields of a schema, or to say all of one.
+    Explain(ExplainArguments<'a>),
     /// To say what becomes of an object.
     Object(ObjectArguments<'a>),
     /// To list samples.

@@ -3,11 +3,13 @@ ghost use Rattle.std.specs.Prelude.{◌≡◌};
 ghost use Rattle.crdx.specs.Internal.ExitStatus.{status};
 
 use crate::walk::WFault;
+use explain::XFault;
 use jtree::JFault;
 use plan::PFault;
 use schema::{Refused, SFault, Violation};
 use std::alloc::AllocError;
 use std::fmt;
+use stored::LFault;
 
 /// An input of the program.
 #[derive(Clone, Copy, Drop)]
@@ -72,6 +74,10 @@ pub(crate) enum Cause {
     Place(Input, PlaceCode, String),
     /// The schema breaks rules.
     Violations(Vec<Violation>),
+    /// The path leads to no field.
+    NoField(XFault),
+    /// The object has no leaves, since it is not stored.
+    NotStored,
     /// The object to go on from is no sample.
     NotASample,
     /// Standard output took so many whole lines, and then failed.
@@ -86,7 +92,7 @@ impl Cause {
         ensures { result ≡ status self.now }
     {
         match self {
-            Cause::NotASample | Cause::Violations(_) => 1,
+            Cause::Violations(_) | Cause::NoField(_) | Cause::NotStored | Cause::NotASample => 1,
             Cause::Document(_, _) | Cause::Crd(_) | Cause::Pools(_) | Cause::Place(_, _, _) => 3,
             Cause::Unread(_) | Cause::Write(_) => 4,
             Cause::NoMemory => 5,
@@ -133,6 +139,31 @@ impl From<Refused> for Cause {
         match refused {
             Refused::Violations(violations) => Cause::Violations(violations),
             Refused::NoMemory => Cause::NoMemory,
+        }
+    }
+}
+
+impl From<XFault> for Cause {
+    ghost use Rattle.std.specs.Prelude.{◌≡◌};
+    ghost use Rattle.crdx.specs.declared.running.causes.Cause.TheVariants.{NoField};
+
+    ghost from_gives = { λ fault cause. cause ≡ NoField fault };
+
+    fn from(fault: XFault) -> Cause {
+        Cause::NoField(fault)
+    }
+}
+
+impl From<LFault> for Cause {
+    ghost use Rattle.std.specs.Prelude.{◌≡◌};
+    ghost use Rattle.crdx.specs.Internal.ExitStatus.{cause_of_leaves};
+
+    ghost from_gives = { λ fault cause. cause ≡ cause_of_leaves fault };
+
+    fn from(fault: LFault) -> Cause {
+        match fault {
+            LFault::NotStored => Cause::NotStored,
+            LFault::NoMemory => Cause::NoMemory,
         }
     }
 }

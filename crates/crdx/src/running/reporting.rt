@@ -1,5 +1,6 @@
 // What is said on the standard streams, and the exit status.
-ghost use Rattle.std.specs.Prelude.{◌≡◌, ◌⊎◌};
+ghost use Rattle.std.specs.Prelude.{◌≡◌, ◌⊎◌, IfOk, IfErr, OnOk, OnErr};
+ghost use Rattle.std.specs.Io.KnownBytes.{Keeps};
 ghost use Rattle.crdx.specs.Internal.ExitStatus.{status, IsGiven};
 
 use crate::running::answer::{Answer, json_text};
@@ -8,6 +9,25 @@ use crate::running::checking::violation_lines;
 use crate::sink::{Sink, put_all};
 use crate::walk::Walked;
 use std::alloc::{AllocError, Global};
+use stored::LFault;
+
+/// Writes an answer, or says on `err` why there is none, and answers the exit status.
+pub(crate) fn finish<W: Sink, E: Sink>(
+    alloc: Global,
+    answer: &Result<Answer, Cause>,
+    out: &mut W,
+    err: &mut E,
+) -> u8
+    ensures given { IfOk answer.now (λ a. IsGiven a (W.taken out.old) (W.taken out.new) (W.failures out.old) (W.failures out.new) result) }
+    ensures said { IfErr answer.now (λ cause. (result ≡ status cause) ⊎ (result ≡ 5)) }
+    ensures kept { OnErr answer.now (Keeps (W.taken out.old) (W.taken out.new)) }
+    ensures unfailed { OnErr answer.now (W.failures out.new ≡ W.failures out.old) }
+{
+    match answer {
+        Ok(answer) => give(alloc, answer, out, err),
+        Err(cause) => report(alloc, cause, err),
+    }
+}
 
 /// Writes an answer and answers its status; where standard output fails, the status of that.
 pub(crate) fn give<W: Sink, E: Sink>(alloc: Global, answer: &Answer, out: &mut W, err: &mut E) -> u8
@@ -44,8 +64,26 @@ pub(crate) fn report<E: Sink>(alloc: Global, cause: &Cause, err: &mut E) -> u8
     }
 }
 
+/// Says on `err` whether more samples are left, or why the listing of samples ended early, and answers the exit status.
+pub(crate) fn finish_samples<E: Sink>(
+    alloc: Global,
+    walked: &Result<Walked, Cause>,
+    err: &mut E,
+) -> u8
+    ensures done { OnOk walked.now (result ≡ 0) }
+    ensures said { IfErr walked.now (λ cause. (result ≡ status cause) ⊎ (result ≡ 5)) }
+{
+    match walked {
+        Ok(walked) => {
+            say_end(walked, err);
+            0
+        }
+        Err(cause) => report(alloc, cause, err),
+    }
+}
+
 /// Says on `err` whether more samples are left.
-pub(crate) fn say_end<E: Sink>(walked: &Walked, err: &mut E) {
+fn say_end<E: Sink>(walked: &Walked, err: &mut E) {
     let line: &[u8] = if walked.end {
         b"crdx: end\n"
     } else {
@@ -66,6 +104,8 @@ fn line_of(alloc: Global, cause: &Cause) -> Result<String, AllocError> {
             format!(in alloc; "crdx: {input}: {code} {pointer}\n")
         }
         Cause::Violations(violations) => violation_lines(alloc, violations),
+        Cause::NoField(fault) => format!(in alloc; "crdx: explain: {fault}\n"),
+        Cause::NotStored => format!(in alloc; "crdx: object: {}\n", LFault::NotStored),
         Cause::NotASample => format!(in alloc; "crdx: after: not a sample\n"),
         Cause::Write(lines) => format!(in alloc; "crdx: write failed after {lines} lines\n"),
         Cause::NoMemory => format!(in alloc; "crdx: out of memory\n"),

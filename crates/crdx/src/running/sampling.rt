@@ -43,8 +43,15 @@ pub(crate) fn sample<I: Inputs, W: Sink>(
     ensures sampled { IfOk result (λ walked. (q : Question) × (after : Option Data) × (e : Option EnvelopeData) × IsRequested (I.has inputs.old) arguments.now q after e
         × IfSome after (IsSampleOf q) × WritesPage q after arguments.now.count e walked.lines walked.end (W.taken out.old) (W.taken out.new)) }
     ensures unfailed { OnOk result (W.failures out.new ≡ W.failures out.old) }
-    ensures cause { IfErr result (IsSampleCause (I.has inputs.old) (I.failures inputs.old) (I.failures inputs.new) arguments.now
-        (W.taken out.old) (W.taken out.new) (W.failures out.old) (W.failures out.new)) }
+    ensures cause { IfErr result (IsSampleCause (record {
+      documents = I.has inputs.old;
+      failed_reads_before = I.failures inputs.old;
+      failed_reads = I.failures inputs.new;
+      output_before = W.taken out.old;
+      output = W.taken out.new;
+      failed_writes_before = W.failures out.old;
+      failed_writes = W.failures out.new;
+    }) arguments.now) }
 {
     let mut sample_inputs = sample_inputs(alloc, arguments, inputs)?;
     write_samples(alloc, &mut sample_inputs, arguments.count, out)

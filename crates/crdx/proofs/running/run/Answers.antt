@@ -1,17 +1,50 @@
-use Rattle.std.proofs.Common.{◌≡◌, [], refl, inl, inr, string_bytes}
+use Rattle.std.proofs.Common.{◌≡◌, [], refl, inl, inr}
 use Rattle.std.proofs.KnownBytes.{Keeps-refl, Appends-nil}
 use Rattle.crdx.specs.Program.RunResult.{answered, help, usage_error}
-use Rattle.crdx.specs.declared.arguments.request.Request.TheVariants.{Help, UsageError, NoMemory}
-use Rattle.crdx.proofs.RunLemmas.{result_of_given, result_of_nothing}
+use Rattle.crdx.specs.declared.arguments.request.Request.TheVariants.{Check, Explain, Object, Sample, Help, UsageError, NoMemory}
+use Rattle.crdx.proofs.RunLemmas.{result_of_finished, result_of_given, result_of_sample, result_of_nothing}
 use Rattle.crdx.proofs.running.run.Goals as goal
+
+pub returns-in-Check : goal.returns-in-Check
+returns-in-Check g c =
+    let request = Check c.in-Check.arguments in (
+      request,
+      c.in-Check.ensures,
+      result_of_finished _ request c.check.result c.finish.result c.check.ensures.answer c.check.ensures.cause (λ status text is n out. (status, text, is, n, out))
+          c.finish.ensures.given c.finish.ensures.said c.finish.ensures.kept c.finish.ensures.unfailed,
+    )
+
+pub returns-in-Explain : goal.returns-in-Explain
+returns-in-Explain g c =
+    let request = Explain c.in-Explain.arguments in (
+      request,
+      c.in-Explain.ensures,
+      result_of_finished _ request c.explain.result c.finish-in-Explain.result c.explain.ensures.answer c.explain.ensures.cause (λ status text is n out. (status, text, is, n, out))
+          c.finish-in-Explain.ensures.given c.finish-in-Explain.ensures.said c.finish-in-Explain.ensures.kept c.finish-in-Explain.ensures.unfailed,
+    )
+
+pub returns-in-Object : goal.returns-in-Object
+returns-in-Object g c =
+    let request = Object c.in-Object.arguments in (
+      request,
+      c.in-Object.ensures,
+      result_of_finished _ request c.judge_object.result c.finish-in-Object.result c.judge_object.ensures.answer c.judge_object.ensures.cause (λ status text is n out. (status, text, is, n, out))
+          c.finish-in-Object.ensures.given c.finish-in-Object.ensures.said c.finish-in-Object.ensures.kept c.finish-in-Object.ensures.unfailed,
+    )
+
+pub returns-in-Sample : goal.returns-in-Sample
+returns-in-Sample g c =
+    let arguments = c.in-Sample.arguments in (
+      Sample arguments,
+      c.in-Sample.ensures,
+      result_of_sample _ arguments c.sample.result c.finish_samples.result c.sample.ensures.sampled c.sample.ensures.unfailed c.sample.ensures.cause c.finish_samples.ensures.done
+          c.finish_samples.ensures.said,
+    )
 
 pub returns-in-Help : goal.returns-in-Help
 returns-in-Help g c =
-    let said = c.in-Help.text in (
-      Help said,
-      c.in-Help.ensures,
-      result_of_given _ _ _ (Help said) _ _ _ _ (record { status = 0; text = said }) c.give.result (help said) (λ n out. (0, string_bytes said, help said, n, out)) c.give.ensures,
-    )
+    let said = c.in-Help.text in
+    (Help said, c.in-Help.ensures, result_of_given _ (Help said) (record { status = 0; text = said }) c.give.result (help said) (λ status text is n out. (status, text, is, n, out)) c.give.ensures)
 
 pub returns-in-UsageError : goal.returns-in-UsageError
 returns-in-UsageError g c =
@@ -20,4 +53,4 @@ returns-in-UsageError g c =
 pub returns-in-NoMemory : goal.returns-in-NoMemory
 returns-in-NoMemory g c =
     let five : c.report.result ≡ 5 = elim c.report.ensures [ inl e ↦ e | inr e ↦ e ] in
-    (NoMemory, tt, result_of_nothing _ _ _ NoMemory _ _ _ _ c.report.result (Keeps-refl (g.W.Sink.taken c.args.out.now)) refl five)
+    (NoMemory, tt, result_of_nothing _ NoMemory c.report.result (record { kept = Keeps-refl (g.W.Sink.taken c.args.out.now); unfailed = refl }) five)

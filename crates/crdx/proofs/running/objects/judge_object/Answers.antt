@@ -1,27 +1,27 @@
-use Rattle.std.proofs.Common.{true, sym, subst}
+use Rattle.std.proofs.Common.{true, inl, sym, subst}
 use Rattle.std.proofs.lemmas.Result.{err_from_is_err_and, IfOk-weaker, IfErr-weaker}
 use Rattle.schema.specs.Nodes.ByPlace.{AreNodesOf}
 use Rattle.schema.specs.Nodes.View.{node_of}
-use Rattle.crdx.specs.Internal.Cause.{IsUnreadCause}
+use Rattle.crdx.specs.Internal.Cause.{IsDocumentCause}
 use Rattle.crdx.specs.Program.Documents.{file_name}
-use Rattle.crdx.specs.Program.RunResult.{object}
-use Rattle.crdx.specs.declared.running.causes.Input.TheVariants as input
-use Rattle.crdx.proofs.RunLemmas.{object_schema, object_input}
+use Rattle.crdx.specs.Program.RunResult.{object, no_object}
+use Rattle.crdx.specs.declared.arguments.request.Request.TheVariants.{Object}
+use Rattle.crdx.proofs.RunLemmas.{input_of_schema, object_input}
 use Rattle.crdx.proofs.running.objects.judge_object.Goals as goal
 
 pub returns-in_err-accepted-clause-cause : goal.returns-in_err-accepted-clause-cause
 returns-in_err-accepted-clause-cause g c =
+    let arguments = c.args.arguments.now in
     let p = err_from_is_err_and c.from_residual.result c.from_residual.ensures.1 in
-    rw (p.1, p.2) (object_schema (g.I.Inputs.has c.args.inputs.now) (g.I.Inputs.failures c.args.inputs.now) (g.I.Inputs.failures c.accepted_schema.new.inputs) c.args.arguments.now c.in_err-accepted.field-0.0 c.in_err-accepted.ensures.cause)
+    rw (p.1, p.2) (input_of_schema (g.I.Inputs.has c.args.inputs.now) (g.I.Inputs.failures c.args.inputs.now) (g.I.Inputs.failures c.accepted_schema.new.inputs) arguments.crd.now arguments.version.now (Object arguments)
+    (no_object arguments) c.in_err-accepted.field-0.0 (λ r. inl r) c.in_err-accepted.ensures.cause)
 
 pub returns-clause-answer : goal.returns-clause-answer
 returns-clause-answer g c =
     let (raw, asked, unbroken, nodes) = c.in_ok-accepted.ensures.accepted in
     let arguments = c.args.arguments.now in
     IfOk-weaker c.judge_at-answer.result _ _ (λ a said. object arguments (node_of c.root.result.now) said.0 a.status _ (record {
-      raw = raw;
-      accepted = record { asked = (c.in_ok-accepted.accepted.group, (c.in_ok-accepted.accepted.kind, asked)); unbroken = unbroken };
-      nodes = subst (λ N. AreNodesOf true N raw) (sym c.root.ensures.node) nodes;
+      root = (raw, record { asked = (c.in_ok-accepted.accepted.group, (c.in_ok-accepted.accepted.kind, asked)); unbroken = unbroken }, subst (λ N. AreNodesOf true N raw) (sym c.root.ensures.node) nodes);
       at_hand = c.in_ok-accepted.ensures.stays (file_name arguments.object) _ said.1;
     }) said.2) c.judge_at-answer.ensures.answer
 
@@ -32,5 +32,6 @@ returns-clause-cause g c =
     let arguments = c.args.arguments.now in
     let (raw, asked, unbroken, nodes) = c.in_ok-accepted.ensures.accepted in
     IfErr-weaker c.judge_at-answer.result _ _ (λ cause why.
-    object_input (g.I.Inputs.has c.args.inputs.now) (g.I.Inputs.failures c.args.inputs.now) read arguments later cause c.in_ok-accepted.ensures.stays (raw, record { asked = (c.in_ok-accepted.accepted.group, (c.in_ok-accepted.accepted.kind, asked)); unbroken = unbroken })
-    (subst (λ n. IsUnreadCause later n read input.Object (file_name arguments.object) cause) c.in_ok-accepted.ensures.unfailed why)) c.judge_at-answer.ensures.cause
+    object_input (g.I.Inputs.has c.args.inputs.now) later (g.I.Inputs.failures c.args.inputs.now) read arguments (node_of c.root.result.now) c.in_ok-accepted.ensures.stays
+    (raw, record { asked = (c.in_ok-accepted.accepted.group, (c.in_ok-accepted.accepted.kind, asked)); unbroken = unbroken }, subst (λ N. AreNodesOf true N raw) (sym c.root.ensures.node) nodes) cause
+    (subst (λ n. IsDocumentCause later n read (node_of c.root.result.now) arguments cause) c.in_ok-accepted.ensures.unfailed why)) c.judge_at-answer.ensures.cause

@@ -8,14 +8,14 @@ use Rattle.schema.specs.Nodes.View.{node_of}
 use Rattle.crdx.proofs.ObjectLemmas.{valid_answer, faulty_answer}
 use Rattle.crdx.proofs.running.objects.validate.Goals as goal
 
-pub returns-then-is_empty : goal.returns-then-is_empty
-returns-then-is_empty c = λ document is.
+pub returns-then-is_empty-clause-answer : goal.returns-then-is_empty-clause-answer
+returns-then-is_empty-clause-answer c = λ document is.
     let N = node_of c.args.node.now in
     subst (IsObjectAnswer N document Validate 0) (sym c.in_ok-from_str.ensures.ok)
     (valid_answer N document (data_of c.args.body.now) c.in_ok-found.found.items is c.in_ok-found.ensures (ap (λ fs. length fs == 0) (sym c.as_slice.ensures.value) ∙ sym c.if-is_empty.ensures))
 
-pub returns : goal.returns
-returns c = λ document is.
+pub returns-clause-answer : goal.returns-clause-answer
+returns-clause-answer c = λ document is.
     let N = node_of c.args.node.now in
     subst (IsObjectAnswer N document Validate 1) (sym (c.in_ok-fault_lines.ensures ∙ ap (λ fs. fault_lines (map told fs)) c.as_slice-else-is_empty.ensures.value))
     (faulty_answer N document (data_of c.args.body.now) c.in_ok-found.found.items is c.in_ok-found.ensures (ap (λ fs. length fs == 0) (sym c.as_slice.ensures.value) ∙ sym c.if-is_empty.ensures))

@@ -1,12 +1,16 @@
-use Rattle.std.proofs.Common.{refl, subst}
+use Rattle.std.proofs.Common.{refl, inl, subst}
 use Rattle.std.proofs.lemmas.Result.{IfOk-weaker, IfErr-weaker}
 use Rattle.crdx.specs.Internal.Cause.{IsPoolsCause}
-use Rattle.crdx.proofs.RunLemmas.{sample_schema, pools_input, pools_before, after_input}
+use Rattle.crdx.specs.Program.RunResult.{no_samples}
+use Rattle.crdx.specs.declared.arguments.request.Request.TheVariants.{Sample}
+use Rattle.crdx.proofs.RunLemmas.{input_of_schema, pools_input, pools_before, after_input}
 use Rattle.crdx.proofs.running.sampling.sample_inputs.Goals as goal
 
 pub returns-in-Err-clause-cause : goal.returns-in-Err-clause-cause
 returns-in-Err-clause-cause g c =
-    sample_schema (g.I.Inputs.has c.args.inputs.now) (g.I.Inputs.failures c.args.inputs.now) (g.I.Inputs.failures c.accepted_schema.new.inputs) c.args.arguments.now c.in-Err.cause c.in-Err.ensures.cause
+    let arguments = c.args.arguments.now in
+    input_of_schema (g.I.Inputs.has c.args.inputs.now) (g.I.Inputs.failures c.args.inputs.now) (g.I.Inputs.failures c.accepted_schema.new.inputs) arguments.crd.now arguments.version.now (Sample arguments)
+    (no_samples arguments) c.in-Err.cause (λ r. inl r) c.in-Err.ensures.cause
 
 pub returns-in-Err-pools_of-clause-cause : goal.returns-in-Err-pools_of-clause-cause
 returns-in-Err-pools_of-clause-cause g c =

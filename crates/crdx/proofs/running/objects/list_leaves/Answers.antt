@@ -1,0 +1,19 @@
+use Rattle.std.proofs.Common.{map, ap, ◌∙◌}
+use Rattle.std.proofs.lemmas.Result.{err_from_is_err_and}
+use Rattle.jtree.specs.View.{data_of}
+use Rattle.schema.specs.Nodes.View.{node_of}
+use Rattle.stored.specs.Objects.Leaves.{elements_of}
+use Rattle.crdx.specs.Program.ObjectAnswer.{leaf_lines}
+use Rattle.crdx.proofs.ObjectLemmas.{owned_answer, leaves_cause}
+use Rattle.crdx.proofs.running.objects.list_leaves.Goals as goal
+
+pub returns-in_err-leaves-clause-cause : goal.returns-in_err-leaves-clause-cause
+returns-in_err-leaves-clause-cause c =
+    let p = err_from_is_err_and c.from_residual.result c.from_residual.ensures.1 in
+    rw (p.1, p.2) (λ document is. leaves_cause (node_of c.args.node.now) document (data_of c.args.body.now) c.in_err-leaves.field-0.0 is c.in_err-leaves.ensures.not_stored)
+
+pub returns-clause-answer : goal.returns-clause-answer
+returns-clause-answer c = λ document is.
+    let leaves = c.in_ok-leaves.leaves.items in
+    owned_answer (node_of c.args.node.now) document (data_of c.args.body.now) leaves _ is c.in_ok-leaves.ensures.stored c.in_ok-leaves.ensures.leaves
+    (c.in_ok-leaf_lines.ensures ∙ ap (λ ls. leaf_lines (map elements_of ls)) c.as_slice.ensures.value)

@@ -1,0 +1,177 @@
+// What `explain` answers.
+ghost use Rattle.std.specs.Prelude.{◌≡◌, None, Some, map, option_map, IfOk, IfErr, string_bytes};
+ghost use Rattle.jtree.specs.View.{data_of};
+ghost use Rattle.explain.specs.Fields.View.{field_of};
+ghost use Rattle.crdx.specs.Internal.Cause.{IsInputCause, IsFieldCause};
+ghost use Rattle.crdx.specs.Program.FieldAnswer.{IsFieldAnswer};
+ghost use Rattle.crdx.specs.Program.FieldLines.{word_if as word_if_of, list_type_word as list_type_word_of, keys_word as keys_word_of, map_type_word as map_type_word_of, default_word as default_word_of, field_line as field_line_of, field_lines as field_lines_of, description_line as description_line_of, enum_line as enum_line_of, all_of_field as all_of_field_of};
+ghost use Rattle.crdx.specs.Program.RunResult.{IsAnswer};
+ghost use Rattle.crdx.specs.declared.arguments.request.Request.TheVariants.{Explain};
+ghost use Rattle.crdx.specs.declared.running.causes.Cause.TheVariants.{NoMemory};
+
+use crate::arguments::ExplainArguments;
+use crate::inputs::Inputs;
+use crate::running::answer::{Answer, json_items, json_text, json_texts, json_tree};
+use crate::running::causes::Cause;
+use crate::running::documents::accepted_schema;
+use explain::{Field, Listing};
+use jtree::{Items, Text};
+use schema::{ListType, MapType};
+use std::alloc::{AllocError, Global};
+use stored::Schema;
+
+/// A line for each field of the schema, or all that is known of the field of a path. The schema is judged before the path.
+pub(crate) fn explain<I: Inputs>(
+    alloc: Global,
+    arguments: &ExplainArguments<'_>,
+    inputs: &mut I,
+) -> Result<Answer, Cause>
+    ensures answer { IfOk result (λ a. IsAnswer (I.has inputs.old) (Explain arguments.now) a.status (string_bytes a.text)) }
+    ensures cause { IfErr result (IsInputCause (I.has inputs.old) (I.failures inputs.old) (I.failures inputs.new) (Explain arguments.now)) }
+{
+    let accepted = accepted_schema(alloc, arguments.crd, arguments.version, inputs)?;
+    let answer = explain_schema(alloc, &accepted.schema, arguments.path);
+    drop(accepted);
+    answer
+}
+
+fn explain_schema(alloc: Global, schema: &Schema, path: Option<&str>) -> Result<Answer, Cause>
+    ensures answer { IfOk result (λ a. IsFieldAnswer schema.now path.entry a.status (string_bytes a.text)) }
+    ensures cause { IfErr result (IsFieldCause schema.now path.entry) }
+{
+    match path {
+        Some(path) => explain_field(alloc, schema, path),
+        None => explain_fields(alloc, schema),
+    }
+}
+
+/// The lines of all fields.
+fn explain_fields(alloc: Global, schema: &Schema) -> Result<Answer, Cause>
+    ensures answer { IfOk result (λ a. IsFieldAnswer schema.now None a.status (string_bytes a.text)) }
+    ensures memory { IfErr result (λ cause. cause ≡ NoMemory) }
+{
+    let listing = Listing::new(alloc, schema)?;
+    Ok(Answer {
+        status: 0,
+        text: field_lines(alloc, listing.fields())?,
+    })
+}
+
+/// All that is known of the field of a path.
+fn explain_field(alloc: Global, schema: &Schema, path: &str) -> Result<Answer, Cause>
+    ensures answer { IfOk result (λ a. IsFieldAnswer schema.now (Some path.entry) a.status (string_bytes a.text)) }
+    ensures cause { IfErr result (IsFieldCause schema.now (Some path.entry)) }
+{
+    let listing = Listing::new(alloc, schema)?;
+    let field = listing.field(path)?;
+    Ok(Answer {
+        status: 0,
+        text: all_of_field(alloc, field)?,
+    })
+}
+
+fn field_lines(alloc: Global, fields: &[Field]) -> Result<String, AllocError>
+    ensures { IfOk result (λ s. string_bytes s ≡ field_lines_of (map field_of fields.now)) }
+{
+    let mut lines = String::new(alloc);
+    for field in fields {
+        lines.push_str(field_line(alloc, field)?.as_str())?;
+    }
+    Ok(lines)
+}
+
+/// The line of a field, and a line each for its description and its values where it has them.
+fn all_of_field(alloc: Global, field: &Field) -> Result<String, AllocError>
+    ensures { IfOk result (λ s. string_bytes s ≡ all_of_field_of (field_of field.now)) }
+{
+    let line = field_line(alloc, field)?;
+    let description = description_line(alloc, field)?;
+    let choices = enum_line(alloc, &field.choices)?;
+    format!(in alloc; "{line}{description}{choices}")
+}
+
+/// The path as a JSON text, the type, and what else applies.
+fn field_line(alloc: Global, field: &Field) -> Result<String, AllocError>
+    ensures { IfOk result (λ s. string_bytes s ≡ field_line_of (field_of field.now)) }
+{
+    let path = json_text(alloc, field.path.as_str())?;
+    let keys = keys_word(alloc, field.keys.as_slice())?;
+    let default = default_word(alloc, field)?;
+    format!(in alloc;
+        "{path} <{}>{}{}{}{keys}{}{default}\n",
+        field.type_text.as_str(),
+        word_if(field.required, " required"),
+        word_if(field.nullable, " nullable"),
+        list_type_word(field.list_type),
+        map_type_word(field.map_type)
+    )
+}
+
+fn word_if(applies: bool, word: &'static str) -> &'static str
+    ensures { result.now ≡ word_if_of applies word.now }
+{
+    if applies { word } else { "" }
+}
+
+fn list_type_word(list_type: Option<ListType>) -> &'static str
+    ensures { result.now ≡ list_type_word_of list_type }
+{
+    match list_type {
+        Some(ListType::Set) => " list-type=set",
+        Some(ListType::Map) => " list-type=map",
+        Some(ListType::Atomic) | None => "",
+    }
+}
+
+fn map_type_word(map_type: Option<MapType>) -> &'static str
+    ensures { result.now ≡ map_type_word_of map_type }
+{
+    match map_type {
+        Some(MapType::Atomic) => " map-type=atomic",
+        Some(MapType::Granular) | None => "",
+    }
+}
+
+fn keys_word(alloc: Global, keys: &[Text]) -> Result<String, AllocError>
+    ensures { IfOk result (λ s. string_bytes s ≡ keys_word_of keys.now) }
+{
+    if keys.is_empty() {
+        return Ok(String::new(alloc));
+    }
+    let keys = json_texts(alloc, keys)?;
+    format!(in alloc; " keys={keys}")
+}
+
+fn default_word(alloc: Global, field: &Field) -> Result<String, AllocError>
+    ensures { IfOk result (λ s. string_bytes s ≡ default_word_of (option_map data_of field.now.default)) }
+{
+    match &field.default {
+        Some(default) => {
+            let default = json_tree(alloc, default)?;
+            format!(in alloc; " default={default}")
+        }
+        None => Ok(String::new(alloc)),
+    }
+}
+
+fn description_line(alloc: Global, field: &Field) -> Result<String, AllocError>
+    ensures { IfOk result (λ s. string_bytes s ≡ description_line_of field.now.description) }
+{
+    match &field.description {
+        Some(description) => {
+            let description = json_text(alloc, description.as_str())?;
+            format!(in alloc; "description {description}\n")
+        }
+        None => Ok(String::new(alloc)),
+    }
+}
+
+fn enum_line(alloc: Global, choices: &Items) -> Result<String, AllocError>
+    ensures { IfOk result (λ s. string_bytes s ≡ enum_line_of choices.now) }
+{
+    if choices.items.as_slice().is_empty() {
+        return Ok(String::new(alloc));
+    }
+    let choices = json_items(alloc, choices)?;
+    format!(in alloc; "enum {choices}\n")
+}
