@@ -1,0 +1,9 @@
+mod argument_cases;
+mod broken_sink_cases;
+mod check_cases;
+mod envelope_cases;
+mod input_cases;
+mod prune_cases;
+mod refusal_cases;
+mod sample_cases;
+mod validate_cases;
