@@ -1,18 +1,16 @@
 //! Pages and walks from place to place, and enumerations step by step.
-ghost use Rattle.std.specs.Prelude.{◌≤◌};
-
 use crate::support::documents::{
-    DEFAULTED, FIFTEEN, LONG_SET, MAP_LIST, REPEATED, REQUIRED_LONG_MAP_LIST, SET, SPEC, TEN_LINES,
-    TWENTY, TWO_TEXTS, ZERO_AND_ONE, ZERO_AND_SEVEN,
+    DEFAULTED, FIFTEEN, MAP_LIST, REPEATED, SET, SPEC, TEN_LINES, TWO_TEXTS, ZERO_AND_ONE,
+    ZERO_AND_SEVEN,
 };
 use crate::support::fakes::FailingSink;
 use crate::support::harness::{holds, is_number, is_said, is_text, is_value, made};
 use crate::support::pages::{lines_of, place_of, walked};
-use crdx::walk::{WFault, Walked, pages_agree, walk};
+use crdx::walk::{WFault, Walked, pages_agree};
 use enumerate::{EFault, Live, page};
-use jtree::{JFault, Tree};
+use jtree::Tree;
 use plan::{Meter, Plan};
-use std::alloc::{AllocError, Global};
+use std::alloc::Global;
 use std::process::Abort;
 use std::test::Fail;
 

@@ -1,8 +1,6 @@
 //! Plans: their nodes, the sizes of what may stand there and of what can follow, and what is handed out step by step.
-ghost use Rattle.std.specs.Prelude.{◌≡◌, ◌<◌, ◌≤◌, length, IfSome};
-ghost use Rattle.plan.specs.Samples.Sites.{site_at, sites_of};
-ghost use Rattle.plan.specs.Samples.Candidates.{sort_of};
-ghost use Rattle.plan.specs.declared.sort.Sort.TheVariants as sort;
+ghost use Rattle.std.specs.Prelude.{◌<◌, length, IfSome};
+ghost use Rattle.plan.specs.Samples.Sites.{sites_of};
 
 use crate::support::documents::{
     DEFAULTED, FIFTEEN, LABELS, LONG_MAP_LIST, MAP_LIST, NAMES, NULLABLE, OPEN, REPEATED, SET,
@@ -10,7 +8,7 @@ use crate::support::documents::{
 };
 use crate::support::harness::{holds, is_number, is_said, is_value, made, pools_of, schema_of};
 use crate::support::plans::{are_sizes, item_of, more_of, place_of, rest_of, slot_of};
-use plan::{Distinct, Meter, PFault, Plan, PlanNode, SizeSet, Sort};
+use plan::{Distinct, Meter, PFault, Plan, PlanNode, Sort};
 use schema::items_told_apart;
 use std::alloc::{AllocError, Global};
 use std::process::Abort;

@@ -1,7 +1,7 @@
 //! `sample`: what is listed, and what is said of the inputs that are refused.
 use crate::support::documents::{
-    BROKEN, BROKEN_LINES, LONG_MAP_LIST, LONG_SET, REQUIRED_LONG_MAP_LIST, TEN_LINES, TWENTY,
-    TWO_INTEGER_KEYS, TWO_TEXTS, WIDGET, ZERO_AND_ONE,
+    BROKEN, BROKEN_LINES, LONG_MAP_LIST, REQUIRED_LONG_MAP_LIST, TEN_LINES, TWO_INTEGER_KEYS,
+    TWO_TEXTS, WIDGET, ZERO_AND_ONE,
 };
 use crate::support::fakes::{FailingSink, FakeInputs};
 use crate::support::harness::{definition, is_answer, run_on};
@@ -9,6 +9,13 @@ use crate::support::pages::plain_lines;
 use std::alloc::{AllocError, Global};
 use std::process::Abort;
 use std::test::Fail;
+
+// A required set of at least 21 integers.
+const LONG_SET: &str =
+    r#"{"type":"object","required":["s"],"properties":{"s":{"type":"array","minItems":21,"x-kubernetes-list-type":"set","items":{"type":"integer"}}}}"#;
+
+// Pools of twenty integers.
+const TWENTY: &str = r#"{"integers":[0,1,2,3,4,5,6,7,8,9,10,11,12,13,14,15,16,17,18,19]}"#;
 
 const REPEATED_AND_NEGATIVE: &str = r#"{"integers":[5,-9223372036854775808,5,-1]}"#;
 

@@ -1,7 +1,7 @@
 //! Schemas at the limits and past them.
 use crate::support::harness::try_schema;
 use crate::support::texts::{nested, repeated};
-use std::alloc::{AllocError, Global};
+use std::alloc::Global;
 use std::process::Abort;
 use std::test::Fail;
 

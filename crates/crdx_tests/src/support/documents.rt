@@ -89,13 +89,6 @@ V06 "/properties/b" uniqueItems is true
 pub const REQUIRED_LONG_MAP_LIST: &str =
     r#"{"type":"object","required":["m"],"properties":{"m":{"type":"array","minItems":3,"x-kubernetes-list-type":"map","x-kubernetes-list-map-keys":["k"],"items":{"type":"object","properties":{"k":{"type":"string"},"v":{"type":"integer"}},"required":["k"]}}}}"#;
 
-/// A required set of at least 21 integers.
-pub const LONG_SET: &str =
-    r#"{"type":"object","required":["s"],"properties":{"s":{"type":"array","minItems":21,"x-kubernetes-list-type":"set","items":{"type":"integer"}}}}"#;
-
-/// Pools of twenty integers.
-pub const TWENTY: &str = r#"{"integers":[0,1,2,3,4,5,6,7,8,9,10,11,12,13,14,15,16,17,18,19]}"#;
-
 /// A map list with the integers `a` and `c` as its keys and a truth value `b`.
 pub const TWO_INTEGER_KEYS: &str =
     r#"{"type":"object","properties":{"m":{"type":"array","x-kubernetes-list-type":"map","x-kubernetes-list-map-keys":["a","c"],"items":{"type":"object","properties":{"a":{"type":"integer"},"b":{"type":"boolean"},"c":{"type":"integer"}},"required":["a","c"]}}}}"#;
