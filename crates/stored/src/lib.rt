@@ -20,7 +20,7 @@ mod validity;
 
 pub use accepting::{Schema, accept, violations};
 pub use by_parts::stored_by_parts;
-pub use completing::complete;
+pub use completing::{becomes_one_tree, complete};
 pub use everywhere::everywhere_by_steps;
 pub use fault::Fault;
 pub use finding::faults;
