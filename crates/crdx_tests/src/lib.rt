@@ -10,6 +10,7 @@
 //! | `schema_tests/node_cases` | the nodes of each sort |
 //! | `stored_tests/default_cases` | defaults that are misplaced or bad (V15, V14) |
 //! | `stored_tests/object_cases` | objects that are valid or not, pruned, completed |
+//! | `explain_tests/field_cases` | the fields of a listing, and the field and the node of a path |
 //! | `plan_tests/pools_cases` | documents of pools |
 //! | `plan_tests/size_set_cases` | sets of sizes |
 //! | `plan_tests/plan_cases` | plans: their nodes, sizes and what is handed out |
@@ -18,6 +19,7 @@
 //! | `enumerate_tests/small_plan_cases` | 696 small plans and their pages against the plain reference |
 //! | `program/argument_cases` | the arguments, mistakes in them, and help |
 //! | `program/check_cases`, `validate_cases`, `prune_cases`, `sample_cases` | what each command prints |
+//! | `program/explain_cases`, `leaf_cases` | what `explain` and `leaves` print, and what they refuse |
 //! | `program/refusal_cases` | inputs that are refused, and which is judged first |
 //! | `program/input_cases` | documents in files, and which inputs a run reads |
 //! | `program/broken_sink_cases` | sinks that fail after each byte |
@@ -27,6 +29,8 @@
 
 #[cfg(test)]
 mod enumerate_tests;
+#[cfg(test)]
+mod explain_tests;
 #[cfg(test)]
 mod jtree_tests;
 #[cfg(test)]

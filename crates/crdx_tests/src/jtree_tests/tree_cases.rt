@@ -1,7 +1,7 @@
 //! Trees: reading and writing, their order, pointers and what stands under a name.
 use crate::support::harness::{holds, is_number, is_said, is_text};
 use crate::support::texts::nested;
-use jtree::{Text, Tree, order_in_words, order_is_total, push_index, push_name};
+use jtree::{Text, Tree, order_in_words, order_is_total, push_index, push_name, texts_tell_apart};
 use serde_json::Value;
 use std::alloc::Global;
 use std::process::Abort;
@@ -298,6 +298,7 @@ fn is_before(rt: &impl Abort, alloc: Global, row: &str, later: &str) -> Result<(
 fn order(rt: HostRuntime) -> Result<(), Fail> {
     order_is_total();
     order_in_words();
+    texts_tell_apart();
     for (earlier, later) in &ORDERED {
         is_before(&rt, rt.alloc(), earlier, later)?;
     }

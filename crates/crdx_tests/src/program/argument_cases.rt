@@ -5,7 +5,8 @@ use crate::support::harness::{
     Output, holds, holds_of, is_number, is_said, is_text, run_on, words_of,
 };
 use crdx::arguments::{
-    CheckArguments, ObjectArguments, ObjectCommand, Request, SampleArguments, parse_arguments,
+    CheckArguments, ExplainArguments, ObjectArguments, ObjectCommand, Request, SampleArguments,
+    parse_arguments,
 };
 use std::alloc::{AllocError, Global};
 use std::process::Abort;
@@ -13,7 +14,7 @@ use std::test::Fail;
 
 // A name, a command line, and what it asks for: the file, the version, and the object, or the pools, the sample to go on from, the
 // name, the limit and the count.
-static REQUESTS: [(&str, &str, &str); 8] = [
+static REQUESTS: [(&str, &str, &str); 12] = [
     (
         "a sample",
         "crdx sample c.json v1",
@@ -36,6 +37,26 @@ static REQUESTS: [(&str, &str, &str); 8] = [
         "default c.json v1 ./o",
     ),
     (
+        "the leaves of an object in a file",
+        "crdx leaves c.json v1 o.json",
+        "leaves c.json v1 o.json",
+    ),
+    (
+        "all fields",
+        "crdx explain c.json v1",
+        "explain c.json v1 -",
+    ),
+    (
+        "the field at a path",
+        "crdx explain c.json v1 /spec/[]",
+        "explain c.json v1 /spec/[]",
+    ),
+    (
+        "the field at an empty path",
+        "crdx explain c.json v1 ",
+        "explain c.json v1 ",
+    ),
+    (
         "the least limit and count",
         "crdx sample c.json v1 --pools p.json --limit 1 --count 1",
         "sample c.json v1 p.json - - 1 1",
@@ -55,7 +76,7 @@ static REQUESTS: [(&str, &str, &str); 8] = [
 const MISSING: &str = "error: the following required arguments were not provided:\n";
 
 // A name, a command line, and the first line of standard error. The status is 2.
-static MISTAKES: [(&str, &str, &str); 16] = [
+static MISTAKES: [(&str, &str, &str); 19] = [
     (
         "no command",
         "crdx",
@@ -70,6 +91,13 @@ static MISTAKES: [(&str, &str, &str); 16] = [
     ("a sample of no version", "crdx sample crd.json", MISSING),
     ("a check of no version", "crdx check crd.json", MISSING),
     ("no version", "crdx validate crd.json", MISSING),
+    ("leaves of no version", "crdx leaves crd.json", MISSING),
+    ("fields of nothing", "crdx explain", MISSING),
+    (
+        "a second path",
+        "crdx explain crd.json v1 /a /b",
+        "error: unexpected argument '/b' found\n",
+    ),
     (
         "a fourth word",
         "crdx prune crd.json v1 object.json w",
@@ -123,7 +151,7 @@ static MISTAKES: [(&str, &str, &str); 16] = [
 ];
 
 // A name, a command line, and a line of the help, or the version. The status is 0.
-static HELP: [(&str, &str, &str); 18] = [
+static HELP: [(&str, &str, &str); 22] = [
     ("an option", "crdx --help", "Usage: crdx <COMMAND>\n"),
     ("a command", "crdx help", "Usage: crdx <COMMAND>\n"),
     (
@@ -192,13 +220,34 @@ static HELP: [(&str, &str, &str); 18] = [
         "crdx default --help",
         "Usage: crdx default <CRD> <VERSION> [OBJECT]\n",
     ),
+    (
+        "an option of leaves",
+        "crdx leaves --help",
+        "Usage: crdx leaves <CRD> <VERSION> [OBJECT]\n",
+    ),
+    (
+        "a short option of leaves",
+        "crdx leaves -h",
+        "Usage: crdx leaves <CRD> <VERSION> [OBJECT]\n",
+    ),
+    (
+        "an option of fields",
+        "crdx explain --help",
+        "Usage: crdx explain <CRD> <VERSION> [PATH]\n",
+    ),
+    (
+        "a short option of fields",
+        "crdx explain -h",
+        "Usage: crdx explain <CRD> <VERSION> [PATH]\n",
+    ),
     ("the version", "crdx --version", "crdx 0.1.0\n"),
     ("the version, for short", "bin/crdx_cli -V", "crdx 0.1.0\n"),
 ];
 
 // What a run can answer, and the codes that it can print: each begins a line of the help.
-static ANSWERS: [&str; 15] = [
-    "0", "1", "2", "3", "4", "5", "J1", "J3", "J4", "S1", "S2", "S3", "S4", "P1", "P2",
+static ANSWERS: [&str; 18] = [
+    "0", "1", "2", "3", "4", "5", "J1", "J3", "J4", "S1", "S2", "S3", "S4", "P1", "P2", "L1", "X1",
+    "X2",
 ];
 
 // The rules and the faults that a run can print: each begins a line of the help.
@@ -229,6 +278,10 @@ fn said(alloc: Global, request: &Request<'_>) -> Result<String, AllocError> {
         Request::Check(CheckArguments { crd, version }) => {
             format!(in alloc; "check {crd} {version}")
         }
+        Request::Explain(ExplainArguments { crd, version, path }) => {
+            let path = path.unwrap_or("-");
+            format!(in alloc; "explain {crd} {version} {path}")
+        }
         Request::Object(
             ObjectArguments {
                 command,
@@ -241,6 +294,7 @@ fn said(alloc: Global, request: &Request<'_>) -> Result<String, AllocError> {
                 ObjectCommand::Validate => "validate",
                 ObjectCommand::Prune => "prune",
                 ObjectCommand::Default => "default",
+                ObjectCommand::Leaves => "leaves",
             };
             let object = object.unwrap_or("-");
             format!(in alloc; "{command} {crd} {version} {object}")

@@ -16,13 +16,22 @@ const SOUND: &str =
 const LIST_OF_TEXTS: &str =
     r#"{"apiVersion":"apiextensions.k8s.io/v1","kind":"CustomResourceDefinition","spec":{"group":"example.com","names":{"kind":"Widget"},"versions":[{"name":"v1","schema":{"openAPIV3Schema":{"type":"object","properties":{"integers":{"type":"array","items":{"type":"string"}}}}}}]}}"#;
 
+const LIST_OF_INTEGERS: &str =
+    r#"{"apiVersion":"apiextensions.k8s.io/v1","kind":"CustomResourceDefinition","spec":{"group":"example.com","names":{"kind":"Widget"},"versions":[{"name":"v1","schema":{"openAPIV3Schema":{"type":"object","properties":{"integers":{"type":"array","items":{"type":"integer"}}}}}}]}}"#;
+
+/// The fields of `WIDGET`.
+const FIELDS: &str = r#""/spec" <Object>
+"/spec/a" <integer>
+"/spec/b" <boolean>
+"#;
+
 /// The faults of `ZERO_AND_ONE` by `LIST_OF_TEXTS`.
 const TWO_FAULTS: &str = r#"F01 "/integers/0" kind
 F01 "/integers/1" kind
 "#;
 
 // A name, a command line, a definition, standard output, standard error and the status.
-static RUNS: [(&str, &str, &str, &str, &str, u8); 5] = [
+static RUNS: [(&str, &str, &str, &str, &str, u8); 7] = [
     (
         "a sample",
         "crdx sample crd.json v1 --pools pools.json --limit 4",
@@ -54,6 +63,22 @@ static RUNS: [(&str, &str, &str, &str, &str, u8); 5] = [
         TWO_FAULTS,
         "",
         1,
+    ),
+    (
+        "all fields",
+        "crdx explain crd.json v1",
+        WIDGET,
+        FIELDS,
+        "",
+        0,
+    ),
+    (
+        "the leaves of an object",
+        "crdx leaves crd.json v1 object.json",
+        LIST_OF_INTEGERS,
+        "[\"f:integers\"]\n",
+        "",
+        0,
     ),
     (
         "an object without what is pruned",

@@ -1,4 +1,4 @@
-//! `validate`, `prune` and `default`: what is said of inputs that are refused, and which of them is judged first.
+//! `explain`, `validate`, `prune`, `default` and `leaves`: what is said of inputs that are refused, and which of them is judged first.
 use crate::support::documents::{BROKEN, BROKEN_LINES, WIDGET};
 use crate::support::fakes::{FailingSink, FakeInputs};
 use crate::support::harness::{is_answer, run_on};
@@ -15,7 +15,7 @@ const FRACTION: &str = r#"{"spec":{"a":1.5}}"#;
 const CUT: &str = r#"{"spec":{"a""#;
 
 // A name, a command line, a definition, an object, standard output, standard error and the status.
-static ROWS: [(&str, &str, &str, &str, &str, &str, u8); 13] = [
+static ROWS: [(&str, &str, &str, &str, &str, &str, u8); 18] = [
     (
         "an object in a file",
         "crdx validate crd.json v1 object.json",
@@ -114,6 +114,51 @@ static ROWS: [(&str, &str, &str, &str, &str, &str, u8); 13] = [
         "",
         BROKEN_LINES,
         1,
+    ),
+    (
+        "an object that is cut, and its leaves",
+        "crdx leaves crd.json v1 object.json",
+        WIDGET,
+        CUT,
+        "",
+        "crdx: object: J3\n",
+        3,
+    ),
+    (
+        "leaves of an object that cannot be read",
+        "crdx leaves crd.json v1 nowhere.json",
+        WIDGET,
+        "{}",
+        "",
+        "crdx: object: read failed\n",
+        4,
+    ),
+    (
+        "a schema that breaks rules, judged before the leaves of an object",
+        "crdx leaves crd.json v1",
+        BROKEN,
+        CUT,
+        "",
+        BROKEN_LINES,
+        1,
+    ),
+    (
+        "a definition that is cut, and its fields",
+        "crdx explain crd.json v1",
+        CUT,
+        "",
+        "",
+        "crdx: crd: J3\n",
+        3,
+    ),
+    (
+        "fields of another version",
+        "crdx explain crd.json v2 ~",
+        WIDGET,
+        "",
+        "",
+        "crdx: crd: S2\n",
+        3,
     ),
     (
         "a bad default",
