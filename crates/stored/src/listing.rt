@@ -18,7 +18,7 @@ use crate::fault::LFault;
 use crate::fields::field_named;
 use crate::leaf::{Leaf, copy_texts, item_element, text_element};
 use crate::storing::check_stored;
-use jtree::{Items, Member, Members, Text, Tree};
+use jtree::{Items, Member, Members, Text, Tree, texts_tell_apart};
 use schema::{Fields, ListNode, ListType, MapNode, MapType, Node, Sort, items_told_apart};
 use std::alloc::{AllocError, Global};
 
@@ -38,6 +38,7 @@ pub fn leaves(alloc: Global, node: &Node, tree: &Tree) -> Result<Vec<Leaf>, LFau
 {
     tree.reveal_invariant();
     items_told_apart();
+    texts_tell_apart();
     if !check_stored(alloc, node, tree)? {
         return Err(LFault::NotStored);
     }
