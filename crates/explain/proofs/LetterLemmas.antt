@@ -7,6 +7,7 @@ use Rattle.jtree.specs.Internal.Lookups.{bool_cases}
 use Rattle.explain.specs.Paths.FieldPath.{FieldStep, field, item, value, FieldPath}
 use Rattle.explain.specs.Paths.PathText.{escaped, step_text, path_text}
 use Rattle.explain.specs.Internal.Reading.{IsEnd}
+use Rattle.explain.proofs.ListLemmas.{heads, tails}
 
 -- a byte that is written as it is
 pub record IsPlain (b : ℕ) : Type 0 where
@@ -106,26 +107,20 @@ no_bracket (b ∷ k) a c t ea is e =
 apart : (b c : ℕ) → b ≡ 91 → c ≡ 123 → b ≡ c → ⊥
 apart b c e f g = omega arith
 
-heads : (b c : ℕ) (t u : List ℕ) → b ∷ t ≡ c ∷ u → b ≡ c
-heads b c t u e = cc
-
-pub tails : (b c : ℕ) (t u : List ℕ) → b ∷ t ≡ c ∷ u → t ≡ u
-tails b c t u e = cc
-
 pub item_step : (s : FieldStep) (a b : List ℕ) → IsEnd a → step_text s ++ a ≡ step_text item ++ b → (s ≡ item) × (a ≡ b)
-item_step (field k) a b ea e = absurd (no_bracket k a 91 (93 ∷ b) ea (inl refl) (tails _ _ _ _ e))
+item_step (field k) a b ea e = absurd (no_bracket k a 91 (93 ∷ b) ea (inl refl) (tails e))
 item_step item a b ea e = (refl, cc)
-item_step value a b ea e = absurd (apart 91 123 refl refl (heads _ _ _ _ (tails _ _ _ _ (sym e))))
+item_step value a b ea e = absurd (apart 91 123 refl refl (heads (tails (sym e))))
 
 pub value_step : (s : FieldStep) (a b : List ℕ) → IsEnd a → step_text s ++ a ≡ step_text value ++ b → (s ≡ value) × (a ≡ b)
-value_step (field k) a b ea e = absurd (no_bracket k a 123 (125 ∷ b) ea (inr refl) (tails _ _ _ _ e))
-value_step item a b ea e = absurd (apart 91 123 refl refl (heads _ _ _ _ (tails _ _ _ _ e)))
+value_step (field k) a b ea e = absurd (no_bracket k a 123 (125 ∷ b) ea (inr refl) (tails e))
+value_step item a b ea e = absurd (apart 91 123 refl refl (heads (tails e)))
 value_step value a b ea e = (refl, cc)
 
 pub same_step : (s t : FieldStep) (a b : List ℕ) → IsEnd a → IsEnd b → step_text s ++ a ≡ step_text t ++ b → (s ≡ t) × (a ≡ b)
-same_step (field k) (field l) a b ea eb e = let r = same_names k l a b ea eb (tails _ _ _ _ e) in (ap field r.0, r.1)
-same_step item (field l) a b ea eb e = absurd (no_bracket l b 91 (93 ∷ a) eb (inl refl) (tails _ _ _ _ (sym e)))
-same_step value (field l) a b ea eb e = absurd (no_bracket l b 123 (125 ∷ a) eb (inr refl) (tails _ _ _ _ (sym e)))
+same_step (field k) (field l) a b ea eb e = let r = same_names k l a b ea eb (tails e) in (ap field r.0, r.1)
+same_step item (field l) a b ea eb e = absurd (no_bracket l b 91 (93 ∷ a) eb (inl refl) (tails (sym e)))
+same_step value (field l) a b ea eb e = absurd (no_bracket l b 123 (125 ∷ a) eb (inr refl) (tails (sym e)))
 same_step s item a b ea eb e = item_step s a b ea e
 same_step s value a b ea eb e = value_step s a b ea e
 

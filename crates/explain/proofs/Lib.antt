@@ -1,4 +1,5 @@
 -- Laws of the definitions of this crate.
+pub mod ListLemmas
 pub mod LetterLemmas
 pub mod ReadingLemmas
 pub mod ResolvingLemmas

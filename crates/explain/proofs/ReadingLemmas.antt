@@ -9,7 +9,8 @@ use Rattle.explain.specs.Paths.PathText.{escaped, step_text, path_text}
 use Rattle.explain.specs.declared.reading.Stage.{Stage}
 use Rattle.explain.specs.declared.reading.Stage.TheVariants.{Between, Step, Name, Escape, Item, Value, Wrong}
 use Rattle.explain.specs.Internal.Reading.{IsPathText, in_name, after_byte, is_read, IsEnd, IsAfterStep}
-use Rattle.explain.proofs.LetterLemmas.{tails, IsPlain, letter_cases, escaped_plain, begins}
+use Rattle.explain.proofs.ListLemmas.{tails}
+use Rattle.explain.proofs.LetterLemmas.{IsPlain, letter_cases, escaped_plain, begins}
 
 -- ---- what is read is the text of a path
 
@@ -155,7 +156,7 @@ other_letter text k rest i within sofar other t after =
     ap (flat_map escaped) (sym (take-append-drop i k)) ∙ (flat_map-append escaped (take i k) (drop i k) ∙ ap (λ x. before ++ flat_map escaped x) split)
     in
     let joined : before ++ rest ≡ before ++ (escaped b ++ (others ++ t)) =
-    tails _ _ _ _ (sym sofar ∙ after.1) ∙ (ap (λ x. x ++ t) whole ∙ (append_assoc before (escaped b ++ others) t ∙ ap (λ x. before ++ x) (append_assoc (escaped b) others t)))
+    tails (sym sofar ∙ after.1) ∙ (ap (λ x. x ++ t) whole ∙ (append_assoc before (escaped b ++ others) t ∙ ap (λ x. before ++ x) (append_assoc (escaped b) others t)))
     in
     other (others ++ t) (append_cancel_left before rest (escaped b ++ (others ++ t)) joined)
 
