@@ -1,9 +1,9 @@
 -- The elements of no leaf of a valid object begin those of another.
-use Rattle.std.specs.Prelude.{◌≡◌, ◌++◌, ◌&&◌, ◌||◌, ℕ, zero, suc, List, [], ◌∷◌, map, Bool, true, false, not, Option, Some, None, option_map, All, AllPairs, codes}
-use Rattle.std.proofs.Common.{◌⊎◌, refl, sym, ap, subst, ◌∙◌, inl, inr}
+use Rattle.std.specs.Prelude.{◌≡◌, ◌++◌, ℕ, zero, suc, List, [], ◌∷◌, map, Bool, true, false, Option, Some, None, option_map, codes}
+use Rattle.std.proofs.Common.{refl, sym, ap, subst, ◌∙◌, inl, inr}
 use Rattle.std.specs.Str.{bytes_eq}
-use Rattle.std.specs.Ordering.{is_eq}
-use Rattle.std.specs.declared.cmp.Ordering.TheVariants.{Less, Equal}
+use Rattle.std.specs.declared.cmp.Ordering.TheVariants.{Less}
+use Rattle.std.proofs.lemmas.Bool.{not-true, and_parts, or_right}
 use Rattle.std.proofs.lemmas.Cmp.{tied_itself}
 use Rattle.std.proofs.lemmas.Option.{same_Some}
 use Rattle.std.proofs.lemmas.List.Elements.{All-contains}
@@ -12,15 +12,13 @@ use Rattle.jtree.specs.Data as tree
 use Rattle.jtree.specs.Path.{Step, name, index, Path, part_by, member_at, item_at}
 use Rattle.jtree.specs.PathOrder.{path_cmp}
 use Rattle.jtree.specs.Text.{compact}
-use Rattle.jtree.specs.Order.{tree_cmp}
-use Rattle.jtree.specs.Internal.Lookups.{bool_cases, option_cases, same_name, own_name}
+use Rattle.jtree.specs.Internal.Lookups.{bool_cases, same_name, own_name}
 use Rattle.jtree.specs.Internal.OrderLaws.{tree_total}
 use Rattle.jtree.specs.Internal.PathLaws.{same_step}
 use Rattle.jtree.specs.Internal.Rising.{Among, Rising, rising, all_pairs, contains}
 use Rattle.schema.specs.Document.Places.{Place, property, map_value, items}
 use Rattle.schema.specs.Document.Places as places
 use Rattle.schema.specs.Document.Texts.{is_among}
-use Rattle.schema.specs.Rules.Keywords.{any_item}
 use Rattle.schema.specs.Nodes.Node.{Node, node, object, map as map_of, list}
 use Rattle.schema.specs.Nodes.ByPlace.{node_below, node_at}
 use Rattle.schema.specs.Nodes.Items.{AreToldApart, HasKeys, HasSoundItems}
@@ -31,13 +29,13 @@ use Rattle.stored.specs.Objects.Parts.{Part, at, free, value_of, pair, node_by, 
 use Rattle.stored.specs.Objects.Tests.{is_same}
 use Rattle.stored.specs.Objects.Fault.{agree_at, agree, are_alike, IsValid}
 use Rattle.stored.specs.Objects.StoredByParts.{IsValidHere, are_apart}
-use Rattle.stored.specs.Objects.Leaves.{is_divided, members_among, keys_in, item_element, element, leaf_at, LeafAt, AreLeavesAt, AreLeaves, BeginsNone, AreApart}
-use Rattle.stored.proofs.ValidLemmas.{faultless, here_from}
+use Rattle.stored.specs.Objects.Leaves.{is_divided, members_among, item_element, element, leaf_at, LeafAt, AreLeaves, BeginsNone, AreApart}
+use Rattle.stored.proofs.ValidLemmas.{unlike, faultless, here_from}
 use Rattle.stored.proofs.LevelLemmas.{member_tree}
 use Rattle.stored.proofs.FaultLemmas.{item_tree, leads_both, part_is, deeper}
 use Rattle.stored.proofs.PrunedAgain.{below_place}
 use Rattle.stored.proofs.LeafLemmas.{members_of_some}
-use Rattle.stored.proofs.LeafLevelLemmas.{undivided, down}
+use Rattle.stored.proofs.LeafLevelLemmas.{mapped, among_map, undivided, down}
 
 -- compact texts tell trees apart
 abbrev pub TextsTellApart : Type 0
@@ -61,10 +59,6 @@ kept keys k (member l d ms) e = elim (bool_cases (bytes_eq k l)) [
     | inr none ↦ rw none (kept keys k ms e)
   ])
 ]
-
-or_right : (a b : Bool) → b ≡ true → (a || b) ≡ true
-or_right true b e = refl
-or_right false b e = e
 
 agree_on : (ks keys : List (List ℕ)) (ms ns : Members) → ((k : List ℕ) → is_among k ks ≡ true → is_among k keys ≡ true) → members_among keys ms ≡ members_among keys ns → agree ks ms ns ≡ true
 agree_on [] keys ms ns h e = refl
@@ -95,35 +89,18 @@ alike_by_element same list_type.Map keys N v w other told hv hw tv tw e =
     let f : codes "k:" ++ compact (tree.object (members_among keys ms.0)) ≡ codes "k:" ++ compact (tree.object (members_among keys ns.0)) = rw (ms.1, ns.1) at e in
     let texts : compact (tree.object (members_among keys ms.0)) ≡ compact (tree.object (members_among keys ns.0)) = cc in
     let trees : tree.object (members_among keys ms.0) ≡ tree.object (members_among keys ns.0) =
-        same (tree.object (members_among keys ms.0)) (tree.object (members_among keys ns.0)) (members_of_some keys ms.0 mv) (members_of_some keys ns.0 mw) texts in
+    same (tree.object (members_among keys ms.0)) (tree.object (members_among keys ns.0)) (members_of_some keys ms.0 mv) (members_of_some keys ns.0 mw) texts in
     let members : members_among keys ms.0 ≡ members_among keys ns.0 = cc in
     rw (ms.1, ns.1) (agree_on keys keys ms.0 ns.0 (λ k a. a) members)
-
-some_alike : (test : Data → Bool) (ds : Items) (i : ℕ) (d : Data) → item_at i ds ≡ Some d → test d ≡ true → any_item test ds ≡ true
-some_alike test no_items i d e h = cc
-some_alike test (item c ds) zero d e h = let same : c ≡ d = same_Some c d e in rw (same, h) refl
-some_alike test (item c ds) (suc i) d e h = or_right (test c) (any_item test ds) (some_alike test ds i d e h)
-
-both_true : (a b : Bool) → (a && b) ≡ true → (a ≡ true) × (b ≡ true)
-both_true true b e = (refl, e)
-both_true false b e = absurd (cc)
 
 -- items that are alike are one
 one_item : (alike : Data → Data → Bool) (ds : Items) (i j : ℕ) (v w : Data) → are_apart alike ds ≡ true → item_at i ds ≡ Some v → item_at j ds ≡ Some w
     → alike v w ≡ true → alike w v ≡ true → i ≡ j
 one_item alike no_items i j v w apart e f h g = cc
 one_item alike (item d ds) zero zero v w apart e f h g = refl
-one_item alike (item d ds) zero (suc j) v w apart e f h g =
-    let same : d ≡ v = same_Some d v e in
-    let some = some_alike (alike d) ds j w f (subst (λ u. alike u w ≡ true) (sym same) h) in
-    let none = rw some at apart in
-    absurd (cc)
-one_item alike (item d ds) (suc i) zero v w apart e f h g =
-    let same : d ≡ w = same_Some d w f in
-    let some = some_alike (alike d) ds i v e (subst (λ u. alike u v ≡ true) (sym same) g) in
-    let none = rw some at apart in
-    absurd (cc)
-one_item alike (item d ds) (suc i) (suc j) v w apart e f h g = ap suc (one_item alike ds i j v w (both_true (not (any_item (alike d) ds)) (are_apart alike ds) apart).1 e f h g)
+one_item alike (item d ds) zero (suc j) v w apart e f h g = let none = unlike alike d ds j w (not-true _ (and_parts _ _ apart).0) f in let same = same_Some d v e in cc
+one_item alike (item d ds) (suc i) zero v w apart e f h g = let none = unlike alike d ds i v (not-true _ (and_parts _ _ apart).0) e in let same = same_Some d w f in cc
+one_item alike (item d ds) (suc i) (suc j) v w apart e f h g = ap suc (one_item alike ds i j v w (and_parts _ _ apart).1 e f h g)
 
 -- ---- what holds of each part
 
@@ -171,21 +148,17 @@ sound_below root p N h there q M e = h (p ++ q) M (below_place root p N q there 
 here_valid : (N : Node) (v : Data) → IsSound N v → IsValidHere N v
 here_valid N v h = here_from N v (faultless N v h.valid)
 
-mapped_at : (N : Node) (o : Option Data) (q : Part) → option_map (at N) o ≡ Some q → (w : Data) × (o ≡ Some w) × (q ≡ at N w)
-mapped_at N None q e = absurd (cc)
-mapped_at N (Some w) q e = (w, refl, sym (same_Some (at N w) q e))
-
 one_place : TextsTellApart → (n : Bool) (d : Option (List ℕ)) (M : Node) (type : ListType) (keys : List (List ℕ)) (bounds : Bounds) (ds : Items) (i j : ℕ) (q r : Part)
     → (type ≡ list_type.Atomic → ⊥) → IsSound (node n d (list M type keys bounds)) (tree.list ds)
     → option_map (at M) (item_at i ds) ≡ Some q → option_map (at M) (item_at j ds) ≡ Some r → item_element type keys (value_of q) ≡ item_element type keys (value_of r) → i ≡ j
 one_place same n d M type keys bounds ds i j q r other h e f eq =
     let N = node n d (list M type keys bounds) in
-    let v = mapped_at M (item_at i ds) q e in
-    let w = mapped_at M (item_at j ds) r f in
+    let v = mapped (at M) (item_at i ds) q e in
+    let w = mapped (at M) (item_at j ds) r f in
     let told : AreToldApart type keys M = h.items [] N refl in
     let sv : IsSound M v.0 = sound_part N (tree.list ds) (index i) M v.0 h (ap (option_map (at M)) v.1) in
     let sw : IsSound M w.0 = sound_part N (tree.list ds) (index j) M w.0 h (ap (option_map (at M)) w.1) in
-    let elements : item_element type keys v.0 ≡ item_element type keys w.0 = ap (λ p. item_element type keys (value_of p)) (sym v.2) ∙ (eq ∙ ap (λ p. item_element type keys (value_of p)) w.2) in
+    let elements : item_element type keys v.0 ≡ item_element type keys w.0 = ap (λ p. item_element type keys (value_of p)) v.2 ∙ (eq ∙ ap (λ p. item_element type keys (value_of p)) (sym w.2)) in
     let here = here_valid N (tree.list ds) h in
     one_item (are_alike type keys) ds i j v.0 w.0 here.1 v.1 w.1
     (alike_by_element same type keys M v.0 w.0 other told (here_valid M v.0 sv) (here_valid M w.0 sw) sv.tree sw.tree elements)
@@ -236,23 +209,18 @@ never_itself (s ∷ p) less = never_itself p (sym (same_step s p p) ∙ less)
 
 -- ---- all leaves
 
-among_elements : (ls : List LeafAt) (es : List (List ℕ)) → Among (map (λ l. l.elements) ls) es → (l : LeafAt) × Among ls l × (l.elements ≡ es)
-among_elements [] es a = elim a [ ]
-among_elements (l ∷ ls) es (inl e) = (l, inl refl, e)
-among_elements (l ∷ ls) es (inr a) = let r = among_elements ls es a in (r.0, inr r.1, r.2)
-
 apart : TextsTellApart → (N : Node) (v : Data) (ls : List LeafAt) → IsSound N v → ((l : LeafAt) → Among ls l → leaf_at (at N v) l.path ≡ Some l.elements)
     → Rising (λ l m. path_cmp l.path m.path ≡ Less) ls → Rising BeginsNone (map (λ l. l.elements) ls)
 apart same N v [] h each r = tt
 apart same N v (l ∷ ls) h each r = (
-  λ es a. let m = among_elements ls es a in
-  let before = r.0 m.0 m.1 in
-  let el = each l (inl refl) in
-  let em = each m.0 (inr m.1) in
-  subst (BeginsNone l.elements) m.2 (
-    λ rest e. let one = one_path same l.path m.0.path (at N v) l.elements m.0.elements rest h el em e in never_itself l.path (subst (λ p. path_cmp l.path p ≡ Less) (sym one) before),
-    λ rest e. let one = one_path same m.0.path l.path (at N v) m.0.elements l.elements rest h em el e in never_itself l.path (subst (λ p. path_cmp l.path p ≡ Less) one before),
-  ),
+  λ es a. let m = among_map (λ k. k.elements) ls es a in
+      let before = r.0 m.0 m.1 in
+      let el = each l (inl refl) in
+      let em = each m.0 (inr m.1) in
+      subst (BeginsNone l.elements) m.2 (
+        λ rest e. let one = one_path same l.path m.0.path (at N v) l.elements m.0.elements rest h el em e in never_itself l.path (subst (λ p. path_cmp l.path p ≡ Less) (sym one) before),
+        λ rest e. let one = one_path same m.0.path l.path (at N v) m.0.elements l.elements rest h em el e in never_itself l.path (subst (λ p. path_cmp l.path p ≡ Less) one before),
+      ),
   apart same N v ls h (λ m a. each m (inr a)) r.1,
 )
 

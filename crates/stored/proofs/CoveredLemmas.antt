@@ -1,12 +1,12 @@
 -- Each scalar and null of an object has exactly one leaf at its path or at a beginning of it.
-use Rattle.std.specs.Prelude.{◌≡◌, ◌++◌, List, [], ◌∷◌, Bool, true, false, Option, Some, None}
-use Rattle.std.proofs.Common.{ℕ, refl, sym, ap, subst, ◌∙◌, inl, inr}
+use Rattle.std.specs.Prelude.{◌≡◌, ◌++◌, List, [], ◌∷◌, true, false, Some}
+use Rattle.std.proofs.Common.{ℕ, refl, sym, ap, subst, inl, inr}
 use Rattle.jtree.specs.Data.{Data}
 use Rattle.jtree.specs.Data as tree
 use Rattle.jtree.specs.Path.{Step, Path, part_by, part_at}
 use Rattle.jtree.specs.Internal.Lookups.{bool_cases, option_cases}
 use Rattle.schema.specs.Nodes.Node.{Node, node, object, map, list}
-use Rattle.stored.specs.Objects.Parts.{Part, at, free, value_of, pair, whole, node_by, leads}
+use Rattle.stored.specs.Objects.Parts.{Part, at, free, pair, whole, node_by, leads}
 use Rattle.stored.specs.Objects.Leaves.{is_divided, element, leaf_at, is_simple, HasOneLeaf, IsCovered}
 use Rattle.stored.proofs.LeafLevelLemmas.{undivided, down}
 

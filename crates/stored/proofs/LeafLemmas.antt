@@ -1,14 +1,10 @@
 -- Which values are divided, and what tells their parts apart.
-use Rattle.std.specs.Prelude.{◌≡◌, ◌==◌, ℕ, List, [], ◌∷◌, ◌++◌, length, Bool, true, false, not, cond}
+use Rattle.std.specs.Prelude.{◌≡◌, ◌==◌, ℕ, List, [], ◌∷◌, length, not}
 use Rattle.std.specs.List.{filter}
-use Rattle.std.proofs.Common.{◌⊎◌, refl, ap, inl, inr, arith}
+use Rattle.std.proofs.Common.{◌⊎◌, refl, inl, inr, arith}
 use Rattle.std.proofs.lemmas.Bool.Decides.{nat_tests}
-use Rattle.std.specs.declared.cmp.Ordering.TheVariants.{Less}
-use Rattle.std.proofs.lemmas.Cmp.{nat_list_cmp_total}
-use Rattle.jtree.specs.Data.{Data, Items, no_items, item, Members, no_members, member, IsTree, IsNameBefore, AreMembers}
-use Rattle.jtree.specs.Data as tree
-use Rattle.jtree.specs.Order.{text_cmp}
-use Rattle.jtree.specs.View.{data_of, items_of, members_of}
+use Rattle.jtree.specs.Data.{Members, no_members, member, IsNameBefore, AreMembers}
+use Rattle.jtree.specs.View.{items_of, members_of}
 use Rattle.jtree.specs.Internal.Lookups.{bool_cases, IsNameBefore-trans}
 use Rattle.jtree.specs.declared.value.Tree.{Tree}
 use Rattle.jtree.specs.declared.value.Member.{Member}

@@ -1,14 +1,13 @@
 -- The leaves by level are all leaves, in order.
-use Rattle.std.specs.Prelude.{◌≡◌, ◌+◌, ◌++◌, ℕ, zero, suc, List, [], ◌∷◌, map, Bool, true, false, Option, Some, None, option_map, option_and_then, codes}
+use Rattle.std.specs.Prelude.{◌≡◌, ◌+◌, ◌++◌, ℕ, zero, suc, List, [], ◌∷◌, map, true, Option, Some, None, option_map, codes}
 use Rattle.std.proofs.Common.{◌⊎◌, arith, refl, sym, ap, subst, ◌∙◌, inl, inr}
 use Rattle.std.specs.Str.{bytes_eq}
-use Rattle.std.specs.Ordering.{nat_cmp}
 use Rattle.std.specs.Cmp.{nat_cmp_is}
 use Rattle.std.specs.declared.cmp.Ordering.TheVariants.{Less}
 use Rattle.std.proofs.lemmas.Option.{same_Some}
 use Rattle.jtree.specs.Data.{Data, Items, no_items, item, Members, no_members, member, IsTree, AreMembers, AreTrees}
 use Rattle.jtree.specs.Data as tree
-use Rattle.jtree.specs.Path.{Step, name, index, Path, part_by, member_at, item_at}
+use Rattle.jtree.specs.Path.{Step, name, index, Path, member_at, item_at}
 use Rattle.jtree.specs.PathOrder.{step_cmp, path_cmp}
 use Rattle.jtree.specs.Internal.Lookups.{bool_cases, option_cases, same_name, member_first, member_tail, before_each}
 use Rattle.jtree.specs.Internal.PathLaws.{same_step}
@@ -31,19 +30,19 @@ Precedes l m = path_cmp l.path m.path ≡ Less
 
 -- ---- lists
 
-mapped : {A B : Type 0} (f : A → B) (o : Option A) (y : B) → option_map f o ≡ Some y → (x : A) × (o ≡ Some x) × (f x ≡ y)
+pub mapped : {A B : Type 0} (f : A → B) (o : Option A) (y : B) → option_map f o ≡ Some y → (x : A) × (o ≡ Some x) × (f x ≡ y)
 mapped f None y e = cc
 mapped f (Some x) y e = (x, refl, same_Some (f x) y e)
 
-among_map : (f : LeafAt → LeafAt) (ls : List LeafAt) (m : LeafAt) → Among (map f ls) m → (l : LeafAt) × Among ls l × (f l ≡ m)
-among_map f [] m a = elim a [ ]
-among_map f (l ∷ ls) m (inl e) = (l, inl refl, e)
-among_map f (l ∷ ls) m (inr a) = let r = among_map f ls m a in (r.0, inr r.1, r.2)
+pub among_map : {A B : Type 0} (f : A → B) (xs : List A) (y : B) → Among (map f xs) y → (x : A) × Among xs x × (f x ≡ y)
+among_map f [] y a = elim a [ ]
+among_map f (x ∷ xs) y (inl e) = (x, inl refl, e)
+among_map f (x ∷ xs) y (inr a) = let r = among_map f xs y a in (r.0, inr r.1, r.2)
 
-map_among : (f : LeafAt → LeafAt) (ls : List LeafAt) (l : LeafAt) → Among ls l → Among (map f ls) (f l)
-map_among f [] l a = elim a [ ]
-map_among f (m ∷ ls) l (inl e) = inl (ap f e)
-map_among f (m ∷ ls) l (inr a) = inr (map_among f ls l a)
+map_among : {A B : Type 0} (f : A → B) (xs : List A) (x : A) → Among xs x → Among (map f xs) (f x)
+map_among f [] x a = elim a [ ]
+map_among f (y ∷ xs) x (inl e) = inl (ap f e)
+map_among f (y ∷ xs) x (inr a) = inr (map_among f xs x a)
 
 rising_below : (s : Step) (e : List ℕ) (ls : List LeafAt) → Rising Precedes ls → Rising Precedes (map (below s e) ls)
 rising_below s e [] r = tt

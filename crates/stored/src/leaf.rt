@@ -1,4 +1,4 @@
-//! A leaf of an object, and its elements.
+//! A leaf of an object, and the elements of its path.
 ghost use Rattle.std.specs.Prelude.{◌≡◌, ◌++◌, IfOk};
 ghost use Rattle.jtree.specs.Text.{compact};
 ghost use Rattle.jtree.specs.View.{data_of};
@@ -31,7 +31,7 @@ pub(crate) fn item_element(alloc: Global, list: &ListNode, item: &Tree) -> Resul
     }
 }
 
-/// A prefix, and behind it the compact JSON text of a tree.
+/// A prefix and the compact JSON text of a tree.
 fn compact_element(alloc: Global, prefix: &str, tree: &Tree) -> Result<Text, AllocError>
     ensures { IfOk result (λ t. t ≡ prefix.now ++ compact (data_of tree.now)) }
 {
@@ -41,7 +41,7 @@ fn compact_element(alloc: Global, prefix: &str, tree: &Tree) -> Result<Text, All
     }
 }
 
-/// A prefix, and behind it a text.
+/// A prefix and a text.
 pub(crate) fn text_element(alloc: Global, prefix: &str, rest: &str) -> Result<Text, AllocError>
     ensures { IfOk result (λ t. t ≡ prefix.now ++ rest.now) }
 {
@@ -50,7 +50,7 @@ pub(crate) fn text_element(alloc: Global, prefix: &str, rest: &str) -> Result<Te
     Ok(Text { text })
 }
 
-/// The members whose names are among these.
+/// Copies of the members whose names are among these.
 fn members_among(alloc: Global, names: &[Text], members: &Members) -> Result<Members, AllocError>
     ensures { IfOk result (λ m. m ≡ members_among names.now members.now) }
 {
@@ -84,7 +84,7 @@ fn copy_member(alloc: Global, member: &Member) -> Result<Member, AllocError>
     Ok(Member { name, tree })
 }
 
-/// Equal texts.
+/// Copies of these texts.
 pub(crate) fn copy_texts(alloc: Global, texts: &[Text]) -> Result<Vec<Text>, AllocError>
     ensures { IfOk result (λ v. v.items ≡ texts.now) }
 {

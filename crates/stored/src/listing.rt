@@ -1,5 +1,6 @@
 //! All leaves of a stored object, in order.
 ghost use Rattle.std.specs.Prelude.{◌≡◌, ◌++◌, ℕ, ◌∷◌, [], OnOk, IfOk, IfErr, Some, map, codes};
+ghost use Rattle.jtree.specs.Data.{Data};
 ghost use Rattle.jtree.specs.Path.{name as name_step, index as index_step};
 ghost use Rattle.jtree.specs.View.{data_of};
 ghost use Rattle.schema.specs.Document.Places.{Place};
@@ -7,7 +8,6 @@ ghost use Rattle.schema.specs.Nodes.ByPlace.{node_at};
 ghost use Rattle.schema.specs.Nodes.Node.{Node as NodeData};
 ghost use Rattle.schema.specs.Nodes.Shape.{IsRootOf};
 ghost use Rattle.schema.specs.Nodes.View.{node_of};
-ghost use Rattle.jtree.specs.Data.{Data};
 ghost use Rattle.stored.specs.declared.fault.LFault.TheVariants.{NotStored};
 ghost use Rattle.stored.specs.Objects.Becomes.{IsStored};
 ghost use Rattle.stored.specs.Objects.Leaves.{is_divided, item_element as item_element_of, elements_of, AreLeaves, AreApart, IsCovered};
@@ -22,13 +22,15 @@ use jtree::{Items, Member, Members, Text, Tree, texts_tell_apart};
 use schema::{Fields, ListNode, ListType, MapNode, MapType, Node, Sort, items_told_apart};
 use std::alloc::{AllocError, Global};
 
-/// The leaves of a stored object at its node: what an applier owns of it, each by the elements of its path (apiextensions.k8s.io/v1,
-/// merge markers; Server-Side Apply, FieldsV1). A granular object or map has the leaves of each member, after `f:` and the name; a
-/// set has a leaf for each item, `v:` and its compact JSON text; a map list has the leaves of each item, after `k:` and the compact
-/// JSON text of its keys. Everything else is one leaf as a whole, and so is what is empty. They stand in the order of members by
-/// the bytes of their names and of items by place, and none begins another at a node of a schema that breaks no rule. `NotStored`
-/// where the object is not valid, or pruning or defaulting changes it, and `NoMemory` where an allocation fails. Work is linear
-/// in the object, the nodes and the leaves, but for the items of a set or a map list, which are sorted.
+/// The leaves of a stored object at its node: what an applier owns of it, each as the elements of its path (apiextensions.k8s.io/v1,
+/// merge markers; Server-Side Apply, FieldsV1). A granular object or map has the leaves of each member, after `f:` and the name. A
+/// set has one leaf for each item, `v:` and its compact JSON text. A map list has the leaves of each item, after `k:` and the
+/// compact JSON text of its keys. Everything else is one leaf as a whole, and so is what is empty. The leaves stand in the order of
+/// members by the bytes of their names and of items by index. Each scalar and null belongs to exactly one, and at a node of a
+/// schema that breaks no rule no leaf begins another.
+///
+/// `NotStored` where the object is not valid, or pruning or defaulting changes it. `NoMemory` where an allocation fails. Work is
+/// linear in the object, the nodes and the leaves, but for the items of a set or a map list, which are sorted.
 pub fn leaves(alloc: Global, node: &Node, tree: &Tree) -> Result<Vec<Leaf>, LFault>
     ensures leaves { IfOk result (λ ls. AreLeaves (node_of node.now) (data_of tree.now) (map elements_of ls.items)) }
     ensures stored { OnOk result (IsStored (node_of node.now) (data_of tree.now)) }
@@ -87,7 +89,9 @@ fn is_divided(node: &Node, tree: &Tree) -> bool
     ensures { result ≡ is_divided (node_of node.now) (data_of tree.now) }
 {
     match (&node.sort, tree) {
-        (Sort::Object(object), Tree::Object(members)) => is_object_divided(object.map_type, members),
+        (Sort::Object(object), Tree::Object(members)) => {
+            is_object_divided(object.map_type, members)
+        }
         (Sort::Map(map), Tree::Object(members)) => is_object_divided(map.map_type, members),
         (Sort::List(list), Tree::List(items)) => is_list_divided(list.list_type, items),
         _ => false,
@@ -127,6 +131,7 @@ fn list_below(alloc: Global, walk: &mut Walk, tree: &Tree, node: &Node) -> Resul
     }
 }
 
+/// Adds the leaves of an object with declared fields.
 #[cycle(list)]
 fn list_fields(
     alloc: Global,
@@ -159,6 +164,7 @@ fn list_field(
     }
 }
 
+/// Adds the leaves of a map.
 #[cycle(list)]
 fn list_values(
     alloc: Global,
@@ -186,7 +192,8 @@ fn list_named(
         (map (below (name_step member.now.name) (codes "f:" ++ member.now.name)) (leaves_by_level (node_of node.now) (data_of member.now.tree)))) }
 {
     let depth = walk.way.len();
-    walk.way.push(text_element(alloc, "f:", member.name.as_str())?)?;
+    walk.way
+        .push(text_element(alloc, "f:", member.name.as_str())?)?;
     list_tree(alloc, walk, &member.tree, node)?;
     walk.way.truncate(depth);
     Ok(())
@@ -197,12 +204,14 @@ fn add_named(alloc: Global, walk: &mut Walk, member: &Member) -> Result<(), Allo
     ensures { OnOk result (walked walk.new ≡ added (walked walk.old) (map (below (name_step member.now.name) (codes "f:" ++ member.now.name)) (here ∷ []))) }
 {
     let depth = walk.way.len();
-    walk.way.push(text_element(alloc, "f:", member.name.as_str())?)?;
+    walk.way
+        .push(text_element(alloc, "f:", member.name.as_str())?)?;
     walk.add_leaf(alloc)?;
     walk.way.truncate(depth);
     Ok(())
 }
 
+/// Adds the leaves of a set or a map list.
 #[cycle(list)]
 fn list_items(
     alloc: Global,
@@ -220,12 +229,7 @@ fn list_items(
 
 /// Adds the leaves of an item, which may stand at any index.
 #[cycle(list)]
-fn list_item(
-    alloc: Global,
-    walk: &mut Walk,
-    item: &Tree,
-    list: &ListNode,
-) -> Result<(), AllocError>
+fn list_item(alloc: Global, walk: &mut Walk, item: &Tree, list: &ListNode) -> Result<(), AllocError>
     ensures { OnOk result ((i : ℕ) → walked walk.new ≡ added (walked walk.old)
         (map (below (index_step i) (item_element_of list.now.list_type list.now.keys.items (data_of item.now))) (leaves_by_level list.now.item (data_of item.now)))) }
 {

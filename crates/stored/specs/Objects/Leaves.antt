@@ -1,11 +1,10 @@
 -- The leaves of a stored object: what an applier owns of it, each as a list of path elements (apiextensions.k8s.io/v1, merge
 -- markers; Server-Side Apply, FieldsV1). The text and the order of elements, that leaves alone are listed, and that the value of an
 -- open node and a member that is not declared are one leaf each, are this project's own.
-use Rattle.std.specs.Prelude.{◌≡◌, ◌≢◌, ◌++◌, ℕ, List, [], ◌∷◌, map, All, AllPairs, Contains, Bool, true, false, not, Option, Some, None, option_map, option_and_then, if◌then◌else◌, codes}
+use Rattle.std.specs.Prelude.{◌≡◌, ◌≢◌, ◌++◌, ℕ, List, [], ◌∷◌, map, All, AllPairs, Contains, Bool, true, false, Option, Some, None, option_map, option_and_then, if◌then◌else◌, codes}
 use Rattle.std.specs.declared.cmp.Ordering.TheVariants.{Less}
 use Rattle.jtree.specs.Data.{Data, Members, no_members, member, item}
 use Rattle.jtree.specs.Data as tree
-use Rattle.jtree.specs.Kind.{is_list, is_object}
 use Rattle.jtree.specs.Path.{Step, name, index, Path, part_at}
 use Rattle.jtree.specs.PathOrder.{path_cmp}
 use Rattle.jtree.specs.Text.{compact}

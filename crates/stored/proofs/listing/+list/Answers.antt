@@ -1,4 +1,4 @@
-use Rattle.std.proofs.Common.{ℕ, List, Option, ◌≡◌, ◌∙◌, ◌++◌, ◌∷◌, [], Some, ap, sym, subst, map, take, length, codes, arith}
+use Rattle.std.proofs.Common.{ℕ, List, Option, ◌≡◌, ◌++◌, Some, subst, map, codes, arith}
 use Rattle.jtree.specs.Path.{name, index}
 use Rattle.jtree.specs.View.{data_of}
 use Rattle.schema.specs.Nodes.Node.{Node}
