@@ -14,7 +14,7 @@ use crate::inputs::Inputs;
 use crate::running::answer::{Answer, json_items, json_text, json_texts, json_tree};
 use crate::running::causes::Cause;
 use crate::running::documents::accepted_schema;
-use explain::{Field, Listing};
+use explain::{Field, Listing, resolve};
 use jtree::{Items, Text};
 use schema::{ListType, MapType};
 use std::alloc::{AllocError, Global};
@@ -57,11 +57,12 @@ fn explain_fields(alloc: Global, schema: &Schema) -> Result<Answer, Cause>
     })
 }
 
-/// All that is known of the field of a path.
+/// All that is known of the field of a path. A path that leads to none is told of before memory is taken for a listing.
 fn explain_field(alloc: Global, schema: &Schema, path: &str) -> Result<Answer, Cause>
     ensures answer { IfOk result (λ a. IsFieldAnswer schema.now (Some path.entry) a.status (string_bytes a.text)) }
     ensures cause { IfErr result (IsFieldCause schema.now (Some path.entry)) }
 {
+    resolve(schema, path)?;
     let listing = Listing::new(alloc, schema)?;
     let field = listing.field(path)?;
     Ok(Answer {
