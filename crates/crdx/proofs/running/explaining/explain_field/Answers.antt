@@ -1,8 +1,6 @@
-use Rattle.std.proofs.Common.{sym, subst}
 use Rattle.std.proofs.lemmas.Result.{err_from_is_err_and}
 use Rattle.explain.specs.Fields.View.{field_of}
-use Rattle.crdx.specs.Program.FieldAnswer.{IsFieldAnswer, found, not_found}
-use Rattle.std.specs.Prelude.{Some}
+use Rattle.crdx.specs.Program.FieldAnswer.{found, not_found}
 use Rattle.crdx.proofs.running.explaining.explain_field.Goals as goal
 
 pub returns-in_err-resolve-clause-cause : goal.returns-in_err-resolve-clause-cause
@@ -16,7 +14,4 @@ returns-in_err-field-clause-cause c =
     rw (p.1, p.2) (not_found c.args.path c.in_err-field.field-0.0 (c.in_err-field.ensures.fault c.args.schema.now c.in_ok-listing.ensures))
 
 pub returns-clause-answer : goal.returns-clause-answer
-returns-clause-answer c =
-    let root = c.args.schema.now in
-    subst (λ s. IsFieldAnswer root (Some c.args.path) 0 s) (sym c.in_ok-all_of_field.ensures)
-    (found c.args.path (field_of c.in_ok-field.field.now) (c.in_ok-field.ensures.found root c.in_ok-listing.ensures))
+returns-clause-answer c = rw c.in_ok-all_of_field.ensures (found c.args.path (field_of c.in_ok-field.field.now) (c.in_ok-field.ensures.found c.args.schema.now c.in_ok-listing.ensures))
