@@ -1,11 +1,12 @@
 -- How the causes of a run and its status go together with what is asked of the documents at hand.
-use Rattle.std.proofs.Common.{◌≡◌, ◌≢◌, ◌⊎◌, ℕ, List, [], ◌∷◌, Option, Some, None, Bor, Ok, Err, refl, ap, subst, inl, inr, take, map, string_bytes, IsSomeAnd, Bool, codes, ◌∙◌, arith}
+use Rattle.std.proofs.Common.{◌≡◌, ◌≢◌, ◌⊎◌, ℕ, List, [], ◌∷◌, Option, Some, None, Bor, Ok, Err, refl, ap, subst, inl, inr, take, map, string_bytes, IsSomeAnd, Bool, true, codes, ◌∙◌, arith}
 use Rattle.std.specs.Prelude.{IfSome, IfOk, IfErr, OnOk, OnErr, Result}
 use Rattle.std.specs.Io.KnownBytes.{Appends, Keeps}
 use Rattle.jtree.specs.Data.{Data}
 use Rattle.jtree.specs.Internal.OrderLaws.{tree_total}
 use Rattle.jtree.specs.Internal.Rising.{contained}
 use Rattle.schema.specs.Nodes.Node.{Node}
+use Rattle.schema.specs.Nodes.ByPlace.{AreNodesOf}
 use Rattle.schema.specs.Rules.Breaks.{Break, Breaking, AreViolations, IsUnbroken, told, told_of}
 use Rattle.schema.specs.declared.refused.Refused.{Refused}
 use Rattle.schema.specs.declared.refused.Refused.TheVariants as refusal
@@ -18,7 +19,7 @@ use Rattle.crdx.specs.Program.RunResult.{Effects, WritesNothing, IsRunResult, an
 use Rattle.crdx.specs.Output.Line.{lines}
 use Rattle.crdx.specs.Output.PartialOutput.{IsPartialOutput}
 use Rattle.crdx.specs.Output.Walk.{WritesPage}
-use Rattle.crdx.specs.Program.Requested.{IsRequested, IsRequestedSchema, IsRequestedRoot, HasAcceptedSchema, IsCrdRefused, ArePools}
+use Rattle.crdx.specs.Program.Requested.{IsRequested, IsRequestedCrd, IsRequestedSchema, IsRequestedRoot, HasAcceptedSchema, IsCrdRefused, ArePools}
 use Rattle.crdx.specs.Program.Documents.{Documents, file_name, AreAmong}
 use Rattle.crdx.specs.Internal.ExitStatus.{status, cause_of_reading, cause_of_refusal, cause_of_pools, cause_of_walk, IsGiven}
 use Rattle.crdx.specs.Internal.Cause.{IsUnreadCause, IsReadCause, IsBrokenCause, IsSchemaCause, IsPoolsCause, IsTextCause, IsAfterCause, IsFieldCause, IsObjectCause, IsDocumentCause, IsInputCause, IsSampleCause, IsWalkCause}
@@ -97,6 +98,11 @@ module _ (has : Documents) (unread read : ℕ) (crd version : List ℕ) (request
   pub input_of_schema : (cause : Cause) → (IsCrdRefused has crd version → IsInputRefused has request) → IsSchemaCause has unread read crd version cause → IsInputCause has unread read request cause
   input_of_schema cause refuse (inl why) = input_of_reading has unread read crd version request cause refuse why
   input_of_schema cause refuse (inr why) = input_of_broken why.0 cause why.1 why.2
+
+-- the root of the schema that was read
+pub requested_root : (has : Documents) (crd version group kind : List ℕ) (N : Node) → ((raw : Data) × IsRequestedCrd has crd version group kind raw × IsUnbroken (IsBroken raw) × AreNodesOf true N raw)
+    → IsRequestedRoot has crd version N
+requested_root has crd version group kind N (raw, asked, unbroken, nodes) = (raw, record { asked = (group, (kind, asked)); unbroken = unbroken }, nodes)
 
 -- why the fields of the schema that is asked for are not printed
 pub field_input : (has : Documents) (unread read : ℕ) (arguments : ExplainArguments) (N : Node) (cause : Cause) → IsRequestedRoot has arguments.crd.now arguments.version.now N

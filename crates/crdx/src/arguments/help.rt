@@ -265,14 +265,7 @@ pub(super) const CRD: &str = "A JSON file with a CustomResourceDefinition";
 
 pub(super) const CRD_VERSION: &str = "The name of one of its versions, such as v1";
 
-pub(super) const PATH: &str = "The path of a field, such as /spec/ports/[]/name";
-
-pub(super) const PATH_LONG: &str =
-    r#"The path of a field, such as /spec/ports/[]/name: a / before each
-step, which is the name of a field, [] for the items of a list, or
-{} for the values of a map. In a name ~ is written ~0, / is written
-~1, [ is written ~2, and { is written ~3. Without it all fields are
-listed."#;
+pub(super) const PATH: &str = "The path of a field; without it all fields are listed";
 
 pub(super) const OBJECT: &str = "A JSON file with the object; without it standard input is read";
 

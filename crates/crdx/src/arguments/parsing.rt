@@ -226,9 +226,7 @@ fn path_argument<'a>(alloc: Global) -> Arg<'a>
     ensures rule { rule_of result ≡ new_rule (codes "PATH") }
     ensures local { result.global ≡ false }
 {
-    Arg::new(alloc, "PATH")
-        .help(help::PATH)
-        .long_help(help::PATH_LONG)
+    Arg::new(alloc, "PATH").help(help::PATH)
 }
 
 /// The command of this name, with the arguments that `validate`, `prune`, `default` and `leaves` take.

@@ -1,7 +1,7 @@
 use Rattle.std.proofs.lemmas.Result.{err_from_is_err_and, IfOk-weaker, IfErr-weaker}
 use Rattle.crdx.specs.Program.RunResult.{fields, no_fields}
 use Rattle.crdx.specs.declared.arguments.request.Request.TheVariants.{Explain}
-use Rattle.crdx.proofs.RunLemmas.{input_of_schema, field_input}
+use Rattle.crdx.proofs.RunLemmas.{input_of_schema, requested_root, field_input}
 use Rattle.crdx.proofs.running.explaining.explain.Goals as goal
 
 pub returns-in_err-accepted-clause-cause : goal.returns-in_err-accepted-clause-cause
@@ -13,13 +13,16 @@ returns-in_err-accepted-clause-cause g c =
 
 pub returns-clause-answer : goal.returns-clause-answer
 returns-clause-answer g c =
-    let (raw, asked, unbroken, nodes) = c.in_ok-accepted.ensures.accepted in
+    let arguments = c.args.arguments.now in
     let accepted = c.in_ok-accepted.accepted in
-    IfOk-weaker c.explain_schema-answer.result _ _ (λ a is. fields c.args.arguments.now accepted.schema a.status _ (raw, record { asked = (accepted.group, (accepted.kind, asked)); unbroken = unbroken }, nodes) is) c.explain_schema-answer.ensures.answer
+    let root = requested_root (g.I.Inputs.has c.args.inputs.now) arguments.crd.now arguments.version.now accepted.group accepted.kind accepted.schema c.in_ok-accepted.ensures.accepted in
+    IfOk-weaker c.explain_schema-answer.result _ _ (λ a is. fields arguments accepted.schema a.status _ root is) c.explain_schema-answer.ensures.answer
 
 pub returns-clause-cause : goal.returns-clause-cause
 returns-clause-cause g c =
-    let (raw, asked, unbroken, nodes) = c.in_ok-accepted.ensures.accepted in
+    let has = g.I.Inputs.has c.args.inputs.now in
+    let arguments = c.args.arguments.now in
     let accepted = c.in_ok-accepted.accepted in
-    IfErr-weaker c.explain_schema-answer.result _ _ (λ cause why. field_input (g.I.Inputs.has c.args.inputs.now) (g.I.Inputs.failures c.args.inputs.now) (g.I.Inputs.failures c.accepted_schema.new.inputs) c.args.arguments.now accepted.schema cause
-    (raw, record { asked = (accepted.group, (accepted.kind, asked)); unbroken = unbroken }, nodes) why) c.explain_schema-answer.ensures.cause
+    let root = requested_root has arguments.crd.now arguments.version.now accepted.group accepted.kind accepted.schema c.in_ok-accepted.ensures.accepted in
+    IfErr-weaker c.explain_schema-answer.result _ _
+    (λ cause. field_input has (g.I.Inputs.failures c.args.inputs.now) (g.I.Inputs.failures c.accepted_schema.new.inputs) arguments accepted.schema cause root) c.explain_schema-answer.ensures.cause

@@ -1,12 +1,12 @@
-use Rattle.std.proofs.Common.{true, inl, sym, subst}
+use Rattle.std.proofs.Common.{inl, sym, subst}
 use Rattle.std.proofs.lemmas.Result.{err_from_is_err_and, IfOk-weaker, IfErr-weaker}
-use Rattle.schema.specs.Nodes.ByPlace.{AreNodesOf}
 use Rattle.schema.specs.Nodes.View.{node_of}
 use Rattle.crdx.specs.Internal.Cause.{IsDocumentCause}
 use Rattle.crdx.specs.Program.Documents.{file_name}
+use Rattle.crdx.specs.Program.Requested.{IsRequestedRoot}
 use Rattle.crdx.specs.Program.RunResult.{object, no_object}
 use Rattle.crdx.specs.declared.arguments.request.Request.TheVariants.{Object}
-use Rattle.crdx.proofs.RunLemmas.{input_of_schema, object_input}
+use Rattle.crdx.proofs.RunLemmas.{input_of_schema, requested_root, object_input}
 use Rattle.crdx.proofs.running.objects.judge_object.Goals as goal
 
 pub returns-in_err-accepted-clause-cause : goal.returns-in_err-accepted-clause-cause
@@ -18,20 +18,24 @@ returns-in_err-accepted-clause-cause g c =
 
 pub returns-clause-answer : goal.returns-clause-answer
 returns-clause-answer g c =
-    let (raw, asked, unbroken, nodes) = c.in_ok-accepted.ensures.accepted in
+    let has = g.I.Inputs.has c.args.inputs.now in
     let arguments = c.args.arguments.now in
+    let accepted = c.in_ok-accepted.accepted in
+    let root = requested_root has arguments.crd.now arguments.version.now accepted.group accepted.kind accepted.schema c.in_ok-accepted.ensures.accepted in
     IfOk-weaker c.judge_at-answer.result _ _ (λ a said. object arguments (node_of c.root.result.now) said.0 a.status _ (record {
-      root = (raw, record { asked = (c.in_ok-accepted.accepted.group, (c.in_ok-accepted.accepted.kind, asked)); unbroken = unbroken }, subst (λ N. AreNodesOf true N raw) (sym c.root.ensures.node) nodes);
+      root = subst (IsRequestedRoot has arguments.crd.now arguments.version.now) (sym c.root.ensures.node) root;
       at_hand = c.in_ok-accepted.ensures.stays (file_name arguments.object) _ said.1;
     }) said.2) c.judge_at-answer.ensures.answer
 
 pub returns-clause-cause : goal.returns-clause-cause
 returns-clause-cause g c =
+    let has = g.I.Inputs.has c.args.inputs.now in
     let later = g.I.Inputs.has c.accepted_schema.new.inputs in
     let read = g.I.Inputs.failures c.judge_at-answer.new.inputs in
     let arguments = c.args.arguments.now in
-    let (raw, asked, unbroken, nodes) = c.in_ok-accepted.ensures.accepted in
+    let accepted = c.in_ok-accepted.accepted in
+    let N = node_of c.root.result.now in
+    let root = requested_root has arguments.crd.now arguments.version.now accepted.group accepted.kind accepted.schema c.in_ok-accepted.ensures.accepted in
     IfErr-weaker c.judge_at-answer.result _ _ (λ cause why.
-    object_input (g.I.Inputs.has c.args.inputs.now) later (g.I.Inputs.failures c.args.inputs.now) read arguments (node_of c.root.result.now) c.in_ok-accepted.ensures.stays
-    (raw, record { asked = (c.in_ok-accepted.accepted.group, (c.in_ok-accepted.accepted.kind, asked)); unbroken = unbroken }, subst (λ N. AreNodesOf true N raw) (sym c.root.ensures.node) nodes) cause
-    (subst (λ n. IsDocumentCause later n read (node_of c.root.result.now) arguments cause) c.in_ok-accepted.ensures.unfailed why)) c.judge_at-answer.ensures.cause
+    object_input has later (g.I.Inputs.failures c.args.inputs.now) read arguments N c.in_ok-accepted.ensures.stays (subst (IsRequestedRoot has arguments.crd.now arguments.version.now) (sym c.root.ensures.node) root) cause
+    (subst (λ n. IsDocumentCause later n read N arguments cause) c.in_ok-accepted.ensures.unfailed why)) c.judge_at-answer.ensures.cause
