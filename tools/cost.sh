@@ -74,6 +74,15 @@ integers() {
     }'
 }
 
+# so many integers, the greatest first
+descending() {
+    awk -v count="$1" 'BEGIN {
+        printf "["
+        for (i = count - 1; i >= 0; i--) printf "%d%s", i, i ? "," : ""
+        printf "]"
+    }'
+}
+
 # so many items with the same under three keys, and each with another value under the fourth
 items() {
     awk -v count="$1" 'BEGIN {
@@ -192,6 +201,7 @@ map_lists 3 28 | define >84-map-lists-of-4-keys
 integers 160000 160000 | between '{"type":"array","x-kubernetes-list-type":"set","items":{"type":"integer"},"default":' '}' | field_of >default-of-160000-integers-in-a-set
 cd "$folder/objects"
 integers 160000 160000 | between '{"x":' '}' >160000-integers
+descending 150000 | between '{"x":' '}' >150000-descending-integers
 integers 200000 10000 | between '{"x":' '}' >200000-integers-of-10000-values
 integers 500000 10 | between '{"x":' '}' >500000-digits
 items 10000 | between '{"x":' '}' >10000-items-of-4-keys
@@ -207,10 +217,12 @@ cd "$root"
 
 for schema in "$folder"/schemas/*; do
     measure "check of $(basename "$schema")" "$schema" check "$schema" v1
+    measure "explain of $(basename "$schema")" "$schema" explain "$schema" v1
 done
 for row in validate:set:160000-integers validate:set:200000-integers-of-10000-values validate:list:500000-digits validate:map-list:10000-items-of-4-keys \
     validate:preserving:500000-digits prune:preserving:500000-digits default:preserving:500000-digits \
-    validate:map:90000-members prune:object:90000-members default:map:90000-members; do
+    validate:map:90000-members prune:object:90000-members default:map:90000-members leaves:set:150000-descending-integers \
+    leaves:list:500000-digits leaves:map-list:10000-items-of-4-keys leaves:preserving:500000-digits leaves:map:90000-members; do
     IFS=: read -r command schema object <<<"$row"
     measure "$command of $object by $schema" "$folder/objects/$object" "$command" "$folder/$schema" v1 "$folder/objects/$object"
 done

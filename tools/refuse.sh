@@ -105,6 +105,23 @@ F14 "/s/3" junctor
 LINES
 echo '{"kind":"Widget","metadata":{"name":"w"},"s":[0,4,0,2]}' >"$folder/pruned"
 echo '{"a":{"f":7},"kind":"Widget","metadata":{"name":"w"},"s":[0,4,0,2]}' >"$folder/completed"
+cat >"$folder/fields" <<'LINES'
+"/a" <Object> default={}
+"/a/f" <integer> default=7
+"/r" <string> required
+"/s" <[]integer> list-type=set
+"/s/[]" <integer>
+LINES
+sed -n 2p "$folder/fields" >"$folder/field"
+echo 'crdx: explain: X2' >"$folder/no-field"
+echo '{"a":{"f":7},"kind":"Widget","r":"x","s":[0,4]}' >"$folder/stored.json"
+cat >"$folder/leaves" <<'LINES'
+["f:a","f:f"]
+["f:r"]
+["f:s","v:0"]
+["f:s","v:4"]
+LINES
+echo 'crdx: object: L1' >"$folder/not-stored"
 widget=examples/widget
 
 row 'sample of the widget' lines 0 $widget/samples-of-4-nodes.txt "$folder/end" \
@@ -117,6 +134,11 @@ row 'check of two bad defaults' nothing 1 "$folder/bad-default" /dev/null check 
 row 'validate of three faults' nothing 1 "$folder/faults" /dev/null validate "$folder/crd.json" v1 "$folder/object.json"
 input=$folder/object.json row 'prune of the standard input' nothing 0 "$folder/pruned" /dev/null prune "$folder/crd.json" v1
 row 'default of an object' nothing 0 "$folder/completed" /dev/null default "$folder/crd.json" v1 "$folder/object.json"
+row 'explain of every field' nothing 0 "$folder/fields" /dev/null explain "$folder/crd.json" v1
+row 'explain of a field' nothing 0 "$folder/field" /dev/null explain "$folder/crd.json" v1 /a/f
+row 'explain of no field' nothing 1 /dev/null "$folder/no-field" explain "$folder/crd.json" v1 /a/g
+row 'leaves of an object' nothing 0 "$folder/leaves" /dev/null leaves "$folder/crd.json" v1 "$folder/stored.json"
+row 'leaves of an object that is not stored' nothing 1 /dev/null "$folder/not-stored" leaves "$folder/crd.json" v1 "$folder/object.json"
 row 'validate by a schema that breaks rules' nothing 1 /dev/null "$folder/broken" validate "$folder/broken.json" v1
 
 printf '%s\n' "${counts[@]}"

@@ -1,59 +1,45 @@
-//! Tests of the program and of the public calls of its library, over documents and streams of memory.
+//! Tests of the program and of the public calls of its libraries, over documents and streams of memory.
+//!
+//! | File | What is tested |
+//! |---|---|
+//! | `jtree_tests/tree_cases` | trees: read and written, their order, pointers, what stands under a name |
+//! | `schema_tests/reading_cases` | definitions that are read or refused, and the form of each keyword |
+//! | `schema_tests/limit_cases` | schemas at each limit and past it |
+//! | `schema_tests/marker_cases` | the markers of lists and maps (V10 to V13) |
+//! | `schema_tests/profile_cases` | junctors and the profile (V16, V17) |
+//! | `schema_tests/node_cases` | the nodes of each sort |
+//! | `stored_tests/default_cases` | defaults that are misplaced or bad (V15, V14) |
+//! | `stored_tests/object_cases` | objects that are valid or not, pruned, completed |
+//! | `explain_tests/field_cases` | the fields of a listing, and the field and the node of a path |
+//! | `plan_tests/pools_cases` | documents of pools |
+//! | `plan_tests/size_set_cases` | sets of sizes |
+//! | `plan_tests/plan_cases` | plans: their nodes, sizes and what is handed out |
+//! | `enumerate_tests/page_cases` | pages, walks and enumerations, with their steps |
+//! | `enumerate_tests/reference_cases` | the plain reference, and walks, against lists made by hand |
+//! | `enumerate_tests/small_plan_cases` | 696 small plans and their pages against the plain reference |
+//! | `program/argument_cases` | the arguments, mistakes in them, and help |
+//! | `program/check_cases`, `validate_cases`, `prune_cases`, `sample_cases` | what each command prints |
+//! | `program/explain_cases`, `leaf_cases` | what `explain` and `leaves` print, and what they refuse |
+//! | `program/refusal_cases` | inputs that are refused, and which is judged first |
+//! | `program/input_cases` | documents in files, and which inputs a run reads |
+//! | `program/broken_sink_cases` | sinks that fail after each byte |
+//! | `program/envelope_cases` | the envelope of a resource, taken off and put back |
+//! | `support` | documents, fakes, the plain reference, and what several files use |
 #![tactic(auto)]
 
 #[cfg(test)]
-mod argument_rows;
+mod enumerate_tests;
 #[cfg(test)]
-mod broken_rows;
+mod explain_tests;
 #[cfg(test)]
-mod check_rows;
+mod jtree_tests;
 #[cfg(test)]
-mod default_rows;
+mod plan_tests;
 #[cfg(test)]
-mod documents;
+mod program;
 #[cfg(test)]
-mod envelope_rows;
+mod schema_tests;
 #[cfg(test)]
-mod fakes;
+mod stored_tests;
 #[cfg(test)]
-mod harness;
-#[cfg(test)]
-mod input_rows;
-#[cfg(test)]
-mod limit_rows;
-#[cfg(test)]
-mod marker_rows;
-#[cfg(test)]
-mod node_rows;
-#[cfg(test)]
-mod node_text;
-#[cfg(test)]
-mod object_rows;
-#[cfg(test)]
-mod page_rows;
-#[cfg(test)]
-mod plan_rows;
-#[cfg(test)]
-mod pools_rows;
-#[cfg(test)]
-mod profile_rows;
-#[cfg(test)]
-mod prune_rows;
-#[cfg(test)]
-mod reading_rows;
-#[cfg(test)]
-mod reference;
-#[cfg(test)]
-mod reference_rows;
-#[cfg(test)]
-mod refusal_rows;
-#[cfg(test)]
-mod sample_rows;
-#[cfg(test)]
-mod size_set_rows;
-#[cfg(test)]
-mod small_plans;
-#[cfg(test)]
-mod tree_rows;
-#[cfg(test)]
-mod validate_rows;
+mod support;

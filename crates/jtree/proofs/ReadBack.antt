@@ -1,26 +1,30 @@
 -- The compact text of a tree reads back to the tree.
-use Rattle.std.proofs.Common.{◌≡◌, ℕ, ◌^◌, ◌<◌, ◌≤◌, ℤ, pos, negsuc, List, [], Some, refl, sym, ap, ◌∙◌, subst, arith, append-nil}
+use Rattle.std.proofs.Common.{◌≡◌, ℕ, ◌+◌, ◌^◌, ◌<◌, ◌≤◌, ℤ, pos, negsuc, List, [], Some, refl, sym, ap, ◌∙◌, subst, arith, append-nil}
 use Rattle.std.specs.Prelude.{option_map, FitsSigned}
 use Rattle.std.specs.Int.{w64}
 use Rattle.std.specs.Ordering.{ordering_reverse}
 use Rattle.std.specs.declared.cmp.Ordering.TheVariants.{Less, Greater}
 use Rattle.std.proofs.lemmas.Int.{ints}
+use Rattle.std.proofs.lemmas.Option.{same_Some}
 use Rattle.std.proofs.lemmas.Cmp.{nat_list_cmp_total}
 use Rattle.std.proofs.lemmas.Bool.Decides.{Decides-ltb}
 use Rattle.json.specs.Lex.{tokens}
 use Rattle.json.specs.Json as token
-use Rattle.json.specs.Tree.{json_tokens}
+use Rattle.json.specs.Tree.{json_tokens, HasNumbers, ItemsHaveNumbers, MembersHaveNumbers}
 use Rattle.json.specs.Tree as token_tree
 use Rattle.serde_json.specs.Data as json
 use Rattle.serde_json.specs.Find.{of_integer, as_i64}
 use Rattle.serde_json.specs.Read.{number_of, of_json, of_items, of_members, read, max_depth}
 use Rattle.serde_json.specs.Written.{number_text, outline, items_outline, members_outline}
 use Rattle.serde_json.proofs.Numbers.{number_of-decimal, number_of-negative}
-use Rattle.json.proofs.Printed.Trees.{value-json_tokens}
+use Rattle.json.proofs.Printed.Decimals.{IsNumber-decimal, IsNumber-signed_decimal}
+use Rattle.json.proofs.Printed.Tokens.{tokens-print}
+use Rattle.json.proofs.Printed.Trees.{value-json_tokens, ArePrintable-json_tokens}
+use Rattle.serde_json.proofs.Texts.{print-outline}
 use Rattle.jtree.specs.Data.{Data, integer, list, object, Items, no_items, item, Members, no_members, member, IsTree, AreTrees, IsNameBefore, AreMembers, depth, items_depth, members_depth}
 use Rattle.jtree.specs.Order.{text_cmp}
 use Rattle.jtree.specs.Reads.{tree_of, items_tree, members_tree}
-use Rattle.jtree.specs.Text.{json_of, items_json, members_json}
+use Rattle.jtree.specs.Text.{json_of, items_json, members_json, compact}
 
 -- ---- an integer's digits read back
 
@@ -137,3 +141,40 @@ read_back d bytes t shallow same =
     let whole : token.value max_depth (tokens bytes) ≡ Some (tree, []) =
     ap (token.value max_depth) (same ∙ sym (append-nil (json_tokens tree))) ∙ value-json_tokens tree max_depth [] (omega (arith, outline_depth d)) in
     rw whole (of_json-outline d t)
+
+-- ---- trees with equal text are the same, however deep and long
+
+mutual
+  has_numbers : (d : Data) → IsTree d → HasNumbers (outline (json_of d))
+  has_numbers (integer (pos n)) t = IsNumber-decimal n (omega (arith, ints, t))
+  has_numbers (integer (negsuc n)) t = IsNumber-signed_decimal (negsuc n) (omega (arith, ints, t))
+  has_numbers (list ds) t = items_have_numbers ds t
+  has_numbers (object ms) t = members_have_numbers ms t
+  has_numbers _ t = tt
+
+  items_have_numbers : (ds : Items) → AreTrees ds → ItemsHaveNumbers (items_outline (items_json ds))
+  items_have_numbers no_items t = tt
+  items_have_numbers (item d ds) t = (has_numbers d t.0, items_have_numbers ds t.1)
+
+  members_have_numbers : (ms : Members) → AreMembers ms → MembersHaveNumbers (members_outline (members_json ms))
+  members_have_numbers no_members t = tt
+  members_have_numbers (member k d ms) t = (has_numbers d t.0, members_have_numbers ms t.2)
+
+text_tokens : (d : Data) → IsTree d → tokens (compact d) ≡ json_tokens (outline (json_of d))
+text_tokens d t =
+    let tree = outline (json_of d) in
+    ap tokens (sym (print-outline (json_of d))) ∙ tokens-print (json_tokens tree) (ArePrintable-json_tokens tree (has_numbers d t))
+
+-- the value that the tokens of a text are, where nesting up to the depth n is read
+value_of_text : (d : Data) (n : ℕ) → IsTree d → depth d ≤ n → token.value n (tokens (compact d)) ≡ Some (outline (json_of d), [])
+value_of_text d n t shallow =
+    let tree = outline (json_of d) in
+    ap (token.value n) (text_tokens d t ∙ sym (append-nil (json_tokens tree))) ∙ value-json_tokens tree n [] (omega (arith, outline_depth d))
+
+pub same_text : (u v : Data) → IsTree u → IsTree v → compact u ≡ compact v → u ≡ v
+same_text u v tu tv same =
+    let n = depth u + depth v in
+    let values = sym (value_of_text u n tu (omega arith)) ∙ ap (λ b. token.value n (tokens b)) same ∙ value_of_text v n tv (omega arith) in
+    let trees = ap (λ p. p.0) (same_Some (outline (json_of u), []) (outline (json_of v), []) values) in
+    let jsons = same_Some (json_of u) (json_of v) (sym (of_json-outline u tu) ∙ ap of_json trees ∙ of_json-outline v tv) in
+    same_Some u v (sym (tree_of-json_of u tu) ∙ ap tree_of jsons ∙ tree_of-json_of v tv)

@@ -2,6 +2,7 @@
 ghost use Rattle.std.specs.Prelude.{◌≡◌, ◌++◌, OnOk, IfOk, IfErr, IsUtf8, string_bytes};
 ghost use Rattle.json.specs.Tree.{json_tokens, items_tokens, members_tokens};
 ghost use Rattle.serde_json.specs.Written.{outline, items_outline, members_outline};
+ghost use Rattle.jtree.specs.Data.{Data, IsTree};
 ghost use Rattle.jtree.specs.Text.{json_of, items_json, members_json, compact};
 ghost use Rattle.jtree.specs.Reads.{ReadsBack};
 ghost use Rattle.jtree.specs.View.{data_of};
@@ -86,3 +87,8 @@ fn write_members(members: &Members, out: &mut Writer) -> Result<(), AllocError>
     }
     out.end_object()
 }
+
+/// A law, and nothing that runs: trees with the same compact text are the same tree, however long and deep it is.
+pub fn texts_tell_apart()
+    ensures { (u v : Data) → IsTree u → IsTree v → compact u ≡ compact v → u ≡ v }
+{}

@@ -21,7 +21,7 @@ use Rattle.stored.proofs.LevelLemmas.{among_whole, own_among, repeat_or, or_repe
 -- ---- a value beside its node
 
 -- what a step leads to
-abbrev part_in : Pair → Step → Option Data
+abbrev pub part_in : Pair → Step → Option Data
 part_in (fields fs preserves ms) (name k) = member_at k ms
 part_in (values N ms) (name k) = member_at k ms
 part_in (items N ds) (index i) = item_at i ds
@@ -51,7 +51,7 @@ parts_are (node nullable description (map_of N type bounds)) (tree.object ms) = 
 parts_are (node nullable description (list N type keys bounds)) (tree.list ds) = refl
 parts_are _ _ = refl
 
-part_is : (N : Node) (v : Data) (s : Step) (M : Node) → node_by (pair N v) s ≡ Some M → part_by v s ≡ part_in (pair N v) s
+pub part_is : (N : Node) (v : Data) (s : Step) (M : Node) → node_by (pair N v) s ≡ Some M → part_by v s ≡ part_in (pair N v) s
 part_is (node nullable description (object fs preserves type bounds)) (tree.object ms) (name k) M e = refl
 part_is (node nullable description (map_of N type bounds)) (tree.object ms) (name k) M e = refl
 part_is (node nullable description (list N type keys bounds)) (tree.list ds) (index i) M e = refl
@@ -68,7 +68,7 @@ repeated_there : (N : Node) (v : Data) (i : ℕ) → repeats N v i ≡ true → 
 repeated_there (node nullable description (list N type keys bounds)) (tree.list ds) i e = let w = item_there ds true i (are_alike type keys) e in (N, w.0, refl, w.1)
 repeated_there _ _ i e = cc
 
-item_tree : (i : ℕ) (ds : Items) (w : Data) → AreTrees ds → item_at i ds ≡ Some w → IsTree w
+pub item_tree : (i : ℕ) (ds : Items) (w : Data) → AreTrees ds → item_at i ds ≡ Some w → IsTree w
 item_tree i no_items w t e = cc
 item_tree zero (item d ds) w t e = subst IsTree (same_Some d w e) t.0
 item_tree (suc i) (item d ds) w t e = item_tree i ds w t.1 e
@@ -171,7 +171,7 @@ repeating _ again i M w e d r = cc
 
 -- ---- what a path leads to
 
-leads_both : (N : Node) (v : Data) (s : Step) (M : Node) (w : Data) → leads N v s ≡ Some (at M w) → (node_by (pair N v) s ≡ Some M) × (part_in (pair N v) s ≡ Some w)
+pub leads_both : (N : Node) (v : Data) (s : Step) (M : Node) (w : Data) → leads N v s ≡ Some (at M w) → (node_by (pair N v) s ≡ Some M) × (part_in (pair N v) s ≡ Some w)
 leads_both N v s M w e = elim (option_cases (part_by v s)) [
   | inl none ↦ let x = rw none at e in cc
   | inr u ↦ elim (option_cases (node_by (pair N v) s)) [
@@ -202,7 +202,7 @@ led_on N v s path M w e = elim (option_cases (leads N v s)) [
 
 -- ---- all faults
 
-deeper : (N : Node) (v : Data) (s : Step) (M : Node) (w : Data) (p : Path) (t : Test) → leads N v s ≡ Some (at M w) → HasFault M w p t → HasFault N v (s ∷ p) t
+pub deeper : (N : Node) (v : Data) (s : Step) (M : Node) (w : Data) (p : Path) (t : Test) → leads N v s ≡ Some (at M w) → HasFault M w p t → HasFault N v (s ∷ p) t
 deeper N v s M w p t e f = record {
   before = s ∷ f.before;
   last = f.last;

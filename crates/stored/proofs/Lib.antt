@@ -24,3 +24,8 @@ pub mod FaultlessLemmas
 pub mod RepetitionLemmas
 pub mod FilledTest
 pub mod StoredLemmas
+pub mod LeafLemmas
+pub mod ListingLemmas
+pub mod LeafLevelLemmas
+pub mod CoveredLemmas
+pub mod ApartLemmas

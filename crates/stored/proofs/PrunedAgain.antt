@@ -172,7 +172,7 @@ filled_pruned N u v w good pruned filled = prunes IsGoodFilling filled_below N v
 
 -- ---- the defaults below a place of good ones
 
-below_place : (root : Node) (p : Place) (N : Node) (q : Place) → node_at root p ≡ Some N → node_at root (p ++ q) ≡ node_at N q
+pub below_place : (root : Node) (p : Place) (N : Node) (q : Place) → node_at root p ≡ Some N → node_at root (p ++ q) ≡ node_at N q
 below_place root [] N q there = ap (λ M. node_at M q) (same_Some root N there)
 below_place root (s ∷ p) N q there = elim (option_cases (node_below root s)) [
   | inl none ↦ let e = rw none at there in cc

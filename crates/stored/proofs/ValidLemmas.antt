@@ -130,7 +130,7 @@ valid_passes F11 N v h = passes_members are_many (λ b n w. w.1) N v h
 valid_passes F14 N v h = passes_scalar _ junctors_met N v h
 valid_passes _ N v h = refl
 
-unlike : (alike : Data → Data → Bool) (d : Data) (ds : Items) (i : ℕ) (e : Data) → any_item (alike d) ds ≡ false → item_at i ds ≡ Some e → alike d e ≡ false
+pub unlike : (alike : Data → Data → Bool) (d : Data) (ds : Items) (i : ℕ) (e : Data) → any_item (alike d) ds ≡ false → item_at i ds ≡ Some e → alike d e ≡ false
 unlike alike d no_items i e h is = cc
 unlike alike d (item x ds) zero e h is = subst (λ y. alike d y ≡ false) (same_Some x e is) (or_parts _ _ h).0
 unlike alike d (item x ds) (suc i) e h is = unlike alike d ds i e (or_parts _ _ h).1 is

@@ -8,3 +8,4 @@ pub mod Fields
 pub mod Pruning
 pub mod Filling
 pub mod FilledTest
+pub mod LeavesByLevel

@@ -5,3 +5,4 @@ pub mod Fault
 pub mod AllFaults
 pub mod Becomes
 pub mod StoredByParts
+pub mod Leaves

@@ -1,11 +1,13 @@
 //! Completing: pruning, and then defaulting.
 ghost use Rattle.std.specs.Prelude.{◌≡◌, Some, IfOk};
+ghost use Rattle.jtree.specs.Data.{Data, IsTree};
 ghost use Rattle.jtree.specs.View.{data_of};
 ghost use Rattle.schema.specs.Document.Places.{Place};
 ghost use Rattle.schema.specs.Nodes.Node.{Node as NodeData};
 ghost use Rattle.schema.specs.Nodes.ByPlace.{node_at};
 ghost use Rattle.schema.specs.Nodes.View.{node_of};
-ghost use Rattle.stored.specs.Objects.Becomes.{IsPruned, IsFilled, IsCompleted};
+ghost use Rattle.stored.specs.Objects.Parts.{Leading};
+ghost use Rattle.stored.specs.Objects.Becomes.{Becomes, IsPruned, IsFilled, IsCompleted};
 ghost use Rattle.stored.specs.Schemas.Defaults.{HasGoodDefaults};
 
 use crate::filling::{copy_tree, fill};
@@ -28,3 +30,10 @@ pub fn complete(alloc: Global, node: &Node, tree: &Tree) -> Result<Tree, AllocEr
     pruned.reveal_invariant();
     fill(alloc, node, pruned)
 }
+
+/// A law, and nothing that runs: a value becomes at most one tree, by pruning, by filling, and by both. So completing a value
+/// that `complete` answered gives the same value again.
+pub fn becomes_one_tree()
+    ensures becomes { (lead : Leading) (N : NodeData) (v u w : Data) → IsTree u → IsTree w → Becomes lead N v u → Becomes lead N v w → u ≡ w }
+    ensures completed { (N : NodeData) (v u w : Data) → IsTree u → IsTree w → IsCompleted N v u → IsCompleted N v w → u ≡ w }
+{}

@@ -113,7 +113,7 @@ fn is_good(alloc: Global, node: &Node, default: &Tree) -> Result<bool, AllocErro
 }
 
 /// Whether an object is valid, in time that is close to linear.
-fn is_faultless(alloc: Global, node: &Node, tree: &Tree) -> Result<bool, AllocError>
+pub(crate) fn is_faultless(alloc: Global, node: &Node, tree: &Tree) -> Result<bool, AllocError>
     ensures { IfOk result (λ b. Decides b (IsValid (node_of node.now) (data_of tree.now))) }
 {
     Ok(faults(alloc, node, tree)?.as_slice().is_empty())

@@ -1,14 +1,16 @@
 //! Whether an object is as the API server stores it.
-ghost use Rattle.std.specs.Prelude.{Decides};
+ghost use Rattle.std.specs.Prelude.{Decides, IfOk};
 ghost use Rattle.jtree.specs.View.{data_of};
 ghost use Rattle.schema.specs.Nodes.View.{node_of};
 ghost use Rattle.stored.specs.Objects.Becomes.{IsStored};
 
+use crate::defaults::is_faultless;
 use crate::filled::is_filled;
 use crate::pruned::is_pruned;
 use crate::validity::valid;
 use jtree::Tree;
 use schema::Node;
+use std::alloc::{AllocError, Global};
 
 /// Whether an object is valid at a node, and neither pruning nor defaulting changes it (apiextensions.k8s.io/v1, "field pruning"
 /// and "defaulting"). It takes no memory. Work is as that of `valid`.
@@ -16,4 +18,12 @@ pub fn is_stored(node: &Node, tree: &Tree) -> bool
     ensures { Decides result (IsStored (node_of node.now) (data_of tree.now)) }
 {
     valid(node, tree) && (is_pruned(node, tree) && is_filled(node, tree))
+}
+
+/// The same in time that is close to linear.
+pub(crate) fn check_stored(alloc: Global, node: &Node, tree: &Tree) -> Result<bool, AllocError>
+    ensures { IfOk result (λ b. Decides b (IsStored (node_of node.now) (data_of tree.now))) }
+{
+    let valid = is_faultless(alloc, node, tree)?;
+    Ok(valid && (is_pruned(node, tree) && is_filled(node, tree)))
 }

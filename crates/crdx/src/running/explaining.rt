@@ -57,7 +57,7 @@ fn explain_fields(alloc: Global, schema: &Schema) -> Result<Answer, Cause>
     })
 }
 
-/// All that is known of the field of a path. A path that leads to none is told of before memory is taken for a listing.
+/// All that is known of the field of a path. A path that leads to none is refused before memory is taken for the fields.
 fn explain_field(alloc: Global, schema: &Schema, path: &str) -> Result<Answer, Cause>
     ensures answer { IfOk result (λ a. IsFieldAnswer schema.now (Some path.entry) a.status (string_bytes a.text)) }
     ensures cause { IfErr result (IsFieldCause schema.now (Some path.entry)) }

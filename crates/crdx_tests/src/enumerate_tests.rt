@@ -1,0 +1,3 @@
+mod page_cases;
+mod reference_cases;
+mod small_plan_cases;

@@ -1,0 +1,223 @@
+//! Plans that are small enough for the plain reference: each way to hold a node, round each sort of node, over a few pools.
+use crate::support::comparison::try_plan;
+use std::alloc::Global;
+use std::process::Abort;
+use std::test::Fail;
+
+// Names of ways to hold a node, each with what stands before it and behind it.
+static HOLDERS: [(&str, &str, &str); 6] = [
+    ("a field", r#"{"type":"object","properties":{"x":"#, "}}"),
+    (
+        "a required field",
+        r#"{"type":"object","required":["x"],"properties":{"x":"#,
+        "}}",
+    ),
+    (
+        "a list",
+        r#"{"type":"object","properties":{"x":{"type":"array","items":"#,
+        "}}}",
+    ),
+    (
+        "a map",
+        r#"{"type":"object","properties":{"x":{"type":"object","additionalProperties":"#,
+        "}}}",
+    ),
+    (
+        "an object with one field or two",
+        r#"{"type":"object","properties":{"x":{"type":"object","minProperties":1,"properties":{"z":{"type":"boolean"},"y":"#,
+        "}}}}",
+    ),
+    (
+        "a short list beside a required field with a default",
+        r#"{"type":"object","required":["y"],"properties":{"y":{"type":"string","default":"a"},"x":{"type":"array","minItems":1,"maxItems":2,"items":"#,
+        "}}}",
+    ),
+];
+
+// The same for nodes of which two values can be told apart by a list.
+static HOLDERS_OF_SCALARS: [(&str, &str, &str); 4] = [
+    (
+        "a set",
+        r#"{"type":"object","properties":{"x":{"type":"array","x-kubernetes-list-type":"set","items":"#,
+        "}}}",
+    ),
+    (
+        "a set of at least two",
+        r#"{"type":"object","required":["x"],"properties":{"x":{"type":"array","minItems":2,"x-kubernetes-list-type":"set","items":"#,
+        "}}}",
+    ),
+    (
+        "a map list",
+        r#"{"type":"object","properties":{"x":{"type":"array","x-kubernetes-list-type":"map","x-kubernetes-list-map-keys":["k"],"items":{"type":"object","required":["k"],"properties":{"v":{"type":"boolean"},"k":"#,
+        "}}}}}",
+    ),
+    (
+        "a map list by two keys",
+        r#"{"type":"object","properties":{"x":{"type":"array","maxItems":3,"x-kubernetes-list-type":"map","x-kubernetes-list-map-keys":["l","k"],"items":{"type":"object","required":["k","l"],"properties":{"l":{"type":"boolean"},"v":{"type":"object"},"k":"#,
+        "}}}}}",
+    ),
+];
+
+// A name, and the schema of a node of scalars that is not nullable.
+static SCALARS: [(&str, &str); 10] = [
+    ("integers", r#"{"type":"integer"}"#),
+    ("truth values", r#"{"type":"boolean"}"#),
+    ("texts", r#"{"type":"string"}"#),
+    (
+        "integers or texts",
+        r#"{"x-kubernetes-int-or-string":true}"#,
+    ),
+    ("some integers", r#"{"type":"integer","enum":[3,1,3]}"#),
+    ("true", r#"{"type":"boolean","enum":[true]}"#),
+    (
+        "integers above a bound",
+        r#"{"type":"integer","minimum":0,"exclusiveMinimum":true}"#,
+    ),
+    ("texts of two letters", r#"{"type":"string","minLength":2}"#),
+    (
+        "integers but one",
+        r#"{"type":"integer","not":{"enum":[1]}}"#,
+    ),
+    (
+        "texts of one branch",
+        r#"{"type":"string","oneOf":[{"maxLength":1},{"enum":["a","bb"]}]}"#,
+    ),
+];
+
+// A name, and the schema of another node.
+static NODES: [(&str, &str); 22] = [
+    (
+        "truth values or null",
+        r#"{"type":"boolean","nullable":true}"#,
+    ),
+    (
+        "some texts or null",
+        r#"{"type":"string","nullable":true,"enum":["b"]}"#,
+    ),
+    (
+        "any value but null",
+        r#"{"x-kubernetes-preserve-unknown-fields":true}"#,
+    ),
+    (
+        "any value",
+        r#"{"x-kubernetes-preserve-unknown-fields":true,"nullable":true}"#,
+    ),
+    ("empty objects", r#"{"type":"object"}"#),
+    (
+        "empty objects or null",
+        r#"{"type":"object","nullable":true}"#,
+    ),
+    (
+        "objects that keep other fields",
+        r#"{"type":"object","x-kubernetes-preserve-unknown-fields":true,"properties":{"a":{"type":"boolean"}}}"#,
+    ),
+    (
+        "objects with a required field",
+        r#"{"type":"object","required":["b"],"properties":{"a":{"type":"boolean"},"b":{"type":"integer"}}}"#,
+    ),
+    (
+        "objects with a default",
+        r#"{"type":"object","properties":{"a":{"type":"boolean"},"f":{"type":"integer","default":7}}}"#,
+    ),
+    (
+        "objects with a default and a field that may be null",
+        r#"{"type":"object","properties":{"f":{"type":"integer","nullable":true,"default":0},"g":{"type":"boolean","nullable":true}}}"#,
+    ),
+    (
+        "objects with at most one of two fields",
+        r#"{"type":"object","maxProperties":1,"properties":{"a":{"type":"boolean"},"b":{"type":"object","properties":{"c":{"type":"boolean"}}}}}"#,
+    ),
+    (
+        "objects with two of three fields",
+        r#"{"type":"object","minProperties":2,"maxProperties":2,"properties":{"a":{"type":"string"},"b":{"type":"object"},"c":{"type":"boolean"}}}"#,
+    ),
+    (
+        "maps of truth values",
+        r#"{"type":"object","additionalProperties":{"type":"boolean"}}"#,
+    ),
+    (
+        "maps with a member",
+        r#"{"type":"object","minProperties":1,"maxProperties":1,"additionalProperties":{"type":"string"}}"#,
+    ),
+    (
+        "maps to null and integers",
+        r#"{"type":"object","nullable":true,"additionalProperties":{"type":"integer","nullable":true}}"#,
+    ),
+    (
+        "lists of truth values",
+        r#"{"type":"array","items":{"type":"boolean"}}"#,
+    ),
+    (
+        "lists of integers and null",
+        r#"{"type":"array","nullable":true,"maxItems":2,"items":{"type":"integer","nullable":true}}"#,
+    ),
+    (
+        "lists of lists",
+        r#"{"type":"array","minItems":1,"items":{"type":"array","items":{"type":"string"}}}"#,
+    ),
+    (
+        "sets of integers and texts",
+        r#"{"type":"array","x-kubernetes-list-type":"set","items":{"x-kubernetes-int-or-string":true}}"#,
+    ),
+    (
+        "map lists",
+        r#"{"type":"array","x-kubernetes-list-type":"map","x-kubernetes-list-map-keys":["k"],"items":{"type":"object","required":["k"],"properties":{"k":{"type":"string"},"v":{"type":"integer"}}}}"#,
+    ),
+    (
+        "map lists whose key has a default",
+        r#"{"type":"array","x-kubernetes-list-type":"map","x-kubernetes-list-map-keys":["k","l"],"items":{"type":"object","required":["l"],"properties":{"k":{"type":"string","default":"a"},"l":{"type":"boolean"}}}}"#,
+    ),
+    (
+        "lists of objects with at least one field",
+        r#"{"type":"array","items":{"type":"object","minProperties":1,"properties":{"a":{"type":"boolean"},"b":{"type":"string"}}}}"#,
+    ),
+];
+
+const POOLS: &str =
+    r#"{"any":[[1],null,"z",{"q":1},"z"],"integers":[1,0,1],"names":["q","p","q"],"strings":["bb","a"]}"#;
+
+const FEW: &str =
+    r#"{"any":[[true,[]],false],"integers":[7],"names":["p","a/b"],"strings":["bb"]}"#;
+
+fn all_nodes(
+    rt: &impl Abort,
+    alloc: Global,
+    holder: &(&str, &str, &str),
+    nodes: &[(&str, &str)],
+    pools: &str,
+    limit: u32,
+) -> Result<(), Fail> {
+    let (holder, head, tail) = *holder;
+    for (node, schema) in nodes {
+        let name = format!(in alloc; "{holder} of {node}, of at most {limit} nodes")?;
+        let schema = format!(in alloc; "{head}{schema}{tail}")?;
+        try_plan(rt, alloc, schema.as_str(), pools, limit, name.as_str())?;
+    }
+    Ok(())
+}
+
+fn all_plans(rt: &impl Abort, alloc: Global, pools: &str, limit: u32) -> Result<(), Fail> {
+    for holder in &HOLDERS {
+        all_nodes(rt, alloc, holder, &SCALARS, pools, limit)?;
+        all_nodes(rt, alloc, holder, &NODES, pools, limit)?;
+    }
+    for holder in &HOLDERS_OF_SCALARS {
+        all_nodes(rt, alloc, holder, &SCALARS, pools, limit)?;
+    }
+    Ok(())
+}
+
+#[test]
+fn plans_over_pools(rt: HostRuntime) -> Result<(), Fail> {
+    all_plans(&rt, rt.alloc(), POOLS, 6)
+}
+
+#[test]
+fn plans_over_few_values(rt: HostRuntime) -> Result<(), Fail> {
+    all_plans(&rt, rt.alloc(), FEW, 7)
+}
+
+#[test]
+fn plans_without_pools(rt: HostRuntime) -> Result<(), Fail> {
+    all_plans(&rt, rt.alloc(), "{}", 8)
+}

@@ -1,0 +1,1 @@
+mod field_cases;

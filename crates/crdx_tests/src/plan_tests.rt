@@ -1,0 +1,3 @@
+mod plan_cases;
+mod pools_cases;
+mod size_set_cases;

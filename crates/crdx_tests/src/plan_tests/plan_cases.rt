@@ -1,0 +1,520 @@
+//! Plans: their nodes, the sizes of what may stand there and of what can follow, and what is handed out step by step.
+ghost use Rattle.std.specs.Prelude.{◌<◌, length, IfSome};
+ghost use Rattle.plan.specs.Samples.Sites.{sites_of};
+
+use crate::support::documents::{
+    DEFAULTED, FIFTEEN, LABELS, LONG_MAP_LIST, MAP_LIST, NAMES, NULLABLE, OPEN, REPEATED, SET,
+    SPEC, TRUTHS, TWO_TEXTS, ZERO_AND_ONE, ZERO_AND_SEVEN,
+};
+use crate::support::harness::{holds, is_number, is_said, is_value, made, pools_of, schema_of};
+use crate::support::plans::{are_sizes, item_of, more_of, place_of, rest_of, slot_of};
+use plan::{Distinct, Meter, PFault, Plan, PlanNode, Sort};
+use schema::items_told_apart;
+use std::alloc::{AllocError, Global};
+use std::process::Abort;
+use std::test::Fail;
+use stored::stored_by_parts;
+
+const THREE_KEYS: &str =
+    r#"{"type":"object","properties":{"m":{"type":"array","x-kubernetes-list-type":"map","x-kubernetes-list-map-keys":["d","a","c"],"items":{"type":"object","properties":{"a":{"type":"integer"},"b":{"type":"string"},"c":{"type":"boolean"},"d":{"type":"string"}},"required":["a","c","d"]}}}}"#;
+
+const FOUR_NODES: &str = r#"{"any":[[1,2,3]]}"#;
+
+// The plan of a schema, pools and a limit.
+fn plan_of(
+    rt: &impl Abort,
+    alloc: Global,
+    given: (&str, &str, u32),
+    name: &str,
+) -> Result<Plan<u64>, Fail> {
+    let plan = made(alloc, given);
+    holds(rt, plan.is_ok(), "a plan", name);
+    plan
+}
+
+// A node of a plan: the root, the root's first slot, a slot of this one, or its items.
+#[derive(Clone, Copy)]
+enum At {
+    Root,
+    First,
+    Slot(u64),
+    Item,
+}
+
+fn node_at(plan: &Plan<u64>, at: At, meter: &mut Meter) -> Option<PlanNode>
+    ensures { IfSome result (λ n. n < length (sites_of plan.now.root)) }
+{
+    let root = plan.root();
+    if let At::Root = at {
+        return Some(root);
+    }
+    let first = slot_of(plan, root, 0, meter)?;
+    match at {
+        At::Root | At::First => Some(first),
+        At::Slot(place) => slot_of(plan, first, place, meter),
+        At::Item => item_of(plan, first, 0, meter),
+    }
+}
+
+// What is asked of a node: its sizes, what the slots from a place on can take behind so many filled ones, or what can follow
+// behind so many items.
+#[derive(Clone, Copy)]
+enum Asked {
+    Sizes,
+    Rest(u64, u32),
+    More(u32),
+}
+
+// A name, a schema with its pools and limit, a node, what is asked of it, and the sizes that are answered.
+static SIZES: [(&str, (&str, &str, u32), At, Asked, &[u32]); 22] = [
+    (
+        "the sizes of at least two of three truth values",
+        (TRUTHS, "{}", 4),
+        At::First,
+        Asked::Sizes,
+        &[3, 4],
+    ),
+    (
+        "the sizes of the root above truth values",
+        (TRUTHS, "{}", 4),
+        At::Root,
+        Asked::Sizes,
+        &[1, 4],
+    ),
+    (
+        "the sizes of a map list",
+        (MAP_LIST, TWO_TEXTS, 8),
+        At::First,
+        Asked::Sizes,
+        &[1, 3, 4, 5, 6, 7],
+    ),
+    (
+        "the sizes of a map list of more items than keys",
+        (LONG_MAP_LIST, TWO_TEXTS, 63),
+        At::First,
+        Asked::Sizes,
+        &[],
+    ),
+    (
+        "the sizes of the root above a list that cannot be",
+        (LONG_MAP_LIST, TWO_TEXTS, 63),
+        At::Root,
+        Asked::Sizes,
+        &[1],
+    ),
+    (
+        "the sizes of fifteen objects",
+        (FIFTEEN, "{}", 63),
+        At::First,
+        Asked::Sizes,
+        &[61],
+    ),
+    (
+        "the sizes of the root above fifteen objects",
+        (FIFTEEN, "{}", 63),
+        At::Root,
+        Asked::Sizes,
+        &[62],
+    ),
+    (
+        "the sizes of a set with the highest limit",
+        (SET, REPEATED, 63),
+        At::First,
+        Asked::Sizes,
+        &[1, 2, 3],
+    ),
+    (
+        "the sizes of the root above a default",
+        (DEFAULTED, ZERO_AND_SEVEN, 3),
+        At::Root,
+        Asked::Sizes,
+        &[1, 3],
+    ),
+    (
+        "the sizes of a value of more nodes than the limit",
+        (OPEN, FOUR_NODES, 2),
+        At::First,
+        Asked::Sizes,
+        &[],
+    ),
+    (
+        "the sizes of an integer without candidates",
+        (SPEC, "{}", 4),
+        At::Slot(0),
+        Asked::Sizes,
+        &[],
+    ),
+    (
+        "the rest behind no slot",
+        (TRUTHS, "{}", 4),
+        At::First,
+        Asked::Rest(0, 0),
+        &[2, 3],
+    ),
+    (
+        "the rest behind an empty slot",
+        (TRUTHS, "{}", 4),
+        At::First,
+        Asked::Rest(1, 0),
+        &[2],
+    ),
+    (
+        "the rest behind a filled slot",
+        (TRUTHS, "{}", 4),
+        At::First,
+        Asked::Rest(1, 1),
+        &[1, 2],
+    ),
+    (
+        "the rest behind two empty slots",
+        (TRUTHS, "{}", 4),
+        At::First,
+        Asked::Rest(2, 0),
+        &[],
+    ),
+    (
+        "the rest behind a filled slot of two",
+        (TRUTHS, "{}", 4),
+        At::First,
+        Asked::Rest(2, 1),
+        &[1],
+    ),
+    (
+        "the rest behind two filled slots of three",
+        (TRUTHS, "{}", 4),
+        At::First,
+        Asked::Rest(3, 2),
+        &[0],
+    ),
+    (
+        "the rest behind a filled slot of three",
+        (TRUTHS, "{}", 4),
+        At::First,
+        Asked::Rest(3, 1),
+        &[],
+    ),
+    (
+        "what can follow behind no item",
+        (MAP_LIST, TWO_TEXTS, 8),
+        At::First,
+        Asked::More(0),
+        &[0, 2, 3, 4, 5, 6],
+    ),
+    (
+        "what can follow behind one item",
+        (MAP_LIST, TWO_TEXTS, 8),
+        At::First,
+        Asked::More(1),
+        &[0, 2, 3],
+    ),
+    (
+        "what can follow behind two items",
+        (MAP_LIST, TWO_TEXTS, 8),
+        At::First,
+        Asked::More(2),
+        &[0],
+    ),
+    (
+        "what can follow behind three items",
+        (MAP_LIST, TWO_TEXTS, 8),
+        At::First,
+        Asked::More(3),
+        &[],
+    ),
+];
+
+fn try_sizes(
+    rt: &impl Abort,
+    alloc: Global,
+    plan: &Plan<u64>,
+    meter: &mut Meter,
+    row: &(&str, (&str, &str, u32), At, Asked, &[u32]),
+) -> Result<(), Fail> {
+    let (name, _given, at, asked, wanted) = *row;
+    let Some(node) = node_at(plan, at, meter) else {
+        holds(rt, false, "a node", name);
+        return Ok(());
+    };
+    let found = match asked {
+        Asked::Sizes => Some(plan.sizes(node)),
+        Asked::Rest(place, taken) => rest_of(plan, node, place, taken, meter),
+        Asked::More(taken) => more_of(plan, node, taken),
+    };
+    let Some(sizes) = found else {
+        holds(rt, false, "an answer", name);
+        return Ok(());
+    };
+    are_sizes(rt, alloc, sizes, wanted, "the sizes", name)
+}
+
+fn have_sizes(
+    rt: &impl Abort,
+    alloc: Global,
+    row: &(&str, (&str, &str, u32), At, Asked, &[u32]),
+) -> Result<(), Fail> {
+    let mut plan = plan_of(rt, alloc, row.1, row.0)?;
+    let mut meter = plan.meter();
+    try_sizes(rt, alloc, &plan, &mut meter, row)
+}
+
+#[test]
+fn sizes(rt: HostRuntime) -> Result<(), Fail> {
+    for row in &SIZES {
+        have_sizes(&rt, rt.alloc(), row)?;
+    }
+    Ok(())
+}
+
+// A name, a schema with its pools and limit, a node, its sort, whether null is accepted there, and, of a list, which items may
+// not stand together.
+static SORTS: [(&str, (&str, &str, u32), At, Sort, bool, Option<Distinct>); 6] = [
+    (
+        "an integer",
+        (SPEC, ZERO_AND_ONE, 4),
+        At::Slot(0),
+        Sort::Leaf,
+        false,
+        None,
+    ),
+    (
+        "an object that may be null",
+        (NULLABLE, "{}", 2),
+        At::First,
+        Sort::Row,
+        true,
+        None,
+    ),
+    (
+        "a map",
+        (LABELS, NAMES, 4),
+        At::First,
+        Sort::Row,
+        false,
+        None,
+    ),
+    (
+        "a map list",
+        (MAP_LIST, TWO_TEXTS, 8),
+        At::First,
+        Sort::List,
+        false,
+        Some(Distinct::Keys),
+    ),
+    (
+        "a set",
+        (SET, REPEATED, 4),
+        At::First,
+        Sort::List,
+        false,
+        Some(Distinct::Whole),
+    ),
+    (
+        "fifteen objects",
+        (FIFTEEN, "{}", 63),
+        At::First,
+        Sort::List,
+        false,
+        Some(Distinct::Free),
+    ),
+];
+
+fn try_sort(
+    rt: &impl Abort,
+    plan: &Plan<u64>,
+    meter: &mut Meter,
+    row: &(&str, (&str, &str, u32), At, Sort, bool, Option<Distinct>),
+) {
+    let (name, _given, at, sort, nullable, distinct) = *row;
+    let Some(node) = node_at(plan, at, meter) else {
+        holds(rt, false, "a node", name);
+        return;
+    };
+    is_value(rt, &plan.sort(node), &sort, "the sort", name);
+    holds(rt, plan.null_ok(node) == nullable, "null", name);
+    if let Some(distinct) = distinct {
+        is_value(rt, &plan.distinct(node), &distinct, "the items", name);
+    }
+}
+
+fn is_sorted(
+    rt: &impl Abort,
+    alloc: Global,
+    row: &(&str, (&str, &str, u32), At, Sort, bool, Option<Distinct>),
+) -> Result<(), Fail> {
+    let mut plan = plan_of(rt, alloc, row.1, row.0)?;
+    let mut meter = plan.meter();
+    try_sort(rt, &plan, &mut meter, row);
+    Ok(())
+}
+
+#[test]
+fn sorts(rt: HostRuntime) -> Result<(), Fail> {
+    for row in &SORTS {
+        is_sorted(&rt, rt.alloc(), row)?;
+    }
+    Ok(())
+}
+
+// A name, a schema with its pools and limit, a node, and the names of its slots, each with whether something must stand
+// there, whether it is a key, and how many tuples the keys behind it have.
+static SLOTS: [(&str, (&str, &str, u32), At, &[(&str, bool, bool, u64)]); 3] = [
+    (
+        "an item of a map list with three keys",
+        (THREE_KEYS, TWO_TEXTS, 8),
+        At::Item,
+        &[
+            ("a", true, true, 4),
+            ("b", false, false, 4),
+            ("c", true, true, 2),
+            ("d", true, true, 1),
+        ],
+    ),
+    (
+        "a field with a default",
+        (DEFAULTED, ZERO_AND_SEVEN, 3),
+        At::First,
+        &[("f", true, false, 1)],
+    ),
+    (
+        "a map over names with a repeat",
+        (LABELS, NAMES, 4),
+        At::First,
+        &[("j", false, false, 1), ("k", false, false, 1)],
+    ),
+];
+
+// The name of a slot, whether something must stand there, whether it is a key, and the tuples of the keys behind it.
+fn slot_parts<'a>(
+    plan: &'a Plan<u64>,
+    node: PlanNode,
+    place: u64,
+    meter: &mut Meter,
+) -> Option<(&'a str, bool, bool, u64)>
+    requires { node < length (sites_of plan.now.root) }
+{
+    match plan.sort(node) {
+        Sort::Row => match plan.slot(node, place, meter) {
+            Some(slot) => Some((slot.name, slot.must, slot.key, slot.later)),
+            None => None,
+        },
+        Sort::Leaf | Sort::List => None,
+    }
+}
+
+fn try_slots(
+    rt: &impl Abort,
+    plan: &Plan<u64>,
+    meter: &mut Meter,
+    row: &(&str, (&str, &str, u32), At, &[(&str, bool, bool, u64)]),
+) {
+    let (name, _given, at, wanted) = *row;
+    let Some(node) = node_at(plan, at, meter) else {
+        holds(rt, false, "a node", name);
+        return;
+    };
+    for (place, slot) in wanted.iter().enumerate() {
+        let found = slot_parts(plan, node, place_of(place), meter);
+        is_value(rt, &found, &Some(*slot), "a slot", name);
+    }
+    let behind = slot_of(plan, node, place_of(wanted.len()), meter);
+    holds(rt, behind.is_none(), "no slot behind the last", name);
+}
+
+fn have_slots(
+    rt: &impl Abort,
+    alloc: Global,
+    row: &(&str, (&str, &str, u32), At, &[(&str, bool, bool, u64)]),
+) -> Result<(), Fail> {
+    let mut plan = plan_of(rt, alloc, row.1, row.0)?;
+    let mut meter = plan.meter();
+    try_slots(rt, &plan, &mut meter, row);
+    Ok(())
+}
+
+#[test]
+fn slots(rt: HostRuntime) -> Result<(), Fail> {
+    for row in &SLOTS {
+        have_slots(&rt, rt.alloc(), row)?;
+    }
+    Ok(())
+}
+
+// A name, a schema with its pools and limit, the width, and four times the product of what is one more than the limit and
+// of what is one more than the width.
+static WIDTHS: [(&str, (&str, &str, u32), u64, u64); 4] = [
+    ("a map list", (MAP_LIST, TWO_TEXTS, 8), 2, 108),
+    ("two fields", (SPEC, ZERO_AND_ONE, 4), 2, 60),
+    ("fifteen objects", (FIFTEEN, "{}", 63), 3, 1024),
+    (
+        "a value of more nodes than the limit",
+        (OPEN, FOUR_NODES, 2),
+        1,
+        24,
+    ),
+];
+
+fn try_width(
+    rt: &impl Abort,
+    alloc: Global,
+    row: &(&str, (&str, &str, u32), u64, u64),
+) -> Result<(), Fail> {
+    let (name, given, wanted, bound) = *row;
+    let plan = plan_of(rt, alloc, given, name)?;
+    let width = plan.width();
+    is_number(rt, width, wanted, "the width", name);
+    let limit = plan.limit() as u64;
+    let found = limit.wrapping_add(1).wrapping_mul(width.wrapping_add(1));
+    is_number(rt, found.wrapping_mul(4), bound, "the bound", name);
+    Ok(())
+}
+
+#[test]
+fn widths(rt: HostRuntime) -> Result<(), Fail> {
+    for row in &WIDTHS {
+        try_width(&rt, rt.alloc(), row)?;
+    }
+    Ok(())
+}
+
+// A name, a limit, and the limit of the plan, or the code of the fault.
+static LIMITS: [(&str, u32, &str); 4] = [
+    ("no node", 0, "P4"),
+    ("63 nodes", 63, "63"),
+    ("64 nodes", 64, "P4"),
+    ("the highest number", 4_294_967_295, "P4"),
+];
+
+fn limit_said(alloc: Global, limit: u32) -> Result<String, Fail> {
+    let schema = schema_of(alloc, SPEC)?;
+    let pools = pools_of(alloc, ZERO_AND_ONE)?;
+    let made = Plan::<u64>::new(alloc, schema, pools, limit);
+    Ok(said_of_made(alloc, &made)?)
+}
+
+fn said_of_made(alloc: Global, made: &Result<Plan<u64>, PFault>) -> Result<String, AllocError> {
+    match made {
+        Ok(plan) => format!(in alloc; "{}", plan.limit()),
+        Err(fault) => fault.to_string(alloc),
+    }
+}
+
+#[test]
+fn limits(rt: HostRuntime) -> Result<(), Fail> {
+    for (name, limit, wanted) in &LIMITS {
+        let said = limit_said(rt.alloc(), *limit);
+        is_said(&rt, said, wanted, "what is made", name)?;
+    }
+    Ok(())
+}
+
+/// The laws that nothing runs for end, and leave the plan as it is.
+#[test]
+fn laws(rt: HostRuntime) -> Result<(), Fail> {
+    items_told_apart();
+    stored_by_parts();
+    let plan = plan_of(&rt, rt.alloc(), (MAP_LIST, TWO_TEXTS, 8), "a map list")?;
+    plan.no_dead_end();
+    plan.sound_parts();
+    is_number(&rt, plan.width(), 2, "the width", "a map list");
+    Ok(())
+}

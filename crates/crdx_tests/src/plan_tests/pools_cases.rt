@@ -1,0 +1,270 @@
+//! Documents of pools: their form, how many entries there may be, and what is read.
+use crate::support::harness::{is_number, is_said, is_text, is_tree, pools_of};
+use jtree::{Text, Tree};
+use plan::{PFault, Pools};
+use std::alloc::{AllocError, Global};
+use std::process::Abort;
+use std::test::Fail;
+
+// The code, and the pointer where there is one.
+fn said(alloc: Global, fault: &PFault) -> Result<String, AllocError> {
+    match fault {
+        PFault::Form(pointer) => format!(in alloc; "{fault} {pointer:?}"),
+        _ => fault.to_string(alloc),
+    }
+}
+
+// How many integers, strings, names and trees there are.
+fn counts(alloc: Global, pools: &Pools) -> Result<String, AllocError> {
+    format!(in alloc;
+        "{} {} {} {}",
+        pools.integers().len(),
+        pools.strings().len(),
+        pools.names().len(),
+        pools.any().len()
+    )
+}
+
+// What is read, counted, or the fault.
+fn outcome_of(alloc: Global, document: &Tree) -> Result<String, AllocError> {
+    match Pools::read(alloc, document) {
+        Ok(pools) => counts(alloc, &pools),
+        Err(fault) => said(alloc, &fault),
+    }
+}
+
+fn outcome(alloc: Global, document: &str) -> Result<String, Fail> {
+    let document = Tree::from_bytes(alloc, document.as_bytes())?;
+    Ok(outcome_of(alloc, &document)?)
+}
+
+fn is_outcome(
+    rt: &impl Abort,
+    alloc: Global,
+    name: &str,
+    document: &str,
+    wanted: &str,
+) -> Result<(), Fail> {
+    is_said(rt, outcome(alloc, document), wanted, "what is read", name)
+}
+
+// A name, a document, and how many entries there are in each pool, or the fault.
+static DOCUMENTS: [(&str, &str, &str); 18] = [
+    ("no member", "{}", "0 0 0 0"),
+    (
+        "each pool",
+        r#"{"any":[null],"integers":[1,1,1,1],"names":["n","n"],"strings":["a","b","a"]}"#,
+        "4 3 2 1",
+    ),
+    (
+        "trees of each kind",
+        r#"{"any":[null,true,-1,"t",[[]],{"q":1}]}"#,
+        "0 0 0 6",
+    ),
+    ("a list", "[]", r#"P1 """#),
+    (
+        "a text for integers",
+        r#"{"integers":"x"}"#,
+        r#"P1 "/integers""#,
+    ),
+    (
+        "a text for strings",
+        r#"{"strings":"x"}"#,
+        r#"P1 "/strings""#,
+    ),
+    (
+        "a text among integers",
+        r#"{"integers":[0,"x"]}"#,
+        r#"P1 "/integers/1""#,
+    ),
+    (
+        "an integer for a name",
+        r#"{"names":[1]}"#,
+        r#"P1 "/names/0""#,
+    ),
+    (
+        "a break of index 2 before one of index 10",
+        r#"{"integers":[0,1,"x",3,4,5,6,7,8,9,"y"]}"#,
+        r#"P1 "/integers/2""#,
+    ),
+    (
+        "a break of index 10",
+        r#"{"integers":[0,1,2,3,4,5,6,7,8,9,"y"]}"#,
+        r#"P1 "/integers/10""#,
+    ),
+    (
+        "a pool of another name",
+        r#"{"floats":[]}"#,
+        r#"P1 "/floats""#,
+    ),
+    ("the empty name", r#"{"":[]}"#, r#"P1 "/""#),
+    (
+        "a slash and a tilde",
+        r#"{"a/b~c~1":[]}"#,
+        r#"P1 "/a~1b~0c~01""#,
+    ),
+    (
+        "trees before integers",
+        r#"{"integers":"x","any":"x"}"#,
+        r#"P1 "/any""#,
+    ),
+    (
+        "a capital letter before a small one",
+        r#"{"any":1,"Z":[]}"#,
+        r#"P1 "/Z""#,
+    ),
+    (
+        "an entry before another name",
+        r#"{"integers":[true],"j":[]}"#,
+        r#"P1 "/integers/0""#,
+    ),
+    (
+        "another name before an entry",
+        r#"{"integers":[true],"i":[]}"#,
+        r#"P1 "/i""#,
+    ),
+    (
+        "any trees before an entry",
+        r#"{"any":["x",1],"integers":[1,"x"]}"#,
+        r#"P1 "/integers/1""#,
+    ),
+];
+
+// A name, the beginning of a document, an entry with its comma, how many there are, what stands behind them, and what is
+// answered. Each repeat counts, and the form is judged before the limits.
+static LONG: [(&str, &str, &str, usize, &str, &str); 11] = [
+    (
+        "64 integers",
+        r#"{"integers":["#,
+        "0,",
+        63,
+        "0]}",
+        "64 0 0 0",
+    ),
+    ("65 integers", r#"{"integers":["#, "0,", 64, "0]}", "P2"),
+    (
+        "64 strings",
+        r#"{"strings":["#,
+        r#""s","#,
+        63,
+        r#""s"]}"#,
+        "0 64 0 0",
+    ),
+    (
+        "65 strings",
+        r#"{"strings":["#,
+        r#""s","#,
+        64,
+        r#""s"]}"#,
+        "P2",
+    ),
+    (
+        "32 names",
+        r#"{"names":["#,
+        r#""n","#,
+        31,
+        r#""n"]}"#,
+        "0 0 32 0",
+    ),
+    ("33 names", r#"{"names":["#, r#""n","#, 32, r#""n"]}"#, "P2"),
+    ("64 trees", r#"{"any":["#, "{},", 63, "{}]}", "0 0 0 64"),
+    ("65 trees", r#"{"any":["#, "{},", 64, "{}]}", "P2"),
+    (
+        "a text for strings behind 65 integers",
+        r#"{"integers":["#,
+        "0,",
+        64,
+        r#"0],"strings":"s"}"#,
+        r#"P1 "/strings""#,
+    ),
+    (
+        "another name behind 33 names",
+        r#"{"names":["#,
+        r#""n","#,
+        32,
+        r#""n"],"titles":[]}"#,
+        r#"P1 "/titles""#,
+    ),
+    (
+        "127 lists",
+        "",
+        "[",
+        126,
+        "[]]]]]]]]]]]]]]]]]]]]]]]]]]]]]]]]]]]]]]]]]]]]]]]]]]]]]]]]]]]]]]]]]]]]]]]]]]]]]]]]]]]]]]]]]]]]]]]]]]]]]]]]]]]]]]]]]]]]]]]]]]]]]]]",
+        r#"P1 """#,
+    ),
+];
+
+fn try_long(
+    rt: &impl Abort,
+    alloc: Global,
+    row: &(&str, &str, &str, usize, &str, &str),
+) -> Result<(), Fail> {
+    let (name, head, entry, count, tail, wanted) = *row;
+    let mut document = String::from_str(alloc, head)?;
+    for _ in 0..count {
+        document.push_str(entry)?;
+    }
+    document.push_str(tail)?;
+    is_outcome(rt, alloc, name, document.as_str(), wanted)
+}
+
+#[test]
+fn forms_and_limits(rt: HostRuntime) -> Result<(), Fail> {
+    for (name, document, wanted) in &DOCUMENTS {
+        is_outcome(&rt, rt.alloc(), name, document, wanted)?;
+    }
+    for row in &LONG {
+        try_long(&rt, rt.alloc(), row)?;
+    }
+    Ok(())
+}
+
+fn are_texts(rt: &impl Abort, found: &[Text], wanted: &[&str], pool: &str) {
+    is_number(
+        rt,
+        found.len() as u64,
+        wanted.len() as u64,
+        "the length",
+        pool,
+    );
+    for (text, wanted) in found.iter().zip(wanted) {
+        is_text(rt, text.as_str(), wanted, "an entry", pool);
+    }
+}
+
+fn are_trees(rt: &impl Abort, alloc: Global, found: &[Tree], wanted: &[&str]) -> Result<(), Fail> {
+    is_number(
+        rt,
+        found.len() as u64,
+        wanted.len() as u64,
+        "the length",
+        "any",
+    );
+    for (tree, wanted) in found.iter().zip(wanted) {
+        is_tree(rt, alloc, tree, wanted, "an entry", "any")?;
+    }
+    Ok(())
+}
+
+static WRITTEN: &str =
+    r#"{"strings":["b","a","b"],"names":["","é"],"integers":[3,-1,3],"any":[{"q":[1]},null]}"#;
+
+/// The order and the repeats are kept.
+#[test]
+fn entries_as_written(rt: HostRuntime) -> Result<(), Fail> {
+    let pools = pools_of(rt.alloc(), WRITTEN)?;
+    assert_eq!(rt; pools.integers(), [3, -1, 3].as_slice());
+    are_texts(&rt, pools.strings(), &["b", "a", "b"], "strings");
+    are_texts(&rt, pools.names(), &["", "é"], "names");
+    are_trees(&rt, rt.alloc(), pools.any(), &[r#"{"q":[1]}"#, "null"])
+}
+
+#[test]
+fn no_entries(rt: HostRuntime) -> Result<(), Fail> {
+    let found = counts(rt.alloc(), &Pools::new(rt.alloc()))?;
+    is_text(&rt, found.as_str(), "0 0 0 0", "the entries", "empty pools");
+    let code = said(rt.alloc(), &PFault::NoMemory)?;
+    is_text(&rt, code.as_str(), "P3", "the code", "no memory");
+    Ok(())
+}

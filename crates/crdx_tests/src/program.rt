@@ -1,0 +1,11 @@
+mod argument_cases;
+mod broken_sink_cases;
+mod check_cases;
+mod envelope_cases;
+mod explain_cases;
+mod input_cases;
+mod leaf_cases;
+mod prune_cases;
+mod refusal_cases;
+mod sample_cases;
+mod validate_cases;

@@ -1,0 +1,404 @@
+//! The words of the command line: what they ask for, mistakes, and help.
+use crate::support::documents::{WIDGET, ZERO_AND_ONE};
+use crate::support::fakes::{FailingSink, FakeInputs};
+use crate::support::harness::{
+    Output, holds, holds_of, is_number, is_said, is_text, run_on, words_of,
+};
+use crdx::arguments::{
+    CheckArguments, ExplainArguments, ObjectArguments, ObjectCommand, Request, SampleArguments,
+    parse_arguments,
+};
+use std::alloc::{AllocError, Global};
+use std::process::Abort;
+use std::test::Fail;
+
+// A name, a command line, and what it asks for: the file, the version, and the object, or the pools, the sample to go on from, the
+// name, the limit and the count.
+static REQUESTS: [(&str, &str, &str); 12] = [
+    (
+        "a sample",
+        "crdx sample c.json v1",
+        "sample c.json v1 - - - 8 100",
+    ),
+    ("a check", "crdx check c.json v1", "check c.json v1"),
+    (
+        "faults of an object in a file",
+        "crdx validate c.json v1 o.json",
+        "validate c.json v1 o.json",
+    ),
+    (
+        "what is pruned of the standard input",
+        "crdx prune c.json v1",
+        "prune c.json v1 -",
+    ),
+    (
+        "the defaults of an object",
+        "crdx default c.json v1 ./o",
+        "default c.json v1 ./o",
+    ),
+    (
+        "the leaves of an object in a file",
+        "crdx leaves c.json v1 o.json",
+        "leaves c.json v1 o.json",
+    ),
+    (
+        "all fields",
+        "crdx explain c.json v1",
+        "explain c.json v1 -",
+    ),
+    (
+        "the field at a path",
+        "crdx explain c.json v1 /spec/[]",
+        "explain c.json v1 /spec/[]",
+    ),
+    (
+        "the field at an empty path",
+        "crdx explain c.json v1 ",
+        "explain c.json v1 ",
+    ),
+    (
+        "the least limit and count",
+        "crdx sample c.json v1 --pools p.json --limit 1 --count 1",
+        "sample c.json v1 p.json - - 1 1",
+    ),
+    (
+        "the greatest limit and count",
+        "crdx sample --limit 63 --count=10000 - v1beta1",
+        "sample - v1beta1 - - - 63 10000",
+    ),
+    (
+        "a sample to go on from, and a name",
+        "crdx sample c.json v1 --name w --after {\"a\":0}",
+        "sample c.json v1 - {\"a\":0} w 8 100",
+    ),
+];
+
+const MISSING: &str = "error: the following required arguments were not provided:\n";
+
+// A name, a command line, and the first line of standard error. The status is 2.
+static MISTAKES: [(&str, &str, &str); 19] = [
+    (
+        "no command",
+        "crdx",
+        "error: 'crdx' requires a subcommand but one was not provided\n",
+    ),
+    (
+        "another command",
+        "crdx list",
+        "error: unrecognized subcommand 'list'\n",
+    ),
+    ("a sample of nothing", "crdx sample", MISSING),
+    ("a sample of no version", "crdx sample crd.json", MISSING),
+    ("a check of no version", "crdx check crd.json", MISSING),
+    ("no version", "crdx validate crd.json", MISSING),
+    ("leaves of no version", "crdx leaves crd.json", MISSING),
+    ("fields of nothing", "crdx explain", MISSING),
+    (
+        "a second path",
+        "crdx explain crd.json v1 /a /b",
+        "error: unexpected argument '/b' found\n",
+    ),
+    (
+        "a fourth word",
+        "crdx prune crd.json v1 object.json w",
+        "error: unexpected argument 'w' found\n",
+    ),
+    (
+        "an option of another command",
+        "crdx default crd.json v1 --pools pools.json",
+        "error: unexpected argument '--pools' found\n",
+    ),
+    (
+        "a third word",
+        "crdx sample crd.json v1 w",
+        "error: unexpected argument 'w' found\n",
+    ),
+    (
+        "a limit of a check",
+        "crdx check crd.json v1 --limit 4",
+        "error: unexpected argument '--limit' found\n",
+    ),
+    (
+        "a count of a check",
+        "crdx check crd.json v1 --count 1",
+        "error: unexpected argument '--count' found\n",
+    ),
+    (
+        "limit 0",
+        "crdx sample crd.json v1 --limit 0",
+        "error: invalid value '0' for '--limit <N>': 0 is not in 1..=63\n",
+    ),
+    (
+        "limit 64",
+        "crdx sample crd.json v1 --limit 64",
+        "error: invalid value '64' for '--limit <N>': 64 is not in 1..=63\n",
+    ),
+    (
+        "count 0",
+        "crdx sample crd.json v1 --count 0",
+        "error: invalid value '0' for '--count <N>': 0 is not in 1..=10000\n",
+    ),
+    (
+        "count 10001",
+        "crdx sample crd.json v1 --count 10001",
+        "error: invalid value '10001' for '--count <N>': 10001 is not in 1..=10000\n",
+    ),
+    (
+        "a limit that is no number",
+        "crdx sample crd.json v1 --limit x",
+        "error: invalid value 'x' for '--limit <N>': invalid digit found in string\n",
+    ),
+];
+
+// A name, a command line, and a line of the help, or the version. The status is 0.
+static HELP: [(&str, &str, &str); 22] = [
+    ("an option", "crdx --help", "Usage: crdx <COMMAND>\n"),
+    ("a command", "crdx help", "Usage: crdx <COMMAND>\n"),
+    (
+        "an option of a command",
+        "crdx sample --help",
+        "Usage: crdx sample [OPTIONS] <CRD> <VERSION>\n",
+    ),
+    (
+        "a command of a command",
+        "crdx help sample",
+        "Usage: crdx sample [OPTIONS] <CRD> <VERSION>\n",
+    ),
+    (
+        "another name of the program",
+        "bin/crdx_cli sample --help",
+        "Usage: crdx sample [OPTIONS] <CRD> <VERSION>\n",
+    ),
+    (
+        "a short option",
+        "crdx check -h",
+        "Usage: crdx check <CRD> <VERSION>\n",
+    ),
+    (
+        "an option of another command",
+        "crdx validate --help",
+        "Usage: crdx validate <CRD> <VERSION> [OBJECT]\n",
+    ),
+    (
+        "a command of another command",
+        "crdx help prune",
+        "Usage: crdx prune <CRD> <VERSION> [OBJECT]\n",
+    ),
+    (
+        "a short option of another command",
+        "crdx default -h",
+        "Usage: crdx default <CRD> <VERSION> [OBJECT]\n",
+    ),
+    ("a short option alone", "crdx -h", "Usage: crdx <COMMAND>\n"),
+    (
+        "a short option of a sample",
+        "crdx sample -h",
+        "Usage: crdx sample [OPTIONS] <CRD> <VERSION>\n",
+    ),
+    (
+        "an option of a check",
+        "crdx check --help",
+        "Usage: crdx check <CRD> <VERSION>\n",
+    ),
+    (
+        "a short option of a validation",
+        "crdx validate -h",
+        "Usage: crdx validate <CRD> <VERSION> [OBJECT]\n",
+    ),
+    (
+        "an option of pruning",
+        "crdx prune --help",
+        "Usage: crdx prune <CRD> <VERSION> [OBJECT]\n",
+    ),
+    (
+        "a short option of pruning",
+        "crdx prune -h",
+        "Usage: crdx prune <CRD> <VERSION> [OBJECT]\n",
+    ),
+    (
+        "an option of defaulting",
+        "crdx default --help",
+        "Usage: crdx default <CRD> <VERSION> [OBJECT]\n",
+    ),
+    (
+        "an option of leaves",
+        "crdx leaves --help",
+        "Usage: crdx leaves <CRD> <VERSION> [OBJECT]\n",
+    ),
+    (
+        "a short option of leaves",
+        "crdx leaves -h",
+        "Usage: crdx leaves <CRD> <VERSION> [OBJECT]\n",
+    ),
+    (
+        "an option of fields",
+        "crdx explain --help",
+        "Usage: crdx explain <CRD> <VERSION> [PATH]\n",
+    ),
+    (
+        "a short option of fields",
+        "crdx explain -h",
+        "Usage: crdx explain <CRD> <VERSION> [PATH]\n",
+    ),
+    ("the version", "crdx --version", "crdx 0.1.0\n"),
+    ("the version, for short", "bin/crdx_cli -V", "crdx 0.1.0\n"),
+];
+
+// What a run can answer, and the codes that it can print: each begins a line of the help.
+static ANSWERS: [&str; 18] = [
+    "0", "1", "2", "3", "4", "5", "J1", "J3", "J4", "S1", "S2", "S3", "S4", "P1", "P2", "L1", "X1",
+    "X2",
+];
+
+// The rules and the faults that a run can print: each begins a line of the help.
+static NUMBERS: [&str; 31] = [
+    "V01", "V02", "V03", "V04", "V05", "V06", "V07", "V08", "V09", "V10", "V11", "V12", "V13",
+    "V14", "V15", "V16", "V17", "F01", "F02", "F03", "F04", "F05", "F06", "F07", "F08", "F09",
+    "F10", "F11", "F12", "F13", "F14",
+];
+
+fn said(alloc: Global, request: &Request<'_>) -> Result<String, AllocError> {
+    match request {
+        Request::Sample(
+            SampleArguments {
+                crd,
+                version,
+                pools,
+                after,
+                name,
+                limit,
+                count,
+            },
+        ) => {
+            let pools = pools.unwrap_or("-");
+            let after = after.unwrap_or("-");
+            let name = name.unwrap_or("-");
+            format!(in alloc; "sample {crd} {version} {pools} {after} {name} {limit} {count}")
+        }
+        Request::Check(CheckArguments { crd, version }) => {
+            format!(in alloc; "check {crd} {version}")
+        }
+        Request::Explain(ExplainArguments { crd, version, path }) => {
+            let path = path.unwrap_or("-");
+            format!(in alloc; "explain {crd} {version} {path}")
+        }
+        Request::Object(
+            ObjectArguments {
+                command,
+                crd,
+                version,
+                object,
+            },
+        ) => {
+            let command = match command {
+                ObjectCommand::Validate => "validate",
+                ObjectCommand::Prune => "prune",
+                ObjectCommand::Default => "default",
+                ObjectCommand::Leaves => "leaves",
+            };
+            let object = object.unwrap_or("-");
+            format!(in alloc; "{command} {crd} {version} {object}")
+        }
+        _ => String::from_str(alloc, "another request"),
+    }
+}
+
+fn asked(alloc: Global, line: &str) -> Result<String, Fail> {
+    let words = words_of(alloc, line)?;
+    Ok(said(alloc, &parse_arguments(alloc, words.as_slice()))?)
+}
+
+#[test]
+fn requests(rt: HostRuntime) -> Result<(), Fail> {
+    for (name, line, wanted) in &REQUESTS {
+        is_said(&rt, asked(rt.alloc(), line), wanted, "what is asked", name)?;
+    }
+    Ok(())
+}
+
+fn run_of(alloc: Global, line: &str) -> Result<Output, AllocError> {
+    let inputs = FakeInputs::new(alloc, WIDGET, ZERO_AND_ONE);
+    run_on(alloc, line, inputs, FailingSink::endless(alloc))
+}
+
+fn is_mistaken(rt: &impl Abort, output: &Output, wanted: &str, name: &str) {
+    let err = output.err.text();
+    holds_of(rt, err, err.starts_with(wanted), "standard error", name);
+    is_text(rt, output.out.text(), "", "standard output", name);
+    is_number(rt, output.status as u64, 2, "the status", name);
+}
+
+// The help fits 80 columns.
+fn is_helped(rt: &impl Abort, output: &Output, wanted: &str, name: &str) {
+    let out = output.out.text();
+    holds_of(rt, out, out.contains(wanted), "standard output", name);
+    for line in out.lines() {
+        holds_of(
+            rt,
+            line,
+            line.chars().count() <= 80,
+            "at most 80 columns",
+            name,
+        );
+    }
+    is_text(rt, output.err.text(), "", "standard error", name);
+    is_number(rt, output.status as u64, 0, "the status", name);
+}
+
+fn try_words(
+    rt: &impl Abort,
+    alloc: Global,
+    row: &(&str, &str, &str),
+    mistaken: bool,
+) -> Result<(), AllocError> {
+    let (name, line, wanted) = *row;
+    let output = run_of(alloc, line)?;
+    if mistaken {
+        is_mistaken(rt, &output, wanted, name);
+    } else {
+        is_helped(rt, &output, wanted, name);
+    }
+    Ok(())
+}
+
+#[test]
+fn mistakes_and_help(rt: HostRuntime) -> Result<(), Fail> {
+    for row in &MISTAKES {
+        try_words(&rt, rt.alloc(), row, true)?;
+    }
+    for row in &HELP {
+        try_words(&rt, rt.alloc(), row, false)?;
+    }
+    Ok(())
+}
+
+fn is_explained(text: &str, answer: &str) -> bool {
+    for line in text.lines() {
+        if line.trim_start().split(' ').next() == Some(answer) {
+            return true;
+        }
+    }
+    false
+}
+
+#[test]
+fn help_explains_each_answer(rt: HostRuntime) -> Result<(), Fail> {
+    let output = run_of(rt.alloc(), "crdx --help")?;
+    for answer in &ANSWERS {
+        holds(
+            &rt,
+            is_explained(output.out.text(), answer),
+            "the line",
+            answer,
+        );
+    }
+    for answer in &NUMBERS {
+        holds(
+            &rt,
+            is_explained(output.out.text(), answer),
+            "the line",
+            answer,
+        );
+    }
+    Ok(())
+}

@@ -1,0 +1,167 @@
+//! Documents in files, and which inputs a run reads.
+use crate::support::documents::{BROKEN, WIDGET, ZERO_AND_ONE};
+use crate::support::fakes::{FailingSink, FakeInputs, Reads};
+use crate::support::harness::{is_number, is_said, run_on};
+use crate::support::texts::padded;
+use crdx::inputs::{InFault, Inputs, Outside};
+use std::alloc::{AllocError, Global};
+use std::env::Env;
+use std::process::Abort;
+use std::rt::Files;
+use std::test::Fail;
+use std::{env, fs, process};
+
+// A name, the beginning of a file, how many spaces follow it, and the text or the code of what is read.
+static FILES: [(&str, &str, usize, &str); 3] = [
+    ("a document of 1,048,576 bytes", "7", 1_048_575, "7"),
+    ("a document of 1,048,577 bytes", "7", 1_048_576, "J4"),
+    ("a list that is cut", "[1,", 0, "J3"),
+];
+
+// Where no file is.
+static NO_FILES: [&str; 2] = ["no such file", "/"];
+
+fn said_of_file(rt: &(impl Files + Input + AllocGlobal), path: &str) -> Result<String, Fail> {
+    match Outside::new(rt).tree(Some(path)) {
+        Ok(tree) => Ok(tree.to_text(rt.alloc())?),
+        Err(InFault::Document(fault)) => Ok(fault.to_string(rt.alloc())?),
+        Err(InFault::Failed) => Ok(String::from_str(rt.alloc(), "read failed")?),
+    }
+}
+
+fn said_of_text(
+    rt: &(impl Files + Input + AllocGlobal),
+    path: &str,
+    text: &str,
+) -> Result<String, Fail> {
+    fs::write(rt, path, text)?;
+    let found = said_of_file(rt, path)?;
+    fs::remove_file(rt, path)?;
+    Ok(found)
+}
+
+fn try_file(
+    rt: &(impl Files + Input + AllocGlobal + Abort),
+    path: &str,
+    row: &(&str, &str, usize, &str),
+) -> Result<(), Fail> {
+    let (name, head, spaces, wanted) = *row;
+    let text = padded(rt.alloc(), head, spaces)?;
+    let found = said_of_text(rt, path, text.as_str());
+    is_said(rt, found, wanted, "what is read", name)
+}
+
+fn path_of(rt: &(impl Env + AllocGlobal), id: u32) -> Result<String, Fail> {
+    let folder = env::temp_dir(rt)?;
+    Ok(format!(in rt.alloc(); "{}/crdx_tests_{id}.json", folder.display())?)
+}
+
+fn try_files(rt: &(impl Files + Input + AllocGlobal + Abort), path: &str) -> Result<(), Fail> {
+    for row in &FILES {
+        try_file(rt, path, row)?;
+    }
+    Ok(())
+}
+
+#[test]
+fn files(rt: HostRuntime) -> Result<(), Fail> {
+    for path in &NO_FILES {
+        is_said(
+            &rt,
+            said_of_file(&rt, path),
+            "read failed",
+            "what is read",
+            path,
+        )?;
+    }
+    let path = path_of(&rt, process::id(rt.process()))?;
+    try_files(&rt, path.as_str())
+}
+
+// A name, a command line, a definition, and how often the definition, the pools, the object and any other input are read.
+static READS: [(&str, &str, &str, u64, u64, u64, u64); 9] = [
+    ("a check", "crdx check crd.json v1", WIDGET, 1, 0, 0, 0),
+    (
+        "a sample without pools",
+        "crdx sample crd.json v1",
+        WIDGET,
+        1,
+        0,
+        0,
+        0,
+    ),
+    (
+        "a sample with pools",
+        "crdx sample crd.json v1 --pools pools.json",
+        WIDGET,
+        1,
+        1,
+        0,
+        0,
+    ),
+    (
+        "a sample of a definition that is refused",
+        "crdx sample crd.json v1 --pools pools.json",
+        "{}",
+        1,
+        0,
+        0,
+        0,
+    ),
+    (
+        "an object in a file",
+        "crdx prune crd.json v1 object.json",
+        WIDGET,
+        1,
+        0,
+        1,
+        0,
+    ),
+    (
+        "an object on the standard input",
+        "crdx default crd.json v1",
+        WIDGET,
+        1,
+        0,
+        0,
+        1,
+    ),
+    (
+        "an object of a schema that breaks rules",
+        "crdx validate crd.json v1 object.json",
+        BROKEN,
+        1,
+        0,
+        0,
+        0,
+    ),
+    ("help", "crdx --help", WIDGET, 0, 0, 0, 0),
+    ("no command", "crdx", WIDGET, 0, 0, 0, 0),
+];
+
+fn is_read(rt: &impl Abort, reads: Reads, row: &(&str, &str, &str, u64, u64, u64, u64)) {
+    let (name, _line, _crd, crds, pools, objects, others) = *row;
+    is_number(rt, reads.crd, crds, "the reads of the definition", name);
+    is_number(rt, reads.pools, pools, "the reads of the pools", name);
+    is_number(rt, reads.object, objects, "the reads of the object", name);
+    is_number(rt, reads.other, others, "the other reads", name);
+}
+
+fn try_reads(
+    rt: &impl Abort,
+    alloc: Global,
+    row: &(&str, &str, &str, u64, u64, u64, u64),
+) -> Result<(), AllocError> {
+    let inputs = FakeInputs::new(alloc, row.2, ZERO_AND_ONE);
+    let output = run_on(alloc, row.1, inputs, FailingSink::endless(alloc))?;
+    is_read(rt, output.reads, row);
+    Ok(())
+}
+
+#[test]
+fn reads(rt: HostRuntime) -> Result<(), Fail> {
+    for row in &READS {
+        try_reads(&rt, rt.alloc(), row)?;
+    }
+    Ok(())
+}

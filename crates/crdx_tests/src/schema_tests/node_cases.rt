@@ -1,0 +1,155 @@
+//! The node of a schema, or why it has none.
+use crate::support::harness::{crd_of, is_said};
+use crate::support::nodes::{first_field, node_text};
+use schema::{Shape, nodes_are_unique, shape};
+use std::alloc::Global;
+use std::process::Abort;
+use std::test::Fail;
+
+fn shape_said(alloc: Global, shape: &Shape, is_field: bool) -> Result<String, Fail> {
+    if is_field {
+        node_text(alloc, first_field(shape.root())?)
+    } else {
+        node_text(alloc, shape.root())
+    }
+}
+
+// The text of the node of the root, or of its first field; or the refusal.
+fn said(alloc: Global, schema: &str, is_field: bool) -> Result<String, Fail> {
+    let crd = crd_of(alloc, schema)??;
+    let shape = shape(alloc, &crd.raw);
+    drop(crd);
+    let said = match &shape {
+        Ok(shape) => shape_said(alloc, shape, is_field),
+        Err(refused) => refused.to_string(alloc).map_err(Fail::from),
+    };
+    drop(shape);
+    said
+}
+
+// A name, the schema of a field, and its node or its refusal.
+static NODES: [(&str, &str, &str); 16] = [
+    ("an integer", r#"{"type":"integer"}"#, "integer"),
+    (
+        "a description, and null",
+        r#"{"type":"boolean","nullable":true,"description":"on or off"}"#,
+        "boolean nullable description=on or off",
+    ),
+    (
+        "int-or-string",
+        r#"{"x-kubernetes-int-or-string":true}"#,
+        "int-or-string",
+    ),
+    ("an object", r#"{"type":"object"}"#, "object"),
+    (
+        "fields, one required and with a default",
+        r#"{"type":"object","properties":{"b":{"type":"string","default":"y"},"a":{"type":"integer"}},"required":["b","b"]}"#,
+        r#"object a=integer b=string required default="y""#,
+    ),
+    (
+        "a default of an object",
+        r#"{"type":"object","properties":{"a":{"type":"object","default":{"z":[1]},"properties":{"kind":{"type":"string"}}}}}"#,
+        r#"object a=object default={"z":[1]}"#,
+    ),
+    (
+        "an object with its markers",
+        r#"{"type":"object","minProperties":1,"maxProperties":2,"x-kubernetes-map-type":"atomic","x-kubernetes-preserve-unknown-fields":true}"#,
+        "object preserves atomic least=1 most=2",
+    ),
+    (
+        "a map",
+        r#"{"type":"object","additionalProperties":{"type":"string"},"x-kubernetes-map-type":"granular","maxProperties":3}"#,
+        "map of=string most=3",
+    ),
+    (
+        "a map of lists",
+        r#"{"type":"object","additionalProperties":{"type":"array","items":{"type":"integer"}},"x-kubernetes-map-type":"atomic"}"#,
+        "map of=list atomic",
+    ),
+    (
+        "a map list",
+        r#"{"type":"array","items":{"type":"object","properties":{"k":{"type":"string"},"l":{"type":"integer"}},"required":["k","l"]},"x-kubernetes-list-type":"map","x-kubernetes-list-map-keys":["l","k"],"minItems":0,"maxItems":3}"#,
+        "list of=object map key=l key=k least=0 most=3",
+    ),
+    (
+        "a set",
+        r#"{"type":"array","items":{"type":"string"},"x-kubernetes-list-type":"set"}"#,
+        "list of=string set",
+    ),
+    (
+        "an atomic list",
+        r#"{"type":"array","items":{"x-kubernetes-preserve-unknown-fields":true},"x-kubernetes-list-type":"atomic"}"#,
+        "list of=open",
+    ),
+    (
+        "any value",
+        r#"{"x-kubernetes-preserve-unknown-fields":true,"nullable":true}"#,
+        "open nullable",
+    ),
+    (
+        "any value with an empty type",
+        r#"{"type":"","x-kubernetes-preserve-unknown-fields":true}"#,
+        "open",
+    ),
+    ("a number", r#"{"type":"number"}"#, "violations"),
+    ("no type", "{}", "violations"),
+];
+
+// A name, a schema, and the node of the root or its refusal.
+static ROOTS: [(&str, &str, &str); 6] = [
+    (
+        "an envelope",
+        r#"{"type":"object","required":["kind","spec"],"properties":{"apiVersion":{"type":"string"},"kind":{"type":"string"},"metadata":{"type":"object"},"spec":{"type":"object"},"status":{"type":"boolean"}}}"#,
+        "object spec=object required status=boolean",
+    ),
+    (
+        "a required envelope, and a field of the same name below",
+        r#"{"type":"object","required":["metadata"],"properties":{"spec":{"type":"object","properties":{"kind":{"type":"string"}}}}}"#,
+        "object spec=object",
+    ),
+    (
+        "a description and markers",
+        r#"{"type":"object","description":"a widget","x-kubernetes-map-type":"atomic","x-kubernetes-preserve-unknown-fields":true}"#,
+        "object description=a widget preserves atomic",
+    ),
+    ("an integer", r#"{"type":"integer"}"#, "violations"),
+    (
+        "a violation behind a default",
+        r#"{"type":"object","properties":{"x":{"type":"integer","default":1},"y":{"type":"array"}}}"#,
+        "violations",
+    ),
+    (
+        "a violation in the envelope",
+        r#"{"type":"object","properties":{"kind":{"type":"string","default":"x"}}}"#,
+        "violations",
+    ),
+];
+
+fn try_field(rt: &impl Abort, alloc: Global, row: &(&str, &str, &str)) -> Result<(), Fail> {
+    let (name, schema, wanted) = *row;
+    let root = format!(in alloc; r#"{{"type":"object","properties":{{"x":{schema}}}}}"#)?;
+    is_said(
+        rt,
+        said(alloc, root.as_str(), true),
+        wanted,
+        "the node",
+        name,
+    )
+}
+
+fn try_root(rt: &impl Abort, alloc: Global, row: &(&str, &str, &str)) -> Result<(), Fail> {
+    let (name, schema, wanted) = *row;
+    is_said(rt, said(alloc, schema, false), wanted, "the node", name)
+}
+
+#[test]
+fn nodes(rt: HostRuntime) -> Result<(), Fail> {
+    nodes_are_unique();
+    for row in &NODES {
+        try_field(&rt, rt.alloc(), row)?;
+    }
+    for row in &ROOTS {
+        try_root(&rt, rt.alloc(), row)?;
+    }
+    Ok(())
+}

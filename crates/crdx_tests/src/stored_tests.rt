@@ -1,0 +1,2 @@
+mod default_cases;
+mod object_cases;

@@ -1,0 +1,9 @@
+pub mod comparison;
+pub mod documents;
+pub mod fakes;
+pub mod harness;
+pub mod nodes;
+pub mod pages;
+pub mod plans;
+pub mod reference;
+pub mod texts;

@@ -1,0 +1,94 @@
+//! Documents that more than one test reads, and what is listed of them.
+
+/// A resource with an integer `a` and a truth value `b` below `spec`.
+pub const WIDGET: &str =
+    r#"{"apiVersion":"apiextensions.k8s.io/v1","kind":"CustomResourceDefinition","spec":{"group":"example.org","names":{"kind":"Widget"},"versions":[{"name":"v1","schema":{"openAPIV3Schema":{"type":"object","properties":{"spec":{"type":"object","properties":{"a":{"type":"integer"},"b":{"type":"boolean"}}}}}}}]}}"#;
+
+/// Pools of two integers.
+pub const ZERO_AND_ONE: &str = r#"{"integers":[0,1]}"#;
+
+/// The samples of `WIDGET` over `ZERO_AND_ONE` of at most four nodes.
+pub const TEN_LINES: &str = r#"{}
+{"spec":{}}
+{"spec":{"b":false}}
+{"spec":{"b":true}}
+{"spec":{"a":0}}
+{"spec":{"a":1}}
+{"spec":{"a":0,"b":false}}
+{"spec":{"a":0,"b":true}}
+{"spec":{"a":1,"b":false}}
+{"spec":{"a":1,"b":true}}
+"#;
+
+/// An object with at least two of three truth values.
+pub const TRUTHS: &str =
+    r#"{"type":"object","properties":{"o":{"type":"object","minProperties":2,"properties":{"a":{"type":"boolean"},"b":{"type":"boolean"},"c":{"type":"boolean"}}}}}"#;
+
+/// A map list with a text `k` as its key and an integer `v`.
+pub const MAP_LIST: &str =
+    r#"{"type":"object","properties":{"m":{"type":"array","x-kubernetes-list-type":"map","x-kubernetes-list-map-keys":["k"],"items":{"type":"object","properties":{"k":{"type":"string"},"v":{"type":"integer"}},"required":["k"]}}}}"#;
+
+/// The same, of at least three items.
+pub const LONG_MAP_LIST: &str =
+    r#"{"type":"object","properties":{"m":{"type":"array","minItems":3,"x-kubernetes-list-type":"map","x-kubernetes-list-map-keys":["k"],"items":{"type":"object","properties":{"k":{"type":"string"},"v":{"type":"integer"}},"required":["k"]}}}}"#;
+
+/// Pools of two texts and an integer.
+pub const TWO_TEXTS: &str = r#"{"strings":["a","b"],"integers":[0]}"#;
+
+/// An integer `a` and a truth value `b` below `spec`: the schema of `WIDGET`.
+pub const SPEC: &str =
+    r#"{"type":"object","properties":{"spec":{"type":"object","properties":{"a":{"type":"integer"},"b":{"type":"boolean"}}}}}"#;
+
+/// Fifteen objects of three truth values.
+pub const FIFTEEN: &str =
+    r#"{"type":"object","required":["t"],"properties":{"t":{"type":"array","minItems":15,"maxItems":15,"items":{"type":"object","required":["a","b","c"],"properties":{"a":{"type":"boolean"},"b":{"type":"boolean"},"c":{"type":"boolean"}}}}}}"#;
+
+/// A set of integers.
+pub const SET: &str =
+    r#"{"type":"object","properties":{"s":{"type":"array","x-kubernetes-list-type":"set","items":{"type":"integer"}}}}"#;
+
+/// Pools of two integers, one of them twice.
+pub const REPEATED: &str = r#"{"integers":[2,1,2]}"#;
+
+/// An object without properties, or null.
+pub const NULLABLE: &str =
+    r#"{"type":"object","properties":{"n":{"type":"object","nullable":true}}}"#;
+
+/// An integer with a default below `spec`.
+pub const DEFAULTED: &str =
+    r#"{"type":"object","properties":{"spec":{"type":"object","properties":{"f":{"type":"integer","default":7}}}}}"#;
+
+/// Pools of two integers, one of them the default of `DEFAULTED`.
+pub const ZERO_AND_SEVEN: &str = r#"{"integers":[0,7]}"#;
+
+/// A map of texts.
+pub const LABELS: &str =
+    r#"{"type":"object","properties":{"labels":{"type":"object","additionalProperties":{"type":"string"}}}}"#;
+
+/// Pools of a text and of two names, one of them twice.
+pub const NAMES: &str = r#"{"names":["k","j","k"],"strings":["x"]}"#;
+
+/// Any value but null.
+pub const OPEN: &str =
+    r#"{"type":"object","properties":{"x":{"x-kubernetes-preserve-unknown-fields":true}}}"#;
+
+/// Any value.
+pub const OPEN_NULLABLE: &str =
+    r#"{"type":"object","properties":{"x":{"x-kubernetes-preserve-unknown-fields":true,"nullable":true}}}"#;
+
+/// A resource whose schema breaks two rules.
+pub const BROKEN: &str =
+    r#"{"apiVersion":"apiextensions.k8s.io/v1","kind":"CustomResourceDefinition","spec":{"group":"example.com","names":{"kind":"Widget"},"versions":[{"name":"v1","schema":{"openAPIV3Schema":{"type":"object","properties":{"a":{},"b":{"type":"string","uniqueItems":true}}}}}]}}"#;
+
+/// What is said of `BROKEN`.
+pub const BROKEN_LINES: &str = r#"V01 "/properties/a" missing type
+V06 "/properties/b" uniqueItems is true
+"#;
+
+/// `LONG_MAP_LIST`, required.
+pub const REQUIRED_LONG_MAP_LIST: &str =
+    r#"{"type":"object","required":["m"],"properties":{"m":{"type":"array","minItems":3,"x-kubernetes-list-type":"map","x-kubernetes-list-map-keys":["k"],"items":{"type":"object","properties":{"k":{"type":"string"},"v":{"type":"integer"}},"required":["k"]}}}}"#;
+
+/// A map list with the integers `a` and `c` as its keys and a truth value `b`.
+pub const TWO_INTEGER_KEYS: &str =
+    r#"{"type":"object","properties":{"m":{"type":"array","x-kubernetes-list-type":"map","x-kubernetes-list-map-keys":["a","c"],"items":{"type":"object","properties":{"a":{"type":"integer"},"b":{"type":"boolean"},"c":{"type":"integer"}},"required":["a","c"]}}}}"#;

@@ -1,0 +1,103 @@
+//! What a plan says of a node, where it may be asked.
+ghost use Rattle.std.specs.Prelude.{◌≡◌, ◌<◌, ◌≤◌, length, IfSome};
+ghost use Rattle.plan.specs.Samples.Sites.{site_at, sites_of};
+ghost use Rattle.plan.specs.Samples.Candidates.{sort_of};
+ghost use Rattle.plan.specs.declared.sort.Sort.TheVariants as sort;
+
+use crate::support::harness::is_value;
+use plan::{Meter, Plan, PlanNode, SizeSet, Sort};
+use std::alloc::Global;
+use std::process::Abort;
+use std::test::Fail;
+
+// A place in a short table.
+pub fn place_of(index: usize) -> u64 {
+    index.min(99) as u64
+}
+
+// The node of a slot.
+pub fn slot_of(plan: &Plan<u64>, node: PlanNode, place: u64, meter: &mut Meter) -> Option<PlanNode>
+    requires { node < length (sites_of plan.now.root) }
+    ensures { IfSome result (λ n. n < length (sites_of plan.now.root)) }
+{
+    match plan.sort(node) {
+        Sort::Row => match plan.slot(node, place, meter) {
+            Some(slot) => Some(slot.node),
+            None => None,
+        },
+        Sort::Leaf | Sort::List => None,
+    }
+}
+
+pub fn item_of(plan: &Plan<u64>, node: PlanNode, place: u32, meter: &mut Meter) -> Option<PlanNode>
+    requires { node < length (sites_of plan.now.root) }
+    ensures { IfSome result (λ i. i < length (sites_of plan.now.root)) }
+{
+    match plan.sort(node) {
+        Sort::List => plan.item(node, place, meter),
+        Sort::Leaf | Sort::Row => None,
+    }
+}
+
+pub fn are_sizes(
+    rt: &impl Abort,
+    alloc: Global,
+    set: u64,
+    wanted: &[u32],
+    what: &str,
+    name: &str,
+) -> Result<(), Fail> {
+    let mut sizes = Vec::new(alloc);
+    for n in 0..64 {
+        if set.has(n) {
+            sizes.push(n)?;
+        }
+    }
+    is_value(rt, &sizes.as_slice(), &wanted, what, name);
+    Ok(())
+}
+
+// The sizes that the slots of a row from a place on can take; none where there is no such place.
+pub fn rest_of(
+    plan: &Plan<u64>,
+    node: PlanNode,
+    place: u64,
+    taken: u32,
+    meter: &mut Meter,
+) -> Option<u64>
+    requires { node < length (sites_of plan.now.root) }
+{
+    match plan.sort(node) {
+        Sort::Row if u64::from(taken) <= place => rest_at(plan, node, place, taken, meter),
+        _ => None,
+    }
+}
+
+fn rest_at(
+    plan: &Plan<u64>,
+    node: PlanNode,
+    place: u64,
+    taken: u32,
+    meter: &mut Meter,
+) -> Option<u64>
+    requires node { node < length (sites_of plan.now.root) }
+    requires row { sort_of (site_at (sites_of plan.now.root) node).node ≡ sort.Row }
+    requires taken { taken ≤ place }
+{
+    if place == 0 {
+        return Some(plan.rest(node, 0, 0));
+    }
+    match plan.slot(node, place - 1, meter) {
+        Some(_) => Some(plan.rest(node, place, taken)),
+        None => None,
+    }
+}
+
+pub fn more_of(plan: &Plan<u64>, node: PlanNode, taken: u32) -> Option<u64>
+    requires { node < length (sites_of plan.now.root) }
+{
+    match plan.sort(node) {
+        Sort::List => Some(plan.more(node, taken)),
+        Sort::Leaf | Sort::Row => None,
+    }
+}

@@ -1,0 +1,6 @@
+-- For private contracts and for proofs.
+pub mod FieldCode
+pub mod Reading
+pub mod Resolving
+pub mod ListedByLevel
+pub mod StepView

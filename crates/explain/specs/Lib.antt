@@ -1,0 +1,4 @@
+-- What the contracts of this crate say, in words of its subject.
+pub mod Paths
+pub mod Fields
+pub mod Internal

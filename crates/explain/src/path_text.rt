@@ -1,0 +1,53 @@
+//! How a path is written.
+ghost use Rattle.std.specs.Prelude.{◌≡◌, ◌++◌, OnOk, flat_map, string_bytes};
+ghost use Rattle.std.specs.Char.{encode_utf8};
+ghost use Rattle.explain.specs.Paths.FieldPath.{field};
+ghost use Rattle.explain.specs.Paths.PathText.{escaped, step_text};
+ghost use Rattle.explain.specs.Internal.StepView.{step_of};
+
+use std::alloc::AllocError;
+
+/// A step of a path.
+#[derive(Clone, Copy, Drop)]
+pub(crate) enum Step<'a> {
+    /// To the field of this name.
+    Field(&'a str),
+    /// To the items of a list.
+    Item,
+    /// To the values of a map.
+    Value,
+}
+
+/// Appends the text of a step.
+pub(crate) fn push_step(text: &mut String, step: Step<'_>) -> Result<(), AllocError>
+    ensures { OnOk result (string_bytes text.new ≡ string_bytes text.old ++ step_text (step_of step.entry)) }
+{
+    match step {
+        Step::Field(name) => push_name(text, name),
+        Step::Item => text.push_str("/[]"),
+        Step::Value => text.push_str("/{}"),
+    }
+}
+
+fn push_name(text: &mut String, name: &str) -> Result<(), AllocError>
+    ensures { OnOk result (string_bytes text.new ≡ string_bytes text.old ++ step_text (field name.now)) }
+{
+    text.push('/')?;
+    for letter in name.chars() {
+        push_letter(text, letter)?;
+    }
+    Ok(())
+}
+
+fn push_letter(text: &mut String, letter: char) -> Result<(), AllocError>
+    ensures { OnOk result (string_bytes text.new ≡ string_bytes text.old ++ flat_map escaped (encode_utf8 letter)) }
+{
+    match letter {
+        '~' => text.push_str("~0")?,
+        '/' => text.push_str("~1")?,
+        '[' => text.push_str("~2")?,
+        '{' => text.push_str("~3")?,
+        _ => text.push(letter)?,
+    }
+    Ok(())
+}
