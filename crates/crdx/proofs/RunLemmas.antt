@@ -176,7 +176,7 @@ module _ (run : Effects) (request : Request) where
   kept keeps (Sample a) = inl keeps
   kept keeps _ = keeps
 
-  -- memory was wanting, and nothing is out
+  -- memory ran out, and nothing is out
   pub result_of_nothing : (code : ℕ) → WritesNothing run → code ≡ 5 → IsRunResult run request code
   result_of_nothing code nothing e = rw e (no_memory (kept nothing.kept request) nothing.unfailed)
 
@@ -227,7 +227,7 @@ walk_cause q after count e old new before now (w.NoMemory n) (same, inl none) = 
 walk_cause q after count e old new before now (w.NoMemory n) (same, inr (sample, cut)) = (same, inr (sample, n, cut))
 walk_cause q after count e old new before now (w.Write n) is = (is.0, is.1, λ items end page. inl (n, is.2 items end page))
 
--- all lines were taken, and the flush behind them failed
+-- all lines were taken, and the flush after them failed
 pub flush_cause : (q : Question) (after : Option Data) (count : ℕ) (e : Option Envelope) (lines_out n : ℕ) (end : Bool) (old new : Option (List ℕ)) (before now : ℕ)
     → IfSome after (IsSampleOf q) → WritesPage q after count e lines_out end old new → HasFailed before now → IsWalkCause q after count e old new before now (Write n)
 flush_cause q after count e lines_out n end old new before now sample wrote failed = (

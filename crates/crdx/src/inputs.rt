@@ -38,7 +38,7 @@ pub trait Inputs {
 
     /// The document of the file of this name, or of the standard input where there is no name.
     ///
-    /// `Failed` where it cannot be opened or read, and `Document` where it is no document, or where memory is wanted.
+    /// `Failed` where it cannot be opened or read, and `Document` where it is no document, or out of memory.
     fn tree(&mut self, name: Option<&str>) -> Result<Tree, InFault>
         ensures document { IfOk result (λ t. has self.old (file_name name.entry) (Ok (data_of t))) }
         ensures refused { IfErr result (IsInputFault (has self.old) (file_name name.entry)) }
@@ -106,7 +106,7 @@ fn read_document<R: Read>(alloc: Global, reader: &mut R) -> Result<Tree, InFault
     }
 }
 
-/// A read that lacks memory is told apart from one that fails.
+/// A read that runs out of memory is told apart from one that fails.
 fn fault_of(kind: ErrorKind) -> InFault
     ensures memory { kind ≡ ErrorKind.OutOfMemory → result ≡ Document NoMemory }
     ensures other { kind ≢ ErrorKind.OutOfMemory → result ≡ Failed }

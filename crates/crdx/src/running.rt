@@ -28,7 +28,7 @@ use std::alloc::Global;
 
 /// Runs the program: the first word is its name, and what the others ask for is written to `out`, with a line on `err`
 /// where there is more to say. It answers the exit status: 0 done, 1 the answer is no, 2 arguments that are refused, 3 an
-/// input that is no such document, 4 a read or a write that failed, 5 want of memory. A failure of `err` is passed over.
+/// input that is no such document, 4 a read or a write that failed, 5 out of memory. A failure of `err` is passed over.
 pub fn run<I: Inputs, W: Sink, E: Sink>(
     alloc: Global,
     arguments: &[String],

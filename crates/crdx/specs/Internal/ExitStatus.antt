@@ -32,7 +32,7 @@ code_name code.KeywordForm = codes "S3"
 code_name code.TooLarge = codes "S4"
 code_name code.Form = codes "P1"
 
--- want of memory is no fault of a document
+-- running out of memory is no fault of a document
 abbrev pub cause_of_reading : SFault → Cause
 cause_of_reading s.NotACrd = cause.Crd s.NotACrd
 cause_of_reading s.NoSuchVersion = cause.Crd s.NoSuchVersion
@@ -59,7 +59,7 @@ cause_of_walk w.NotASample = cause.NotASample
 cause_of_walk (w.NoMemory n) = cause.NoMemory
 cause_of_walk (w.Write n) = cause.Write n
 
--- 1 the answer is no, 3 an input is no such document, 4 a read or a write failed, 5 want of memory
+-- 1 the answer is no, 3 an input is no such document, 4 a read or a write failed, 5 out of memory
 abbrev pub status : Cause → ℕ
 status (cause.Unread i) = 4
 status (cause.Document i fault) = 3
@@ -73,7 +73,7 @@ status cause.NotASample = 1
 status (cause.Write n) = 4
 status cause.NoMemory = 5
 
--- what comes of an answer: all of it is out, or standard output failed behind a beginning of it
+-- what comes of an answer: all of it is out, or standard output failed after a beginning of it
 abbrev pub IsGiven : Answer → Option (List ℕ) → Option (List ℕ) → ℕ → ℕ → ℕ → Type 0
 IsGiven answer old new before now code =
     ((code ≡ answer.status) × Appends old new (string_bytes answer.text) × (now ≡ before))

@@ -1,4 +1,4 @@
--- What is out of some lines where their writing stops early, behind lines that were out before: fewer than all of them.
+-- What is out of some lines where their writing stops early, after lines that were out before: fewer than all of them.
 use Rattle.std.specs.Prelude.{◌≡◌, ◌+◌, ◌<◌, ℕ, List, length, take, Option}
 use Rattle.std.specs.Io.KnownBytes.{Appends}
 use Rattle.jtree.specs.Data.{Data}

@@ -15,7 +15,7 @@ abbrev pub IsLast : List Data → Option Data → Type 0
 IsLast items None = items ≡ []
 IsLast items (Some v) = (front : List Data) × (items ≡ front ++ v ∷ [])
 
--- the page past a place was written behind `before` lines: so many lines are there now
+-- the page past a place was written after `before` lines: so many lines are there now
 pub record AddsPage (q : Question) (place : Option Data) (count : ℕ) (e : Option Envelope) (before lines_now : ℕ) (end : Bool) (last : Option Data) (old new : Option (List ℕ)) : Type 0 where
   pub items : List Data
   pub page : IsPage q place count items end
@@ -23,11 +23,11 @@ pub record AddsPage (q : Question) (place : Option Data) (count : ℕ) (e : Opti
   pub is_last : IsLast items last
   pub written : Appends old new (lines e items)
 
--- the page was not begun: the place is no sample, or memory was wanting
+-- the page was not begun: the place is no sample, or out of memory
 abbrev pub IsUnbegun : Question → Option Data → ℕ → WFault → Type 0
 IsUnbegun q place before fault = (fault ≡ NoMemory before) ⊎ ((fault ≡ NotASample) × IsSomeAnd place (λ a. IsSampleOf q a → ⊥))
 
--- what is out where the page behind `before` lines was not written whole
+-- what is out where the page after `before` lines was not written whole
 abbrev pub IsPartialPage : Question → Option Data → ℕ → Option Envelope → ℕ → Option (List ℕ) → Option (List ℕ) → ℕ → ℕ → WFault → Type 0
 IsPartialPage q place count e before old new unfailed failed fault =
     (IsUnbegun q place before fault × Keeps old new × (failed ≡ unfailed))

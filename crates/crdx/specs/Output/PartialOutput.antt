@@ -27,7 +27,7 @@ pub record IsCutWithinLine (e : Option Envelope) (items : List Data) (n : ℕ) (
   pub beginning : IsProperBeginning part (line e next)
   pub out : Appends old new (lines e (take n items) ++ part)
 
--- standard output failed within a line, or behind the last one
+-- standard output failed within a line, or after the last one
 abbrev pub IsCutByFailure : Option Envelope → List Data → Option (List ℕ) → Option (List ℕ) → Type 0
 IsCutByFailure e items old new = ((n : ℕ) × IsCutWithinLine e items n old new) ⊎ Appends old new (lines e items)
 

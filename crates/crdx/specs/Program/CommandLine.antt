@@ -120,7 +120,7 @@ IsUsageErrorOrMemory (UsageError text) = Unit {0}
 IsUsageErrorOrMemory NoMemory = Unit {0}
 IsUsageErrorOrMemory _ = ⊥
 
--- what the arguments ask for; a want of memory says nothing of them
+-- what the arguments ask for; running out of memory says nothing of them
 abbrev pub Asks : List Text → Request → Type 0
 Asks arguments (Check w) = (faults arguments ≡ []) × IsCommand (entered arguments) (Check w)
 Asks arguments (Explain w) = (faults arguments ≡ []) × IsCommand (entered arguments) (Explain w)

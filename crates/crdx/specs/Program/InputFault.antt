@@ -9,7 +9,7 @@ use Rattle.crdx.specs.Program.Documents.{Documents}
 use Rattle.crdx.specs.declared.inputs.InFault.{InFault}
 use Rattle.crdx.specs.declared.inputs.InFault.TheVariants.{Failed, Document}
 
--- why bytes are no document; a want of memory says nothing of them
+-- why bytes are no document; running out of memory says nothing of them
 abbrev pub IsNoDocument : List ℕ → JFault → Type 0
 IsNoDocument bytes NotAnInteger = HasOtherNumber bytes
 IsNoDocument bytes NotJson = IsNoJson bytes
@@ -26,7 +26,7 @@ abbrev pub IsFaultOf : List ℕ → InFault → Type 0
 IsFaultOf bytes Failed = Unit {0}
 IsFaultOf bytes (Document fault) = IsNoDocument bytes fault
 
--- what stands under the name is no document; where it could not be read or memory is wanting, nothing is said of it
+-- what stands under the name is no document; where it could not be read or memory ran out, nothing is said of it
 abbrev pub IsInputFault : Documents → Option (List ℕ) → InFault → Type 0
 IsInputFault has name Failed = Unit {0}
 IsInputFault has name (Document NotAnInteger) = has name (Err NotAnInteger)

@@ -93,15 +93,15 @@ IsCutByWrite run (Sample arguments) =
     × ((items : List Data) (end : Bool) → IsPage q after arguments.count items end → IsCutByFailure e items run.output_before run.output)
 IsCutByWrite run request = (status : ℕ) × (answer : List ℕ) × IsAnswer run.documents request status answer × (n : ℕ) × Appends run.output_before run.output (take n answer)
 
--- what is out where memory was wanting: nothing, or whole lines of samples, as a walk past a sample, or past nothing, leaves them
+-- what is out where memory ran out: nothing, or whole lines of samples, as a walk past a sample, or past nothing, leaves them
 abbrev pub IsCutByMemory : Effects → Request → Type 0
 IsCutByMemory run (Sample arguments) = Keeps run.output_before run.output
     ⊎ ((q : Question) × (after : Option Data) × (e : Option Envelope) × IsRequested run.documents arguments q after e × IfSome after (IsSampleOf q)
     × (n : ℕ) × ((items : List Data) (end : Bool) → IsPage q after arguments.count items end → IsCutBetweenLines e items n run.output_before run.output))
 IsCutByMemory run request = Keeps run.output_before run.output
 
--- The exit status of a run with these effects: 3 an input is refused, 4 a read or a write failed, 5 memory was wanting, if only
--- for the line that says of a failed write.
+-- The exit status of a run with these effects: 3 an input is refused, 4 a read or a write failed, 5 out of memory, if only for
+-- the line that tells of a failed write.
 pub data IsRunResult (run : Effects) (request : Request) : ℕ → Type 0 where
   answered : (status : ℕ) (answer : List ℕ) → IsAnswer run.documents request status answer → Appends run.output_before run.output answer → run.failed_writes ≡ run.failed_writes_before
       → IsRunResult run request status

@@ -1,6 +1,6 @@
 // The texts of help: a short one for `-h` and a longer one for `--help`. clap prints their lines as they stand here.
 
-/// The version, which `--version` prints behind the program's name.
+/// The version, which `--version` prints after the program's name.
 pub(super) const VERSION: &str = "0.1.0";
 
 pub(super) const PROGRAM: &str =
@@ -291,7 +291,7 @@ pub(super) const AFTER: &str = "The sample to go on from, as JSON";
 
 pub(super) const AFTER_LONG: &str =
     r#"The sample to go on from, as JSON: the first line is the sample
-behind it. Its apiVersion, kind and metadata are not looked at."#;
+after it. Its apiVersion, kind and metadata are not looked at."#;
 
 pub(super) const NAME: &str = "The name to print samples with, as whole resources";
 

@@ -87,7 +87,7 @@ pub(crate) enum Cause {
 }
 
 impl Cause {
-    /// The exit status: 1 the answer is no, 3 an input is refused, 4 a read or a write failed, 5 want of memory.
+    /// The exit status: 1 the answer is no, 3 an input is refused, 4 a read or a write failed, 5 out of memory.
     pub fn status(&self) -> u8
         ensures { result ≡ status self.now }
     {

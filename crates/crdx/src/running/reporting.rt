@@ -48,7 +48,7 @@ fn newlines(text: &[u8]) -> u64 {
     text.iter().filter(|byte| **byte == b'\n').count() as u64
 }
 
-/// Says on `err` why a run has no answer, and answers its status, or 5 where memory is wanting for that.
+/// Says on `err` why a run has no answer, and answers its status, or 5 where there is no memory for that.
 pub(crate) fn report<E: Sink>(alloc: Global, cause: &Cause, err: &mut E) -> u8
     ensures { (result ≡ status cause.now) ⊎ (result ≡ 5) }
 {

@@ -6,7 +6,7 @@ pub enum WFault {
     /// The tree to go on from is no sample; nothing is written.
     #[error("W1")]
     NotASample,
-    /// An allocation failed, with so many whole lines written and nothing behind them.
+    /// An allocation failed, with so many whole lines written and nothing after them.
     #[error("W2")]
     NoMemory(u64),
     /// The sink failed, with so many whole lines written and of the next one a beginning, perhaps an empty one.

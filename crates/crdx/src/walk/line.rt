@@ -17,7 +17,7 @@ pub struct Envelope {
     pub name: Text,
 }
 
-/// Puts the line of the tree behind the bytes: its compact JSON, in the envelope where there is one, and a newline.
+/// Puts the line of the tree after the bytes: its compact JSON, in the envelope where there is one, and a newline.
 pub(crate) fn append_line(
     alloc: Global,
     bytes: Vec<u8>,

@@ -106,7 +106,7 @@ pub fn walk<Z: SizeSet, W: Sink>(
     })
 }
 
-/// Writes the first `count` samples past `place`, behind `before` lines that are out.
+/// Writes the first `count` samples past `place`, after `before` lines that are out.
 fn write_page<Z: SizeSet, W: Sink>(
     alloc: Global,
     plan: &Plan<Z>,
@@ -141,7 +141,7 @@ fn write_page<Z: SizeSet, W: Sink>(
     })
 }
 
-/// Puts out the lines of the trees behind `before` lines that are out, a block at a time.
+/// Puts out the lines of the trees after `before` lines that are out, a block at a time.
 fn write_lines<W: Sink>(
     alloc: Global,
     trees: &[Tree],
