@@ -1,4 +1,5 @@
 pub mod PageLemmas
+pub mod StopLemmas
 pub mod WrittenLemmas
 pub mod WalkLemmas
 pub mod InputLemmas

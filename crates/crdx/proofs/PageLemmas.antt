@@ -28,10 +28,10 @@ page_front q after count xs end p = record {
 }
 
 module _ (total : IsTotalOrder tree_cmp) where
-  not_before_itself : (u v : Data) → u ≡ v → Precedes u v → ⊥
+  pub not_before_itself : (u v : Data) → u ≡ v → Precedes u v → ⊥
   not_before_itself u v e h = let tied = tied_itself total v in let less = subst (λ t. Precedes t v) e h in cc
 
-  not_both : (u v : Data) → Precedes u v → Precedes v u → ⊥
+  pub not_both : (u v : Data) → Precedes u v → Precedes v u → ⊥
   not_both u v h k = not_before_itself u u refl (total.trans u v u h k)
 
   front_tail : (C : Data → Type 0) (x : Data) (xs : List Data) → IsFront C (x ∷ xs) → IsFront (λ v. C v × Precedes x v) xs
@@ -80,7 +80,7 @@ module _ (total : IsTotalOrder tree_cmp) where
   no_repeat (x ∷ xs) z zs r (inl e) = not_before_itself x z e (r.0 z (among_right xs (z ∷ zs) z (inl refl)))
   no_repeat (x ∷ xs) z zs r (inr later) = no_repeat xs z zs r.1 later
 
-  pass : (after : Option Data) (l v : Data) → IsPast after l → Precedes l v → IsPast after v
+  pub pass : (after : Option Data) (l v : Data) → IsPast after l → Precedes l v → IsPast after v
   pass None l v past h = tt
   pass (Some a) l v past h = total.trans a l v past h
 
@@ -132,7 +132,7 @@ module _ (total : IsTotalOrder tree_cmp) where
     longer m count xs ys true p r lt = let more = begins m count xs ys false true p r (omega (arith, lt)) in longer_by m count xs ys more.0 p r more.1
     longer m count xs ys false p r lt = omega (arith, r.full refl, p.short, lt)
 
-    before_last : (front : List Data) (l u : Data) → Rising Precedes (front ++ l ∷ []) → Among front u → Precedes u l
+    pub before_last : (front : List Data) (l u : Data) → Rising Precedes (front ++ l ∷ []) → Among front u → Precedes u l
     before_last [] l u r a = elim a [ ]
     before_last (x ∷ front) l u r (inl e) = subst (λ t. Precedes t l) e (r.0 l (among_right front (l ∷ []) l (inl refl)))
     before_last (x ∷ front) l u r (inr a) = before_last front l u r.1 a

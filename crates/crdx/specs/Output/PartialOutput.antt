@@ -1,5 +1,5 @@
 -- What is out where the writing of lines stops early (this project's own).
-use Rattle.std.specs.Prelude.{◌≡◌, ◌⊎◌, ◌<◌, ◌++◌, ℕ, List, length, take, Bool, Option, Some, IfSome, IsSomeAnd, slice_get}
+use Rattle.std.specs.Prelude.{◌≡◌, ◌⊎◌, ◌-◌, ◌<◌, ◌++◌, ℕ, zero, suc, List, length, take, drop, Bool, Option, Some, IfSome, IsSomeAnd, slice_get}
 use Rattle.std.specs.Io.KnownBytes.{Appends, Keeps}
 use Rattle.jtree.specs.Data.{Data}
 use Rattle.plan.specs.Samples.Question.{Question}
@@ -39,3 +39,22 @@ IsPartialOutput q after total e old new before now (NoMemory n) = (now ≡ befor
     ⊎ (IfSome after (IsSampleOf q) × ((items : List Data) (end : Bool) → IsPage q after total items end → IsCutBetweenLines e items n old new)))
 IsPartialOutput q after total e old new before now (Write n) = HasFailed before now × IfSome after (IsSampleOf q)
     × ((items : List Data) (end : Bool) → IsPage q after total items end → IsCutWithinLine e items n old new)
+
+-- the place past which n items of a page are out: that of their last one, or the place of the page where none is
+abbrev pub IsPlaceAfter : ℕ → List Data → Option Data → Option Data → Type 0
+IsPlaceAfter zero items after place = place ≡ after
+IsPlaceAfter (suc n) items after place = place ≡ slice_get items n
+
+-- Of the page of `total` items that a walk was to write, n are out: what is missing is the page of `total - n` items past the last
+-- object out, with the same end, and there is room for one item at least.
+pub record IsMissing (q : Question) (after : Option Data) (total : ℕ) (items : List Data) (end : Bool) (n : ℕ) : Type 0 where
+  pub left : n < total
+  pub place : Option Data
+  pub place_is : IsPlaceAfter n items after place
+  pub page : IsPage q place (total - n) (drop n items) end
+
+-- So a walk that goes on after the last whole line writes exactly what is missing.
+abbrev pub CanGoOn : Question → Option Data → ℕ → WFault → Type 0
+CanGoOn q after total NotASample = Unit {0}
+CanGoOn q after total (NoMemory n) = (items : List Data) (end : Bool) → IsPage q after total items end → IsMissing q after total items end n
+CanGoOn q after total (Write n) = (items : List Data) (end : Bool) → IsPage q after total items end → IsMissing q after total items end n

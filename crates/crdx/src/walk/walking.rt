@@ -5,7 +5,7 @@ ghost use Rattle.enumerate.specs.Page.{IsSampleOf};
 ghost use Rattle.enumerate.specs.View.{resume_point, trees_of};
 ghost use Rattle.std.specs.Option.{option_copied};
 ghost use Rattle.crdx.specs.Output.Line.{lines};
-ghost use Rattle.crdx.specs.Output.PartialOutput.{IsPartialOutput};
+ghost use Rattle.crdx.specs.Output.PartialOutput.{IsPartialOutput, CanGoOn};
 ghost use Rattle.crdx.specs.Output.Walk.{WritesPage};
 ghost use Rattle.crdx.specs.Internal.PartialLines.{ArePartialLines};
 ghost use Rattle.crdx.specs.Internal.Progress.{AddsPage, IsPartialPage};
@@ -49,7 +49,8 @@ struct Progress {
 /// `total` from 1 to 10,000.
 ///
 /// `NotASample` exactly where `after` is no sample of the plan, `NoMemory` where an allocation fails, and `Write` where
-/// the sink fails or takes nothing. Both counts are of the whole lines that the sink took.
+/// the sink fails or takes nothing. Both counts are of the whole lines that the sink took. A walk past the last of these,
+/// with `total` less their number, writes exactly what is missing; where there is none, the same walk does.
 pub fn walk<Z: SizeSet, W: Sink>(
     alloc: Global,
     plan: &Plan<Z>,
@@ -69,6 +70,7 @@ pub fn walk<Z: SizeSet, W: Sink>(
     ensures refused { IsSomeAnd (resume_point after.entry) (λ a. IsSampleOf plan.now a → ⊥)
         → ((result ≡ Err NotASample) ⊎ (result ≡ Err (NoMemory 0))) × Keeps (W.taken out.old) (W.taken out.new) }
     ensures cut { IfErr result (λ e. IsPartialOutput plan.now (resume_point after.entry) total (option_copied envelope.entry) (W.taken out.old) (W.taken out.new) (W.failures out.old) (W.failures out.new) e) }
+    ensures goes_on { IfErr result (CanGoOn plan.now (resume_point after.entry) total) }
     ensures unfailed { OnOk result (W.failures out.new ≡ W.failures out.old) }
 {
     let mut so_far = match write_page(

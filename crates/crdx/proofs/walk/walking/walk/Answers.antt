@@ -3,6 +3,7 @@ use Rattle.std.specs.Option.{option_copied}
 use Rattle.jtree.specs.View.{data_of}
 use Rattle.enumerate.specs.View.{resume_point}
 use Rattle.crdx.specs.Internal.Progress.{AddsPage, IsPartialPage}
+use Rattle.crdx.proofs.StopLemmas.{can_go_on}
 use Rattle.crdx.proofs.WalkLemmas.{begun, gone_on, all_written, cut_first, cut_later, resumed}
 use Rattle.crdx.proofs.walk.walking.walk.Goals as goal
 use Rattle.crdx.proofs.walk.walking.walk.Goals.{then-pages-test+else-so_far-total, else-pages-test}
@@ -10,6 +11,10 @@ use Rattle.crdx.proofs.walk.walking.walk.Goals.{then-pages-test+else-so_far-tota
 pub returns-in-Err-clause-cut : goal.returns-in-Err-clause-cut
 returns-in-Err-clause-cut g c =
     cut_first c.args.plan.now (resume_point c.args.after) c.args.total (option_copied c.args.envelope) c.min.result _ _ _ _ c.in-Err.fault (omega arith) c.in-Err.ensures.err
+
+pub returns-in-Err-clause-goes_on : goal.returns-in-Err-clause-goes_on
+returns-in-Err-clause-goes_on g c =
+    can_go_on c.args.plan.now (resume_point c.args.after) c.args.total (option_copied c.args.envelope) _ _ _ _ c.in-Err.fault (omega arith) (returns-in-Err-clause-cut g c)
 
 pub pages-init : goal.pages-init
 pages-init g c = record {
@@ -29,6 +34,10 @@ returns-in-Err-write_page-clause-cut g c =
     rw (← same, ← c.pages.invariant.failures) c.in-Err-write_page.ensures.err in
     cut_later q (resume_point c.args.after) c.args.total e c.min-count.result c.pages.so_far.lines last c.pages.so_far.end _ _ _ _ _ c.in-Err-write_page.fault
     c.pages.invariant.sample c.pages-test.true (omega arith) (omega arith) c.pages.invariant.so_far part
+
+pub returns-in-Err-write_page-clause-goes_on : goal.returns-in-Err-write_page-clause-goes_on
+returns-in-Err-write_page-clause-goes_on g c =
+    can_go_on c.args.plan.now (resume_point c.args.after) c.args.total (option_copied c.args.envelope) _ _ _ _ c.in-Err-write_page.fault (omega arith) (returns-in-Err-write_page-clause-cut g c)
 
 pub pages-preserved : goal.pages-preserved
 pages-preserved g c =
