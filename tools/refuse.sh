@@ -122,6 +122,48 @@ cat >"$folder/leaves" <<'LINES'
 ["f:s","v:4"]
 LINES
 echo 'crdx: object: L1' >"$folder/not-stored"
+define '{"type":"object","properties":{"m":{"type":"array","x-kubernetes-list-type":"map","x-kubernetes-list-map-keys":["k"],"items":{"type":"object","required":["k"],"properties":{"k":{"type":"string"},"v":{"type":"integer"}}}}}}' >"$folder/map-list.json"
+echo '{"strings":["a","b"],"integers":[0]}' >"$folder/pools.json"
+cat >"$folder/map-lists" <<'LINES'
+{}
+{"m":[]}
+{"m":[{"k":"a"}]}
+{"m":[{"k":"b"}]}
+{"m":[{"k":"a","v":0}]}
+{"m":[{"k":"b","v":0}]}
+{"m":[{"k":"a"},{"k":"b"}]}
+{"m":[{"k":"b"},{"k":"a"}]}
+{"m":[{"k":"a"},{"k":"b","v":0}]}
+{"m":[{"k":"b"},{"k":"a","v":0}]}
+{"m":[{"k":"a","v":0},{"k":"b"}]}
+{"m":[{"k":"b","v":0},{"k":"a"}]}
+{"m":[{"k":"a","v":0},{"k":"b","v":0}]}
+{"m":[{"k":"b","v":0},{"k":"a","v":0}]}
+LINES
+cat >"$folder/map-list-fields" <<'LINES'
+"/m" <[]Object> list-type=map keys=["k"]
+"/m/[]" <Object>
+"/m/[]/k" <string> required
+"/m/[]/v" <integer>
+LINES
+echo '{"m":[{"k":"a"},{"k":"a","v":"q"},{"v":1}]}' >"$folder/alike.json"
+cat >"$folder/alike" <<'LINES'
+F13 "/m/1" duplicate
+F01 "/m/1/v" kind
+F12 "/m/2/k" required
+LINES
+define '{"type":"object","properties":{"spec":{"type":"object","properties":{"foo":{"type":"string","default":"default"},"bar":{"type":"string","nullable":true},"baz":{"type":"string"}}}}}' >"$folder/nulls.json"
+echo '{"spec":{"foo":null,"bar":null,"baz":null}}' >"$folder/null.json"
+echo '{"spec":{"bar":null,"foo":"default"}}' >"$folder/no-null"
+define '{"type":"object","properties":{"spec":{"type":"object","properties":{"args":{"type":"array","items":{"type":"string"}},"ports":{"type":"array","x-kubernetes-list-type":"map","x-kubernetes-list-map-keys":["port"],"items":{"type":"object","required":["port"],"properties":{"name":{"type":"string"},"port":{"type":"integer"}}}},"sel":{"type":"object","additionalProperties":{"type":"string"}},"tags":{"type":"array","x-kubernetes-list-type":"set","items":{"type":"string"}}}}}}' >"$folder/spec.json"
+echo '{"spec":{"args":["x","y"],"ports":[{"name":"w","port":80}],"sel":{},"tags":["t"]}}' >"$folder/owned.json"
+cat >"$folder/owned" <<'LINES'
+["f:spec","f:args"]
+["f:spec","f:ports","k:{\"port\":80}","f:name"]
+["f:spec","f:ports","k:{\"port\":80}","f:port"]
+["f:spec","f:sel"]
+["f:spec","f:tags","v:\"t\""]
+LINES
 widget=examples/widget
 
 row 'sample of the widget' lines 0 $widget/samples-of-4-nodes.txt "$folder/end" \
@@ -139,6 +181,11 @@ row 'explain of a field' nothing 0 "$folder/field" /dev/null explain "$folder/cr
 row 'explain of no field' nothing 1 /dev/null "$folder/no-field" explain "$folder/crd.json" v1 /a/g
 row 'leaves of an object' nothing 0 "$folder/leaves" /dev/null leaves "$folder/crd.json" v1 "$folder/stored.json"
 row 'leaves of an object that is not stored' nothing 1 /dev/null "$folder/not-stored" leaves "$folder/crd.json" v1 "$folder/object.json"
+row 'sample of a map list' lines 0 "$folder/map-lists" "$folder/end" sample "$folder/map-list.json" v1 --pools "$folder/pools.json" --limit 8
+row 'explain of a map list' nothing 0 "$folder/map-list-fields" /dev/null explain "$folder/map-list.json" v1
+row 'validate of items with equal keys' nothing 1 "$folder/alike" /dev/null validate "$folder/map-list.json" v1 "$folder/alike.json"
+row 'default of nulls' nothing 0 "$folder/no-null" /dev/null default "$folder/nulls.json" v1 "$folder/null.json"
+row 'leaves of each kind of list' nothing 0 "$folder/owned" /dev/null leaves "$folder/spec.json" v1 "$folder/owned.json"
 row 'validate by a schema that breaks rules' nothing 1 /dev/null "$folder/broken" validate "$folder/broken.json" v1
 
 printf '%s\n' "${counts[@]}"

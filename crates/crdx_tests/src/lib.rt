@@ -23,6 +23,8 @@
 //! | `program/refusal_cases` | inputs that are refused, and which is judged first |
 //! | `program/input_cases` | documents in files, and which inputs a run reads |
 //! | `program/broken_sink_cases` | sinks that fail after each byte |
+//! | `program/resume_cases` | walks that stop after each byte, and the walks that go on there |
+//! | `program/hostile_cases` | documents that are cut, deep or long, and places that are no samples |
 //! | `program/envelope_cases` | the envelope of a resource, taken off and put back |
 //! | `support` | documents, fakes, the plain reference, and what several files use |
 #![tactic(auto)]

@@ -2,6 +2,7 @@
 use crate::support::documents::{BROKEN, BROKEN_LINES, TEN_LINES, WIDGET, ZERO_AND_ONE};
 use crate::support::fakes::{FailingSink, FakeInputs};
 use crate::support::harness::{Output, is_answer, is_text, is_value, run_on};
+use crate::support::texts::beginning;
 use crdx::sink::{Plain, Sink, SinkFault};
 use crdx::walk::WFault;
 use std::alloc::{AllocError, Global};
@@ -98,11 +99,6 @@ fn count_lines(text: &str) -> u64 {
         }
     }
     lines
-}
-
-/// The first so many bytes of a text of ASCII, or all of it.
-fn beginning(text: &str, room: usize) -> &str {
-    text.get(..room).unwrap_or(text)
 }
 
 fn run_row(

@@ -1,4 +1,4 @@
-//! Long texts.
+//! Long texts, and beginnings of texts.
 use std::alloc::{AllocError, Global};
 use std::test::Fail;
 
@@ -31,4 +31,9 @@ pub fn padded(alloc: Global, head: &str, spaces: usize) -> Result<String, Fail> 
         text.push(' ')?;
     }
     Ok(text)
+}
+
+/// The first so many bytes of a text of ASCII, or all of it.
+pub fn beginning(text: &str, room: usize) -> &str {
+    text.get(..room).unwrap_or(text)
 }

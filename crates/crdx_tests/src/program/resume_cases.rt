@@ -1,0 +1,117 @@
+//! Walks that stop, and the walks that go on there: both together write what one whole walk does.
+use crate::support::documents::{TEN_LINES, WIDGET, ZERO_AND_ONE};
+use crate::support::fakes::{FailingSink, FakeInputs};
+use crate::support::harness::{Output, is_answer, is_text, run_on};
+use crate::support::texts::beginning;
+use std::alloc::{AllocError, Global};
+use std::process::Abort;
+use std::test::Fail;
+
+const NAMED_LINES: &str = r#"{"apiVersion":"example.org/v1","kind":"Widget","metadata":{"name":"w"}}
+{"apiVersion":"example.org/v1","kind":"Widget","metadata":{"name":"w"},"spec":{}}
+{"apiVersion":"example.org/v1","kind":"Widget","metadata":{"name":"w"},"spec":{"b":false}}
+{"apiVersion":"example.org/v1","kind":"Widget","metadata":{"name":"w"},"spec":{"b":true}}
+{"apiVersion":"example.org/v1","kind":"Widget","metadata":{"name":"w"},"spec":{"a":0}}
+{"apiVersion":"example.org/v1","kind":"Widget","metadata":{"name":"w"},"spec":{"a":1}}
+{"apiVersion":"example.org/v1","kind":"Widget","metadata":{"name":"w"},"spec":{"a":0,"b":false}}
+{"apiVersion":"example.org/v1","kind":"Widget","metadata":{"name":"w"},"spec":{"a":0,"b":true}}
+{"apiVersion":"example.org/v1","kind":"Widget","metadata":{"name":"w"},"spec":{"a":1,"b":false}}
+{"apiVersion":"example.org/v1","kind":"Widget","metadata":{"name":"w"},"spec":{"a":1,"b":true}}
+"#;
+
+const COMMAND: &str = "crdx sample crd.json v1 --pools pools.json --limit 4 --count";
+
+// A name, an option, the ten lines, and after how many bytes each of them ends.
+static WALKS: [(&str, &str, &str, [usize; 10]); 2] = [
+    (
+        "samples",
+        "",
+        TEN_LINES,
+        [3, 15, 36, 56, 73, 90, 117, 143, 170, 196],
+    ),
+    (
+        "samples with a name",
+        " --name w",
+        NAMED_LINES,
+        [72, 154, 245, 335, 422, 509, 606, 702, 799, 895],
+    ),
+];
+
+/// How many lines end within so many bytes.
+fn whole_lines(ends: &[usize; 10], room: usize) -> usize {
+    ends.iter().filter(|end| **end <= room).count()
+}
+
+/// After how many bytes so many lines end.
+fn end_of(ends: &[usize; 10], lines: usize) -> usize {
+    match lines.checked_sub(1) {
+        Some(last) => ends.get(last).copied().unwrap_or(0),
+        None => 0,
+    }
+}
+
+fn run_walk(alloc: Global, command: &str, sink: FailingSink) -> Result<Output, AllocError> {
+    let inputs = FakeInputs::new(alloc, WIDGET, ZERO_AND_ONE);
+    run_on(alloc, command, inputs, sink)
+}
+
+/// The sink takes so many bytes and then fails: the whole lines are counted.
+fn stops(
+    rt: &impl Abort,
+    alloc: Global,
+    walk: &(&str, &str, &str, [usize; 10]),
+    room: usize,
+) -> Result<(), AllocError> {
+    let (name, option, whole, ends) = walk;
+    let command = format!(in alloc; "{COMMAND} 10{option}")?;
+    let sink = FailingSink::new(alloc, room, usize::MAX, false);
+    let output = run_walk(alloc, command.as_str(), sink)?;
+    let lines = whole_lines(ends, room);
+    let err = format!(in alloc; "crdx: write failed after {lines} lines\n")?;
+    is_answer(rt, &output, beginning(whole, room), err.as_str(), 4, name);
+    Ok(())
+}
+
+/// The walk past the last of so many whole lines, or the same walk again where there is none, writes the others.
+fn goes_on(
+    rt: &impl Abort,
+    alloc: Global,
+    walk: &(&str, &str, &str, [usize; 10]),
+    lines: usize,
+) -> Result<(), AllocError> {
+    let (name, option, whole, ends) = walk;
+    let out = beginning(whole, end_of(ends, lines));
+    let left = 10usize.saturating_sub(lines);
+    let mut command = format!(in alloc; "{COMMAND} {left}{option}")?;
+    if let Some(last) = out.lines().last() {
+        command.push_str(" --after ")?;
+        command.push_str(last)?;
+    }
+    let output = run_walk(alloc, command.as_str(), FailingSink::endless(alloc))?;
+    let joined = format!(in alloc; "{out}{}", output.out.text())?;
+    is_text(rt, joined.as_str(), whole, "both outputs", name);
+    is_text(rt, output.err.text(), "crdx: end\n", "standard error", name);
+    Ok(())
+}
+
+fn try_walk(
+    rt: &impl Abort,
+    alloc: Global,
+    walk: &(&str, &str, &str, [usize; 10]),
+) -> Result<(), AllocError> {
+    for room in 0..walk.2.len() {
+        stops(rt, alloc, walk, room)?;
+    }
+    for lines in 0..10 {
+        goes_on(rt, alloc, walk, lines)?;
+    }
+    Ok(())
+}
+
+#[test]
+fn walks_go_on(rt: HostRuntime) -> Result<(), Fail> {
+    for walk in &WALKS {
+        try_walk(&rt, rt.alloc(), walk)?;
+    }
+    Ok(())
+}

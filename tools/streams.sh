@@ -1,0 +1,88 @@
+#!/usr/bin/env bash
+# Runs the program on real streams and files that break: a full device, a reader that goes away, standard input that cannot be read,
+# a file without end, and one that may not be read. Each run has to say so in its line on standard error and by its status.
+# Usage: tools/streams.sh [PROGRAM], by default the program that `rt ci` leaves.
+set -euo pipefail
+program=${1:+$(realpath -- "$1")}
+cd "$(dirname "$0")/.."
+program=${program:-$PWD/crates/crdx_cli/out/crdx_cli}
+widget=$PWD/examples/widget
+
+stop() {
+    echo "streams.sh: $1" >&2
+    exit 1
+}
+
+[ -x "$program" ] || stop "there is no program $program: ./crdx --help builds it"
+folder=$(mktemp -d)
+trap 'rm -rf "$folder"' EXIT
+
+# says NAME STATUS LINE: whether the run whose status is in the variable `ended` ended so, with this line alone on standard error
+says() {
+    [ "$ended" -eq "$2" ] || stop "$1: status $ended, and not $2"
+    [ "$(cat "$folder/err")" = "$3" ] || stop "$1: '$(head -n 1 "$folder/err")' on standard error, and not '$3'"
+}
+
+# the line of a write that failed says how many whole lines were taken
+ended=0
+"$program" check "$widget/crd.json" v1 >/dev/full 2>"$folder/err" || ended=$?
+says 'check on a full device' 4 'crdx: write failed after 0 lines'
+ended=0
+"$program" sample "$widget/crd.json" v1 --pools "$widget/pools.json" --limit 4 >/dev/full 2>"$folder/err" || ended=$?
+says 'sample on a full device' 4 'crdx: write failed after 0 lines'
+
+# a reader that goes away after the first line: 10,000 lines are more than a pipe holds
+cat >"$folder/optional.json" <<'CRD'
+{"apiVersion":"apiextensions.k8s.io/v1","kind":"CustomResourceDefinition","spec":{"group":"example.org","names":{"kind":"Widget"},"versions":[{"name":"v1","schema":{"openAPIV3Schema":{"type":"object","properties":{"a":{"type":"integer"},"b":{"type":"integer"},"c":{"type":"integer"},"d":{"type":"integer"},"e":{"type":"integer"},"f":{"type":"integer"},"g":{"type":"integer"},"h":{"type":"integer"},"i":{"type":"integer"}}}}}]}}
+CRD
+echo '{"integers":[0,1]}' >"$folder/two.json"
+many=("$program" sample "$folder/optional.json" v1 --pools "$folder/two.json" --limit 63 --count 10000)
+"${many[@]}" >"$folder/whole" 2>"$folder/err"
+[ "$(wc -l <"$folder/whole")" -eq 10000 ] || stop 'not 10,000 lines'
+{
+    ended=0
+    "${many[@]}" 2>"$folder/err" || ended=$?
+    echo "$ended" >"$folder/status"
+} | head -n 1 >"$folder/first"
+ended=$(cat "$folder/status")
+[ "$(cat "$folder/first")" = '{}' ] || stop 'the first line is not {}'
+lines=$(sed -n 's/^crdx: write failed after \([0-9]*\) lines$/\1/p' "$folder/err")
+says '10,000 lines into head' 4 "crdx: write failed after ${lines:-N} lines"
+[ "$lines" -ge 1 ] && [ "$lines" -lt 10000 ] || stop "10,000 lines into head: $lines whole lines were taken"
+
+# the walk that goes on past the last whole line writes exactly what is missing
+head -n "$lines" "$folder/whole" >"$folder/joined"
+"$program" sample "$folder/optional.json" v1 --pools "$folder/two.json" --limit 63 --count $((10000 - lines)) \
+    --after "$(tail -n 1 "$folder/joined")" >>"$folder/joined" 2>"$folder/err"
+cmp -s "$folder/joined" "$folder/whole" || stop 'the walk that goes on does not write what is missing'
+
+# standard input that is a folder, or closed
+ended=0
+"$program" prune "$widget/crd.json" v1 <"$folder" >"$folder/out" 2>"$folder/err" || ended=$?
+says 'a folder as standard input' 4 'crdx: object: read failed'
+ended=0
+"$program" prune "$widget/crd.json" v1 <&- >"$folder/out" 2>"$folder/err" || ended=$?
+says 'closed standard input' 4 'crdx: object: read failed'
+
+# a file without end is refused once more than the limit is read
+ended=0
+(
+    ulimit -t 5
+    exec "$program" check /dev/zero v1 >"$folder/out" 2>"$folder/err"
+) || ended=$?
+says 'a file without end' 3 'crdx: crd: J4'
+
+# a folder as a definition, and a file that may not be read, by another user, since root may read all
+ended=0
+"$program" check "$folder" v1 >"$folder/out" 2>"$folder/err" || ended=$?
+says 'a folder as a definition' 4 'crdx: crd: read failed'
+if [ "$(id -u)" -eq 0 ]; then
+    cp "$program" "$folder/program"
+    cp "$widget/crd.json" "$folder/secret.json"
+    chmod 755 "$folder" "$folder/program"
+    chmod 600 "$folder/secret.json"
+    ended=0
+    setpriv --reuid 65534 --regid 65534 --clear-groups "$folder/program" check "$folder/secret.json" v1 >"$folder/out" 2>"$folder/err" || ended=$?
+    says 'a file that may not be read' 4 'crdx: crd: read failed'
+fi
+echo 'streams.sh: all runs on broken streams and files said so'
