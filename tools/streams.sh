@@ -81,8 +81,13 @@ if [ "$(id -u)" -eq 0 ]; then
     cp "$widget/crd.json" "$folder/secret.json"
     chmod 755 "$folder" "$folder/program"
     chmod 600 "$folder/secret.json"
-    ended=0
-    setpriv --reuid 65534 --regid 65534 --clear-groups "$folder/program" check "$folder/secret.json" v1 >"$folder/out" 2>"$folder/err" || ended=$?
-    says 'a file that may not be read' 4 'crdx: crd: read failed'
+    another=(setpriv --reuid 65534 --regid 65534 --clear-groups "$folder/program")
+    if "${another[@]}" --version >"$folder/out" 2>"$folder/err"; then
+        ended=0
+        "${another[@]}" check "$folder/secret.json" v1 >"$folder/out" 2>"$folder/err" || ended=$?
+        says 'a file that may not be read' 4 'crdx: crd: read failed'
+    else
+        echo 'streams.sh: no other user can run the program here, so a file that may not be read is left out'
+    fi
 fi
 echo 'streams.sh: all runs on broken streams and files said so'
