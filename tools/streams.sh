@@ -64,6 +64,13 @@ ended=0
 "$program" prune "$widget/crd.json" v1 <&- >"$folder/out" 2>"$folder/err" || ended=$?
 says 'closed standard input' 4 'crdx: object: read failed'
 
+# an object that comes byte by byte is the one that comes at once
+issuer=$PWD/examples/issuer
+ended=0
+dd bs=1 status=none <"$issuer/object.json" | "$program" prune "$issuer/crd.json" v1 >"$folder/out" 2>"$folder/err" || ended=$?
+says 'an object byte by byte' 0 ''
+cmp -s "$folder/out" "$issuer/object.prune.json" || stop 'an object byte by byte is another than at once'
+
 # a file without end is refused once more than the limit is read
 ended=0
 (

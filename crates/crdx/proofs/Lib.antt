@@ -2,7 +2,6 @@ pub mod PageLemmas
 pub mod StopLemmas
 pub mod WrittenLemmas
 pub mod WalkLemmas
-pub mod InputLemmas
 pub mod ObjectLemmas
 pub mod LineLemmas
 pub mod RunLemmas

@@ -45,7 +45,7 @@ use Rattle.crdx.specs.declared.arguments.request.Request.TheVariants.{Check, Exp
 use Rattle.crdx.specs.declared.walk.walking.Walked.{Walked}
 use Rattle.crdx.specs.declared.walk.fault.WFault.{WFault}
 use Rattle.crdx.specs.declared.walk.fault.WFault.TheVariants as w
-use Rattle.crdx.specs.Output.Sink.{HasFailed, one_more}
+use Rattle.jtree.specs.Failures.{HasFailed, one_more}
 use Rattle.std.proofs.lemmas.Bool.Decides.{nat_tests}
 use Rattle.crdx.proofs.PageLemmas.{same_items}
 use Rattle.crdx.proofs.WalkLemmas.{Appends-nothing}

@@ -4,13 +4,14 @@ ghost use Rattle.std.specs.Prelude.{◌≡◌, ◌≢◌, ◌⊎◌, ◌<◌, �
 ghost use Rattle.jtree.specs.Data.{Data};
 ghost use Rattle.jtree.specs.Reads.{Reads};
 ghost use Rattle.jtree.specs.View.{data_of};
-ghost use Rattle.jtree.specs.declared.fault.JFault.TheVariants.{TooLong, NoMemory};
+ghost use Rattle.jtree.specs.declared.fault.JFault.TheVariants.{NoMemory, ReadFailed};
 ghost use Rattle.crdx.specs.Program.Documents.{file_name, AreAmong};
-ghost use Rattle.crdx.specs.Program.InputFault.{IsInputFault, IsFaultOf, failures_after_read};
+ghost use Rattle.crdx.specs.Program.InputFault.{IsInputFault, IsFaultOf, input_fault, failures_after_read};
 ghost use Rattle.jtree.specs.declared.fault.JFault.{JFault};
 ghost use Rattle.crdx.specs.declared.inputs.InFault.TheVariants.{Failed, Document};
 
-use jtree::{JFault, MOST_BYTES, Tree};
+use jtree::source::Feed;
+use jtree::{JFault, Tree};
 use std::alloc::Global;
 use std::fs;
 use std::io::{ErrorKind, Read};
@@ -26,6 +27,17 @@ pub enum InFault {
     /// What was read is no document, or an allocation failed.
     #[error("{0}")]
     Document(JFault),
+}
+
+impl From<JFault> for InFault {
+    ghost from_gives = { λ fault e. e ≡ input_fault fault };
+
+    fn from(fault: JFault) -> InFault {
+        match fault {
+            JFault::ReadFailed => InFault::Failed,
+            _ => InFault::Document(fault),
+        }
+    }
 }
 
 /// A place that has documents.
@@ -61,14 +73,16 @@ impl<'a, R> Outside<'a, R> {
 }
 
 impl<R: Files + Input + AllocGlobal> Outside<'_, R> {
-    fn read(&self, name: Option<&str>) -> Result<Tree, InFault> {
+    fn read(&self, name: Option<&str>) -> Result<Tree, InFault>
+        ensures { IfErr result (λ e. e ≢ Document ReadFailed) }
+    {
         let alloc = self.rt.alloc();
         match name {
             Some(name) => match fs::open(self.rt, name) {
-                Ok(mut file) => read_document(alloc, &mut file),
+                Ok(file) => read_document(alloc, file),
                 Err(error) => Err(fault_of(error.kind())),
             },
-            None => read_document(alloc, &mut self.rt.reader()),
+            None => read_document(alloc, self.rt.reader()),
         }
     }
 }
@@ -91,22 +105,16 @@ impl<R: Files + Input + AllocGlobal> Inputs for Outside<'_, R> {
     }
 }
 
-/// The document that is all that the reader has left. Of a document that is too long no more is read than tells so.
-fn read_document<R: Read>(alloc: Global, reader: &mut R) -> Result<Tree, InFault>
-    ensures ok { IfOk result (λ t. IfSome (R.remaining reader.old) (λ bytes. Reads bytes (data_of t))) }
-    ensures err { IfErr result (λ e. IfSome (R.remaining reader.old) (λ bytes. IsFaultOf bytes e)) }
+/// The document that is all that the reader has left.
+fn read_document<R: Read + Drop>(alloc: Global, reader: R) -> Result<Tree, InFault>
+    ensures ok { IfOk result (λ t. IfSome (R.remaining reader) (λ bytes. Reads bytes (data_of t))) }
+    ensures err { IfErr result (λ e. IfSome (R.remaining reader) (λ bytes. IsFaultOf bytes e)) }
+    ensures no_read { IfErr result (λ e. e ≢ Document ReadFailed) }
 {
-    let mut bytes = Vec::new(alloc);
-    match reader.take(MOST_BYTES as u64 + 1).read_to_end(&mut bytes) {
-        Ok(_) => match Tree::from_bytes(alloc, bytes.as_slice()) {
-            Ok(tree) => Ok(tree),
-            Err(fault) => Err(InFault::Document(fault)),
-        },
-        Err(error) => Err(fault_of(error.kind())),
-    }
+    Ok(Tree::from_reader(alloc, &mut Feed::new(reader))?)
 }
 
-/// A read that runs out of memory is told apart from one that fails.
+/// Opening a file that runs out of memory is told apart from one that fails.
 fn fault_of(kind: ErrorKind) -> InFault
     ensures memory { kind ≡ ErrorKind.OutOfMemory → result ≡ Document NoMemory }
     ensures other { kind ≢ ErrorKind.OutOfMemory → result ≡ Failed }

@@ -2,7 +2,8 @@
 
 ghost use Rattle.std.specs.Prelude.{◌≡◌, ◌<◌, ◌≤◌, ℕ, List, Option, length, take, IfOk, IfErr, OnOk};
 ghost use Rattle.std.specs.Io.KnownBytes.{WriteAppends, Appends, Keeps};
-ghost use Rattle.crdx.specs.Output.Sink.{failures_after, one_more, HasFailed};
+ghost use Rattle.jtree.specs.Failures.{one_more, HasFailed};
+ghost use Rattle.crdx.specs.Output.Sink.{failures_after};
 
 use std::io::Write;
 use thiserror::Error;

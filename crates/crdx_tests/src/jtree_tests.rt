@@ -1,1 +1,2 @@
+mod source_cases;
 mod tree_cases;

@@ -3,6 +3,7 @@
 //! | File | What is tested |
 //! |---|---|
 //! | `jtree_tests/tree_cases` | trees: read and written, their order, pointers, what stands under a name |
+//! | `jtree_tests/source_cases` | documents in pieces, sources that fail, and readers that are interrupted |
 //! | `schema_tests/reading_cases` | definitions that are read or refused, and the form of each keyword |
 //! | `schema_tests/limit_cases` | schemas at each limit and past it |
 //! | `schema_tests/marker_cases` | the markers of lists and maps (V10 to V13) |
@@ -21,7 +22,7 @@
 //! | `program/check_cases`, `validate_cases`, `prune_cases`, `sample_cases` | what each command prints |
 //! | `program/explain_cases`, `leaf_cases` | what `explain` and `leaves` print, and what they refuse |
 //! | `program/refusal_cases` | inputs that are refused, and which is judged first |
-//! | `program/input_cases` | documents in files, and which inputs a run reads |
+//! | `program/input_cases` | documents in files, reads that fail after each byte, and which inputs a run reads |
 //! | `program/broken_sink_cases` | sinks that fail after each byte |
 //! | `program/resume_cases` | walks that stop after each byte, and the walks that go on there |
 //! | `program/hostile_cases` | documents that are cut, deep or long, and places that are no samples |

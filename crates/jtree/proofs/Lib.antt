@@ -3,3 +3,4 @@ pub mod OrderSteps
 pub mod OrderWords
 pub mod Reading
 pub mod ReadBack
+pub mod Sources

@@ -1,10 +1,13 @@
 -- Which bytes are which tree: the value that `serde_json` reads, where all its numbers are integers of 64 bits.
-use Rattle.std.specs.Prelude.{◌≡◌, ◌≤◌, ℕ, List, length, Option, Some, None, option_map, option_and_then}
+use Rattle.std.specs.Prelude.{◌≡◌, ◌+◌, ◌≤◌, ◌<◌, ℕ, List, length, Option, Some, None, option_map, option_and_then}
+use Rattle.std.specs.Io.KnownBytes.{Consumes}
 use Rattle.std.specs.Str.{IsUtf8}
 use Rattle.serde_json.specs.Data as json
 use Rattle.serde_json.specs.Find.{as_i64}
 use Rattle.serde_json.specs.Read.{read}
 use Rattle.jtree.specs.Data.{Data, null, boolean, integer, text, list, object, Items, no_items, item, Members, no_members, member, depth}
+use Rattle.jtree.specs.declared.fault.JFault.{JFault}
+use Rattle.jtree.specs.declared.fault.JFault.TheVariants.{NotAnInteger, NoMemory, NotJson, TooLong, ReadFailed}
 
 -- the tree that a JSON value is, or none where some number is no integer of 64 bits
 abbrev mutual
@@ -43,6 +46,18 @@ IsNoJson bytes = (v : json.Data) → IsJson bytes v → ⊥
 -- `serde_json` reads a value, and some number of it is no integer of 64 bits
 abbrev pub HasOtherNumber : List ℕ → Type 0
 HasOtherNumber bytes = (v : json.Data) × IsJson bytes v × (tree_of v ≡ None)
+
+-- why bytes are no document; running out of memory says nothing of them, and bytes that are there were not refused by a read
+abbrev pub IsNoDocument : List ℕ → JFault → Type 0
+IsNoDocument bytes TooLong = most_bytes < length bytes
+IsNoDocument bytes NotJson = (length bytes ≤ most_bytes) × IsNoJson bytes
+IsNoDocument bytes NotAnInteger = (length bytes ≤ most_bytes) × HasOtherNumber bytes
+IsNoDocument bytes NoMemory = Unit {0}
+IsNoDocument bytes ReadFailed = ⊥
+
+-- of the bytes still to come, where they are known, a beginning was taken: at most one byte more than a document has
+abbrev pub HasTaken : Option (List ℕ) → Option (List ℕ) → Type 0
+HasTaken old new = (taken : List ℕ) × Consumes old new taken × (length taken ≤ most_bytes + 1)
 
 -- The deepest nesting that is read.
 abbrev pub most_depth : ℕ

@@ -1,6 +1,7 @@
 ghost use Rattle.std.specs.Prelude.{◌≡◌};
-ghost use Rattle.jtree.specs.declared.fault.JFault.TheVariants.{NoMemory};
+ghost use Rattle.jtree.specs.declared.fault.JFault.TheVariants.{NoMemory, ReadFailed};
 
+use crate::source::SourceFault;
 use std::alloc::{AllocError, AllocFailed};
 use thiserror::Error;
 
@@ -19,6 +20,9 @@ pub enum JFault {
     /// The document has more than `MOST_BYTES` bytes.
     #[error("J4")]
     TooLong,
+    /// The source of the bytes failed.
+    #[error("J5")]
+    ReadFailed,
 }
 
 impl From<AllocError> for JFault {
@@ -34,5 +38,13 @@ impl<T: Drop> From<AllocFailed<T>> for JFault {
 
     fn from(_refused: AllocFailed<T>) -> JFault {
         JFault::NoMemory
+    }
+}
+
+impl From<SourceFault> for JFault {
+    ghost from_gives = { λ _ e. e ≡ ReadFailed };
+
+    fn from(_failed: SourceFault) -> JFault {
+        JFault::ReadFailed
     }
 }

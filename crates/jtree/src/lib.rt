@@ -8,6 +8,7 @@ mod order;
 mod parts;
 mod pointer;
 mod read;
+pub mod source;
 mod value;
 mod write;
 

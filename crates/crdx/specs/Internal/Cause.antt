@@ -3,13 +3,12 @@ use Rattle.std.specs.Prelude.{◌≡◌, ◌≢◌, ◌⊎◌, ℕ, List, [], Bo
 use Rattle.std.specs.Borrow.{Bor}
 use Rattle.std.specs.Io.KnownBytes.{Keeps}
 use Rattle.jtree.specs.Data.{Data}
-use Rattle.jtree.specs.declared.fault.JFault.TheVariants as j
 use Rattle.schema.specs.Nodes.Node.{Node}
 use Rattle.schema.specs.Rules.Breaks.{AreViolations}
 use Rattle.schema.specs.declared.fault.SFault.TheVariants as s
 use Rattle.stored.specs.Schemas.Accepted.{IsBroken}
 use Rattle.crdx.specs.Output.PartialOutput.{IsCutBetweenLines, IsCutByFailure}
-use Rattle.crdx.specs.Output.Sink.{HasFailed}
+use Rattle.jtree.specs.Failures.{HasFailed}
 use Rattle.crdx.specs.Program.Documents.{Documents, file_name}
 use Rattle.crdx.specs.Program.FieldAnswer.{IsFieldAnswer}
 use Rattle.crdx.specs.Program.ObjectAnswer.{IsObjectAnswer}
@@ -17,7 +16,8 @@ use Rattle.crdx.specs.Program.Requested.{IsRequestedSchema, HasReadFault, HasPoo
 use Rattle.crdx.specs.Program.RunResult.{IsAnswer, IsInputRefused, Effects, WritesNothing}
 use Rattle.plan.specs.Samples.Question.{Question}
 use Rattle.enumerate.specs.Page.{IsPage, IsSampleOf}
-use Rattle.crdx.specs.Program.InputFault.{IsNoDocument}
+use Rattle.jtree.specs.Reads.{IsNoDocument}
+use Rattle.crdx.specs.Program.InputFault.{IsOfBytes}
 use Rattle.crdx.specs.declared.walk.line.Envelope.{Envelope}
 use Rattle.crdx.specs.declared.arguments.request.Request.{Request}
 use Rattle.crdx.specs.declared.arguments.request.Request.TheVariants.{Sample}
@@ -34,7 +34,7 @@ use Rattle.crdx.specs.declared.running.causes.Cause.TheVariants.{Unread, Documen
 -- why an input gives no document
 abbrev pub IsUnreadCause : Documents → ℕ → ℕ → Input → Option (List ℕ) → Cause → Type 0
 IsUnreadCause has before now input name (Unread i) = (i ≡ input) × HasFailed before now
-IsUnreadCause has before now input name (Document i fault) = (i ≡ input) × (fault ≢ j.NoMemory) × has name (Err fault)
+IsUnreadCause has before now input name (Document i fault) = (i ≡ input) × IsOfBytes fault × has name (Err fault)
 IsUnreadCause has before now input name NoMemory = Unit {0}
 IsUnreadCause has before now input name _ = ⊥
 
@@ -47,7 +47,7 @@ IsBrokenCause raw _ = ⊥
 -- why no schema is read
 abbrev pub IsReadCause : Documents → ℕ → ℕ → List ℕ → List ℕ → Cause → Type 0
 IsReadCause has before now crd version (Unread i) = (i ≡ input.Crd) × HasFailed before now
-IsReadCause has before now crd version (Document i fault) = (i ≡ input.Crd) × (fault ≢ j.NoMemory) × has (Some crd) (Err fault)
+IsReadCause has before now crd version (Document i fault) = (i ≡ input.Crd) × IsOfBytes fault × has (Some crd) (Err fault)
 IsReadCause has before now crd version (Crd fault) = HasReadFault has crd version fault
 IsReadCause has before now crd version (Place input.Crd code.KeywordForm p) = HasReadFault has crd version (s.KeywordForm p)
 IsReadCause has before now crd version (Place input.Crd code.TooLarge p) = HasReadFault has crd version (s.TooLarge p)
@@ -62,7 +62,7 @@ IsSchemaCause has before now crd version cause =
 -- why there are no pools
 abbrev pub IsPoolsCause : Documents → ℕ → ℕ → Option (Bor (List ℕ)) → Cause → Type 0
 IsPoolsCause has before now pools (Unread i) = (i ≡ input.Pools) × HasFailed before now
-IsPoolsCause has before now pools (Document i fault) = (i ≡ input.Pools) × (fault ≢ j.NoMemory) × IsSomeAnd pools (λ name. has (Some name.now) (Err fault))
+IsPoolsCause has before now pools (Document i fault) = (i ≡ input.Pools) × IsOfBytes fault × IsSomeAnd pools (λ name. has (Some name.now) (Err fault))
 IsPoolsCause has before now pools (Pools fault) = HasPoolsFault has pools fault
 IsPoolsCause has before now pools (Place input.Pools code.Form p) = HasPoolsFault has pools (Form p)
 IsPoolsCause has before now pools NoMemory = Unit {0}
@@ -70,7 +70,7 @@ IsPoolsCause has before now pools _ = ⊥
 
 -- why a text is no tree to go on from
 abbrev pub IsTextCause : List ℕ → Cause → Type 0
-IsTextCause text (Document i fault) = (i ≡ input.After) × (fault ≢ j.NoMemory) × IsNoDocument text fault
+IsTextCause text (Document i fault) = (i ≡ input.After) × IsOfBytes fault × IsNoDocument text fault
 IsTextCause text NoMemory = Unit {0}
 IsTextCause text _ = ⊥
 

@@ -2,7 +2,7 @@
 -- in its line (this project's own).
 use Rattle.std.specs.Prelude.{◌≡◌, ◌⊎◌, ℕ, List, take, Option, string_bytes, codes}
 use Rattle.std.specs.Io.KnownBytes.{Appends}
-use Rattle.crdx.specs.Output.Sink.{HasFailed}
+use Rattle.jtree.specs.Failures.{HasFailed}
 use Rattle.crdx.specs.declared.running.answer.Answer.{Answer}
 use Rattle.crdx.specs.declared.running.causes.Input.{Input}
 use Rattle.crdx.specs.declared.running.causes.Input.TheVariants as input

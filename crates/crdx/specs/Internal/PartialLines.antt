@@ -3,7 +3,7 @@ use Rattle.std.specs.Prelude.{◌≡◌, ◌+◌, ◌<◌, ℕ, List, length, ta
 use Rattle.std.specs.Io.KnownBytes.{Appends}
 use Rattle.jtree.specs.Data.{Data}
 use Rattle.crdx.specs.Output.Line.{lines}
-use Rattle.crdx.specs.Output.Sink.{HasFailed}
+use Rattle.jtree.specs.Failures.{HasFailed}
 use Rattle.crdx.specs.Output.PartialOutput.{IsCutWithinLine}
 use Rattle.crdx.specs.declared.walk.line.Envelope.{Envelope}
 use Rattle.crdx.specs.declared.walk.fault.WFault.{WFault}

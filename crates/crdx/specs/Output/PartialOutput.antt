@@ -5,7 +5,7 @@ use Rattle.jtree.specs.Data.{Data}
 use Rattle.plan.specs.Samples.Question.{Question}
 use Rattle.enumerate.specs.Page.{IsPage, IsSampleOf}
 use Rattle.crdx.specs.Output.Line.{line, lines}
-use Rattle.crdx.specs.Output.Sink.{HasFailed}
+use Rattle.jtree.specs.Failures.{HasFailed}
 use Rattle.crdx.specs.declared.walk.line.Envelope.{Envelope}
 use Rattle.crdx.specs.declared.walk.fault.WFault.{WFault}
 use Rattle.crdx.specs.declared.walk.fault.WFault.TheVariants.{NotASample, NoMemory, Write}

@@ -1,25 +1,27 @@
 -- Why an input gives no document, and what bytes are read as (this project's own).
-use Rattle.std.specs.Prelude.{◌<◌, ℕ, List, length, Option, Result, Ok, Err}
+use Rattle.std.specs.Prelude.{◌≢◌, ℕ, List, Option, Result, Ok, Err}
 use Rattle.jtree.specs.Data.{Data}
-use Rattle.jtree.specs.Reads.{Reads, IsNoJson, HasOtherNumber, most_bytes}
+use Rattle.jtree.specs.Failures.{one_more}
+use Rattle.jtree.specs.Reads.{Reads, IsNoDocument}
 use Rattle.jtree.specs.declared.fault.JFault.{JFault}
-use Rattle.jtree.specs.declared.fault.JFault.TheVariants.{NotAnInteger, NoMemory, NotJson, TooLong}
-use Rattle.crdx.specs.Output.Sink.{one_more}
+use Rattle.jtree.specs.declared.fault.JFault.TheVariants.{NotAnInteger, NoMemory, NotJson, TooLong, ReadFailed}
 use Rattle.crdx.specs.Program.Documents.{Documents}
 use Rattle.crdx.specs.declared.inputs.InFault.{InFault}
 use Rattle.crdx.specs.declared.inputs.InFault.TheVariants.{Failed, Document}
-
--- why bytes are no document; running out of memory says nothing of them
-abbrev pub IsNoDocument : List ℕ → JFault → Type 0
-IsNoDocument bytes NotAnInteger = HasOtherNumber bytes
-IsNoDocument bytes NotJson = IsNoJson bytes
-IsNoDocument bytes TooLong = most_bytes < length bytes
-IsNoDocument bytes NoMemory = Unit {0}
 
 -- the document that the bytes are, or why they are none
 abbrev pub IsReading : List ℕ → Result Data JFault → Type 0
 IsReading bytes (Ok document) = Reads bytes document
 IsReading bytes (Err fault) = IsNoDocument bytes fault
+
+-- a fault of the bytes themselves: they were read, and memory did not run out
+abbrev pub IsOfBytes : JFault → Type 0
+IsOfBytes fault = (fault ≢ NoMemory) × (fault ≢ ReadFailed)
+
+-- a read that fails is no fault of a document
+abbrev pub input_fault : JFault → InFault
+input_fault ReadFailed = Failed
+input_fault fault = Document fault
 
 -- why a reading of the bytes failed; a read that fails says nothing of them
 abbrev pub IsFaultOf : List ℕ → InFault → Type 0
@@ -33,6 +35,7 @@ IsInputFault has name (Document NotAnInteger) = has name (Err NotAnInteger)
 IsInputFault has name (Document NotJson) = has name (Err NotJson)
 IsInputFault has name (Document TooLong) = has name (Err TooLong)
 IsInputFault has name (Document NoMemory) = Unit {0}
+IsInputFault has name (Document ReadFailed) = ⊥
 
 -- a document that could not be opened or read is one failure
 abbrev pub failures_after_read : {T : Type 0} → ℕ → Result T InFault → ℕ

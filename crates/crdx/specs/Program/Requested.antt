@@ -5,7 +5,6 @@ use Rattle.std.specs.Borrow.{Bor}
 use Rattle.jtree.specs.Data.{Data}
 use Rattle.jtree.specs.Reads.{Reads}
 use Rattle.jtree.specs.declared.fault.JFault.{JFault}
-use Rattle.jtree.specs.declared.fault.JFault.TheVariants as j
 use Rattle.schema.specs.Document.Crd.{IsRead}
 use Rattle.schema.specs.Document.ReadFault.{IsSound, IsReadFault}
 use Rattle.schema.specs.Rules.Breaks.{IsUnbroken}
@@ -22,7 +21,8 @@ use Rattle.plan.specs.declared.fault.PFault.{PFault}
 use Rattle.plan.specs.declared.fault.PFault.TheVariants as p
 use Rattle.crdx.specs.Program.Documents.{Documents, file_name}
 use Rattle.crdx.specs.Program.Envelope.{body_of}
-use Rattle.crdx.specs.Program.InputFault.{IsNoDocument}
+use Rattle.jtree.specs.Reads.{IsNoDocument}
+use Rattle.crdx.specs.Program.InputFault.{IsOfBytes}
 use Rattle.crdx.specs.declared.arguments.request.ObjectArguments.{ObjectArguments}
 use Rattle.crdx.specs.declared.arguments.request.SampleArguments.{SampleArguments}
 use Rattle.crdx.specs.declared.walk.line.Envelope.{Envelope}
@@ -55,7 +55,7 @@ HasReadFault has crd version fault = (document : Data) × has (Some crd) (Ok doc
 
 -- there is no document of this name, or it has a fault
 abbrev pub IsCrdRefused : Documents → List ℕ → List ℕ → Type 0
-IsCrdRefused has crd version = ((fault : JFault) × (fault ≢ j.NoMemory) × has (Some crd) (Err fault)) ⊎ ((fault : SFault) × HasReadFault has crd version fault)
+IsCrdRefused has crd version = ((fault : JFault) × IsOfBytes fault × has (Some crd) (Err fault)) ⊎ ((fault : SFault) × HasReadFault has crd version fault)
 
 -- the pools of the document of this name, and empty ones without a name
 abbrev pub ArePools : Documents → Option (Bor (List ℕ)) → Pools → Type 0
@@ -68,7 +68,7 @@ HasPoolsFault has pools fault = IsSomeAnd pools (λ name. (document : Data) × h
 
 -- there is no document of this name, or it has a fault as pools
 abbrev pub ArePoolsRefused : Documents → Option (Bor (List ℕ)) → Type 0
-ArePoolsRefused has pools = ((fault : JFault) × (fault ≢ j.NoMemory) × IsSomeAnd pools (λ name. has (Some name.now) (Err fault))) ⊎ ((fault : PFault) × HasPoolsFault has pools fault)
+ArePoolsRefused has pools = ((fault : JFault) × IsOfBytes fault × IsSomeAnd pools (λ name. has (Some name.now) (Err fault))) ⊎ ((fault : PFault) × HasPoolsFault has pools fault)
 
 -- the tree to go on from: the body of what the text is read as, and nothing without a text
 abbrev pub IsAfter : Option (Bor (List ℕ)) → Option Data → Type 0
@@ -77,7 +77,7 @@ IsAfter (Some text) after = (document : Data) × Reads text.now document × (aft
 
 -- the text is read as no tree
 abbrev pub IsAfterRefused : Option (Bor (List ℕ)) → Type 0
-IsAfterRefused after = (fault : JFault) × (fault ≢ j.NoMemory) × IsSomeAnd after (λ text. IsNoDocument text.now fault)
+IsAfterRefused after = (fault : JFault) × IsOfBytes fault × IsSomeAnd after (λ text. IsNoDocument text.now fault)
 
 -- the envelope of resources of this group, version, kind and name, and none without a name
 abbrev pub envelope_for : List ℕ → List ℕ → List ℕ → Option (Bor (List ℕ)) → Option Envelope
@@ -104,4 +104,4 @@ pub record IsRequestedObject (has : Documents) (arguments : ObjectArguments) (N 
 
 -- there is no document of this name
 abbrev pub IsObjectRefused : Documents → ObjectArguments → Type 0
-IsObjectRefused has arguments = (fault : JFault) × (fault ≢ j.NoMemory) × has (file_name arguments.object) (Err fault)
+IsObjectRefused has arguments = (fault : JFault) × IsOfBytes fault × has (file_name arguments.object) (Err fault)

@@ -9,7 +9,7 @@ use Rattle.schema.specs.Rules.Breaks.{Break, AreBreaks, Told, told_of, rule_name
 use Rattle.stored.specs.Schemas.Accepted.{IsBroken}
 use Rattle.crdx.specs.Output.Line.{lines}
 use Rattle.crdx.specs.Output.PartialOutput.{IsCutBetweenLines, IsCutByFailure}
-use Rattle.crdx.specs.Output.Sink.{HasFailed}
+use Rattle.jtree.specs.Failures.{HasFailed}
 use Rattle.crdx.specs.Program.Documents.{Documents}
 use Rattle.crdx.specs.Program.FieldAnswer.{IsFieldAnswer}
 use Rattle.crdx.specs.Program.ObjectAnswer.{IsObjectAnswer}

@@ -57,6 +57,16 @@ fn deep_and_long_pools(rt: HostRuntime) -> Result<(), Fail> {
     Ok(())
 }
 
+#[test]
+fn pools_that_are_no_text(rt: HostRuntime) -> Result<(), Fail> {
+    let command = "crdx sample crd.json v1 --pools pools.json";
+    let mut inputs = FakeInputs::new(rt.alloc(), WIDGET, "");
+    inputs.second = b"\xff";
+    let output = run_on(rt.alloc(), command, inputs, FailingSink::endless(rt.alloc()))?;
+    is_answer(&rt, &output, "", "crdx: pools: J3\n", 3, "a byte of 255");
+    Ok(())
+}
+
 // A node limit, what `sample` is to go on from, standard error and the status.
 static PLACES: [(u32, &str, &str, u8); 8] = [
     (

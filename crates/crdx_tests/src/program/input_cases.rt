@@ -1,7 +1,7 @@
 //! Documents in files, and which inputs a run reads.
 use crate::support::documents::{BROKEN, WIDGET, ZERO_AND_ONE};
 use crate::support::fakes::{FailingSink, FakeInputs, Reads};
-use crate::support::harness::{is_number, is_said, run_on};
+use crate::support::harness::{is_answer, is_number, is_said, run_on};
 use crate::support::texts::padded;
 use crdx::inputs::{InFault, Inputs, Outside};
 use std::alloc::{AllocError, Global};
@@ -162,6 +162,63 @@ fn try_reads(
 fn reads(rt: HostRuntime) -> Result<(), Fail> {
     for row in &READS {
         try_reads(&rt, rt.alloc(), row)?;
+    }
+    Ok(())
+}
+
+fn try_failing_definition(rt: &impl Abort, alloc: Global, left: usize) -> Result<(), AllocError> {
+    let mut inputs = FakeInputs::new(alloc, WIDGET, "");
+    inputs.crd_left = left;
+    let command = "crdx check crd.json v1";
+    let output = run_on(alloc, command, inputs, FailingSink::endless(alloc))?;
+    let err = "crdx: crd: read failed\n";
+    is_answer(rt, &output, "", err, 4, "a definition");
+    Ok(())
+}
+
+fn try_failing_second(
+    rt: &impl Abort,
+    alloc: Global,
+    row: &(&str, &str, &str),
+    left: usize,
+) -> Result<(), AllocError> {
+    let (name, line, err) = *row;
+    let mut inputs = FakeInputs::new(alloc, WIDGET, ZERO_AND_ONE);
+    inputs.second_left = left;
+    let output = run_on(alloc, line, inputs, FailingSink::endless(alloc))?;
+    is_answer(rt, &output, "", err, 4, name);
+    Ok(())
+}
+
+// A name, a command line, and standard error where its second document cannot be read whole.
+static SECONDS: [(&str, &str, &str); 3] = [
+    (
+        "pools",
+        "crdx sample crd.json v1 --pools pools.json",
+        "crdx: pools: read failed\n",
+    ),
+    (
+        "an object of a file",
+        "crdx validate crd.json v1 object.json",
+        "crdx: object: read failed\n",
+    ),
+    (
+        "an object of the standard input",
+        "crdx default crd.json v1",
+        "crdx: object: read failed\n",
+    ),
+];
+
+/// Reading fails after each number of bytes, also after the last one.
+#[test]
+fn failing_reads(rt: HostRuntime) -> Result<(), Fail> {
+    for left in 0..WIDGET.len() + 1 {
+        try_failing_definition(&rt, rt.alloc(), left)?;
+    }
+    for row in &SECONDS {
+        for left in 0..ZERO_AND_ONE.len() + 1 {
+            try_failing_second(&rt, rt.alloc(), row, left)?;
+        }
     }
     Ok(())
 }

@@ -1,11 +1,13 @@
-//! A sink that can fail, and documents of memory.
-ghost use Rattle.std.specs.Prelude.{Some, ◌≡◌, ◌⊎◌, IfOk};
-ghost use Rattle.crdx.specs.Program.InputFault.{IsReading};
+//! Sinks and sources that can fail, and documents of memory.
+ghost use Rattle.std.specs.Prelude.{Some, Ok, ◌≡◌, ◌⊎◌, IfOk, IfErr};
+ghost use Rattle.jtree.specs.View.{data_of};
+ghost use Rattle.crdx.specs.Program.InputFault.{IsReading, IsFaultOf, failures_after_read};
 ghost use Rattle.crdx.specs.Output.Sink.{failures_after};
 
 use crdx::inputs::{InFault, Inputs};
 use crdx::sink::{Sink, SinkFault};
-use jtree::Tree;
+use jtree::{JFault, Tree};
+use jtree::source::{Source, SourceFault};
 use std::alloc::Global;
 use std::io::Write;
 
@@ -93,6 +95,45 @@ impl Sink for FailingSink {
     }
 }
 
+/// Gives at most `step` bytes a call, and fails once it has given `left` in all.
+#[derive(Drop)]
+pub struct FailingSource<'a> {
+    pub bytes: &'a [u8],
+    pub step: usize,
+    pub left: usize,
+    pub failures: u64,
+}
+
+impl<'a> FailingSource<'a> {
+    pub fn new(bytes: &'a [u8], step: usize, left: usize) -> FailingSource<'a> {
+        FailingSource {
+            bytes,
+            step,
+            left,
+            failures: 0,
+        }
+    }
+}
+
+impl Source for FailingSource<'_> {
+    ghost remaining = { λ s. Some s.bytes.now };
+
+    ghost failures = { λ s. s.failures };
+
+    fn get(&mut self, buffer: &mut [u8]) -> Result<usize, SourceFault> {
+        let most = buffer.len().min(self.step).min(self.left);
+        if most == 0 {
+            self.failures = self.failures.saturating_add(1);
+            return Err(SourceFault::Failed);
+        }
+        let n = most.min(self.bytes.len());
+        buffer[..n].copy_from_slice(&self.bytes[..n]);
+        self.bytes = &self.bytes[n..];
+        self.left -= n;
+        Ok(n)
+    }
+}
+
 /// How often each input was asked for.
 #[derive(Clone, Copy, Debug, PartialEq, Eq, Drop)]
 pub struct Reads {
@@ -104,12 +145,15 @@ pub struct Reads {
 }
 
 /// Two documents: a definition, and a second one that the file of pools, that of an object and the standard input have. A
-/// file of another name cannot be opened.
+/// file of another name cannot be opened. They come in pieces of one
+/// byte, and reading each fails after so many.
 #[derive(Drop)]
 pub struct FakeInputs<'a> {
     pub alloc: Global,
-    pub crd: &'a str,
-    pub second: &'a str,
+    pub crd: &'a [u8],
+    pub second: &'a [u8],
+    pub crd_left: usize,
+    pub second_left: usize,
     pub reads: Reads,
     pub failures: u64,
 }
@@ -118,8 +162,10 @@ impl<'a> FakeInputs<'a> {
     pub fn new(alloc: Global, crd: &'a str, second: &'a str) -> FakeInputs<'a> {
         FakeInputs {
             alloc,
-            crd,
-            second,
+            crd: crd.as_bytes(),
+            second: second.as_bytes(),
+            crd_left: usize::MAX,
+            second_left: usize::MAX,
             reads: Reads {
                 crd: 0,
                 pools: 0,
@@ -131,38 +177,61 @@ impl<'a> FakeInputs<'a> {
     }
 }
 
+impl FakeInputs<'_> {
+    /// The document that these bytes are, where reading them does not fail after so many.
+    fn read(&mut self, bytes: &[u8], left: usize) -> Result<Tree, InFault>
+        ensures document { IfOk result (λ t. IsReading bytes.now (Ok (data_of t))) }
+        ensures refused { IfErr result (IsFaultOf bytes.now) }
+        ensures counts { self.new.failures ≡ failures_after_read self.old.failures result }
+        ensures crd { self.new.crd ≡ self.old.crd }
+        ensures second { self.new.second ≡ self.old.second }
+    {
+        let mut source = FailingSource {
+            bytes,
+            step: 1,
+            left,
+            failures: 0,
+        };
+        match Tree::from_reader(self.alloc, &mut source) {
+            Ok(tree) => Ok(tree),
+            Err(JFault::ReadFailed) => {
+                self.failures = self.failures.saturating_add(1);
+                Err(InFault::Failed)
+            }
+            Err(fault) => Err(InFault::Document(fault)),
+        }
+    }
+}
+
 impl Inputs for FakeInputs<'_> {
     ghost has = { λ s name read. IsReading s.crd.now read ⊎ IsReading s.second.now read };
 
     ghost failures = { λ s. s.failures };
 
+    #[tactic(auto, using(crate::proofs::FakeLemmas::fault_of_first, crate::proofs::FakeLemmas::fault_of_second))]
     fn tree(&mut self, name: Option<&str>) -> Result<Tree, InFault> {
-        let text = match name {
+        match name {
             Some("crd.json") => {
                 self.reads.crd = self.reads.crd.saturating_add(1);
-                self.crd
+                self.read(self.crd, self.crd_left)
             }
             Some("pools.json") => {
                 self.reads.pools = self.reads.pools.saturating_add(1);
-                self.second
+                self.read(self.second, self.second_left)
             }
             Some("object.json") => {
                 self.reads.object = self.reads.object.saturating_add(1);
-                self.second
+                self.read(self.second, self.second_left)
             }
             None => {
                 self.reads.other = self.reads.other.saturating_add(1);
-                self.second
+                self.read(self.second, self.second_left)
             }
             Some(_) => {
                 self.reads.other = self.reads.other.saturating_add(1);
                 self.failures = self.failures.saturating_add(1);
-                return Err(InFault::Failed);
+                Err(InFault::Failed)
             }
-        };
-        match Tree::from_bytes(self.alloc, text.as_bytes()) {
-            Ok(tree) => Ok(tree),
-            Err(fault) => Err(InFault::Document(fault)),
         }
     }
 }

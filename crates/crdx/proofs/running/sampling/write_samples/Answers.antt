@@ -6,7 +6,7 @@ use Rattle.jtree.specs.View.{data_of}
 use Rattle.enumerate.specs.Page.{IsSampleOf}
 use Rattle.enumerate.specs.View.{resume_point}
 use Rattle.crdx.specs.Output.PartialOutput.{IsPartialOutput}
-use Rattle.crdx.specs.Output.Sink.{one_more}
+use Rattle.jtree.specs.Failures.{one_more}
 use Rattle.crdx.specs.Output.Walk.{WritesPage}
 use Rattle.crdx.proofs.RunLemmas.{walk_cause, flush_cause, failed_once}
 use Rattle.crdx.proofs.WalkLemmas.{resumed}

@@ -5,7 +5,7 @@ use Rattle.std.proofs.lemmas.List.{take-map}
 use Rattle.std.proofs.KnownBytes.{Appends-trans}
 use Rattle.jtree.specs.View.{data_of}
 use Rattle.crdx.specs.Output.Line.{lines}
-use Rattle.crdx.specs.Output.Sink.{HasFailed}
+use Rattle.jtree.specs.Failures.{HasFailed}
 use Rattle.crdx.specs.Internal.Block.{IsCountOfEnds}
 use Rattle.crdx.proofs.WrittenLemmas.{length_trees, cut_in_block, lines_through}
 use Rattle.crdx.proofs.walk.walking.write_lines.Goals as goal

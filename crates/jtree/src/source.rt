@@ -1,0 +1,91 @@
+//! Where bytes come from, and what is known of them.
+
+ghost use Rattle.std.specs.Prelude.{◌≡◌, ℕ, List, Option, IfErr, OnOk};
+ghost use Rattle.std.specs.Io.{ReadsAtMost};
+ghost use Rattle.std.specs.Io.KnownBytes.{ReadConsumes};
+ghost use Rattle.jtree.specs.Failures.{one_more};
+
+use std::io::{self, ErrorKind, Read};
+use thiserror::Error;
+
+/// Why a source gave nothing.
+#[derive(Clone, Copy, Debug, PartialEq, Eq, Drop, Error)]
+pub enum SourceFault {
+    /// The read failed.
+    #[error("the read failed")]
+    Failed,
+}
+
+/// A place that bytes come from, which counts its failures.
+pub trait Source {
+    // The bytes still to come up to the end of input, where they are known.
+    ghost remaining: { Self → Option (List ℕ) };
+
+    // How often it has failed, up to the greatest count.
+    ghost failures: { Self → ℕ };
+
+    /// Puts a beginning of the bytes still to come at the front of the buffer, and answers how many: 0 is the end of
+    /// input where the buffer has room. An error gives nothing, and is one failure more.
+    fn get(&mut self, buffer: &mut [u8]) -> Result<usize, SourceFault>
+        ensures within { ReadsAtMost result buffer.new }
+        ensures gives { ReadConsumes (remaining self.old) (remaining self.new) result buffer.new }
+        ensures ok { OnOk result (failures self.new ≡ failures self.old) }
+        ensures err { IfErr result (λ _. failures self.new ≡ one_more (failures self.old)) };
+}
+
+/// A source of any reader.
+#[derive(Drop)]
+pub struct Feed<T> {
+    reader: T,
+    failures: u64,
+}
+
+impl<T: Read> Feed<T> {
+    /// A source of this reader, which has not failed yet.
+    pub fn new(reader: T) -> Feed<T>
+        ensures remaining { ⟦<Feed<T> as Source>⟧.remaining result ≡ T.remaining reader }
+        ensures unfailed { ⟦<Feed<T> as Source>⟧.failures result ≡ 0 }
+    {
+        Feed {
+            reader,
+            failures: 0,
+        }
+    }
+}
+
+impl<T: Read> Source for Feed<T> {
+    ghost remaining = { λ s. T.remaining s.reader };
+
+    ghost failures = { λ s. s.failures };
+
+    fn get(&mut self, buffer: &mut [u8]) -> Result<usize, SourceFault> {
+        match read_on(&mut self.reader, buffer) {
+            Ok(n) => Ok(n),
+            Err(_) => {
+                self.failures = self.failures.saturating_add(1);
+                Err(SourceFault::Failed)
+            }
+        }
+    }
+}
+
+/// How often a read that a signal interrupts is made again.
+const MOST_TRIES: u32 = 1000;
+
+/// One read, made again where a signal interrupted it.
+fn read_on<T: Read>(reader: &mut T, buffer: &mut [u8]) -> io::Result<usize>
+    ensures within { ReadsAtMost result buffer.new }
+    ensures gives { ReadConsumes (T.remaining reader.old) (T.remaining reader.new) result buffer.new }
+{
+    for _ in 0..MOST_TRIES {
+        match reader.read(buffer) {
+            Ok(n) => return Ok(n),
+            Err(error) => {
+                if error.kind() != ErrorKind::Interrupted {
+                    return Err(error);
+                }
+            }
+        }
+    }
+    reader.read(buffer)
+}
