@@ -12,18 +12,15 @@ use Rattle.enumerate.specs.View.{trees_of}
 use Rattle.jtree.specs.Internal.Rising.{Among, contains}
 use Rattle.plan.specs.Pools.Pools.{Pools}
 use Rattle.plan.specs.Samples.Part.{IsPart}
-use Rattle.schema.specs.Nodes.Node.{Node}
 use Rattle.stored.specs.Objects.Tests.{is_same}
-use Rattle.plan.specs.declared.sort.Distinct.TheVariants.{Whole}
 use Rattle.enumerate.proofs.LeafLemmas.{has_tree}
-use Rattle.plan.specs.Samples.Candidates.{distinct_of}
 use Rattle.schema.specs.Rules.Keywords.{any_item}
 use Rattle.jtree.specs.View.{data_of, items_of}
 use Rattle.jtree.specs.declared.value.Tree.{Tree}
-use Rattle.plan.specs.Samples.Sites.{Slot, slots}
+use Rattle.plan.specs.Samples.Sites.{Site, Slot, slots}
 use Rattle.plan.specs.Samples.Sizes.{AreFillings}
 use Rattle.plan.specs.Samples.RuleOfParts.{members_in, RuleOfParts, IsRowPart, AreParts, alike_at}
-use Rattle.plan.specs.Samples.Keys.{AreInOrder, HasSoundParts, AreMapItems, key_under}
+use Rattle.plan.specs.Samples.Keys.{AreInOrder, HasSoundParts, AreSetItems, AreMapItems, key_under}
 use Rattle.plan.specs.Samples.Keys as K
 use Rattle.plan.specs.Samples.Question.{Question}
 use Rattle.enumerate.specs.Internal.Nodes.{site}
@@ -33,25 +30,16 @@ use Rattle.enumerate.specs.Internal.Lists.{IsFreshItem}
 use Rattle.enumerate.specs.Internal.Membership.{still_left, IsFreshRow}
 use Rattle.enumerate.proofs.MembershipLemmas.{row_of, row_from}
 use Rattle.enumerate.proofs.RowLemmas.{among_filter, filter_among}
-use Rattle.enumerate.proofs.WholeListLemmas.{same_alike}
-use Rattle.std.proofs.lemmas.Bool.{or_parts, false_from_ne_true}
+use Rattle.enumerate.proofs.WholeListLemmas.{any_false, false_any}
+use Rattle.std.proofs.lemmas.Bool.{false_from_ne_true}
 
 -- ---- which items are alike
 
-pub any_found : (N : Node) (ts : List Tree) (t : Tree) → distinct_of N ≡ Whole → any_item (λ u. alike_at N u (data_of t)) (items_of ts) ≡ has_tree ts t
-any_found N [] t e = refl
-any_found N (u ∷ ts) t e = rw (same_alike N e (data_of u) (data_of t), any_found N ts t e) refl
+pub any_found : (P : Pools) (s M : Site) (ts : List Tree) (t : Tree) → AreSetItems P s M → any_item (λ u. alike_at s u (data_of t)) (items_of ts) ≡ has_tree ts t
+any_found P s M [] t set = refl
+any_found P s M (u ∷ ts) t set = rw (set.alike (data_of u) (data_of t), any_found P s M ts t set) refl
 
-pub any_false : (test : Data → Bool) (ts : List Tree) → any_item test (items_of ts) ≡ false → (u : Data) → Among (trees_of ts) u → test u ≡ false
-any_false test [] e u a = absurd a
-any_false test (t ∷ ts) e u (inl same) = subst (λ x. test x ≡ false) same (or_parts (test (data_of t)) (any_item test (items_of ts)) e).0
-any_false test (t ∷ ts) e u (inr a) = any_false test ts (or_parts (test (data_of t)) (any_item test (items_of ts)) e).1 u a
-
-pub false_any : (test : Data → Bool) (ts : List Tree) → ((u : Data) → Among (trees_of ts) u → test u ≡ false) → any_item test (items_of ts) ≡ false
-false_any test [] each = refl
-false_any test (t ∷ ts) each = rw (each (data_of t) (inl refl)) (false_any test ts (λ u a. each u (inr a)))
-
-pub among_parts : (P : Pools) (M : Node) (ts : List Tree) → AreParts P M (items_of ts) → (u : Data) → Among (trees_of ts) u → IsPart P M u
+pub among_parts : (P : Pools) (M : Site) (ts : List Tree) → AreParts P M (items_of ts) → (u : Data) → Among (trees_of ts) u → IsPart P M u
 among_parts P M [] h u a = absurd a
 among_parts P M (t ∷ ts) h u (inl same) = subst (IsPart P M) same h.0
 among_parts P M (t ∷ ts) h u (inr a) = among_parts P M ts h.1 u a
@@ -149,19 +137,19 @@ keys_there P (s ∷ ss) (Some v ∷ gs) order are must t (inr a) key =
 
 -- ---- fresh items of map lists
 
-module _ (q : Question) (i c : ℕ) (rule : RuleOfParts q.pools q.limit (site q c)) (sound : HasSoundParts q.pools (site q c)) (map : AreMapItems q.pools (site q i).node (site q c)) where
+module _ (q : Question) (i c : ℕ) (rule : RuleOfParts q.pools q.limit (site q c)) (sound : HasSoundParts q.pools (site q c)) (map : AreMapItems q.pools (site q i) (site q c)) where
   must_keys : MustKeys (slots q.pools (site q c))
   must_keys s a key = (sound.keys s (contains (slots q.pools (site q c)) s a) key).must
 
-  as_row : (v : Data) → IsPart q.pools (site q c).node v → IsRowPart q.pools (site q c) v
+  as_row : (v : Data) → IsPart q.pools (site q c) v → IsRowPart q.pools (site q c) v
   as_row v part = elim ((rule.row v map.row).0 part) [
     | inl none ↦ let both : true ≡ false = sym none.1 ∙ map.never_null in cc
     | inr h ↦ h
   ]
 
   -- an earlier item is left exactly where it is alike
-  left_alike : (us : List Data) (u v : Data) → Among us u → IsPart q.pools (site q c).node u → (h : IsRowPart q.pools (site q c) v) → IsPart q.pools (site q c).node v
-      → Among (still_left (slots q.pools (site q c)) h.fillings us) u ↔ (alike_at (site q i).node u v ≡ true)
+  left_alike : (us : List Data) (u v : Data) → Among us u → IsPart q.pools (site q c) u → (h : IsRowPart q.pools (site q c) v) → IsPart q.pools (site q c) v
+      → Among (still_left (slots q.pools (site q c)) h.fillings us) u ↔ (alike_at (site q i) u v ≡ true)
   left_alike us u v a part h own =
       let ss = slots q.pools (site q c) in
       let k = as_row u part in
@@ -174,15 +162,15 @@ module _ (q : Question) (i c : ℕ) (rule : RuleOfParts q.pools q.limit (site q 
         λ yes. subst (Among (still_left ss h.fillings us)) (sym k.is) (law.1 (sym other ∙ (alike.0 yes ∙ mine))),
       )
 
-  module _ (ts : List Tree) (v : Data) (parts : AreParts q.pools (site q c).node (items_of ts)) where
+  module _ (ts : List Tree) (v : Data) (parts : AreParts q.pools (site q c) (items_of ts)) where
     pub fresh_item : IsFreshRow q c (trees_of ts) v → IsFreshItem q i c (node_count v) (items_of ts) v
     fresh_item r =
         let h = row_of q c (trees_of ts) v r in
         let own = (rule.row v map.row).1 (inr h.0) in
         record {
           part = record { part = own; nodes_are = refl };
-          fresh = false_any (λ u. alike_at (site q i).node u v) ts (λ u a. false_from_ne_true (alike_at (site q i).node u v)
-              (λ holds. subst (λ us. Among us u) h.1 ((left_alike (trees_of ts) u v a (among_parts q.pools (site q c).node ts parts u a) h.0 own).1 holds)));
+          fresh = false_any (λ u. alike_at (site q i) u v) ts (λ u a. false_from_ne_true (alike_at (site q i) u v)
+              (λ holds. subst (λ us. Among us u) h.1 ((left_alike (trees_of ts) u v a (among_parts q.pools (site q c) ts parts u a) h.0 own).1 holds)));
         }
 
     pub fresh_row : IsFreshItem q i c (node_count v) (items_of ts) v → IsFreshRow q c (trees_of ts) v
@@ -190,8 +178,8 @@ module _ (q : Question) (i c : ℕ) (rule : RuleOfParts q.pools q.limit (site q 
         let h = as_row v f.part.part in
         row_from q c (trees_of ts) v h (no_one (still_left (slots q.pools (site q c)) h.fillings (trees_of ts)) (λ u left.
         let a = left_in (slots q.pools (site q c)) h.fillings (trees_of ts) u left in
-        let yes = (left_alike (trees_of ts) u v a (among_parts q.pools (site q c).node ts parts u a) h f.part.part).0 left in
-        let no = any_false (λ u. alike_at (site q i).node u v) ts f.fresh u a in
+        let yes = (left_alike (trees_of ts) u v a (among_parts q.pools (site q c) ts parts u a) h f.part.part).0 left in
+        let no = any_false (λ u. alike_at (site q i) u v) ts f.fresh u a in
         let both : true ≡ false = sym yes ∙ no in
         cc)) where
           no_one : (us : List Data) → ((u : Data) → Among us u → ⊥) → us ≡ []

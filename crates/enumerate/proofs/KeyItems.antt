@@ -26,14 +26,15 @@ use Rattle.enumerate.specs.View.{trees_of}
 use Rattle.enumerate.specs.Internal.Nodes.{site, IsPartOf, HasSizeAt}
 use Rattle.enumerate.specs.Internal.Rows.{slots_from, bounds_at, key_values, used_keys, AreUsed, IsOpen, IsRow}
 use Rattle.enumerate.specs.Internal.Lists.{AreFirst, IsFreshItem}
-use Rattle.enumerate.proofs.FreshItemLemmas.{own_keys, any_false, false_any, among_parts}
+use Rattle.enumerate.proofs.FreshItemLemmas.{own_keys, among_parts}
+use Rattle.enumerate.proofs.WholeListLemmas.{any_false, false_any}
 use Rattle.enumerate.proofs.LeastLemmas.{least_same}
 use Rattle.enumerate.proofs.ListLemmas.{counted, few_items}
 use Rattle.enumerate.proofs.PartRows.{plain_row, row_plain}
 use Rattle.enumerate.proofs.RowLemmas.{known, map_among, among_map}
 use Rattle.enumerate.proofs.RowSteps.{FreeLaw}
 
-module _ (q : Question) (i c : ℕ) (rule : RuleOfParts q.pools q.limit (site q c)) (sound : HasSoundParts q.pools (site q c)) (items : AreMapItems q.pools (site q i).node (site q c)) where
+module _ (q : Question) (i c : ℕ) (rule : RuleOfParts q.pools q.limit (site q c)) (sound : HasSoundParts q.pools (site q c)) (items : AreMapItems q.pools (site q i) (site q c)) where
   abbrev ss : List Slot
   ss = slots_from q c 0
 
@@ -47,7 +48,7 @@ module _ (q : Question) (i c : ℕ) (rule : RuleOfParts q.pools q.limit (site q 
   key_is n v p = let r = row_of n v p in ap (key_under ss) r.is ∙ own_keys q.pools ss r.fillings sound.order r.rest.are must_keys
 
   -- where no earlier item is alike
-  pub fresh_row : (ts : List Tree) (n : ℕ) (v : Data) → AreParts q.pools (site q c).node (items_of ts) → IsFreshItem q i c n (items_of ts) v → IsRow q c (n - 1) (trees_of ts) v
+  pub fresh_row : (ts : List Tree) (n : ℕ) (v : Data) → AreParts q.pools (site q c) (items_of ts) → IsFreshItem q i c n (items_of ts) v → IsRow q c (n - 1) (trees_of ts) v
   fresh_row ts n v parts h =
       let r = row_of n v h.part in
       record {
@@ -59,53 +60,53 @@ module _ (q : Question) (i c : ℕ) (rule : RuleOfParts q.pools q.limit (site q 
           nodes_are = r.rest.nodes_are;
           fresh = λ k.
               let u = among_map (key_under ss) (trees_of ts) (key_values ss r.fillings) (contained _ _ k) in
-              let yes = (items.alike u.0 v (among_parts q.pools (site q c).node ts parts u.0 u.1.0) h.part.part).1 (u.1.1 ∙ sym (key_is n v h.part)) in
-              let no = any_false (λ w. alike_at (site q i).node w v) ts h.fresh u.0 u.1.0 in
+              let yes = (items.alike u.0 v (among_parts q.pools (site q c) ts parts u.0 u.1.0) h.part.part).1 (u.1.1 ∙ sym (key_is n v h.part)) in
+              let no = any_false (λ w. alike_at (site q i) w v) ts h.fresh u.0 u.1.0 in
               let both = sym yes ∙ no in
               cc;
         };
       }
 
-  pub row_fresh : (ts : List Tree) (n : ℕ) (v : Data) → 1 ≤ n → AreParts q.pools (site q c).node (items_of ts) → IsRow q c (n - 1) (trees_of ts) v → IsFreshItem q i c n (items_of ts) v
+  pub row_fresh : (ts : List Tree) (n : ℕ) (v : Data) → 1 ≤ n → AreParts q.pools (site q c) (items_of ts) → IsRow q c (n - 1) (trees_of ts) v → IsFreshItem q i c n (items_of ts) v
   row_fresh ts n v some parts r =
       let p = row_plain q c rule items.row n v some (record { fillings = r.fillings; is = r.is; rest = record { are = r.rest.are; within = r.rest.within; nodes_are = r.rest.nodes_are; fresh = λ k. contained [] _ k } }) in
       let key : key_under ss v ≡ key_values ss r.fillings = ap (key_under ss) r.is ∙ own_keys q.pools ss r.fillings sound.order r.rest.are must_keys in
       record {
         part = p;
-        fresh = false_any (λ w. alike_at (site q i).node w v) ts (λ u a. false_from_ne_true (alike_at (site q i).node u v) (λ yes.
-            let same = (items.alike u v (among_parts q.pools (site q c).node ts parts u a) p.part).0 yes in
+        fresh = false_any (λ w. alike_at (site q i) w v) ts (λ u a. false_from_ne_true (alike_at (site q i) u v) (λ yes.
+            let same = (items.alike u v (among_parts q.pools (site q c) ts parts u a) p.part).0 yes in
             r.rest.fresh (contains _ _ (subst (Among (used_keys ss (trees_of ts))) (same ∙ key) (map_among (key_under ss) (trees_of ts) u a)))));
       }
 
-  pub item_least : (ts : List Tree) (n : ℕ) (v : Data) → 1 ≤ n → AreParts q.pools (site q c).node (items_of ts) → IsLeast tree_cmp (IsRow q c (n - 1) (trees_of ts)) v → IsLeast tree_cmp (IsFreshItem q i c n (items_of ts)) v
+  pub item_least : (ts : List Tree) (n : ℕ) (v : Data) → 1 ≤ n → AreParts q.pools (site q c) (items_of ts) → IsLeast tree_cmp (IsRow q c (n - 1) (trees_of ts)) v → IsLeast tree_cmp (IsFreshItem q i c n (items_of ts)) v
   item_least ts n v some parts h = least_same tree_cmp (IsRow q c (n - 1) (trees_of ts)) (IsFreshItem q i c n (items_of ts)) v (λ u r. row_fresh ts n u some parts r) (λ u f. fresh_row ts n u parts f) h
 
   -- ---- the keys of items
 
-  tuple : (v : Data) → IsPart q.pools (site q c).node v → IsTuple q.pools (filter is_key ss) (key_under ss v)
+  tuple : (v : Data) → IsPart q.pools (site q c) v → IsTuple q.pools (filter is_key ss) (key_under ss v)
   tuple v p =
       let own : IsPartOf q c (node_count v) v = record { part = p; nodes_are = refl } in
       subst (IsTuple q.pools (filter is_key ss)) (sym (key_is (node_count v) v own)) (known q.pools ss (row_of (node_count v) v own).fillings sound.keys (row_of (node_count v) v own).rest.are)
 
-  tuples : (ts : List Tree) → AreParts q.pools (site q c).node (items_of ts) → All (IsTuple q.pools (filter is_key ss)) (used_keys ss (trees_of ts))
+  tuples : (ts : List Tree) → AreParts q.pools (site q c) (items_of ts) → All (IsTuple q.pools (filter is_key ss)) (used_keys ss (trees_of ts))
   tuples ts parts = each_of (IsTuple q.pools (filter is_key ss)) (used_keys ss (trees_of ts)) (λ k a.
       let u = among_map (key_under ss) (trees_of ts) k a in
-      subst (IsTuple q.pools (filter is_key ss)) u.1.1 (tuple u.0 (among_parts q.pools (site q c).node ts parts u.0 u.1.0)))
+      subst (IsTuple q.pools (filter is_key ss)) u.1.1 (tuple u.0 (among_parts q.pools (site q c) ts parts u.0 u.1.0)))
 
-  apart : (ts : List Tree) → AreParts q.pools (site q c).node (items_of ts) → are_apart (alike_at (site q i).node) (items_of ts) ≡ true → Rising (λ t u. t ≢ u) (used_keys ss (trees_of ts))
+  apart : (ts : List Tree) → AreParts q.pools (site q c) (items_of ts) → are_apart (alike_at (site q i)) (items_of ts) ≡ true → Rising (λ t u. t ≢ u) (used_keys ss (trees_of ts))
   apart [] parts h = tt
   apart (t ∷ ts) parts h =
-      let both = and_parts (not (any_item (alike_at (site q i).node (data_of t)) (items_of ts))) (are_apart (alike_at (site q i).node) (items_of ts)) h in (
+      let both = and_parts (not (any_item (alike_at (site q i) (data_of t)) (items_of ts))) (are_apart (alike_at (site q i)) (items_of ts)) h in (
         (λ k a e.
             let u = among_map (key_under ss) (trees_of ts) k a in
-            let yes = (items.alike (data_of t) u.0 parts.0 (among_parts q.pools (site q c).node ts parts.1 u.0 u.1.0)).1 (e ∙ sym u.1.1) in
-            let no = any_false (λ w. alike_at (site q i).node (data_of t) w) ts (not-true _ both.0) u.0 u.1.0 in
+            let yes = (items.alike (data_of t) u.0 parts.0 (among_parts q.pools (site q c) ts parts.1 u.0 u.1.0)).1 (e ∙ sym u.1.1) in
+            let no = any_false (λ w. alike_at (site q i) (data_of t) w) ts (not-true _ both.0) u.0 u.1.0 in
             let clash = sym yes ∙ no in
             cc),
         apart ts parts.1 both.1,
       )
 
-  pub items_used : (ts : List Tree) → length ts < 4294967296 → AreParts q.pools (site q c).node (items_of ts) → are_apart (alike_at (site q i).node) (items_of ts) ≡ true → AreUsed q.pools ss (trees_of ts)
+  pub items_used : (ts : List Tree) → length ts < 4294967296 → AreParts q.pools (site q c) (items_of ts) → are_apart (alike_at (site q i)) (items_of ts) ≡ true → AreUsed q.pools ss (trees_of ts)
   items_used ts few parts h = record {
     few = let n = length-map ts (λ t. data_of t) in omega (arith, n, few);
     tuples = tuples ts parts;
@@ -113,8 +114,8 @@ module _ (q : Question) (i c : ℕ) (rule : RuleOfParts q.pools q.limit (site q 
   }
 
   -- an item can be added to fewer items than some list has: it has a key that is not used
-  pub items_open : FreeLaw → (counts : List ℕ) → AreCounts q.pools (filter is_key ss) counts → (ts us : List Tree) (n : ℕ) → length ts < 4294967296 → AreParts q.pools (site q c).node (items_of ts) → are_apart (alike_at (site q i).node) (items_of ts) ≡ true
-      → AreParts q.pools (site q c).node (items_of us) → are_apart (alike_at (site q i).node) (items_of us) ≡ true → length ts < length us → HasSizeAt q c n → IsOpen q.pools ss (bounds_at q c) 0 (n - 1) (trees_of ts)
+  pub items_open : FreeLaw → (counts : List ℕ) → AreCounts q.pools (filter is_key ss) counts → (ts us : List Tree) (n : ℕ) → length ts < 4294967296 → AreParts q.pools (site q c) (items_of ts) → are_apart (alike_at (site q i)) (items_of ts) ≡ true
+      → AreParts q.pools (site q c) (items_of us) → are_apart (alike_at (site q i)) (items_of us) ≡ true → length ts < length us → HasSizeAt q c n → IsOpen q.pools ss (bounds_at q c) 0 (n - 1) (trees_of ts)
   items_open law counts are ts [] n few parts h more other fewer size = absurd (omega (arith, fewer))
   items_open law counts are ts (u ∷ us) n few parts h more other fewer size =
       let r = row_of n size.part (record { part = size.is; nodes_are = size.nodes_are }) in
@@ -152,12 +153,12 @@ unfolding trees_from
 items_from no_items = refl
 items_from (item d ds) = λ k. item (data_from d k) (items_from ds k)
 
-module _ (q : Question) (i c : ℕ) (whole : RuleOfParts q.pools q.limit (site q i)) (rule : RuleOfParts q.pools q.limit (site q c)) (sound : HasSoundParts q.pools (site q c)) (items : AreMapItems q.pools (site q i).node (site q c)) where
+module _ (q : Question) (i c : ℕ) (whole : RuleOfParts q.pools q.limit (site q i)) (rule : RuleOfParts q.pools q.limit (site q c)) (sound : HasSoundParts q.pools (site q c)) (items : AreMapItems q.pools (site q i) (site q c)) where
   -- where some list has one item more
-  pub item_open : FreeLaw → (counts : List ℕ) → AreCounts q.pools (filter is_key (slots_from q c 0)) counts → (ts : List Tree) (n m : ℕ) → q.limit < 4294967296 → AreFirst q i c (items_of ts) → HasMore q.pools q.limit (site q i).node (length ts + 1) m → HasSizeAt q c n
+  pub item_open : FreeLaw → (counts : List ℕ) → AreCounts q.pools (filter is_key (slots_from q c 0)) counts → (ts : List Tree) (n m : ℕ) → q.limit < 4294967296 → AreFirst q i c (items_of ts) → HasMore q.pools q.limit (site q i) (length ts + 1) m → HasSizeAt q c n
       → IsOpen q.pools (slots_from q c 0) (bounds_at q c) 0 (n - 1) (trees_of ts)
   item_open law counts are ts n m room first more size =
-      let part = elim ((whole.list (site q c) (tree.list more.items) first.item more.fits).0 more.part) as (λ _. IsListPart q.pools q.limit (site q i).node (site q c).node (tree.list more.items)) [
+      let part = elim ((whole.list (site q c) (tree.list more.items) first.item more.fits).0 more.part) as (λ _. IsListPart q.pools q.limit (site q i) (site q c) (tree.list more.items)) [
         | inl null ↦ let no = null.0 in absurd (cc)
         | inr l ↦ l
       ] in
@@ -168,5 +169,5 @@ module _ (q : Question) (i c : ℕ) (whole : RuleOfParts q.pools q.limit (site q
       let enough : fault.items_count (items_of us) ≡ fault.items_count more.items = ap fault.items_count (back ∙ same) in
       let few = few_items more.items in
       let fits = more.fits in
-      items_open q i c rule sound items law counts are ts us n (omega (arith, more.many, few, fits, room)) first.are first.apart (subst (AreParts q.pools (site q c).node) (sym back) part.are) (subst (λ ds. are_apart (alike_at (site q i).node) ds ≡ true) (sym back) part.apart)
+      items_open q i c rule sound items law counts are ts us n (omega (arith, more.many, few, fits, room)) first.are first.apart (subst (AreParts q.pools (site q c)) (sym back) part.are) (subst (λ ds. are_apart (alike_at (site q i)) ds ≡ true) (sym back) part.apart)
       (omega (arith, more.many, count, enough)) size

@@ -51,29 +51,29 @@ rising_same (u ∷ us) (v ∷ vs) r s there back =
     cc
 
 module _ (q : Question) (i : ℕ) where
-  pub candidates_same : (us vs : List Data) → AreCandidates q.pools (site q i).node us → AreCandidates q.pools (site q i).node vs → us ≡ vs
+  pub candidates_same : (us vs : List Data) → AreCandidates q.pools (site q i) us → AreCandidates q.pools (site q i) vs → us ≡ vs
   candidates_same us vs c d = rising_same us vs (rising IsBefore us c.ascending) (rising IsBefore vs d.ascending)
       (λ v a. contained vs v ((d.each v).1 ((c.each v).0 (contains us v a))))
       (λ v a. contained us v ((c.each v).1 ((d.each v).0 (contains vs v a))))
 
-  pub handed_part : (place : ℕ) (v : Data) → IsCandidateAt q.pools (site q i).node place (Some v) → IsPart q.pools (site q i).node v
+  pub handed_part : (place : ℕ) (v : Data) → IsCandidateAt q.pools (site q i) place (Some v) → IsPart q.pools (site q i) v
   handed_part place v handed =
       let at : slice_get handed.candidates place ≡ Some v = sym handed.is in
       (handed.are.each v).0 (place, slice_get_within handed.candidates place v at, get_or_from_slice_get handed.candidates place v v at)
 
   -- a leaf has at most as many candidates as the plan is wide
-  pub count_within : IsNodeOf q i → sort_of (site q i).node ≡ sort.Leaf → (n : ℕ) → HasCount q.pools (site q i).node n → (w : ℕ) → IsWidth q.pools q.root w → n ≤ w
+  pub count_within : IsNodeOf q i → sort_of (site q i) ≡ sort.Leaf → (n : ℕ) → HasCount q.pools (site q i) n → (w : ℕ) → IsWidth q.pools q.root w → n ≤ w
   count_within at leaf n count w width =
       width.each (site q i) n (Contains-get_or (sites_of q.root) i _ at) (subst (λ s. HasWidthBy s q.pools (site q i) n) (sym leaf) count)
 
   -- ---- the first candidate for which C holds
 
-  module _ (C : Data → Type 0) (part : (u : Data) → C u → IsPart q.pools (site q i).node u) where
+  module _ (C : Data → Type 0) (part : (u : Data) → C u → IsPart q.pools (site q i) u) where
     -- it holds for none before a place
     abbrev pub NoneBefore : ℕ → Type 0
-    NoneBefore place = (vs : List Data) → AreCandidates q.pools (site q i).node vs → (j : ℕ) (u : Data) → j < place → slice_get vs j ≡ Some u → C u → ⊥
+    NoneBefore place = (vs : List Data) → AreCandidates q.pools (site q i) vs → (j : ℕ) (u : Data) → j < place → slice_get vs j ≡ Some u → C u → ⊥
 
-    pub none_after : (place : ℕ) (o : Option Data) → IsCandidateAt q.pools (site q i).node place o → NoneBefore place → ((v : Data) → o ≡ Some v → C v → ⊥) → NoneBefore (place + 1)
+    pub none_after : (place : ℕ) (o : Option Data) → IsCandidateAt q.pools (site q i) place o → NoneBefore place → ((v : Data) → o ≡ Some v → C v → ⊥) → NoneBefore (place + 1)
     none_after place o handed none not_it vs are j u below at c = elim (cases_lt j place) [
       | inl lt ↦ none vs are j u lt at c
       | inr ge ↦
@@ -82,17 +82,17 @@ module _ (q : Question) (i : ℕ) where
           not_it u (handed.is ∙ (ap (λ xs. slice_get xs place) same ∙ (ap (slice_get vs) here ∙ at))) c
     ]
 
-    index_of : (vs : List Data) → AreCandidates q.pools (site q i).node vs → (u : Data) → C u → (j : ℕ) × (j < length vs) × (slice_get vs j ≡ Some u)
+    index_of : (vs : List Data) → AreCandidates q.pools (site q i) vs → (u : Data) → C u → (j : ℕ) × (j < length vs) × (slice_get vs j ≡ Some u)
     index_of vs are u c =
         let k = (are.each u).1 (part u c) in
         (k.0, k.1, slice_get-get_or vs k.0 u k.1 ∙ ap Some k.2)
 
-    pub none_at_all : (place : ℕ) → HasCount q.pools (site q i).node place → NoneBefore place → (u : Data) → C u → ⊥
+    pub none_at_all : (place : ℕ) → HasCount q.pools (site q i) place → NoneBefore place → (u : Data) → C u → ⊥
     none_at_all place count none u c =
         let k = index_of count.candidates count.are u c in
         none count.candidates count.are k.0 u (omega (arith, k.1, count.count_is)) k.2 c
 
-    pub least_at : (place : ℕ) (v : Data) → IsCandidateAt q.pools (site q i).node place (Some v) → NoneBefore place → C v → IsLeast tree_cmp C v
+    pub least_at : (place : ℕ) (v : Data) → IsCandidateAt q.pools (site q i) place (Some v) → NoneBefore place → C v → IsLeast tree_cmp C v
     least_at place v handed none c = record {
       is = c;
       least = λ u d less.

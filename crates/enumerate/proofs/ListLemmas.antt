@@ -10,14 +10,13 @@ use Rattle.jtree.specs.Nodes.{node_count, items_count, most_nodes}
 use Rattle.jtree.specs.Order.{tree_cmp, items_cmp}
 use Rattle.jtree.specs.View.{data_of, items_of}
 use Rattle.jtree.specs.declared.value.Tree.{Tree}
-use Rattle.schema.specs.Nodes.Node.{Node}
 use Rattle.schema.specs.Rules.Keywords.{any_item}
 use Rattle.stored.specs.Objects.Fault as fault
 use Rattle.stored.specs.Objects.StoredByParts.{are_apart}
 use Rattle.plan.specs.Pools.Pools.{Pools}
 use Rattle.plan.specs.Sets.{IsLeastFrom, IsEmptyFrom}
 use Rattle.plan.specs.Samples.Part.{IsPart}
-use Rattle.plan.specs.Samples.Sites.{item_site, sites_of}
+use Rattle.plan.specs.Samples.Sites.{Site, item_site, sites_of}
 use Rattle.plan.specs.Samples.Sizes.{items_from, HasSize, HasMore, IsUpTo}
 use Rattle.plan.specs.Samples.RuleOfParts.{RuleOfParts, AreParts, alike_at}
 use Rattle.plan.specs.Samples.NoDeadEnd.{NoDeadEnd, items_then}
@@ -39,7 +38,7 @@ some_nodes (tree.text s) = omega arith
 some_nodes (tree.list ds) = omega arith
 some_nodes (tree.object ms) = omega arith
 
-pub some_size : {P : Pools} {N : Node} {n : ℕ} → HasSize P N n → 1 ≤ n
+pub some_size : {P : Pools} {s : Site} {n : ℕ} → HasSize P s n → 1 ≤ n
 some_size h = omega (arith, some_nodes h.part, h.nodes_are)
 
 pub then_then : (ds es fs : Items) → items_then (items_then ds es) fs ≡ items_then ds (items_then es fs)
@@ -82,11 +81,11 @@ one_more ds d = items_then ds (item d no_items)
 
 -- ---- parts, and no two alike
 
-pub parts_split : (P : Pools) (M : Node) (ds es : Items) → AreParts P M (items_then ds es) → AreParts P M ds × AreParts P M es
+pub parts_split : (P : Pools) (M : Site) (ds es : Items) → AreParts P M (items_then ds es) → AreParts P M ds × AreParts P M es
 parts_split P M no_items es h = (tt, h)
 parts_split P M (item d ds) es h = let r = parts_split P M ds es h.1 in ((h.0, r.0), r.1)
 
-pub parts_then : (P : Pools) (M : Node) (ds es : Items) → AreParts P M ds → AreParts P M es → AreParts P M (items_then ds es)
+pub parts_then : (P : Pools) (M : Site) (ds es : Items) → AreParts P M ds → AreParts P M es → AreParts P M (items_then ds es)
 parts_then P M no_items es h k = k
 parts_then P M (item d ds) es h k = (h.0, parts_then P M ds es h.1 k)
 
@@ -138,8 +137,8 @@ first_none q i c is = record { item = is; are = tt; apart = refl }
 pub first_more : (q : Question) (i c n : ℕ) (used : Items) (d : Data) → AreFirst q i c used → IsFreshItem q i c n used d → AreFirst q i c (items_then used (item d no_items))
 first_more q i c n used d a f = record {
   item = a.item;
-  are = parts_then q.pools (site q c).node used (item d no_items) a.are (f.part.part, tt);
-  apart = apart_more (alike_at (site q i).node) used d a.apart f.fresh;
+  are = parts_then q.pools (site q c) used (item d no_items) a.are (f.part.part, tt);
+  apart = apart_more (alike_at (site q i)) used d a.apart f.fresh;
 }
 
 -- the same items one by one
@@ -149,26 +148,26 @@ items_pushed old new t is = ap items_of is ∙ items_of-append old (t ∷ [])
 -- those behind items that end with an item
 pub items_shift : (q : Question) (i m : ℕ) (used ds : Items) (d : Data) → AreItems q i m used (item d ds) → AreItems q i (m - node_count d) (items_then used (item d no_items)) ds
 items_shift q i m used ds d a = record {
-  part = subst (λ x. IsPart q.pools (site q i).node (tree.list x)) (sym (then_then used (item d no_items) ds)) a.part;
+  part = subst (λ x. IsPart q.pools (site q i) (tree.list x)) (sym (then_then used (item d no_items) ds)) a.part;
   nodes_are = omega (arith, a.nodes_are);
 }
 
 pub items_unshift : (q : Question) (i m : ℕ) (used ds : Items) (d : Data) → node_count d ≤ m → AreItems q i (m - node_count d) (items_then used (item d no_items)) ds → AreItems q i m used (item d ds)
 items_unshift q i m used ds d few a = record {
-  part = subst (λ x. IsPart q.pools (site q i).node (tree.list x)) (then_then used (item d no_items) ds) a.part;
+  part = subst (λ x. IsPart q.pools (site q i) (tree.list x)) (then_then used (item d no_items) ds) a.part;
   nodes_are = omega (arith, a.nodes_are, few);
 }
 
 -- ---- what can follow
 
 module _ (q : Question) (i c : ℕ) (rule : RuleOfParts q.pools q.limit (site q i)) (ends : NoDeadEnd q.pools q.limit (site q i)) (item_is : item_site (site q i) ≡ Some (site q c)) where
-  pub list_parts : (ds : Items) → IsPart q.pools (site q i).node (tree.list ds) → 1 + items_count ds ≤ q.limit → AreParts q.pools (site q c).node ds × (are_apart (alike_at (site q i).node) ds ≡ true)
+  pub list_parts : (ds : Items) → IsPart q.pools (site q i) (tree.list ds) → 1 + items_count ds ≤ q.limit → AreParts q.pools (site q c) ds × (are_apart (alike_at (site q i)) ds ≡ true)
   list_parts ds p within = elim ((rule.list (site q c) (tree.list ds) item_is within).0 p) [
     | inl none ↦ let e = none.0 in cc
     | inr h ↦
         let l : tree.list ds ≡ tree.list h.items = h.is in
         let e : h.items ≡ ds = cc in
-        subst (λ x. AreParts q.pools (site q c).node x × (are_apart (alike_at (site q i).node) x ≡ true)) e (h.are, h.apart)
+        subst (λ x. AreParts q.pools (site q c) x × (are_apart (alike_at (site q i)) x ≡ true)) e (h.are, h.apart)
   ]
 
   module _ (used : Items) (m : ℕ) (within : 1 + items_count used + m ≤ q.limit) where
@@ -177,8 +176,8 @@ module _ (q : Question) (i c : ℕ) (rule : RuleOfParts q.pools q.limit (site q 
     item_fresh d ds a =
         let all = list_parts (items_then used (item d ds)) a.part (omega (arith, then_nodes used (item d ds), a.nodes_are, within)) in
         record {
-          part = record { part = (parts_split q.pools (site q c).node used (item d ds) all.0).1.0; nodes_are = refl };
-          fresh = apart_fresh (alike_at (site q i).node) used ds d all.1;
+          part = record { part = (parts_split q.pools (site q c) used (item d ds) all.0).1.0; nodes_are = refl };
+          fresh = apart_fresh (alike_at (site q i)) used ds d all.1;
         }
 
     -- and of a size that leaves the rest to those behind it
@@ -205,12 +204,12 @@ module _ (q : Question) (i c : ℕ) (rule : RuleOfParts q.pools q.limit (site q 
     item_goes d a fit f =
         let more = first_more q i c (node_count d) used d a f in
         let r = ends.lists (site q c) (items_then used (item d no_items)) fit.1.0 item_is more.are more.apart
-        (subst (λ t. HasMore q.pools q.limit (site q i).node t fit.1.0) (omega (arith, then_count used (item d no_items))) fit.1.1.0) in
+        (subst (λ t. HasMore q.pools q.limit (site q i) t fit.1.0) (omega (arith, then_count used (item d no_items))) fit.1.1.0) in
         let sum = fit.1.1.1 in
-        (r.back, record { part = subst (λ x. IsPart q.pools (site q i).node (tree.list x)) (then_then used (item d no_items) r.back) r.part; nodes_are = omega (arith, r.nodes_are, sum) })
+        (r.back, record { part = subst (λ x. IsPart q.pools (site q i) (tree.list x)) (then_then used (item d no_items) r.back) r.part; nodes_are = omega (arith, r.nodes_are, sum) })
 
     -- some items do
-    pub some_items : AreFirst q i c used → HasMore q.pools q.limit (site q i).node (fault.items_count used) m → (ds : Items) × AreItems q i m used ds
+    pub some_items : AreFirst q i c used → HasMore q.pools q.limit (site q i) (fault.items_count used) m → (ds : Items) × AreItems q i m used ds
     some_items a more = let r = ends.lists (site q c) used m item_is a.are a.apart more in (r.back, record { part = r.part; nodes_are = r.nodes_are })
 
     module _ (first : AreFirst q i c used) (some : 1 ≤ m) (top : m ≤ most_nodes) where
@@ -310,9 +309,9 @@ split_same limit m A B P Q top a b n = (
 )
 
 -- the same of an item and those behind it
-pub fits_same : (q : Question) (i c t len m : ℕ) (A B : ℕ → Type 0) → t ≡ len → m ≤ q.limit → IsUpTo q.limit A (HasSizeAt q c) → IsUpTo q.limit B (HasMore q.pools q.limit (site q i).node (len + 1)) → (n : ℕ) → IsSplit A B m n ↔ FitsItem q i c t m n
+pub fits_same : (q : Question) (i c t len m : ℕ) (A B : ℕ → Type 0) → t ≡ len → m ≤ q.limit → IsUpTo q.limit A (HasSizeAt q c) → IsUpTo q.limit B (HasMore q.pools q.limit (site q i) (len + 1)) → (n : ℕ) → IsSplit A B m n ↔ FitsItem q i c t m n
 fits_same q i c t len m A B same top sizes more =
-    split_same q.limit m A B (HasSizeAt q c) (HasMore q.pools q.limit (site q i).node (t + 1)) top sizes (subst (λ k. IsUpTo q.limit B (HasMore q.pools q.limit (site q i).node (k + 1))) (sym same) more)
+    split_same q.limit m A B (HasSizeAt q c) (HasMore q.pools q.limit (site q i) (t + 1)) top sizes (subst (λ k. IsUpTo q.limit B (HasMore q.pools q.limit (site q i) (k + 1))) (sym same) more)
 
 pub least_from_same : (A B : ℕ → Type 0) (from n : ℕ) → ((i : ℕ) → A i ↔ B i) → IsLeastFrom A from n → IsLeastFrom B from n
 least_from_same A B from n same h = (h.0, (same n).0 h.1, λ i low lt b. h.2 i low lt ((same i).1 b))
@@ -367,7 +366,7 @@ follow_item q i c m n old new t first within fit fresh is =
     let count : length old + 1 ≡ fault.items_count (items_of new) = rw pushed (omega (arith, then_count (items_of old) (item (data_of t) no_items), counted old)) in
     record {
       first = subst (AreFirst q i c) (sym pushed) (first_more q i c n (items_of old) (data_of t) first fresh);
-      more = subst (λ k. HasMore q.pools q.limit (site q i).node k (m - n)) count (subst (HasMore q.pools q.limit (site q i).node (length old + 1)) behind fit.1.1.0);
+      more = subst (λ k. HasMore q.pools q.limit (site q i) k (m - n)) count (subst (HasMore q.pools q.limit (site q i) (length old + 1)) behind fit.1.1.0);
       within = subst (λ ds. 1 + items_count ds + (m - n) ≤ q.limit) (sym pushed) (omega (arith, then_nodes (items_of old) (item (data_of t) no_items), fresh.part.nodes_are, within, fit.1.1.1));
     }
 

@@ -1,5 +1,5 @@
 -- Lists from their last item on: what was there behind those that are left, and what takes its place.
-use Rattle.std.proofs.Common.{◌≡◌, ◌==◌, ◌≤◌, ◌+◌, ◌-◌, ◌*◌, ◌++◌, ℕ, List, [], ◌∷◌, true, false, Some, None, refl, sym, ap, ◌∙◌, subst, inl, inr, arith, length}
+use Rattle.std.proofs.Common.{◌≡◌, ◌==◌, ◌≤◌, ◌+◌, ◌-◌, ◌*◌, ◌++◌, ℕ, List, [], ◌∷◌, true, false, Some, None, refl, sym, ap, ◌∙◌, subst, arith, length}
 use Rattle.std.proofs.lemmas.Bool.{eqb-true, eq-eqb}
 use Rattle.std.proofs.Math.Nat.{mul-add, mul-le-mul_left}
 use Rattle.std.specs.declared.cmp.Ordering.TheVariants.{Less}
@@ -12,9 +12,11 @@ use Rattle.jtree.specs.declared.value.Tree.{Tree}
 use Rattle.stored.specs.Objects.Fault as fault
 use Rattle.plan.specs.Sets.{IsLeastFrom, IsEmptyFrom}
 use Rattle.plan.specs.Samples.Part.{IsPart}
-use Rattle.plan.specs.Samples.Sites.{Site, item_site}
+use Rattle.plan.specs.Samples.Sites.{item_site}
 use Rattle.plan.specs.Samples.RuleOfParts.{RuleOfParts, alike_at}
 use Rattle.plan.specs.Samples.NoDeadEnd.{NoDeadEnd, items_then}
+use Rattle.plan.specs.Samples.Candidates.{sort_of}
+use Rattle.plan.specs.declared.sort.Sort.TheVariants as sort
 use Rattle.plan.specs.Samples.Question.{Question}
 use Rattle.enumerate.specs.Least.{IsLeast, IsNext}
 use Rattle.enumerate.specs.Internal.Nodes.{site, IsPartOf}
@@ -25,7 +27,8 @@ use Rattle.enumerate.specs.Internal.Steps.{KeepsMeter}
 use Rattle.enumerate.specs.Internal.Lists.{AreItems, AreFirst, CanFollow, IsFreshItem, AddsItems, FitsItem, AreGrown}
 use Rattle.enumerate.proofs.ListLemmas.{some_nodes, then_then, then_none, then_nodes, parts_split, apart_front, list_parts, item_fresh, item_fits, next_one, next_larger, none_larger, items_of-append, items_pushed, counted, follow_item}
 use Rattle.enumerate.proofs.ListMoveLemmas.{AreFirstOnes, next_whole}
-use Rattle.enumerate.proofs.WholeListLemmas.{list_order}
+use Rattle.enumerate.proofs.WholeListLemmas.{list_order, part_list}
+use Rattle.enumerate.proofs.NullMoves.{never_null}
 
 -- the list begins with the items that are left, and none of as many nodes as its other items comes behind these after them
 pub record WereLast (q : Question) (i room : ℕ) (old left : Items) : Type 0 where
@@ -58,24 +61,24 @@ module _ (q : Question) (i room : ℕ) (old front : Items) (d : Data) (w : WereL
 
 module _ (q : Question) (i c : ℕ) (rule : RuleOfParts q.pools q.limit (site q i)) (ends : NoDeadEnd q.pools q.limit (site q i)) (item_is : item_site (site q i) ≡ Some (site q c)) where
   -- the items in front of others
-  pub first_front : (front rest : Items) → IsPart q.pools (site q i).node (tree.list (items_then front rest)) → 1 + items_count (items_then front rest) ≤ q.limit → AreFirst q i c front
+  pub first_front : (front rest : Items) → IsPart q.pools (site q i) (tree.list (items_then front rest)) → 1 + items_count (items_then front rest) ≤ q.limit → AreFirst q i c front
   first_front front rest p within =
       let all = list_parts q i c rule ends item_is (items_then front rest) p within in
-      record { item = item_is; are = (parts_split q.pools (site q c).node front rest all.0).0; apart = apart_front (alike_at (site q i).node) front rest all.1 }
+      record { item = item_is; are = (parts_split q.pools (site q c) front rest all.0).0; apart = apart_front (alike_at (site q i)) front rest all.1 }
 
-  pub first_ones : (used front rest : Items) → IsPart q.pools (site q i).node (tree.list (items_then used (items_then front rest))) → 1 + items_count (items_then used (items_then front rest)) ≤ q.limit → AreFirstOnes q i c used front
+  pub first_ones : (used front rest : Items) → IsPart q.pools (site q i) (tree.list (items_then used (items_then front rest))) → 1 + items_count (items_then used (items_then front rest)) ≤ q.limit → AreFirstOnes q i c used front
   first_ones used no_items rest p within = first_front used rest p within
   first_ones used (item d front) rest p within =
       let e = sym (then_then used (item d no_items) (items_then front rest)) in (
         first_front used (item d (items_then front rest)) p within,
-        first_ones (items_then used (item d no_items)) front rest (subst (λ x. IsPart q.pools (site q i).node (tree.list x)) e p) (subst (λ x. 1 + items_count x ≤ q.limit) e within),
+        first_ones (items_then used (item d no_items)) front rest (subst (λ x. IsPart q.pools (site q i) (tree.list x)) e p) (subst (λ x. 1 + items_count x ≤ q.limit) e within),
       )
 
   -- one item is taken from the end
-  module _ (old : Items) (part : IsPart q.pools (site q i).node (tree.list old)) (within : 1 + items_count old ≤ q.limit) (top : q.limit ≤ most_nodes)
+  module _ (old : Items) (part : IsPart q.pools (site q i) (tree.list old)) (within : 1 + items_count old ≤ q.limit) (top : q.limit ≤ most_nodes)
       (room : ℕ) (front : Items) (d : Data) (w : WereLast q i room old (items_then front (item d no_items))) where
     walk_items : AreItems q i (node_count d + room) front (item d w.behind)
-    walk_items = record { part = subst (λ x. IsPart q.pools (site q i).node (tree.list x)) (walk_is q i room old front d w) part; nodes_are = ap (λ n. node_count d + n) w.nodes_are }
+    walk_items = record { part = subst (λ x. IsPart q.pools (site q i) (tree.list x)) (walk_is q i room old front d w) part; nodes_are = ap (λ n. node_count d + n) w.nodes_are }
 
     walk_within : 1 + items_count front + (node_count d + room) ≤ q.limit
     walk_within = omega (arith, (walk_nodes q i room old front d w), within)
@@ -146,7 +149,7 @@ pub front_nodes : (q : Question) (i room : ℕ) (old : Items) (left front : List
 front_nodes q i room old left front one popped last = walk_nodes q i room old (items_of front) (data_of one) (last_before q i room old left front one popped last)
 
 module _ (q : Question) (i c : ℕ) (rule : RuleOfParts q.pools q.limit (site q i)) (ends : NoDeadEnd q.pools q.limit (site q i)) (item_is : item_site (site q i) ≡ Some (site q c))
-    (old : Items) (part : IsPart q.pools (site q i).node (tree.list old)) (within : 1 + items_count old ≤ q.limit) (top : q.limit ≤ most_nodes)
+    (old : Items) (part : IsPart q.pools (site q i) (tree.list old)) (within : 1 + items_count old ≤ q.limit) (top : q.limit ≤ most_nodes)
     (room : ℕ) (left front : List Tree) (one : Tree) (popped : left ≡ front ++ one ∷ []) (last : WereLast q i room old (items_of left)) where
   before : WereLast q i room old (items_then (items_of front) (item (data_of one) no_items))
   before = last_before q i room old left front one popped last
@@ -192,22 +195,14 @@ module _ (q : Question) (i c : ℕ) (rule : RuleOfParts q.pools q.limit (site q 
 
 -- ---- whole lists
 
-null_before : (old : Items) → items_count old ≡ 0 → tree_cmp (tree.list old) tree.null ≡ Less → ⊥
-null_before no_items e less = cc
-null_before (item d ds) e less = omega (arith, some_nodes d, e)
-
-module _ (q : Question) (i : ℕ) (M : Site) (rule : RuleOfParts q.pools q.limit (site q i)) (item_is : item_site (site q i) ≡ Some M) (old : Items) (within : 1 + items_count old ≤ q.limit) where
+module _ (q : Question) (i : ℕ) (rule : RuleOfParts q.pools q.limit (site q i)) (is_list : sort_of (site q i) ≡ sort.List) (old : Items) (within : 1 + items_count old ≤ q.limit) where
   -- a part of as many nodes past a list is a list too
   past_list : (v : Data) → IsPartOf q i (1 + items_count old) v → tree_cmp (tree.list old) v ≡ Less → (ds : Items) × (AreItems q i (items_count old) no_items ds × ((v ≡ tree.list ds) × (items_cmp old ds ≡ Less)))
-  past_list v p less = elim ((rule.list M v item_is (omega (arith, p.nodes_are, within))).0 p.part) [
-    | inl none ↦
-        let one : 1 ≡ 1 + items_count old = sym (ap node_count none.0) ∙ p.nodes_are in
-        absurd (null_before old (omega (arith, one)) (subst (λ u. tree_cmp (tree.list old) u ≡ Less) none.0 less))
-    | inr h ↦
-        let count : 1 + items_count h.items ≡ 1 + items_count old = sym (ap node_count h.is) ∙ p.nodes_are in
-        let same : items_count h.items ≡ items_count old = omega (arith, count) in
-        (h.items, (record { part = subst (IsPart q.pools (site q i).node) h.is p.part; nodes_are = same }, (h.is, sym (list_order old h.items (sym same)) ∙ subst (λ u. tree_cmp (tree.list old) u ≡ Less) h.is less)))
-  ]
+  past_list v p less =
+      let r = part_list q i rule is_list v p.part (omega (arith, p.nodes_are, within)) (λ is _. never_null (tree.list old) v p.nodes_are less is) in
+      let count : 1 + items_count r.0 ≡ 1 + items_count old = sym (ap node_count r.1) ∙ p.nodes_are in
+      let same : items_count r.0 ≡ items_count old = omega (arith, count) in
+      (r.0, (record { part = subst (IsPart q.pools (site q i)) r.1 p.part; nodes_are = same }, (r.1, sym (list_order old r.0 (sym same)) ∙ subst (λ u. tree_cmp (tree.list old) u ≡ Less) r.1 less)))
 
   pub list_moved : (new : Items) → IsNext items_cmp (AreItems q i (items_count old) no_items) old (Some new) → IsNext tree_cmp (IsPartOf q i (1 + items_count old)) (tree.list old) (Some (tree.list new))
   list_moved new h = record {

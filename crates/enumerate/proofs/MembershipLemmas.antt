@@ -1,5 +1,5 @@
 -- Whether a tree is a part: what each step of one pass over it finds out.
-use Rattle.std.proofs.Common.{◌≡◌, ◌≢◌, ◌⊎◌, ◌<◌, ◌≤◌, ◌+◌, ◌*◌, ◌↔◌, ℕ, zero, suc, List, [], ◌∷◌, length, get_or, drop, take, Bool, true, false, Option, Some, None, Contains, refl, sym, ap, ◌∙◌, subst, inl, inr, arith, add-one}
+use Rattle.std.proofs.Common.{◌≡◌, ◌≢◌, ◌⊎◌, ◌<◌, ◌≤◌, ◌+◌, ◌*◌, ◌↔◌, ℕ, zero, suc, List, [], ◌∷◌, length, get_or, drop, take, Bool, true, false, Option, Some, None, refl, sym, ap, ◌∙◌, subst, inl, inr, arith, add-one}
 use Rattle.std.specs.Prelude.{◌==◌, slice_get, IsTrue, IfOk, Result, Ok, Err}
 use Rattle.std.specs.declared.cmp.Ordering.TheVariants.{Less}
 use Rattle.std.proofs.Math.Nat.{eq-or-lt_of_le}
@@ -15,9 +15,7 @@ use Rattle.jtree.specs.Internal.Rising.{Among, contains}
 use Rattle.schema.specs.declared.node.Bounds.{Bounds}
 use Rattle.plan.specs.Pools.Pools.{Pools}
 use Rattle.plan.specs.Samples.Part.{IsPart}
-use Rattle.stored.specs.Objects.Becomes.{is_nullable}
-use Rattle.plan.specs.declared.sort.Distinct.TheVariants.{Keys}
-use Rattle.plan.specs.Samples.Candidates.{distinct_of, sort_of, IsWidth, HasWidthBy}
+use Rattle.plan.specs.Samples.Candidates.{sort_of, IsWidth, HasWidthBy}
 use Rattle.plan.specs.Samples.NoDeadEnd.{items_then}
 use Rattle.stored.specs.Objects.Fault as fault
 use Rattle.stored.specs.Objects.StoredByParts.{are_apart}
@@ -25,19 +23,18 @@ use Rattle.jtree.specs.View.{data_of, items_of}
 use Rattle.jtree.specs.declared.value.Tree.{Tree}
 use Rattle.plan.specs.declared.sort.Sort.{Sort}
 use Rattle.plan.specs.declared.sort.Sort.TheVariants as sort
-use Rattle.plan.specs.Samples.Sites.{Site, item_site, Slot, slots, sites_of}
+use Rattle.plan.specs.Samples.Sites.{item_site, Slot, slots, sites_of}
 use Rattle.plan.specs.Samples.Handed.{IsSlotAt}
 use Rattle.plan.specs.declared.plan.Slot as handed
 use Rattle.plan.specs.Samples.Sizes.{AreFillings, filled_count, CanFill, HasMore}
-use Rattle.plan.specs.Samples.RuleOfParts.{members_in, RuleOfParts, IsRowPart, AreParts, alike_at}
-use Rattle.plan.specs.Samples.Keys.{AreInOrder, HasSoundParts, AreMapItems}
+use Rattle.plan.specs.Samples.RuleOfParts.{members_in, RuleOfParts, IsRowPart, AreParts, alike_at, admits_null}
+use Rattle.plan.specs.Samples.Keys.{AreInOrder}
 use Rattle.plan.specs.Samples.Question.{Question}
 use Rattle.enumerate.specs.Internal.Nodes.{weight, site, IsNodeOf}
 use Rattle.enumerate.specs.Internal.Rows.{slots_from, bounds_at, still_used}
 use Rattle.enumerate.specs.Internal.Candidates.{agreeing_if}
 use Rattle.enumerate.specs.Internal.Lists.{AreFirst, IsFreshItem}
 use Rattle.enumerate.proofs.ListLemmas.{few_items, counted, then_nodes, parts_split, apart_fresh, first_more}
-use Rattle.enumerate.proofs.WholeListLemmas.{list_site}
 use Rattle.enumerate.proofs.WholeListLemmas as lists
 use Rattle.enumerate.specs.Internal.Membership.{still_left, StandFresh, IsFreshRow, IsListOf}
 
@@ -96,9 +93,9 @@ module _ (P : Pools) (b : Bounds) (t : ℕ) (used : List Data) (ms : Members) wh
 
     -- it is filled
     module _ (d : Data) (rest : Members) (first : ms ≡ member s.name d rest) where
-      pub filled_is : AreInOrder (s ∷ ss) → StandFresh P (s ∷ ss) b t used ms → IsPart P s.node d × StandFresh P ss b (t + 1) (still_used s d used) rest
+      pub filled_is : AreInOrder (s ∷ ss) → StandFresh P (s ∷ ss) b t used ms → IsPart P s.site d × StandFresh P ss b (t + 1) (still_used s d used) rest
       filled_is order h = go h.fillings h.are h.parts h.ends h.fresh where
-        go : (gs : List (Option Data)) → ms ≡ members_in (s ∷ ss) gs → AreFillings P (s ∷ ss) gs → CanFill P [] b (t + filled_count gs) 0 → still_left (s ∷ ss) gs used ≡ [] → IsPart P s.node d × StandFresh P ss b (t + 1) (still_used s d used) rest
+        go : (gs : List (Option Data)) → ms ≡ members_in (s ∷ ss) gs → AreFillings P (s ∷ ss) gs → CanFill P [] b (t + filled_count gs) 0 → still_left (s ∷ ss) gs used ≡ [] → IsPart P s.site d × StandFresh P ss b (t + 1) (still_used s d used) rest
         go [] are parts ends fresh = absurd parts
         go (None ∷ gs) are parts ends fresh = absurd (not_in s.name d rest ss gs (λ u a. order.0 u (contains ss u a)) (sym first ∙ are))
         go (Some v ∷ gs) are parts ends fresh =
@@ -106,11 +103,11 @@ module _ (P : Pools) (b : Bounds) (t : ℕ) (used : List Data) (ms : Members) wh
             let value : v ≡ d = cc in
             let behind : rest ≡ members_in ss gs = cc in
             let count : t + (1 + filled_count gs) ≡ t + 1 + filled_count gs = omega arith in (
-              subst (IsPart P s.node) value parts.0,
+              subst (IsPart P s.site) value parts.0,
               record { fillings = gs; are = behind; parts = parts.1; ends = subst (λ n. CanFill P [] b n 0) count ends; fresh = subst (λ x. still_left ss gs (still_used s x used) ≡ []) value fresh },
             )
 
-      pub filled_from : IsPart P s.node d → StandFresh P ss b (t + 1) (still_used s d used) rest → StandFresh P (s ∷ ss) b t used ms
+      pub filled_from : IsPart P s.site d → StandFresh P ss b (t + 1) (still_used s d used) rest → StandFresh P (s ∷ ss) b t used ms
       filled_from part h =
           let count : t + 1 + filled_count h.fillings ≡ t + (1 + filled_count h.fillings) = omega arith in
           record { fillings = Some d ∷ h.fillings; are = first ∙ ap (member s.name d) h.are; parts = (part, h.parts); ends = subst (λ n. CanFill P [] b n 0) count h.ends; fresh = h.fresh }
@@ -130,9 +127,6 @@ module _ (q : Question) (i place : ℕ) (t : handed.Slot) (is : IsSlotAt (sites_
   pub one_slot_less : length (slots_from q i place) ≡ 1 + length (slots_from q i (place + 1))
   one_slot_less = let e : length (slots_from q i place) ≡ length (is.slot ∷ slots_from q i (place + 1)) = ap (λ ss. length ss) slots_are in omega (arith, e)
 
-  pub slot_node : (site q t.node).node ≡ is.slot.node
-  slot_node = ap (λ s. s.node) is.node
-
   module _ (b : Bounds) (n : ℕ) (used : List Data) (ms : Members) where
     pub absent_here : ((v : Data) (ns : Members) → ms ≢ member t.name.now v ns) → StandFresh q.pools (slots_from q i place) b n used ms → (t.must ≡ false) × StandFresh q.pools (slots_from q i (place + 1)) b n used ms
     absent_here other h =
@@ -147,14 +141,14 @@ module _ (q : Question) (i place : ℕ) (t : handed.Slot) (is : IsSlotAt (sites_
       named = first ∙ ap (λ k. member k d rest) is.name
 
       pub filled_here : AreInOrder (slots q.pools (site q i)) → StandFresh q.pools (slots_from q i place) b n used ms
-          → IsPart q.pools (site q t.node).node d × StandFresh q.pools (slots_from q i (place + 1)) b (n + 1) (agreeing_if t.key t.name.now d used) rest
+          → IsPart q.pools (site q t.node) d × StandFresh q.pools (slots_from q i (place + 1)) b (n + 1) (agreeing_if t.key t.name.now d used) rest
       filled_here order h =
           let k = filled_is q.pools b n used ms is.slot (slots_from q i (place + 1)) d rest named (subst AreInOrder slots_are (order_from place (slots q.pools (site q i)) order)) (subst (λ ss. StandFresh q.pools ss b n used ms) slots_are h) in
-          (subst (λ N. IsPart q.pools N d) (sym slot_node) k.0, rw (is.key, is.name) k.1)
+          (subst (λ s. IsPart q.pools s d) (sym is.node) k.0, rw (is.key, is.name) k.1)
 
-      pub filled_there : IsPart q.pools (site q t.node).node d → StandFresh q.pools (slots_from q i (place + 1)) b (n + 1) (agreeing_if t.key t.name.now d used) rest → StandFresh q.pools (slots_from q i place) b n used ms
+      pub filled_there : IsPart q.pools (site q t.node) d → StandFresh q.pools (slots_from q i (place + 1)) b (n + 1) (agreeing_if t.key t.name.now d used) rest → StandFresh q.pools (slots_from q i place) b n used ms
       filled_there part h = subst (λ ss. StandFresh q.pools ss b n used ms) (sym slots_are)
-          (filled_from q.pools b n used ms is.slot (slots_from q i (place + 1)) d rest named (subst (λ N. IsPart q.pools N d) slot_node part) (rw (← is.key, ← is.name) h))
+          (filled_from q.pools b n used ms is.slot (slots_from q i (place + 1)) d rest named (subst (λ s. IsPart q.pools s d) is.node part) (rw (← is.key, ← is.name) h))
 
 -- ---- sorts
 
@@ -164,15 +158,6 @@ sort_cases sort.Row = inr (inl refl)
 sort_cases sort.List = inr (inr refl)
 
 -- ---- rows
-
-pub order_at : (q : Question) (i : ℕ) → IsNodeOf q i → ((s : Site) → Contains (sites_of q.root) s → HasSoundParts q.pools s) → HasSoundParts q.pools (site q i)
-order_at q i at sound = sound (site q i) (Contains-get_or (sites_of q.root) i _ at)
-
-pub rule_at : (q : Question) (i : ℕ) → IsNodeOf q i → ((s : Site) → Contains (sites_of q.root) s → RuleOfParts q.pools q.limit s) → RuleOfParts q.pools q.limit (site q i)
-rule_at q i at rules = rules (site q i) (Contains-get_or (sites_of q.root) i _ at)
-
-pub map_at : (q : Question) (i c : ℕ) → IsNodeOf q i → ((s : Site) → Contains (sites_of q.root) s → HasSoundParts q.pools s) → item_site (site q i) ≡ Some (site q c) → distinct_of (site q i).node ≡ Keys → AreMapItems q.pools (site q i).node (site q c)
-map_at q i c at sound is keys = (order_at q i at sound).map (site q c) is keys
 
 nobody : (ss : List Slot) (gs : List (Option Data)) → still_left ss gs [] ≡ []
 nobody [] gs = refl
@@ -200,33 +185,32 @@ module _ (q : Question) (i : ℕ) (used : List Data) (v : Data) where
       (members_in ss h.fillings, (h.is, record { fillings = h.fillings; are = refl; parts = h.are; ends = subst (λ n. CanFill q.pools [] (bounds_at q i) n 0) count (subst (λ rs. CanFill q.pools rs (bounds_at q i) (filled_count h.fillings) 0) end h.ends); fresh = fresh }))
 
 module _ (q : Question) (i : ℕ) (rule : RuleOfParts q.pools q.limit (site q i)) (v : Data) where
-  pub row_part : sort_of (site q i).node ≡ sort.Row → IsFreshRow q i [] v → IsPart q.pools (site q i).node v
+  pub row_part : sort_of (site q i) ≡ sort.Row → IsFreshRow q i [] v → IsPart q.pools (site q i) v
   row_part row r = (rule.row v row).1 (inr (row_of q i [] v r).0)
 
-  pub part_row : sort_of (site q i).node ≡ sort.Row → v ≢ null → IsPart q.pools (site q i).node v → IsFreshRow q i [] v
+  pub part_row : sort_of (site q i) ≡ sort.Row → v ≢ null → IsPart q.pools (site q i) v → IsFreshRow q i [] v
   part_row row other part = elim ((rule.row v row).0 part) [
     | inl none ↦ absurd (other none.0)
     | inr h ↦ row_from q i [] v h (nobody (slots q.pools (site q i)) h.fillings)
   ]
 
-  pub list_part : IsListOf q i v → IsPart q.pools (site q i).node v
-  list_part l = subst (IsPart q.pools (site q i).node) (sym l.1.0) l.1.1
+  pub list_part : IsListOf q i v → IsPart q.pools (site q i) v
+  list_part l = subst (IsPart q.pools (site q i)) (sym l.1.0) l.1.1
 
-  pub part_list : sort_of (site q i).node ≡ sort.List → node_count v ≤ q.limit → v ≢ null → IsPart q.pools (site q i).node v → IsListOf q i v
+  pub part_list : sort_of (site q i) ≡ sort.List → node_count v ≤ q.limit → v ≢ null → IsPart q.pools (site q i) v → IsListOf q i v
   part_list is_list few other part =
-      let M = list_site (site q i).node is_list in
-      let r = lists.part_list q i M.0 rule M.1 v part few (λ none _. other none) in
-      (r.0, (r.1, subst (IsPart q.pools (site q i).node) r.1 part))
+      let r = lists.part_list q i rule is_list v part few (λ none _. other none) in
+      (r.0, (r.1, subst (IsPart q.pools (site q i)) r.1 part))
 
-  pub null_part : (sort_of (site q i).node ≡ sort.Leaf → ⊥) → 1 ≤ q.limit → v ≡ null → IsPart q.pools (site q i).node v ↔ (is_nullable (site q i).node ≡ true)
-  null_part inner some none = elim (sort_cases (sort_of (site q i).node)) [
+  pub null_part : (sort_of (site q i) ≡ sort.Leaf → ⊥) → 1 ≤ q.limit → v ≡ null → IsPart q.pools (site q i) v ↔ (admits_null (site q i) ≡ true)
+  null_part inner some none = elim (sort_cases (sort_of (site q i))) [
     | inl leaf ↦ absurd (inner leaf)
     | inr (inl row) ↦ (
       λ part. elim ((rule.row v row).0 part) [ inl h ↦ h.1 | inr h ↦ let no : null ≡ object (members_in (slots q.pools (site q i)) h.fillings) = sym none ∙ h.is in cc ],
       λ may. (rule.row v row).1 (inl (none, may)),
     )
     | inr (inr is_list) ↦
-        let M = list_site (site q i).node is_list in
+        let M = rule.items is_list in
         let few : node_count v ≤ q.limit = rw none some in (
           λ part. elim ((rule.list M.0 v M.1 few).0 part) [ inl h ↦ h.1 | inr h ↦ let no : null ≡ list h.items = sym none ∙ h.is in cc ],
           λ may. (rule.list M.0 v M.1 few).1 (inl (none, may)),
@@ -234,7 +218,7 @@ module _ (q : Question) (i : ℕ) (rule : RuleOfParts q.pools q.limit (site q i)
   ]
 
 -- a row has at most as many slots as the plan is wide
-pub slots_within : (q : Question) (i : ℕ) → IsNodeOf q i → sort_of (site q i).node ≡ sort.Row → (w : ℕ) → IsWidth q.pools q.root w → length (slots_from q i 0) ≤ w
+pub slots_within : (q : Question) (i : ℕ) → IsNodeOf q i → sort_of (site q i) ≡ sort.Row → (w : ℕ) → IsWidth q.pools q.root w → length (slots_from q i 0) ≤ w
 slots_within q i at row w width =
     width.each (site q i) (length (slots q.pools (site q i))) (Contains-get_or (sites_of q.root) i _ at) (subst (λ s. HasWidthBy s q.pools (site q i) (length (slots q.pools (site q i)))) (sym row) refl)
 
@@ -264,37 +248,37 @@ module _ (q : Question) (i c : ℕ) where
   first_next ts place t lt at h f = subst (AreFirst q i c) (sym (join_next ts place t lt at)) (first_more q i c (node_count (data_of t)) (items_of (take place ts)) (data_of t) h f)
 
   module _ (rule : RuleOfParts q.pools q.limit (site q i)) (is : item_site (site q i) ≡ Some (site q c)) (ts : List Tree) (few : 1 + items_count (items_of ts) ≤ q.limit) where
-    pub fresh_in : (place : ℕ) (t : Tree) → place < length ts → get_or ts place t ≡ t → IsPart q.pools (site q i).node (list (items_of ts)) → IsFreshItem q i c (node_count (data_of t)) (items_of (take place ts)) (data_of t)
+    pub fresh_in : (place : ℕ) (t : Tree) → place < length ts → get_or ts place t ≡ t → IsPart q.pools (site q i) (list (items_of ts)) → IsFreshItem q i c (node_count (data_of t)) (items_of (take place ts)) (data_of t)
     fresh_in place t lt at part = elim ((rule.list (site q c) (list (items_of ts)) is few).0 part) [
       | inl none ↦ let no = none.0 in cc
       | inr h ↦
           let same : items_of ts ≡ h.items = let e = h.is in cc in
           let split : h.items ≡ items_then (items_of (take place ts)) (item (data_of t) (items_of (drop (place + 1) ts))) = sym same ∙ split_items ts place t lt at in
           record {
-            part = record { part = (parts_split q.pools (site q c).node (items_of (take place ts)) (item (data_of t) (items_of (drop (place + 1) ts))) (subst (AreParts q.pools (site q c).node) split h.are)).1.0; nodes_are = refl };
-            fresh = apart_fresh (alike_at (site q i).node) (items_of (take place ts)) (items_of (drop (place + 1) ts)) (data_of t) (subst (λ ds. are_apart (alike_at (site q i).node) ds ≡ true) split h.apart);
+            part = record { part = (parts_split q.pools (site q c) (items_of (take place ts)) (item (data_of t) (items_of (drop (place + 1) ts))) (subst (AreParts q.pools (site q c)) split h.are)).1.0; nodes_are = refl };
+            fresh = apart_fresh (alike_at (site q i)) (items_of (take place ts)) (items_of (drop (place + 1) ts)) (data_of t) (subst (λ ds. are_apart (alike_at (site q i)) ds ≡ true) split h.apart);
           }
     ]
 
-    pub part_ends : IsPart q.pools (site q i).node (list (items_of ts)) → HasMore q.pools q.limit (site q i).node (length ts) 0
+    pub part_ends : IsPart q.pools (site q i) (list (items_of ts)) → HasMore q.pools q.limit (site q i) (length ts) 0
     part_ends part = elim ((rule.list (site q c) (list (items_of ts)) is few).0 part) [
       | inl none ↦ let no = none.0 in cc
       | inr h ↦
           let same : h.items ≡ items_of ts = let e = h.is in cc in
-          subst (λ n. HasMore q.pools q.limit (site q i).node n 0) (ap fault.items_count same ∙ counted ts) h.ends
+          subst (λ n. HasMore q.pools q.limit (site q i) n 0) (ap fault.items_count same ∙ counted ts) h.ends
     ]
 
-    pub part_made : AreFirst q i c (items_of ts) → HasMore q.pools q.limit (site q i).node (length ts) 0 → IsPart q.pools (site q i).node (list (items_of ts))
+    pub part_made : AreFirst q i c (items_of ts) → HasMore q.pools q.limit (site q i) (length ts) 0 → IsPart q.pools (site q i) (list (items_of ts))
     part_made h ends = (rule.list (site q c) (list (items_of ts)) is few).1 (inr (record {
       items = items_of ts;
       is = refl;
       are = h.are;
       apart = h.apart;
-      ends = subst (λ n. HasMore q.pools q.limit (site q i).node n 0) (sym (counted ts)) ends;
+      ends = subst (λ n. HasMore q.pools q.limit (site q i) n 0) (sym (counted ts)) ends;
     }))
 
 -- a list with an item goes on behind its beginning
-pub goes_on : (q : Question) (i : ℕ) (ts : List Tree) → (length ts == 0) ≡ false → 1 + items_count (items_of ts) ≤ q.limit → IsPart q.pools (site q i).node (list (items_of ts)) → (m : ℕ) × HasMore q.pools q.limit (site q i).node 1 m
+pub goes_on : (q : Question) (i : ℕ) (ts : List Tree) → (length ts == 0) ≡ false → 1 + items_count (items_of ts) ≤ q.limit → IsPart q.pools (site q i) (list (items_of ts)) → (m : ℕ) × HasMore q.pools q.limit (site q i) 1 m
 goes_on q i [] some few part = cc
 goes_on q i (t ∷ ts) some few part = (items_count (items_of ts), record { items = items_of (t ∷ ts); part = part; fits = few; many = omega arith; nodes_are = refl })
 

@@ -53,10 +53,10 @@ module _ (q : Question) where
 -- ---- nodes in slots
 
 -- a row, by its slots
-pub costs_row : (q : Question) (i old new n m : ℕ) → IsNodeOf q i → sort_of (site q i).node ≡ sort.Row → m ≡ 1 + n → CostsSlots q i 0 old new n → Costs q old new m
+pub costs_row : (q : Question) (i old new n m : ℕ) → IsNodeOf q i → sort_of (site q i) ≡ sort.Row → m ≡ 1 + n → CostsSlots q i 0 old new n → Costs q old new m
 costs_row q i old new n m at row e h = λ w wide. omega (arith, slots_within q i at row w wide, split_cost w 1 n m e, h w wide)
 
-pub twice_row : (q : Question) (i old new n m : ℕ) → IsNodeOf q i → sort_of (site q i).node ≡ sort.Row → m ≡ 1 + n → CostsTwice q i 0 old new n → Costs q old new (2 * m)
+pub twice_row : (q : Question) (i old new n m : ℕ) → IsNodeOf q i → sort_of (site q i) ≡ sort.Row → m ≡ 1 + n → CostsTwice q i 0 old new n → Costs q old new (2 * m)
 twice_row q i old new n m at row e h = λ w wide. omega (arith, slots_within q i at row w wide, split_cost w m m (2 * m) (omega arith), split_cost w 1 n m e, h w wide)
 
 module _ (q : Question) (i place : ℕ) where

@@ -10,7 +10,7 @@ use Rattle.jtree.specs.View.{data_of, members_of}
 use Rattle.jtree.specs.declared.value.Member.{Member}
 use Rattle.schema.specs.declared.node.Bounds.{Bounds}
 use Rattle.plan.specs.Pools.Pools.{Pools}
-use Rattle.plan.specs.Samples.Sites.{Slot, slots, plain}
+use Rattle.plan.specs.Samples.Sites.{Slot, slots}
 use Rattle.plan.specs.Samples.NoDeadEnd.{is_key, HasFree}
 use Rattle.plan.specs.Samples.Sizes.{AreFillings, filled_nodes}
 use Rattle.plan.specs.Samples.RuleOfParts.{members_in}
@@ -30,7 +30,7 @@ use Rattle.enumerate.proofs.RowLemmas.{can_fill, has_free, goes_in, keys_behind,
 use Rattle.enumerate.proofs.RowMoves.{stands_out, moved_out, grown_out, stands_in, moved_in, value_in, grown_in}
 use Rattle.enumerate.proofs.MoveLemmas.{moved_same}
 use Rattle.enumerate.proofs.RowOrder.{filled_count_nodes}
-use Rattle.enumerate.proofs.RowSteps.{FreeLaw, keys_at, key_free, at_slot, at_number}
+use Rattle.enumerate.proofs.RowSteps.{FreeLaw, keys_at, part_is_value, key_is_value}
 use Rattle.enumerate.proofs.MembershipLemmas.{order_from}
 
 -- what stands in slots has as many nodes as the members
@@ -184,20 +184,19 @@ module _ (q : Question) (i place : ℕ) (sound : HasSoundParts q.pools (site q i
   -- ---- the value itself
 
   -- the next free key is the next value
-  pub key_moved : FreeLaw → (c : ℕ) (used : List Data) (n later : ℕ) (old : Data) (m : answer.Moved) → site q c ≡ plain here.node → here.key ≡ true → AreUsed q.pools (slots_from q i place) used → HasTuples q.pools behind later
+  pub key_moved : FreeLaw → (c : ℕ) (used : List Data) (n later : ℕ) (old : Data) (m : answer.Moved) → site q c ≡ here.site → here.key ≡ true → AreUsed q.pools (slots_from q i place) used → HasTuples q.pools behind later
       → IsMoved (IsFreeKey q c n here.name used later) old m → IsMoved (IsValue q.pools here behind used n) old m
-  key_moved law c used n later old m is key known tuples h = moved_same (IsFreeKey q c n here.name used later) (IsValue q.pools here behind used n) old m
-      (λ u f. record { part = at_slot q c here.node u is f.0.part; nodes_are = f.0.nodes_are; free = (key_free law q.pools here behind used u later key (known_here used known) tuples).0 f.1 })
-      (λ u w. (record { part = at_number q c here.node u is w.part; nodes_are = w.nodes_are }, (key_free law q.pools here behind used u later key (known_here used known) tuples).1 w.free)) h
+  key_moved law c used n later old m is key known tuples h =
+      let e = λ (u : Data). key_is_value law q c here behind used n later u is key (known_here used known) tuples in
+      moved_same (IsFreeKey q c n here.name used later) (IsValue q.pools here behind used n) old m (λ u. (e u).0) (λ u. (e u).1) h
 
   -- where the slot is no key, the next part is
-  pub part_moved : (c : ℕ) (used : List Data) (n : ℕ) (old : Data) (m : answer.Moved) → site q c ≡ plain here.node → here.key ≡ false → IsValue q.pools here behind used n old
+  pub part_moved : (c : ℕ) (used : List Data) (n : ℕ) (old : Data) (m : answer.Moved) → site q c ≡ here.site → here.key ≡ false → IsValue q.pools here behind used n old
       → IsMoved (IsPartOf q c n) old m → IsMoved (IsValue q.pools here behind used n) old m
   part_moved c used n old m is other value h =
       let free = subst (λ us. HasFree q.pools (filter is_key behind) (used_keys behind us) []) (still_used_other here behind other old used) value.free in
-      moved_same (IsPartOf q c n) (IsValue q.pools here behind used n) old m
-      (λ u p. record { part = at_slot q c here.node u is p.part; nodes_are = p.nodes_are; free = subst (λ us. HasFree q.pools (filter is_key behind) (used_keys behind us) []) (sym (still_used_other here behind other u used)) free })
-      (λ u w. record { part = at_number q c here.node u is w.part; nodes_are = w.nodes_are }) h
+      let e = λ (u : Data). part_is_value q c here behind used n u is other free in
+      moved_same (IsPartOf q c n) (IsValue q.pools here behind used n) old m (λ u. (e u).0) (λ u. (e u).1) h
 
 -- a member was taken off, and those behind it had no next ones with it
 pub record IsEnded (q : Question) (i place t room : ℕ) (used : List Data) (old : List Member) (one : Member) (gs : List (Option Data)) : Type 0 where

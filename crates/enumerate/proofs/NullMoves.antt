@@ -8,7 +8,6 @@ use Rattle.jtree.specs.Order.{tree_cmp}
 use Rattle.jtree.specs.View.{data_of}
 use Rattle.jtree.specs.Internal.Rising.{contained}
 use Rattle.plan.specs.Samples.Part.{IsPart}
-use Rattle.plan.specs.Samples.Sites.{Site, item_site}
 use Rattle.plan.specs.Samples.Sizes.{CanFill, HasMore}
 use Rattle.plan.specs.Samples.Candidates.{sort_of}
 use Rattle.plan.specs.Samples.RuleOfParts.{members_in, RuleOfParts}
@@ -41,7 +40,7 @@ no_items_left : (ds : Items) → items_count ds ≡ 0 → ds ≡ no_items
 no_items_left no_items e = refl
 no_items_left (item d ds) e = let some = some_nodes d in absurd (omega (arith, e, some))
 
-module _ (q : Question) (i : ℕ) (rule : RuleOfParts q.pools q.limit (site q i)) (is_row : sort_of (site q i).node ≡ sort.Row) where
+module _ (q : Question) (i : ℕ) (rule : RuleOfParts q.pools q.limit (site q i)) (is_row : sort_of (site q i) ≡ sort.Row) where
   row_past : (n : ℕ) (u : Data) → IsPartOf q i n u → (u ≡ null → ⊥) → IsRow q i (n - 1) [] u
   row_past n u p other = row_unless_null q i rule is_row n u p (λ is nullable. other is)
 
@@ -67,22 +66,22 @@ module _ (q : Question) (i : ℕ) (rule : RuleOfParts q.pools q.limit (site q i)
   pub no_row : (CanFill q.pools (slots_from q i 0) (bounds_at q i) 0 0 → ⊥) → IsNext tree_cmp (IsPartOf q i 1) null None
   no_row none u p less = let r = row_past 1 u p (past_null u less) in none (record { fillings = r.fillings; are = r.rest.are; within = r.rest.within; nodes_are = r.rest.nodes_are })
 
-module _ (q : Question) (i : ℕ) (M : Site) (rule : RuleOfParts q.pools q.limit (site q i)) (item_is : item_site (site q i) ≡ Some M) (some : 1 ≤ q.limit) where
+module _ (q : Question) (i : ℕ) (rule : RuleOfParts q.pools q.limit (site q i)) (is_list : sort_of (site q i) ≡ sort.List) (some : 1 ≤ q.limit) where
   list_past : (u : Data) → IsPartOf q i 1 u → tree_cmp null u ≡ Less → u ≡ list no_items
   list_past u p less =
-      let r = part_list q i M rule item_is u p.part (omega (arith, p.nodes_are, some)) (λ is nullable. past_null u less is) in
+      let r = part_list q i rule is_list u p.part (omega (arith, p.nodes_are, some)) (λ is nullable. past_null u less is) in
       let count : 1 + items_count r.0 ≡ 1 = sym (ap node_count r.1) ∙ p.nodes_are in
       r.1 ∙ ap list (no_items_left r.0 (omega (arith, count)))
 
-  pub empty_list : HasMore q.pools q.limit (site q i).node 0 0 → IsNext tree_cmp (IsPartOf q i 1) null (Some (list no_items))
+  pub empty_list : HasMore q.pools q.limit (site q i) 0 0 → IsNext tree_cmp (IsPartOf q i 1) null (Some (list no_items))
   empty_list h =
       let none = no_items_left h.items h.nodes_are in
       record {
-        is = (record { part = subst (λ ds. IsPart q.pools (site q i).node (list ds)) none h.part; nodes_are = refl }, refl);
+        is = (record { part = subst (λ ds. IsPart q.pools (site q i) (list ds)) none h.part; nodes_are = refl }, refl);
         least = λ u p less. not_itself tree_cmp tree_order u (list no_items) (list_past u p.0 p.1) less;
       }
 
-  pub no_list : (HasMore q.pools q.limit (site q i).node 0 0 → ⊥) → IsNext tree_cmp (IsPartOf q i 1) null None
+  pub no_list : (HasMore q.pools q.limit (site q i) 0 0 → ⊥) → IsNext tree_cmp (IsPartOf q i 1) null None
   no_list none u p less =
       let is = list_past u p less in
-      none (record { items = no_items; part = subst (IsPart q.pools (site q i).node) is p.part; fits = omega (arith, some); many = omega arith; nodes_are = refl })
+      none (record { items = no_items; part = subst (IsPart q.pools (site q i)) is p.part; fits = omega (arith, some); many = omega arith; nodes_are = refl })

@@ -5,7 +5,7 @@ use Rattle.jtree.specs.Nodes.{node_count, most_nodes}
 use Rattle.jtree.specs.Order.{tree_cmp}
 use Rattle.plan.specs.Samples.Part.{IsPart}
 use Rattle.plan.specs.Samples.Question.{Question}
-use Rattle.plan.specs.Samples.Sites.{plain}
+use Rattle.plan.specs.Samples.Sites.{root_site}
 use Rattle.plan.specs.Samples.Sizes.{IsUpTo}
 use Rattle.plan.specs.Sets.{IsLeastFrom, IsEmptyFrom}
 use Rattle.enumerate.specs.Least.{IsLeast, IsNext}
@@ -29,12 +29,12 @@ first_sample q None h = λ v p. h v (p.sample, omega arith)
 pub few : (q : Question) (v : Data) → q.limit < 4294967296 → IsSampleOf q v → node_count v ≤ q.limit
 few q v small h = omega (arith, h.within, small)
 
-module _ (q : Question) (i : ℕ) (root : site q i ≡ plain q.root) (small : q.limit < 4294967296) where
-  pub part_of : (v : Data) → IsSampleOf q v → IsPart q.pools (site q i).node v
-  part_of v h = subst (λ s. IsPart q.pools s.node v) (sym root) h.part
+module _ (q : Question) (i : ℕ) (root : site q i ≡ root_site q.root) (small : q.limit < 4294967296) where
+  pub part_of : (v : Data) → IsSampleOf q v → IsPart q.pools (site q i) v
+  part_of v h = subst (λ s. IsPart q.pools s v) (sym root) h.part
 
-  pub sample_of : (v : Data) → IsPart q.pools (site q i).node v → node_count v ≤ q.limit → IsSampleOf q v
-  sample_of v p h = record { part = subst (λ s. IsPart q.pools s.node v) root p; within = omega (arith, h) }
+  pub sample_of : (v : Data) → IsPart q.pools (site q i) v → node_count v ≤ q.limit → IsSampleOf q v
+  sample_of v p h = record { part = subst (λ s. IsPart q.pools s v) root p; within = omega (arith, h) }
 
   abbrev Size : ℕ → Type 0
   Size n = (n ≤ q.limit) × HasSizeAt q i n

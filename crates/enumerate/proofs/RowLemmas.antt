@@ -180,10 +180,10 @@ used_behind P s ss v used h = elim (cases_Bool s.key) [
 pub free_out : (P : Pools) (s : Slot) (ss : List Slot) (used : List Data) → s.key ≡ false → HasFree P (filter is_key (s ∷ ss)) (used_keys (s ∷ ss) used) [] → HasFree P (filter is_key ss) (used_keys ss used) []
 free_out P s ss used other h = rw (keys_other s ss other, used_keys_other s ss other used) at h
 
-pub unused_behind : (P : Pools) (s : Slot) (ss : List Slot) (used : List Data) (v : Data) (gs : List (Option Data)) → (s.key ≡ true → IsKeySlot P s) → IsPart P s.node v
+pub unused_behind : (P : Pools) (s : Slot) (ss : List Slot) (used : List Data) (v : Data) (gs : List (Option Data)) → (s.key ≡ true → IsKeySlot P s) → IsPart P s.site v
     → IsUnused (s ∷ ss) used (key_values (s ∷ ss) (Some v ∷ gs)) ↔ IsUnused ss (still_used s v used) (key_values ss gs)
 unused_behind P s ss used v gs keyed p = elim (cases_Bool s.key) [
-  | inl key ↦ rw (key_values_first s ss key v gs, still_used_key s ss key v used) (unused_first s ss key used v (key_values ss gs) (λ e. (keyed key).no_null (subst (IsPart P s.node) e p)))
+  | inl key ↦ rw (key_values_first s ss key v gs, still_used_key s ss key v used) (unused_first s ss key used v (key_values ss gs) (λ e. (keyed key).no_null (subst (IsPart P s.site) e p)))
   | inr other ↦ rw (key_values_other s ss other v gs, still_used_other s ss other v used, used_keys_other s ss other used) ((λ h. h), λ h. h)
 ]
 
@@ -219,7 +219,7 @@ record Refilled (P : Pools) (ss : List Slot) (gs : List (Option Data)) (k : List
   nodes_are : filled_nodes fillings ≡ filled_nodes gs
   count_is : filled_count fillings ≡ filled_count gs
 
-refilled_key : (P : Pools) (s : Slot) (ss : List Slot) (v : Data) (gs : List (Option Data)) (k : List Data) → s.key ≡ true → IsKeySlot P s → IsPart P s.node v → IsTuple P (s ∷ filter is_key ss) k
+refilled_key : (P : Pools) (s : Slot) (ss : List Slot) (v : Data) (gs : List (Option Data)) (k : List Data) → s.key ≡ true → IsKeySlot P s → IsPart P s.site v → IsTuple P (s ∷ filter is_key ss) k
     → ((l : List Data) → IsTuple P (filter is_key ss) l → Refilled P ss gs l) → Refilled P (s ∷ ss) (Some v ∷ gs) k
 refilled_key P s ss v gs [] key slot p t rest = absurd t
 refilled_key P s ss v gs (x ∷ k) key slot p t rest =
@@ -271,7 +271,7 @@ rest_out P b s ss t m used keys gs h =
 module _ (P : Pools) (b : Bounds) (s : Slot) (ss : List Slot) (t m : ℕ) (used : List Data) (keys : AreKeySlots P (s ∷ ss)) (small : m ≤ most_nodes) where
   abbrev Goes : Option Data → List (Option Data) → Type 0
   Goes None gs = (s.must ≡ false) × IsRest P ss b t m used gs
-  Goes (Some v) gs = IsPart P s.node v × (node_count v ≤ m) × IsRest P ss b (t + 1) (m - node_count v) (still_used s v used) gs
+  Goes (Some v) gs = IsPart P s.site v × (node_count v ≤ m) × IsRest P ss b (t + 1) (m - node_count v) (still_used s v used) gs
 
   abbrev Whole : List (Option Data) → Type 0
   Whole gs = IsRest P (s ∷ ss) b t m used gs

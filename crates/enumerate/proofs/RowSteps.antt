@@ -12,13 +12,12 @@ use Rattle.jtree.specs.Nodes.{node_count, most_nodes}
 use Rattle.jtree.specs.Order.{tree_cmp}
 use Rattle.jtree.specs.View.{data_of, members_of}
 use Rattle.jtree.specs.declared.value.Member.{Member}
-use Rattle.schema.specs.Nodes.Node.{Node}
 use Rattle.schema.specs.declared.node.Bounds.{Bounds}
 use Rattle.stored.specs.Objects.StoredByParts.{IsWithin}
 use Rattle.plan.specs.Pools.Pools.{Pools}
 use Rattle.plan.specs.Sets.{IsEmptyFrom}
 use Rattle.plan.specs.Samples.Part.{IsPart}
-use Rattle.plan.specs.Samples.Sites.{Site, Slot, slots, sites_of, plain}
+use Rattle.plan.specs.Samples.Sites.{Slot, slots, sites_of}
 use Rattle.plan.specs.Samples.Sizes.{AreFillings, CanFill, HasSize, filled_nodes, filled_count}
 use Rattle.plan.specs.Samples.RuleOfParts.{members_in}
 use Rattle.plan.specs.Samples.NoDeadEnd.{is_key, IsTuple, AreCounts, product, HasFree}
@@ -49,7 +48,7 @@ slot_of q i place t at below later followed =
     record {
       first = subst (λ n. drop place ss ≡ d ∷ drop n ss) next (drop-cons ss place _ (slice_get_within ss place at.slot at.is));
       name = at.name ∙ ap (λ s. Slot.name s) (sym is);
-      node = at.node ∙ ap (λ s. plain (Slot.node s)) (sym is);
+      node = at.node ∙ ap (λ s. Slot.site s) (sym is);
       must = at.must ∙ ap (λ s. Slot.must s) (sym is);
       key = at.key ∙ ap (λ s. Slot.key s) (sym is);
       below = below;
@@ -131,12 +130,17 @@ not_stuck P b s ss t m h stays none = fits_some P b s ss t m h.fillings h.are h.
 abbrev pub FreeLaw : Type 0
 FreeLaw = (P : Pools) (ss : List Slot) (used : List (List Data)) (counts : List ℕ) → All (IsTuple P ss) used → AllPairs (λ t u. t ≢ u) used → AreCounts P ss counts → HasFree P ss used [] ↔ (length used < product counts)
 
--- any part leaves a key, where the slot is none
-pub value_of_part : (P : Pools) (s : Slot) (ss : List Slot) (used : List Data) (n : ℕ) (v : Data) → s.key ≡ false → HasFree P (filter is_key ss) (used_keys ss used) []
-    → IsLeast tree_cmp (λ u. IsPart P s.node u × (node_count u ≡ n)) v → IsLeast tree_cmp (IsValue P s ss used n) v
-value_of_part P s ss used n v other free h = least_same tree_cmp (λ u. IsPart P s.node u × (node_count u ≡ n)) (IsValue P s ss used n) v
-    (λ u p. record { part = p.0; nodes_are = p.1; free = subst (λ us. HasFree P (filter is_key ss) (used_keys ss us) []) (sym (still_used_other s ss other u used)) free })
-    (λ u p. (p.part, p.nodes_are)) h
+-- where the slot is no key, its values are the parts of its node
+pub part_is_value : (q : Question) (c : ℕ) (s : Slot) (ss : List Slot) (used : List Data) (n : ℕ) (u : Data) → site q c ≡ s.site → s.key ≡ false → HasFree q.pools (filter is_key ss) (used_keys ss used) []
+    → IsPartOf q c n u ↔ IsValue q.pools s ss used n u
+part_is_value q c s ss used n u is other free = (
+  λ p. record {
+    part = subst (λ M. IsPart q.pools M u) is p.part;
+    nodes_are = p.nodes_are;
+    free = subst (λ us. HasFree q.pools (filter is_key ss) (used_keys ss us) []) (sym (still_used_other s ss other u used)) free;
+  },
+  λ w. record { part = subst (λ M. IsPart q.pools M u) (sym is) w.part; nodes_are = w.nodes_are },
+)
 
 -- a key leaves another, where fewer rows have it than there are tuples behind it
 pub key_free : FreeLaw → (P : Pools) (s : Slot) (ss : List Slot) (used : List Data) (v : Data) (later : ℕ) → s.key ≡ true → AreUsed P (s ∷ ss) used → HasTuples P ss later
@@ -151,33 +155,29 @@ key_free law P s ss used v later key known tuples =
       λ free. let l = is.0 free in omega (arith, count, l, tuples.1.1, few),
     )
 
--- the node of a slot stands for the site of its number
-pub at_slot : (q : Question) (c : ℕ) (N : Node) (v : Data) → site q c ≡ plain N → IsPart q.pools (site q c).node v → IsPart q.pools N v
-at_slot q c N v is p = subst (λ x. IsPart q.pools (Site.node x) v) is p
-
-pub at_number : (q : Question) (c : ℕ) (N : Node) (v : Data) → site q c ≡ plain N → IsPart q.pools N v → IsPart q.pools (site q c).node v
-at_number q c N v is p = subst (λ x. IsPart q.pools (Site.node x) v) (sym is) p
-
-pub value_of_key : FreeLaw → (q : Question) (c : ℕ) (s : Slot) (ss : List Slot) (used : List Data) (n later : ℕ) (v : Data) → site q c ≡ plain s.node → s.key ≡ true → AreUsed q.pools (s ∷ ss) used → HasTuples q.pools ss later
-    → IsLeast tree_cmp (IsFreeKey q c n s.name used later) v → IsLeast tree_cmp (IsValue q.pools s ss used n) v
-value_of_key law q c s ss used n later v is key known tuples h = least_same tree_cmp (IsFreeKey q c n s.name used later) (IsValue q.pools s ss used n) v
-    (λ u f. record { part = at_slot q c s.node u is f.0.part; nodes_are = f.0.nodes_are; free = (key_free law q.pools s ss used u later key known tuples).0 f.1 })
-    (λ u w. (record { part = at_number q c s.node u is w.part; nodes_are = w.nodes_are }, (key_free law q.pools s ss used u later key known tuples).1 w.free)) h
+-- so its values are the parts of its node that few rows have
+pub key_is_value : FreeLaw → (q : Question) (c : ℕ) (s : Slot) (ss : List Slot) (used : List Data) (n later : ℕ) (u : Data) → site q c ≡ s.site → s.key ≡ true → AreUsed q.pools (s ∷ ss) used → HasTuples q.pools ss later
+    → IsFreeKey q c n s.name used later u ↔ IsValue q.pools s ss used n u
+key_is_value law q c s ss used n later u is key known tuples =
+    let free = key_free law q.pools s ss used u later key known tuples in (
+      λ f. record { part = subst (λ M. IsPart q.pools M u) is f.0.part; nodes_are = f.0.nodes_are; free = free.0 f.1 },
+      λ w. (record { part = subst (λ M. IsPart q.pools M u) (sym is) w.part; nodes_are = w.nodes_are }, free.1 w.free),
+    )
 
 -- a free key, from a free tuple
-tuple_key : FreeLaw → (q : Question) (c : ℕ) (s : Slot) (ss : List Slot) (used : List Data) (n later : ℕ) (t : List Data) → site q c ≡ plain s.node → s.key ≡ true → IsKeySlot q.pools s → AreUsed q.pools (s ∷ ss) used → HasTuples q.pools ss later
-    → HasSize q.pools s.node n → IsTuple q.pools (s ∷ filter is_key ss) t → IsUnused (s ∷ ss) used t → (v : Data) × IsFreeKey q c n s.name used later v
+tuple_key : FreeLaw → (q : Question) (c : ℕ) (s : Slot) (ss : List Slot) (used : List Data) (n later : ℕ) (t : List Data) → site q c ≡ s.site → s.key ≡ true → IsKeySlot q.pools s → AreUsed q.pools (s ∷ ss) used → HasTuples q.pools ss later
+    → HasSize q.pools s.site n → IsTuple q.pools (s ∷ filter is_key ss) t → IsUnused (s ∷ ss) used t → (v : Data) × IsFreeKey q c n s.name used later v
 tuple_key law q c s ss used n later [] is key slot known tuples size t free = absurd t
 tuple_key law q c s ss used n later (x ∷ t) is key slot known tuples size tuple free =
-    let unused = (unused_first s ss key used x t (λ e. slot.no_null (subst (IsPart q.pools s.node) e tuple.0))).0 free in
+    let unused = (unused_first s ss key used x t (λ e. slot.no_null (subst (IsPart q.pools s.site) e tuple.0))).0 free in
     let left = subst (λ us. HasFree q.pools (filter is_key ss) (used_keys ss us) []) (sym (still_used_key s ss key x used)) (t, (tuple.1, unused)) in
     let one = slot.one x tuple.0 in
     let nodes = slot.one size.part size.is in
     let size_is = size.nodes_are in
-    (x, (record { part = at_number q c s.node x is tuple.0; nodes_are = omega (arith, one, nodes, size_is) }, (key_free law q.pools s ss used x later key known tuples).1 left))
+    (x, (record { part = subst (λ M. IsPart q.pools M x) (sym is) tuple.0; nodes_are = omega (arith, one, nodes, size_is) }, (key_free law q.pools s ss used x later key known tuples).1 left))
 
-pub some_key : FreeLaw → (q : Question) (c : ℕ) (s : Slot) (ss : List Slot) (used : List Data) (n later : ℕ) → site q c ≡ plain s.node → s.key ≡ true → IsKeySlot q.pools s → AreUsed q.pools (s ∷ ss) used → HasTuples q.pools ss later
-    → HasSize q.pools s.node n → HasFree q.pools (filter is_key (s ∷ ss)) (used_keys (s ∷ ss) used) [] → (v : Data) × IsFreeKey q c n s.name used later v
+pub some_key : FreeLaw → (q : Question) (c : ℕ) (s : Slot) (ss : List Slot) (used : List Data) (n later : ℕ) → site q c ≡ s.site → s.key ≡ true → IsKeySlot q.pools s → AreUsed q.pools (s ∷ ss) used → HasTuples q.pools ss later
+    → HasSize q.pools s.site n → HasFree q.pools (filter is_key (s ∷ ss)) (used_keys (s ∷ ss) used) [] → (v : Data) × IsFreeKey q c n s.name used later v
 some_key law q c s ss used n later is key slot known tuples size free =
     tuple_key law q c s ss used n later free.0 is key slot known tuples size (rw (keys_first s ss key) at free.1.0) free.1.1
 
@@ -241,23 +241,26 @@ module _ (q : Question) (i place : ℕ) (sound : HasSoundParts q.pools (site q i
         let sum = fits.1.1.1 in
         open_behind q.pools (bounds_at q i) here behind t m used n (m - n) v (known_here used known) (omega (arith, sum)) fits value
 
-    pub key_value : FreeLaw → (c : ℕ) (used : List Data) (n later : ℕ) (v : Data) → site q c ≡ plain here.node → here.key ≡ true → AreUsed q.pools (slots_from q i place) used → HasTuples q.pools behind later
+    pub key_value : FreeLaw → (c : ℕ) (used : List Data) (n later : ℕ) (v : Data) → site q c ≡ here.site → here.key ≡ true → AreUsed q.pools (slots_from q i place) used → HasTuples q.pools behind later
         → IsLeast tree_cmp (IsFreeKey q c n here.name used later) v → IsLeast tree_cmp (IsValue q.pools here behind used n) v
-    key_value law c used n later v is key known tuples h = value_of_key law q c here behind used n later v is key (known_here used known) tuples h
+    key_value law c used n later v is key known tuples h =
+        let e = λ (u : Data). key_is_value law q c here behind used n later u is key (known_here used known) tuples in
+        least_same tree_cmp (IsFreeKey q c n here.name used later) (IsValue q.pools here behind used n) v (λ u. (e u).0) (λ u. (e u).1) h
 
-    pub key_there : FreeLaw → (c : ℕ) (used : List Data) (n later : ℕ) → site q c ≡ plain here.node → here.key ≡ true → AreUsed q.pools (slots_from q i place) used → HasTuples q.pools behind later
-        → HasSize q.pools here.node n → HasFree q.pools (filter is_key (slots_from q i place)) (used_keys (slots_from q i place) used) [] → (v : Data) × IsFreeKey q c n here.name used later v
+    pub key_there : FreeLaw → (c : ℕ) (used : List Data) (n later : ℕ) → site q c ≡ here.site → here.key ≡ true → AreUsed q.pools (slots_from q i place) used → HasTuples q.pools behind later
+        → HasSize q.pools here.site n → HasFree q.pools (filter is_key (slots_from q i place)) (used_keys (slots_from q i place) used) [] → (v : Data) × IsFreeKey q c n here.name used later v
     key_there law c used n later is key known tuples size free =
         some_key law q c here behind used n later is key (key_here q.pools here behind keys key) (known_here used known) tuples size (subst (λ ss. HasFree q.pools (filter is_key ss) (used_keys ss used) []) first free)
 
-    pub key_leaf : here.key ≡ true → sort_of here.node ≡ sort.Leaf
+    pub key_leaf : here.key ≡ true → sort_of here.site ≡ sort.Leaf
     key_leaf key = (key_here q.pools here behind keys key).leaf
 
-    pub part_value : (c : ℕ) (used : List Data) (n : ℕ) (v : Data) → site q c ≡ plain here.node → here.key ≡ false → HasFree q.pools (filter is_key (slots_from q i place)) (used_keys (slots_from q i place) used) []
+    pub part_value : (c : ℕ) (used : List Data) (n : ℕ) (v : Data) → site q c ≡ here.site → here.key ≡ false → HasFree q.pools (filter is_key (slots_from q i place)) (used_keys (slots_from q i place) used) []
         → IsLeast tree_cmp (IsPartOf q c n) v → IsLeast tree_cmp (IsValue q.pools here behind used n) v
     part_value c used n v is other free h =
-        value_of_part q.pools here behind used n v other (free_out q.pools here behind used other (subst (λ ss. HasFree q.pools (filter is_key ss) (used_keys ss used) []) first free))
-        (least_same tree_cmp (IsPartOf q c n) (λ u. IsPart q.pools here.node u × (node_count u ≡ n)) v (λ u p. (at_slot q c here.node u is p.part, p.nodes_are)) (λ u p. record { part = at_number q c here.node u is p.0; nodes_are = p.1 }) h)
+        let left = free_out q.pools here behind used other (subst (λ ss. HasFree q.pools (filter is_key ss) (used_keys ss used) []) first free) in
+        let e = λ (u : Data). part_is_value q c here behind used n u is other left in
+        least_same tree_cmp (IsPartOf q c n) (IsValue q.pools here behind used n) v (λ u. (e u).0) (λ u. (e u).1) h
 
 pub place_within : (q : Question) (i place : ℕ) → slots_from q i place ≡ slot_in q i place ∷ slots_from q i (place + 1) → place + 1 ≤ length (slots q.pools (site q i))
 place_within q i place first =

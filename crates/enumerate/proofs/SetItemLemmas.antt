@@ -4,7 +4,7 @@ use Rattle.jtree.specs.Data.{Data, Items, no_items, item}
 use Rattle.jtree.specs.Nodes.{node_count, items_count}
 use Rattle.jtree.specs.View.{items_of}
 use Rattle.jtree.specs.declared.value.Tree.{Tree}
-use Rattle.schema.specs.Nodes.Node.{Node}
+use Rattle.plan.specs.Samples.Sites.{Site}
 use Rattle.stored.specs.Objects.Fault as fault
 use Rattle.plan.specs.Pools.Pools.{Pools}
 use Rattle.plan.specs.Samples.Part.{IsPart}
@@ -12,9 +12,7 @@ use Rattle.plan.specs.Samples.Sizes.{items_from, HasMore}
 use Rattle.plan.specs.Samples.RuleOfParts.{RuleOfParts, AreParts}
 use Rattle.plan.specs.Samples.NoDeadEnd.{NoDeadEnd}
 use Rattle.plan.specs.Samples.Keys.{AreSetItems}
-use Rattle.plan.specs.Samples.Candidates.{distinct_of}
 use Rattle.plan.specs.Samples.Question.{Question}
-use Rattle.plan.specs.declared.sort.Distinct.TheVariants.{Whole}
 use Rattle.enumerate.specs.View.{trees_of}
 use Rattle.enumerate.specs.Internal.Nodes.{site, HasSizeAt}
 use Rattle.enumerate.specs.Internal.Candidates.{IsUnusedPart}
@@ -23,7 +21,7 @@ use Rattle.enumerate.proofs.ListLemmas.{some_nodes, counted, some_items, item_fr
 use Rattle.enumerate.proofs.WholeListLemmas.{unused_fresh}
 
 -- where each part has one node, there are as many nodes as items
-one_each : (P : Pools) (M : Node) (ds : Items) → ((v : Data) → IsPart P M v → node_count v ≡ 1) → AreParts P M ds → items_count ds ≡ fault.items_count ds
+one_each : (P : Pools) (M : Site) (ds : Items) → ((v : Data) → IsPart P M v → node_count v ≡ 1) → AreParts P M ds → items_count ds ≡ fault.items_count ds
 one_each P M no_items one are = refl
 one_each P M (item d ds) one are = omega (arith, one d are.0, one_each P M ds one are.1)
 
@@ -43,14 +41,14 @@ module _ (q : Question) (i c : ℕ) (rule : RuleOfParts q.pools q.limit (site q 
   first_fresh used k no_items first within some a = absurd (omega (arith, some, a.nodes_are))
   first_fresh used k (item d ds) first within some a = (d, item_fresh q i c rule ends first.item used k within d ds a)
 
-  pub set_free : (n : ℕ) (used : List Tree) → AreFirst q i c (items_of used) → distinct_of (site q i).node ≡ Whole → AreSetItems q.pools (site q i).node (site q c).node → HasSizeAt q c n → (m : ℕ) → HasMore q.pools q.limit (site q i).node (length used + 1) m → (v : Data) × IsUnusedPart q c n (trees_of used) v
-  set_free n used first whole set has m more =
+  pub set_free : (n : ℕ) (used : List Tree) → AreFirst q i c (items_of used) → AreSetItems q.pools (site q i) (site q c) → HasSizeAt q c n → (m : ℕ) → HasMore q.pools q.limit (site q i) (length used + 1) m → (v : Data) × IsUnusedPart q c n (trees_of used) v
+  set_free n used first set has m more =
       let k = items_count (items_from (length used) more.items) in
-      let nodes : items_count (items_of used) ≡ length used = one_each q.pools (site q c).node (items_of used) set.one first.are ∙ counted used in
+      let nodes : items_count (items_of used) ≡ length used = one_each q.pools (site q c) (items_of used) set.one first.are ∙ counted used in
       let many = more.many in
       let within : 1 + items_count (items_of used) + k ≤ q.limit = omega (arith, more.fits, from_nodes (length used) more.items (omega (arith, many)), nodes) in
-      let at : HasMore q.pools q.limit (site q i).node (length used) k = record { items = more.items; part = more.part; fits = more.fits; many = omega (arith, many); nodes_are = refl } in
-      let r = some_items q i c rule ends first.item (items_of used) k within first (subst (λ t. HasMore q.pools q.limit (site q i).node t k) (sym (counted used)) at) in
+      let at : HasMore q.pools q.limit (site q i) (length used) k = record { items = more.items; part = more.part; fits = more.fits; many = omega (arith, many); nodes_are = refl } in
+      let r = some_items q i c rule ends first.item (items_of used) k within first (subst (λ t. HasMore q.pools q.limit (site q i) t k) (sym (counted used)) at) in
       let f = first_fresh (items_of used) k r.0 first within (from_some (length used) more.items many) r.1 in
       let size : node_count f.0 ≡ n = omega (arith, set.one f.0 f.1.part.part, set.one has.part has.is, has.nodes_are) in
-      (f.0, (unused_fresh q i c n used f.0 whole).1 (subst (λ x. IsFreshItem q i c x (items_of used) f.0) size f.1))
+      (f.0, (unused_fresh q i c n used f.0 set).1 (subst (λ x. IsFreshItem q i c x (items_of used) f.0) size f.1))

@@ -7,7 +7,7 @@ ghost use Rattle.jtree.specs.View.{data_of, items_of};
 ghost use Rattle.plan.specs.Samples.Candidates.{sort_of};
 ghost use Rattle.plan.specs.Samples.NoDeadEnd.{is_key, HasFree};
 ghost use Rattle.plan.specs.Samples.Sizes.{HasMore};
-ghost use Rattle.stored.specs.Objects.Becomes.{is_nullable};
+ghost use Rattle.plan.specs.Samples.RuleOfParts.{admits_null};
 ghost use Rattle.plan.specs.declared.sort.Sort.TheVariants as sort;
 ghost use Rattle.enumerate.specs.Least.{IsLeast};
 ghost use Rattle.enumerate.specs.Internal.Nodes.{site, IsNodeOf, IsPartOf, HasSizeAt, Costs};
@@ -60,7 +60,7 @@ pub(crate) fn first_row<Z: SizeSet>(
     meter: &mut Meter,
 ) -> Result<Tree, AllocError>
     requires node { IsNodeOf plan.now node }
-    requires row { sort_of (site plan.now node).node ≡ sort.Row }
+    requires row { sort_of (site plan.now node) ≡ sort.Row }
     requires some { 1 ≤ size }
     requires limit { size ≤ plan.now.limit }
     requires open { IsOpen plan.now.pools (slots_from plan.now node 0) (bounds_at plan.now node) 0 (size - 1) (rows_of used.now) }
@@ -87,7 +87,7 @@ pub(crate) fn first_slots<Z: SizeSet>(
     meter: &mut Meter,
 ) -> Result<(), AllocError>
     requires node { IsNodeOf plan.now node }
-    requires row { sort_of (site plan.now node).node ≡ sort.Row }
+    requires row { sort_of (site plan.now node) ≡ sort.Row }
     requires taken { taken ≤ place }
     requires limit { taken + room < plan.now.limit }
     requires open { IsOpen plan.now.pools (slots_from plan.now node place) (bounds_at plan.now node) taken room (rows_of used.now) }
@@ -134,7 +134,7 @@ pub(crate) fn grow_slots<Z: SizeSet>(
     meter: &mut Meter,
 ) -> Result<Step, AllocError>
     requires node { IsNodeOf plan.now node }
-    requires row { sort_of (site plan.now node).node ≡ sort.Row }
+    requires row { sort_of (site plan.now node) ≡ sort.Row }
     requires slot { IsSlotOf plan.now node place slot.now }
     requires taken { taken ≤ place }
     requires limit { taken + room < plan.now.limit }
@@ -212,7 +212,7 @@ pub(crate) fn put_member<Z: SizeSet>(
     meter: &mut Meter,
 ) -> Result<(), AllocError>
     requires node { IsNodeOf plan.now node }
-    requires row { sort_of (site plan.now node).node ≡ sort.Row }
+    requires row { sort_of (site plan.now node) ≡ sort.Row }
     requires slot { IsSlotOf plan.now node place slot.now }
     requires taken { taken ≤ place }
     requires limit { taken + 1 + room < plan.now.limit }
@@ -247,8 +247,8 @@ fn first_list<Z: SizeSet>(
     meter: &mut Meter,
 ) -> Result<Tree, AllocError>
     requires node { IsNodeOf plan.now node }
-    requires list { sort_of (site plan.now node).node ≡ sort.List }
-    requires no_null { size ≡ 1 → is_nullable (site plan.now node).node ≡ false }
+    requires list { sort_of (site plan.now node) ≡ sort.List }
+    requires no_null { size ≡ 1 → admits_null (site plan.now node) ≡ false }
     requires size { HasSizeAt plan.now node size }
     requires limit { size ≤ plan.now.limit }
     ensures ok { IfOk result (λ v. IsLeast tree_cmp (IsPartOf plan.now node size) (data_of v)) }
@@ -336,7 +336,7 @@ fn first_item<Z: SizeSet>(
     requires first { AreFirst plan.now node child (items_of items.now) }
     requires size { HasSizeAt plan.now child size }
     requires limit { size ≤ plan.now.limit }
-    requires fresh { (m : ℕ) × HasMore plan.now.pools plan.now.limit (site plan.now node).node (length items.now + 1) m }
+    requires fresh { (m : ℕ) × HasMore plan.now.pools plan.now.limit (site plan.now node) (length items.now + 1) m }
     ensures ok { IfOk result (λ v. IsLeast tree_cmp (IsFreshItem plan.now node child size (items_of items.now)) (data_of v)) }
     ensures steps { Costs plan.now meter.old meter.new size }
 {

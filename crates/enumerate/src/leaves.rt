@@ -47,7 +47,7 @@ pub(crate) fn pick<'a, Z: SizeSet>(
     meter: &mut Meter,
 ) -> Option<&'a Tree>
     requires node { IsNodeOf plan.now node }
-    requires leaf { sort_of (site plan.now node).node ≡ sort.Leaf }
+    requires leaf { sort_of (site plan.now node) ≡ sort.Leaf }
     ensures some { IfSome result (λ v. IsLeast tree_cmp (IsChoice plan.now node size (resume_point after.entry) taken.now) (data_of v.now)) }
     ensures none { IfNone result ((u : Data) → IsChoice plan.now node size (resume_point after.entry) taken.now u → ⊥) }
     ensures steps { Costs plan.now meter.old meter.new 1 }
@@ -72,7 +72,7 @@ fn first_free<Z: SizeSet>(
     meter: &mut Meter,
 ) -> Result<Tree, AllocError>
     requires node { IsNodeOf plan.now node }
-    requires leaf { sort_of (site plan.now node).node ≡ sort.Leaf }
+    requires leaf { sort_of (site plan.now node) ≡ sort.Leaf }
     requires free { (v : Data) × IsChoice plan.now node size None taken.now v }
     ensures ok { IfOk result (λ v. IsLeast tree_cmp (IsChoice plan.now node size None taken.now) (data_of v)) }
     ensures steps { Costs plan.now meter.old meter.new 1 }
@@ -93,7 +93,7 @@ fn next_free<Z: SizeSet>(
     meter: &mut Meter,
 ) -> Result<Moved, AllocError>
     requires node { IsNodeOf plan.now node }
-    requires leaf { sort_of (site plan.now node).node ≡ sort.Leaf }
+    requires leaf { sort_of (site plan.now node) ≡ sort.Leaf }
     requires limit { node_count (data_of tree.now) < 4294967296 }
     ensures ok { IfOk result (λ moved. IsMoved (λ v. IsPartOf plan.now node (node_count (data_of tree.now)) v × IsFree taken.now v) (data_of tree.now) moved) }
     ensures steps { Costs plan.now meter.old meter.new 1 }
@@ -115,7 +115,7 @@ pub(crate) fn first_unused<Z: SizeSet>(
     meter: &mut Meter,
 ) -> Result<Tree, AllocError>
     requires node { IsNodeOf plan.now node }
-    requires leaf { sort_of (site plan.now node).node ≡ sort.Leaf }
+    requires leaf { sort_of (site plan.now node) ≡ sort.Leaf }
     requires free { (v : Data) × IsUnusedPart plan.now node size (trees_of items.now) v }
     ensures ok { IfOk result (λ v. IsLeast tree_cmp (IsUnusedPart plan.now node size (trees_of items.now)) (data_of v)) }
     ensures steps { Costs plan.now meter.old meter.new 1 }
@@ -133,7 +133,7 @@ pub(crate) fn next_unused<Z: SizeSet>(
     meter: &mut Meter,
 ) -> Result<Moved, AllocError>
     requires node { IsNodeOf plan.now node }
-    requires leaf { sort_of (site plan.now node).node ≡ sort.Leaf }
+    requires leaf { sort_of (site plan.now node) ≡ sort.Leaf }
     requires limit { node_count (data_of tree.now) < 4294967296 }
     ensures ok { IfOk result (λ moved. IsMoved (IsUnusedPart plan.now node (node_count (data_of tree.now)) (trees_of items.now)) (data_of tree.now) moved) }
     ensures steps { Costs plan.now meter.old meter.new 1 }
@@ -151,7 +151,7 @@ pub(crate) fn first_key<Z: SizeSet>(
     meter: &mut Meter,
 ) -> Result<Tree, AllocError>
     requires node { IsNodeOf plan.now slot.now.node }
-    requires leaf { sort_of (site plan.now slot.now.node).node ≡ sort.Leaf }
+    requires leaf { sort_of (site plan.now slot.now.node) ≡ sort.Leaf }
     requires free { (v : Data) × IsFreeKey plan.now slot.now.node size slot.now.name.now (rows_of used.now) slot.now.later v }
     ensures ok { IfOk result (λ v. IsLeast tree_cmp (IsFreeKey plan.now slot.now.node size slot.now.name.now (rows_of used.now) slot.now.later) (data_of v)) }
     ensures steps { Costs plan.now meter.old meter.new 1 }
@@ -174,7 +174,7 @@ pub(crate) fn next_key<Z: SizeSet>(
     meter: &mut Meter,
 ) -> Result<Moved, AllocError>
     requires node { IsNodeOf plan.now slot.now.node }
-    requires leaf { sort_of (site plan.now slot.now.node).node ≡ sort.Leaf }
+    requires leaf { sort_of (site plan.now slot.now.node) ≡ sort.Leaf }
     requires limit { node_count (data_of tree.now) < 4294967296 }
     ensures ok { IfOk result (λ moved. IsMoved (IsFreeKey plan.now slot.now.node (node_count (data_of tree.now)) slot.now.name.now (rows_of used.now) slot.now.later) (data_of tree.now) moved) }
     ensures steps { Costs plan.now meter.old meter.new 1 }

@@ -28,7 +28,7 @@ pub(crate) fn is_part<Z: SizeSet>(
 ) -> Result<bool, AllocError>
     requires node { IsNodeOf plan.now node }
     requires limit { node_count (data_of tree.now) ≤ plan.now.limit }
-    ensures ok { IfOk result (λ is. IsTrue is ↔ IsPart plan.now.pools (site plan.now node).node (data_of tree.now)) }
+    ensures ok { IfOk result (λ is. IsTrue is ↔ IsPart plan.now.pools (site plan.now node) (data_of tree.now)) }
     ensures steps { Costs plan.now meter.old meter.new (node_count (data_of tree.now)) }
 {
     plan.no_dead_end();
@@ -53,8 +53,8 @@ pub(crate) fn is_null(tree: &Tree) -> bool
 /// Whether the tree is a candidate of the leaf. It looks at each candidate at most once.
 fn is_candidate<Z: SizeSet>(plan: &Plan<Z>, node: PlanNode, tree: &Tree, meter: &mut Meter) -> bool
     requires node { IsNodeOf plan.now node }
-    requires leaf { sort_of (site plan.now node).node ≡ sort.Leaf }
-    ensures is { IsTrue result ↔ IsPart plan.now.pools (site plan.now node).node (data_of tree.now) }
+    requires leaf { sort_of (site plan.now node) ≡ sort.Leaf }
+    ensures is { IsTrue result ↔ IsPart plan.now.pools (site plan.now node) (data_of tree.now) }
     ensures steps { Costs plan.now meter.old meter.new 1 }
 {
     for place in 0..plan.count(node) {
@@ -80,7 +80,7 @@ fn is_fresh_row<Z: SizeSet>(
     meter: &mut Meter,
 ) -> Result<bool, AllocError>
     requires node { IsNodeOf plan.now node }
-    requires row { sort_of (site plan.now node).node ≡ sort.Row }
+    requires row { sort_of (site plan.now node) ≡ sort.Row }
     requires limit { node_count (data_of tree.now) ≤ plan.now.limit }
     ensures ok { IfOk result (λ is. IsTrue is ↔ IsFreshRow plan.now node (rows_of used.now) (data_of tree.now)) }
     ensures steps { Costs plan.now meter.old meter.new (node_count (data_of tree.now)) }
@@ -114,7 +114,7 @@ fn stand_fresh<Z: SizeSet>(
     meter: &mut Meter,
 ) -> Result<bool, AllocError>
     requires node { IsNodeOf plan.now node }
-    requires row { sort_of (site plan.now node).node ≡ sort.Row }
+    requires row { sort_of (site plan.now node) ≡ sort.Row }
     requires place { place ≤ length (slots_from plan.now node 0) }
     requires taken { taken ≤ place }
     requires limit { taken + members_count (members_of members.now) < plan.now.limit }
@@ -185,7 +185,7 @@ fn ends_fresh<Z: SizeSet>(
     members: &[Member],
 ) -> bool
     requires node { IsNodeOf plan.now node }
-    requires row { sort_of (site plan.now node).node ≡ sort.Row }
+    requires row { sort_of (site plan.now node) ≡ sort.Row }
     requires place { place ≡ length (slots_from plan.now node 0) }
     requires taken { taken ≤ place }
     ensures { IsTrue result ↔ StandFresh plan.now.pools [] (bounds_at plan.now node) taken (rows_of used.now) (members_of members.now) }
@@ -211,7 +211,7 @@ fn is_list<Z: SizeSet>(
     meter: &mut Meter,
 ) -> Result<bool, AllocError>
     requires node { IsNodeOf plan.now node }
-    requires list { sort_of (site plan.now node).node ≡ sort.List }
+    requires list { sort_of (site plan.now node) ≡ sort.List }
     requires limit { node_count (data_of tree.now) ≤ plan.now.limit }
     ensures ok { IfOk result (λ is. IsTrue is ↔ IsListOf plan.now node (data_of tree.now)) }
     ensures steps { Costs plan.now meter.old meter.new (node_count (data_of tree.now)) }
@@ -232,9 +232,9 @@ fn make_list<Z: SizeSet>(
     meter: &mut Meter,
 ) -> Result<bool, AllocError>
     requires node { IsNodeOf plan.now node }
-    requires list { sort_of (site plan.now node).node ≡ sort.List }
+    requires list { sort_of (site plan.now node) ≡ sort.List }
     requires limit { 1 + items_count (items_of items.now) ≤ plan.now.limit }
-    ensures ok { IfOk result (λ is. IsTrue is ↔ IsPart plan.now.pools (site plan.now node).node (list_data (items_of items.now))) }
+    ensures ok { IfOk result (λ is. IsTrue is ↔ IsPart plan.now.pools (site plan.now node) (list_data (items_of items.now))) }
     ensures steps { Costs plan.now meter.old meter.new (1 + items_count (items_of items.now)) }
 {
     if items.is_empty() {

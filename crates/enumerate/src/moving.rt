@@ -33,7 +33,7 @@ pub(crate) fn advance<Z: SizeSet>(
     meter: &mut Meter,
 ) -> Result<Moved, AllocError>
     requires node { IsNodeOf plan.now node }
-    requires part { IsPart plan.now.pools (site plan.now node).node (data_of tree) }
+    requires part { IsPart plan.now.pools (site plan.now node) (data_of tree) }
     requires limit { node_count (data_of tree) ≤ plan.now.limit }
     ensures ok { IfOk result (λ moved. IsMoved (IsPartOf plan.now node (node_count (data_of tree))) (data_of tree) moved) }
     ensures steps { Costs plan.now meter.old meter.new (2 * node_count (data_of tree)) }
@@ -52,7 +52,7 @@ pub(crate) fn advance<Z: SizeSet>(
 /// What comes after null at a row or a list: the empty one, where it may stand there.
 fn past_null<Z: SizeSet>(alloc: Global, plan: &Plan<Z>, node: PlanNode) -> Moved
     requires node { IsNodeOf plan.now node }
-    requires no_leaf { sort_of (site plan.now node).node ≢ sort.Leaf }
+    requires no_leaf { sort_of (site plan.now node) ≢ sort.Leaf }
     requires some { 1 ≤ plan.now.limit }
     ensures { IsMoved (IsPartOf plan.now node 1) null_data result }
 {
@@ -101,7 +101,7 @@ fn advance_row<Z: SizeSet>(
     meter: &mut Meter,
 ) -> Result<Moved, AllocError>
     requires node { IsNodeOf plan.now node }
-    requires sort { sort_of (site plan.now node).node ≡ sort.Row }
+    requires sort { sort_of (site plan.now node) ≡ sort.Row }
     requires known { AreUsed plan.now.pools (slots_from plan.now node 0) (rows_of used.now) }
     requires row { IsRow plan.now node (node_count (data_of tree) - 1) (rows_of used.now) (data_of tree) }
     requires limit { node_count (data_of tree) ≤ plan.now.limit }
@@ -143,7 +143,7 @@ fn advance_slots<Z: SizeSet>(
     meter: &mut Meter,
 ) -> Result<Step, AllocError>
     requires node { IsNodeOf plan.now node }
-    requires row { sort_of (site plan.now node).node ≡ sort.Row }
+    requires row { sort_of (site plan.now node) ≡ sort.Row }
     requires taken { taken ≤ place }
     requires within { taken ≤ length members.old.items }
     requires known { AreUsed plan.now.pools (slots_from plan.now node place) (rows_of used.now) }
@@ -187,7 +187,7 @@ fn advance_filled<Z: SizeSet>(
     meter: &mut Meter,
 ) -> Result<Step, AllocError>
     requires node { IsNodeOf plan.now node }
-    requires row { sort_of (site plan.now node).node ≡ sort.Row }
+    requires row { sort_of (site plan.now node) ≡ sort.Row }
     requires slot { IsSlotOf plan.now node place slot.now }
     requires filled { Begins slot.now.name.now (members_of (drop taken members.old.items)) }
     requires taken { taken ≤ place }
@@ -293,8 +293,8 @@ fn advance_list<Z: SizeSet>(
     meter: &mut Meter,
 ) -> Result<Moved, AllocError>
     requires node { IsNodeOf plan.now node }
-    requires sort { sort_of (site plan.now node).node ≡ sort.List }
-    requires part { IsPart plan.now.pools (site plan.now node).node (data_of tree) }
+    requires sort { sort_of (site plan.now node) ≡ sort.List }
+    requires part { IsPart plan.now.pools (site plan.now node) (data_of tree) }
     requires no_null { data_of tree ≢ null_data }
     requires limit { node_count (data_of tree) ≤ plan.now.limit }
     ensures ok { IfOk result (λ moved. IsMoved (IsPartOf plan.now node (node_count (data_of tree))) (data_of tree) moved) }
@@ -331,7 +331,7 @@ fn advance_items<Z: SizeSet>(
     requires node { IsNodeOf plan.now node }
     requires child { child < node }
     requires item { item_site (site plan.now node) ≡ Some (site plan.now child) }
-    requires part { IsPart plan.now.pools (site plan.now node).node (list_data (items_of items.old.items)) }
+    requires part { IsPart plan.now.pools (site plan.now node) (list_data (items_of items.old.items)) }
     requires limit { items_count (items_of items.old.items) < plan.now.limit }
     ensures moved { IfOk result (λ step. AreItemsMoved step plan.now node (items_of items.old.items) (items_of items.new.items)) }
     ensures steps { Costs plan.now meter.old meter.new (2 * items_count (items_of items.old.items)) }

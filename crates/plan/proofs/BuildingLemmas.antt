@@ -14,8 +14,9 @@ use Rattle.schema.specs.Nodes.View.{node_of, fields_of}
 use Rattle.schema.specs.declared.node.Field.{Field}
 use Rattle.plan.specs.Pools.Pools.{Pools}
 use Rattle.plan.specs.Samples.Sites.{Site, plain, item_site, item_keys, sites_from, sites_below, sites_of_fields, Slot, slots, slots_at, field_slots, value_slot}
-use Rattle.plan.specs.Samples.Candidates.{sort_of, AreCandidates}
-use Rattle.plan.specs.Samples.Sizes.{HasSize, bounds_of, IsUpTo}
+use Rattle.plan.specs.Samples.Candidates.{sort_at, sort_of, AreCandidates}
+use Rattle.plan.specs.Samples.Sizes.{HasSize, bounds_at, bounds_of, IsUpTo}
+use Rattle.plan.specs.Samples.RuleOfParts.{admits_null}
 use Rattle.plan.specs.declared.sort.Sort.TheVariants.{Leaf as LeafSort, Row}
 use Rattle.schema.specs.declared.node.Bounds.{Bounds}
 use Rattle.stored.specs.Objects.Becomes.{is_nullable}
@@ -75,9 +76,9 @@ sites_push [] x = append_none (sites_from (node_of x.node) [])
 sites_push (y ∷ xs) x =
     ap (λ l. sites_from (node_of y.node) [] ++ l) (sites_push xs x) ∙ sym (append_assoc (sites_from (node_of y.node) []) (sites_of_fields (fields_of xs)) (sites_from (node_of x.node) []))
 
-slots_push : (keys : List (List ℕ)) (xs : List Field) (x : Field) → field_slots keys (fields_of (xs ++ x ∷ [])) ≡ field_slots keys (fields_of xs) ++ (record { name = x.name; node = node_of x.node; must = x.required || is_some (option_map data_of x.default); key = is_among x.name keys }) ∷ []
+slots_push : (keys : List (List ℕ)) (xs : List Field) (x : Field) → field_slots keys (fields_of (xs ++ x ∷ [])) ≡ field_slots keys (fields_of xs) ++ (record { name = x.name; site = plain (node_of x.node); must = x.required || is_some (option_map data_of x.default); key = is_among x.name keys }) ∷ []
 slots_push keys [] x = refl
-slots_push keys (y ∷ xs) x = ap (λ l. record { name = y.name; node = node_of y.node; must = y.required || is_some (option_map data_of y.default); key = is_among y.name keys } ∷ l) (slots_push keys xs x)
+slots_push keys (y ∷ xs) x = ap (λ l. record { name = y.name; site = plain (node_of y.node); must = y.required || is_some (option_map data_of y.default); key = is_among y.name keys } ∷ l) (slots_push keys xs x)
 
 sound_push : (xs : List Field) (x : Field) → AreFieldsSound (fields_of (xs ++ x ∷ [])) → AreFieldsSound (fields_of xs) × IsSound (node_of x.node)
 sound_push [] x h = (tt, h.0)
@@ -166,11 +167,11 @@ three_ok (Err e) A B C D a b c d = tt
 
 -- a row whose slots' nodes are there
 pub row_built : {Z : Type 0} (holds : Z → ℕ → Type 0) (limit : ℕ) (v : Values) (old mid new : List (Entry Z)) (nullable : Bool) (description : Option (List ℕ)) (sort : Sort) (keys : List (List ℕ)) (b : Bounds) (es : List SlotEntry) (n : ℕ)
-    → IsNode (node nullable description sort) → sort_of (node nullable description sort) ≡ Row → bounds_of (node nullable description sort) ≡ b
+    → IsNode (node nullable description sort) → sort_at (node nullable description sort) ≡ Row → bounds_at (node nullable description sort) ≡ b
     → n ≡ length old + length (sites_below sort) → length new ≡ n + 1
     → ((P : Pools) (sites : List Site) → AreValues P v → IsSortSound sort → Stand sites (length old) (sites_below sort) → AreRight holds limit P v sites old → AreRight holds limit P v sites mid)
     → ((P : Pools) (sites : List Site) → AreValues P v → Stand sites (length old) (sites_below sort) → AreSlots v.names.items sites n es (slots_at P (node nullable description sort) keys))
-    → ((P : Pools) (sites : List Site) → AreRight holds limit P v sites mid → IsNode (site_at sites n).node → sort_of (site_at sites n).node ≡ Row → bounds_of (site_at sites n).node ≡ b → is_nullable (site_at sites n).node ≡ nullable
+    → ((P : Pools) (sites : List Site) → AreRight holds limit P v sites mid → IsNode (site_at sites n).node → sort_of (site_at sites n) ≡ Row → bounds_of (site_at sites n) ≡ b → admits_null (site_at sites n) ≡ nullable
     → AreSlots v.names.items sites n es (slots P (site_at sites n)) → AreRight holds limit P v sites new)
     → IsBuilt holds limit v old new (node nullable description sort) keys n
 row_built holds limit v old mid new nullable description sort keys b es n o row bounds number count below are right =
@@ -189,7 +190,7 @@ list_built holds limit v old mid new nullable description M type item_names b ke
     let below = last_site sites (length old) item M (item_keys type item_names) (omega (arith, built.last, built.count)) stand in
     right P sites description (built.right P sites values sound.1 stand before) (ap (λ s. Site.node s) here) (rw (here, below) refl) (rw here o) (rw here sound.0))
 
-leaf_below : (nullable : Bool) (description : Option (List ℕ)) (sort : Sort) → sort_of (node nullable description sort) ≡ LeafSort → length (sites_below sort) ≡ 0
+leaf_below : (nullable : Bool) (description : Option (List ℕ)) (sort : Sort) → sort_at (node nullable description sort) ≡ LeafSort → length (sites_below sort) ≡ 0
 leaf_below n t (scalar kind cs) leaf = refl
 leaf_below n t (object fs preserves type b) leaf = absurd (cc)
 leaf_below n t (nodes.map M type b) leaf = absurd (cc)
@@ -197,9 +198,9 @@ leaf_below n t (list M type keys b) leaf = absurd (cc)
 leaf_below n t open_ leaf = refl
 
 -- a leaf
-pub leaf_built : {Z : Type 0} (holds : Z → ℕ → Type 0) (limit : ℕ) (v : Values) (old new : List (Entry Z)) (N : Node) (keys : List (List ℕ)) (l : Leaf) (sizes : Z) (n : ℕ) → sort_of N ≡ LeafSort
+pub leaf_built : {Z : Type 0} (holds : Z → ℕ → Type 0) (limit : ℕ) (v : Values) (old new : List (Entry Z)) (N : Node) (keys : List (List ℕ)) (l : Leaf) (sizes : Z) (n : ℕ) → sort_at N ≡ LeafSort
     → new ≡ old ++ record { sizes = sizes; nullable = is_nullable N; content = content.Leaf l } ∷ [] → n ≡ length old → length new ≡ n + 1
-    → ((P : Pools) → AreValues P v → AreCandidates P N (candidates_of v l)) → ((P : Pools) → AreValues P v → IsUpTo limit (holds sizes) (HasSize P N)) → IsBuilt holds limit v old new N keys n
+    → ((P : Pools) → AreValues P v → AreCandidates P (record { node = N; keys = keys }) (candidates_of v l)) → ((P : Pools) → AreValues P v → IsUpTo limit (holds sizes) (HasSize P (record { node = N; keys = keys }))) → IsBuilt holds limit v old new N keys n
 leaf_built holds limit v old new (node nullable description sort) keys l sizes n leaf is number count candidates sized =
     let N = node nullable description sort in
     let none : length (sites_below sort) ≡ 0 = leaf_below nullable description sort leaf in

@@ -1,5 +1,5 @@
 -- The bounds of lists of which no two items may be alike.
-use Rattle.std.specs.Prelude.{◌≡◌, ℕ, ◌-◌, ◌^◌, ◌≤◌, ◌<◌, ◌⊎◌, ◌↔◌, Bool, get_or, true, false, List, Option, Some, None, min, nat_lt, length, filter}
+use Rattle.std.specs.Prelude.{◌≡◌, ℕ, ◌-◌, ◌^◌, ◌≤◌, ◌<◌, ◌⊎◌, ◌↔◌, Bool, get_or, true, false, List, Option, Some, None, min, nat_lt, length}
 use Rattle.std.proofs.Common.{refl, ap, sym, ◌∙◌, subst, arith}
 use Rattle.std.proofs.lemmas.Option.{same_Some}
 use Rattle.std.proofs.lemmas.Bool.{le-ltb, ltb-false}
@@ -10,11 +10,10 @@ use Rattle.schema.specs.declared.node.Bounds.{Bounds}
 use Rattle.schema.specs.declared.node.ListType.TheVariants.{Atomic, Set, Map}
 use Rattle.stored.specs.Objects.Fault as fault
 use Rattle.plan.specs.Pools.Pools.{Pools}
-use Rattle.plan.specs.Samples.Sites.{Site, item_site, item_site_at, item_keys, slots, slots_at}
-use Rattle.plan.specs.Samples.Candidates.{sort_of, distinct_of, HasCount}
+use Rattle.plan.specs.Samples.Sites.{Site, item_site, item_site_at, item_keys, slots}
+use Rattle.plan.specs.Samples.Candidates.{sort_at, sort_of, distinct_of, HasCount}
 use Rattle.plan.specs.Samples.Sizes.{HasMore, bounds_of, IsUpTo}
 use Rattle.plan.specs.Sets.{IsSum}
-use Rattle.stored.specs.Objects.Becomes.{is_nullable}
 use Rattle.std.specs.declared.vec.Vec.{Vec}
 use Rattle.std.specs.declared.alloc.Global.{Global}
 use Rattle.plan.specs.Internal.Arena.{IsRight}
@@ -23,8 +22,7 @@ use Rattle.plan.specs.declared.values.Values.{Values}
 use Rattle.plan.specs.declared.sort.Distinct.{Distinct}
 use Rattle.plan.specs.declared.arena.PlanNode.{PlanNode}
 use Rattle.plan.specs.declared.arena.Content.TheVariants as content
-use Rattle.plan.specs.Samples.RuleOfParts.{alike_at}
-use Rattle.plan.specs.Samples.NoDeadEnd.{is_key, AreCounts}
+use Rattle.plan.specs.Samples.RuleOfParts.{alike_by, alike_at, admits_null}
 use Rattle.plan.specs.Internal.Lists.{HasMoreFree, HasMoreApart, AreMore, cut, most_or}
 use Rattle.plan.specs.Internal.PartLaws.{PartLaws}
 use Rattle.plan.specs.Samples.Keys.{HasTuples}
@@ -41,10 +39,10 @@ use Rattle.plan.proofs.MapListLemmas.{map_keyed, key_slot}
 -- the keys of the items of a map list are leaves of a row
 pub keys_leaves : (P : Pools) (M : Node) (keys : List (List ℕ)) → IsNode M → HasKeys M keys → AreKeysLeaves (slots P (record { node = M; keys = keys }))
 keys_leaves P (node n t (object fs preserves type b)) keys o h = λ s a key.
-    plain_leaf s.node (key_slot fs keys o h.2 s a key).2
+    plain_leaf s.site.node (key_slot fs keys o h.2 s a key).2
 keys_leaves P M keys o h = absurd h
 
-pub keys_row : (M : Node) (keys : List (List ℕ)) → HasKeys M keys → sort_of M ≡ Row
+pub keys_row : (M : Node) (keys : List (List ℕ)) → HasKeys M keys → sort_at M ≡ Row
 keys_row (node n t (object fs preserves type b)) keys h = refl
 keys_row M keys h = absurd h
 
@@ -56,7 +54,7 @@ below_cut (Some m) p q n h e =
     le-ltb (min m q) n (omega arith)
 
 -- a bound above the limit is as good as another
-same_cut : (P : Pools) (limit : ℕ) (M : Node) (b : Bounds) (p q t m : ℕ) → ((n : ℕ) → n ≤ limit → n ≤ p → n ≤ q) → HasMoreFree P limit M (cut p b) t m → HasMoreFree P limit M (cut q b) t m
+same_cut : (P : Pools) (limit : ℕ) (M : Site) (b : Bounds) (p q t m : ℕ) → ((n : ℕ) → n ≤ limit → n ≤ p → n ≤ q) → HasMoreFree P limit M (cut p b) t m → HasMoreFree P limit M (cut q b) t m
 same_cut P limit M b p q t m less h =
     let n = fault.items_count h.items in
     let c = count_nodes h.items in
@@ -65,47 +63,45 @@ same_cut P limit M b p q t m less h =
 -- ---- by the list type
 
 abbrev Cuts : Pools → ℕ → Site → Site → Bounds → Type 0
-Cuts P limit s M b = (t m : ℕ) → HasMoreApart P limit M.node (alike_at s.node) (bounds_of s.node) t m ↔ HasMoreFree P limit M.node b t m
+Cuts P limit s M b = (t m : ℕ) → HasMoreApart P limit M (alike_at s) (bounds_of s) t m ↔ HasMoreFree P limit M b t m
 
-cut_by : PartLaws → (P : Pools) (limit : ℕ) (s M : Site) (b : Bounds) → item_site s ≡ Some M → Cuts P limit s M b → IsCutTo P limit s.node M.node b
+cut_by : PartLaws → (P : Pools) (limit : ℕ) (s M : Site) (b : Bounds) → item_site s ≡ Some M → Cuts P limit s M b → IsCutTo P limit s M b
 cut_by laws P limit s M b is cuts t m = let x = more_parts laws P s M is limit t m in ((λ h. (cuts t m).0 (x.0 h)), λ h. x.1 ((cuts t m).1 h))
 
-pub free_cut : PartLaws → (P : Pools) (limit : ℕ) (s M : Site) (n : Bool) (d : Option (List ℕ)) (K : Node) (keys : List (List ℕ)) (b : Bounds) → s.node ≡ node n d (list K Atomic keys b) → item_site s ≡ Some M → IsCutTo P limit s.node M.node b
-free_cut laws P limit s M n d K keys b is item = cut_by laws P limit s M b item (rw is (λ t m. more_free P limit M.node (alike_at (node n d (list K Atomic keys b))) b t m (λ v w. refl)))
+pub free_cut : PartLaws → (P : Pools) (limit : ℕ) (s M : Site) (n : Bool) (d : Option (List ℕ)) (K : Node) (keys : List (List ℕ)) (b : Bounds) → s.node ≡ node n d (list K Atomic keys b) → item_site s ≡ Some M → IsCutTo P limit s M b
+free_cut laws P limit s M n d K keys b is item = cut_by laws P limit s M b item (rw is (λ t m. more_free P limit M (alike_by (node n d (list K Atomic keys b))) b t m (λ v w. refl)))
 
 pub item_is : (s M : Site) (n : Bool) (d : Option (List ℕ)) (K : Node) (type : ListType) (keys : List (List ℕ)) (b : Bounds) → s.node ≡ node n d (list K type keys b) → item_site s ≡ Some M → record { node = K; keys = item_keys type keys } ≡ M
 item_is s M n d K type keys b is item = same_Some _ M (sym (ap item_site_at is) ∙ item)
 
 pub set_cut : StoredLaw → PartLaws → (P : Pools) (limit : ℕ) (s M : Site) (n : Bool) (d : Option (List ℕ)) (K : Node) (keys : List (List ℕ)) (b : Bounds) (count : ℕ) → s.node ≡ node n d (list K Set keys b) → item_site s ≡ Some M
-    → IsPlainScalar M.node → HasCount P M.node count → IsCutTo P limit s.node M.node (cut count b)
+    → IsPlainScalar M.node → HasCount P M count → IsCutTo P limit s M (cut count b)
 set_cut stored laws P limit s M n d K keys b count is item plain has =
-    let k = set_keyed stored P M.node count plain has in
+    let k = set_keyed stored P M count plain has in
     cut_by laws P limit s M (cut count b) item (rw (is, ← k.1) (λ t m. more_apart k.0 limit b t m))
 
 pub map_cut : StoredLaw → PartLaws → (P : Pools) (limit : ℕ) (s M : Site) (n : Bool) (d : Option (List ℕ)) (K : Node) (keys : List (List ℕ)) (b : Bounds) (count : ℕ) → limit < 2 ^ 64 - 1 → s.node ≡ node n d (list K Map keys b) → item_site s ≡ Some M
-    → IsNode M.node → HasKeys M.node keys → HasTuples P (slots P M) count → IsCutTo P limit s.node M.node (cut count b)
+    → IsNode M.node → HasKeys M.node M.keys → HasTuples P (slots P M) count → IsCutTo P limit s M (cut count b)
 map_cut stored laws P limit s M n d K keys b count room is item o h has =
-    let e = item_is s M n d K Map keys b is item in
-    let same : keys ≡ M.keys = ap (λ x. Site.keys x) e in
-    let counts = subst (λ ks. AreCounts P (filter is_key (slots_at P M.node ks)) has.0) (sym same) has.1.0 in
-    let k = map_keyed stored laws P M.node keys has.0 o h counts in
+    let same : keys ≡ M.keys = ap (λ x. Site.keys x) (item_is s M n d K Map keys b is item) in
+    let k = map_keyed stored laws P M.node M.keys has.0 o h has.1.0 in
     let tuples = length k.0.keys in
     let capped : count ≡ min tuples (2 ^ 64 - 1) = has.1.1 ∙ ap (λ x. min x (2 ^ 64 - 1)) (sym k.1) in
-    cut_by laws P limit s M (cut count b) item (rw is (λ t m.
+    cut_by laws P limit s M (cut count b) item (rw (is, same) (λ t m.
     let x = more_apart k.0 limit b t m in
-    ((λ a. same_cut P limit M.node b tuples count t m (λ i l below. omega arith) (x.0 a)), λ f. x.1 (same_cut P limit M.node b count tuples t m (λ i l below. omega arith) f))))
+    ((λ a. same_cut P limit M b tuples count t m (λ i l below. omega arith) (x.0 a)), λ f. x.1 (same_cut P limit M b count tuples t m (λ i l below. omega arith) f))))
 
 -- what the schema grants of the items
 pub set_items : (s M : Site) (n : Bool) (d : Option (List ℕ)) (K : Node) (keys : List (List ℕ)) (b : Bounds) → s.node ≡ node n d (list K Set keys b) → item_site s ≡ Some M → HasSoundItems s.node → IsPlainScalar M.node
 set_items s M n d K keys b is item sound = subst IsPlainScalar (ap (λ x. Site.node x) (item_is s M n d K Set keys b is item)) (subst HasSoundItems is sound)
 
 pub map_items : (s M : Site) (n : Bool) (d : Option (List ℕ)) (K : Node) (keys : List (List ℕ)) (b : Bounds) → s.node ≡ node n d (list K Map keys b) → item_site s ≡ Some M → IsNode s.node → HasSoundItems s.node
-    → IsNode M.node × HasKeys M.node keys × (sort_of M.node ≡ Row) × ((P : Pools) → AreKeysLeaves (slots P M))
+    → IsNode M.node × HasKeys M.node M.keys × (sort_of M ≡ Row) × ((P : Pools) → AreKeysLeaves (slots P M))
 map_items s M n d K keys b is item o sound =
     let e = item_is s M n d K Map keys b is item in
     let here : IsNode K = subst IsNode is o in
     let has : HasKeys K keys = subst HasSoundItems is sound in
-    (subst (λ x. IsNode (Site.node x)) e here, subst (λ x. HasKeys (Site.node x) keys) e has, subst (λ x. sort_of (Site.node x) ≡ Row) e (keys_row K keys has), λ P. subst (λ x. AreKeysLeaves (slots P x)) e (keys_leaves P K keys here has))
+    (subst (λ x. IsNode (Site.node x)) e here, subst (λ x. HasKeys (Site.node x) (Site.keys x)) e has, subst (λ x. sort_of x ≡ Row) e (keys_row K keys has), λ P. subst (λ x. AreKeysLeaves (slots P x)) e (keys_leaves P K keys here has))
 
 -- ---- the entry of a list
 
@@ -113,18 +109,18 @@ same_sizes : (limit : ℕ) (A Q R : ℕ → Type 0) → ((n : ℕ) → R n ↔ Q
 same_sizes limit A Q R same h n = ((λ a. let x = (h n).0 a in (x.0, (same n).1 x.1)), λ r. (h n).1 (r.0, (same n).0 r.1))
 
 pub list_right : {Z : Type 0} (holds : Z → ℕ → Type 0) (limit : ℕ) (P : Pools) (v : Values) (sites : List Site) (i : ℕ) (item : PlanNode) (distinct : Distinct) (more : Vec Z Global) (b : Bounds) (nullable : Bool) (z sizes : Z)
-    → PartLaws → 1 ≤ limit → item_site (site_at sites i) ≡ Some (site_at sites item) → item < i → distinct ≡ distinct_of (site_at sites i).node → is_nullable (site_at sites i).node ≡ nullable
-    → IsCutTo P limit (site_at sites i).node (site_at sites item).node b → length more.items ≡ limit → AreMore holds limit P (site_at sites item).node b more.items → z ≡ get_or more.items 0 z
+    → PartLaws → 1 ≤ limit → item_site (site_at sites i) ≡ Some (site_at sites item) → item < i → distinct ≡ distinct_of (site_at sites i) → admits_null (site_at sites i) ≡ nullable
+    → IsCutTo P limit (site_at sites i) (site_at sites item) b → length more.items ≡ limit → AreMore holds limit P (site_at sites item) b more.items → z ≡ get_or more.items 0 z
     → ((n : ℕ) → holds sizes n ↔ (((nullable ≡ true) × (n ≡ 1)) ⊎ ((n ≤ limit) × IsSum (λ k. k ≡ 1) (holds z) n)))
     → IsRight holds limit P v sites i (record { sizes = sizes; nullable = nullable; content = content.List (record { item = item; distinct = distinct; more = more }) })
 list_right {Z = Z} holds limit P v sites i item distinct more b nullable z sizes laws room is below kinds null cut_to whole are is_z sized =
     let s = site_at sites i in
-    let each : (t : ℕ) (y : Z) → t < length more.items → IsUpTo limit (holds (get_or more.items t y)) (HasMore P limit s.node t) = λ t y l.
-    same_sizes limit (holds (get_or more.items t y)) (HasMoreFree P limit (site_at sites item).node b t) (HasMore P limit s.node t) (cut_to t) (are t y l)
+    let each : (t : ℕ) (y : Z) → t < length more.items → IsUpTo limit (holds (get_or more.items t y)) (HasMore P limit s t) = λ t y l.
+    same_sizes limit (holds (get_or more.items t y)) (HasMoreFree P limit (site_at sites item) b t) (HasMore P limit s t) (cut_to t) (are t y l)
     in
-    let first : IsUpTo limit (holds z) (HasMore P limit s.node 0) = rw (← is_z) at (each 0 z (omega arith)) in
+    let first : IsUpTo limit (holds z) (HasMore P limit s 0) = rw (← is_z) at (each 0 z (omega arith)) in
     record {
-      sizes = whole_up_to limit s.node P (HasMore P limit s.node 0) (holds z) (holds sizes) room (λ n l. list_sizes laws P s (site_at sites item) is limit n l) first (rw (← null) at sized);
+      sizes = whole_up_to limit s P (HasMore P limit s 0) (holds z) (holds sizes) room (λ n l. list_sizes laws P s (site_at sites item) is limit n l) first (rw (← null) at sized);
       nullable = sym null;
       content = record { item = is; below = below; distinct = kinds; whole = whole; more = each };
     }

@@ -14,14 +14,14 @@ use Rattle.stored.specs.Objects.Fault as fault
 use Rattle.stored.specs.Objects.Fault.{are_alike}
 use Rattle.stored.specs.Objects.StoredByParts.{IsWithin, are_apart}
 use Rattle.plan.specs.Pools.Pools.{Pools}
-use Rattle.plan.specs.Samples.Sites.{Site, item_site, item_keys, Slot, slots}
-use Rattle.plan.specs.Samples.Candidates.{sort_of, AreCandidates}
+use Rattle.plan.specs.Samples.Sites.{Site, item_site, item_site_at, item_keys, Slot, slots}
+use Rattle.plan.specs.Samples.Candidates.{sort_at, sort_of, AreCandidates}
 use Rattle.plan.specs.Samples.Sizes.{AreFillings, filled_count, HasRest, HasMore, items_from, bounds_of}
-use Rattle.plan.specs.Samples.RuleOfParts.{AreParts, alike_at, IsListPart, RuleOfParts}
+use Rattle.plan.specs.Samples.RuleOfParts.{AreParts, alike_by, alike_at, IsListPart, RuleOfParts}
 use Rattle.plan.specs.Samples.NoDeadEnd.{RowCompletes, items_then, ListCompletes, is_key, AreCounts, NoDeadEnd}
 use Rattle.plan.specs.Internal.PartLaws.{IsItemsPart, PartLaws}
 use Rattle.plan.specs.Internal.Keyed.{Keyed}
-use Rattle.plan.specs.declared.sort.Sort.TheVariants.{Leaf, Row}
+use Rattle.plan.specs.declared.sort.Sort.TheVariants.{Leaf, Row, List as ListSort}
 use Rattle.plan.proofs.ApartLemmas.{among_filter}
 use Rattle.plan.proofs.CutLemmas.{keys_leaves, keys_row}
 use Rattle.plan.proofs.KeyedLemmas.{then_are, CompletesApart, completes_free, completes_apart}
@@ -42,15 +42,15 @@ or_so {A = A} {B = B} {C = C} r s = (
 )
 
 -- an object may end behind its last slot where it has as many members as it may
-row_ends : (P : Pools) (s : Site) (t : ℕ) → IsWithin (bounds_of s.node) t ↔ HasRest P s (length (slots P s)) t 0
-row_ends P s t = let r = fill_none P (bounds_of s.node) t 0 in rw (drop_all (slots P s)) ((λ w. r.1 (refl, w)), λ h. (r.0 h).1)
+row_ends : (P : Pools) (s : Site) (t : ℕ) → IsWithin (bounds_of s) t ↔ HasRest P s (length (slots P s)) t 0
+row_ends P s t = let r = fill_none P (bounds_of s) t 0 in rw (drop_all (slots P s)) ((λ w. r.1 (refl, w)), λ h. (r.0 h).1)
 
 no_nodes : (ds : Items) → fault.items_count ds ≡ 0 → items_count ds ≡ 0
 no_nodes no_items e = refl
 no_nodes (item d ds) e = absurd (omega arith)
 
 -- a list may end where it has as many items as it may
-list_ends : PartLaws → (P : Pools) (s M : Site) → item_site s ≡ Some M → (limit : ℕ) (v : Data) → node_count v ≤ limit → IsItemsPart P s.node M.node v ↔ IsListPart P limit s.node M.node v
+list_ends : PartLaws → (P : Pools) (s M : Site) → item_site s ≡ Some M → (limit : ℕ) (v : Data) → node_count v ≤ limit → IsItemsPart P s M v ↔ IsListPart P limit s M v
 list_ends laws P s M is limit v l =
     let r = λ (ds : Items). more_parts laws P s M is limit (fault.items_count ds) 0 in (
       (λ q.
@@ -70,17 +70,23 @@ list_ends laws P s M is limit v l =
           record { items = q.items; is = q.is; are = q.are; apart = q.apart; within = rw e at h.within },
     )
 
--- the node has candidates if it is a leaf
-abbrev pub HasCandidates : Pools → Node → Type 0
-HasCandidates P N = sort_of N ≡ Leaf → (vs : List Data) × AreCandidates P N vs
+-- the site has candidates if it is a leaf
+abbrev pub HasCandidates : Pools → Site → Type 0
+HasCandidates P s = sort_of s ≡ Leaf → (vs : List Data) × AreCandidates P s vs
 
-pub rule_of_parts : PartLaws → (P : Pools) (limit : ℕ) (s : Site) → IsNode s.node → HasCandidates P s.node → RuleOfParts P limit s
+-- a list has items of one site
+list_item : (N : Node) → sort_at N ≡ ListSort → (M : Site) × (item_site_at N ≡ Some M)
+list_item (node n t (list N type keys b)) e = (_, refl)
+list_item N e = cc
+
+pub rule_of_parts : PartLaws → (P : Pools) (limit : ℕ) (s : Site) → IsNode s.node → HasCandidates P s → RuleOfParts P limit s
 rule_of_parts laws P limit s o h = record {
   leaf = λ v is. let c = h is in ((λ p. (c.0, (c.1, (c.1.each v).1 p))), λ x. (x.1.0.each v).0 x.1.1);
   row = λ v is. or_so (laws.row P s v o is) (
     (λ q. record { fillings = q.fillings; is = q.is; are = q.are; ends = (row_ends P s (filled_count q.fillings)).0 q.within }),
     λ q. record { fillings = q.fillings; is = q.is; are = q.are; within = (row_ends P s (filled_count q.fillings)).1 q.ends },
   );
+  items = list_item s.node;
   list = λ M v is l. or_so (laws.list P s M v is) (list_ends laws P s M is limit v l);
 }
 
@@ -97,7 +103,7 @@ join_count [] hs = omega arith
 join_count (None ∷ gs) hs = join_count gs hs
 join_count (Some v ∷ gs) hs = omega (arith, join_count gs hs)
 
-row_completes : PartLaws → (P : Pools) (s : Site) → IsNode s.node → sort_of s.node ≡ Row → (front : List (Option Data)) (place m : ℕ) → AreFillings P (take place (slots P s)) front → HasRest P s place (filled_count front) m
+row_completes : PartLaws → (P : Pools) (s : Site) → IsNode s.node → sort_of s ≡ Row → (front : List (Option Data)) (place m : ℕ) → AreFillings P (take place (slots P s)) front → HasRest P s place (filled_count front) m
     → RowCompletes P s place front m
 row_completes laws P s o is front place m h r =
     let are = rw (take-append-drop place (slots P s)) at (join_are P (take place (slots P s)) (drop place (slots P s)) front r.fillings h r.are) in
@@ -110,7 +116,7 @@ row_completes laws P s o is front place m h r =
 
 -- ---- lists
 
-pub counts : (P : Pools) (ss : List Slot) → ((s : Slot) → Among ss s → (vs : List Data) × AreCandidates P s.node vs) → (ns : List ℕ) × AreCounts P ss ns
+pub counts : (P : Pools) (ss : List Slot) → ((s : Slot) → Among ss s → (vs : List Data) × AreCandidates P s.site vs) → (ns : List ℕ) × AreCounts P ss ns
 counts P [] h = ([], tt)
 counts P (s ∷ ss) h =
     let c = h s (inl refl) in
@@ -119,8 +125,8 @@ counts P (s ∷ ss) h =
 
 -- the site and the slots of a row have candidates where they are leaves
 pub record HaveCandidates (P : Pools) (s : Site) : Type 0 where
-  pub own : HasCandidates P s.node
-  pub below : sort_of s.node ≡ Row → (t : Slot) → Among (slots P s) t → HasCandidates P t.node
+  pub own : HasCandidates P s
+  pub below : sort_of s ≡ Row → (t : Slot) → Among (slots P s) t → HasCandidates P t.site
 
 key_counts : (P : Pools) (N : Node) (keys : List (List ℕ)) → IsNode N → HasKeys N keys → HaveCandidates P (record { node = N; keys = keys }) → (ns : List ℕ) × AreCounts P (filter is_key (slots P (record { node = N; keys = keys }))) ns
 key_counts P N keys o h c =
@@ -129,28 +135,28 @@ key_counts P N keys o h c =
 
 -- no two items are alike, or each has a key
 told_apart : StoredLaw → PartLaws → (P : Pools) (type : ListType) (keys : List (List ℕ)) (N : Node) → IsNode N → AreToldApart type keys N → HaveCandidates P (record { node = N; keys = item_keys type keys })
-    → ((v w : Data) → are_alike type keys v w ≡ false) ⊎ Keyed P N (are_alike type keys)
+    → ((v w : Data) → are_alike type keys v w ≡ false) ⊎ Keyed P (record { node = N; keys = item_keys type keys }) (are_alike type keys)
 told_apart stored laws P Atomic keys N o h c = inl (λ v w. refl)
-told_apart stored laws P Set keys N o h c = let vs = c.own (plain_leaf N h) in inr (set_keyed stored P N (length vs.0) h (record { candidates = vs.0; are = vs.1; count_is = refl })).0
+told_apart stored laws P Set keys N o h c = let vs = c.own (plain_leaf N h) in inr (set_keyed stored P _ (length vs.0) h (record { candidates = vs.0; are = vs.1; count_is = refl })).0
 told_apart stored laws P Map keys N o h c = let ns = key_counts P N keys o h c in inr (map_keyed stored laws P N keys ns.0 o h ns.1).0
 
 items_told : StoredLaw → PartLaws → (P : Pools) (N : Node) (keys : List (List ℕ)) (M : Site) → item_site (record { node = N; keys = keys }) ≡ Some M → IsNode N → HasSoundItems N → HaveCandidates P M
-    → ((v w : Data) → alike_at N v w ≡ false) ⊎ Keyed P M.node (alike_at N)
-items_told stored laws P (node n t (list K type ks b)) keys M is o h c = subst (λ (s : Site). HaveCandidates P s → ((v w : Data) → are_alike type ks v w ≡ false) ⊎ Keyed P s.node (are_alike type ks)) (same_Some _ M is) (told_apart stored laws P type ks K o h) c
+    → ((v w : Data) → alike_by N v w ≡ false) ⊎ Keyed P M (alike_by N)
+items_told stored laws P (node n t (list K type ks b)) keys M is o h c = subst (λ (s : Site). HaveCandidates P s → ((v w : Data) → are_alike type ks v w ≡ false) ⊎ Keyed P s (are_alike type ks)) (same_Some _ M is) (told_apart stored laws P type ks K o h) c
 items_told stored laws P N keys M is o h c = absurd (cc)
 
-list_completes : StoredLaw → PartLaws → (P : Pools) (limit : ℕ) (s M : Site) → item_site s ≡ Some M → IsNode s.node → HasSoundItems s.node → HaveCandidates P M → (front : Items) (m : ℕ) → AreParts P M.node front → are_apart (alike_at s.node) front ≡ true
-    → HasMore P limit s.node (fault.items_count front) m → ListCompletes P s.node front m
+list_completes : StoredLaw → PartLaws → (P : Pools) (limit : ℕ) (s M : Site) → item_site s ≡ Some M → IsNode s.node → HasSoundItems s.node → HaveCandidates P M → (front : Items) (m : ℕ) → AreParts P M front → are_apart (alike_at s) front ≡ true
+    → HasMore P limit s (fault.items_count front) m → ListCompletes P s front m
 list_completes stored laws P limit s M is o h c front m are apart more =
-    let b = bounds_of s.node in
+    let b = bounds_of s in
     let a = (more_parts laws P s M is limit (fault.items_count front) m).0 more in
-    let r : CompletesApart P M.node (alike_at s.node) b front m = elim (items_told stored laws P s.node s.keys M is o h c) [
-      | inl never ↦ completes_free P limit M.node (alike_at s.node) b front m never a
+    let r : CompletesApart P M (alike_at s) b front m = elim (items_told stored laws P s.node s.keys M is o h c) [
+      | inl never ↦ completes_free P limit M (alike_at s) b front m never a
       | inr K ↦ completes_apart K limit b front m are apart a
     ] in
     record {
       back = r.0;
-      part = (laws.list P s M _ is).1 (inr (record { items = items_then front r.0; is = refl; are = then_are P M.node front r.0 are r.1.0; apart = r.1.1; within = r.1.2 }));
+      part = (laws.list P s M _ is).1 (inr (record { items = items_then front r.0; is = refl; are = then_are P M front r.0 are r.1.0; apart = r.1.1; within = r.1.2 }));
       nodes_are = r.1.3;
     }
 

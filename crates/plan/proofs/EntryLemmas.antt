@@ -5,12 +5,12 @@ use Rattle.std.specs.declared.vec.Vec.{Vec}
 use Rattle.std.specs.declared.alloc.Global.{Global}
 use Rattle.schema.specs.Nodes.Node.{IsNode}
 use Rattle.schema.specs.declared.node.Bounds.{Bounds}
-use Rattle.stored.specs.Objects.Becomes.{is_nullable}
 use Rattle.plan.specs.Pools.Pools.{Pools}
 use Rattle.plan.specs.Sets.{IsSum}
 use Rattle.plan.specs.Samples.Sites.{Site, Slot, slots}
 use Rattle.plan.specs.Samples.Candidates.{sort_of}
 use Rattle.plan.specs.Samples.Sizes.{HasSize, CanFill, bounds_of, IsUpTo}
+use Rattle.plan.specs.Samples.RuleOfParts.{admits_null}
 use Rattle.plan.specs.Internal.Tables.{AreChoices, AreShaped, AreLevels}
 use Rattle.plan.specs.Internal.PartLaws.{PartLaws}
 use Rattle.plan.specs.Internal.Arena.{AreSlots, AreLater, IsChosen, AreChosen, IsRight, AreRight}
@@ -46,7 +46,7 @@ chosen_choices holds limit P v sites es i (c ∷ cs) (x ∷ xs) [] right h s = a
 chosen_choices {Z = Z} holds limit P v sites es i (c ∷ cs) (x ∷ xs) (y ∷ ss) right h s =
     let e = h.0.entry in
     let r : IsRight holds limit P v sites x.node e = rw (← h.0.is) at (right x.node e h.0.below) in
-    let sizes : IsUpTo limit (holds c.sizes) (HasSize P y.node) = rw (h.0.sizes, ← ap (λ t. Site.node t) s.0.node) r.sizes in
+    let sizes : IsUpTo limit (holds c.sizes) (HasSize P y.site) = rw (h.0.sizes, ← s.0.node) r.sizes in
     (sizes, h.0.must ∙ s.0.must, chosen_choices holds limit P v sites es i cs xs ss right h.1 s.1)
 
 pub slot_count : (names : List (List ℕ)) (sites : List Site) (i : ℕ) (xs : List SlotEntry) (ss : List Slot) → AreSlots names sites i xs ss → length xs ≡ length ss
@@ -79,7 +79,7 @@ first_level holds limit b P ss levels level z count h shaped whole same is is_z 
 
 -- the entry of a row, from the choices of its slots
 pub row_right : {Z : Type 0} (holds : Z → ℕ → Type 0) (limit : ℕ) (P : Pools) (v : Values) (sites : List Site) (i : ℕ) (slots' : Vec SlotEntry Global) (later : Vec ℕ Global) (levels : Vec (Vec Z Global) Global) (b : Bounds) (nullable : Bool) (level : Vec Z Global) (z sizes : Z)
-    → PartLaws → 1 ≤ limit → IsNode (site_at sites i).node → sort_of (site_at sites i).node ≡ Row → bounds_of (site_at sites i).node ≡ b → is_nullable (site_at sites i).node ≡ nullable
+    → PartLaws → 1 ≤ limit → IsNode (site_at sites i).node → sort_of (site_at sites i) ≡ Row → bounds_of (site_at sites i) ≡ b → admits_null (site_at sites i) ≡ nullable
     → AreSlots v.names.items sites i slots'.items (slots P (site_at sites i)) → length later.items ≡ length slots'.items → AreLater P (slots P (site_at sites i)) later.items → length levels.items ≡ length slots'.items + 1 → AreShaped (length slots'.items) levels.items → AreLevels holds limit b P (slots P (site_at sites i)) levels.items
     → level ≡ get_or levels.items (length slots'.items) level → z ≡ get_or level.items 0 z
     → ((n : ℕ) → holds sizes n ↔ (((nullable ≡ true) × (n ≡ 1)) ⊎ ((n ≤ limit) × IsSum (λ i. i ≡ 1) (holds z) n)))
@@ -87,9 +87,9 @@ pub row_right : {Z : Type 0} (holds : Z → ℕ → Type 0) (limit : ℕ) (P : P
 row_right holds limit P v sites i slots' later levels b nullable level z sizes laws room o sort bounds null are later_whole later_are whole shaped levels_are is is_z sized =
     let s = site_at sites i in
     let here = rw (← bounds) at levels_are in
-    let first = first_level holds limit (bounds_of s.node) P (slots P s) levels.items level z (length slots'.items) here shaped whole (slot_count v.names.items sites i slots'.items (slots P s) are) is is_z in
+    let first = first_level holds limit (bounds_of s) P (slots P s) levels.items level z (length slots'.items) here shaped whole (slot_count v.names.items sites i slots'.items (slots P s) are) is is_z in
     record {
-      sizes = whole_up_to limit s.node P (CanFill P (slots P s) (bounds_of s.node) 0) (holds z) (holds sizes) room (λ n l. row_sizes laws P s o sort n) first (rw (← null) at sized);
+      sizes = whole_up_to limit s P (CanFill P (slots P s) (bounds_of s) 0) (holds z) (holds sizes) room (λ n l. row_sizes laws P s o sort n) first (rw (← null) at sized);
       nullable = sym null;
       content = record { sort = sort; are = are; later_whole = later_whole; later = later_are; whole = whole; shaped = shaped; levels = here };
     }

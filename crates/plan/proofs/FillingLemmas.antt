@@ -19,18 +19,18 @@ use Rattle.plan.specs.Samples.Keys.{AreInOrder}
 
 -- the members are parts under the names of slots, and none is absent that must be there
 pub record AreInSlots (P : Pools) (ss : List Slot) (ms : Members) : Type 0 where
-  pub named : (k : List ℕ) (w : Data) → member_at k ms ≡ Some w → (s : Slot) × Among ss s × (s.name ≡ k) × IsPart P s.node w
+  pub named : (k : List ℕ) (w : Data) → member_at k ms ≡ Some w → (s : Slot) × Among ss s × (s.name ≡ k) × IsPart P s.site w
   pub present : (s : Slot) → Among ss s → s.must ≡ true → member_at s.name ms ≡ None → ⊥
 
 -- ---- what stands in slots
 
-in_named : (P : Pools) (ss : List Slot) (gs : List (Option Data)) → AreFillings P ss gs → (k : List ℕ) (w : Data) → member_at k (members_in ss gs) ≡ Some w → (s : Slot) × Among ss s × (s.name ≡ k) × IsPart P s.node w
+in_named : (P : Pools) (ss : List Slot) (gs : List (Option Data)) → AreFillings P ss gs → (k : List ℕ) (w : Data) → member_at k (members_in ss gs) ≡ Some w → (s : Slot) × Among ss s × (s.name ≡ k) × IsPart P s.site w
 in_named P [] [] h k w is = absurd (cc)
 in_named P [] (g ∷ gs) h k w is = absurd h
 in_named P (s ∷ ss) [] h k w is = absurd h
 in_named P (s ∷ ss) (None ∷ gs) h k w is = let r = in_named P ss gs h.1 k w is in (r.0, inr r.1, r.2, r.3)
 in_named P (s ∷ ss) (Some v ∷ gs) h k w is = elim (bool_cases (bytes_eq k s.name)) [
-  | inl t ↦ (s, inl refl, sym (same_name k s.name t), subst (IsPart P s.node) (same_Some v w (rw t at is)) h.0)
+  | inl t ↦ (s, inl refl, sym (same_name k s.name t), subst (IsPart P s.site) (same_Some v w (rw t at is)) h.0)
   | inr o ↦ let r = in_named P ss gs h.1 k w (sym (member_later k s.name v (members_in ss gs) o) ∙ is) in (r.0, inr r.1, r.2, r.3)
 ]
 
@@ -78,7 +78,7 @@ behind_absent : (P : Pools) (s : Slot) (ss : List Slot) (ms : Members) → AreIn
 behind_absent P s ss ms h none = record {
   named = λ k w is.
       let r = h.named k w is in
-      elim r.1 as (λ _. (t : Slot) × Among ss t × (t.name ≡ k) × IsPart P t.node w) [
+      elim r.1 as (λ _. (t : Slot) × Among ss t × (t.name ≡ k) × IsPart P t.site w) [
         | inl e ↦ let same : s.name ≡ k = ap (λ t. t.name) e ∙ r.2 in let no = sym (rw same at none) ∙ is in absurd (cc)
         | inr a ↦ (r.0, a, r.2, r.3)
       ];
@@ -90,7 +90,7 @@ behind_present P s ss d ms o members h = record {
   named = λ k w is.
       let past = before_each s.name ms k w members.1 members.2 is in
       let r = h.named k w (member_tail s.name d ms k w members is) in
-      elim r.1 as (λ _. (t : Slot) × Among ss t × (t.name ≡ k) × IsPart P t.node w) [
+      elim r.1 as (λ _. (t : Slot) × Among ss t × (t.name ≡ k) × IsPart P t.site w) [
         | inl e ↦ absurd (not_itself s.name k (ap (λ t. t.name) e ∙ r.2) past)
         | inr a ↦ (r.0, a, r.2, r.3)
       ];
@@ -118,11 +118,11 @@ left_out P s ss ms h none r =
     (None ∷ r.0, (free, r.1), r.2)
 
 -- the part under the name of the first slot
-first_part : (P : Pools) (s : Slot) (ss : List Slot) (d : Data) (ms : Members) → AreInOrder (s ∷ ss) → AreInSlots P (s ∷ ss) (member s.name d ms) → IsPart P s.node d
+first_part : (P : Pools) (s : Slot) (ss : List Slot) (d : Data) (ms : Members) → AreInOrder (s ∷ ss) → AreInSlots P (s ∷ ss) (member s.name d ms) → IsPart P s.site d
 first_part P s ss d ms o h =
     let n = h.named s.name d (member_first s.name d ms) in
     elim n.1 [
-      | inl same ↦ subst (λ t. IsPart P t.node d) (sym same) n.3
+      | inl same ↦ subst (λ t. IsPart P t.site d) (sym same) n.3
       | inr a ↦ absurd (not_itself s.name n.0.name (sym n.2) (o.0 n.0 (contains ss n.0 a)))
     ]
 

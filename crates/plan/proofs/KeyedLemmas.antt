@@ -8,12 +8,12 @@ use Rattle.jtree.specs.Data.{Data, Items, no_items, item}
 use Rattle.jtree.specs.Nodes.{node_count, items_count}
 use Rattle.jtree.specs.Internal.Rising.{Among}
 use Rattle.schema.specs.Rules.Keywords.{any_item}
-use Rattle.schema.specs.Nodes.Node.{Node}
 use Rattle.schema.specs.declared.node.Bounds.{Bounds}
 use Rattle.stored.specs.Objects.Fault as fault
 use Rattle.stored.specs.Objects.Tests.{is_above}
 use Rattle.stored.specs.Objects.StoredByParts.{are_apart, IsWithin}
 use Rattle.plan.specs.Pools.Pools.{Pools}
+use Rattle.plan.specs.Samples.Sites.{Site}
 use Rattle.plan.specs.Samples.Part.{IsPart}
 use Rattle.plan.specs.Samples.Sizes.{items_from}
 use Rattle.plan.specs.Samples.RuleOfParts.{AreParts}
@@ -36,7 +36,7 @@ then_none : (ds : Items) → items_then ds no_items ≡ ds
 then_none no_items = refl
 then_none (item d ds) = ap (λ es. item d es) (then_none ds)
 
-pub then_are : (P : Pools) (M : Node) (ds es : Items) → AreParts P M ds → AreParts P M es → AreParts P M (items_then ds es)
+pub then_are : (P : Pools) (M : Site) (ds es : Items) → AreParts P M ds → AreParts P M es → AreParts P M (items_then ds es)
 then_are P M no_items es h k = k
 then_are P M (item d ds) es h k = (h.0, then_are P M ds es h.1 k)
 
@@ -45,7 +45,7 @@ then_count no_items es = omega arith
 then_count (item d ds) es = omega (arith, then_count ds es)
 
 -- items of m nodes follow those before them, no two alike, so that the bounds hold
-abbrev pub CompletesApart : Pools → Node → (Data → Data → Bool) → Bounds → Items → ℕ → Type 0
+abbrev pub CompletesApart : Pools → Site → (Data → Data → Bool) → Bounds → Items → ℕ → Type 0
 CompletesApart P M alike b front m = (back : Items) × (AreParts P M back × (are_apart alike (items_then front back) ≡ true) × IsWithin b (fault.items_count (items_then front back)) × (items_count back ≡ m))
 
 -- ---- where no item is alike another
@@ -58,13 +58,13 @@ all_apart : (alike : Data → Data → Bool) → ((v w : Data) → alike v w ≡
 all_apart alike never no_items = refl
 all_apart alike never (item d ds) = rw (none_alike alike never d ds) (all_apart alike never ds)
 
-pub more_free : (P : Pools) (limit : ℕ) (M : Node) (alike : Data → Data → Bool) (b : Bounds) (t m : ℕ) → ((v w : Data) → alike v w ≡ false) → HasMoreApart P limit M alike b t m ↔ HasMoreFree P limit M b t m
+pub more_free : (P : Pools) (limit : ℕ) (M : Site) (alike : Data → Data → Bool) (b : Bounds) (t m : ℕ) → ((v w : Data) → alike v w ≡ false) → HasMoreApart P limit M alike b t m ↔ HasMoreFree P limit M b t m
 more_free P limit M alike b t m never = (
   (λ h. record { items = h.items; are = h.are; within = h.within; fits = h.fits; many = h.many; nodes_are = h.nodes_are }),
   λ h. record { items = h.items; are = h.are; apart = all_apart alike never h.items; within = h.within; fits = h.fits; many = h.many; nodes_are = h.nodes_are },
 )
 
-pub completes_free : (P : Pools) (limit : ℕ) (M : Node) (alike : Data → Data → Bool) (b : Bounds) (front : Items) (m : ℕ) → ((v w : Data) → alike v w ≡ false) → HasMoreApart P limit M alike b (fault.items_count front) m
+pub completes_free : (P : Pools) (limit : ℕ) (M : Site) (alike : Data → Data → Bool) (b : Bounds) (front : Items) (m : ℕ) → ((v w : Data) → alike v w ≡ false) → HasMoreApart P limit M alike b (fault.items_count front) m
     → CompletesApart P M alike b front m
 completes_free P limit M alike b front m never h =
     let t = fault.items_count front in
@@ -94,7 +94,7 @@ item_nodes : (v w : Data) (ds es : Items) → node_count v ≡ node_count w → 
 item_nodes v w ds es e h zero = omega (arith, h 0)
 item_nodes v w ds es e h (suc t) = h t
 
-module _ {P : Pools} {M : Node} {alike : Data → Data → Bool} (K : Keyed P M alike) where
+module _ {P : Pools} {M : Site} {alike : Data → Data → Bool} (K : Keyed P M alike) where
   known_keys : (ds : Items) → AreParts P M ds → (q : List Data) → Among (item_keys K.key ds) q → Among K.keys q
   unfolding item_keys
   known_keys no_items h q a = absurd a

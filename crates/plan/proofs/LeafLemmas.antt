@@ -22,8 +22,9 @@ use Rattle.stored.specs.Objects.Tests.{is_same}
 use Rattle.stored.specs.Objects.Fault.{is_null, F02}
 use Rattle.stored.specs.Objects.Becomes.{IsStored}
 use Rattle.plan.specs.Pools.Pools.{Pools}
+use Rattle.plan.specs.Samples.Sites.{Site}
 use Rattle.plan.specs.Samples.Over.{items_list, listed, is_in, is_over_here}
-use Rattle.plan.specs.Samples.Candidates.{sort_of, AreCandidates}
+use Rattle.plan.specs.Samples.Candidates.{sort_at, sort_of, AreCandidates}
 use Rattle.plan.specs.Samples.Sizes.{HasSize, IsUpTo}
 use Rattle.plan.specs.Internal.PartLaws.{PartLaws}
 use Rattle.plan.specs.Internal.Values.{trees_of, at_places, IsBase, AreStored}
@@ -130,7 +131,7 @@ accepted : (nullable : Bool) (d : Option (List ℕ)) (sort : Sort) (v : Data) �
 accepted true d sort v s null = refl
 accepted false d sort v s null = absurd (s.valid [] F02 (record { before = []; last = []; is = refl; node = node false d sort; value = v; leads_there = refl; found = rw (← null) refl }))
 
-over_leaf : (P : Pools) (N : Node) (v : Data) → sort_of N ≡ Leaf → IsStored N v → (is_over_here P N v ≡ true) ↔ Contains (tree.null ∷ listed P N) v
+over_leaf : (P : Pools) (N : Node) (v : Data) → sort_at N ≡ Leaf → IsStored N v → (is_over_here P N v ≡ true) ↔ Contains (tree.null ∷ listed P N) v
 over_leaf P (node n d (scalar kind cs)) v leaf s = null_or_listed n (listed P (node n d (scalar kind cs))) v (accepted n d (scalar kind cs) v s)
 over_leaf P (node n d open_) v leaf s = null_or_listed n P.any v (accepted n d open_ v s)
 over_leaf P (node n d (object fs preserves type b)) v leaf s = absurd (cc)
@@ -139,11 +140,11 @@ over_leaf P (node n d (list N type keys b)) v leaf s = absurd (cc)
 
 -- ---- candidates
 
-pub candidates_from : PartLaws → (P : Pools) (N : Node) (ts : List Tree) (vs : List Data) → sort_of N ≡ Leaf → IsBase (tree.null ∷ listed P N) ts → AreStored N (trees_of ts) vs → AreCandidates P N vs
-candidates_from laws P N ts vs leaf b s = record {
+pub candidates_from : PartLaws → (P : Pools) (site : Site) (ts : List Tree) (vs : List Data) → sort_of site ≡ Leaf → IsBase (tree.null ∷ listed P site.node) ts → AreStored site.node (trees_of ts) vs → AreCandidates P site vs
+candidates_from laws P site ts vs leaf b s = record {
   each = λ v. (
-    (λ c. let h = (s.each v).0 c in (laws.leaf P N v leaf).1 (h.1.0, h.1.1, (over_leaf P N v leaf h.1.1).1 ((b.each v).0 h.0))),
-    λ p. let h = (laws.leaf P N v leaf).0 p in (s.each v).1 ((b.each v).1 ((over_leaf P N v leaf h.1).0 h.2), (h.0, h.1)),
+    (λ c. let h = (s.each v).0 c in (laws.leaf P site v leaf).1 (h.1.0, h.1.1, (over_leaf P site.node v leaf h.1.1).1 ((b.each v).0 h.0))),
+    λ p. let h = (laws.leaf P site v leaf).0 p in (s.each v).1 ((b.each v).1 ((over_leaf P site.node v leaf h.1).0 h.2), (h.0, h.1)),
   );
   ascending = s.ascending b.ascending;
 }
@@ -167,8 +168,8 @@ sizes_more limit A B vs v a b n = (
 )
 
 -- the sizes of all candidates are those of all parts
-pub sizes_all : (P : Pools) (N : Node) (limit : ℕ) (A : ℕ → Type 0) (vs : List Data) → AreCandidates P N vs → IsUpTo limit A (HasNodes vs) → IsUpTo limit A (HasSize P N)
-sizes_all P N limit A vs c a n = (
+pub sizes_all : (P : Pools) (s : Site) (limit : ℕ) (A : ℕ → Type 0) (vs : List Data) → AreCandidates P s vs → IsUpTo limit A (HasNodes vs) → IsUpTo limit A (HasSize P s)
+sizes_all P s limit A vs c a n = (
   (λ h. let r = (a n).0 h in (r.0, record { part = r.1.0; is = (c.each r.1.0).0 r.1.1.0; nodes_are = r.1.1.1 })),
   λ h. (a n).1 (h.0, (h.1.part, ((c.each h.1.part).1 h.1.is, h.1.nodes_are))),
 )

@@ -43,7 +43,7 @@ of_other : (b : Bool) (s : Slot) → b ≡ false → ◌≡◌ {A = List Slot} (
 of_other true s e = absurd (cc)
 of_other false s e = refl
 
-counts_last : (P : Pools) (ss : List Slot) (s : Slot) (counts : List ℕ) (c : ℕ) → AreCounts P ss counts → HasCount P s.node c → AreCounts P (ss ++ s ∷ []) (counts ++ c ∷ [])
+counts_last : (P : Pools) (ss : List Slot) (s : Slot) (counts : List ℕ) (c : ℕ) → AreCounts P ss counts → HasCount P s.site c → AreCounts P (ss ++ s ∷ []) (counts ++ c ∷ [])
 counts_last P [] s [] c h k = (k, tt)
 counts_last P [] s (n ∷ counts) c h k = absurd h
 counts_last P (t ∷ ss) s [] c h k = absurd h
@@ -73,7 +73,7 @@ capped p x top = elim (cases_lt top p) as (λ _. min (min p top * x) top ≡ min
 pub no_tuples : (P : Pools) → HasTuples P [] 1
 no_tuples P = ([], (tt, omega arith))
 
-pub key_more : (P : Pools) (ss : List Slot) (s : Slot) (n c : ℕ) → s.key ≡ true → HasTuples P ss n → HasCount P s.node c → HasTuples P (ss ++ s ∷ []) (min (n * c) (2 ^ 64 - 1))
+pub key_more : (P : Pools) (ss : List Slot) (s : Slot) (n c : ℕ) → s.key ≡ true → HasTuples P ss n → HasCount P s.site c → HasTuples P (ss ++ s ∷ []) (min (n * c) (2 ^ 64 - 1))
 key_more P ss s n c key h k =
     let e : filter is_key (s ∷ []) ≡ s ∷ [] = of_key s.key s key in
     (h.0 ++ c ∷ [], (rw (filter_last ss s, e) (counts_last P (filter is_key ss) s h.0 c h.1.0 k), rw (h.1.1, product_last h.0 c) (capped (product h.0) c (2 ^ 64 - 1))))
@@ -86,18 +86,17 @@ other_more P ss s n key h =
 -- one slot more
 pub tuples_step : (P : Pools) (names : List (List ℕ)) (sites : List Site) (i : ℕ) (xs : List SlotEntry) (x : SlotEntry) (ss : List Slot) (n m c : ℕ) → AreSlots names sites i (xs ++ x ∷ []) ss → AreKeysLeaves ss
     → ((ts : List Slot) → AreSlots names sites i xs ts → AreKeysLeaves ts → HasTuples P ts n)
-    → ((x.key ≡ true) × (x.node < i → sort_of (site_at sites x.node).node ≡ Leaf → HasCount P (site_at sites x.node).node c) × (m ≡ min (n * c) (2 ^ 64 - 1))) ⊎ ((x.key ≡ false) × (m ≡ n)) → HasTuples P ss m
+    → ((x.key ≡ true) × (x.node < i → sort_of (site_at sites x.node) ≡ Leaf → HasCount P (site_at sites x.node) c) × (m ≡ min (n * c) (2 ^ 64 - 1))) ⊎ ((x.key ≡ false) × (m ≡ n)) → HasTuples P ss m
 tuples_step P names sites i xs x ss n m c slots leaves before step =
     let r = slots_last names sites i xs x ss slots in
     let s = r.1.0 in
     let is = r.1.1.2 in
-    let site : (site_at sites x.node).node ≡ s.node = ap (λ t. Site.node t) is.node in
     let all : AreKeysLeaves (r.0 ++ s ∷ []) = rw r.1.1.0 at leaves in
     let left = before r.0 r.1.1.1 (λ t a. all t (among_left r.0 (s ∷ []) t a)) in
     let result : HasTuples P (r.0 ++ s ∷ []) m = elim step [
       | inl k ↦
-          let leaf : sort_of s.node ≡ Leaf = all s (among_right r.0 (s ∷ []) s (inl refl)) (sym is.key ∙ k.0) in
-          let count : HasCount P s.node c = rw site at (k.1 is.below (rw site leaf)) in
+          let leaf : sort_of s.site ≡ Leaf = all s (among_right r.0 (s ∷ []) s (inl refl)) (sym is.key ∙ k.0) in
+          let count : HasCount P s.site c = rw is.node at (k.1 is.below (rw is.node leaf)) in
           rw k.2 (key_more P r.0 s n c (sym is.key ∙ k.0) left count)
       | inr o ↦ rw o.1 (other_more P r.0 s n (sym is.key ∙ o.0) left)
     ] in

@@ -18,7 +18,6 @@ use Rattle.schema.specs.Nodes.ByPlace.{Declared}
 use Rattle.schema.specs.Nodes.Items.{IsPlainScalar, IsKey, AreKeys, HasKeys}
 use Rattle.schema.specs.declared.node.ListType.TheVariants.{Map}
 use Rattle.schema.specs.declared.node.Bounds.{Bounds}
-use Rattle.stored.specs.Objects.Becomes.{is_nullable}
 use Rattle.stored.specs.Objects.Fault.{agree_at, agree, are_alike}
 use Rattle.stored.specs.Objects.StoredByParts.{IsWithin}
 use Rattle.plan.specs.Pools.Pools.{Pools}
@@ -27,7 +26,7 @@ use Rattle.plan.specs.Samples.Sites.{Site, Slot, slots, field_slots}
 use Rattle.plan.specs.Samples.Candidates.{sort_of}
 use Rattle.plan.specs.declared.sort.Sort.TheVariants.{Row}
 use Rattle.plan.specs.Samples.Sizes.{AreFillings, filled_nodes, filled_count, bounds_of}
-use Rattle.plan.specs.Samples.RuleOfParts.{members_in}
+use Rattle.plan.specs.Samples.RuleOfParts.{members_in, admits_null}
 use Rattle.plan.specs.Samples.NoDeadEnd.{is_key, IsTuple, AreCounts, product}
 use Rattle.plan.specs.Samples.Keys.{AreInOrder, IsKeySlot, AreKeySlots, under, key_under, AreMapItems}
 use Rattle.plan.specs.Internal.PartLaws.{IsObjectPart, PartLaws}
@@ -65,18 +64,18 @@ key_field fs (l ∷ ls) h k (inl e) = subst (IsKey fs) e h.0
 key_field fs (l ∷ ls) h k (inr a) = key_field fs ls h.2 k a
 
 -- under a key something must stand, and it is a plain scalar
-pub key_slot : (fs : Fields) (keys : List (List ℕ)) → AreOrdered fs → AreKeys fs keys → (s : Slot) → Among (field_slots keys fs) s → s.key ≡ true → Among keys s.name × (s.must ≡ true) × IsPlainScalar s.node
+pub key_slot : (fs : Fields) (keys : List (List ℕ)) → AreOrdered fs → AreKeys fs keys → (s : Slot) → Among (field_slots keys fs) s → s.key ≡ true → Among keys s.name × (s.must ≡ true) × IsPlainScalar s.site.node
 key_slot fs keys o h s a key =
     let named = among_name s.name keys (sym (slot_key keys fs s a) ∙ key) in
     let f = field_of_slot keys fs o s a in
     let g = key_field fs keys h s.name named in
     let same : f.0 ≡ g.0 = same_Some f.0 g.0 (sym f.1.0 ∙ g.1) in
-    (named, f.1.1.2 ∙ rw same g.3, subst IsPlainScalar (ap (λ d. Declared.node d) (sym same) ∙ sym f.1.1.1) g.2)
+    (named, f.1.1.2 ∙ rw same g.3, subst IsPlainScalar (ap (λ d. Declared.node d) (sym same) ∙ ap (λ x. Site.node x) (sym f.1.1.1)) g.2)
 
 pub have_keys : StoredLaw → (P : Pools) (fs : Fields) (keys : List (List ℕ)) → AreOrdered fs → AreKeys fs keys → HaveKeys P keys (field_slots keys fs)
 have_keys stored P fs keys o h = record {
   order = fields_in_order keys fs o;
-  are = λ s c key. let q = key_slot fs keys o h s (contained (field_slots keys fs) s c) key in record { must = q.1; leaf = plain_leaf s.node q.2; one = scalar_one stored P s.node q.2; no_null = scalar_no_null stored P s.node q.2 };
+  are = λ s c key. let q = key_slot fs keys o h s (contained (field_slots keys fs) s c) key in record { must = q.1; leaf = plain_leaf s.site.node q.2; one = scalar_one stored P s.site q.2; no_null = scalar_no_null stored P s.site q.2 };
   named = λ s a key. (key_slot fs keys o h s a key).0;
   each = λ k a.
       let f = key_field fs keys h k a in
@@ -115,7 +114,7 @@ pub record Refilled (P : Pools) (ss : List Slot) (gs : List (Option Data)) (k : 
   pub nodes_are : filled_nodes fillings ≡ filled_nodes gs
   pub count_is : filled_count fillings ≡ filled_count gs
 
-key_given : (P : Pools) (s : Slot) (ss : List Slot) (v : Data) (gs : List (Option Data)) (k : List Data) → AreInOrder (s ∷ ss) → s.key ≡ true → ((w : Data) → IsPart P s.node w → node_count w ≡ 1) → IsPart P s.node v
+key_given : (P : Pools) (s : Slot) (ss : List Slot) (v : Data) (gs : List (Option Data)) (k : List Data) → AreInOrder (s ∷ ss) → s.key ≡ true → ((w : Data) → IsPart P s.site w → node_count w ≡ 1) → IsPart P s.site v
     → IsTuple P (s ∷ filter is_key ss) k → ((l : List Data) → IsTuple P (filter is_key ss) l → Refilled P ss gs l) → Refilled P (s ∷ ss) (Some v ∷ gs) k
 key_given P s ss v gs [] o key one p t rest = absurd t
 key_given P s ss v gs (x ∷ k) o key one p t rest =
@@ -180,16 +179,16 @@ module _ {P : Pools} {keys : List (List ℕ)} {ss : List Slot} (h : HaveKeys P k
 -- ---- all of it
 
 -- where each part is an object
-module _ (P : Pools) (s : Site) (row : (v : Data) → IsPart P s.node v ↔ IsObjectPart P s v) (keys : List (List ℕ)) (h : HaveKeys P keys (slots P s)) where
-  object_given : (gs : List (Option Data)) (k : List Data) → AreFillings P (slots P s) gs → IsWithin (bounds_of s.node) (filled_count gs) → IsTuple P (filter is_key (slots P s)) k
-      → (w : Data) × (IsPart P s.node w × (key_under (slots P s) w ≡ k) × (node_count w ≡ node_count (tree.object (members_in (slots P s) gs))))
+module _ (P : Pools) (s : Site) (row : (v : Data) → IsPart P s v ↔ IsObjectPart P s v) (keys : List (List ℕ)) (h : HaveKeys P keys (slots P s)) where
+  object_given : (gs : List (Option Data)) (k : List Data) → AreFillings P (slots P s) gs → IsWithin (bounds_of s) (filled_count gs) → IsTuple P (filter is_key (slots P s)) k
+      → (w : Data) × (IsPart P s w × (key_under (slots P s) w ≡ k) × (node_count w ≡ node_count (tree.object (members_in (slots P s) gs))))
   object_given gs k are within is =
       let r = refilled P (slots P s) gs k h.order h.are are is in
       let w = tree.object (members_in (slots P s) r.fillings) in
       let part = (row w).1 (record { fillings = r.fillings; is = refl; are = r.are; within = rw r.count_is within }) in
       (w, (part, r.key_is, ap (λ m. 1 + m) (in_nodes P (slots P s) r.fillings r.are ∙ r.nodes_are ∙ sym (in_nodes P (slots P s) gs are))))
 
-  pub objects_told : (v w : Data) → IsPart P s.node v → IsPart P s.node w → (are_alike Map keys v w ≡ true) ↔ (key_under (slots P s) v ≡ key_under (slots P s) w)
+  pub objects_told : (v w : Data) → IsPart P s v → IsPart P s w → (are_alike Map keys v w ≡ true) ↔ (key_under (slots P s) v ≡ key_under (slots P s) w)
   objects_told v w p r =
       let x = (row v).0 p in
       let y = (row w).0 r in (
@@ -197,7 +196,7 @@ module _ (P : Pools) (s : Site) (row : (v : Data) → IsPart P s.node v ↔ IsOb
         λ e. rw (x.is, y.is) (key_told h x.fillings y.fillings x.are y.are (rw (x.is, y.is) at e)),
       )
 
-  objects_keyed : (counts : List ℕ) → AreCounts P (filter is_key (slots P s)) counts → (K : Keyed P s.node (are_alike Map keys)) × (length K.keys ≡ product counts)
+  objects_keyed : (counts : List ℕ) → AreCounts P (filter is_key (slots P s)) counts → (K : Keyed P s (are_alike Map keys)) × (length K.keys ≡ product counts)
   objects_keyed counts count =
       let all = all_tuples P (filter is_key (slots P s)) counts count in (
         record {
@@ -213,12 +212,13 @@ module _ (P : Pools) (s : Site) (row : (v : Data) → IsPart P s.node v ↔ IsOb
       )
 
 -- each part of an object that takes no null is an object
-only_objects : PartLaws → (P : Pools) (s : Site) → IsNode s.node → sort_of s.node ≡ Row → is_nullable s.node ≡ false → (v : Data) → IsPart P s.node v ↔ IsObjectPart P s v
+only_objects : PartLaws → (P : Pools) (s : Site) → IsNode s.node → sort_of s ≡ Row → admits_null s ≡ false → (v : Data) → IsPart P s v ↔ IsObjectPart P s v
 only_objects laws P s o row never v = let r = laws.row P s v o row in ((λ p. elim (r.0 p) [ inl null ↦ let no = sym null.1 ∙ never in absurd (cc) | inr x ↦ x ]), λ x. r.1 (inr x))
 
 -- the items of a map list are alike exactly where they have the same under all keys
-pub map_told : StoredLaw → PartLaws → (P : Pools) (n : Bool) (t : Option (List ℕ)) (N : Node) (keys : List (List ℕ)) (b : Bounds) → IsNode N → HasKeys N keys → AreMapItems P (node n t (list N Map keys b)) (record { node = N; keys = keys })
-map_told stored laws P n t (node m u (object fs preserves type c)) keys b o h =
+pub map_told : StoredLaw → PartLaws → (P : Pools) (own : List (List ℕ)) (n : Bool) (t : Option (List ℕ)) (N : Node) (keys : List (List ℕ)) (b : Bounds) → IsNode N → HasKeys N keys
+    → AreMapItems P (record { node = node n t (list N Map keys b); keys = own }) (record { node = N; keys = keys })
+map_told stored laws P own n t (node m u (object fs preserves type c)) keys b o h =
     let s : Site = record { node = node m u (object fs preserves type c); keys = keys } in
     let law = only_objects laws P s o refl h.0 in
     let have = have_keys stored P fs keys o h.2 in
@@ -228,10 +228,10 @@ map_told stored laws P n t (node m u (object fs preserves type c)) keys b o h =
       alike = objects_told P s law keys have;
       most = λ ds counts are apart count. let k = objects_keyed P s law keys have counts count in at_most k.0 (product counts) k.1 ds are apart;
     }
-map_told stored laws P n t N keys b o h = absurd h
+map_told stored laws P own n t N keys b o h = absurd h
 
 pub map_keyed : StoredLaw → PartLaws → (P : Pools) (N : Node) (keys : List (List ℕ)) (counts : List ℕ) → IsNode N → HasKeys N keys → AreCounts P (filter is_key (slots P (record { node = N; keys = keys }))) counts
-    → (K : Keyed P N (are_alike Map keys)) × (length K.keys ≡ product counts)
+    → (K : Keyed P (record { node = N; keys = keys }) (are_alike Map keys)) × (length K.keys ≡ product counts)
 map_keyed stored laws P (node n t (object fs preserves type b)) keys counts o h count =
     let s : Site = record { node = node n t (object fs preserves type b); keys = keys } in
     objects_keyed P s (only_objects laws P s o refl h.0) keys (have_keys stored P fs keys o h.2) counts count

@@ -1,4 +1,4 @@
--- The parts of a node, one level at a time, from what stored objects are and from what is over the pools.
+-- The parts of a site, one level at a time, from what stored objects are and from what is over the pools.
 use Rattle.std.proofs.Common.{◌≡◌, ◌⊎◌, ◌↔◌, ℕ, zero, suc, List, [], ◌∷◌, Bool, true, false, Option, Some, None, refl, ap, sym, ◌∙◌, subst, inl, inr}
 use Rattle.std.specs.Prelude.{option_map, ◌&&◌, ◌||◌, is_some, map}
 use Rattle.std.specs.Str.{bytes_eq}
@@ -26,9 +26,9 @@ use Rattle.stored.specs.Objects.StoredByParts.{StoredByParts, IsStoredField, are
 use Rattle.plan.specs.Pools.Pools.{Pools}
 use Rattle.plan.specs.Samples.Over.{is_over_here, all_names, IsOver}
 use Rattle.plan.specs.Samples.Part.{IsPart}
-use Rattle.plan.specs.Samples.Sites.{Site, item_site, slots, Slot, field_slots, with_name, in_order, value_slot}
+use Rattle.plan.specs.Samples.Sites.{Site, plain, item_site, item_keys, slots, Slot, field_slots, with_name, in_order, value_slot}
 use Rattle.plan.specs.Samples.RuleOfParts.{AreParts, IsNullPart}
-use Rattle.plan.specs.Samples.Candidates.{sort_of}
+use Rattle.plan.specs.Samples.Candidates.{sort_at}
 use Rattle.plan.specs.Samples.Keys.{AreInOrder}
 use Rattle.plan.specs.Samples.Sizes.{bounds_of}
 use Rattle.plan.specs.Internal.PartLaws.{IsObjectPart, IsItemsPart, PartLaws}
@@ -89,14 +89,14 @@ member_tree k (member l d ms) w members is = elim (bool_cases (bytes_eq k l)) [
 -- ---- the slots of an object
 
 abbrev IsSlotOf : List ℕ → Declared → Slot → Type 0
-IsSlotOf k f s = (s.name ≡ k) × (s.node ≡ f.node) × (s.must ≡ (f.required || is_some f.default))
+IsSlotOf k f s = (s.name ≡ k) × (s.site ≡ plain f.node) × (s.must ≡ (f.required || is_some f.default))
 
 pub slot_of_field : (keys : List (List ℕ)) (fs : Fields) (k : List ℕ) (f : Declared) → field_at k fs ≡ Some f → (s : Slot) × (Among (field_slots keys fs) s × IsSlotOf k f s)
 slot_of_field keys no_fields k f is = absurd (cc)
 slot_of_field keys (field l N required default fs) k f is = elim (bool_cases (bytes_eq k l)) [
   | inl t ↦
       let same = same_Some (record { node = N; required = required; default = default }) f (rw t at is) in
-      (_, (inl refl, (sym (same_name k l t), ap (λ g. g.node) same, ap (λ g. g.required || is_some g.default) same)))
+      (_, (inl refl, (sym (same_name k l t), ap (λ g. plain g.node) same, ap (λ g. g.required || is_some g.default) same)))
   | inr o ↦ let r = slot_of_field keys fs k f (rw o at is) in (r.0, (inr r.1.0, r.1.1))
 ]
 
@@ -109,7 +109,7 @@ pub field_of_slot : (keys : List (List ℕ)) (fs : Fields) → AreOrdered fs →
 field_of_slot keys no_fields o s a = absurd a
 field_of_slot keys (field l N required default fs) o s (inl e) =
     let own : bytes_eq s.name l ≡ true = subst (λ t. bytes_eq (Slot.name t) l ≡ true) e (own_name l) in
-    (record { node = N; required = required; default = default }, (rw own refl, (refl, ap (λ t. Slot.node t) (sym e), ap (λ t. Slot.must t) (sym e))))
+    (record { node = N; required = required; default = default }, (rw own refl, (refl, ap (λ t. Slot.site t) (sym e), ap (λ t. Slot.must t) (sym e))))
 field_of_slot keys (field l N required default fs) o s (inr a) =
     let r = field_of_slot keys fs o.2 s a in
     let other = later_name s.name l (before_slots keys l fs o.1 o.2 s a) in
@@ -141,7 +141,7 @@ declared None e = absurd (cc)
 declared (Some f) e = (f, refl)
 
 pub object_down : StoredLaw → EverywhereLaw → (P : Pools) (n : Bool) (t : Option (List ℕ)) (fs : Fields) (preserves : Bool) (type : MapType) (b : Bounds) (keys : List (List ℕ)) (ms : Members) → AreOrdered fs
-    → IsPart P (node n t (object fs preserves type b)) (tree.object ms) → AreMembers ms × AreInSlots P (field_slots keys fs) ms × IsWithin b (fault.members_count ms)
+    → IsPart P (record { node = node n t (object fs preserves type b); keys = keys }) (tree.object ms) → AreMembers ms × AreInSlots P (field_slots keys fs) ms × IsWithin b (fault.members_count ms)
 object_down stored everywhere P n t fs preserves type b keys ms o h =
     let parts = (stored _ _).0 h.stored in
     let over = over_down everywhere P _ _ h.over in (
@@ -151,7 +151,7 @@ object_down stored everywhere P n t fs preserves type b keys ms o h =
             let f = declared (field_at k fs) (each_name (λ l. is_some (field_at l fs)) ms over.0 k w is) in
             let s = slot_of_field keys fs k f.0 f.1 in
             let here : IsStored f.0.node w = rw is at (parts.1.1 k f.0 f.1) in
-            let part : IsPart P f.0.node w = record { tree = member_tree k ms w h.tree is; stored = here; over = over.1 (name k) f.0.node w (leads_to_field n t fs preserves type b ms k f.0 w f.1 is) } in
+            let part : IsPart P (plain f.0.node) w = record { tree = member_tree k ms w h.tree is; stored = here; over = over.1 (name k) f.0.node w (leads_to_field n t fs preserves type b ms k f.0 w f.1 is) } in
             (s.0, s.1.0, s.1.1.0, subst (λ K. IsPart P K w) (sym s.1.1.1) part);
         present = λ s a must none.
             let f = field_of_slot keys fs o s a in
@@ -164,16 +164,16 @@ object_down stored everywhere P n t fs preserves type b keys ms o h =
     )
 
 -- what stands under the name of a field is a part of its node
-field_part : (P : Pools) (keys : List (List ℕ)) (fs : Fields) (ms : Members) → AreOrdered fs → AreInSlots P (field_slots keys fs) ms → (k : List ℕ) (w : Data) → member_at k ms ≡ Some w → (f : Declared) × ((field_at k fs ≡ Some f) × IsPart P f.node w)
+field_part : (P : Pools) (keys : List (List ℕ)) (fs : Fields) (ms : Members) → AreOrdered fs → AreInSlots P (field_slots keys fs) ms → (k : List ℕ) (w : Data) → member_at k ms ≡ Some w → (f : Declared) × ((field_at k fs ≡ Some f) × IsPart P (plain f.node) w)
 field_part P keys fs ms o h k w is =
     let s = h.named k w is in
     let f = field_of_slot keys fs o s.0 s.1 in
     (f.0, (subst (λ l. field_at l fs ≡ Some f.0) s.2 f.1.0, subst (λ N. IsPart P N w) f.1.1.1 s.3))
 
-part_of_field : (P : Pools) (keys : List (List ℕ)) (fs : Fields) (ms : Members) → AreOrdered fs → AreInSlots P (field_slots keys fs) ms → (k : List ℕ) (f : Declared) (w : Data) → field_at k fs ≡ Some f → member_at k ms ≡ Some w → IsPart P f.node w
+part_of_field : (P : Pools) (keys : List (List ℕ)) (fs : Fields) (ms : Members) → AreOrdered fs → AreInSlots P (field_slots keys fs) ms → (k : List ℕ) (f : Declared) (w : Data) → field_at k fs ≡ Some f → member_at k ms ≡ Some w → IsPart P (plain f.node) w
 part_of_field P keys fs ms o h k f w is found =
     let g = field_part P keys fs ms o h k w found in
-    subst (λ x. IsPart P (Declared.node x) w) (same_Some g.0 f (sym g.1.0 ∙ is)) g.1.1
+    subst (λ x. IsPart P (plain (Declared.node x)) w) (same_Some g.0 f (sym g.1.0 ∙ is)) g.1.1
 
 neither : (a b : Bool) → (a || b) ≡ false → (a ≡ false) × (b ≡ false)
 neither true b e = absurd (cc)
@@ -205,7 +205,7 @@ object_below P n t fs preserves type b keys ms o h (name k) M w is =
 object_below P n t fs preserves type b keys ms o h (index i) M w is = absurd (cc)
 
 pub object_up : StoredLaw → EverywhereLaw → (P : Pools) (n : Bool) (t : Option (List ℕ)) (fs : Fields) (preserves : Bool) (type : MapType) (b : Bounds) (keys : List (List ℕ)) (ms : Members) → AreOrdered fs
-    → AreMembers ms → AreInSlots P (field_slots keys fs) ms → IsWithin b (fault.members_count ms) → IsPart P (node n t (object fs preserves type b)) (tree.object ms)
+    → AreMembers ms → AreInSlots P (field_slots keys fs) ms → IsWithin b (fault.members_count ms) → IsPart P (record { node = node n t (object fs preserves type b); keys = keys }) (tree.object ms)
 object_up stored everywhere P n t fs preserves type b keys ms o members h within = record {
   tree = members;
   stored = (stored _ _).1 (
@@ -313,17 +313,17 @@ values_in_order N ks = value_slots_in_order N (in_order ks) (in_order_rising ks)
 abbrev MapSlots : Pools → Node → List Slot
 MapSlots P M = map (value_slot M) (in_order P.names)
 
--- what stands under a name of the pools is a part of the node of values
-value_part : (P : Pools) (M : Node) (ms : Members) → AreInSlots P (MapSlots P M) ms → (k : List ℕ) (w : Data) → member_at k ms ≡ Some w → (is_among k P.names ≡ true) × IsPart P M w
+-- what stands under a name of the pools is a part of the site of values
+value_part : (P : Pools) (M : Node) (ms : Members) → AreInSlots P (MapSlots P M) ms → (k : List ℕ) (w : Data) → member_at k ms ≡ Some w → (is_among k P.names ≡ true) × IsPart P (plain M) w
 value_part P M ms h k w is =
     let s = h.named k w is in
     let r = name_of_value_slot M (in_order P.names) s.0 s.1 in
     let same : r.0 ≡ k = ap (λ t. Slot.name t) r.1.1 ∙ s.2 in
-    (subst (λ l. is_among l P.names ≡ true) same (name_among r.0 P.names (in_order_only P.names r.0 r.1.0)), subst (λ t. IsPart P (Slot.node t) w) (sym r.1.1) s.3)
+    (subst (λ l. is_among l P.names ≡ true) same (name_among r.0 P.names (in_order_only P.names r.0 r.1.0)), subst (λ t. IsPart P (Slot.site t) w) (sym r.1.1) s.3)
 
-pub map_down : StoredLaw → EverywhereLaw → (P : Pools) (n : Bool) (t : Option (List ℕ)) (M : Node) (type : MapType) (b : Bounds) (ms : Members)
-    → IsPart P (node n t (nodes.map M type b)) (tree.object ms) → AreMembers ms × AreInSlots P (map (value_slot M) (in_order P.names)) ms × IsWithin b (fault.members_count ms)
-map_down stored everywhere P n t M type b ms h =
+pub map_down : StoredLaw → EverywhereLaw → (P : Pools) (keys : List (List ℕ)) (n : Bool) (t : Option (List ℕ)) (M : Node) (type : MapType) (b : Bounds) (ms : Members)
+    → IsPart P (record { node = node n t (nodes.map M type b); keys = keys }) (tree.object ms) → AreMembers ms × AreInSlots P (map (value_slot M) (in_order P.names)) ms × IsWithin b (fault.members_count ms)
+map_down stored everywhere P keys n t M type b ms h =
     let parts = (stored _ _).0 h.stored in
     let over = over_down everywhere P _ _ h.over in (
       h.tree,
@@ -345,9 +345,9 @@ map_below P n t M type b ms h (name k) K w is =
     subst (λ J. IsOver P J w) (same_Some M K q.0) (value_part P M ms h k w q.1).1.over
 map_below P n t M type b ms h (index i) K w is = absurd (cc)
 
-pub map_up : StoredLaw → EverywhereLaw → (P : Pools) (n : Bool) (t : Option (List ℕ)) (M : Node) (type : MapType) (b : Bounds) (ms : Members)
-    → AreMembers ms → AreInSlots P (map (value_slot M) (in_order P.names)) ms → IsWithin b (fault.members_count ms) → IsPart P (node n t (nodes.map M type b)) (tree.object ms)
-map_up stored everywhere P n t M type b ms members h within = record {
+pub map_up : StoredLaw → EverywhereLaw → (P : Pools) (keys : List (List ℕ)) (n : Bool) (t : Option (List ℕ)) (M : Node) (type : MapType) (b : Bounds) (ms : Members)
+    → AreMembers ms → AreInSlots P (map (value_slot M) (in_order P.names)) ms → IsWithin b (fault.members_count ms) → IsPart P (record { node = node n t (nodes.map M type b); keys = keys }) (tree.object ms)
+map_up stored everywhere P keys n t M type b ms members h within = record {
   tree = members;
   stored = (stored _ _).1 (within, λ k w is. (value_part P M ms h k w is).1.stored);
   over = over_up everywhere P _ _ (names_pass (λ l. is_among l P.names) ms members (λ k w is. (value_part P M ms h k w is).0)) (map_below P n t M type b ms h);
@@ -355,37 +355,37 @@ map_up stored everywhere P n t M type b ms members h within = record {
 
 -- ---- lists
 
-items_parts : (P : Pools) (M : Node) (ds : Items) → AreTrees ds → ((i : ℕ) (w : Data) → item_at i ds ≡ Some w → IsStored M w × IsOver P M w) → AreParts P M ds
+items_parts : (P : Pools) (M : Site) (ds : Items) → AreTrees ds → ((i : ℕ) (w : Data) → item_at i ds ≡ Some w → IsStored M.node w × IsOver P M.node w) → AreParts P M ds
 items_parts P M no_items trees h = tt
 items_parts P M (item d ds) trees h =
     let first = h zero d refl in
     (record { tree = trees.0; stored = first.0; over = first.1 }, items_parts P M ds trees.1 (λ i w is. h (suc i) w is))
 
-part_at_index : (P : Pools) (M : Node) (ds : Items) (i : ℕ) (w : Data) → AreParts P M ds → item_at i ds ≡ Some w → IsPart P M w
+part_at_index : (P : Pools) (M : Site) (ds : Items) (i : ℕ) (w : Data) → AreParts P M ds → item_at i ds ≡ Some w → IsPart P M w
 part_at_index P M no_items i w h is = absurd (cc)
 part_at_index P M (item d ds) zero w h is = subst (IsPart P M) (same_Some d w is) h.0
 part_at_index P M (item d ds) (suc i) w h is = part_at_index P M ds i w h.1 is
 
-items_trees : (P : Pools) (M : Node) (ds : Items) → AreParts P M ds → AreTrees ds
+items_trees : (P : Pools) (M : Site) (ds : Items) → AreParts P M ds → AreTrees ds
 items_trees P M no_items h = tt
 items_trees P M (item d ds) h = (h.0.tree, items_trees P M ds h.1)
 
-pub list_down : StoredLaw → EverywhereLaw → (P : Pools) (n : Bool) (t : Option (List ℕ)) (M : Node) (type : ListType) (keys : List (List ℕ)) (b : Bounds) (ds : Items)
-    → IsPart P (node n t (list M type keys b)) (tree.list ds) → AreParts P M ds × (are_apart (fault.are_alike type keys) ds ≡ true) × IsWithin b (fault.items_count ds)
-list_down stored everywhere P n t M type keys b ds h =
+pub list_down : StoredLaw → EverywhereLaw → (P : Pools) (own : List (List ℕ)) (n : Bool) (t : Option (List ℕ)) (M : Site) (type : ListType) (keys : List (List ℕ)) (b : Bounds) (ds : Items)
+    → IsPart P (record { node = node n t (list M.node type keys b); keys = own }) (tree.list ds) → AreParts P M ds × (are_apart (fault.are_alike type keys) ds ≡ true) × IsWithin b (fault.items_count ds)
+list_down stored everywhere P own n t M type keys b ds h =
     let parts = (stored _ _).0 h.stored in
     let over = over_down everywhere P _ _ h.over in
-    (items_parts P M ds h.tree (λ i w is. (parts.1 i w is, over.1 (index i) M w (rw is refl))), parts.0.1, parts.0.0)
+    (items_parts P M ds h.tree (λ i w is. (parts.1 i w is, over.1 (index i) M.node w (rw is refl))), parts.0.1, parts.0.0)
 
-list_below : (P : Pools) (n : Bool) (t : Option (List ℕ)) (M : Node) (type : ListType) (keys : List (List ℕ)) (b : Bounds) (ds : Items) → AreParts P M ds → Below P (node n t (list M type keys b)) (tree.list ds)
+list_below : (P : Pools) (n : Bool) (t : Option (List ℕ)) (M : Site) (type : ListType) (keys : List (List ℕ)) (b : Bounds) (ds : Items) → AreParts P M ds → Below P (node n t (list M.node type keys b)) (tree.list ds)
 list_below P n t M type keys b ds h (name k) K w is = absurd (cc)
 list_below P n t M type keys b ds h (index i) K w is =
-    let q = part_from (Some M) (item_at i ds) K w is in
-    subst (λ J. IsOver P J w) (same_Some M K q.0) (part_at_index P M ds i w h q.1).over
+    let q = part_from (Some M.node) (item_at i ds) K w is in
+    subst (λ J. IsOver P J w) (same_Some M.node K q.0) (part_at_index P M ds i w h q.1).over
 
-pub list_up : StoredLaw → EverywhereLaw → (P : Pools) (n : Bool) (t : Option (List ℕ)) (M : Node) (type : ListType) (keys : List (List ℕ)) (b : Bounds) (ds : Items)
-    → AreParts P M ds → are_apart (fault.are_alike type keys) ds ≡ true → IsWithin b (fault.items_count ds) → IsPart P (node n t (list M type keys b)) (tree.list ds)
-list_up stored everywhere P n t M type keys b ds h apart within = record {
+pub list_up : StoredLaw → EverywhereLaw → (P : Pools) (own : List (List ℕ)) (n : Bool) (t : Option (List ℕ)) (M : Site) (type : ListType) (keys : List (List ℕ)) (b : Bounds) (ds : Items)
+    → AreParts P M ds → are_apart (fault.are_alike type keys) ds ≡ true → IsWithin b (fault.items_count ds) → IsPart P (record { node = node n t (list M.node type keys b); keys = own }) (tree.list ds)
+list_up stored everywhere P own n t M type keys b ds h apart within = record {
   tree = items_trees P M ds h;
   stored = (stored _ _).1 ((within, apart), λ i w is. (part_at_index P M ds i w h is).stored);
   over = over_up everywhere P _ _ refl (list_below P n t M type keys b ds h);
@@ -394,17 +394,20 @@ list_up stored everywhere P n t M type keys b ds h apart within = record {
 -- ---- all of it
 
 -- a null that is stored has no parts
-null_part : EverywhereLaw → (P : Pools) (N : Node) → IsStored N tree.null → is_over_here P N tree.null ≡ true → IsPart P N tree.null
-null_part everywhere P N here over = record { tree = tt; stored = here; over = over_up everywhere P N tree.null over (λ s M w is. absurd (cc)) }
+null_part : EverywhereLaw → (P : Pools) (s : Site) → IsStored s.node tree.null → is_over_here P s.node tree.null ≡ true → IsPart P s tree.null
+null_part everywhere P s here over = record { tree = tt; stored = here; over = over_up everywhere P s.node tree.null over (λ step M w is. absurd (cc)) }
 
 -- an object in whose slots parts stand
-filled_object : (P : Pools) (s : Site) (ms : Members) → AreInOrder (slots P s) → AreMembers ms → AreInSlots P (slots P s) ms → IsWithin (bounds_of s.node) (fault.members_count ms) → IsObjectPart P s (tree.object ms)
+filled_object : (P : Pools) (s : Site) (ms : Members) → AreInOrder (slots P s) → AreMembers ms → AreInSlots P (slots P s) ms → IsWithin (bounds_of s) (fault.members_count ms) → IsObjectPart P s (tree.object ms)
 filled_object P s ms o members h within =
     let r = fill P (slots P s) ms o members h in
-    record { fillings = r.0; is = ap tree.object r.2; are = r.1; within = subst (IsWithin (bounds_of s.node)) (ap fault.members_count r.2 ∙ in_count P (slots P s) r.0 r.1) within }
+    record { fillings = r.0; is = ap tree.object r.2; are = r.1; within = subst (IsWithin (bounds_of s)) (ap fault.members_count r.2 ∙ in_count P (slots P s) r.0 r.1) within }
+
+abbrev IsRowCase : Pools → Site → Data → Type 0
+IsRowCase P s v = IsNullPart s v ⊎ IsObjectPart P s v
 
 object_cases : StoredLaw → EverywhereLaw → (P : Pools) (keys : List (List ℕ)) (n : Bool) (t : Option (List ℕ)) (fs : Fields) (preserves : Bool) (type : MapType) (b : Bounds) (v : Data) → AreOrdered fs
-    → IsPart P (node n t (object fs preserves type b)) v → IsNullPart (node n t (object fs preserves type b)) v ⊎ IsObjectPart P (record { node = node n t (object fs preserves type b); keys = keys }) v
+    → IsPart P (record { node = node n t (object fs preserves type b); keys = keys }) v → IsRowCase P (record { node = node n t (object fs preserves type b); keys = keys }) v
 object_cases stored everywhere P keys n t fs preserves type b tree.null o h = inl (refl, ((stored _ _).0 h.stored).0)
 object_cases stored everywhere P keys n t fs preserves type b (tree.object ms) o h =
     let d = object_down stored everywhere P n t fs preserves type b keys ms o h in
@@ -415,14 +418,14 @@ object_cases stored everywhere P keys n t fs preserves type b (tree.text x) o h 
 object_cases stored everywhere P keys n t fs preserves type b (tree.list x) o h = absurd ((stored _ _).0 h.stored).0
 
 abbrev RowLaw : Pools → Site → Data → Type 0
-RowLaw P s v = IsPart P s.node v ↔ (IsNullPart s.node v ⊎ IsObjectPart P s v)
+RowLaw P s v = IsPart P s v ↔ IsRowCase P s v
 
 object_row : StoredLaw → EverywhereLaw → (P : Pools) (keys : List (List ℕ)) (n : Bool) (t : Option (List ℕ)) (fs : Fields) (preserves : Bool) (type : MapType) (b : Bounds) (v : Data) → AreOrdered fs
     → RowLaw P (record { node = node n t (object fs preserves type b); keys = keys }) v
 object_row stored everywhere P keys n t fs preserves type b v o =
     let s : Site = record { node = node n t (object fs preserves type b); keys = keys } in
-    let up : (u : Data) → IsNullPart s.node u ⊎ IsObjectPart P s u → IsPart P s.node u = λ u h. elim h as (λ _. IsPart P s.node u) [
-      | inl null ↦ rw null.0 (null_part everywhere P s.node ((stored s.node tree.null).1 (null.1, tt)) refl)
+    let up : (u : Data) → IsRowCase P s u → IsPart P s u = λ u h. elim h as (λ _. IsPart P s u) [
+      | inl null ↦ rw null.0 (null_part everywhere P s ((stored s.node tree.null).1 (null.1, tt)) refl)
       | inr q ↦
           let members = in_members P (slots P s) q.fillings (fields_in_order keys fs o) q.are in
           let inside = in_slots P (slots P s) q.fillings (fields_in_order keys fs o) q.are in
@@ -431,10 +434,10 @@ object_row stored everywhere P keys n t fs preserves type b v o =
     (object_cases stored everywhere P keys n t fs preserves type b v o, up v)
 
 map_cases : StoredLaw → EverywhereLaw → (P : Pools) (keys : List (List ℕ)) (n : Bool) (t : Option (List ℕ)) (M : Node) (type : MapType) (b : Bounds) (v : Data)
-    → IsPart P (node n t (nodes.map M type b)) v → IsNullPart (node n t (nodes.map M type b)) v ⊎ IsObjectPart P (record { node = node n t (nodes.map M type b); keys = keys }) v
+    → IsPart P (record { node = node n t (nodes.map M type b); keys = keys }) v → IsRowCase P (record { node = node n t (nodes.map M type b); keys = keys }) v
 map_cases stored everywhere P keys n t M type b tree.null h = inl (refl, ((stored _ _).0 h.stored).0)
 map_cases stored everywhere P keys n t M type b (tree.object ms) h =
-    let d = map_down stored everywhere P n t M type b ms h in
+    let d = map_down stored everywhere P keys n t M type b ms h in
     inr (filled_object P (record { node = node n t (nodes.map M type b); keys = keys }) ms (values_in_order M P.names) d.0 d.1 d.2)
 map_cases stored everywhere P keys n t M type b (tree.boolean x) h = absurd ((stored _ _).0 h.stored).0
 map_cases stored everywhere P keys n t M type b (tree.integer x) h = absurd ((stored _ _).0 h.stored).0
@@ -445,39 +448,41 @@ map_row : StoredLaw → EverywhereLaw → (P : Pools) (keys : List (List ℕ)) (
 map_row stored everywhere P keys n t M type b v =
     let s : Site = record { node = node n t (nodes.map M type b); keys = keys } in
     let o = values_in_order M P.names in
-    let up : (u : Data) → IsNullPart s.node u ⊎ IsObjectPart P s u → IsPart P s.node u = λ u h. elim h as (λ _. IsPart P s.node u) [
-      | inl null ↦ rw null.0 (null_part everywhere P s.node ((stored s.node tree.null).1 (null.1, tt)) refl)
-      | inr q ↦ rw q.is (map_up stored everywhere P n t M type b _ (in_members P (slots P s) q.fillings o q.are) (in_slots P (slots P s) q.fillings o q.are) (rw (in_count P (slots P s) q.fillings q.are) q.within))
+    let up : (u : Data) → IsRowCase P s u → IsPart P s u = λ u h. elim h as (λ _. IsPart P s u) [
+      | inl null ↦ rw null.0 (null_part everywhere P s ((stored s.node tree.null).1 (null.1, tt)) refl)
+      | inr q ↦ rw q.is (map_up stored everywhere P keys n t M type b _ (in_members P (slots P s) q.fillings o q.are) (in_slots P (slots P s) q.fillings o q.are) (rw (in_count P (slots P s) q.fillings q.are) q.within))
     ] in
     (map_cases stored everywhere P keys n t M type b v, up v)
 
-list_cases : StoredLaw → EverywhereLaw → (P : Pools) (n : Bool) (t : Option (List ℕ)) (M : Node) (type : ListType) (keys : List (List ℕ)) (b : Bounds) (v : Data)
-    → IsPart P (node n t (list M type keys b)) v → IsNullPart (node n t (list M type keys b)) v ⊎ IsItemsPart P (node n t (list M type keys b)) M v
-list_cases stored everywhere P n t M type keys b tree.null h = inl (refl, ((stored _ _).0 h.stored).0)
-list_cases stored everywhere P n t M type keys b (tree.list ds) h =
-    let d = list_down stored everywhere P n t M type keys b ds h in
+abbrev IsListCase : Pools → Site → Site → Data → Type 0
+IsListCase P s M v = IsNullPart s v ⊎ IsItemsPart P s M v
+
+list_cases : StoredLaw → EverywhereLaw → (P : Pools) (own : List (List ℕ)) (n : Bool) (t : Option (List ℕ)) (M : Site) (type : ListType) (keys : List (List ℕ)) (b : Bounds) (v : Data)
+    → IsPart P (record { node = node n t (list M.node type keys b); keys = own }) v → IsListCase P (record { node = node n t (list M.node type keys b); keys = own }) M v
+list_cases stored everywhere P own n t M type keys b tree.null h = inl (refl, ((stored _ _).0 h.stored).0)
+list_cases stored everywhere P own n t M type keys b (tree.list ds) h =
+    let d = list_down stored everywhere P own n t M type keys b ds h in
     inr (record { items = ds; is = refl; are = d.0; apart = d.1; within = d.2 })
-list_cases stored everywhere P n t M type keys b (tree.boolean x) h = absurd ((stored _ _).0 h.stored).0
-list_cases stored everywhere P n t M type keys b (tree.integer x) h = absurd ((stored _ _).0 h.stored).0
-list_cases stored everywhere P n t M type keys b (tree.text x) h = absurd ((stored _ _).0 h.stored).0
-list_cases stored everywhere P n t M type keys b (tree.object x) h = absurd ((stored _ _).0 h.stored).0
+list_cases stored everywhere P own n t M type keys b (tree.boolean x) h = absurd ((stored _ _).0 h.stored).0
+list_cases stored everywhere P own n t M type keys b (tree.integer x) h = absurd ((stored _ _).0 h.stored).0
+list_cases stored everywhere P own n t M type keys b (tree.text x) h = absurd ((stored _ _).0 h.stored).0
+list_cases stored everywhere P own n t M type keys b (tree.object x) h = absurd ((stored _ _).0 h.stored).0
 
-list_up_cases : StoredLaw → EverywhereLaw → (P : Pools) (n : Bool) (t : Option (List ℕ)) (M : Node) (type : ListType) (keys : List (List ℕ)) (b : Bounds) (v : Data)
-    → IsNullPart (node n t (list M type keys b)) v ⊎ IsItemsPart P (node n t (list M type keys b)) M v → IsPart P (node n t (list M type keys b)) v
-list_up_cases stored everywhere P n t M type keys b v (inl null) = rw null.0 (null_part everywhere P _ ((stored _ tree.null).1 (null.1, tt)) refl)
-list_up_cases stored everywhere P n t M type keys b v (inr q) = rw q.is (list_up stored everywhere P n t M type keys b q.items q.are q.apart q.within)
+list_up_cases : StoredLaw → EverywhereLaw → (P : Pools) (own : List (List ℕ)) (n : Bool) (t : Option (List ℕ)) (M : Site) (type : ListType) (keys : List (List ℕ)) (b : Bounds) (v : Data)
+    → IsListCase P (record { node = node n t (list M.node type keys b); keys = own }) M v → IsPart P (record { node = node n t (list M.node type keys b); keys = own }) v
+list_up_cases stored everywhere P own n t M type keys b v (inl null) = rw null.0 (null_part everywhere P _ ((stored _ tree.null).1 (null.1, tt)) refl)
+list_up_cases stored everywhere P own n t M type keys b v (inr q) = rw q.is (list_up stored everywhere P own n t M type keys b q.items q.are q.apart q.within)
 
-row_law : StoredLaw → EverywhereLaw → (P : Pools) (N : Node) (keys : List (List ℕ)) (v : Data) → IsNode N → sort_of N ≡ Row → RowLaw P (record { node = N; keys = keys }) v
+row_law : StoredLaw → EverywhereLaw → (P : Pools) (N : Node) (keys : List (List ℕ)) (v : Data) → IsNode N → sort_at N ≡ Row → RowLaw P (record { node = N; keys = keys }) v
 row_law stored everywhere P (node n t (object fs preserves type b)) keys v o is = object_row stored everywhere P keys n t fs preserves type b v o
 row_law stored everywhere P (node n t (nodes.map M type b)) keys v o is = map_row stored everywhere P keys n t M type b v
 row_law stored everywhere P (node n t (scalar kind cs)) keys v o is = absurd (cc)
 row_law stored everywhere P (node n t (list M type ks b)) keys v o is = absurd (cc)
 row_law stored everywhere P (node n t open_) keys v o is = absurd (cc)
 
-list_law : StoredLaw → EverywhereLaw → (P : Pools) (N : Node) (keys : List (List ℕ)) (M : Site) (v : Data) → item_site (record { node = N; keys = keys }) ≡ Some M → IsPart P N v ↔ (IsNullPart N v ⊎ IsItemsPart P N M.node v)
+list_law : StoredLaw → EverywhereLaw → (P : Pools) (N : Node) (keys : List (List ℕ)) (M : Site) (v : Data) → item_site (record { node = N; keys = keys }) ≡ Some M → IsPart P (record { node = N; keys = keys }) v ↔ IsListCase P (record { node = N; keys = keys }) M v
 list_law stored everywhere P (node n t (list K type ks b)) keys M v is =
-    let same : K ≡ M.node = ap (λ s. Site.node s) (same_Some _ M is) in
-    rw (← same) (list_cases stored everywhere P n t K type ks b v, list_up_cases stored everywhere P n t K type ks b v)
+    rw (← same_Some _ M is) (list_cases stored everywhere P keys n t (record { node = K; keys = item_keys type ks }) type ks b v, list_up_cases stored everywhere P keys n t (record { node = K; keys = item_keys type ks }) type ks b v)
 list_law stored everywhere P (node n t (object fs preserves type b)) keys M v is = absurd (cc)
 list_law stored everywhere P (node n t (nodes.map K type b)) keys M v is = absurd (cc)
 list_law stored everywhere P (node n t (scalar kind cs)) keys M v is = absurd (cc)
@@ -488,7 +493,7 @@ never_part None M w e = cc
 never_part (Some v) M w e = cc
 
 -- a leaf has no parts but itself
-leaf_below : (P : Pools) (N : Node) (v : Data) → sort_of N ≡ Leaf → Below P N v
+leaf_below : (P : Pools) (N : Node) (v : Data) → sort_at N ≡ Leaf → Below P N v
 leaf_below P (node n t (scalar kind cs)) v leaf s M w is = absurd (never_part (part_by v s) M w is)
 leaf_below P (node n t open_) v leaf s M w is = absurd (never_part (part_by v s) M w is)
 leaf_below P (node n t (object fs preserves type b)) v leaf s M w is = absurd (cc)
@@ -497,9 +502,9 @@ leaf_below P (node n t (list K type ks b)) v leaf s M w is = absurd (cc)
 
 pub part_laws : StoredLaw → EverywhereLaw → PartLaws
 part_laws stored everywhere = record {
-  leaf = λ P N v leaf. (
-    (λ h. (h.tree, h.stored, (over_down everywhere P N v h.over).0)),
-    λ h. record { tree = h.0; stored = h.1; over = over_up everywhere P N v h.2 (leaf_below P N v leaf) },
+  leaf = λ P s v leaf. (
+    (λ h. (h.tree, h.stored, (over_down everywhere P s.node v h.over).0)),
+    λ h. record { tree = h.0; stored = h.1; over = over_up everywhere P s.node v h.2 (leaf_below P s.node v leaf) },
   );
   row = λ P s v o is. row_law stored everywhere P s.node s.keys v o is;
   list = λ P s M v is. list_law stored everywhere P s.node s.keys M v is;

@@ -1,5 +1,5 @@
 -- What is known of an entry of a plan.
-use Rattle.std.specs.Prelude.{◌≡◌, ℕ, ◌+◌, ◌-◌, ◌≤◌, ◌<◌, ◌⊎◌, zero, suc, ◌∷◌, List, IfNone, Option, slice_get, drop, Contains, length, get_or, Some, None, false, []}
+use Rattle.std.specs.Prelude.{◌≡◌, ℕ, ◌+◌, ◌-◌, ◌≤◌, ◌<◌, ◌⊎◌, zero, suc, ◌∷◌, List, IfNone, Option, slice_get, drop, Contains, length, get_or, Some, None, []}
 use Rattle.std.specs.declared.vec.Vec.{Vec}
 use Rattle.std.specs.declared.alloc.Global.{Global}
 use Rattle.std.proofs.Common.{refl, ap, sym, ◌∙◌, subst, inl, inr, arith}
@@ -7,7 +7,7 @@ use Rattle.schema.specs.Nodes.Node.{Node, node, scalar, object, list, open_}
 use Rattle.schema.specs.Nodes.Node as nodes
 use Rattle.plan.specs.Pools.Pools.{Pools}
 use Rattle.plan.specs.Samples.Question.{Question}
-use Rattle.plan.specs.Samples.Sites.{Site, plain, sites_of, item_site, item_site_at, Slot, slots}
+use Rattle.plan.specs.Samples.Sites.{Site, no_site, sites_of, item_site, item_site_at, Slot, slots}
 use Rattle.plan.specs.Samples.Handed.{IsSlotAt}
 use Rattle.plan.specs.declared.plan.Slot.{Slot as PlanSlot}
 use Rattle.plan.specs.declared.arena.SlotEntry.{SlotEntry}
@@ -15,7 +15,7 @@ use Rattle.plan.specs.Sets.{IsEmptyFrom}
 use Rattle.jtree.specs.Data.{Items, no_items, item}
 use Rattle.jtree.specs.Nodes.{items_count}
 use Rattle.std.proofs.lemmas.Option.{same_Some}
-use Rattle.plan.specs.Samples.Candidates.{sort_of, distinct_of, HasCount}
+use Rattle.plan.specs.Samples.Candidates.{sort_at, sort_of, distinct_at, distinct_of, HasCount}
 use Rattle.plan.specs.Samples.Sizes.{HasRest, HasMore, items_from, IsUpTo}
 use Rattle.plan.specs.declared.sort.Distinct.TheVariants.{Free}
 use Rattle.plan.specs.declared.sort.Sort.TheVariants.{Leaf as LeafSort, Row as RowSort, List as ListSort}
@@ -61,14 +61,14 @@ level_rest holds limit P names sites i r k place taken level z row at within is 
     rw e at n
 
 -- as many items as the limit leave no room for the list
-pub more_ends : (limit : ℕ) (P : Pools) (N : Node) (t m : ℕ) → limit ≤ t → HasMore P limit N t m → ⊥
-more_ends limit P N t m l h = let c = count_nodes h.items in omega (arith, h.fits, h.many)
+pub more_ends : (limit : ℕ) (P : Pools) (s : Site) (t m : ℕ) → limit ≤ t → HasMore P limit s t m → ⊥
+more_ends limit P s t m l h = let c = count_nodes h.items in omega (arith, h.fits, h.many)
 
-pub none_more : (limit : ℕ) (P : Pools) (N : Node) (t : ℕ) (S : ℕ → Type 0) → limit ≤ t → ((n : ℕ) → S n → ⊥) → IsUpTo limit S (HasMore P limit N t)
-none_more limit P N t S l none n = ((λ s. absurd (none n s)), λ h. absurd (more_ends limit P N t n l h.1))
+pub none_more : (limit : ℕ) (P : Pools) (s : Site) (t : ℕ) (S : ℕ → Type 0) → limit ≤ t → ((n : ℕ) → S n → ⊥) → IsUpTo limit S (HasMore P limit s t)
+none_more limit P s t S l none n = ((λ held. absurd (none n held)), λ h. absurd (more_ends limit P s t n l h.1))
 
 -- a node of another sort is none of lists
-pub not_list : (N : Node) → (sort_of N ≡ ListSort → ⊥) → distinct_of N ≡ Free
+pub not_list : (N : Node) → (sort_at N ≡ ListSort → ⊥) → distinct_at N ≡ Free
 not_list (node n t (scalar kind cs)) h = refl
 not_list (node n t (object fs preserves type b)) h = refl
 not_list (node n t (nodes.map M type b)) h = refl
@@ -76,37 +76,37 @@ not_list (node n t (list M type keys b)) h = absurd (h refl)
 not_list (node n t open_) h = refl
 
 -- the sort of a node, from what its entry holds
-pub leaf_sort : {Z : Type 0} (holds : Z → ℕ → Type 0) (limit : ℕ) (P : Pools) (v : Values) (sites : List Site) (i : ℕ) (e : Entry Z) (l : Leaf) → IsRight holds limit P v sites i e → e.content ≡ content.Leaf l → sort_of (site_at sites i).node ≡ LeafSort
+pub leaf_sort : {Z : Type 0} (holds : Z → ℕ → Type 0) (limit : ℕ) (P : Pools) (v : Values) (sites : List Site) (i : ℕ) (e : Entry Z) (l : Leaf) → IsRight holds limit P v sites i e → e.content ≡ content.Leaf l → sort_of (site_at sites i) ≡ LeafSort
 leaf_sort holds limit P v sites i e l right is = let h = rw is at right.content in h.sort
 
-pub row_sort : {Z : Type 0} (holds : Z → ℕ → Type 0) (limit : ℕ) (P : Pools) (v : Values) (sites : List Site) (i : ℕ) (e : Entry Z) (r : RowEntry Z) → IsRight holds limit P v sites i e → e.content ≡ content.Row r → sort_of (site_at sites i).node ≡ RowSort
+pub row_sort : {Z : Type 0} (holds : Z → ℕ → Type 0) (limit : ℕ) (P : Pools) (v : Values) (sites : List Site) (i : ℕ) (e : Entry Z) (r : RowEntry Z) → IsRight holds limit P v sites i e → e.content ≡ content.Row r → sort_of (site_at sites i) ≡ RowSort
 row_sort holds limit P v sites i e r right is = let h = rw is at right.content in h.sort
 
-node_item_sort : (N : Node) (M : Site) → item_site_at N ≡ Some M → sort_of N ≡ ListSort
+node_item_sort : (N : Node) (M : Site) → item_site_at N ≡ Some M → sort_at N ≡ ListSort
 node_item_sort (node n t (scalar kind cs)) M is = absurd (cc)
 node_item_sort (node n t (object fs preserves type b)) M is = absurd (cc)
 node_item_sort (node n t (nodes.map N type b)) M is = absurd (cc)
 node_item_sort (node n t (list N type keys b)) M is = refl
 node_item_sort (node n t open_) M is = absurd (cc)
 
-pub item_sort : (s M : Site) → item_site s ≡ Some M → sort_of s.node ≡ ListSort
+pub item_sort : (s M : Site) → item_site s ≡ Some M → sort_of s ≡ ListSort
 item_sort s M is = node_item_sort s.node M is
 
-pub list_sort : {Z : Type 0} (holds : Z → ℕ → Type 0) (limit : ℕ) (P : Pools) (v : Values) (sites : List Site) (i : ℕ) (e : Entry Z) (l : ListEntry Z) → IsRight holds limit P v sites i e → e.content ≡ content.List l → sort_of (site_at sites i).node ≡ ListSort
+pub list_sort : {Z : Type 0} (holds : Z → ℕ → Type 0) (limit : ℕ) (P : Pools) (v : Values) (sites : List Site) (i : ℕ) (e : Entry Z) (l : ListEntry Z) → IsRight holds limit P v sites i e → e.content ≡ content.List l → sort_of (site_at sites i) ≡ ListSort
 list_sort holds limit P v sites i e l right is = let h = rw is at right.content in item_sort (site_at sites i) (site_at sites l.item) h.item
 
 pub no_list : {Z : Type 0} (holds : Z → ℕ → Type 0) (limit : ℕ) (P : Pools) (v : Values) (sites : List Site) (i : ℕ) (e : Entry Z) → IsRight holds limit P v sites i e → ((l : Leaf) × (e.content ≡ content.Leaf l)) ⊎ ((r : RowEntry Z) × (e.content ≡ content.Row r))
-    → distinct_of (site_at sites i).node ≡ Free
+    → distinct_of (site_at sites i) ≡ Free
 no_list holds limit P v sites i e right (inl l) = let s = leaf_sort holds limit P v sites i e l.0 right l.1 in not_list (site_at sites i).node (λ t. let no = sym s ∙ t in cc)
 no_list holds limit P v sites i e right (inr r) = let s = row_sort holds limit P v sites i e r.0 right r.1 in not_list (site_at sites i).node (λ t. let no = sym s ∙ t in cc)
 
 pub no_row : {Z : Type 0} (holds : Z → ℕ → Type 0) (limit : ℕ) (P : Pools) (v : Values) (sites : List Site) (i : ℕ) (e : Entry Z) → IsRight holds limit P v sites i e → ((l : Leaf) × (e.content ≡ content.Leaf l)) ⊎ ((l : ListEntry Z) × (e.content ≡ content.List l))
-    → sort_of (site_at sites i).node ≡ RowSort → ⊥
+    → sort_of (site_at sites i) ≡ RowSort → ⊥
 no_row holds limit P v sites i e right (inl l) row = let s = leaf_sort holds limit P v sites i e l.0 right l.1 in let no = sym s ∙ row in cc
 no_row holds limit P v sites i e right (inr l) row = let s = list_sort holds limit P v sites i e l.0 right l.1 in let no = sym s ∙ row in cc
 
 pub no_leaf : {Z : Type 0} (holds : Z → ℕ → Type 0) (limit : ℕ) (P : Pools) (v : Values) (sites : List Site) (i : ℕ) (e : Entry Z) → IsRight holds limit P v sites i e → ((r : RowEntry Z) × (e.content ≡ content.Row r)) ⊎ ((l : ListEntry Z) × (e.content ≡ content.List l))
-    → sort_of (site_at sites i).node ≡ LeafSort → ⊥
+    → sort_of (site_at sites i) ≡ LeafSort → ⊥
 no_leaf holds limit P v sites i e right (inl r) leaf = let s = row_sort holds limit P v sites i e r.0 right r.1 in let no = sym s ∙ leaf in cc
 no_leaf holds limit P v sites i e right (inr l) leaf = let s = list_sort holds limit P v sites i e l.0 right l.1 in let no = sym s ∙ leaf in cc
 
@@ -114,7 +114,7 @@ no_leaf holds limit P v sites i e right (inr l) leaf = let s = list_sort holds l
 pub stands_itself : (xs : List Site) → Stand xs 0 xs
 stands_itself xs j s l =
     let e : 0 + j ≡ j = omega arith in
-    rw e (get_or_default xs j (plain (node false None open_)) s l)
+    rw e (get_or_default xs j no_site s l)
 
 -- a plan, from what was built for the root
 pub plan_made : {Z : Type 0} (holds : Z → ℕ → Type 0) (BITS : ℕ) (root : Node) (P : Pools) (limit : ℕ) (v : Values) (es : List (Entry Z)) (n : ℕ) → limit < BITS → 1 ≤ limit → AreValues P v → IsSound root → IsBuilt holds limit v [] es root [] n → IsPlan holds BITS root P limit v es n
@@ -130,14 +130,14 @@ plan_made holds BITS root P limit v es n within room values sound built = record
 -- the number of candidates of a leaf, in the words of the plan's view
 pub count_right : {Z : Type 0} (holds : Z → ℕ → Type 0) (BITS : ℕ) (root : Node) (P : Pools) (limit : ℕ) (v : Values) (es : List (Entry Z)) (first : ℕ) (q : Question) (i n : ℕ)
     → IsPlan holds BITS root P limit v es first → record { root = root; pools = P; limit = limit } ≡ q
-    → ((Q : Pools) (sites : List Site) → AreRight holds limit Q v sites es → i < length es → sort_of (site_at sites i).node ≡ LeafSort → HasCount Q (site_at sites i).node n)
-    → i < length (sites_of q.root) → sort_of (site_at (sites_of q.root) i).node ≡ LeafSort → HasCount q.pools (site_at (sites_of q.root) i).node n
+    → ((Q : Pools) (sites : List Site) → AreRight holds limit Q v sites es → i < length es → sort_of (site_at sites i) ≡ LeafSort → HasCount Q (site_at sites i) n)
+    → i < length (sites_of q.root) → sort_of (site_at (sites_of q.root) i) ≡ LeafSort → HasCount q.pools (site_at (sites_of q.root) i) n
 count_right holds BITS root P limit v es first q i n plan view counts within leaf =
-    let r : i < length (sites_of root) → sort_of (site_at (sites_of root) i).node ≡ LeafSort → HasCount P (site_at (sites_of root) i).node n = λ l s. counts P (sites_of root) plan.right (omega (arith, plan.count)) s in
-    subst (λ (x : Question). i < length (sites_of x.root) → sort_of (site_at (sites_of x.root) i).node ≡ LeafSort → HasCount x.pools (site_at (sites_of x.root) i).node n) view r within leaf
+    let r : i < length (sites_of root) → sort_of (site_at (sites_of root) i) ≡ LeafSort → HasCount P (site_at (sites_of root) i) n = λ l s. counts P (sites_of root) plan.right (omega (arith, plan.count)) s in
+    subst (λ (x : Question). i < length (sites_of x.root) → sort_of (site_at (sites_of x.root) i) ≡ LeafSort → HasCount x.pools (site_at (sites_of x.root) i) n) view r within leaf
 
 pub site_among : (sites : List Site) (i : ℕ) → i < length sites → Contains sites (site_at sites i)
-site_among sites i l = (i, l, sym (get_or_default sites i (plain (node false None open_)) (site_at sites i) l))
+site_among sites i l = (i, l, sym (get_or_default sites i no_site (site_at sites i) l))
 
 -- ---- slots and items
 
@@ -166,24 +166,24 @@ row_later holds limit P names sites i place n r row keys inside is =
     rw (← is) at (row.later place n (omega (arith, row.later_whole)) (λ s a key. (keys s (contains ss s (drop_among (place + 1) ss s a)) key).leaf))
 
 -- what a list can still take after the last place
-pub more_past : {Z : Type 0} (holds : Z → ℕ → Type 0) (limit : ℕ) (P : Pools) (sites : List Site) (i t m : ℕ) (l : ListEntry Z) → IsList holds limit P sites i l → length l.more.items ≤ t → HasMore P limit (site_at sites i).node t m → ⊥
-more_past holds limit P sites i t m l h past more = more_ends limit P (site_at sites i).node t m (omega (arith, h.whole)) more
+pub more_past : {Z : Type 0} (holds : Z → ℕ → Type 0) (limit : ℕ) (P : Pools) (sites : List Site) (i t m : ℕ) (l : ListEntry Z) → IsList holds limit P sites i l → length l.more.items ≤ t → HasMore P limit (site_at sites i) t m → ⊥
+more_past holds limit P sites i t m l h past more = more_ends limit P (site_at sites i) t m (omega (arith, h.whole)) more
 
 from_least : (t : ℕ) (ds : Items) → items_count (items_from t ds) ≤ items_count ds
 from_least zero ds = omega arith
 from_least (suc t) no_items = omega arith
 from_least (suc t) (item d ds) = omega (arith, from_least t ds)
 
-more_within : (limit : ℕ) (P : Pools) (N : Node) (t m : ℕ) → HasMore P limit N t m → m ≤ limit
-more_within limit P N t m h = let c = from_least t h.items in omega (arith, h.fits, h.nodes_are)
+more_within : (limit : ℕ) (P : Pools) (s : Site) (t m : ℕ) → HasMore P limit s t m → m ≤ limit
+more_within limit P s t m h = let c = from_least t h.items in omega (arith, h.fits, h.nodes_are)
 
 pub more_none_at : {Z : Type 0} (holds : Z → ℕ → Type 0) (limit : ℕ) (P : Pools) (sites : List Site) (i t m : ℕ) (l : ListEntry Z) (z : Z) → IsList holds limit P sites i l → t < length l.more.items → z ≡ get_or l.more.items t z → IsEmptyFrom (holds z) 0
-    → HasMore P limit (site_at sites i).node t m → ⊥
+    → HasMore P limit (site_at sites i) t m → ⊥
 more_none_at holds limit P sites i t m l z h inside is none more =
     let u = rw (← is) at (h.more t z inside) in
-    none m (omega arith) ((u m).1 (more_within limit P (site_at sites i).node t m more, more))
+    none m (omega arith) ((u m).1 (more_within limit P (site_at sites i) t m more, more))
 
-pub more_some_at : {Z : Type 0} (holds : Z → ℕ → Type 0) (limit : ℕ) (P : Pools) (sites : List Site) (i t n : ℕ) (l : ListEntry Z) (z : Z) → IsList holds limit P sites i l → t < length l.more.items → z ≡ get_or l.more.items t z → holds z n → (m : ℕ) × HasMore P limit (site_at sites i).node t m
+pub more_some_at : {Z : Type 0} (holds : Z → ℕ → Type 0) (limit : ℕ) (P : Pools) (sites : List Site) (i t n : ℕ) (l : ListEntry Z) (z : Z) → IsList holds limit P sites i l → t < length l.more.items → z ≡ get_or l.more.items t z → holds z n → (m : ℕ) × HasMore P limit (site_at sites i) t m
 more_some_at holds limit P sites i t n l z h inside is some = let u = rw (← is) at (h.more t z inside) in (n, ((u n).0 some).1)
 
 pub slice_get_at : {X : Type 0} (xs : List X) (i : ℕ) (x : X) → i < length xs → x ≡ get_or xs i x → slice_get xs i ≡ Some x

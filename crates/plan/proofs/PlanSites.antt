@@ -9,8 +9,8 @@ use Rattle.schema.specs.Nodes.Node as nodes
 use Rattle.stored.specs.Schemas.Accepted.{IsSchema}
 use Rattle.plan.specs.Pools.Pools.{Pools}
 use Rattle.plan.specs.Samples.Question.{Question}
-use Rattle.plan.specs.Samples.Sites.{Site, plain, sites_of, item_site, Slot, slots, slots_at}
-use Rattle.plan.specs.Samples.Candidates.{sort_of}
+use Rattle.plan.specs.Samples.Sites.{Site, sites_of, item_site, Slot, slots, slots_at}
+use Rattle.plan.specs.Samples.Candidates.{sort_at, sort_of}
 use Rattle.plan.specs.Samples.RuleOfParts.{RuleOfParts}
 use Rattle.plan.specs.Samples.NoDeadEnd.{NoDeadEnd, is_key, AreCounts}
 use Rattle.plan.specs.Samples.Keys.{HasSoundParts}
@@ -40,8 +40,8 @@ slot_entry names sites i es ss h s a = absurd h
 
 -- the candidates of a leaf, and the sites of the slots of a row
 record IsKnown (P : Pools) (sites : List Site) (i : ℕ) : Type 0 where
-  pub leaf : HasCandidates P (site_at sites i).node
-  pub slot : sort_of (site_at sites i).node ≡ Row → (s : Slot) → Among (slots P (site_at sites i)) s → (j : ℕ) × ((j < i) × (site_at sites j ≡ plain s.node))
+  pub leaf : HasCandidates P (site_at sites i)
+  pub slot : sort_of (site_at sites i) ≡ Row → (s : Slot) → Among (slots P (site_at sites i)) s → (j : ℕ) × ((j < i) × (site_at sites j ≡ s.site))
 
 some_of : {X : Type 0} (xs : List X) → 1 ≤ length xs → X
 some_of [] l = absurd (omega arith)
@@ -68,7 +68,7 @@ module _ {Z : Type 0} (holds : Z → ℕ → Type 0) (limit : ℕ) (P : Pools) (
         let k = known_at c.0 l in
         subst (HaveCandidates P) (get_or_default sites c.0 _ s c.1 ∙ c.2) (record {
           own = k.leaf;
-          below = λ row t a. let j = k.slot row t a in subst (λ x. HasCandidates P (Site.node x)) j.1.1 (known_at j.0 (let below = j.1.0 in omega arith)).leaf;
+          below = λ row t a. let j = k.slot row t a in subst (HasCandidates P) j.1.1 (known_at j.0 (let below = j.1.0 in omega arith)).leaf;
         })
 
 -- at each site of a plan, in the words of its view
@@ -93,7 +93,7 @@ plan_parts stored laws items root P limit q schema view =
 
 -- ---- the keys of a row
 
-slot_row : (P : Pools) (N : Node) (keys : List (List ℕ)) (t : Slot) → Among (slots_at P N keys) t → sort_of N ≡ Row
+slot_row : (P : Pools) (N : Node) (keys : List (List ℕ)) (t : Slot) → Among (slots_at P N keys) t → sort_at N ≡ Row
 slot_row P (node n d (object fs preserves type b)) keys t a = refl
 slot_row P (node n d (nodes.map M type b)) keys t a = refl
 slot_row P (node n d (scalar kind cs)) keys t a = absurd a

@@ -33,14 +33,14 @@ fill_none P b t m = (
 )
 
 slot_fillings : (P : Pools) (s : Slot) (ss : List Slot) (b : Bounds) (t m : ℕ) (gs : List (Option Data)) → AreFillings P (s ∷ ss) gs → IsWithin b (t + filled_count gs) → filled_nodes gs ≡ m
-    → ((s.must ≡ false) × CanFill P ss b t m) ⊎ IsSum (HasSize P s.node) (CanFill P ss b (t + 1)) m
+    → ((s.must ≡ false) × CanFill P ss b t m) ⊎ IsSum (HasSize P s.site) (CanFill P ss b (t + 1)) m
 slot_fillings P s ss b t m [] h within nodes = absurd h
 slot_fillings P s ss b t m (None ∷ gs) h within nodes = inl (h.0, record { fillings = gs; are = h.1; within = within; nodes_are = nodes })
 slot_fillings P s ss b t m (Some v ∷ gs) h within nodes =
     inr (node_count v, (filled_nodes gs, (record { part = v; is = h.0; nodes_are = refl }, record { fillings = gs; are = h.1; within = rw (one_more t (filled_count gs)) at within; nodes_are = refl }, nodes)))
 
 -- one slot more: left out, or given a part
-pub fill_slot : (P : Pools) (s : Slot) (ss : List Slot) (b : Bounds) (t m : ℕ) → CanFill P (s ∷ ss) b t m ↔ (((s.must ≡ false) × CanFill P ss b t m) ⊎ IsSum (HasSize P s.node) (CanFill P ss b (t + 1)) m)
+pub fill_slot : (P : Pools) (s : Slot) (ss : List Slot) (b : Bounds) (t m : ℕ) → CanFill P (s ∷ ss) b t m ↔ (((s.must ≡ false) × CanFill P ss b t m) ⊎ IsSum (HasSize P s.site) (CanFill P ss b (t + 1)) m)
 fill_slot P s ss b t m = (
   (λ h. slot_fillings P s ss b t m h.fillings h.are h.within h.nodes_are),
   λ s'. elim s' as (λ _. CanFill P (s ∷ ss) b t m) [
@@ -60,11 +60,11 @@ end_up_to limit P b t S s n = (
 )
 
 -- one slot more
-pub slot_up_to : (limit : ℕ) (P : Pools) (s : Slot) (ss : List Slot) (b : Bounds) (t : ℕ) (A W V S : ℕ → Type 0) → IsUpTo limit A (HasSize P s.node) → IsUpTo limit W (CanFill P ss b t) → IsUpTo limit V (CanFill P ss b (t + 1))
+pub slot_up_to : (limit : ℕ) (P : Pools) (s : Slot) (ss : List Slot) (b : Bounds) (t : ℕ) (A W V S : ℕ → Type 0) → IsUpTo limit A (HasSize P s.site) → IsUpTo limit W (CanFill P ss b t) → IsUpTo limit V (CanFill P ss b (t + 1))
     → ((n : ℕ) → S n ↔ (((s.must ≡ false) × W n) ⊎ ((n ≤ limit) × IsSum A V n))) → IsUpTo limit S (CanFill P (s ∷ ss) b t)
 slot_up_to limit P s ss b t A W V S a w v set n =
     let G : ℕ → Type 0 = λ k. (k ≤ limit) × IsSum A V k in
-    let g = sum_up_to limit A V (HasSize P s.node) (CanFill P ss b (t + 1)) a v G (λ k. ((λ x. x), λ x. x)) n in
+    let g = sum_up_to limit A V (HasSize P s.site) (CanFill P ss b (t + 1)) a v G (λ k. ((λ x. x), λ x. x)) n in
     let r = fill_slot P s ss b t n in (
       (λ h. elim ((set n).0 h) as (λ _. (n ≤ limit) × CanFill P (s ∷ ss) b t n) [
         | inl x ↦ let y = (w n).0 x.1 in (y.0, r.1 (inl (x.0, y.1)))
@@ -86,7 +86,7 @@ level_more holds limit b P ss level z h here = each_push (λ t x. IsUpTo limit (
 
 -- the choice and the slot at a place
 pub choice_slot : {Z : Type 0} (holds : Z → ℕ → Type 0) (limit : ℕ) (P : Pools) (cs : List (Choice Z)) (ss : List Slot) → AreChoices holds limit P cs ss → (i : ℕ) (c : Choice Z) → i < length cs
-    → (s : Slot) × (drop i ss ≡ s ∷ drop (suc i) ss) × IsUpTo limit (holds (get_or cs i c).sizes) (HasSize P s.node) × ((get_or cs i c).must ≡ s.must)
+    → (s : Slot) × (drop i ss ≡ s ∷ drop (suc i) ss) × IsUpTo limit (holds (get_or cs i c).sizes) (HasSize P s.site) × ((get_or cs i c).must ≡ s.must)
 choice_slot holds limit P [] ss h i c l = absurd (omega arith)
 choice_slot holds limit P (x ∷ cs) [] h i c l = absurd h
 choice_slot holds limit P (x ∷ cs) (s ∷ ss) h zero c l = (s, refl, h.0, h.1)
@@ -121,7 +121,7 @@ levels_first holds limit b P ss level here =
 -- the level of the next place, from the level behind it
 pub levels_next : {Z : Type 0} (holds : Z → ℕ → Type 0) (limit : ℕ) (b : Bounds) (P : Pools) (cs : List (Choice Z)) (ss : List Slot) (levels : List (Vec Z Global)) (level behind : Vec Z Global) (choice : Choice Z) (done i : ℕ)
     → AreChoices holds limit P cs ss → length levels ≡ done + 1 → i + done + 1 ≡ length cs → AreLevels holds limit b P ss levels → choice ≡ get_or cs i choice → behind ≡ get_or levels done behind
-    → ((s : Slot) (rest : List Slot) → IsUpTo limit (holds choice.sizes) (HasSize P s.node) → choice.must ≡ s.must → IsLevel holds limit b P rest behind.items → IsLevel holds limit b P (s ∷ rest) level.items)
+    → ((s : Slot) (rest : List Slot) → IsUpTo limit (holds choice.sizes) (HasSize P s.site) → choice.must ≡ s.must → IsLevel holds limit b P rest behind.items → IsLevel holds limit b P (s ∷ rest) level.items)
     → AreLevels holds limit b P ss (levels ++ level ∷ [])
 levels_next holds limit b P cs ss levels level behind choice done i h whole place before is_choice is_behind makes =
     let many = as_many holds limit P cs ss h in

@@ -14,15 +14,16 @@ use Rattle.schema.specs.declared.node.ScalarKind.TheVariants.{Boolean, Integer, 
 use Rattle.stored.specs.Objects.Tests.{accepts_scalar, is_same}
 use Rattle.stored.specs.Objects.StoredByParts.{IsValidHere}
 use Rattle.plan.specs.Pools.Pools.{Pools}
+use Rattle.plan.specs.Samples.Sites.{Site}
 use Rattle.plan.specs.Samples.Part.{IsPart}
-use Rattle.plan.specs.Samples.Candidates.{sort_of, HasCount}
+use Rattle.plan.specs.Samples.Candidates.{sort_at, HasCount}
 use Rattle.plan.specs.Internal.Keyed.{Keyed}
 use Rattle.plan.specs.declared.sort.Sort.TheVariants.{Leaf}
 use Rattle.plan.proofs.ApartLemmas.{map_among, among_map, map_apart}
 use Rattle.plan.proofs.TupleLemmas.{same_tree, candidates_apart}
 use Rattle.plan.proofs.PartLemmas.{StoredLaw}
 
-pub plain_leaf : (N : Node) → IsPlainScalar N → sort_of N ≡ Leaf
+pub plain_leaf : (N : Node) → IsPlainScalar N → sort_at N ≡ Leaf
 plain_leaf (node n t (scalar kind cs)) plain = refl
 plain_leaf (node n t (object fs preserves type b)) plain = absurd plain
 plain_leaf (node n t (nodes.map M type b)) plain = absurd plain
@@ -43,8 +44,8 @@ valid_one (node n t (scalar kind cs)) v plain h = one_node kind v h.0
 valid_one N v plain h = absurd plain
 
 -- a part of a scalar is one node
-pub scalar_one : StoredLaw → (P : Pools) (N : Node) → IsPlainScalar N → (v : Data) → IsPart P N v → node_count v ≡ 1
-scalar_one stored P N plain v h = valid_one N v plain ((stored N v).0 h.stored).0
+pub scalar_one : StoredLaw → (P : Pools) (s : Site) → IsPlainScalar s.node → (v : Data) → IsPart P s v → node_count v ≡ 1
+scalar_one stored P s plain v h = valid_one s.node v plain ((stored s.node v).0 h.stored).0
 
 valid_no_null : (N : Node) → IsPlainScalar N → IsValidHere N tree.null → ⊥
 valid_no_null (node n t (scalar kind cs)) plain valid = let no = sym plain ∙ valid in cc
@@ -53,10 +54,10 @@ valid_no_null (node n t (nodes.map M type b)) plain valid = plain
 valid_no_null (node n t (list M type keys b)) plain valid = plain
 valid_no_null (node n t open_) plain valid = plain
 
-pub scalar_no_null : StoredLaw → (P : Pools) (N : Node) → IsPlainScalar N → IsPart P N tree.null → ⊥
-scalar_no_null stored P N plain h = valid_no_null N plain ((stored N tree.null).0 h.stored).0
+pub scalar_no_null : StoredLaw → (P : Pools) (s : Site) → IsPlainScalar s.node → IsPart P s tree.null → ⊥
+scalar_no_null stored P s plain h = valid_no_null s.node plain ((stored s.node tree.null).0 h.stored).0
 
-pub set_keyed : StoredLaw → (P : Pools) (M : Node) (count : ℕ) → IsPlainScalar M → HasCount P M count → (K : Keyed P M is_same) × (length K.keys ≡ count)
+pub set_keyed : StoredLaw → (P : Pools) (M : Site) (count : ℕ) → IsPlainScalar M.node → HasCount P M count → (K : Keyed P M is_same) × (length K.keys ≡ count)
 set_keyed stored P M count plain h =
     let vs = h.candidates in
     let one : Data → List Data = λ v. v ∷ [] in

@@ -4,33 +4,32 @@ use Rattle.std.proofs.Common.{refl, ap, sym, ◌∙◌, subst, inl, inr, arith}
 use Rattle.jtree.specs.Data.{Data, Items}
 use Rattle.jtree.specs.Data as tree
 use Rattle.jtree.specs.Nodes.{node_count, items_count}
-use Rattle.schema.specs.Nodes.Node.{Node, IsNode}
-use Rattle.stored.specs.Objects.Becomes.{is_nullable}
+use Rattle.schema.specs.Nodes.Node.{IsNode}
 use Rattle.plan.specs.Pools.Pools.{Pools}
 use Rattle.plan.specs.Sets.{IsSum}
 use Rattle.plan.specs.Samples.Part.{IsPart}
 use Rattle.plan.specs.Samples.Sites.{Site, item_site, slots}
 use Rattle.plan.specs.Samples.Candidates.{sort_of}
 use Rattle.plan.specs.Samples.Sizes.{HasSize, CanFill, HasMore, bounds_of, filled_nodes, IsUpTo}
-use Rattle.plan.specs.Samples.RuleOfParts.{members_in}
+use Rattle.plan.specs.Samples.RuleOfParts.{members_in, admits_null}
 use Rattle.plan.specs.Internal.PartLaws.{PartLaws}
 use Rattle.plan.specs.declared.sort.Sort.TheVariants.{Row}
 use Rattle.plan.proofs.FillingLemmas.{in_nodes}
 
 -- one node, and what stands in it; or null
-abbrev pub IsWhole : Node → (ℕ → Type 0) → ℕ → Type 0
-IsWhole N Inside n = ((is_nullable N ≡ true) × (n ≡ 1)) ⊎ IsSum (λ i. i ≡ 1) Inside n
+abbrev pub IsWhole : Site → (ℕ → Type 0) → ℕ → Type 0
+IsWhole s Inside n = ((admits_null s ≡ true) × (n ≡ 1)) ⊎ IsSum (λ i. i ≡ 1) Inside n
 
 -- what a set of the sizes of the whole holds, from a set of the sizes of what stands in it
-pub whole_up_to : (limit : ℕ) (N : Node) (P : Pools) (Inside S W : ℕ → Type 0) → 1 ≤ limit → ((n : ℕ) → n ≤ limit → HasSize P N n ↔ IsWhole N Inside n) → IsUpTo limit S Inside
-    → ((n : ℕ) → W n ↔ (((is_nullable N ≡ true) × (n ≡ 1)) ⊎ ((n ≤ limit) × IsSum (λ i. i ≡ 1) S n))) → IsUpTo limit W (HasSize P N)
-whole_up_to limit N P Inside S W room law inside whole n = (
-  (λ h. elim ((whole n).0 h) as (λ _. (n ≤ limit) × HasSize P N n) [
+pub whole_up_to : (limit : ℕ) (s : Site) (P : Pools) (Inside S W : ℕ → Type 0) → 1 ≤ limit → ((n : ℕ) → n ≤ limit → HasSize P s n ↔ IsWhole s Inside n) → IsUpTo limit S Inside
+    → ((n : ℕ) → W n ↔ (((admits_null s ≡ true) × (n ≡ 1)) ⊎ ((n ≤ limit) × IsSum (λ i. i ≡ 1) S n))) → IsUpTo limit W (HasSize P s)
+whole_up_to limit s P Inside S W room law inside whole n = (
+  (λ h. elim ((whole n).0 h) as (λ _. (n ≤ limit) × HasSize P s n) [
     | inl x ↦ let l : n ≤ limit = omega (arith, x.1) in (l, (law n l).1 (inl x))
     | inr x ↦ let y = x.1 in (x.0, (law n x.0).1 (inr (y.0, (y.1.0, (y.1.1.0, ((inside y.1.0).0 y.1.1.1).1, y.1.1.2)))))
   ]),
   λ h.
-      (whole n).1 (elim ((law n h.0).0 h.1) as (λ _. ((is_nullable N ≡ true) × (n ≡ 1)) ⊎ ((n ≤ limit) × IsSum (λ i. i ≡ 1) S n)) [
+      (whole n).1 (elim ((law n h.0).0 h.1) as (λ _. ((admits_null s ≡ true) × (n ≡ 1)) ⊎ ((n ≤ limit) × IsSum (λ i. i ≡ 1) S n)) [
         | inl x ↦ inl x
         | inr y ↦ let l : n ≤ limit = h.0 in inr (l, (y.0, (y.1.0, (y.1.1.0, (inside y.1.0).1 (omega (arith, y.1.1.2), y.1.1.1), y.1.1.2))))
       ]),
@@ -43,16 +42,16 @@ null_size : (v : Data) (n : ℕ) → v ≡ tree.null → node_count v ≡ n → 
 null_size v n is count = sym count ∙ ap node_count is
 
 -- the sizes of a row
-pub row_sizes : PartLaws → (P : Pools) (s : Site) → IsNode s.node → sort_of s.node ≡ Row → (n : ℕ) → HasSize P s.node n ↔ IsWhole s.node (CanFill P (slots P s) (bounds_of s.node) 0) n
+pub row_sizes : PartLaws → (P : Pools) (s : Site) → IsNode s.node → sort_of s ≡ Row → (n : ℕ) → HasSize P s n ↔ IsWhole s (CanFill P (slots P s) (bounds_of s) 0) n
 row_sizes laws P s o is n = (
-  (λ h. elim ((laws.row P s h.part o is).0 h.is) as (λ _. IsWhole s.node (CanFill P (slots P s) (bounds_of s.node) 0) n) [
+  (λ h. elim ((laws.row P s h.part o is).0 h.is) as (λ _. IsWhole s (CanFill P (slots P s) (bounds_of s) 0) n) [
     | inl null ↦ inl (null.1, null_size h.part n null.0 h.nodes_are)
     | inr q ↦
         let total = in_nodes P (slots P s) q.fillings q.are in
         let count = sym (ap node_count q.is) ∙ h.nodes_are in
         inr (1, (filled_nodes q.fillings, (refl, record { fillings = q.fillings; are = q.are; within = rw none_before q.within; nodes_are = refl }, omega (arith, total, count))))
   ]),
-  λ w. elim w as (λ _. HasSize P s.node n) [
+  λ w. elim w as (λ _. HasSize P s n) [
     | inl x ↦ record { part = tree.null; is = (laws.row P s tree.null o is).1 (inl (refl, x.0)); nodes_are = sym x.1 }
     | inr y ↦
         let f = y.1.1.1 in
@@ -63,15 +62,15 @@ row_sizes laws P s o is n = (
 )
 
 -- the sizes of a list
-pub list_sizes : PartLaws → (P : Pools) (s M : Site) → item_site s ≡ Some M → (limit n : ℕ) → n ≤ limit → HasSize P s.node n ↔ IsWhole s.node (HasMore P limit s.node 0) n
+pub list_sizes : PartLaws → (P : Pools) (s M : Site) → item_site s ≡ Some M → (limit n : ℕ) → n ≤ limit → HasSize P s n ↔ IsWhole s (HasMore P limit s 0) n
 list_sizes laws P s M is limit n l = (
-  (λ h. elim ((laws.list P s M h.part is).0 h.is) as (λ _. IsWhole s.node (HasMore P limit s.node 0) n) [
+  (λ h. elim ((laws.list P s M h.part is).0 h.is) as (λ _. IsWhole s (HasMore P limit s 0) n) [
     | inl null ↦ inl (null.1, null_size h.part n null.0 h.nodes_are)
     | inr q ↦
         let count : 1 + items_count q.items ≡ n = sym (ap node_count q.is) ∙ h.nodes_are in
-        inr (1, (items_count q.items, (refl, record { items = q.items; part = subst (IsPart P s.node) q.is h.is; fits = omega (arith, count, l); many = omega arith; nodes_are = refl }, omega (arith, count))))
+        inr (1, (items_count q.items, (refl, record { items = q.items; part = subst (IsPart P s) q.is h.is; fits = omega (arith, count, l); many = omega arith; nodes_are = refl }, omega (arith, count))))
   ]),
-  λ w. elim w as (λ _. HasSize P s.node n) [
+  λ w. elim w as (λ _. HasSize P s n) [
     | inl x ↦ record { part = tree.null; is = (laws.list P s M tree.null is).1 (inl (refl, x.0)); nodes_are = sym x.1 }
     | inr y ↦ let q = y.1.1.1 in record { part = tree.list q.items; is = q.part; nodes_are = omega (arith, q.nodes_are, y.1.1.0, y.1.1.2) }
   ],

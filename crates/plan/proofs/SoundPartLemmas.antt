@@ -1,18 +1,20 @@
 -- What the rules of a schema make of the slots and the items of a site.
 use Rattle.std.specs.Prelude.{◌≡◌, ℕ, List, [], false, Some}
-use Rattle.std.proofs.Common.{ap, sym, ◌∙◌, subst, inl, inr}
+use Rattle.std.proofs.Common.{refl, ap, sym, ◌∙◌, subst, inl, inr}
 use Rattle.std.proofs.lemmas.Option.{same_Some}
 use Rattle.jtree.specs.Internal.Rising.{Among, contained}
+use Rattle.jtree.specs.Data.{Data}
 use Rattle.schema.specs.Nodes.Node.{Node, node, scalar, object, list, open_, IsNode}
 use Rattle.schema.specs.Nodes.Node as nodes
 use Rattle.schema.specs.Nodes.Items.{HasKeys, HasSoundItems}
 use Rattle.schema.specs.declared.node.ListType.TheVariants.{Atomic, Set, Map}
 use Rattle.plan.specs.Pools.Pools.{Pools}
-use Rattle.plan.specs.Samples.Sites.{Site, item_site_at, Slot, slots_at, in_order}
-use Rattle.plan.specs.Samples.Candidates.{distinct_of}
+use Rattle.plan.specs.Samples.Sites.{Site, plain, item_site_at, Slot, slots_at, in_order}
+use Rattle.plan.specs.Samples.Candidates.{distinct_at}
+use Rattle.plan.specs.Samples.RuleOfParts.{alike_by}
 use Rattle.plan.specs.Samples.Keys.{AreInOrder, AreKeySlots, AreSetItems, AreMapItems, HasSoundParts}
 use Rattle.plan.specs.Internal.PartLaws.{PartLaws}
-use Rattle.plan.specs.declared.sort.Distinct.TheVariants.{Whole, Keys}
+use Rattle.plan.specs.declared.sort.Distinct.TheVariants.{Free, Whole, Keys}
 use Rattle.plan.proofs.KeyedLemmas.{at_most}
 use Rattle.plan.proofs.MapListLemmas.{slot_key, have_keys, map_told}
 use Rattle.plan.proofs.PartLemmas.{StoredLaw, fields_in_order, name_of_value_slot, values_in_order}
@@ -45,27 +47,33 @@ key_slots stored P N keys o (inr h) = own_keys stored P N keys o h
 
 -- ---- items
 
-set_items : StoredLaw → (P : Pools) (N : Node) (M : Site) → item_site_at N ≡ Some M → distinct_of N ≡ Whole → HasSoundItems N → AreSetItems P N M.node
-set_items stored P (node n t (list K Set keys b)) M is whole h =
-    subst (λ s. AreSetItems P (node n t (list K Set keys b)) (Site.node s)) (same_Some _ M is) (record {
-      leaf = plain_leaf K h;
-      one = scalar_one stored P K h;
-      most = λ ds count are apart candidates. let k = set_keyed stored P K count h candidates in at_most k.0 count k.1 ds are apart;
-    })
-set_items stored P (node n t (list K Map keys b)) M is whole h = absurd (cc)
-set_items stored P (node n t (list K Atomic keys b)) M is whole h = absurd (cc)
-set_items stored P N M is whole h = absurd (cc)
+never_alike : (N : Node) → distinct_at N ≡ Free → (v w : Data) → alike_by N v w ≡ false
+never_alike (node n t (list N Atomic keys b)) e v w = refl
+never_alike N e v w = cc
 
-map_items : StoredLaw → PartLaws → (P : Pools) (N : Node) (M : Site) → item_site_at N ≡ Some M → distinct_of N ≡ Keys → IsNode N → HasSoundItems N → AreMapItems P N M
-map_items stored laws P (node n t (list K Map keys b)) M is by o h = subst (AreMapItems P (node n t (list K Map keys b))) (same_Some _ M is) (map_told stored laws P n t K keys b o h)
-map_items stored laws P (node n t (list K Set keys b)) M is by o h = absurd (cc)
-map_items stored laws P (node n t (list K Atomic keys b)) M is by o h = absurd (cc)
-map_items stored laws P N M is by o h = absurd (cc)
+set_items : StoredLaw → (P : Pools) (N : Node) (own : List (List ℕ)) (M : Site) → item_site_at N ≡ Some M → distinct_at N ≡ Whole → HasSoundItems N → AreSetItems P (record { node = N; keys = own }) M
+set_items stored P (node n t (list K Set keys b)) own M is whole h =
+    subst (AreSetItems P (record { node = node n t (list K Set keys b); keys = own })) (same_Some _ M is) (record {
+      leaf = plain_leaf K h;
+      one = scalar_one stored P (plain K) h;
+      alike = λ v w. refl;
+      most = λ ds count are apart candidates. let k = set_keyed stored P (plain K) count h candidates in at_most k.0 count k.1 ds are apart;
+    })
+set_items stored P (node n t (list K Map keys b)) own M is whole h = absurd (cc)
+set_items stored P (node n t (list K Atomic keys b)) own M is whole h = absurd (cc)
+set_items stored P N own M is whole h = absurd (cc)
+
+map_items : StoredLaw → PartLaws → (P : Pools) (N : Node) (own : List (List ℕ)) (M : Site) → item_site_at N ≡ Some M → distinct_at N ≡ Keys → IsNode N → HasSoundItems N → AreMapItems P (record { node = N; keys = own }) M
+map_items stored laws P (node n t (list K Map keys b)) own M is by o h = subst (AreMapItems P (record { node = node n t (list K Map keys b); keys = own })) (same_Some _ M is) (map_told stored laws P own n t K keys b o h)
+map_items stored laws P (node n t (list K Set keys b)) own M is by o h = absurd (cc)
+map_items stored laws P (node n t (list K Atomic keys b)) own M is by o h = absurd (cc)
+map_items stored laws P N own M is by o h = absurd (cc)
 
 pub sound_parts : StoredLaw → PartLaws → (P : Pools) (s : Site) → IsNode s.node → HasSoundItems s.node → AreKeysOf s.node s.keys → HasSoundParts P s
 sound_parts stored laws P s o h k = record {
   order = slots_in_order P s.node s.keys o;
   keys = key_slots stored P s.node s.keys o k;
-  set = λ M is whole. set_items stored P s.node M is whole h;
-  map = λ M is by. map_items stored laws P s.node M is by o h;
+  free = λ v w is. never_alike s.node is v w;
+  set = λ M is whole. set_items stored P s.node s.keys M is whole h;
+  map = λ M is by. map_items stored laws P s.node s.keys M is by o h;
 }

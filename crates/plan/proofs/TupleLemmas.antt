@@ -16,10 +16,9 @@ use Rattle.jtree.specs.Data.{Data}
 use Rattle.jtree.specs.Order.{tree_cmp}
 use Rattle.jtree.specs.Internal.OrderLaws.{tree_same, tree_total}
 use Rattle.jtree.specs.Internal.Rising.{Among, contained, contains, rising}
-use Rattle.schema.specs.Nodes.Node.{Node}
 use Rattle.stored.specs.Objects.Tests.{is_same}
 use Rattle.plan.specs.Pools.Pools.{Pools}
-use Rattle.plan.specs.Samples.Sites.{Slot}
+use Rattle.plan.specs.Samples.Sites.{Site, Slot}
 use Rattle.plan.specs.Samples.Candidates.{AreCandidates}
 use Rattle.plan.specs.Samples.NoDeadEnd.{IsTuple, AreCounts, product, begins, HasFree}
 use Rattle.plan.specs.Internal.Keyed.{IsApart}
@@ -41,8 +40,8 @@ tuple_laws = lists_equiv (eq_by_cmp_equiv tree_total)
 
 -- ---- all tuples
 
-pub candidates_apart : (P : Pools) (N : Node) (vs : List Data) → AreCandidates P N vs → IsApart vs
-candidates_apart P N vs h = rising (λ u v. u ≢ v) vs (λ i j d l m e. let before = h.ascending i j d l m in let tied = tree_tied _ _ e in cc)
+pub candidates_apart : (P : Pools) (s : Site) (vs : List Data) → AreCandidates P s vs → IsApart vs
+candidates_apart P s vs h = rising (λ u v. u ≢ v) vs (λ i j d l m e. let before = h.ascending i j d l m in let tied = tree_tied _ _ e in cc)
 
 -- all tuples of the slots, each once
 pub record AreTuples (P : Pools) (ss : List Slot) (ts : List (List Data)) : Type 0 where
@@ -53,7 +52,7 @@ no_slots : (P : Pools) (t : List Data) → IsTuple P [] t → Among ([] ∷ []) 
 no_slots P [] h = inl refl
 no_slots P (v ∷ t) h = absurd h
 
-one_slot : (P : Pools) (s : Slot) (ss : List Slot) (vs : List Data) (ts : List (List Data)) → AreCandidates P s.node vs → AreTuples P ss ts → (t : List Data) → IsTuple P (s ∷ ss) t → Among (each_before vs ts) t
+one_slot : (P : Pools) (s : Slot) (ss : List Slot) (vs : List Data) (ts : List (List Data)) → AreCandidates P s.site vs → AreTuples P ss ts → (t : List Data) → IsTuple P (s ∷ ss) t → Among (each_before vs ts) t
 one_slot P s ss vs ts c h [] is = absurd is
 one_slot P s ss vs ts c h (v ∷ t) is = each_among vs ts v t (contained vs v ((c.each v).1 is.0)) ((h.each t).1 is.1)
 
@@ -71,7 +70,7 @@ all_tuples P (s ∷ ss) (n ∷ ns) h =
             (λ a. let q = among_each vs r.0 t a in subst (IsTuple P (s ∷ ss)) q.1.1.2 ((h.0.are.each q.0).0 (contains vs q.0 q.1.1.0), (r.1.0.each q.1.0).0 q.1.1.1)),
             one_slot P s ss vs r.0 h.0.are r.1.0 t,
           );
-          apart = each_apart vs r.0 (candidates_apart P s.node vs h.0.are) r.1.0.apart;
+          apart = each_apart vs r.0 (candidates_apart P s.site vs h.0.are) r.1.0.apart;
         },
         each_length vs r.0 ∙ ap (λ k. k * length r.0) h.0.count_is ∙ ap (λ k. n * k) r.1.1,
       ),

@@ -21,8 +21,8 @@ use Rattle.plan.specs.declared.values.Values.{Values}
 use Rattle.plan.specs.declared.arena.Entry.{Entry}
 use Rattle.plan.proofs.ValueLemmas.{same_in_order}
 
-same_count : (P : Pools) (N : Node) (a b : ℕ) → HasCount P N a → HasCount P N b → a ≡ b
-same_count P N a b x y =
+same_count : (P : Pools) (s : Site) (a b : ℕ) → HasCount P s a → HasCount P s b → a ≡ b
+same_count P s a b x y =
     let xs = x.candidates in
     let ys = y.candidates in
     let same = same_in_order tree_total xs ys (rising (λ u v. tree_cmp u v ≡ Less) xs x.are.ascending) (rising (λ u v. tree_cmp u v ≡ Less) ys y.are.ascending)
@@ -31,7 +31,7 @@ same_count P N a b x y =
 
 -- a site has one width
 same_width : (sort : Sort) (P : Pools) (s : Site) (a b : ℕ) → HasWidthBy sort P s a → HasWidthBy sort P s b → a ≡ b
-same_width Leaf P s a b x y = same_count P s.node a b x y
+same_width Leaf P s a b x y = same_count P s a b x y
 same_width Row P s a b x y = sym x ∙ y
 same_width ListSort P s a b x y = x ∙ sym y
 
@@ -44,7 +44,7 @@ widest_more P sites n width w h here = record {
     | inl b ↦ let y = h.each i x b has in omega arith
     | inr g ↦
         let e : i ≡ n = omega arith in
-        let same = same_width (sort_of (site_at sites n).node) P (site_at sites n) x w (rw e at has) here in
+        let same = same_width (sort_of (site_at sites n)) P (site_at sites n) x w (rw e at has) here in
         omega arith
   ];
   reached = elim (cases_lt w width) [

@@ -1,4 +1,5 @@
 -- What samples are made of.
+pub mod Site
 pub mod Over
 pub mod Part
 pub mod Sites

@@ -73,8 +73,8 @@ impl<Z: SizeSet> ListEntry<Z> {
     pub(crate) fn item_at(&self, place: usize) -> Option<PlanNode>
         requires { place < 18446744073709551615 }
         ensures some { IfSome result (λ n. n ≡ self.now.item) }
-        ensures goes_on { IfSome result (λ _. (P : Pools) (limit : ℕ) (sites : List Site) (i : ℕ) → IsList Z.holds limit P sites i self.now → (m : ℕ) × HasMore P limit (site_at sites i).node (place + 1) m) }
-        ensures none { IfNone result ((P : Pools) (limit : ℕ) (sites : List Site) (i m : ℕ) → IsList Z.holds limit P sites i self.now → HasMore P limit (site_at sites i).node (place + 1) m → ⊥) }
+        ensures goes_on { IfSome result (λ _. (P : Pools) (limit : ℕ) (sites : List Site) (i : ℕ) → IsList Z.holds limit P sites i self.now → (m : ℕ) × HasMore P limit (site_at sites i) (place + 1) m) }
+        ensures none { IfNone result ((P : Pools) (limit : ℕ) (sites : List Site) (i m : ℕ) → IsList Z.holds limit P sites i self.now → HasMore P limit (site_at sites i) (place + 1) m → ⊥) }
     {
         match self.more.get(place + 1) {
             Some(more) => match more.next(0) {
@@ -106,7 +106,7 @@ impl<Z: SizeSet> Entry<Z> {
 
     /// How many candidates the leaf has; 0 where the node is no leaf.
     fn count(&self) -> u64
-        ensures { (P : Pools) (limit : ℕ) (v : Values) (sites : List Site) (i : ℕ) → IsRight Z.holds limit P v sites i self.now → sort_of (site_at sites i).node ≡ LeafSort → HasCount P (site_at sites i).node result }
+        ensures { (P : Pools) (limit : ℕ) (v : Values) (sites : List Site) (i : ℕ) → IsRight Z.holds limit P v sites i self.now → sort_of (site_at sites i) ≡ LeafSort → HasCount P (site_at sites i) result }
     {
         match &self.content {
             Content::Leaf(leaf) => leaf.places.len() as u64,
@@ -160,7 +160,7 @@ impl<Z: SizeSet> Arena<Z> {
     /// How many candidates the leaf has; 0 where the node is no leaf of the arena.
     pub(crate) fn count(&self, node: PlanNode) -> u64
         ensures { (P : Pools) (sites : List Site) → AreRight Z.holds self.now.limit P self.now.values sites self.now.entries.items → node < length self.now.entries.items
-            → sort_of (site_at sites node).node ≡ LeafSort → HasCount P (site_at sites node).node result }
+            → sort_of (site_at sites node) ≡ LeafSort → HasCount P (site_at sites node) result }
     {
         match self.find(node) {
             Some(entry) => entry.count(),

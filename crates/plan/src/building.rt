@@ -6,7 +6,7 @@ ghost use Rattle.schema.specs.Document.Texts.{is_among};
 ghost use Rattle.jtree.specs.View.{data_of};
 ghost use Rattle.std.specs.Prelude.{option_map, All, map as map_list};
 ghost use Rattle.plan.specs.Samples.Sites.{Site, plain, value_slot, item_keys};
-ghost use Rattle.plan.specs.Samples.Candidates.{sort_of};
+ghost use Rattle.plan.specs.Samples.Candidates.{sort_at};
 ghost use Rattle.plan.specs.declared.sort.Sort.TheVariants.{Leaf};
 ghost use Rattle.plan.specs.Internal.Arena.{AreSlots};
 ghost use Rattle.plan.specs.Samples.Sites.{site_at};
@@ -164,7 +164,7 @@ fn build_leaf<Z: SizeSet>(
     node: &Node,
 ) -> Result<PlanNode, AllocError>
     requires limit { arena.old.limit < Z.BITS }
-    requires leaf { sort_of (node_of node.now) ≡ Leaf }
+    requires leaf { sort_at (node_of node.now) ≡ Leaf }
     ensures values { arena.new.values ≡ arena.old.values }
     ensures limit { arena.new.limit ≡ arena.old.limit }
     ensures built { IfOk result (λ n. (keys : List (List ℕ)) → IsBuilt Z.holds arena.old.limit arena.old.values arena.old.entries.items arena.new.entries.items (node_of node.now) keys n) }

@@ -1,11 +1,11 @@
 //! The entries of rows, over the nodes that are there.
 ghost use Rattle.std.specs.Prelude.{◌≡◌, ℕ, ◌+◌, ◌≤◌, ◌<◌, List, All, length, IfOk};
 ghost use Rattle.schema.specs.Nodes.Node.{IsNode};
-ghost use Rattle.stored.specs.Objects.Becomes.{is_nullable};
 ghost use Rattle.plan.specs.Pools.Pools.{Pools};
 ghost use Rattle.plan.specs.Samples.Sites.{Site, Slot, slots as slots_of};
 ghost use Rattle.plan.specs.Samples.Candidates.{sort_of};
 ghost use Rattle.plan.specs.Samples.Sizes.{bounds_of};
+ghost use Rattle.plan.specs.Samples.RuleOfParts.{admits_null};
 ghost use Rattle.plan.specs.Internal.Arena.{AreChosen, AreSlots, AreLater, AreRight};
 ghost use Rattle.plan.specs.Samples.Sites.{site_at};
 ghost use Rattle.plan.specs.declared.arena.SlotEntry.{SlotEntry};
@@ -73,7 +73,7 @@ pub(crate) fn add_row<Z: SizeSet>(
     ensures number { IfOk result (λ n. n ≡ length arena.old.entries.items) }
     ensures count { IfOk result (λ n. length arena.new.entries.items ≡ n + 1) }
     ensures right { IfOk result (λ n. (P : Pools) (sites : List Site) → AreRight Z.holds arena.old.limit P arena.old.values sites arena.old.entries.items
-        → IsNode (site_at sites n).node → sort_of (site_at sites n).node ≡ Row → bounds_of (site_at sites n).node ≡ bounds → is_nullable (site_at sites n).node ≡ nullable
+        → IsNode (site_at sites n).node → sort_of (site_at sites n) ≡ Row → bounds_of (site_at sites n) ≡ bounds → admits_null (site_at sites n) ≡ nullable
         → AreSlots arena.old.values.names.items sites n slots.items (slots_of P (site_at sites n)) → AreRight Z.holds arena.old.limit P arena.old.values sites arena.new.entries.items) }
 {
     parts_one_level();

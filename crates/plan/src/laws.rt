@@ -3,7 +3,7 @@ ghost use Rattle.plan.specs.Internal.PartLaws.{PartLaws};
 
 use stored::{everywhere_by_steps, stored_by_parts};
 
-/// A law, and nothing that runs: what the parts of a node are, one level at a time.
+/// A law, and nothing that runs: what the parts of a site are, one level at a time.
 pub(crate) fn parts_one_level()
     ensures { PartLaws }
 {

@@ -6,11 +6,11 @@ ghost use Rattle.jtree.specs.Data.{null};
 ghost use Rattle.jtree.specs.Nodes.{node_count};
 ghost use Rattle.jtree.specs.View.{data_of};
 ghost use Rattle.jtree.specs.declared.value.Tree.{Tree};
-ghost use Rattle.schema.specs.Nodes.Node.{Node as NodeData};
 ghost use Rattle.schema.specs.Nodes.View.{node_of};
 ghost use Rattle.plan.specs.Pools.Pools.{Pools};
+ghost use Rattle.plan.specs.Samples.Sites.{Site};
 ghost use Rattle.plan.specs.Samples.Over.{listed};
-ghost use Rattle.plan.specs.Samples.Candidates.{sort_of, AreCandidates};
+ghost use Rattle.plan.specs.Samples.Candidates.{sort_at, sort_of, AreCandidates};
 ghost use Rattle.plan.specs.Samples.Sizes.{HasSize, IsUpTo};
 ghost use Rattle.plan.specs.Internal.Values.{trees_of, IsBase, AreValues, base_of, tree_of, at_places, AreStored, candidates_of};
 ghost use Rattle.plan.specs.declared.values.Values.{Values};
@@ -41,7 +41,7 @@ pub(crate) struct Leaf {
 
 /// The candidates of a node: null and what is listed for it, as far as it is stored there.
 pub(crate) fn leaf_of(alloc: Global, values: &Values, node: &Node) -> Result<Leaf, AllocError>
-    ensures { IfOk result (λ l. (P : Pools) → AreValues P values.now → sort_of (node_of node.now) ≡ LeafSort → AreCandidates P (node_of node.now) (candidates_of values.now l)) }
+    ensures { IfOk result (λ l. (P : Pools) (s : Site) → AreValues P values.now → s.node ≡ node_of node.now → sort_of s ≡ LeafSort → AreCandidates P s (candidates_of values.now l)) }
 {
     parts_one_level();
     let base = base_for(alloc, node)?;
@@ -51,7 +51,7 @@ pub(crate) fn leaf_of(alloc: Global, values: &Values, node: &Node) -> Result<Lea
 
 /// Where null and what is listed for a scalar or an open node stand.
 fn base_for(alloc: Global, node: &Node) -> Result<Base, AllocError>
-    ensures { IfOk result (λ b. (P : Pools) (v : Values) → AreValues P v → sort_of (node_of node.now) ≡ LeafSort → IsBase (null ∷ listed P (node_of node.now)) (base_of v b)) }
+    ensures { IfOk result (λ b. (P : Pools) (v : Values) → AreValues P v → sort_at (node_of node.now) ≡ LeafSort → IsBase (null ∷ listed P (node_of node.now)) (base_of v b)) }
 {
     match &node.sort {
         Sort::Scalar(scalar) => match &scalar.validations.constraints.choices {
@@ -107,7 +107,7 @@ pub(crate) fn candidate<'a>(values: &'a Values, leaf: &'a Leaf, place: usize) ->
 /// The sizes of the candidates, up to the limit.
 pub(crate) fn leaf_sizes<Z: SizeSet>(values: &Values, leaf: &Leaf, limit: u32) -> Z
     requires { limit < Z.BITS }
-    ensures { (P : Pools) (N : NodeData) → AreCandidates P N (candidates_of values.now leaf.now) → IsUpTo limit (Z.holds result) (HasSize P N) }
+    ensures { (P : Pools) (s : Site) → AreCandidates P s (candidates_of values.now leaf.now) → IsUpTo limit (Z.holds result) (HasSize P s) }
 {
     let mut sizes = Z::empty();
     for place in &leaf.places {

@@ -104,7 +104,7 @@ fn item_bounds<Z: SizeSet>(arena: &Arena<Z>, item: PlanNode, list: &ListNode) ->
     requires limit { arena.now.limit < 18446744073709551615 }
     ensures { (P : Pools) (sites : List Site) (s : Site) → AreRight Z.holds arena.now.limit P arena.now.values sites arena.now.entries.items
         → (n : Bool) (d : Option (List ℕ)) → s.node ≡ node_with n d (list_of list.now) → item_site s ≡ Some (site_at sites item) → IsNode s.node → HasSoundItems s.node
-        → IsCutTo P arena.now.limit s.node (site_at sites item).node result }
+        → IsCutTo P arena.now.limit s (site_at sites item) result }
 {
     parts_one_level();
     stored_by_parts();
@@ -119,7 +119,7 @@ fn item_bounds<Z: SizeSet>(arena: &Arena<Z>, item: PlanNode, list: &ListNode) ->
 fn item_tuples<Z: SizeSet>(arena: &Arena<Z>, node: PlanNode) -> u64
     requires { node < length arena.now.entries.items }
     ensures { (P : Pools) (sites : List Site) → AreRight Z.holds arena.now.limit P arena.now.values sites arena.now.entries.items
-        → sort_of (site_at sites node).node ≡ Row → AreKeysLeaves (slots P (site_at sites node)) → HasTuples P (slots P (site_at sites node)) result }
+        → sort_of (site_at sites node) ≡ Row → AreKeysLeaves (slots P (site_at sites node)) → HasTuples P (slots P (site_at sites node)) result }
 {
     match &arena.entry(node).content {
         Content::Row(row) => tuples(arena, &row.slots),

@@ -1,9 +1,9 @@
 //! The tables of a list: the sizes that its items can still take, after each number of items.
 ghost use Rattle.std.specs.Prelude.{◌≡◌, ℕ, ◌+◌, ◌*◌, ◌≤◌, ◌<◌, ◌↔◌, ◌⊎◌, length, IfOk};
-ghost use Rattle.schema.specs.Nodes.Node.{Node};
 ghost use Rattle.stored.specs.Objects.StoredByParts.{IsWithin};
 ghost use Rattle.plan.specs.Pools.Pools.{Pools};
 ghost use Rattle.plan.specs.Sets.{IsSum};
+ghost use Rattle.plan.specs.Samples.Sites.{Site};
 ghost use Rattle.plan.specs.Samples.Sizes.{HasSize, IsUpTo};
 ghost use Rattle.plan.specs.Internal.Lists.{IsLeastSize, AreFollowing, AreMore};
 
@@ -14,7 +14,7 @@ use std::alloc::{AllocError, Global};
 
 /// The least of the sizes, or one above the limit.
 fn least_size<Z: SizeSet>(sizes: Z, limit: u32) -> u64
-    ensures least { (P : Pools) (N : Node) → IsUpTo limit (Z.holds sizes) (HasSize P N) → IsLeastSize P limit N result }
+    ensures least { (P : Pools) (M : Site) → IsUpTo limit (Z.holds sizes) (HasSize P M) → IsLeastSize P limit M result }
     ensures small { result ≤ 4294967296 }
 {
     match sizes.next(0) {
@@ -40,7 +40,7 @@ fn following_sets<Z: SizeSet>(
 ) -> Result<Vec<Z>, AllocError>
     requires { limit < Z.BITS }
     ensures whole { IfOk result (λ sets. length sets.items ≡ limit + 1) }
-    ensures sets { IfOk result (λ sets. (P : Pools) (N : Node) → IsUpTo limit (Z.holds sizes) (HasSize P N) → AreFollowing Z.holds limit P N bounds sets.items) }
+    ensures sets { IfOk result (λ sets. (P : Pools) (M : Site) → IsUpTo limit (Z.holds sizes) (HasSize P M) → AreFollowing Z.holds limit P M bounds sets.items) }
 {
     let mut sets = Vec::new(alloc);
     sets.push(end_sizes(limit as u64, bounds))?;
@@ -80,7 +80,7 @@ pub(crate) fn more_sets<Z: SizeSet>(
 ) -> Result<Vec<Z>, AllocError>
     requires { limit < Z.BITS }
     ensures whole { IfOk result (λ sets. length sets.items ≡ limit) }
-    ensures sets { IfOk result (λ sets. (P : Pools) (N : Node) → IsUpTo limit (Z.holds sizes) (HasSize P N) → AreMore Z.holds limit P N bounds sets.items) }
+    ensures sets { IfOk result (λ sets. (P : Pools) (M : Site) → IsUpTo limit (Z.holds sizes) (HasSize P M) → AreMore Z.holds limit P M bounds sets.items) }
 {
     let following = following_sets(alloc, sizes, bounds, limit)?;
     let least = least_size(sizes, limit);

@@ -66,14 +66,13 @@ impl<Z: SizeSet> Plan<Z> {
     ghost use Rattle.std.specs.Option.{option_copied};
     ghost use Rattle.jtree.specs.View.{data_of};
     ghost use Rattle.plan.specs.Samples.Steps.{counted};
-    ghost use Rattle.plan.specs.Samples.RuleOfParts.{RuleOfParts};
+    ghost use Rattle.plan.specs.Samples.RuleOfParts.{RuleOfParts, admits_null};
     ghost use Rattle.plan.specs.Pools.Pools.{Pools};
     ghost use Rattle.jtree.specs.Data.{Data};
     ghost use Rattle.plan.specs.Samples.NoDeadEnd.{NoDeadEnd, is_key, IsTuple, AreCounts, product, HasFree};
     ghost use Rattle.plan.specs.Samples.Keys.{HasTuples, HasSoundParts};
     ghost use Rattle.plan.specs.Samples.Handed.{IsSlotAt, IsCandidateAt};
-    ghost use Rattle.stored.specs.Objects.Becomes.{is_nullable};
-    ghost use Rattle.plan.specs.Samples.Sites.{Site, Slot as SiteSlot, sites_of, plain, item_site, slots as slots_of};
+    ghost use Rattle.plan.specs.Samples.Sites.{Site, Slot as SiteSlot, sites_of, root_site, item_site, slots as slots_of};
     ghost use Rattle.plan.specs.Samples.Candidates.{sort_of, distinct_of, HasCount, IsWidth};
     ghost use Rattle.plan.specs.Samples.Sizes.{HasSize, HasRest, HasMore, IsUpTo};
     ghost use Rattle.plan.specs.Samples.Sites.{site_at};
@@ -107,7 +106,7 @@ impl<Z: SizeSet> Plan<Z> {
     /// The node of the body of a resource.
     pub fn root(&self) -> PlanNode
         ensures number { result < length (sites_of self.now.root) }
-        ensures site { site_at (sites_of self.now.root) result ≡ plain self.now.root }
+        ensures site { site_at (sites_of self.now.root) result ≡ root_site self.now.root }
     {
         self.root
     }
@@ -122,7 +121,7 @@ impl<Z: SizeSet> Plan<Z> {
     /// What the node holds.
     pub fn sort(&self, node: PlanNode) -> Sort
         requires { node < length (sites_of self.now.root) }
-        ensures { result ≡ sort_of (site_at (sites_of self.now.root) node).node }
+        ensures { result ≡ sort_of (site_at (sites_of self.now.root) node) }
     {
         match &self.arena.entry(node).content {
             Content::Leaf(_) => Sort::Leaf,
@@ -134,7 +133,7 @@ impl<Z: SizeSet> Plan<Z> {
     /// Whether null is accepted.
     pub fn null_ok(&self, node: PlanNode) -> bool
         requires { node < length (sites_of self.now.root) }
-        ensures { result ≡ is_nullable (site_at (sites_of self.now.root) node).node }
+        ensures { result ≡ admits_null (site_at (sites_of self.now.root) node) }
     {
         self.arena.entry(node).nullable
     }
@@ -142,7 +141,7 @@ impl<Z: SizeSet> Plan<Z> {
     /// The sizes up to the limit of the parts at the node.
     pub fn sizes(&self, node: PlanNode) -> Z
         requires { node < length (sites_of self.now.root) }
-        ensures { IsUpTo self.now.limit (Z.holds result) (HasSize self.now.pools (site_at (sites_of self.now.root) node).node) }
+        ensures { IsUpTo self.now.limit (Z.holds result) (HasSize self.now.pools (site_at (sites_of self.now.root) node)) }
     {
         self.arena.entry(node).sizes
     }
@@ -151,7 +150,7 @@ impl<Z: SizeSet> Plan<Z> {
     /// filled. The caller asks at a row, and keeps `place` at most the number of its slots and `taken` at most `place`.
     pub fn rest(&self, node: PlanNode, place: u64, taken: u32) -> Z
         requires node { node < length (sites_of self.now.root) }
-        requires row { sort_of (site_at (sites_of self.now.root) node).node ≡ sort.Row }
+        requires row { sort_of (site_at (sites_of self.now.root) node) ≡ sort.Row }
         requires place { place ≤ length (slots_of self.now.pools (site_at (sites_of self.now.root) node)) }
         requires taken { taken ≤ place }
         ensures { IsUpTo self.now.limit (Z.holds result) (HasRest self.now.pools (site_at (sites_of self.now.root) node) place taken) }
@@ -165,8 +164,8 @@ impl<Z: SizeSet> Plan<Z> {
     /// The sizes up to the limit that the items of a list can still take after `taken` items. The caller asks at a list.
     pub fn more(&self, node: PlanNode, taken: u32) -> Z
         requires node { node < length (sites_of self.now.root) }
-        requires list { sort_of (site_at (sites_of self.now.root) node).node ≡ sort.List }
-        ensures { IsUpTo self.now.limit (Z.holds result) (HasMore self.now.pools self.now.limit (site_at (sites_of self.now.root) node).node taken) }
+        requires list { sort_of (site_at (sites_of self.now.root) node) ≡ sort.List }
+        ensures { IsUpTo self.now.limit (Z.holds result) (HasMore self.now.pools self.now.limit (site_at (sites_of self.now.root) node) taken) }
     {
         match &self.arena.entry(node).content {
             Content::List(list) => {
@@ -183,7 +182,7 @@ impl<Z: SizeSet> Plan<Z> {
     /// Which items may not stand in one list; `Free` where the node is no list.
     pub fn distinct(&self, node: PlanNode) -> Distinct
         requires { node < length (sites_of self.now.root) }
-        ensures { result ≡ distinct_of (site_at (sites_of self.now.root) node).node }
+        ensures { result ≡ distinct_of (site_at (sites_of self.now.root) node) }
     {
         match &self.arena.entry(node).content {
             Content::List(list) => list.distinct,
@@ -194,8 +193,8 @@ impl<Z: SizeSet> Plan<Z> {
     /// The number of candidates of a leaf. The caller asks at a leaf.
     pub fn count(&self, node: PlanNode) -> u64
         requires node { node < length (sites_of self.now.root) }
-        requires leaf { sort_of (site_at (sites_of self.now.root) node).node ≡ sort.Leaf }
-        ensures { HasCount self.now.pools (site_at (sites_of self.now.root) node).node result }
+        requires leaf { sort_of (site_at (sites_of self.now.root) node) ≡ sort.Leaf }
+        ensures { HasCount self.now.pools (site_at (sites_of self.now.root) node) result }
     {
         self.arena.count(node)
     }
@@ -214,7 +213,7 @@ impl<Z: SizeSet> Plan<Z> {
     /// Slot `place` of a row, counted from 0 in the order of names; none past the last. The caller asks at a row. It is one step.
     pub fn slot(&self, node: PlanNode, place: u64, meter: &mut Meter) -> Option<Slot<'_>>
         requires node { node < length (sites_of self.now.root) }
-        requires row { sort_of (site_at (sites_of self.now.root) node).node ≡ sort.Row }
+        requires row { sort_of (site_at (sites_of self.now.root) node) ≡ sort.Row }
         ensures some { IfSome result (λ t. IsSlotAt (sites_of self.now.root) (slots_of self.now.pools (site_at (sites_of self.now.root) node)) place t) }
         ensures below { IfSome result (λ t. t.node < node) }
         ensures later { IfSome result (λ t. HasTuples self.now.pools (drop (place + 1) (slots_of self.now.pools (site_at (sites_of self.now.root) node))) t.later) }
@@ -244,11 +243,11 @@ impl<Z: SizeSet> Plan<Z> {
     /// an item there. The caller asks at a list. It is one step.
     pub fn item(&self, node: PlanNode, place: u32, meter: &mut Meter) -> Option<PlanNode>
         requires node { node < length (sites_of self.now.root) }
-        requires list { sort_of (site_at (sites_of self.now.root) node).node ≡ sort.List }
+        requires list { sort_of (site_at (sites_of self.now.root) node) ≡ sort.List }
         ensures some { IfSome result (λ i. item_site (site_at (sites_of self.now.root) node) ≡ Some (site_at (sites_of self.now.root) i)) }
         ensures below { IfSome result (λ i. i < node) }
-        ensures goes_on { IfSome result (λ _. (m : ℕ) × HasMore self.now.pools self.now.limit (site_at (sites_of self.now.root) node).node (place + 1) m) }
-        ensures none { IfNone result ((m : ℕ) → HasMore self.now.pools self.now.limit (site_at (sites_of self.now.root) node).node (place + 1) m → ⊥) }
+        ensures goes_on { IfSome result (λ _. (m : ℕ) × HasMore self.now.pools self.now.limit (site_at (sites_of self.now.root) node) (place + 1) m) }
+        ensures none { IfNone result ((m : ℕ) → HasMore self.now.pools self.now.limit (site_at (sites_of self.now.root) node) (place + 1) m → ⊥) }
         ensures step { meter.new ≡ counted meter.old 1 }
     {
         meter.step();
@@ -262,8 +261,8 @@ impl<Z: SizeSet> Plan<Z> {
     /// step.
     pub fn candidate(&self, node: PlanNode, place: u64, meter: &mut Meter) -> Option<&Tree>
         requires node { node < length (sites_of self.now.root) }
-        requires leaf { sort_of (site_at (sites_of self.now.root) node).node ≡ sort.Leaf }
-        ensures candidate { IsCandidateAt self.now.pools (site_at (sites_of self.now.root) node).node place (option_map data_of (option_copied result)) }
+        requires leaf { sort_of (site_at (sites_of self.now.root) node) ≡ sort.Leaf }
+        ensures candidate { IsCandidateAt self.now.pools (site_at (sites_of self.now.root) node) place (option_map data_of (option_copied result)) }
         ensures step { meter.new ≡ counted meter.old 1 }
     {
         meter.step();

@@ -79,7 +79,7 @@ fn slot_level<Z: SizeSet>(
     requires limit { limit < Z.BITS }
     requires behind { 0 < length behind.now }
     ensures whole { IfOk result (λ level. length level.items + 1 ≡ length behind.now) }
-    ensures level { IfOk result (λ level. (P : Pools) (s : Slot) (ss : List Slot) (b : Bounds) → IsUpTo limit (Z.holds choice.now.sizes) (HasSize P s.node) → choice.now.must ≡ s.must → IsLevel Z.holds limit b P ss behind.now → IsLevel Z.holds limit b P (s ∷ ss) level.items) }
+    ensures level { IfOk result (λ level. (P : Pools) (s : Slot) (ss : List Slot) (b : Bounds) → IsUpTo limit (Z.holds choice.now.sizes) (HasSize P s.site) → choice.now.must ≡ s.must → IsLevel Z.holds limit b P ss behind.now → IsLevel Z.holds limit b P (s ∷ ss) level.items) }
 {
     let mut level = Vec::new(alloc);
     for taken in 0..behind.len() - 1 {

@@ -34,7 +34,7 @@ fn are_candidates(
     name: &str,
 )
     requires node { node < length (sites_of plan.now.root) }
-    requires leaf { sort_of (site_at (sites_of plan.now.root) node).node ≡ sort.Leaf }
+    requires leaf { sort_of (site_at (sites_of plan.now.root) node) ≡ sort.Leaf }
 {
     let count = wanted.len();
     is_number(rt, plan.count(node), count as u64, "the count", name);

@@ -81,7 +81,7 @@ fn rest_at(
     meter: &mut Meter,
 ) -> Option<u64>
     requires node { node < length (sites_of plan.now.root) }
-    requires row { sort_of (site_at (sites_of plan.now.root) node).node ≡ sort.Row }
+    requires row { sort_of (site_at (sites_of plan.now.root) node) ≡ sort.Row }
     requires taken { taken ≤ place }
 {
     if place == 0 {

@@ -23,25 +23,25 @@ use Rattle.enumerate.specs.Internal.Nodes.{site, IsPartOf, HasSizeAt, IsSplit}
 
 -- items of m nodes that make a part with those before them
 pub record AreItems (q : Question) (i m : ℕ) (used ds : Items) : Type 0 where
-  pub part : IsPart q.pools (site q i).node (tree.list (items_then used ds))
+  pub part : IsPart q.pools (site q i) (tree.list (items_then used ds))
   pub nodes_are : items_count ds ≡ m
 
 -- parts of the node c, no two alike, that may be the first items of a list
 pub record AreFirst (q : Question) (i c : ℕ) (used : Items) : Type 0 where
   pub item : item_site (site q i) ≡ Some (site q c)
-  pub are : AreParts q.pools (site q c).node used
-  pub apart : are_apart (alike_at (site q i).node) used ≡ true
+  pub are : AreParts q.pools (site q c) used
+  pub apart : are_apart (alike_at (site q i)) used ≡ true
 
 -- m nodes can follow
 pub record CanFollow (q : Question) (i c m : ℕ) (used : Items) : Type 0 where
   pub first : AreFirst q i c used
-  pub more : HasMore q.pools q.limit (site q i).node (fault.items_count used) m
+  pub more : HasMore q.pools q.limit (site q i) (fault.items_count used) m
   pub within : 1 + items_count used + m ≤ q.limit
 
 -- a part of so many nodes that is alike none of the items
 pub record IsFreshItem (q : Question) (i c n : ℕ) (used : Items) (v : Data) : Type 0 where
   pub part : IsPartOf q c n v
-  pub fresh : any_item (λ u. alike_at (site q i).node u v) used ≡ false
+  pub fresh : any_item (λ u. alike_at (site q i) u v) used ≡ false
 
 -- the first items of m nodes stand behind those that were there
 pub record AddsItems (q : Question) (i m : ℕ) (old new : List Tree) : Type 0 where
@@ -51,7 +51,7 @@ pub record AddsItems (q : Question) (i m : ℕ) (old new : List Tree) : Type 0 w
 
 -- a size for an item that leaves those behind it the rest of m nodes
 abbrev pub FitsItem : Question → ℕ → ℕ → ℕ → ℕ → ℕ → Type 0
-FitsItem q i c t m n = IsSplit (HasSizeAt q c) (HasMore q.pools q.limit (site q i).node (t + 1)) m n
+FitsItem q i c t m n = IsSplit (HasSizeAt q c) (HasMore q.pools q.limit (site q i) (t + 1)) m n
 
 -- behind the items that were there stands the first fresh item of the least size from `from` on, and then the first items behind it
 pub record GrowsItems (q : Question) (i c m from : ℕ) (old new : List Tree) : Type 0 where

@@ -32,4 +32,4 @@ IsFreshRow q i used v = (ms : Members) × ((v ≡ tree.object ms) × StandFresh 
 
 -- a list that is a part
 abbrev pub IsListOf : Question → ℕ → Data → Type 0
-IsListOf q i v = (ds : Items) × ((v ≡ tree.list ds) × IsPart q.pools (site q i).node (tree.list ds))
+IsListOf q i v = (ds : Items) × ((v ≡ tree.list ds) × IsPart q.pools (site q i) (tree.list ds))

@@ -17,11 +17,11 @@ IsNodeOf q i = i < length (sites_of q.root)
 
 -- a part of so many nodes
 pub record IsPartOf (q : Question) (i n : ℕ) (v : Data) : Type 0 where
-  pub part : IsPart q.pools (site q i).node v
+  pub part : IsPart q.pools (site q i) v
   pub nodes_are : node_count v ≡ n
 
 abbrev pub HasSizeAt : Question → ℕ → ℕ → Type 0
-HasSizeAt q i n = HasSize q.pools (site q i).node n
+HasSizeAt q i n = HasSize q.pools (site q i) n
 
 -- for each of n nodes, at most as many steps as the plan is wide, and one
 abbrev pub Costs : Question → ℕ → ℕ → ℕ → Type 0

@@ -9,13 +9,12 @@ use Rattle.jtree.specs.Nodes.{node_count}
 use Rattle.jtree.specs.Order.{tree_cmp}
 use Rattle.jtree.specs.View.{data_of, members_of}
 use Rattle.jtree.specs.declared.value.Member.{Member}
-use Rattle.schema.specs.Nodes.Node.{node, open_}
 use Rattle.schema.specs.declared.node.Bounds.{Bounds}
 use Rattle.stored.specs.Objects.StoredByParts.{IsWithin}
 use Rattle.plan.specs.Pools.Pools.{Pools}
 use Rattle.plan.specs.Sets.{IsLeastFrom, IsEmptyFrom}
 use Rattle.plan.specs.Samples.Part.{IsPart}
-use Rattle.plan.specs.Samples.Sites.{Slot, slots, plain}
+use Rattle.plan.specs.Samples.Sites.{Slot, no_slot, slots}
 use Rattle.plan.specs.Samples.Sizes.{AreFillings, filled_nodes, filled_count, bounds_of, CanFill, HasSize}
 use Rattle.plan.specs.Samples.RuleOfParts.{members_in}
 use Rattle.plan.specs.Samples.NoDeadEnd.{is_key, IsTuple, HasFree}
@@ -34,16 +33,16 @@ abbrev pub slots_from : Question → ℕ → ℕ → List Slot
 slots_from q i place = drop place (slots q.pools (site q i))
 
 abbrev pub slot_in : Question → ℕ → ℕ → Slot
-slot_in q i place = get_or (slots q.pools (site q i)) place (record { name = []; node = node false None open_; must = false; key = false })
+slot_in q i place = get_or (slots q.pools (site q i)) place no_slot
 
 abbrev pub bounds_at : Question → ℕ → Bounds
-bounds_at q i = bounds_of (site q i).node
+bounds_at q i = bounds_of (site q i)
 
 -- a slot that was handed out is the one at this place
 pub record IsSlotOf (q : Question) (i place : ℕ) (t : handed.Slot) : Type 0 where
   pub first : slots_from q i place ≡ slot_in q i place ∷ slots_from q i (place + 1)
   pub name : t.name.now ≡ (slot_in q i place).name
-  pub node : site q t.node ≡ plain (slot_in q i place).node
+  pub node : site q t.node ≡ (slot_in q i place).site
   pub must : t.must ≡ (slot_in q i place).must
   pub key : t.key ≡ (slot_in q i place).key
   pub below : t.node < i
@@ -113,13 +112,13 @@ still_used s v used = agreeing_if s.key s.name v used
 
 -- a part of n nodes for the slot that leaves those behind it some key
 pub record IsValue (P : Pools) (s : Slot) (ss : List Slot) (used : List Data) (n : ℕ) (v : Data) : Type 0 where
-  pub part : IsPart P s.node v
+  pub part : IsPart P s.site v
   pub nodes_are : node_count v ≡ n
   pub free : HasFree P (filter is_key ss) (used_keys ss (still_used s v used)) []
 
 -- a size for the slot that leaves those behind it the rest of m nodes
 abbrev pub FitsSlot : Pools → Slot → List Slot → Bounds → ℕ → ℕ → ℕ → Type 0
-FitsSlot P s ss b t m n = IsSplit (HasSize P s.node) (CanFill P ss b (t + 1)) m n
+FitsSlot P s ss b t m n = IsSplit (HasSize P s.site) (CanFill P ss b (t + 1)) m n
 
 -- behind the members that were there stands the first value of the least size from `from` on, and then the first members behind it
 pub record Grows (P : Pools) (s : Slot) (ss : List Slot) (b : Bounds) (t m from : ℕ) (used : List Data) (old new : List Member) : Type 0 where

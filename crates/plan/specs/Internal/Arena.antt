@@ -1,10 +1,10 @@
 -- What the entries of a plan stand for: each for the site of its number.
 use Rattle.std.specs.Prelude.{◌≡◌, ℕ, ◌+◌, ◌<◌, List, [], ◌∷◌, length, get_or, drop, Some}
-use Rattle.stored.specs.Objects.Becomes.{is_nullable}
 use Rattle.plan.specs.Pools.Pools.{Pools}
-use Rattle.plan.specs.Samples.Sites.{Site, site_at, plain, item_site, Slot, slots}
+use Rattle.plan.specs.Samples.Sites.{Site, site_at, item_site, Slot, slots}
 use Rattle.plan.specs.Samples.Candidates.{sort_of, distinct_of, AreCandidates}
 use Rattle.plan.specs.Samples.Sizes.{HasSize, HasMore, bounds_of, IsUpTo}
+use Rattle.plan.specs.Samples.RuleOfParts.{admits_null}
 use Rattle.plan.specs.Internal.Tables.{AreShaped, AreLevels}
 use Rattle.plan.specs.Samples.Keys.{HasTuples}
 use Rattle.plan.specs.Internal.Tuples.{AreKeysLeaves}
@@ -33,7 +33,7 @@ name_of names (Pool i) = get_or names i []
 pub record IsSlot (names : List (List ℕ)) (sites : List Site) (i : ℕ) (e : SlotEntry) (s : Slot) : Type 0 where
   pub name : name_of names e.name ≡ s.name
   pub below : e.node < i
-  pub node : site_at sites e.node ≡ plain s.node
+  pub node : site_at sites e.node ≡ s.site
   pub must : e.must ≡ s.must
   pub key : e.key ≡ s.key
 
@@ -42,7 +42,7 @@ AreSlots names sites i [] [] = Unit {0}
 AreSlots names sites i (e ∷ es) (s ∷ ss) = IsSlot names sites i e s × AreSlots names sites i es ss
 AreSlots names sites i _ _ = ⊥
 
--- the choice has the sizes of the slot's node
+-- the choice has the sizes of the slot's site
 pub record IsChosen {Z : Type 0} (es : List (Entry Z)) (c : Choice Z) (x : SlotEntry) : Type 0 where
   pub entry : Entry Z
   pub is : entry ≡ get_or es x.node entry
@@ -60,24 +60,24 @@ abbrev pub AreLater : Pools → List Slot → List ℕ → Type 0
 AreLater P ss ns = (k n : ℕ) → k < length ns → AreKeysLeaves (drop (k + 1) ss) → HasTuples P (drop (k + 1) ss) (get_or ns k n)
 
 pub record IsRow {Z : Type 0} (holds : Z → ℕ → Type 0) (limit : ℕ) (P : Pools) (names : List (List ℕ)) (sites : List Site) (i : ℕ) (r : RowEntry Z) : Type 0 where
-  pub sort : sort_of (site_at sites i).node ≡ sort.Row
+  pub sort : sort_of (site_at sites i) ≡ sort.Row
   pub are : AreSlots names sites i r.slots.items (slots P (site_at sites i))
   pub later_whole : length r.later.items ≡ length r.slots.items
   pub later : AreLater P (slots P (site_at sites i)) r.later.items
   pub whole : length r.levels.items ≡ length r.slots.items + 1
   pub shaped : AreShaped (length r.slots.items) r.levels.items
-  pub levels : AreLevels holds limit (bounds_of (site_at sites i).node) P (slots P (site_at sites i)) r.levels.items
+  pub levels : AreLevels holds limit (bounds_of (site_at sites i)) P (slots P (site_at sites i)) r.levels.items
 
 pub record IsList {Z : Type 0} (holds : Z → ℕ → Type 0) (limit : ℕ) (P : Pools) (sites : List Site) (i : ℕ) (l : ListEntry Z) : Type 0 where
   pub item : item_site (site_at sites i) ≡ Some (site_at sites l.item)
   pub below : l.item < i
-  pub distinct : l.distinct ≡ distinct_of (site_at sites i).node
+  pub distinct : l.distinct ≡ distinct_of (site_at sites i)
   pub whole : length l.more.items ≡ limit
-  pub more : (t : ℕ) (z : Z) → t < length l.more.items → IsUpTo limit (holds (get_or l.more.items t z)) (HasMore P limit (site_at sites i).node t)
+  pub more : (t : ℕ) (z : Z) → t < length l.more.items → IsUpTo limit (holds (get_or l.more.items t z)) (HasMore P limit (site_at sites i) t)
 
 pub record IsLeaf (P : Pools) (v : Values) (sites : List Site) (i : ℕ) (l : Leaf) : Type 0 where
-  pub sort : sort_of (site_at sites i).node ≡ sort.Leaf
-  pub candidates : AreCandidates P (site_at sites i).node (candidates_of v l)
+  pub sort : sort_of (site_at sites i) ≡ sort.Leaf
+  pub candidates : AreCandidates P (site_at sites i) (candidates_of v l)
 
 abbrev pub HasContent : {Z : Type 0} → (Z → ℕ → Type 0) → ℕ → Pools → Values → List Site → ℕ → Content Z → Type 0
 HasContent holds limit P v sites i (content.Leaf l) = IsLeaf P v sites i l
@@ -85,8 +85,8 @@ HasContent holds limit P v sites i (content.Row r) = IsRow holds limit P v.names
 HasContent holds limit P v sites i (content.List l) = IsList holds limit P sites i l
 
 pub record IsRight {Z : Type 0} (holds : Z → ℕ → Type 0) (limit : ℕ) (P : Pools) (v : Values) (sites : List Site) (i : ℕ) (e : Entry Z) : Type 0 where
-  pub sizes : IsUpTo limit (holds e.sizes) (HasSize P (site_at sites i).node)
-  pub nullable : e.nullable ≡ is_nullable (site_at sites i).node
+  pub sizes : IsUpTo limit (holds e.sizes) (HasSize P (site_at sites i))
+  pub nullable : e.nullable ≡ admits_null (site_at sites i)
   pub content : HasContent holds limit P v sites i e.content
 
 -- the entries stand for the first of these sites

@@ -3,15 +3,15 @@ use Rattle.std.specs.Prelude.{◌≡◌, ◌≢◌, List, Bool, true}
 use Rattle.jtree.specs.Data.{Data}
 use Rattle.jtree.specs.Nodes.{node_count}
 use Rattle.jtree.specs.Internal.Rising.{Among, Rising}
-use Rattle.schema.specs.Nodes.Node.{Node}
 use Rattle.plan.specs.Pools.Pools.{Pools}
+use Rattle.plan.specs.Samples.Sites.{Site}
 use Rattle.plan.specs.Samples.Part.{IsPart}
 
 -- nothing stands twice
 abbrev pub IsApart : {X : Type 0} → List X → Type 0
 IsApart xs = Rising (λ x y. x ≢ y) xs
 
-pub record Keyed (P : Pools) (M : Node) (alike : Data → Data → Bool) : Type 0 where
+pub record Keyed (P : Pools) (M : Site) (alike : Data → Data → Bool) : Type 0 where
   -- what no two items may share
   pub key : Data → List Data
   -- all there is of it, each once

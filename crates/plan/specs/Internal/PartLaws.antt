@@ -1,8 +1,8 @@
--- The parts of a node, one level at a time: what its slots or items hold, within its bounds.
+-- The parts of a site, one level at a time: what its slots or items hold, within its bounds.
 use Rattle.std.specs.Prelude.{◌≡◌, ◌⊎◌, ◌↔◌, List, true, Option, Some}
 use Rattle.jtree.specs.Data.{Data, Items, IsTree}
 use Rattle.jtree.specs.Data as tree
-use Rattle.schema.specs.Nodes.Node.{Node, IsNode}
+use Rattle.schema.specs.Nodes.Node.{IsNode}
 use Rattle.stored.specs.Objects.Fault as fault
 use Rattle.stored.specs.Objects.Becomes.{IsStored}
 use Rattle.stored.specs.Objects.StoredByParts.{are_apart, IsWithin}
@@ -19,16 +19,16 @@ pub record IsObjectPart (P : Pools) (s : Site) (v : Data) : Type 0 where
   pub fillings : List (Option Data)
   pub is : v ≡ tree.object (members_in (slots P s) fillings)
   pub are : AreFillings P (slots P s) fillings
-  pub within : IsWithin (bounds_of s.node) (filled_count fillings)
+  pub within : IsWithin (bounds_of s) (filled_count fillings)
 
-pub record IsItemsPart (P : Pools) (N M : Node) (v : Data) : Type 0 where
+pub record IsItemsPart (P : Pools) (s M : Site) (v : Data) : Type 0 where
   pub items : Items
   pub is : v ≡ tree.list items
   pub are : AreParts P M items
-  pub apart : are_apart (alike_at N) items ≡ true
-  pub within : IsWithin (bounds_of N) (fault.items_count items)
+  pub apart : are_apart (alike_at s) items ≡ true
+  pub within : IsWithin (bounds_of s) (fault.items_count items)
 
 pub record PartLaws : Type 0 where
-  pub leaf : (P : Pools) (N : Node) (v : Data) → sort_of N ≡ Leaf → IsPart P N v ↔ (IsTree v × IsStored N v × (is_over_here P N v ≡ true))
-  pub row : (P : Pools) (s : Site) (v : Data) → IsNode s.node → sort_of s.node ≡ Row → IsPart P s.node v ↔ (IsNullPart s.node v ⊎ IsObjectPart P s v)
-  pub list : (P : Pools) (s M : Site) (v : Data) → item_site s ≡ Some M → IsPart P s.node v ↔ (IsNullPart s.node v ⊎ IsItemsPart P s.node M.node v)
+  pub leaf : (P : Pools) (s : Site) (v : Data) → sort_of s ≡ Leaf → IsPart P s v ↔ (IsTree v × IsStored s.node v × (is_over_here P s.node v ≡ true))
+  pub row : (P : Pools) (s : Site) (v : Data) → IsNode s.node → sort_of s ≡ Row → IsPart P s v ↔ (IsNullPart s v ⊎ IsObjectPart P s v)
+  pub list : (P : Pools) (s M : Site) (v : Data) → item_site s ≡ Some M → IsPart P s v ↔ (IsNullPart s v ⊎ IsItemsPart P s M v)

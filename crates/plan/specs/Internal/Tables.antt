@@ -8,10 +8,10 @@ use Rattle.plan.specs.Samples.Sites.{Slot}
 use Rattle.plan.specs.Samples.Sizes.{HasSize, CanFill, IsUpTo}
 use Rattle.plan.specs.declared.rows.Choice.{Choice}
 
--- the choices have the sizes of the slots' nodes, and say under which something must stand
+-- the choices have the sizes of the slots' sites, and say under which something must stand
 abbrev pub AreChoices : {Z : Type 0} → (Z → ℕ → Type 0) → ℕ → Pools → List (Choice Z) → List Slot → Type 0
 AreChoices holds limit P [] [] = Unit {0}
-AreChoices holds limit P (c ∷ cs) (s ∷ ss) = IsUpTo limit (holds c.sizes) (HasSize P s.node) × (c.must ≡ s.must) × AreChoices holds limit P cs ss
+AreChoices holds limit P (c ∷ cs) (s ∷ ss) = IsUpTo limit (holds c.sizes) (HasSize P s.site) × (c.must ≡ s.must) × AreChoices holds limit P cs ss
 AreChoices holds limit P _ _ = ⊥
 
 -- at each number of members before: the sizes that the slots can still take

@@ -15,11 +15,14 @@ use Rattle.plan.specs.declared.sort.Sort.{Sort}
 use Rattle.plan.specs.declared.sort.Sort.TheVariants.{Leaf, Row, List as ListSort}
 
 -- a leaf holds one of its candidates, a row members under its slots
-abbrev pub sort_of : Node → Sort
-sort_of (node nullable description (scalar kind cs)) = Leaf
-sort_of (node nullable description open_) = Leaf
-sort_of (node nullable description (list N type keys bounds)) = ListSort
-sort_of _ = Row
+abbrev pub sort_at : Node → Sort
+sort_at (node nullable description (scalar kind cs)) = Leaf
+sort_at (node nullable description open_) = Leaf
+sort_at (node nullable description (list N type keys bounds)) = ListSort
+sort_at _ = Row
+
+abbrev pub sort_of : Site → Sort
+sort_of s = sort_at s.node
 
 -- which items may not stand in one list (`x-kubernetes-list-type`)
 abbrev pub distinct_by : ListType → Distinct
@@ -27,29 +30,32 @@ distinct_by list_type.Set = Whole
 distinct_by list_type.Map = Keys
 distinct_by _ = Free
 
-abbrev pub distinct_of : Node → Distinct
-distinct_of (node nullable description (list N type keys bounds)) = distinct_by type
-distinct_of _ = Free
+abbrev pub distinct_at : Node → Distinct
+distinct_at (node nullable description (list N type keys bounds)) = distinct_by type
+distinct_at _ = Free
 
--- all parts of the node, in the tree order, each once
-pub record AreCandidates (P : Pools) (N : Node) (vs : List Data) : Type 0 where
-  pub each : (v : Data) → Contains vs v ↔ IsPart P N v
+abbrev pub distinct_of : Site → Distinct
+distinct_of s = distinct_at s.node
+
+-- all parts of the site, in the tree order, each once
+pub record AreCandidates (P : Pools) (s : Site) (vs : List Data) : Type 0 where
+  pub each : (v : Data) → Contains vs v ↔ IsPart P s v
   pub ascending : AllPairs (λ u v. tree_cmp u v ≡ Less) vs
 
--- the node has so many candidates
-pub record HasCount (P : Pools) (N : Node) (count : ℕ) : Type 0 where
+-- the site has so many candidates
+pub record HasCount (P : Pools) (s : Site) (count : ℕ) : Type 0 where
   pub candidates : List Data
-  pub are : AreCandidates P N candidates
+  pub are : AreCandidates P s candidates
   pub count_is : length candidates ≡ count
 
 -- how wide a site is: by the candidates of a leaf, by the slots of a row
 abbrev pub HasWidthBy : Sort → Pools → Site → ℕ → Type 0
-HasWidthBy Leaf P s width = HasCount P s.node width
+HasWidthBy Leaf P s width = HasCount P s width
 HasWidthBy Row P s width = length (slots P s) ≡ width
 HasWidthBy ListSort P s width = width ≡ 0
 
 abbrev pub HasWidth : Pools → Site → ℕ → Type 0
-HasWidth P s width = HasWidthBy (sort_of s.node) P s width
+HasWidth P s width = HasWidthBy (sort_of s) P s width
 
 -- the width of the widest site
 pub record IsWidth (P : Pools) (root : Node) (width : ℕ) : Type 0 where

@@ -1,12 +1,10 @@
 -- What a plan hands out, one at a time.
 use Rattle.std.specs.Prelude.{◌≡◌, ℕ, List, Option, Some, slice_get}
 use Rattle.jtree.specs.Data.{Data}
-use Rattle.schema.specs.Nodes.Node.{Node}
 use Rattle.plan.specs.Pools.Pools.{Pools}
-use Rattle.plan.specs.Samples.Sites.{Site, plain}
+use Rattle.plan.specs.Samples.Sites.{Site, site_at}
 use Rattle.plan.specs.Samples.Sites as sites
 use Rattle.plan.specs.Samples.Candidates.{AreCandidates}
-use Rattle.plan.specs.Samples.Sites.{site_at}
 use Rattle.plan.specs.declared.plan.Slot.{Slot}
 
 -- the slot at a place
@@ -14,12 +12,12 @@ pub record IsSlotAt (all : List Site) (ss : List sites.Slot) (place : ℕ) (t : 
   pub slot : sites.Slot
   pub is : slice_get ss place ≡ Some slot
   pub name : t.name.now ≡ slot.name
-  pub node : site_at all t.node ≡ plain slot.node
+  pub node : site_at all t.node ≡ slot.site
   pub must : t.must ≡ slot.must
   pub key : t.key ≡ slot.key
 
 -- the candidate at a place, where there is one
-pub record IsCandidateAt (P : Pools) (N : Node) (place : ℕ) (v : Option Data) : Type 0 where
+pub record IsCandidateAt (P : Pools) (s : Site) (place : ℕ) (v : Option Data) : Type 0 where
   pub candidates : List Data
-  pub are : AreCandidates P N candidates
+  pub are : AreCandidates P s candidates
   pub is : v ≡ slice_get candidates place

@@ -7,17 +7,16 @@ use Rattle.jtree.specs.Data as tree
 use Rattle.jtree.specs.Nodes.{node_count}
 use Rattle.jtree.specs.Order.{text_cmp}
 use Rattle.jtree.specs.Path.{member_at}
-use Rattle.schema.specs.Nodes.Node.{Node}
-use Rattle.stored.specs.Objects.Becomes.{is_nullable}
 use Rattle.stored.specs.Objects.Fault.{items_count}
+use Rattle.stored.specs.Objects.Tests.{is_same}
 use Rattle.stored.specs.Objects.StoredByParts.{are_apart}
 use Rattle.plan.specs.Pools.Pools.{Pools}
 use Rattle.plan.specs.Samples.Part.{IsPart}
 use Rattle.plan.specs.Samples.Sites.{Site, item_site, Slot, slots}
 use Rattle.plan.specs.Samples.Candidates.{sort_of, distinct_of, HasCount}
-use Rattle.plan.specs.Samples.RuleOfParts.{AreParts, alike_at}
+use Rattle.plan.specs.Samples.RuleOfParts.{AreParts, alike_at, admits_null}
 use Rattle.plan.specs.Samples.NoDeadEnd.{is_key, AreCounts, product}
-use Rattle.plan.specs.declared.sort.Distinct.TheVariants.{Whole, Keys}
+use Rattle.plan.specs.declared.sort.Distinct.TheVariants.{Free, Whole, Keys}
 use Rattle.plan.specs.declared.sort.Sort.TheVariants.{Leaf, Row}
 
 -- each name comes before all later ones, by bytes
@@ -28,9 +27,9 @@ AreInOrder (s ∷ ss) = ((t : Slot) → Contains ss t → text_cmp s.name t.name
 -- something must stand under a key: a scalar, and no null
 pub record IsKeySlot (P : Pools) (s : Slot) : Type 0 where
   pub must : s.must ≡ true
-  pub leaf : sort_of s.node ≡ Leaf
-  pub one : (v : Data) → IsPart P s.node v → node_count v ≡ 1
-  pub no_null : IsPart P s.node tree.null → ⊥
+  pub leaf : sort_of s.site ≡ Leaf
+  pub one : (v : Data) → IsPart P s.site v → node_count v ≡ 1
+  pub no_null : IsPart P s.site tree.null → ⊥
 
 abbrev pub AreKeySlots : Pools → List Slot → Type 0
 AreKeySlots P ss = (s : Slot) → Contains ss s → s.key ≡ true → IsKeySlot P s
@@ -47,23 +46,25 @@ abbrev pub key_under : List Slot → Data → List Data
 key_under ss (tree.object ms) = map (under ms) (filter is_key ss)
 key_under ss _ = []
 
--- the items of a set: scalars; there are at most as many as there are candidates
-pub record AreSetItems (P : Pools) (N M : Node) : Type 0 where
+-- the items of a set: scalars, of which no two are equal; there are at most as many as there are candidates
+pub record AreSetItems (P : Pools) (s M : Site) : Type 0 where
   pub leaf : sort_of M ≡ Leaf
   pub one : (v : Data) → IsPart P M v → node_count v ≡ 1
-  pub most : (ds : Items) (n : ℕ) → AreParts P M ds → are_apart (alike_at N) ds ≡ true → HasCount P M n → items_count ds ≤ n
+  pub alike : (v w : Data) → alike_at s v w ≡ is_same v w
+  pub most : (ds : Items) (n : ℕ) → AreParts P M ds → are_apart (alike_at s) ds ≡ true → HasCount P M n → items_count ds ≤ n
 
 -- the items of a map list: objects, of which no two have the same under all keys; there are at most as many as there are tuples of
 -- candidates of the keys
-pub record AreMapItems (P : Pools) (N : Node) (M : Site) : Type 0 where
-  pub row : sort_of M.node ≡ Row
-  pub never_null : is_nullable M.node ≡ false
-  pub alike : (v w : Data) → IsPart P M.node v → IsPart P M.node w → (alike_at N v w ≡ true) ↔ (key_under (slots P M) v ≡ key_under (slots P M) w)
-  pub most : (ds : Items) (counts : List ℕ) → AreParts P M.node ds → are_apart (alike_at N) ds ≡ true → AreCounts P (filter is_key (slots P M)) counts → items_count ds ≤ product counts
+pub record AreMapItems (P : Pools) (s M : Site) : Type 0 where
+  pub row : sort_of M ≡ Row
+  pub never_null : admits_null M ≡ false
+  pub alike : (v w : Data) → IsPart P M v → IsPart P M w → (alike_at s v w ≡ true) ↔ (key_under (slots P M) v ≡ key_under (slots P M) w)
+  pub most : (ds : Items) (counts : List ℕ) → AreParts P M ds → are_apart (alike_at s) ds ≡ true → AreCounts P (filter is_key (slots P M)) counts → items_count ds ≤ product counts
 
 -- what is known of the slots and the items of a site
 pub record HasSoundParts (P : Pools) (s : Site) : Type 0 where
   pub order : AreInOrder (slots P s)
   pub keys : AreKeySlots P (slots P s)
-  pub set : (M : Site) → item_site s ≡ Some M → distinct_of s.node ≡ Whole → AreSetItems P s.node M.node
-  pub map : (M : Site) → item_site s ≡ Some M → distinct_of s.node ≡ Keys → AreMapItems P s.node M
+  pub free : (v w : Data) → distinct_of s ≡ Free → alike_at s v w ≡ false
+  pub set : (M : Site) → item_site s ≡ Some M → distinct_of s ≡ Whole → AreSetItems P s M
+  pub map : (M : Site) → item_site s ≡ Some M → distinct_of s ≡ Keys → AreMapItems P s M

@@ -3,7 +3,6 @@ use Rattle.std.specs.Prelude.{◌≡◌, ◌≢◌, ℕ, ◌*◌, ◌≤◌, ◌
 use Rattle.jtree.specs.Data.{Data, Items, no_items, item}
 use Rattle.jtree.specs.Data as tree
 use Rattle.jtree.specs.Nodes.{items_count}
-use Rattle.schema.specs.Nodes.Node.{Node}
 use Rattle.stored.specs.Objects.Fault as fault
 use Rattle.stored.specs.Objects.Tests.{is_same}
 use Rattle.stored.specs.Objects.StoredByParts.{are_apart}
@@ -21,7 +20,7 @@ use Rattle.plan.specs.declared.sort.Sort.TheVariants.{Row}
 pub record RowCompletes (P : Pools) (s : Site) (place : ℕ) (front : List (Option Data)) (m : ℕ) : Type 0 where
   pub back : List (Option Data)
   pub are : AreFillings P (drop place (slots P s)) back
-  pub part : IsPart P s.node (tree.object (members_in (slots P s) (front ++ back)))
+  pub part : IsPart P s (tree.object (members_in (slots P s) (front ++ back)))
   pub nodes_are : filled_nodes back ≡ m
 
 -- ---- lists
@@ -31,9 +30,9 @@ items_then no_items es = es
 items_then (item d ds) es = item d (items_then ds es)
 
 -- items of m nodes complete those before them to a part
-pub record ListCompletes (P : Pools) (N : Node) (front : Items) (m : ℕ) : Type 0 where
+pub record ListCompletes (P : Pools) (s : Site) (front : Items) (m : ℕ) : Type 0 where
   pub back : Items
-  pub part : IsPart P N (tree.list (items_then front back))
+  pub part : IsPart P s (tree.list (items_then front back))
   pub nodes_are : items_count back ≡ m
 
 -- ---- the keys of a map list
@@ -44,13 +43,13 @@ is_key s = s.key
 -- a candidate for each of the slots
 abbrev pub IsTuple : Pools → List Slot → List Data → Type 0
 IsTuple P [] [] = Unit {0}
-IsTuple P (s ∷ ss) (v ∷ vs) = IsPart P s.node v × IsTuple P ss vs
+IsTuple P (s ∷ ss) (v ∷ vs) = IsPart P s.site v × IsTuple P ss vs
 IsTuple P _ _ = ⊥
 
 -- the numbers of their candidates
 abbrev pub AreCounts : Pools → List Slot → List ℕ → Type 0
 AreCounts P [] [] = Unit {0}
-AreCounts P (s ∷ ss) (n ∷ ns) = HasCount P s.node n × AreCounts P ss ns
+AreCounts P (s ∷ ss) (n ∷ ns) = HasCount P s.site n × AreCounts P ss ns
 AreCounts P _ _ = ⊥
 
 abbrev pub product : List ℕ → ℕ
@@ -70,10 +69,10 @@ HasFree P ss used chosen = (t : List Data) × (IsTuple P ss t × (Contains used 
 -- ---- all of it
 
 pub record NoDeadEnd (P : Pools) (limit : ℕ) (s : Site) : Type 0 where
-  pub rows : (front : List (Option Data)) (place m : ℕ) → sort_of s.node ≡ Row → AreFillings P (take place (slots P s)) front → place ≤ length (slots P s)
+  pub rows : (front : List (Option Data)) (place m : ℕ) → sort_of s ≡ Row → AreFillings P (take place (slots P s)) front → place ≤ length (slots P s)
       → HasRest P s place (filled_count front) m → RowCompletes P s place front m
-  pub lists : (M : Site) (front : Items) (m : ℕ) → item_site s ≡ Some M → AreParts P M.node front → are_apart (alike_at s.node) front ≡ true
-      → HasMore P limit s.node (fault.items_count front) m → ListCompletes P s.node front m
+  pub lists : (M : Site) (front : Items) (m : ℕ) → item_site s ≡ Some M → AreParts P M front → are_apart (alike_at s) front ≡ true
+      → HasMore P limit s (fault.items_count front) m → ListCompletes P s front m
   -- the first keys of an item, where other items use these tuples
   pub keys : (first later : List Slot) (used : List (List Data)) (chosen : List Data) (counts : List ℕ)
       → filter is_key (slots P s) ≡ first ++ later → IsTuple P first chosen → All (IsTuple P (first ++ later)) used → AllPairs (λ t u. t ≢ u) used

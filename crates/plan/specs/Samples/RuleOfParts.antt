@@ -1,4 +1,4 @@
--- What the parts of a node are, by what the slots of a row and the items of a list can take (this project's own).
+-- What the parts of a site are, by what the slots of a row and the items of a list can take (this project's own).
 use Rattle.std.specs.Prelude.{◌≡◌, ◌≤◌, ◌⊎◌, ◌↔◌, ℕ, List, ◌∷◌, length, Bool, true, false, Option, Some, None, Contains}
 use Rattle.jtree.specs.Data.{Data, Items, no_items, item, Members, no_members, member}
 use Rattle.jtree.specs.Data as tree
@@ -13,7 +13,7 @@ use Rattle.plan.specs.Samples.Part.{IsPart}
 use Rattle.plan.specs.Samples.Sites.{Site, item_site, Slot, slots}
 use Rattle.plan.specs.Samples.Candidates.{sort_of, AreCandidates}
 use Rattle.plan.specs.Samples.Sizes.{AreFillings, filled_count, HasRest, HasMore}
-use Rattle.plan.specs.declared.sort.Sort.TheVariants.{Leaf, Row}
+use Rattle.plan.specs.declared.sort.Sort.TheVariants.{Leaf, Row, List as ListSort}
 
 -- the members that stand in the slots
 abbrev pub members_in : List Slot → List (Option Data) → Members
@@ -21,18 +21,25 @@ members_in (s ∷ ss) (None ∷ gs) = members_in ss gs
 members_in (s ∷ ss) (Some v ∷ gs) = member s.name v (members_in ss gs)
 members_in _ _ = no_members
 
--- each item is a part of the node
-abbrev pub AreParts : Pools → Node → Items → Type 0
-AreParts P N no_items = Unit {0}
-AreParts P N (item d ds) = IsPart P N d × AreParts P N ds
+-- each item is a part of the site
+abbrev pub AreParts : Pools → Site → Items → Type 0
+AreParts P s no_items = Unit {0}
+AreParts P s (item d ds) = IsPart P s d × AreParts P s ds
 
 -- two items that may not stand in one list: in a set equal ones, in a map list those that agree on all keys
-abbrev pub alike_at : Node → Data → Data → Bool
-alike_at (node nullable description (list N type keys bounds)) v w = are_alike type keys v w
-alike_at N v w = false
+abbrev pub alike_by : Node → Data → Data → Bool
+alike_by (node nullable description (list N type keys bounds)) v w = are_alike type keys v w
+alike_by N v w = false
 
-abbrev pub IsNullPart : Node → Data → Type 0
-IsNullPart N v = (v ≡ tree.null) × (is_nullable N ≡ true)
+abbrev pub alike_at : Site → Data → Data → Bool
+alike_at s = alike_by s.node
+
+-- null is accepted (`nullable`)
+abbrev pub admits_null : Site → Bool
+admits_null s = is_nullable s.node
+
+abbrev pub IsNullPart : Site → Data → Type 0
+IsNullPart s v = (v ≡ tree.null) × (admits_null s ≡ true)
 
 -- an object in whose slots parts stand, with as many members as it may have
 pub record IsRowPart (P : Pools) (s : Site) (v : Data) : Type 0 where
@@ -42,17 +49,18 @@ pub record IsRowPart (P : Pools) (s : Site) (v : Data) : Type 0 where
   pub ends : HasRest P s (length (slots P s)) (filled_count fillings) 0
 
 -- a list of parts, no two alike, that may end where it does
-pub record IsListPart (P : Pools) (limit : ℕ) (N M : Node) (v : Data) : Type 0 where
+pub record IsListPart (P : Pools) (limit : ℕ) (s M : Site) (v : Data) : Type 0 where
   pub items : Items
   pub is : v ≡ tree.list items
   pub are : AreParts P M items
-  pub apart : are_apart (alike_at N) items ≡ true
-  pub ends : HasMore P limit N (fault.items_count items) 0
+  pub apart : are_apart (alike_at s) items ≡ true
+  pub ends : HasMore P limit s (fault.items_count items) 0
 
 -- A value is a part exactly: at a leaf, where it is a candidate; at a row, where it is null and that is accepted, or where parts
--- stand in its slots; at a list, where it is null and that is accepted, or a list of parts. A list has at most as many nodes as
--- the limit.
+-- stand in its slots; at a list, whose items have one site, where it is null and that is accepted, or a list of parts. A list has
+-- at most as many nodes as the limit.
 pub record RuleOfParts (P : Pools) (limit : ℕ) (s : Site) : Type 0 where
-  pub leaf : (v : Data) → sort_of s.node ≡ Leaf → IsPart P s.node v ↔ ((vs : List Data) × (AreCandidates P s.node vs × Contains vs v))
-  pub row : (v : Data) → sort_of s.node ≡ Row → IsPart P s.node v ↔ (IsNullPart s.node v ⊎ IsRowPart P s v)
-  pub list : (M : Site) (v : Data) → item_site s ≡ Some M → node_count v ≤ limit → IsPart P s.node v ↔ (IsNullPart s.node v ⊎ IsListPart P limit s.node M.node v)
+  pub leaf : (v : Data) → sort_of s ≡ Leaf → IsPart P s v ↔ ((vs : List Data) × (AreCandidates P s vs × Contains vs v))
+  pub row : (v : Data) → sort_of s ≡ Row → IsPart P s v ↔ (IsNullPart s v ⊎ IsRowPart P s v)
+  pub items : sort_of s ≡ ListSort → (M : Site) × (item_site s ≡ Some M)
+  pub list : (M : Site) (v : Data) → item_site s ≡ Some M → node_count v ≤ limit → IsPart P s v ↔ (IsNullPart s v ⊎ IsListPart P limit s M v)

@@ -1,5 +1,4 @@
--- The nodes of a plan: those of the schema, each with the names that are keys where it is the item of a map list, and the slots of
--- its objects and maps (this project's own).
+-- The sites of a plan, one for each node of the schema, and the slots of its objects and maps (this project's own).
 use Rattle.std.specs.Prelude.{ℕ, List, [], ◌∷◌, ◌++◌, Bool, false, Option, Some, None, map, ◌||◌, is_some, get_or}
 use Rattle.std.specs.declared.cmp.Ordering.{Ordering}
 use Rattle.std.specs.declared.cmp.Ordering.TheVariants.{Less, Equal, Greater}
@@ -10,14 +9,11 @@ use Rattle.schema.specs.Nodes.Node as nodes
 use Rattle.schema.specs.declared.node.ListType.{ListType}
 use Rattle.schema.specs.declared.node.ListType.TheVariants.{Map}
 use Rattle.plan.specs.Pools.Pools.{Pools}
+pub use Rattle.plan.specs.Samples.Site.{Site, plain, root_site}
 
-pub record Site : Type 0 where
-  pub node : Node
-  pub keys : List (List ℕ)
-
--- of a node that is not the item of a map list
-abbrev pub plain : Node → Site
-plain N = record { node = N; keys = [] }
+-- what stands for a site where there is none
+abbrev pub no_site : Site
+no_site = plain (node false None open_)
 
 -- the names that tell the items of a list apart
 abbrev pub item_keys : ListType → List (List ℕ) → List (List ℕ)
@@ -53,22 +49,26 @@ sites_of root = sites_from root []
 
 -- the site of a number: a node of a plan is a number, and stands for this site
 abbrev pub site_at : List Site → ℕ → Site
-site_at sites i = get_or sites i (plain (node false None open_))
+site_at sites i = get_or sites i no_site
 
 -- ---- slots
 
--- a name under which a member may stand: the node of what stands there, whether something must stand there, and whether the name
+-- a name under which a member may stand: the site of what stands there, whether something must stand there, and whether the name
 -- is a key
 pub record Slot : Type 0 where
   pub name : List ℕ
-  pub node : Node
+  pub site : Site
   pub must : Bool
   pub key : Bool
+
+-- what stands for a slot where there is none
+abbrev pub no_slot : Slot
+no_slot = record { name = []; site = no_site; must = false; key = false }
 
 -- something must stand under a field that is required or has a default
 abbrev pub field_slots : List (List ℕ) → Fields → List Slot
 field_slots keys no_fields = []
-field_slots keys (field k N required default fs) = record { name = k; node = N; must = required || is_some default; key = is_among k keys } ∷ field_slots keys fs
+field_slots keys (field k N required default fs) = record { name = k; site = plain N; must = required || is_some default; key = is_among k keys } ∷ field_slots keys fs
 
 -- a name put where it belongs by its bytes, once
 abbrev pub put : Ordering → List ℕ → List ℕ → List (List ℕ) → List (List ℕ) → List (List ℕ)
@@ -86,7 +86,7 @@ in_order [] = []
 in_order (k ∷ ks) = with_name k (in_order ks)
 
 abbrev pub value_slot : Node → List ℕ → Slot
-value_slot N k = record { name = k; node = N; must = false; key = false }
+value_slot N k = record { name = k; site = plain N; must = false; key = false }
 
 -- the declared names of an object, and the names of the pools at a map
 abbrev pub slots_at : Pools → Node → List (List ℕ) → List Slot

@@ -16,19 +16,19 @@ use Rattle.plan.specs.Samples.Sites.{Site, Slot, slots}
 abbrev pub IsUpTo : ℕ → (ℕ → Type 0) → (ℕ → Type 0) → Type 0
 IsUpTo limit A P = (n : ℕ) → A n ↔ ((n ≤ limit) × P n)
 
--- some part of the node has n nodes
-pub record HasSize (P : Pools) (N : Node) (n : ℕ) : Type 0 where
+-- some part of the site has n nodes
+pub record HasSize (P : Pools) (s : Site) (n : ℕ) : Type 0 where
   pub part : Data
-  pub is : IsPart P N part
+  pub is : IsPart P s part
   pub nodes_are : node_count part ≡ n
 
 -- ---- objects and maps
 
--- what stands in each slot: nothing where nothing must, or a part of the slot's node
+-- what stands in each slot: nothing where nothing must, or a part of the slot's site
 abbrev pub AreFillings : Pools → List Slot → List (Option Data) → Type 0
 AreFillings P [] [] = Unit {0}
 AreFillings P (s ∷ ss) (None ∷ gs) = (s.must ≡ false) × AreFillings P ss gs
-AreFillings P (s ∷ ss) (Some v ∷ gs) = IsPart P s.node v × AreFillings P ss gs
+AreFillings P (s ∷ ss) (Some v ∷ gs) = IsPart P s.site v × AreFillings P ss gs
 AreFillings P _ _ = ⊥
 
 -- how many nodes stand in the slots
@@ -51,15 +51,18 @@ pub record CanFill (P : Pools) (ss : List Slot) (b : Bounds) (t m : ℕ) : Type 
   pub nodes_are : filled_nodes fillings ≡ m
 
 -- the bounds on the number of members or items
-abbrev pub bounds_of : Node → Bounds
-bounds_of (node nullable description (object fs preserves type bounds)) = bounds
-bounds_of (node nullable description (map N type bounds)) = bounds
-bounds_of (node nullable description (list N type keys bounds)) = bounds
-bounds_of _ = record { least = None; most = None }
+abbrev pub bounds_at : Node → Bounds
+bounds_at (node nullable description (object fs preserves type bounds)) = bounds
+bounds_at (node nullable description (map N type bounds)) = bounds
+bounds_at (node nullable description (list N type keys bounds)) = bounds
+bounds_at _ = record { least = None; most = None }
+
+abbrev pub bounds_of : Site → Bounds
+bounds_of s = bounds_at s.node
 
 -- the slots from a place on can so be filled with m nodes where t slots before it are filled
 abbrev pub HasRest : Pools → Site → ℕ → ℕ → ℕ → Type 0
-HasRest P s place t m = CanFill P (drop place (slots P s)) (bounds_of s.node) t m
+HasRest P s place t m = CanFill P (drop place (slots P s)) (bounds_of s) t m
 
 -- ---- lists
 
@@ -69,11 +72,11 @@ items_from zero ds = ds
 items_from (suc i) no_items = no_items
 items_from (suc i) (item d ds) = items_from i ds
 
--- Some list that is a part of the node, with at most as many nodes as the limit, has at least t items, and those behind the first
+-- Some list that is a part of the site, with at most as many nodes as the limit, has at least t items, and those behind the first
 -- t have m nodes.
-pub record HasMore (P : Pools) (limit : ℕ) (N : Node) (t m : ℕ) : Type 0 where
+pub record HasMore (P : Pools) (limit : ℕ) (s : Site) (t m : ℕ) : Type 0 where
   pub items : Items
-  pub part : IsPart P N (tree.list items)
+  pub part : IsPart P s (tree.list items)
   pub fits : node_count (tree.list items) ≤ limit
   pub many : t ≤ fault.items_count items
   pub nodes_are : items_count (items_from t items) ≡ m

@@ -1,5 +1,5 @@
 use Rattle.std.proofs.lemmas.Result.{IfOk-weaker, on_ok_weaker}
-use Rattle.plan.specs.Samples.Sites.{Site, sites_of}
+use Rattle.plan.specs.Samples.Sites.{sites_of}
 use Rattle.enumerate.proofs.KeyItems.{item_open, item_least}
 use Rattle.enumerate.proofs.MembershipLemmas.{lighter, row_lighter, null_part}
 use Rattle.enumerate.proofs.MoveCosts.{part_within, costs_within, costs_both, costs_below, costs_row, costs_slots, costs_both_slots, costs_wider}
@@ -28,7 +28,7 @@ use Rattle.enumerate.specs.Internal.Candidates.{IsUnusedPart}
 use Rattle.enumerate.specs.Internal.Lists.{FitsItem}
 use Rattle.enumerate.proofs.LeastLemmas.{least_same}
 use Rattle.enumerate.proofs.ListLemmas.{some_nodes, some_size, few_items, counted, split_same, fits_same, least_from_same, empty_from_same, adds_none, adds_grown, follow_item, site_among}
-use Rattle.enumerate.proofs.WholeListLemmas.{list_site, list_longer, list_follow, list_first, list_alone, part_fresh, unused_fresh}
+use Rattle.enumerate.proofs.WholeListLemmas.{list_longer, list_follow, list_first, list_alone, part_fresh, unused_fresh}
 use Rattle.enumerate.proofs.filling.+first.Goals.{first_list-then-size-gt1+in-Some+in_ok-first_items, first_list-else-size-gt1}
 use Rattle.enumerate.proofs.SetItemLemmas.{set_free}
 use Rattle.std.proofs.Common.{◌≡◌, ◌+◌, ◌-◌, ◌≤◌, ◌<◌, [], ℕ, length, IfNone}
@@ -126,17 +126,16 @@ grow_items-returns-clause-ok g t c =
 pub first_list-unreachable-requires : goal.first_list-unreachable-requires
 first_list-unreachable-requires g t c =
     let q = c.args.plan.now in
-    let there = site_among q c.args.node c.requires.node in
-    let M = list_site (site q c.args.node).node c.requires.list in
-    let longer = list_longer q c.args.node M.0 (c.no_dead_end.ensures.parts _ there) M.1 c.args.size (omega (arith, c.if-size-gt1.true)) c.requires.limit c.requires.no_null c.if-size-gt1.true c.requires.size in
-    let none = subst (λ r. IfNone r ((m : ℕ) → HasMore q.pools q.limit (site q c.args.node).node 1 m → ⊥)) c.in_default.is c.item.ensures.none in
+    let rule = c.no_dead_end.ensures.parts _ (site_among q c.args.node c.requires.node) in
+    let longer = list_longer q c.args.node rule c.requires.list c.args.size (omega (arith, c.if-size-gt1.true)) c.requires.limit c.requires.no_null c.if-size-gt1.true c.requires.size in
+    let none = subst (λ r. IfNone r ((m : ℕ) → HasMore q.pools q.limit (site q c.args.node) 1 m → ⊥)) c.in_default.is c.item.ensures.none in
     none longer.0 longer.1
 
 pub first_list-first_items-requires : goal.first_list-first_items-requires
 first_list-first_items-requires g t c κs within =
     let q = c.args.plan.now in
     let there = site_among q c.args.node c.requires.node in
-    let follow = list_follow q c.args.node c.in-Some.child c.args.size (c.no_dead_end.ensures.parts _ there) c.in-Some.ensures.some (omega (arith, c.if-size-gt1.true)) c.requires.limit c.requires.no_null c.requires.size in
+    let follow = list_follow q c.args.node c.in-Some.child c.args.size (c.no_dead_end.ensures.parts _ there) c.requires.list c.in-Some.ensures.some (omega (arith, c.if-size-gt1.true)) c.requires.limit c.requires.no_null c.requires.size in
     (omega (arith, c.decreases, c.requires.limit), (within, (c.requires.node, (c.in-Some.ensures.below, subst (λ l. CanFollow q c.args.node c.in-Some.child (c.args.size - 1) (items_of l)) (sym c.new-items.ensures.items) follow))))
 
 pub first_list-returns-in_err-first_items-clause-steps : goal.first_list-returns-in_err-first_items-clause-steps
@@ -155,18 +154,17 @@ first_list-returns-clause-steps g t c =
 pub first_list-returns-clause-ok : goal.first_list-returns-clause-ok
 first_list-returns-clause-ok g t c =
     let q = c.args.plan.now in
-    let there = site_among q c.args.node c.requires.node in
-    let M = list_site (site q c.args.node).node c.requires.list in
+    let rule = c.no_dead_end.ensures.parts _ (site_among q c.args.node c.requires.node) in
     let some = some_size c.requires.size in
     elim c.if-size-gt1.branch [
       | first_list-then-size-gt1+in-Some+in_ok-first_items b ↦
           subst (λ v. IsLeast tree_cmp (IsPartOf q c.args.node c.args.size) (list_data (items_of v.items))) (sym b.items-is)
-          (list_first q c.args.node c.args.size M.0 (c.no_dead_end.ensures.parts _ there) M.1 some c.requires.limit c.requires.no_null _
+          (list_first q c.args.node c.args.size rule c.requires.list some c.requires.limit c.requires.no_null _
           (subst (λ l. AddsItems q c.args.node (c.args.size - 1) l b.first_items.new.items.items) c.new-items.ensures.items b.in_ok-first_items.ensures.ok))
       | first_list-else-size-gt1 b ↦
           subst (λ v. IsLeast tree_cmp (IsPartOf q c.args.node c.args.size) (list_data (items_of v.items))) (sym b.items-is)
           (subst (λ l. IsLeast tree_cmp (IsPartOf q c.args.node c.args.size) (list_data (items_of l))) (sym c.new-items.ensures.items)
-          (list_alone q c.args.node c.args.size M.0 (c.no_dead_end.ensures.parts _ there) M.1 some c.requires.limit c.requires.no_null (omega (arith, b.if-size-gt1.false)) c.requires.size))
+          (list_alone q c.args.node c.args.size rule c.requires.list some c.requires.limit c.requires.no_null (omega (arith, b.if-size-gt1.false)) c.requires.size))
     ]
 
 pub first_item-first-requires : goal.first_item-first-requires
@@ -182,18 +180,18 @@ first_item-first_unused-requires-clause-leaf g t c =
 pub first_item-returns-in-Free-clause-ok : goal.first_item-returns-in-Free-clause-ok
 first_item-returns-in-Free-clause-ok g t c =
     let q = c.args.plan.now in
-    let free : distinct_of (site q c.args.node).node ≡ distinct.Free = sym c.distinct.ensures ∙ c.in-Free.is in
+    let free : distinct_of (site q c.args.node) ≡ distinct.Free = sym c.distinct.ensures ∙ c.in-Free.is in
     IfOk-weaker c.first.result _ _
     (λ v h. least_same tree_cmp (IsPartOf q c.args.child c.args.size) (IsFreshItem q c.args.node c.args.child c.args.size (items_of c.args.items.now)) (data_of v)
-    (λ u p. part_fresh q c.args.node c.args.child c.args.size (items_of c.args.items.now) u free p) (λ u f. f.part) h) c.first.ensures.ok
+    (λ u p. part_fresh q c.args.node c.args.child c.args.size (items_of c.args.items.now) u (c.sound_parts.ensures.parts _ (site_among q c.args.node c.requires.node)) free p) (λ u f. f.part) h) c.first.ensures.ok
 
 pub first_item-returns-in-Whole-clause-ok : goal.first_item-returns-in-Whole-clause-ok
 first_item-returns-in-Whole-clause-ok g t c =
     let q = c.args.plan.now in
-    let whole : distinct_of (site q c.args.node).node ≡ distinct.Whole = sym c.distinct.ensures ∙ c.in-Whole.is in
+    let set = (c.sound_parts.ensures.parts _ (site_among q c.args.node c.requires.node)).set (site q c.args.child) c.requires.first.item (sym c.distinct.ensures ∙ c.in-Whole.is) in
     IfOk-weaker c.first_unused.result _ _
     (λ v h. least_same tree_cmp (IsUnusedPart q c.args.child c.args.size (trees_of c.args.items.now)) (IsFreshItem q c.args.node c.args.child c.args.size (items_of c.args.items.now)) (data_of v)
-    (λ u p. (unused_fresh q c.args.node c.args.child c.args.size c.args.items.now u whole).0 p) (λ u f. (unused_fresh q c.args.node c.args.child c.args.size c.args.items.now u whole).1 f) h) c.first_unused.ensures.ok
+    (λ u p. (unused_fresh q c.args.node c.args.child c.args.size c.args.items.now u set).0 p) (λ u f. (unused_fresh q c.args.node c.args.child c.args.size c.args.items.now u set).1 f) h) c.first_unused.ensures.ok
 
 pub first_item-returns-in-Whole-clause-steps : goal.first_item-returns-in-Whole-clause-steps
 first_item-returns-in-Whole-clause-steps g t c = costs_within c.args.plan.now c.args.meter.now c.first_unused.new.meter 1 c.args.size (some_size c.requires.size) c.first_unused.ensures.steps
@@ -202,9 +200,8 @@ pub first_item-first_unused-requires-clause-free : goal.first_item-first_unused-
 first_item-first_unused-requires-clause-free g t c =
     let q = c.args.plan.now in
     let there = site_among q c.args.node c.requires.node in
-    let whole : distinct_of (site q c.args.node).node ≡ distinct.Whole = sym c.distinct.ensures ∙ c.in-Whole.is in
-    set_free q c.args.node c.args.child (c.no_dead_end.ensures.parts _ there) (c.no_dead_end.ensures.completed _ there) c.args.size c.args.items.now c.requires.first whole
-    ((c.sound_parts.ensures.parts _ there).set (site q c.args.child) c.requires.first.item whole) c.requires.size c.requires.fresh.0 c.requires.fresh.1
+    set_free q c.args.node c.args.child (c.no_dead_end.ensures.parts _ there) (c.no_dead_end.ensures.completed _ there) c.args.size c.args.items.now c.requires.first
+    ((c.sound_parts.ensures.parts _ there).set (site q c.args.child) c.requires.first.item (sym c.distinct.ensures ∙ c.in-Whole.is)) c.requires.size c.requires.fresh.0 c.requires.fresh.1
 
 -- ---- rows
 
@@ -281,13 +278,13 @@ pub first_value-first_key-requires-clause-leaf : goal.first_value-first_key-requ
 first_value-first_key-requires-clause-leaf g t c =
     let q = c.args.plan.now in
     let sound = c.sound_parts.ensures.parts _ (site_among q c.args.node c.requires.node) in
-    ap (λ x. sort_of (Site.node x)) c.requires.slot.node ∙ key_leaf q c.args.node c.args.place sound c.requires.slot.first (sym c.requires.slot.key ∙ c.if-slot.true)
+    ap (λ x. sort_of x) c.requires.slot.node ∙ key_leaf q c.args.node c.args.place sound c.requires.slot.first (sym c.requires.slot.key ∙ c.if-slot.true)
 
 pub first_value-first_key-requires-clause-free : goal.first_value-first_key-requires-clause-free
 first_value-first_key-requires-clause-free g t c =
     let q = c.args.plan.now in
     let sound = c.sound_parts.ensures.parts _ (site_among q c.args.node c.requires.node) in
-    let size = subst (λ x. HasSize q.pools (Site.node x) c.args.size) c.requires.slot.node c.requires.size in
+    let size = subst (λ x. HasSize q.pools x c.args.size) c.requires.slot.node c.requires.size in
     subst (λ k. (v : Data) × IsFreeKey q c.args.slot.now.node c.args.size k (rows_of c.args.used.now) c.args.slot.now.later v) (sym c.requires.slot.name)
     (key_there q c.args.node c.args.place sound c.requires.slot.first c.sound_parts.ensures.free c.args.slot.now.node (rows_of c.args.used.now) c.args.size c.args.slot.now.later c.requires.slot.node (sym c.requires.slot.key ∙ c.if-slot.true) c.requires.known c.requires.slot.later size c.requires.free)
 
@@ -329,10 +326,10 @@ grow_slots-least_split-requires g t c = omega (arith, c.limit.type_inv, c.limit.
 pub grow_slots-returns-in_default-clause-ok : goal.grow_slots-returns-in_default-clause-ok
 grow_slots-returns-in_default-clause-ok g t c =
     let q = c.args.plan.now in
-    let sizes = subst (λ x. IsUpTo q.limit (g.Z.SizeSet.holds c.sizes-sizes.result) (HasSize q.pools (Site.node x))) c.requires.slot.node c.sizes-sizes.ensures in (
+    let sizes = subst (λ x. IsUpTo q.limit (g.Z.SizeSet.holds c.sizes-sizes.result) (HasSize q.pools x)) c.requires.slot.node c.sizes-sizes.ensures in (
       refl,
       empty_from_same _ _ c.args.from
-          (split_same q.limit c.args.room (g.Z.SizeSet.holds c.sizes-sizes.result) (g.Z.SizeSet.holds c.rest-rest.result) (HasSize q.pools (slot_in q c.args.node c.args.place).node)
+          (split_same q.limit c.args.room (g.Z.SizeSet.holds c.sizes-sizes.result) (g.Z.SizeSet.holds c.rest-rest.result) (HasSize q.pools (slot_in q c.args.node c.args.place).site)
           (CanFill q.pools (slots_from q c.args.node (c.args.place + 1)) (bounds_at q c.args.node) (c.args.taken + 1)) (omega (arith, c.requires.limit)) sizes c.rest-rest.ensures) c.in_default.ensures,
       refl,
     )
@@ -349,8 +346,8 @@ pub grow_slots-put_member-requires : goal.grow_slots-put_member-requires
 grow_slots-put_member-requires g t c κs within =
     let q = c.args.plan.now in
     let sound = c.sound_parts.ensures.parts _ (site_among q c.args.node c.requires.node) in
-    let sizes = subst (λ x. IsUpTo q.limit (g.Z.SizeSet.holds c.sizes-sizes.result) (HasSize q.pools (Site.node x))) c.requires.slot.node c.sizes-sizes.ensures in
-    let fits = (split_same q.limit c.args.room (g.Z.SizeSet.holds c.sizes-sizes.result) (g.Z.SizeSet.holds c.rest-rest.result) (HasSize q.pools (slot_in q c.args.node c.args.place).node)
+    let sizes = subst (λ x. IsUpTo q.limit (g.Z.SizeSet.holds c.sizes-sizes.result) (HasSize q.pools x)) c.requires.slot.node c.sizes-sizes.ensures in
+    let fits = (split_same q.limit c.args.room (g.Z.SizeSet.holds c.sizes-sizes.result) (g.Z.SizeSet.holds c.rest-rest.result) (HasSize q.pools (slot_in q c.args.node c.args.place).site)
     (CanFill q.pools (slots_from q c.args.node (c.args.place + 1)) (bounds_at q c.args.node) (c.args.taken + 1)) (omega (arith, c.requires.limit)) sizes c.rest-rest.ensures c.in-Some.size).0 c.in-Some.ensures.1 in
     let value = c.in_ok-tree.ensures.ok.is in
     let some : 1 ≤ c.in-Some.size = omega (arith, some_nodes (data_of c.in_ok-tree.tree), value.nodes_are) in
@@ -380,13 +377,13 @@ grow_slots-put_member-requires g t c κs within =
 pub grow_slots-returns-clause-ok : goal.grow_slots-returns-clause-ok
 grow_slots-returns-clause-ok g t c =
     let q = c.args.plan.now in
-    let sizes = subst (λ x. IsUpTo q.limit (g.Z.SizeSet.holds c.sizes-sizes.result) (HasSize q.pools (Site.node x))) c.requires.slot.node c.sizes-sizes.ensures in
+    let sizes = subst (λ x. IsUpTo q.limit (g.Z.SizeSet.holds c.sizes-sizes.result) (HasSize q.pools x)) c.requires.slot.node c.sizes-sizes.ensures in
     record {
       size = c.in-Some.size;
       one = record { name = c.in_ok-name.name; tree = c.in_ok-tree.tree };
       name = c.in_ok-name.ensures ∙ c.requires.slot.name;
       least = least_from_same _ _ c.args.from c.in-Some.size
-          (split_same q.limit c.args.room (g.Z.SizeSet.holds c.sizes-sizes.result) (g.Z.SizeSet.holds c.rest-rest.result) (HasSize q.pools (slot_in q c.args.node c.args.place).node)
+          (split_same q.limit c.args.room (g.Z.SizeSet.holds c.sizes-sizes.result) (g.Z.SizeSet.holds c.rest-rest.result) (HasSize q.pools (slot_in q c.args.node c.args.place).site)
           (CanFill q.pools (slots_from q c.args.node (c.args.place + 1)) (bounds_at q c.args.node) (c.args.taken + 1)) (omega (arith, c.requires.limit)) sizes c.rest-rest.ensures) c.in-Some.ensures;
       first = c.in_ok-tree.ensures.ok;
       rest = c.in_ok-put_member.ensures.ok;

@@ -48,7 +48,7 @@ returns-clause-none g c =
     let i = c.args.node in
     let all : c.count-place-end.result ≡ c.loop-place.place = omega arith in
     none_at_all q i (IsChoice q i c.args.size (resume_point c.args.after) c.args.taken.now) (λ u h. h.part.part) c.loop-place.place
-    (subst (HasCount q.pools (site q i).node) all c.count-place-end.ensures) c.loop-place.invariant.none
+    (subst (HasCount q.pools (site q i)) all c.count-place-end.ensures) c.loop-place.invariant.none
 
 pub returns-clause-steps : goal.returns-clause-steps
 returns-clause-steps g c w width =

@@ -14,11 +14,11 @@ use Rattle.enumerate.specs.Internal.Lists.{AreFirst}
 use Rattle.enumerate.specs.Internal.Membership.{StandFresh, IsFreshRow}
 use Rattle.std.proofs.Common.{ap, sym, refl, subst, ◌∙◌, arith}
 use Rattle.enumerate.proofs.MoveCosts.{costs_within, costs_below, costs_row, costs_first, costs_first_rest, costs_wider}
-use Rattle.enumerate.proofs.MembershipLemmas.{lighter, answered, one_slot_less, absent_here, absent_there, filled_here, filled_there, order_at, rule_at, row_part, part_row, list_part, part_list, null_part, item_few, item_steps, next_steps, fresh_in, part_made, part_ends, first_next, goes_on, items_some}
+use Rattle.enumerate.proofs.MembershipLemmas.{lighter, answered, one_slot_less, absent_here, absent_there, filled_here, filled_there, row_part, part_row, list_part, part_list, null_part, item_few, item_steps, next_steps, fresh_in, part_made, part_ends, first_next, goes_on, items_some}
 use Rattle.std.proofs.Common.{take}
-use Rattle.enumerate.proofs.MembershipLemmas.{row_lighter, map_at}
+use Rattle.enumerate.proofs.MembershipLemmas.{row_lighter}
 use Rattle.enumerate.proofs.FreshItemLemmas.{any_found, fresh_item, fresh_row}
-use Rattle.enumerate.proofs.ListLemmas.{some_nodes}
+use Rattle.enumerate.proofs.ListLemmas.{some_nodes, site_among}
 use Rattle.enumerate.proofs.WholeListLemmas.{always_fresh}
 use Rattle.enumerate.specs.View.{trees_of}
 use Rattle.std.proofs.lemmas.List.{take_all}
@@ -33,7 +33,7 @@ pub is_fresh_item-returns-then-contains-clause-ok :
     goal.is_fresh_item-returns-then-contains-clause-ok
 is_fresh_item-returns-then-contains-clause-ok g t c =
     let q = c.args.plan.now in
-    let any = any_found (site q c.args.node).node c.args.items.now c.args.item.now (sym c.in-Whole.ensures) in
+    let any = any_found q.pools _ _ c.args.items.now c.args.item.now ((c.sound_parts.ensures.parts _ (site_among q c.args.node c.requires.node)).set _ c.requires.first.item (sym c.in-Whole.ensures)) in
     (λ no. cc, λ h. let both : true ≡ false = sym c.if-contains.true ∙ (c.contains.ensures.value ∙ (sym any ∙ h.fresh)) in cc)
 
 pub is_fresh_item-is_part-requires-in-Whole : goal.is_fresh_item-is_part-requires-in-Whole
@@ -44,20 +44,20 @@ is_fresh_item-is_part-requires-in-Whole g t c κs within =
 pub is_fresh_item-is_fresh_row-requires : goal.is_fresh_item-is_fresh_row-requires
 is_fresh_item-is_fresh_row-requires g t c κs within =
     let q = c.args.plan.now in
-    let map = map_at q c.args.node c.args.child c.requires.node c.sound_parts.ensures.parts c.requires.first.item (sym c.in-Keys.ensures) in
+    let map = (c.sound_parts.ensures.parts _ (site_among q c.args.node c.requires.node)).map _ c.requires.first.item (sym c.in-Keys.ensures) in
     let below = row_lighter q c.args.child c.args.node c.requires.child in
     (omega (arith, c.decreases, below), (within, (omega (arith, c.requires.child, c.requires.node), (map.row, c.requires.limit))))
 
 pub is_fresh_item-returns-in-Free-clause-ok : goal.is_fresh_item-returns-in-Free-clause-ok
 is_fresh_item-returns-in-Free-clause-ok g t c =
     let q = c.args.plan.now in
-    answered c.is_part.result _ _ (λ part. record { part = record { part = part; nodes_are = refl }; fresh = always_fresh (site q c.args.node).node (sym c.in-Free.ensures) (data_of c.args.item.now) (items_of c.args.items.now) }) (λ h. h.part.part) c.is_part.ensures.ok
+    answered c.is_part.result _ _ (λ part. record { part = record { part = part; nodes_are = refl }; fresh = always_fresh q.pools (site q c.args.node) (c.sound_parts.ensures.parts _ (site_among q c.args.node c.requires.node)) (sym c.in-Free.ensures) (data_of c.args.item.now) (items_of c.args.items.now) }) (λ h. h.part.part) c.is_part.ensures.ok
 
 pub is_fresh_item-returns-else-contains-clause-ok :
     goal.is_fresh_item-returns-else-contains-clause-ok
 is_fresh_item-returns-else-contains-clause-ok g t c =
     let q = c.args.plan.now in
-    let any = any_found (site q c.args.node).node c.args.items.now c.args.item.now (sym c.in-Whole.ensures) in
+    let any = any_found q.pools _ _ c.args.items.now c.args.item.now ((c.sound_parts.ensures.parts _ (site_among q c.args.node c.requires.node)).set _ c.requires.first.item (sym c.in-Whole.ensures)) in
     answered c.is_part-in-Whole.result _ _ (λ part. record { part = record { part = part; nodes_are = refl }; fresh = any ∙ (sym c.contains.ensures.value ∙ c.if-contains.false) }) (λ h. h.part.part) c.is_part-in-Whole.ensures.ok
 
 pub is_fresh_item-returns-in_ok-used-in-Keys-clause-ok :
@@ -68,9 +68,9 @@ is_fresh_item-returns-in_ok-used-in-Keys-clause-ok g t c =
     let j = c.args.child in
     let v = data_of c.args.item.now in
     let at : IsNodeOf q j = omega (arith, c.requires.child, c.requires.node) in
-    let map = map_at q i j c.requires.node c.sound_parts.ensures.parts c.requires.first.item (sym c.in-Keys.ensures) in
-    let rule = rule_at q j at c.no_dead_end.ensures.parts in
-    let sound = order_at q j at c.sound_parts.ensures.parts in
+    let map = (c.sound_parts.ensures.parts _ (site_among q i c.requires.node)).map _ c.requires.first.item (sym c.in-Keys.ensures) in
+    let rule = c.no_dead_end.ensures.parts _ (site_among q j at) in
+    let sound = c.sound_parts.ensures.parts _ (site_among q j at) in
     let used : rows_of c.as_slice.result.now ≡ trees_of c.args.items.now = ap rows_of c.as_slice.ensures.value ∙ c.in_ok-used-in-Keys.ensures in
     answered c.is_fresh_row.result (IsFreshRow q j (rows_of c.as_slice.result.now) v) _
     (λ r. fresh_item q i j rule sound map c.args.items.now v c.requires.first.are (subst (λ us. IsFreshRow q j us v) used r))
@@ -88,7 +88,7 @@ is_part-returns-in_default g t c =
     let q = c.args.plan.now in
     let i = c.args.node in
     let v = data_of c.args.tree.now in
-    let is = null_part q i (rule_at q i c.requires.node c.no_dead_end.ensures.parts) v (λ leaf. c.in_default.not-Leaf (c.sort.ensures ∙ leaf)) (omega (arith, some_nodes v, c.requires.limit)) (c.is_null.ensures.0 c.if-is_null.true) in
+    let is = null_part q i (c.no_dead_end.ensures.parts _ (site_among q i c.requires.node)) v (λ leaf. c.in_default.not-Leaf (c.sort.ensures ∙ leaf)) (omega (arith, some_nodes v, c.requires.limit)) (c.is_null.ensures.0 c.if-is_null.true) in
     record {
       ok = (λ yes. is.1 (sym c.null_ok.ensures ∙ yes), λ part. c.null_ok.ensures ∙ is.0 part);
       steps = λ w width. omega arith;
@@ -99,8 +99,8 @@ is_part-returns-in-Row g t c =
     let q = c.args.plan.now in
     let i = c.args.node in
     let v = data_of c.args.tree.now in
-    let rule = rule_at q i c.requires.node c.no_dead_end.ensures.parts in
-    let row : sort_of (site q i).node ≡ sort.Row = sym c.in-Row.ensures in
+    let rule = c.no_dead_end.ensures.parts _ (site_among q i c.requires.node) in
+    let row : sort_of (site q i) ≡ sort.Row = sym c.in-Row.ensures in
     let other : v ≢ null_data = λ none. let yes = c.is_null.ensures.1 none in let no = c.if-is_null.false in cc in
     record {
       ok = answered c.is_fresh_row.result _ _ (row_part q i rule v row) (part_row q i rule v row other) c.is_fresh_row.ensures.ok;
@@ -112,8 +112,8 @@ is_part-returns-in-List g t c =
     let q = c.args.plan.now in
     let i = c.args.node in
     let v = data_of c.args.tree.now in
-    let rule = rule_at q i c.requires.node c.no_dead_end.ensures.parts in
-    let is_list : sort_of (site q i).node ≡ sort.List = sym c.in-List.ensures in
+    let rule = c.no_dead_end.ensures.parts _ (site_among q i c.requires.node) in
+    let is_list : sort_of (site q i) ≡ sort.List = sym c.in-List.ensures in
     let other : v ≢ null_data = λ none. let yes = c.is_null.ensures.1 none in let no = c.if-is_null.false in cc in
     record {
       ok = answered c.is_list.result _ _ (list_part q i rule v) (part_list q i rule v is_list c.requires.limit other) c.is_list.ensures.ok;
@@ -148,7 +148,7 @@ make_list-returns-then-not-branch-clause-ok g t c =
     let q = c.args.plan.now in
     let i = c.args.node in
     let x = c.index-items-place.result in
-    let rule = rule_at q i c.requires.node c.no_dead_end.ensures.parts in (
+    let rule = c.no_dead_end.ensures.parts _ (site_among q i c.requires.node) in (
       λ no. cc,
       λ part.
           let fresh = fresh_in q i c.in-Some.child rule c.in-Some.ensures.some c.args.items.now c.requires.limit c.loop-place.place x (omega arith) (sym c.index-items-place.is) part in
@@ -175,7 +175,7 @@ pub make_list-returns-clause-ok : goal.make_list-returns-clause-ok
 make_list-returns-clause-ok g t c =
     let q = c.args.plan.now in
     let i = c.args.node in
-    let rule = rule_at q i c.requires.node c.no_dead_end.ensures.parts in
+    let rule = c.no_dead_end.ensures.parts _ (site_among q i c.requires.node) in
     let all : take c.loop-place.place c.args.items.now ≡ c.args.items.now = take_all c.loop-place.place c.args.items.now (omega arith) in (
       λ yes. part_made q i c.in-Some.child rule c.in-Some.ensures.some c.args.items.now c.requires.limit (subst (λ ts. AreFirst q i c.in-Some.child (items_of ts)) all c.loop-place.invariant.first) ((c.more-2.ensures 0).0 (c.has-2.ensures.0 yes)).1,
       λ part. c.has-2.ensures.1 ((c.more-2.ensures 0).1 (omega arith, part_ends q i c.in-Some.child rule c.in-Some.ensures.some c.args.items.now c.requires.limit part)),
@@ -222,7 +222,7 @@ pub stand_fresh-returns-then-not-branch-clause-ok :
 stand_fresh-returns-then-not-branch-clause-ok g t c =
     let q = c.args.plan.now in
     let h = c.in-Some.ensures.some in
-    let order = (order_at q c.args.node c.requires.node c.sound_parts.ensures.parts).order in (
+    let order = (c.sound_parts.ensures.parts _ (site_among q c.args.node c.requires.node)).order in (
       λ no. cc,
       λ st.
           let k = filled_here q c.args.node c.args.place c.in-Some.slot h _ _ _ _ _ _ c.in-Some-value_under.ensures.some order st in
@@ -258,8 +258,8 @@ stand_fresh-returns-clause-ok g t c =
     let behind = c.behind_first-behind.ensures in
     let first = c.in-Some-value_under.ensures.some ∙ ap (λ ms. member_data c.in-Some.slot.name.now d (members_of ms)) (sym behind) in
     let same = ap rows_of c.as_slice.ensures.value ∙ c.in_ok-same.ensures in
-    let part : IsPart q.pools (site q c.in-Some.slot.node).node d = c.in_ok-is_part.ensures.ok.0 c.if-not-branch.false in
-    let order = (order_at q c.args.node c.requires.node c.sound_parts.ensures.parts).order in
+    let part : IsPart q.pools (site q c.in-Some.slot.node) d = c.in_ok-is_part.ensures.ok.0 c.if-not-branch.false in
+    let order = (c.sound_parts.ensures.parts _ (site_among q c.args.node c.requires.node)).order in
     let Behind = λ (us : List Data). StandFresh q.pools (slots_from q c.args.node (c.args.place + 1)) (bounds_at q c.args.node) (c.args.taken + 1) us (members_of c.behind_first-behind.result.now) in
     answered c.stand_fresh-2.result (Behind (rows_of c.as_slice.result.now)) _
     (λ st. filled_there q c.args.node c.args.place c.in-Some.slot h _ _ _ _ d _ first part (subst Behind same st))

@@ -18,7 +18,7 @@ returns-then-eq-clause-is g c =
     let i = c.args.node in
     let v = data_of c.in-Some.candidate.now in
     let is : v ≡ data_of c.args.tree.now = tree_same v (data_of c.args.tree.now) ((Equal-is (tree_cmp v (data_of c.args.tree.now))).0 (sym c.eq.ensures ∙ c.if-eq.true)) in
-    (λ _. subst (IsPart q.pools (site q i).node) is (handed_part q i c.loop-place.place v c.in-Some.ensures.candidate), λ _. refl)
+    (λ _. subst (IsPart q.pools (site q i)) is (handed_part q i c.loop-place.place v c.in-Some.ensures.candidate), λ _. refl)
 
 pub returns-then-eq-clause-steps : goal.returns-then-eq-clause-steps
 returns-then-eq-clause-steps g c w width =
@@ -30,7 +30,7 @@ loop-place-preserved g c =
     let q = c.args.plan.now in
     let i = c.args.node in
     record {
-      none = none_after q i (λ u. IsPart q.pools (site q i).node u × (u ≡ data_of c.args.tree.now)) (λ u h. h.0) c.loop-place.place _ c.candidate.ensures.candidate c.loop-place.invariant.none
+      none = none_after q i (λ u. IsPart q.pools (site q i) u × (u ≡ data_of c.args.tree.now)) (λ u h. h.0) c.loop-place.place _ c.candidate.ensures.candidate c.loop-place.invariant.none
           (elim c.match-candidate.branch [
             | in-Some+else-eq w ↦ λ v at h.
                 let both = rw w.in-Some.is at at in
@@ -51,8 +51,8 @@ returns-clause-is g c =
     let i = c.args.node in
     let all : c.count-place-end.result ≡ c.loop-place.place = omega arith in (
       λ no. cc,
-      λ part. absurd (none_at_all q i (λ u. IsPart q.pools (site q i).node u × (u ≡ data_of c.args.tree.now)) (λ u h. h.0) c.loop-place.place
-          (subst (HasCount q.pools (site q i).node) all c.count-place-end.ensures) c.loop-place.invariant.none (data_of c.args.tree.now) (part, refl)),
+      λ part. absurd (none_at_all q i (λ u. IsPart q.pools (site q i) u × (u ≡ data_of c.args.tree.now)) (λ u h. h.0) c.loop-place.place
+          (subst (HasCount q.pools (site q i)) all c.count-place-end.ensures) c.loop-place.invariant.none (data_of c.args.tree.now) (part, refl)),
     )
 
 pub returns-clause-steps : goal.returns-clause-steps

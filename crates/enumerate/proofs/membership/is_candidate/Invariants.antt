@@ -7,6 +7,6 @@ use Rattle.enumerate.proofs.membership.is_candidate.Given as goal
 
 abbrev pub invariant-loop-place : goal.invariant-loop-place
 invariant-loop-place g l = record {
-  none : NoneBefore l.plan l.node (λ u. IsPart l.plan.pools (site l.plan l.node).node u × (u ≡ data_of l.tree)) (λ u c. c.0) l.place;
+  none : NoneBefore l.plan l.node (λ u. IsPart l.plan.pools (site l.plan l.node) u × (u ≡ data_of l.tree)) (λ u c. c.0) l.place;
   steps : l.meter ≤ l.initial.meter + l.place;
 }

@@ -8,7 +8,7 @@ use Rattle.jtree.specs.Order.{tree_cmp}
 use Rattle.jtree.specs.Internal.Rising.{contained}
 use Rattle.jtree.specs.declared.value.Member.{Member}
 use Rattle.plan.specs.Samples.Candidates.{IsWidth}
-use Rattle.plan.specs.Samples.Sites.{Site, sites_of}
+use Rattle.plan.specs.Samples.Sites.{sites_of}
 use Rattle.enumerate.specs.Least.{IsNext}
 use Rattle.enumerate.specs.Internal.Nodes.{site, IsPartOf, Costs}
 use Rattle.enumerate.specs.Internal.Candidates.{IsUnusedPart, IsFreeKey, rows_of}
@@ -23,7 +23,7 @@ use Rattle.enumerate.proofs.NullMoves.{row_moved}
 use Rattle.enumerate.proofs.PartRows.{weight_next, row_unless_null}
 use Rattle.enumerate.proofs.RowLemmas.{can_fill}
 use Rattle.enumerate.proofs.RowOrder.{in_members, row_next}
-use Rattle.enumerate.proofs.RowSteps.{slot_of, one_fewer, no_slots, key_leaf, at_number}
+use Rattle.enumerate.proofs.RowSteps.{slot_of, one_fewer, no_slots, key_leaf}
 use Rattle.jtree.specs.View.{data_of, items_of, members_of}
 use Rattle.plan.specs.Samples.Part.{IsPart}
 use Rattle.plan.specs.Samples.Candidates.{sort_of, distinct_of}
@@ -33,7 +33,7 @@ use Rattle.enumerate.specs.Internal.Moves.{IsMoved, StandIn, Begins, AreMoved, A
 use Rattle.enumerate.specs.View.{trees_of}
 use Rattle.enumerate.proofs.KeyItems.{items_used, fresh_row, row_fresh}
 use Rattle.enumerate.proofs.MembershipLemmas.{lighter, row_lighter}
-use Rattle.enumerate.proofs.WholeListLemmas.{has_item, list_site, part_list, part_fresh, unused_fresh}
+use Rattle.enumerate.proofs.WholeListLemmas.{has_item, part_list, part_fresh, unused_fresh}
 use Rattle.enumerate.proofs.ListWalks.{WereLast, IsWalked, all_left, walk_ended, front_nodes, front_first, front_fresh, front_follow, front_next, front_walked, list_moved, list_stays, double, cost_room, no_more, some_there, empty_len, some_len, walked_last, kept_last}
 use Rattle.enumerate.specs.declared.moved.Moved.TheVariants as moved
 use Rattle.enumerate.specs.declared.moved.Step.TheVariants as step
@@ -558,7 +558,7 @@ pub advance_value-next_key-requires-clause-leaf : goal.advance_value-next_key-re
 advance_value-next_key-requires-clause-leaf g t c =
     let q = c.args.plan.now in
     let sound = c.sound_parts.ensures.parts _ (site_among q c.args.node c.requires.node) in
-    ap (λ x. sort_of (Site.node x)) c.requires.slot.node ∙ key_leaf q c.args.node c.args.place sound c.requires.slot.first (sym c.requires.slot.key ∙ c.if-slot.true)
+    ap (λ x. sort_of x) c.requires.slot.node ∙ key_leaf q c.args.node c.args.place sound c.requires.slot.first (sym c.requires.slot.key ∙ c.if-slot.true)
 
 pub advance_value-next_key-requires-clause-limit : goal.advance_value-next_key-requires-clause-limit
 advance_value-next_key-requires-clause-limit g t c = omega (arith, c.requires.limit, c.limit.ensures, c.limit.type_inv)
@@ -585,7 +585,7 @@ advance_value-advance-requires g t c κs within =
         within,
         (
           omega (arith, c.requires.slot.below, c.requires.node),
-          (at_number q c.args.slot.now.node (slot_in q c.args.node c.args.place).node (data_of c.args.tree) c.requires.slot.node c.requires.value.part, c.requires.limit),
+          (subst (λ s. IsPart q.pools s (data_of c.args.tree)) (sym c.requires.slot.node) c.requires.value.part, c.requires.limit),
         ),
       ),
     )
@@ -635,7 +635,7 @@ advance_item-next_unused-requires-clause-leaf g t c =
     let q = c.args.plan.now in
     let i = c.args.node in
     let k = c.args.child in
-    let whole : distinct_of (site q i).node ≡ distinct.Whole = sym c.distinct.ensures ∙ c.in-Whole.is in
+    let whole : distinct_of (site q i) ≡ distinct.Whole = sym c.distinct.ensures ∙ c.in-Whole.is in
     ((c.sound_parts.ensures.parts _ (site_among q i c.requires.node)).set (site q k) c.requires.first.item whole).leaf
 
 pub advance_item-next_unused-requires-clause-limit : goal.advance_item-next_unused-requires-clause-limit
@@ -647,8 +647,8 @@ advance_item-returns-in-Free-clause-ok g t c =
     let i = c.args.node in
     let k = c.args.child in
     let n = node_count (data_of c.args.item) in
-    let free : distinct_of (site q i).node ≡ distinct.Free = sym c.distinct.ensures ∙ c.in-Free.is in
-    IfOk-weaker c.advance.result _ _ (λ m h. moved_same (IsPartOf q k n) (IsFreshItem q i k n (items_of c.args.items.now)) (data_of c.args.item) m (λ u p. part_fresh q i k n (items_of c.args.items.now) u free p) (λ u f. f.part) h) c.advance.ensures.ok
+    let free : distinct_of (site q i) ≡ distinct.Free = sym c.distinct.ensures ∙ c.in-Free.is in
+    IfOk-weaker c.advance.result _ _ (λ m h. moved_same (IsPartOf q k n) (IsFreshItem q i k n (items_of c.args.items.now)) (data_of c.args.item) m (λ u p. part_fresh q i k n (items_of c.args.items.now) u (c.sound_parts.ensures.parts _ (site_among q i c.requires.node)) free p) (λ u f. f.part) h) c.advance.ensures.ok
 
 pub advance_item-returns-in-Free-clause-steps : goal.advance_item-returns-in-Free-clause-steps
 advance_item-returns-in-Free-clause-steps g t c = c.advance.ensures.steps
@@ -662,9 +662,9 @@ advance_item-returns-in-Whole-clause-ok g t c =
     let i = c.args.node in
     let k = c.args.child in
     let n = node_count (data_of c.args.item) in
-    let whole : distinct_of (site q i).node ≡ distinct.Whole = sym c.distinct.ensures ∙ c.in-Whole.is in
+    let set = (c.sound_parts.ensures.parts _ (site_among q i c.requires.node)).set (site q k) c.requires.first.item (sym c.distinct.ensures ∙ c.in-Whole.is) in
     IfOk-weaker c.next_unused.result _ _ (λ m h. moved_same (IsUnusedPart q k n (trees_of c.args.items.now)) (IsFreshItem q i k n (items_of c.args.items.now)) (data_of c.args.item) m
-    (λ u p. (unused_fresh q i k n c.args.items.now u whole).0 p) (λ u f. (unused_fresh q i k n c.args.items.now u whole).1 f) h) c.next_unused.ensures.ok
+    (λ u p. (unused_fresh q i k n c.args.items.now u set).0 p) (λ u f. (unused_fresh q i k n c.args.items.now u set).1 f) h) c.next_unused.ensures.ok
 
 pub advance_item-returns-in-Whole-clause-steps : goal.advance_item-returns-in-Whole-clause-steps
 advance_item-returns-in-Whole-clause-steps g t c = costs_twice c.args.plan.now c.args.meter.now c.next_unused.new.meter (node_count (data_of c.args.item)) (some_nodes (data_of c.args.item)) c.next_unused.ensures.steps
@@ -917,8 +917,7 @@ advance_list-unreachable-requires g t c =
     let q = c.args.plan.now in
     let i = c.args.node in
     let rule = c.no_dead_end.ensures.parts _ (site_among q i c.requires.node) in
-    let M = list_site (site q i).node c.requires.sort in
-    let l = part_list q i M.0 rule M.1 (data_of c.args.tree) c.requires.part c.requires.limit (λ null accepted. c.requires.no_null null) in
+    let l = part_list q i rule c.requires.sort (data_of c.args.tree) c.requires.part c.requires.limit (λ null accepted. c.requires.no_null null) in
     let none = subst (λ r. IfNone r ((ds : Items) → data_of c.args.tree ≢ list_data ds)) c.in_default.is c.into_items.ensures.none in
     none l.0 l.1
 
@@ -927,14 +926,13 @@ advance_list-returns-then-is_empty-clause-ok g t c =
     let q = c.args.plan.now in
     let i = c.args.node in
     let rule = c.no_dead_end.ensures.parts _ (site_among q i c.requires.node) in
-    let M = list_site (site q i).node c.requires.sort in
     let old = items_of c.in-Some.items.items in
     let is : data_of c.args.tree ≡ list_data old = c.in-Some.ensures.some in
     let count : node_count (data_of c.args.tree) ≡ 1 + items_count old = ap node_count is in
     let within : 1 + items_count old ≤ q.limit = omega (arith, count, c.requires.limit) in
     let none : c.in-Some.items.items ≡ [] = no_more c.in-Some.items.items (omega (arith, empty_len (vec_len c.in-Some.items) (sym c.is_empty.ensures ∙ c.if-is_empty.true), c.in-Some.items.ok.0)) in
     let no_nodes : items_count old ≡ 0 = ap (λ l. items_count (items_of l)) none in
-    let last = list_stays q i M.0 rule M.1 old within (λ ds a less. (walk_ended q i 0 old (subst (λ l. WereLast q i 0 old (items_of l)) none (all_left q i old))).0 ds a less) in
+    let last = list_stays q i rule c.requires.sort old within (λ ds a less. (walk_ended q i 0 old (subst (λ l. WereLast q i 0 old (items_of l)) none (all_left q i old))).0 ds a less) in
     (subst (λ d. IsNext tree_cmp (IsPartOf q i (node_count d)) d None) (sym is) last, omega (arith, count, no_nodes))
 
 pub advance_list-returns-then-is_empty-clause-steps : goal.advance_list-returns-then-is_empty-clause-steps
@@ -951,10 +949,10 @@ advance_list-unreachable-requires-in_default-item g t c =
     let is : data_of c.args.tree ≡ list_data old = c.in-Some.ensures.some in
     let count : node_count (data_of c.args.tree) ≡ 1 + items_count old = ap node_count is in
     let within : 1 + items_count old ≤ q.limit = omega (arith, count, c.requires.limit) in
-    let part = subst (IsPart q.pools (site q i).node) is c.requires.part in
+    let part = subst (IsPart q.pools (site q i)) is c.requires.part in
     let some : 1 ≤ items_count old = some_there c.in-Some.items.items (λ e. some_len (vec_len c.in-Some.items) (sym c.is_empty.ensures ∙ c.if-is_empty.false) (omega (arith, e, c.in-Some.items.ok.0))) in
     let m = has_item q i old some part within in
-    let none = subst (λ r. IfNone r ((m : ℕ) → HasMore q.pools q.limit (site q i).node 1 m → ⊥)) c.in_default-item.is c.item.ensures.none in
+    let none = subst (λ r. IfNone r ((m : ℕ) → HasMore q.pools q.limit (site q i) 1 m → ⊥)) c.in_default-item.is c.item.ensures.none in
     none m.0 m.1
 
 pub advance_list-advance_items-requires : goal.advance_list-advance_items-requires
@@ -964,7 +962,7 @@ advance_list-advance_items-requires g t c κs within =
     let old = items_of c.in-Some.items.items in
     let is : data_of c.args.tree ≡ list_data old = c.in-Some.ensures.some in
     let count : node_count (data_of c.args.tree) ≡ 1 + items_count old = ap node_count is in
-    let part = subst (IsPart q.pools (site q i).node) is c.requires.part in
+    let part = subst (IsPart q.pools (site q i)) is c.requires.part in
     (omega (arith, c.decreases), (within, (c.requires.node, (c.in-Some-item.ensures.below, (c.in-Some-item.ensures.some, (part, omega (arith, count, c.requires.limit)))))))
 
 list_cost : (g : Over) (t : ℕ) (c : advance_list-After-advance_items g t) → Costs c.args.plan.now c.args.meter.now c.advance_items.new.meter (2 * node_count (data_of c.args.tree))
@@ -996,13 +994,12 @@ advance_list-returns-in-Moved-clause-ok g t c =
     let q = c.args.plan.now in
     let i = c.args.node in
     let rule = c.no_dead_end.ensures.parts _ (site_among q i c.requires.node) in
-    let M = list_site (site q i).node c.requires.sort in
     let old = items_of c.in-Some.items.items in
     let is : data_of c.args.tree ≡ list_data old = c.in-Some.ensures.some in
     let count : node_count (data_of c.args.tree) ≡ 1 + items_count old = ap node_count is in
     let within : 1 + items_count old ≤ q.limit = omega (arith, count, c.requires.limit) in
     let new = items_of c.advance_items.new.items.items in
-    subst (λ d. IsNext tree_cmp (IsPartOf q i (node_count d)) d (Some (list_data new))) (sym is) (list_moved q i M.0 rule M.1 old within new (subst (λ s. AreItemsMoved s q i old new) c.in-Moved.is c.in_ok-advance_items.ensures.moved))
+    subst (λ d. IsNext tree_cmp (IsPartOf q i (node_count d)) d (Some (list_data new))) (sym is) (list_moved q i rule c.requires.sort old within new (subst (λ s. AreItemsMoved s q i old new) c.in-Moved.is c.in_ok-advance_items.ensures.moved))
 
 pub advance_list-returns-in-Moved-clause-steps : goal.advance_list-returns-in-Moved-clause-steps
 advance_list-returns-in-Moved-clause-steps g t c = list_cost g t (goal.at.advance_list-returns-in-Moved-clause-steps g t c).After-advance_items
@@ -1012,13 +1009,12 @@ advance_list-returns-in-Last-clause-ok g t c =
     let q = c.args.plan.now in
     let i = c.args.node in
     let rule = c.no_dead_end.ensures.parts _ (site_among q i c.requires.node) in
-    let M = list_site (site q i).node c.requires.sort in
     let old = items_of c.in-Some.items.items in
     let is : data_of c.args.tree ≡ list_data old = c.in-Some.ensures.some in
     let count : node_count (data_of c.args.tree) ≡ 1 + items_count old = ap node_count is in
     let within : 1 + items_count old ≤ q.limit = omega (arith, count, c.requires.limit) in
     let last = subst (λ s. AreItemsMoved s q i old (items_of c.advance_items.new.items.items)) c.in-Last.is c.in_ok-advance_items.ensures.moved in
-    (subst (λ d. IsNext tree_cmp (IsPartOf q i (node_count d)) d None) (sym is) (list_stays q i M.0 rule M.1 old within last.0), omega (arith, count, last.1))
+    (subst (λ d. IsNext tree_cmp (IsPartOf q i (node_count d)) d None) (sym is) (list_stays q i rule c.requires.sort old within last.0), omega (arith, count, last.1))
 
 pub advance_list-returns-in-Last-clause-steps : goal.advance_list-returns-in-Last-clause-steps
 advance_list-returns-in-Last-clause-steps g t c = list_cost g t (goal.at.advance_list-returns-in-Last-clause-steps g t c).After-advance_items

@@ -9,7 +9,6 @@ use Rattle.enumerate.specs.Least.{IsNext}
 use Rattle.enumerate.specs.Internal.Nodes.{site, IsPartOf}
 use Rattle.enumerate.proofs.ListLemmas.{site_among}
 use Rattle.enumerate.proofs.NullMoves.{empty_row, no_row, empty_list, no_list}
-use Rattle.enumerate.proofs.WholeListLemmas.{list_site}
 use Rattle.enumerate.proofs.moving.past_null.Goals.{in_default-via-in-Row+else-has, in_default-via-in-List+else-has-2, in_default-via-in_default}
 use Rattle.enumerate.proofs.moving.past_null.Goals as goal
 
@@ -29,23 +28,19 @@ returns-in-Row g c =
 pub returns-in-List : goal.returns-in-List
 returns-in-List g c =
     let q = c.args.plan.now in
-    let there = site_among q c.args.node c.requires.node in
-    let list = sym c.sort.ensures ∙ c.in-List.is in
-    let M = list_site (site q c.args.node).node list in
+    let rule = c.no_dead_end.ensures.parts _ (site_among q c.args.node c.requires.node) in
     let more = (c.more.ensures 0).0 (c.if-has-2.ensures.0 refl) in
     subst (λ ts. IsNext tree_cmp (IsPartOf q c.args.node 1) null_data (Some (list_data (items_of ts)))) (sym c.new-in-List.ensures.items)
-    (empty_list q c.args.node M.0 (c.no_dead_end.ensures.parts _ there) M.1 c.requires.some more.1)
+    (empty_list q c.args.node rule (sym c.sort.ensures ∙ c.in-List.is) c.requires.some more.1)
 
 pub returns-in_default : goal.returns-in_default
 returns-in_default g c =
     let q = c.args.plan.now in
-    let there = site_among q c.args.node c.requires.node in (
+    let rule = c.no_dead_end.ensures.parts _ (site_among q c.args.node c.requires.node) in (
       elim c.in_default.branch [
-        | in_default-via-in-Row+else-has w ↦ no_row q c.args.node (c.no_dead_end.ensures.parts _ there) (sym c.sort.ensures ∙ w.in-Row.is) (λ can. let yes = w.has.ensures.1 ((w.rest.ensures 0).1 (omega arith, can)) in let no = w.if-has.false in cc)
-        | in_default-via-in-List+else-has-2 w ↦
-            let M = list_site (site q c.args.node).node (sym c.sort.ensures ∙ w.in-List.is) in
-            no_list q c.args.node M.0 (c.no_dead_end.ensures.parts _ there) M.1 c.requires.some (λ more. let yes = w.if-has-2.ensures.1 ((w.more.ensures 0).1 (omega arith, more)) in cc)
-        | in_default-via-in_default w ↦ absurd (other (sort_of (site q c.args.node).node) c.requires.no_leaf (λ r. let no = w.in_default.not-Row in no (c.sort.ensures ∙ r)) (λ l. let no = w.in_default.not-List in no (c.sort.ensures ∙ l)))
+        | in_default-via-in-Row+else-has w ↦ no_row q c.args.node rule (sym c.sort.ensures ∙ w.in-Row.is) (λ can. let yes = w.has.ensures.1 ((w.rest.ensures 0).1 (omega arith, can)) in let no = w.if-has.false in cc)
+        | in_default-via-in-List+else-has-2 w ↦ no_list q c.args.node rule (sym c.sort.ensures ∙ w.in-List.is) c.requires.some (λ more. let yes = w.if-has-2.ensures.1 ((w.more.ensures 0).1 (omega arith, more)) in cc)
+        | in_default-via-in_default w ↦ absurd (other (sort_of (site q c.args.node)) c.requires.no_leaf (λ r. let no = w.in_default.not-Row in no (c.sort.ensures ∙ r)) (λ l. let no = w.in_default.not-List in no (c.sort.ensures ∙ l)))
       ],
       refl,
     )

@@ -1,9 +1,12 @@
+use Rattle.std.proofs.Common.{refl}
 use Rattle.schema.specs.Nodes.View.{node_of}
+use Rattle.plan.specs.Samples.Sites.{Site}
 use Rattle.plan.proofs.BuildingLemmas.{leaf_built}
 use Rattle.plan.proofs.building.build_leaf.Goals as goal
 
 pub returns-clause-built : goal.returns-clause-built
 returns-clause-built g c = λ keys.
     let N = node_of c.args.node.now in
+    let s : Site = record { node = N; keys = keys } in
     leaf_built g.Z.SizeSet.holds c.args.arena.now.limit c.args.arena.now.values c.args.arena.now.entries.items c.add.new.self.entries.items N keys c.in_ok-leaf.leaf c.leaf_sizes-sizes.result c.in_ok-node.node
-    c.requires.leaf c.in_ok-node.ensures.added c.in_ok-node.ensures.number c.in_ok-node.ensures.count (λ P values. c.in_ok-leaf.ensures P values c.requires.leaf) (λ P values. c.leaf_sizes-sizes.ensures P N (c.in_ok-leaf.ensures P values c.requires.leaf))
+    c.requires.leaf c.in_ok-node.ensures.added c.in_ok-node.ensures.number c.in_ok-node.ensures.count (λ P values. c.in_ok-leaf.ensures P s values refl c.requires.leaf) (λ P values. c.leaf_sizes-sizes.ensures P s (c.in_ok-leaf.ensures P s values refl c.requires.leaf))

@@ -15,6 +15,6 @@ loop-place-preserved g c =
     c.loop-place.invariant c.with_size-sizes.ensures)
 
 pub returns : goal.returns
-returns g c = λ P N are.
-    sizes_all P N c.args.limit (g.Z.SizeSet.holds c.loop-place.sizes) _ are
+returns g c = λ P s are.
+    sizes_all P s c.args.limit (g.Z.SizeSet.holds c.loop-place.sizes) _ are
     (rw (take_all c.loop-place.place-index c.deref-place-items.result.now c.loop-place-test.false, c.deref-place-items.ensures.value) at c.loop-place.invariant)

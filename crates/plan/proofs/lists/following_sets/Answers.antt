@@ -15,8 +15,8 @@ loop-done-init g c =
     rw e
     (record {
       whole = omega arith;
-      sets = λ P N h. each_push (λ k x. IsUpTo k (holds x) (CanFollow P N c.args.bounds (limit - k))) [] c.end_sizes.result (λ k d l. absurd (omega arith))
-          (rw z (follow_end P N c.args.bounds limit (holds c.end_sizes.result) c.end_sizes.ensures));
+      sets = λ P M h. each_push (λ k x. IsUpTo k (holds x) (CanFollow P M c.args.bounds (limit - k))) [] c.end_sizes.result (λ k d l. absurd (omega arith))
+          (rw z (follow_end P M c.args.bounds limit (holds c.end_sizes.result) c.end_sizes.ensures));
     })
 
 pub loop-done-preserved : goal.loop-done-preserved
@@ -33,9 +33,9 @@ loop-done-preserved g c =
     rw c.in_ok-push-2.ensures.items
     (record {
       whole = length_push c.loop-done.sets.items set ∙ ap (λ n. n + 1) whole;
-      sets = λ P N h.
-          let before = c.loop-done.invariant.sets P N h k behind (omega arith) in
+      sets = λ P M h.
+          let before = c.loop-done.invariant.sets P M h k behind (omega arith) in
           let b = rw (← c.index.ensures, next) at before in
-          each_push (λ i x. IsUpTo i (holds x) (CanFollow P N c.args.bounds (limit - i))) c.loop-done.sets.items set (c.loop-done.invariant.sets P N h)
-          (rw (whole, here) (follow_up_to limit k P N c.args.bounds (limit - 1 - k) (holds c.args.sizes) (holds behind) (holds set) (omega arith) h b c.following_set-set.ensures));
+          each_push (λ i x. IsUpTo i (holds x) (CanFollow P M c.args.bounds (limit - i))) c.loop-done.sets.items set (c.loop-done.invariant.sets P M h)
+          (rw (whole, here) (follow_up_to limit k P M c.args.bounds (limit - 1 - k) (holds c.args.sizes) (holds behind) (holds set) (omega arith) h b c.following_set-set.ensures));
     })

@@ -20,9 +20,9 @@ loop-taken-preserved g c =
     rw c.in_ok-push.ensures.items
     (record {
       whole = length_push c.loop-taken.sets.items set ∙ ap (λ n. n + 1) whole;
-      sets = λ P N h.
-          let f = c.in_ok-following.ensures.sets P N h (limit - t) behind (omega arith) in
+      sets = λ P M h.
+          let f = c.in_ok-following.ensures.sets P M h (limit - t) behind (omega arith) in
           let b = rw (← c.index.ensures, place) at f in
-          each_push (λ i x. IsUpTo limit (holds x) (HasMoreFree P limit N c.args.bounds i)) c.loop-taken.sets.items set (c.loop-taken.invariant.sets P N h)
-          (rw whole (more_up_to limit (limit - t) P N c.args.bounds t c.least_size-least.result (holds behind) (holds set) (omega arith) (c.least_size-least.ensures.least P N h) b c.with_room.ensures));
+          each_push (λ i x. IsUpTo limit (holds x) (HasMoreFree P limit M c.args.bounds i)) c.loop-taken.sets.items set (c.loop-taken.invariant.sets P M h)
+          (rw whole (more_up_to limit (limit - t) P M c.args.bounds t c.least_size-least.result (holds behind) (holds set) (omega arith) (c.least_size-least.ensures.least P M h) b c.with_room.ensures));
     })

@@ -9,5 +9,5 @@ use Rattle.plan.proofs.rows.slot_level.Given as goal
 abbrev pub invariant-loop-taken : goal.invariant-loop-taken
 invariant-loop-taken g l = record {
   whole : length l.level.items ≡ l.taken;
-  level : (P : Pools) (s : Slot) (ss : List Slot) (b : Bounds) → IsUpTo l.limit (g.Z.SizeSet.holds l.choice.sizes) (HasSize P s.node) → l.choice.must ≡ s.must → IsLevel g.Z.SizeSet.holds l.limit b P ss l.behind → IsLevel g.Z.SizeSet.holds l.limit b P (s ∷ ss) l.level.items;
+  level : (P : Pools) (s : Slot) (ss : List Slot) (b : Bounds) → IsUpTo l.limit (g.Z.SizeSet.holds l.choice.sizes) (HasSize P s.site) → l.choice.must ≡ s.must → IsLevel g.Z.SizeSet.holds l.limit b P ss l.behind → IsLevel g.Z.SizeSet.holds l.limit b P (s ∷ ss) l.level.items;
 }
