@@ -33,8 +33,20 @@ fn pieces(rt: HostRuntime) -> Result<(), Fail> {
     for step in STEPS {
         let mut source = FailingSource::new(bytes, step, usize::MAX);
         let found = said_of(rt.alloc(), &mut source);
-        is_said(&rt, found, whole.as_str(), "what is read", "a document in pieces")?;
-        is_number(&rt, source.failures, 0, "the failures", "a document in pieces");
+        is_said(
+            &rt,
+            found,
+            whole.as_str(),
+            "what is read",
+            "a document in pieces",
+        )?;
+        is_number(
+            &rt,
+            source.failures,
+            0,
+            "the failures",
+            "a document in pieces",
+        );
     }
     is_said(
         &rt,
@@ -53,9 +65,21 @@ fn failures(rt: HostRuntime) -> Result<(), Fail> {
             let mut source = FailingSource::new(WIDGET.as_bytes(), step, left);
             let found = said_of(rt.alloc(), &mut source);
             is_said(&rt, found, "J5", "what is read", "a source that fails")?;
-            is_number(&rt, source.failures, 1, "the failures", "a source that fails");
+            is_number(
+                &rt,
+                source.failures,
+                1,
+                "the failures",
+                "a source that fails",
+            );
             let taken = WIDGET.len().saturating_sub(source.bytes.len());
-            is_number(&rt, taken as u64, left as u64, "the bytes taken", "a source that fails");
+            is_number(
+                &rt,
+                taken as u64,
+                left as u64,
+                "the bytes taken",
+                "a source that fails",
+            );
         }
     }
     Ok(())
@@ -76,7 +100,13 @@ fn lengths(rt: HostRuntime) -> Result<(), Fail> {
         let mut source = FailingSource::new(document.as_bytes(), 10_000, usize::MAX);
         let found = said_of(rt.alloc(), &mut source);
         is_said(&rt, found, wanted, "what is read", name)?;
-        is_number(&rt, source.bytes.len() as u64, *left, "the bytes that are left", name);
+        is_number(
+            &rt,
+            source.bytes.len() as u64,
+            *left,
+            "the bytes that are left",
+            name,
+        );
     }
     Ok(())
 }

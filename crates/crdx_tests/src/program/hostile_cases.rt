@@ -62,7 +62,12 @@ fn pools_that_are_no_text(rt: HostRuntime) -> Result<(), Fail> {
     let command = "crdx sample crd.json v1 --pools pools.json";
     let mut inputs = FakeInputs::new(rt.alloc(), WIDGET, "");
     inputs.second = b"\xff";
-    let output = run_on(rt.alloc(), command, inputs, FailingSink::endless(rt.alloc()))?;
+    let output = run_on(
+        rt.alloc(),
+        command,
+        inputs,
+        FailingSink::endless(rt.alloc()),
+    )?;
     is_answer(&rt, &output, "", "crdx: pools: J3\n", 3, "a byte of 255");
     Ok(())
 }

@@ -6,8 +6,8 @@ ghost use Rattle.crdx.specs.Output.Sink.{failures_after};
 
 use crdx::inputs::{InFault, Inputs};
 use crdx::sink::{Sink, SinkFault};
-use jtree::{JFault, Tree};
 use jtree::source::{Source, SourceFault};
+use jtree::{JFault, Tree};
 use std::alloc::Global;
 use std::io::Write;
 
