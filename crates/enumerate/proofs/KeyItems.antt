@@ -24,7 +24,8 @@ use Rattle.plan.specs.Samples.Question.{Question}
 use Rattle.enumerate.specs.Least.{IsLeast}
 use Rattle.enumerate.specs.View.{trees_of}
 use Rattle.enumerate.specs.Internal.Nodes.{site, IsPartOf, HasSizeAt}
-use Rattle.enumerate.specs.Internal.Rows.{slots_from, bounds_at, key_values, used_keys, AreUsed, IsOpen, IsRow}
+use Rattle.plan.specs.Samples.Sizes.{nothing}
+use Rattle.enumerate.specs.Internal.Rows.{slots_from, ending_at, key_values, used_keys, AreUsed, IsOpen, IsRow}
 use Rattle.enumerate.specs.Internal.Lists.{AreFirst, IsFreshItem}
 use Rattle.enumerate.proofs.FreshItemLemmas.{own_keys, among_parts}
 use Rattle.enumerate.proofs.WholeListLemmas.{any_false, false_any}
@@ -56,7 +57,7 @@ module _ (q : Question) (i c : ℕ) (rule : RuleOfParts q.pools q.limit (site q 
         is = r.is;
         rest = record {
           are = r.rest.are;
-          within = r.rest.within;
+          ends = r.rest.ends;
           nodes_are = r.rest.nodes_are;
           fresh = λ k.
               let u = among_map (key_under ss) (trees_of ts) (key_values ss r.fillings) (contained _ _ k) in
@@ -69,7 +70,7 @@ module _ (q : Question) (i c : ℕ) (rule : RuleOfParts q.pools q.limit (site q 
 
   pub row_fresh : (ts : List Tree) (n : ℕ) (v : Data) → 1 ≤ n → AreParts q.pools (site q c) (items_of ts) → IsRow q c (n - 1) (trees_of ts) v → IsFreshItem q i c n (items_of ts) v
   row_fresh ts n v some parts r =
-      let p = row_plain q c rule items.row n v some (record { fillings = r.fillings; is = r.is; rest = record { are = r.rest.are; within = r.rest.within; nodes_are = r.rest.nodes_are; fresh = λ k. contained [] _ k } }) in
+      let p = row_plain q c rule items.row n v some (record { fillings = r.fillings; is = r.is; rest = record { are = r.rest.are; ends = r.rest.ends; nodes_are = r.rest.nodes_are; fresh = λ k. contained [] _ k } }) in
       let key : key_under ss v ≡ key_values ss r.fillings = ap (key_under ss) r.is ∙ own_keys q.pools ss r.fillings sound.order r.rest.are must_keys in
       record {
         part = p;
@@ -115,7 +116,7 @@ module _ (q : Question) (i c : ℕ) (rule : RuleOfParts q.pools q.limit (site q 
 
   -- an item can be added to fewer items than some list has: it has a key that is not used
   pub items_open : FreeLaw → (counts : List ℕ) → AreCounts q.pools (filter is_key ss) counts → (ts us : List Tree) (n : ℕ) → length ts < 4294967296 → AreParts q.pools (site q c) (items_of ts) → are_apart (alike_at (site q i)) (items_of ts) ≡ true
-      → AreParts q.pools (site q c) (items_of us) → are_apart (alike_at (site q i)) (items_of us) ≡ true → length ts < length us → HasSizeAt q c n → IsOpen q.pools ss (bounds_at q c) 0 (n - 1) (trees_of ts)
+      → AreParts q.pools (site q c) (items_of us) → are_apart (alike_at (site q i)) (items_of us) ≡ true → length ts < length us → HasSizeAt q c n → IsOpen q.pools ss (ending_at q c) nothing (n - 1) (trees_of ts)
   items_open law counts are ts [] n few parts h more other fewer size = absurd (omega (arith, fewer))
   items_open law counts are ts (u ∷ us) n few parts h more other fewer size =
       let r = row_of n size.part (record { part = size.is; nodes_are = size.nodes_are }) in
@@ -130,7 +131,7 @@ module _ (q : Question) (i c : ℕ) (rule : RuleOfParts q.pools q.limit (site q 
       let y = length-map ts (λ t. data_of t) in
       record {
         known = used;
-        rest = record { fillings = r.fillings; are = r.rest.are; within = r.rest.within; nodes_are = r.rest.nodes_are };
+        rest = record { fillings = r.fillings; are = r.rest.are; ends = r.rest.ends; nodes_are = r.rest.nodes_are };
         free = (law q.pools (filter is_key ss) (used_keys ss (trees_of ts)) counts used.tuples used.apart are).1 (omega (arith, a, b, x, y, fewer, rest));
       }
 
@@ -156,7 +157,7 @@ items_from (item d ds) = λ k. item (data_from d k) (items_from ds k)
 module _ (q : Question) (i c : ℕ) (whole : RuleOfParts q.pools q.limit (site q i)) (rule : RuleOfParts q.pools q.limit (site q c)) (sound : HasSoundParts q.pools (site q c)) (items : AreMapItems q.pools (site q i) (site q c)) where
   -- where some list has one item more
   pub item_open : FreeLaw → (counts : List ℕ) → AreCounts q.pools (filter is_key (slots_from q c 0)) counts → (ts : List Tree) (n m : ℕ) → q.limit < 4294967296 → AreFirst q i c (items_of ts) → HasMore q.pools q.limit (site q i) (length ts + 1) m → HasSizeAt q c n
-      → IsOpen q.pools (slots_from q c 0) (bounds_at q c) 0 (n - 1) (trees_of ts)
+      → IsOpen q.pools (slots_from q c 0) (ending_at q c) nothing (n - 1) (trees_of ts)
   item_open law counts are ts n m room first more size =
       let part = elim ((whole.list (site q c) (tree.list more.items) first.item more.fits).0 more.part) as (λ _. IsListPart q.pools q.limit (site q i) (site q c) (tree.list more.items)) [
         | inl null ↦ let no = null.0 in absurd (cc)

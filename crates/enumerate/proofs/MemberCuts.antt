@@ -7,7 +7,7 @@ use Rattle.jtree.specs.View.{data_of, members_of}
 use Rattle.jtree.specs.declared.value.Member.{Member}
 use Rattle.plan.specs.Pools.Pools.{Pools}
 use Rattle.plan.specs.Samples.Sites.{Slot}
-use Rattle.schema.specs.declared.node.Bounds.{Bounds}
+use Rattle.plan.specs.Samples.Sizes.{Before, Ending}
 use Rattle.jtree.specs.Data.{Data}
 use Rattle.enumerate.specs.Internal.Moves.{Begins}
 use Rattle.enumerate.specs.Internal.Rows.{IsGrown, AddsFirst}
@@ -70,6 +70,19 @@ popped_one t old popped one x e d =
 pub member_here : (k : List ℕ) (t : ℕ) (xs : List Member) (x : Member) → Begins k (members_of (drop t xs)) → x ≡ get_or xs t x → drop t xs ≡ x ∷ drop (t + 1) xs
 member_here k t xs x begin is = drop_more xs t x (begins_within k xs t begin) ∙ ap (λ m. m ∷ drop (t + 1) xs) (sym is)
 
+-- the same where a place is counted in other words
+pub at_count : (xs : List Member) (m : Member) {n t : ℕ} → n ≡ t → m ≡ get_or xs n m → m ≡ get_or xs t m
+at_count xs m e h = subst (λ k. m ≡ get_or xs k m) e h
+
+pub begins_at : (k : List ℕ) (xs : List Member) {n t : ℕ} → n ≡ t → Begins k (members_of (drop n xs)) → Begins k (members_of (drop t xs))
+begins_at k xs e h = subst (λ n. Begins k (members_of (drop n xs))) e h
+
+pub cut_at : (xs cut : List Member) {n t : ℕ} → n ≡ t → cut ≡ take n xs → cut ≡ take t xs
+cut_at xs cut e h = subst (λ k. cut ≡ take k xs) e h
+
+pub kept_at : (new old : List Member) {x y : Before} → x ≡ y → take x.count new ≡ take x.count old → take y.count new ≡ take y.count old
+kept_at new old e h = subst (λ (z : Before). take z.count new ≡ take z.count old) e h
+
 -- how many nodes members have, from one on
 pub count_from : (items : List Member) (t : ℕ) (one : Member) → drop t items ≡ one ∷ drop (t + 1) items → members_count (members_of (drop t items)) ≡ node_count (data_of one.tree) + members_count (members_of (drop (t + 1) items))
 count_from items t one is = ap (λ ms. members_count (members_of ms)) is
@@ -101,9 +114,9 @@ cut_off k t old mid cut front x one begin at kept cut_is popped =
 pub front_kept : {X : Type 0} (t : ℕ) (front more new : List X) → new ≡ front ++ more → length front ≡ t → take t new ≡ front
 front_kept t front more new is count = ap (take t) is ∙ take_at front more t count
 
-pub added_kept : (P : Pools) (ss : List Slot) (b : Bounds) (n m t : ℕ) (used : List Data) (front : List Member) (one : Member) (new : List Member) → AddsFirst P ss b n m used (front ++ one ∷ []) new → length front ≡ t → take t new ≡ front
-added_kept P ss b n m t used front one new h count = front_kept t front (one ∷ h.added) new (h.is ∙ append_assoc front (one ∷ []) h.added) count
+pub added_kept : (P : Pools) (ss : List Slot) (end : Ending) (x : Before) (m t : ℕ) (used : List Data) (front : List Member) (one : Member) (new : List Member) → AddsFirst P ss end x m used (front ++ one ∷ []) new → length front ≡ t → take t new ≡ front
+added_kept P ss end x m t used front one new h count = front_kept t front (one ∷ h.added) new (h.is ∙ append_assoc front (one ∷ []) h.added) count
 
-pub grown_kept : (step : Step) (P : Pools) (s : Slot) (ss : List Slot) (b : Bounds) (n m from t : ℕ) (used : List Data) (old new : List Member) → IsGrown step P s ss b n m from used old new → length old ≡ t → take t new ≡ old
-grown_kept Moved P s ss b n m from t used old new h count = front_kept t old (h.one ∷ h.rest.added) new (h.rest.is ∙ append_assoc old (h.one ∷ []) h.rest.added) count
-grown_kept (Last k) P s ss b n m from t used old new h count = ap (take t) h.0 ∙ take_all t old (omega (arith, count))
+pub grown_kept : (step : Step) (P : Pools) (s : Slot) (ss : List Slot) (end : Ending) (x : Before) (m from t : ℕ) (used : List Data) (old new : List Member) → IsGrown step P s ss end x m from used old new → length old ≡ t → take t new ≡ old
+grown_kept Moved P s ss end x m from t used old new h count = front_kept t old (h.one ∷ h.rest.added) new (h.rest.is ∙ append_assoc old (h.one ∷ []) h.rest.added) count
+grown_kept (Last k) P s ss end x m from t used old new h count = ap (take t) h.0 ∙ take_all t old (omega (arith, count))

@@ -12,7 +12,6 @@ use Rattle.jtree.specs.Nodes.{node_count, items_count}
 use Rattle.jtree.specs.Order.{text_cmp}
 use Rattle.jtree.specs.Internal.Lookups.{not_itself}
 use Rattle.jtree.specs.Internal.Rising.{Among, contains}
-use Rattle.schema.specs.declared.node.Bounds.{Bounds}
 use Rattle.plan.specs.Pools.Pools.{Pools}
 use Rattle.plan.specs.Samples.Part.{IsPart}
 use Rattle.plan.specs.Samples.Candidates.{sort_of, IsWidth, HasWidthBy}
@@ -26,12 +25,12 @@ use Rattle.plan.specs.declared.sort.Sort.TheVariants as sort
 use Rattle.plan.specs.Samples.Sites.{item_site, Slot, slots, sites_of}
 use Rattle.plan.specs.Samples.Handed.{IsSlotAt}
 use Rattle.plan.specs.declared.plan.Slot as handed
-use Rattle.plan.specs.Samples.Sizes.{AreFillings, filled_count, CanFill, HasMore}
+use Rattle.plan.specs.Samples.Sizes.{AreFillings, Before, nothing, filled, state_after, Ending, CanFill, HasMore}
 use Rattle.plan.specs.Samples.RuleOfParts.{members_in, RuleOfParts, IsRowPart, AreParts, alike_at, admits_null}
 use Rattle.plan.specs.Samples.Keys.{AreInOrder}
 use Rattle.plan.specs.Samples.Question.{Question}
 use Rattle.enumerate.specs.Internal.Nodes.{weight, site, IsNodeOf}
-use Rattle.enumerate.specs.Internal.Rows.{slots_from, bounds_at, still_used}
+use Rattle.enumerate.specs.Internal.Rows.{slots_from, ending_at, still_used}
 use Rattle.enumerate.specs.Internal.Candidates.{agreeing_if}
 use Rattle.enumerate.specs.Internal.Lists.{AreFirst, IsFreshItem}
 use Rattle.enumerate.proofs.ListLemmas.{few_items, counted, then_nodes, parts_split, apart_fresh, first_more}
@@ -69,48 +68,46 @@ not_in k d ms (t ∷ ss) [] above e = cc
 not_in k d ms (t ∷ ss) (None ∷ gs) above e = not_in k d ms ss gs (λ u a. above u (inr a)) e
 not_in k d ms (t ∷ ss) (Some v ∷ gs) above e = not_itself k t.name (cc) (above t (inl refl))
 
-module _ (P : Pools) (b : Bounds) (t : ℕ) (used : List Data) (ms : Members) where
-  pub ends_is : StandFresh P [] b t used ms → (ms ≡ no_members) × (used ≡ []) × CanFill P [] b t 0
+module _ (P : Pools) (end : Ending) (x : Before) (used : List Data) (ms : Members) where
+  pub ends_is : StandFresh P [] end x used ms → (ms ≡ no_members) × (used ≡ []) × CanFill P [] end x 0
   ends_is h = go h.fillings h.are h.parts h.ends h.fresh where
-    go : (gs : List (Option Data)) → ms ≡ members_in [] gs → AreFillings P [] gs → CanFill P [] b (t + filled_count gs) 0 → still_left [] gs used ≡ [] → (ms ≡ no_members) × (used ≡ []) × CanFill P [] b t 0
-    go [] are parts ends fresh = (are, fresh, subst (λ n. CanFill P [] b n 0) (let e : t + 0 ≡ t = omega arith in e) ends)
+    go : (gs : List (Option Data)) → ms ≡ members_in [] gs → AreFillings P [] gs → CanFill P [] end (state_after [] gs x) 0 → still_left [] gs used ≡ [] → (ms ≡ no_members) × (used ≡ []) × CanFill P [] end x 0
+    go [] are parts ends fresh = (are, fresh, ends)
     go (g ∷ gs) are parts ends fresh = absurd parts
 
-  pub ends_from : ms ≡ no_members → used ≡ [] → CanFill P [] b t 0 → StandFresh P [] b t used ms
-  ends_from none nobody ends = record { fillings = []; are = none; parts = tt; ends = subst (λ n. CanFill P [] b n 0) (let e : t ≡ t + 0 = omega arith in e) ends; fresh = nobody }
+  pub ends_from : ms ≡ no_members → used ≡ [] → CanFill P [] end x 0 → StandFresh P [] end x used ms
+  ends_from none nobody ends = record { fillings = []; are = none; parts = tt; ends = ends; fresh = nobody }
 
   module _ (s : Slot) (ss : List Slot) where
     -- the first slot is left out
-    pub absent_is : ((v : Data) (ns : Members) → ms ≢ member s.name v ns) → StandFresh P (s ∷ ss) b t used ms → (s.must ≡ false) × StandFresh P ss b t used ms
+    pub absent_is : ((v : Data) (ns : Members) → ms ≢ member s.name v ns) → StandFresh P (s ∷ ss) end x used ms → (s.must ≡ false) × StandFresh P ss end x used ms
     absent_is other h = go h.fillings h.are h.parts h.ends h.fresh where
-      go : (gs : List (Option Data)) → ms ≡ members_in (s ∷ ss) gs → AreFillings P (s ∷ ss) gs → CanFill P [] b (t + filled_count gs) 0 → still_left (s ∷ ss) gs used ≡ [] → (s.must ≡ false) × StandFresh P ss b t used ms
+      go : (gs : List (Option Data)) → ms ≡ members_in (s ∷ ss) gs → AreFillings P (s ∷ ss) gs → CanFill P [] end (state_after (s ∷ ss) gs x) 0 → still_left (s ∷ ss) gs used ≡ [] → (s.must ≡ false) × StandFresh P ss end x used ms
       go [] are parts ends fresh = absurd parts
       go (None ∷ gs) are parts ends fresh = (parts.0, record { fillings = gs; are = are; parts = parts.1; ends = ends; fresh = fresh })
       go (Some v ∷ gs) are parts ends fresh = absurd (other v (members_in ss gs) are)
 
-    pub absent_from : s.must ≡ false → StandFresh P ss b t used ms → StandFresh P (s ∷ ss) b t used ms
+    pub absent_from : s.must ≡ false → StandFresh P ss end x used ms → StandFresh P (s ∷ ss) end x used ms
     absent_from may h = record { fillings = None ∷ h.fillings; are = h.are; parts = (may, h.parts); ends = h.ends; fresh = h.fresh }
 
     -- it is filled
     module _ (d : Data) (rest : Members) (first : ms ≡ member s.name d rest) where
-      pub filled_is : AreInOrder (s ∷ ss) → StandFresh P (s ∷ ss) b t used ms → IsPart P s.site d × StandFresh P ss b (t + 1) (still_used s d used) rest
+      pub filled_is : AreInOrder (s ∷ ss) → StandFresh P (s ∷ ss) end x used ms → IsPart P s.site d × StandFresh P ss end (filled s.bit x) (still_used s d used) rest
       filled_is order h = go h.fillings h.are h.parts h.ends h.fresh where
-        go : (gs : List (Option Data)) → ms ≡ members_in (s ∷ ss) gs → AreFillings P (s ∷ ss) gs → CanFill P [] b (t + filled_count gs) 0 → still_left (s ∷ ss) gs used ≡ [] → IsPart P s.site d × StandFresh P ss b (t + 1) (still_used s d used) rest
+        go : (gs : List (Option Data)) → ms ≡ members_in (s ∷ ss) gs → AreFillings P (s ∷ ss) gs → CanFill P [] end (state_after (s ∷ ss) gs x) 0 → still_left (s ∷ ss) gs used ≡ [] → IsPart P s.site d × StandFresh P ss end (filled s.bit x) (still_used s d used) rest
         go [] are parts ends fresh = absurd parts
         go (None ∷ gs) are parts ends fresh = absurd (not_in s.name d rest ss gs (λ u a. order.0 u (contains ss u a)) (sym first ∙ are))
         go (Some v ∷ gs) are parts ends fresh =
             let same : member s.name d rest ≡ member s.name v (members_in ss gs) = sym first ∙ are in
             let value : v ≡ d = cc in
-            let behind : rest ≡ members_in ss gs = cc in
-            let count : t + (1 + filled_count gs) ≡ t + 1 + filled_count gs = omega arith in (
+            let behind : rest ≡ members_in ss gs = cc in (
               subst (IsPart P s.site) value parts.0,
-              record { fillings = gs; are = behind; parts = parts.1; ends = subst (λ n. CanFill P [] b n 0) count ends; fresh = subst (λ x. still_left ss gs (still_used s x used) ≡ []) value fresh },
+              record { fillings = gs; are = behind; parts = parts.1; ends = ends; fresh = subst (λ w. still_left ss gs (still_used s w used) ≡ []) value fresh },
             )
 
-      pub filled_from : IsPart P s.site d → StandFresh P ss b (t + 1) (still_used s d used) rest → StandFresh P (s ∷ ss) b t used ms
+      pub filled_from : IsPart P s.site d → StandFresh P ss end (filled s.bit x) (still_used s d used) rest → StandFresh P (s ∷ ss) end x used ms
       filled_from part h =
-          let count : t + 1 + filled_count h.fillings ≡ t + (1 + filled_count h.fillings) = omega arith in
-          record { fillings = Some d ∷ h.fillings; are = first ∙ ap (member s.name d) h.are; parts = (part, h.parts); ends = subst (λ n. CanFill P [] b n 0) count h.ends; fresh = h.fresh }
+          record { fillings = Some d ∷ h.fillings; are = first ∙ ap (member s.name d) h.are; parts = (part, h.parts); ends = h.ends; fresh = h.fresh }
 
 -- ---- answers
 
@@ -127,28 +124,28 @@ module _ (q : Question) (i place : ℕ) (t : handed.Slot) (is : IsSlotAt (sites_
   pub one_slot_less : length (slots_from q i place) ≡ 1 + length (slots_from q i (place + 1))
   one_slot_less = let e : length (slots_from q i place) ≡ length (is.slot ∷ slots_from q i (place + 1)) = ap (λ ss. length ss) slots_are in omega (arith, e)
 
-  module _ (b : Bounds) (n : ℕ) (used : List Data) (ms : Members) where
-    pub absent_here : ((v : Data) (ns : Members) → ms ≢ member t.name.now v ns) → StandFresh q.pools (slots_from q i place) b n used ms → (t.must ≡ false) × StandFresh q.pools (slots_from q i (place + 1)) b n used ms
+  module _ (end : Ending) (x : Before) (used : List Data) (ms : Members) where
+    pub absent_here : ((v : Data) (ns : Members) → ms ≢ member t.name.now v ns) → StandFresh q.pools (slots_from q i place) end x used ms → (t.must ≡ false) × StandFresh q.pools (slots_from q i (place + 1)) end x used ms
     absent_here other h =
-        let k = absent_is q.pools b n used ms is.slot (slots_from q i (place + 1)) (λ v ns e. other v ns (e ∙ ap (λ k. member k v ns) (sym is.name))) (subst (λ ss. StandFresh q.pools ss b n used ms) slots_are h) in
+        let k = absent_is q.pools end x used ms is.slot (slots_from q i (place + 1)) (λ v ns e. other v ns (e ∙ ap (λ k. member k v ns) (sym is.name))) (subst (λ ss. StandFresh q.pools ss end x used ms) slots_are h) in
         (is.must ∙ k.0, k.1)
 
-    pub absent_there : t.must ≡ false → StandFresh q.pools (slots_from q i (place + 1)) b n used ms → StandFresh q.pools (slots_from q i place) b n used ms
-    absent_there may h = subst (λ ss. StandFresh q.pools ss b n used ms) (sym slots_are) (absent_from q.pools b n used ms is.slot (slots_from q i (place + 1)) (sym is.must ∙ may) h)
+    pub absent_there : t.must ≡ false → StandFresh q.pools (slots_from q i (place + 1)) end x used ms → StandFresh q.pools (slots_from q i place) end x used ms
+    absent_there may h = subst (λ ss. StandFresh q.pools ss end x used ms) (sym slots_are) (absent_from q.pools end x used ms is.slot (slots_from q i (place + 1)) (sym is.must ∙ may) h)
 
     module _ (d : Data) (rest : Members) (first : ms ≡ member t.name.now d rest) where
       named : ms ≡ member is.slot.name d rest
       named = first ∙ ap (λ k. member k d rest) is.name
 
-      pub filled_here : AreInOrder (slots q.pools (site q i)) → StandFresh q.pools (slots_from q i place) b n used ms
-          → IsPart q.pools (site q t.node) d × StandFresh q.pools (slots_from q i (place + 1)) b (n + 1) (agreeing_if t.key t.name.now d used) rest
+      pub filled_here : AreInOrder (slots q.pools (site q i)) → StandFresh q.pools (slots_from q i place) end x used ms
+          → IsPart q.pools (site q t.node) d × StandFresh q.pools (slots_from q i (place + 1)) end (filled t.bit x) (agreeing_if t.key t.name.now d used) rest
       filled_here order h =
-          let k = filled_is q.pools b n used ms is.slot (slots_from q i (place + 1)) d rest named (subst AreInOrder slots_are (order_from place (slots q.pools (site q i)) order)) (subst (λ ss. StandFresh q.pools ss b n used ms) slots_are h) in
-          (subst (λ s. IsPart q.pools s d) (sym is.node) k.0, rw (is.key, is.name) k.1)
+          let k = filled_is q.pools end x used ms is.slot (slots_from q i (place + 1)) d rest named (subst AreInOrder slots_are (order_from place (slots q.pools (site q i)) order)) (subst (λ ss. StandFresh q.pools ss end x used ms) slots_are h) in
+          (subst (λ s. IsPart q.pools s d) (sym is.node) k.0, rw (is.key, is.name, is.bit) k.1)
 
-      pub filled_there : IsPart q.pools (site q t.node) d → StandFresh q.pools (slots_from q i (place + 1)) b (n + 1) (agreeing_if t.key t.name.now d used) rest → StandFresh q.pools (slots_from q i place) b n used ms
-      filled_there part h = subst (λ ss. StandFresh q.pools ss b n used ms) (sym slots_are)
-          (filled_from q.pools b n used ms is.slot (slots_from q i (place + 1)) d rest named (subst (λ s. IsPart q.pools s d) is.node part) (rw (← is.key, ← is.name) h))
+      pub filled_there : IsPart q.pools (site q t.node) d → StandFresh q.pools (slots_from q i (place + 1)) end (filled t.bit x) (agreeing_if t.key t.name.now d used) rest → StandFresh q.pools (slots_from q i place) end x used ms
+      filled_there part h = subst (λ ss. StandFresh q.pools ss end x used ms) (sym slots_are)
+          (filled_from q.pools end x used ms is.slot (slots_from q i (place + 1)) d rest named (subst (λ s. IsPart q.pools s d) is.node part) (rw (← is.key, ← is.name, ← is.bit) h))
 
 -- ---- sorts
 
@@ -173,16 +170,14 @@ module _ (q : Question) (i : ℕ) (used : List Data) (v : Data) where
   row_of r =
       let st = r.1.1 in
       let ss = slots q.pools (site q i) in
-      let count : 0 + filled_count st.fillings ≡ filled_count st.fillings = omega arith in
-      let end : [] ≡ drop (length ss) ss = sym (drop_all (length ss) ss (omega arith)) in
-      (record { fillings = st.fillings; is = r.1.0 ∙ ap object st.are; are = st.parts; ends = subst (λ n. CanFill q.pools (drop (length ss) ss) (bounds_at q i) n 0) count (subst (λ rs. CanFill q.pools rs (bounds_at q i) (0 + filled_count st.fillings) 0) end st.ends) }, st.fresh)
+      let last : [] ≡ drop (length ss) ss = sym (drop_all (length ss) ss (omega arith)) in
+      (record { fillings = st.fillings; is = r.1.0 ∙ ap object st.are; are = st.parts; ends = subst (λ rs. CanFill q.pools rs (ending_at q i) (state_after ss st.fillings nothing) 0) last st.ends }, st.fresh)
 
   pub row_from : (h : IsRowPart q.pools (site q i) v) → still_left (slots q.pools (site q i)) h.fillings used ≡ [] → IsFreshRow q i used v
   row_from h fresh =
       let ss = slots q.pools (site q i) in
-      let count : filled_count h.fillings ≡ 0 + filled_count h.fillings = omega arith in
-      let end : drop (length ss) ss ≡ [] = drop_all (length ss) ss (omega arith) in
-      (members_in ss h.fillings, (h.is, record { fillings = h.fillings; are = refl; parts = h.are; ends = subst (λ n. CanFill q.pools [] (bounds_at q i) n 0) count (subst (λ rs. CanFill q.pools rs (bounds_at q i) (filled_count h.fillings) 0) end h.ends); fresh = fresh }))
+      let last : drop (length ss) ss ≡ [] = drop_all (length ss) ss (omega arith) in
+      (members_in ss h.fillings, (h.is, record { fillings = h.fillings; are = refl; parts = h.are; ends = subst (λ rs. CanFill q.pools rs (ending_at q i) (state_after ss h.fillings nothing) 0) last h.ends; fresh = fresh }))
 
 module _ (q : Question) (i : ℕ) (rule : RuleOfParts q.pools q.limit (site q i)) (v : Data) where
   pub row_part : sort_of (site q i) ≡ sort.Row → IsFreshRow q i [] v → IsPart q.pools (site q i) v

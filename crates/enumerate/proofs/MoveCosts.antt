@@ -1,8 +1,12 @@
 -- What moves cost, step by step.
-use Rattle.std.specs.Prelude.{◌≡◌, ℕ, ◌+◌, ◌-◌, ◌*◌, ◌≤◌, length}
-use Rattle.std.proofs.Common.{ap, ◌∙◌, arith}
+use Rattle.std.specs.Prelude.{◌≡◌, ℕ, ◌+◌, ◌-◌, ◌*◌, ◌≤◌, List, drop, length}
+use Rattle.std.proofs.Common.{ap, subst, ◌∙◌, arith}
 use Rattle.std.proofs.Math.Nat.{mul-add, mul-le-mul_left}
+use Rattle.jtree.specs.Nodes.{members_count}
+use Rattle.jtree.specs.View.{members_of}
+use Rattle.jtree.specs.declared.value.Member.{Member}
 use Rattle.plan.specs.Samples.Candidates.{sort_of}
+use Rattle.plan.specs.Samples.Sizes.{Before}
 use Rattle.plan.specs.Samples.Question.{Question}
 use Rattle.plan.specs.Samples.Steps.{counted}
 use Rattle.plan.specs.declared.sort.Sort.TheVariants as sort
@@ -109,6 +113,14 @@ module _ (q : Question) (i place : ℕ) where
 
       pub twice_grown : (end room : ℕ) → m ≡ room → Costs q mid new a → CostsSlots q i place new end room → CostsTwice q i place old end m
       twice_grown end room same h k = λ w wide. omega (arith, split_cost w a n m both, ap (λ z. (w + 1) * z) same, behind w wide, h w wide, k w wide)
+
+-- ---- what stands before it said in other words
+
+pub twice_at : (q : Question) (i place old new : ℕ) (members : List Member) {x y : Before} → x ≡ y → CostsTwice q i place old new (members_count (members_of (drop x.count members))) → CostsTwice q i place old new (members_count (members_of (drop y.count members)))
+twice_at q i place old new members e h = subst (λ (z : Before). CostsTwice q i place old new (members_count (members_of (drop z.count members)))) e h
+
+pub last_at : (step : Step) (q : Question) (i place old new : ℕ) (members : List Member) {x y : Before} → x ≡ y → CostsLastSlots step q i place old new (members_count (members_of (drop x.count members))) → CostsLastSlots step q i place old new (members_count (members_of (drop y.count members)))
+last_at step q i place old new members e h = subst (λ (z : Before). CostsLastSlots step q i place old new (members_count (members_of (drop z.count members)))) e h
 
 -- ---- where there may be no next one
 

@@ -8,14 +8,14 @@ use Rattle.jtree.specs.Order.{tree_cmp}
 use Rattle.jtree.specs.View.{data_of}
 use Rattle.jtree.specs.Internal.Rising.{contained}
 use Rattle.plan.specs.Samples.Part.{IsPart}
-use Rattle.plan.specs.Samples.Sizes.{CanFill, HasMore}
+use Rattle.plan.specs.Samples.Sizes.{nothing, CanFill, HasMore}
 use Rattle.plan.specs.Samples.Candidates.{sort_of}
 use Rattle.plan.specs.Samples.RuleOfParts.{members_in, RuleOfParts}
 use Rattle.plan.specs.Samples.Question.{Question}
 use Rattle.plan.specs.declared.sort.Sort.TheVariants as sort
 use Rattle.enumerate.specs.Least.{IsNext}
 use Rattle.enumerate.specs.Internal.Nodes.{site, IsPartOf}
-use Rattle.enumerate.specs.Internal.Rows.{slots_from, bounds_at, IsRow}
+use Rattle.enumerate.specs.Internal.Rows.{slots_from, ending_at, IsRow}
 use Rattle.enumerate.specs.Internal.Moves.{IsMoved}
 use Rattle.enumerate.specs.declared.moved.Moved.{Moved}
 use Rattle.enumerate.specs.declared.moved.Moved.TheVariants.{To, Last}
@@ -55,16 +55,16 @@ module _ (q : Question) (i : ℕ) (rule : RuleOfParts q.pools q.limit (site q i)
   empty_is : (u : Data) → IsRow q i 0 [] u → u ≡ object no_members
   empty_is u r = r.is ∙ ap object (no_members_left (members_in (slots_from q i 0) r.fillings) (filled_count_nodes q.pools (slots_from q i 0) r.fillings r.rest.are ∙ r.rest.nodes_are))
 
-  pub empty_row : CanFill q.pools (slots_from q i 0) (bounds_at q i) 0 0 → IsNext tree_cmp (IsPartOf q i 1) null (Some (object no_members))
+  pub empty_row : CanFill q.pools (slots_from q i 0) (ending_at q i) nothing 0 → IsNext tree_cmp (IsPartOf q i 1) null (Some (object no_members))
   empty_row h =
-      let r : IsRow q i 0 [] (object (members_in (slots_from q i 0) h.fillings)) = record { fillings = h.fillings; is = refl; rest = record { are = h.are; within = h.within; nodes_are = h.nodes_are; fresh = λ c. contained [] _ c } } in
+      let r : IsRow q i 0 [] (object (members_in (slots_from q i 0) h.fillings)) = record { fillings = h.fillings; is = refl; rest = record { are = h.are; ends = h.ends; nodes_are = h.nodes_are; fresh = λ c. contained [] _ c } } in
       record {
         is = (row_plain q i rule is_row 1 (object no_members) (omega arith) (subst (IsRow q i 0 []) (empty_is _ r) r), refl);
         least = λ u p less. not_itself tree_cmp tree_order u (object no_members) (empty_is u (row_past 1 u p.0 (past_null u p.1))) less;
       }
 
-  pub no_row : (CanFill q.pools (slots_from q i 0) (bounds_at q i) 0 0 → ⊥) → IsNext tree_cmp (IsPartOf q i 1) null None
-  no_row none u p less = let r = row_past 1 u p (past_null u less) in none (record { fillings = r.fillings; are = r.rest.are; within = r.rest.within; nodes_are = r.rest.nodes_are })
+  pub no_row : (CanFill q.pools (slots_from q i 0) (ending_at q i) nothing 0 → ⊥) → IsNext tree_cmp (IsPartOf q i 1) null None
+  no_row none u p less = let r = row_past 1 u p (past_null u less) in none (record { fillings = r.fillings; are = r.rest.are; ends = r.rest.ends; nodes_are = r.rest.nodes_are })
 
 module _ (q : Question) (i : ℕ) (rule : RuleOfParts q.pools q.limit (site q i)) (is_list : sort_of (site q i) ≡ sort.List) (some : 1 ≤ q.limit) where
   list_past : (u : Data) → IsPartOf q i 1 u → tree_cmp null u ≡ Less → u ≡ list no_items

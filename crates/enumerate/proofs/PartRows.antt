@@ -1,6 +1,6 @@
 -- The parts of rows, where no row is used; and null, the first tree of one node.
-use Rattle.std.specs.Prelude.{◌≡◌, ℕ, suc, ◌+◌, ◌-◌, ◌*◌, ◌≤◌, ◌<◌, List, true, false, Option, drop, Contains}
-use Rattle.std.proofs.Common.{refl, ap, sym, ◌∙◌, subst, inl, inr, arith, [], ◌∷◌, length}
+use Rattle.std.specs.Prelude.{◌≡◌, ℕ, suc, ◌+◌, ◌-◌, ◌*◌, ◌≤◌, ◌<◌, List, true, false, drop, Contains}
+use Rattle.std.proofs.Common.{refl, ap, sym, ◌∙◌, subst, inl, inr, arith, [], length}
 use Rattle.std.proofs.Math.Seq.{drop-length}
 use Rattle.std.specs.Cmp.{nat_cmp_is}
 use Rattle.std.specs.Ordering.{nat_cmp}
@@ -9,11 +9,9 @@ use Rattle.jtree.specs.Data.{Data, null, boolean, integer, text, list, object}
 use Rattle.jtree.specs.Nodes.{node_count, nodes}
 use Rattle.jtree.specs.Order.{kind, tree_cmp}
 use Rattle.jtree.specs.Internal.Rising.{contained}
-use Rattle.schema.specs.declared.node.Bounds.{Bounds}
-use Rattle.stored.specs.Objects.StoredByParts.{IsWithin}
 use Rattle.plan.specs.Pools.Pools.{Pools}
 use Rattle.plan.specs.Samples.Sites.{Slot, slots}
-use Rattle.plan.specs.Samples.Sizes.{AreFillings, CanFill, filled_count, filled_nodes}
+use Rattle.plan.specs.Samples.Sizes.{CanFill, filled_nodes, Before, nothing, state_after, Ending, MayEnd}
 use Rattle.plan.specs.Samples.Candidates.{sort_of}
 use Rattle.plan.specs.Samples.RuleOfParts.{RuleOfParts, admits_null}
 use Rattle.plan.specs.Samples.Keys.{AreKeySlots}
@@ -21,7 +19,7 @@ use Rattle.plan.specs.Samples.Question.{Question}
 use Rattle.plan.specs.declared.sort.Sort.TheVariants as sort
 use Rattle.enumerate.specs.Least.{IsLeast}
 use Rattle.enumerate.specs.Internal.Nodes.{site, IsPartOf, HasSizeAt, weight}
-use Rattle.enumerate.specs.Internal.Rows.{slots_from, bounds_at, IsOpen, IsRow}
+use Rattle.enumerate.specs.Internal.Rows.{slots_from, ending_at, IsOpen, IsRow}
 use Rattle.enumerate.proofs.LeastLemmas.{tree_order}
 use Rattle.enumerate.proofs.RowLemmas.{known}
 use Rattle.enumerate.proofs.RowOrder.{filled_count_nodes}
@@ -47,15 +45,11 @@ null_first (object ms) n less = later_kind (object ms) n (omega arith) less
 
 -- ---- the end of a row
 
-nothing_within : (P : Pools) (b : Bounds) (t : ℕ) (gs : List (Option Data)) → AreFillings P [] gs → IsWithin b (t + filled_count gs) → IsWithin b t
-nothing_within P b t [] are h = let e : t + 0 ≡ t = omega arith in subst (IsWithin b) e h
-nothing_within P b t (g ∷ gs) are h = absurd are
+can_end : (P : Pools) (ss : List Slot) (end : Ending) (x : Before) → CanFill P (drop (length ss) ss) end x 0 → MayEnd end x
+can_end P ss end x h = let can = subst (λ us. CanFill P us end x 0) (drop-length ss) h in can.ends
 
-ends_within : (P : Pools) (ss : List Slot) (b : Bounds) (t : ℕ) → CanFill P (drop (length ss) ss) b t 0 → IsWithin b t
-ends_within P ss b t h = let can = subst (λ us. CanFill P us b t 0) (drop-length ss) h in nothing_within P b t can.fillings can.are can.within
-
-within_ends : (P : Pools) (ss : List Slot) (b : Bounds) (t : ℕ) → IsWithin b t → CanFill P (drop (length ss) ss) b t 0
-within_ends P ss b t h = let e : t ≡ t + 0 = omega arith in subst (λ us. CanFill P us b t 0) (sym (drop-length ss)) (record { fillings = []; are = tt; within = subst (IsWithin b) e h; nodes_are = refl })
+ends_so : (P : Pools) (ss : List Slot) (end : Ending) (x : Before) → MayEnd end x → CanFill P (drop (length ss) ss) end x 0
+ends_so P ss end x h = subst (λ us. CanFill P us end x 0) (sym (drop-length ss)) (record { fillings = []; are = tt; ends = h; nodes_are = refl })
 
 no_used : (ss : List Slot) (k : List Data) → Contains {X = List Data} [] k → ⊥
 no_used ss k c = contained [] k c
@@ -67,11 +61,10 @@ module _ (q : Question) (i : ℕ) (rule : RuleOfParts q.pools q.limit (site q i)
     | inr r ↦
         let count = filled_count_nodes q.pools (slots q.pools (site q i)) r.fillings r.are in
         let nodes : 1 + filled_nodes r.fillings ≡ n = ap (λ k. 1 + k) (sym count) ∙ sym (ap node_count r.is) ∙ p.nodes_are in
-        let within = ends_within q.pools (slots q.pools (site q i)) (bounds_at q i) (filled_count r.fillings) r.ends in
         record {
           fillings = r.fillings;
           is = r.is;
-          rest = record { are = r.are; within = let e : filled_count r.fillings ≡ 0 + filled_count r.fillings = omega arith in subst (IsWithin (bounds_at q i)) e within; nodes_are = omega (arith, nodes); fresh = no_used (slots_from q i 0) _ };
+          rest = record { are = r.are; ends = can_end q.pools (slots q.pools (site q i)) (ending_at q i) (state_after (slots q.pools (site q i)) r.fillings nothing) r.ends; nodes_are = omega (arith, nodes); fresh = no_used (slots_from q i 0) _ };
         }
   ]
 
@@ -84,18 +77,18 @@ module _ (q : Question) (i : ℕ) (rule : RuleOfParts q.pools q.limit (site q i)
       let nodes = r.rest.nodes_are in
       let whole : 1 + filled_nodes r.fillings ≡ n = omega (arith, nodes, some) in
       record {
-        part = (rule.row v row).1 (inr (record { fillings = r.fillings; is = r.is; are = r.rest.are; ends = within_ends q.pools (slots q.pools (site q i)) (bounds_at q i) (filled_count r.fillings) (let e : 0 + filled_count r.fillings ≡ filled_count r.fillings = omega arith in subst (IsWithin (bounds_at q i)) e r.rest.within) }));
+        part = (rule.row v row).1 (inr (record { fillings = r.fillings; is = r.is; are = r.rest.are; ends = ends_so q.pools (slots q.pools (site q i)) (ending_at q i) (state_after (slots q.pools (site q i)) r.fillings nothing) r.rest.ends }));
         nodes_are = ap node_count r.is ∙ ap (λ k. 1 + k) count ∙ whole;
       }
 
   pub plain_least : (n : ℕ) (v : Data) → 1 ≤ n → (n ≡ 1 → admits_null (site q i) ≡ false) → IsLeast tree_cmp (IsRow q i (n - 1) []) v → IsLeast tree_cmp (IsPartOf q i n) v
   plain_least n v some never h = record { is = row_plain n v some h.is; least = λ u p. h.least u (plain_row n u p never) }
 
-  pub plain_open : (n : ℕ) → AreKeySlots q.pools (slots_from q i 0) → (n ≡ 1 → admits_null (site q i) ≡ false) → HasSizeAt q i n → IsOpen q.pools (slots_from q i 0) (bounds_at q i) 0 (n - 1) []
+  pub plain_open : (n : ℕ) → AreKeySlots q.pools (slots_from q i 0) → (n ≡ 1 → admits_null (site q i) ≡ false) → HasSizeAt q i n → IsOpen q.pools (slots_from q i 0) (ending_at q i) nothing (n - 1) []
   plain_open n keys never h =
       let r = plain_row n h.part (record { part = h.is; nodes_are = h.nodes_are }) never in
       record {
         known = record { few = omega arith; tuples = λ k d lt. absurd (omega (arith, lt)); apart = λ a b d lt within. absurd (omega (arith, lt, within)) };
-        rest = record { fillings = r.fillings; are = r.rest.are; within = r.rest.within; nodes_are = r.rest.nodes_are };
+        rest = record { fillings = r.fillings; are = r.rest.are; ends = r.rest.ends; nodes_are = r.rest.nodes_are };
         free = (_, (known q.pools (slots_from q i 0) r.fillings keys r.rest.are, no_used (slots_from q i 0) _));
       }

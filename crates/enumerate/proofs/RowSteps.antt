@@ -1,5 +1,5 @@
 -- What the steps of filling a row make of its slots.
-use Rattle.std.specs.Prelude.{◌≡◌, ◌≢◌, ◌↔◌, ℕ, zero, suc, ◌+◌, ◌-◌, ◌≤◌, ◌<◌, List, true, false, Option, Some, None, filter, drop, All, AllPairs, Contains}
+use Rattle.std.specs.Prelude.{◌≡◌, ◌≢◌, ◌↔◌, ℕ, zero, suc, ◌+◌, ◌-◌, ◌≤◌, ◌<◌, List, true, false, Option, Some, None, IfSome, filter, drop, All, AllPairs, Contains}
 use Rattle.std.proofs.Common.{refl, ap, sym, ◌∙◌, subst, arith, [], ◌∷◌, length, append-nil}
 use Rattle.std.proofs.Math.ListN.{drop_of_length-le}
 use Rattle.std.proofs.Math.Seq.{drop-cons}
@@ -12,13 +12,11 @@ use Rattle.jtree.specs.Nodes.{node_count, most_nodes}
 use Rattle.jtree.specs.Order.{tree_cmp}
 use Rattle.jtree.specs.View.{data_of, members_of}
 use Rattle.jtree.specs.declared.value.Member.{Member}
-use Rattle.schema.specs.declared.node.Bounds.{Bounds}
-use Rattle.stored.specs.Objects.StoredByParts.{IsWithin}
 use Rattle.plan.specs.Pools.Pools.{Pools}
 use Rattle.plan.specs.Sets.{IsEmptyFrom}
 use Rattle.plan.specs.Samples.Part.{IsPart}
 use Rattle.plan.specs.Samples.Sites.{Slot, slots, sites_of}
-use Rattle.plan.specs.Samples.Sizes.{AreFillings, CanFill, HasSize, filled_nodes, filled_count}
+use Rattle.plan.specs.Samples.Sizes.{AreFillings, CanFill, HasSize, filled_nodes, Before, filled, state_after, Ending, MayEnd}
 use Rattle.plan.specs.Samples.RuleOfParts.{members_in}
 use Rattle.plan.specs.Samples.NoDeadEnd.{is_key, IsTuple, AreCounts, product, HasFree}
 use Rattle.plan.specs.Samples.Keys.{IsKeySlot, AreKeySlots, HasTuples, HasSoundParts, key_under}
@@ -32,15 +30,15 @@ use Rattle.plan.specs.declared.plan.Slot as handed
 use Rattle.enumerate.specs.Least.{IsLeast}
 use Rattle.enumerate.specs.Internal.Nodes.{site, IsPartOf}
 use Rattle.enumerate.specs.Internal.Candidates.{agreeing, IsFreeKey}
-use Rattle.enumerate.specs.Internal.Rows.{fill_cmp, slots_from, slot_in, bounds_at, IsSlotOf, IsGrown, used_keys, IsUnused, IsRest, AreUsed, IsOpen, AddsFirst, still_used, IsValue, FitsSlot, Grows}
+use Rattle.enumerate.specs.Internal.Rows.{fill_cmp, slots_from, slot_in, ending_at, IsSlotOf, IsGrown, used_keys, IsUnused, IsRest, AreUsed, IsOpen, AddsFirst, still_used, IsValue, FitsSlot, Grows}
 use Rattle.enumerate.proofs.LeastLemmas.{least_same}
 use Rattle.enumerate.proofs.RowLemmas.{still_used_other, keys_first, still_used_key, used_out, used_behind, free_out, key_here, keys_behind, no_key, unused_first, left_out_first, grown_first}
 
 -- ---- the slot at a place
 
-pub slot_of : (q : Question) (i place : ℕ) (t : handed.Slot) → IsSlotAt (sites_of q.root) (slots q.pools (site q i)) place t → t.node < i → HasTuples q.pools (slots_from q i (place + 1)) t.later → place < 18446744073709551615
+pub slot_of : (q : Question) (i place : ℕ) (t : handed.Slot) → IsSlotAt (sites_of q.root) (slots q.pools (site q i)) place t → t.node < i → HasTuples q.pools (slots_from q i (place + 1)) t.later → IfSome t.bit (λ j. j < 4) → place < 18446744073709551615
     → IsSlotOf q i place t
-slot_of q i place t at below later followed =
+slot_of q i place t at below later few followed =
     let ss = slots q.pools (site q i) in
     let d = slot_in q i place in
     let is : d ≡ at.slot = get_or_from_slice_get ss place at.slot _ at.is in
@@ -51,10 +49,16 @@ slot_of q i place t at below later followed =
       node = at.node ∙ ap (λ s. Slot.site s) (sym is);
       must = at.must ∙ ap (λ s. Slot.must s) (sym is);
       key = at.key ∙ ap (λ s. Slot.key s) (sym is);
+      bit = at.bit ∙ ap (λ s. Slot.bit s) (sym is);
+      few = few;
       below = below;
       later = later;
       followed = followed;
     }
+
+-- what stands behind a slot that was filled as it was handed out
+pub filled_at : (q : Question) (i place : ℕ) (t : handed.Slot) (x y : Before) → IsSlotOf q i place t → y ≡ filled t.bit x → y ≡ filled (slot_in q i place).bit x
+filled_at q i place t x y slot is = is ∙ ap (λ k. filled k x) slot.bit
 
 pub no_slots : (q : Question) (i place : ℕ) → length (slots q.pools (site q i)) ≤ place → slots_from q i place ≡ []
 no_slots q i place past = drop_of_length-le (slots q.pools (site q i)) past
@@ -66,32 +70,32 @@ keys_from P (s ∷ ss) (suc place) keys = keys_from P ss place (keys_behind P s 
 
 -- ---- the first members
 
-only_nothing : (P : Pools) (b : Bounds) (t m : ℕ) (used : List Data) (gs : List (Option Data)) → IsRest P [] b t m used gs → fill_cmp gs [] ≡ Less → ⊥
-only_nothing P b t m used [] h less = cc
-only_nothing P b t m used (g ∷ gs) h less = h.are
+only_nothing : (P : Pools) (end : Ending) (x : Before) (m : ℕ) (used : List Data) (gs : List (Option Data)) → IsRest P [] end x m used gs → fill_cmp gs [] ≡ Less → ⊥
+only_nothing P end x m used [] h less = cc
+only_nothing P end x m used (g ∷ gs) h less = h.are
 
-nothing_rest : (P : Pools) (b : Bounds) (t m : ℕ) (used : List Data) (gs : List (Option Data)) (k : List Data) → AreFillings P [] gs → IsWithin b (t + filled_count gs) → filled_nodes gs ≡ m → IsTuple P [] k
-    → (Contains (used_keys [] used) k → ⊥) → IsRest P [] b t m used []
-nothing_rest P b t m used (g ∷ gs) k are within nodes is free = absurd are
-nothing_rest P b t m used [] (x ∷ k) are within nodes is free = absurd is
-nothing_rest P b t m used [] [] are within nodes is free = record { are = tt; within = within; nodes_are = nodes; fresh = free }
+nothing_rest : (P : Pools) (end : Ending) (x : Before) (m : ℕ) (used : List Data) (gs : List (Option Data)) (k : List Data) → AreFillings P [] gs → MayEnd end (state_after [] gs x) → filled_nodes gs ≡ m → IsTuple P [] k
+    → (Contains (used_keys [] used) k → ⊥) → IsRest P [] end x m used []
+nothing_rest P end x m used (g ∷ gs) k are ends nodes is free = absurd are
+nothing_rest P end x m used [] (v ∷ k) are ends nodes is free = absurd is
+nothing_rest P end x m used [] [] are ends nodes is free = record { are = tt; ends = ends; nodes_are = nodes; fresh = free }
 
-pub adds_none : (P : Pools) (b : Bounds) (t m : ℕ) (used : List Data) (old : List Member) → IsOpen P [] b t m used → AddsFirst P [] b t m used old old
-adds_none P b t m used old h = record {
+pub adds_none : (P : Pools) (end : Ending) (x : Before) (m : ℕ) (used : List Data) (old : List Member) → IsOpen P [] end x m used → AddsFirst P [] end x m used old old
+adds_none P end x m used old h = record {
   added = [];
   is = sym (append-nil old);
   fillings = [];
   are = refl;
-  least = record { is = nothing_rest P b t m used h.rest.fillings h.free.0 h.rest.are h.rest.within h.rest.nodes_are h.free.1.0 h.free.1.1; least = only_nothing P b t m used };
+  least = record { is = nothing_rest P end x m used h.rest.fillings h.free.0 h.rest.are h.rest.ends h.rest.nodes_are h.free.1.0 h.free.1.1; least = only_nothing P end x m used };
 }
 
 -- the slot is left out
-pub adds_out : (P : Pools) (b : Bounds) (s : Slot) (ss : List Slot) (t m : ℕ) (used : List Data) (old new : List Member) → AreKeySlots P (s ∷ ss) → m ≤ most_nodes → s.must ≡ false
-    → AddsFirst P ss b t m used old new → AddsFirst P (s ∷ ss) b t m used old new
-adds_out P b s ss t m used old new keys small free h = record { added = h.added; is = h.is; fillings = None ∷ h.fillings; are = h.are; least = left_out_first P b s ss t m used keys small h.fillings free h.least }
+pub adds_out : (P : Pools) (end : Ending) (s : Slot) (ss : List Slot) (x : Before) (m : ℕ) (used : List Data) (old new : List Member) → AreKeySlots P (s ∷ ss) → m ≤ most_nodes → s.must ≡ false
+    → AddsFirst P ss end x m used old new → AddsFirst P (s ∷ ss) end x m used old new
+adds_out P end s ss x m used old new keys small free h = record { added = h.added; is = h.is; fillings = None ∷ h.fillings; are = h.are; least = left_out_first P end s ss x m used keys small h.fillings free h.least }
 
-pub open_out : (P : Pools) (b : Bounds) (s : Slot) (ss : List Slot) (t m : ℕ) (used : List Data) → AreKeySlots P (s ∷ ss) → s.must ≡ false → CanFill P ss b t m → IsOpen P (s ∷ ss) b t m used → IsOpen P ss b t m used
-open_out P b s ss t m used keys free can h =
+pub open_out : (P : Pools) (end : Ending) (s : Slot) (ss : List Slot) (x : Before) (m : ℕ) (used : List Data) → AreKeySlots P (s ∷ ss) → s.must ≡ false → CanFill P ss end x m → IsOpen P (s ∷ ss) end x m used → IsOpen P ss end x m used
+open_out P end s ss x m used keys free can h =
     let other = no_key P s ss keys free in
     record { known = used_out P s ss used other h.known; rest = can; free = free_out P s ss used other h.free }
 
@@ -99,30 +103,29 @@ same_member : (k l : List ℕ) (d : Data) (ms : tree.Members) (ns : tree.Members
 same_member k l d ms ns p q = λ i. member (p i) d (q i)
 
 -- a value stands in it
-pub adds_grown : (P : Pools) (b : Bounds) (s : Slot) (ss : List Slot) (t m : ℕ) (used : List Data) (old new : List Member) → AreKeySlots P (s ∷ ss) → m ≤ most_nodes → (s.must ≡ false → CanFill P ss b t m → ⊥)
-    → Grows P s ss b t m 0 used old new → AddsFirst P (s ∷ ss) b t m used old new
-adds_grown P b s ss t m used old new keys small stays h = record {
+pub adds_grown : (P : Pools) (end : Ending) (s : Slot) (ss : List Slot) (x : Before) (m : ℕ) (used : List Data) (old new : List Member) → AreKeySlots P (s ∷ ss) → m ≤ most_nodes → (s.must ≡ false → CanFill P ss end x m → ⊥)
+    → Grows P s ss end x m 0 used old new → AddsFirst P (s ∷ ss) end x m used old new
+adds_grown P end s ss x m used old new keys small stays h = record {
   added = h.one ∷ h.rest.added;
   is = h.rest.is ∙ append_assoc old (h.one ∷ []) h.rest.added;
   fillings = Some (data_of h.one.tree) ∷ h.rest.fillings;
   are = same_member h.one.name s.name (data_of h.one.tree) (members_of h.rest.added) (members_in ss h.rest.fillings) h.name h.rest.are;
-  least = grown_first P b s ss t m used keys small h.size (data_of h.one.tree) h.rest.fillings stays h.least h.first h.rest.least;
+  least = grown_first P end s ss x m used keys small h.size (data_of h.one.tree) h.rest.fillings stays h.least h.first h.rest.least;
 }
 
 -- some size fits where the slot is not left out
-fits_some : (P : Pools) (b : Bounds) (s : Slot) (ss : List Slot) (t m : ℕ) (gs : List (Option Data)) → AreFillings P (s ∷ ss) gs → IsWithin b (t + filled_count gs) → filled_nodes gs ≡ m → (s.must ≡ false → CanFill P ss b t m → ⊥)
-    → IsEmptyFrom (FitsSlot P s ss b t m) 0 → ⊥
-fits_some P b s ss t m [] are within nodes stays none = are
-fits_some P b s ss t m (None ∷ gs) are within nodes stays none = stays are.0 (record { fillings = gs; are = are.1; within = within; nodes_are = nodes })
-fits_some P b s ss t m (Some v ∷ gs) are within nodes stays none =
-    let more : t + (1 + filled_count gs) ≡ t + 1 + filled_count gs = omega arith in
+fits_some : (P : Pools) (end : Ending) (s : Slot) (ss : List Slot) (x : Before) (m : ℕ) (gs : List (Option Data)) → AreFillings P (s ∷ ss) gs → MayEnd end (state_after (s ∷ ss) gs x) → filled_nodes gs ≡ m → (s.must ≡ false → CanFill P ss end x m → ⊥)
+    → IsEmptyFrom (FitsSlot P s ss end x m) 0 → ⊥
+fits_some P end s ss x m [] are ends nodes stays none = are
+fits_some P end s ss x m (None ∷ gs) are ends nodes stays none = stays are.0 (record { fillings = gs; are = are.1; ends = ends; nodes_are = nodes })
+fits_some P end s ss x m (Some v ∷ gs) are ends nodes stays none =
     none (node_count v) (omega arith) (
       record { part = v; is = are.0; nodes_are = refl },
-      (filled_nodes gs, (record { fillings = gs; are = are.1; within = subst (IsWithin b) more within; nodes_are = refl }, nodes)),
+      (filled_nodes gs, (record { fillings = gs; are = are.1; ends = ends; nodes_are = refl }, nodes)),
     )
 
-pub not_stuck : (P : Pools) (b : Bounds) (s : Slot) (ss : List Slot) (t m : ℕ) → CanFill P (s ∷ ss) b t m → (s.must ≡ false → CanFill P ss b t m → ⊥) → IsEmptyFrom (FitsSlot P s ss b t m) 0 → ⊥
-not_stuck P b s ss t m h stays none = fits_some P b s ss t m h.fillings h.are h.within h.nodes_are stays none
+pub not_stuck : (P : Pools) (end : Ending) (s : Slot) (ss : List Slot) (x : Before) (m : ℕ) → CanFill P (s ∷ ss) end x m → (s.must ≡ false → CanFill P ss end x m → ⊥) → IsEmptyFrom (FitsSlot P s ss end x m) 0 → ⊥
+not_stuck P end s ss x m h stays none = fits_some P end s ss x m h.fillings h.are h.ends h.nodes_are stays none
 
 -- ---- the value in a slot
 
@@ -182,11 +185,11 @@ some_key law q c s ss used n later is key slot known tuples size free =
     tuple_key law q c s ss used n later free.0 is key slot known tuples size (rw (keys_first s ss key) at free.1.0) free.1.1
 
 -- the slots behind a value
-pub open_behind : (P : Pools) (b : Bounds) (s : Slot) (ss : List Slot) (t m : ℕ) (used : List Data) (n j : ℕ) (v : Data) → AreUsed P (s ∷ ss) used → n + j ≡ m → FitsSlot P s ss b t m n → IsValue P s ss used n v
-    → IsOpen P ss b (t + 1) j (still_used s v used)
-open_behind P b s ss t m used n j v known sum fits value = record {
+pub open_behind : (P : Pools) (end : Ending) (s : Slot) (ss : List Slot) (x : Before) (m : ℕ) (used : List Data) (n j : ℕ) (v : Data) → AreUsed P (s ∷ ss) used → n + j ≡ m → FitsSlot P s ss end x m n → IsValue P s ss used n v
+    → IsOpen P ss end (filled s.bit x) j (still_used s v used)
+open_behind P end s ss x m used n j v known sum fits value = record {
   known = used_behind P s ss v used known;
-  rest = subst (CanFill P ss b (t + 1)) (let split = fits.1.1.1 in omega (arith, split, sum)) fits.1.1.0;
+  rest = subst (CanFill P ss end (filled s.bit x)) (let split = fits.1.1.1 in omega (arith, split, sum)) fits.1.1.0;
   free = value.free;
 }
 
@@ -205,41 +208,41 @@ module _ (q : Question) (i place : ℕ) (sound : HasSoundParts q.pools (site q i
   abbrev here : Slot
   here = slot_in q i place
 
-  pub none_at : (t m : ℕ) (used : List Data) (old : List Member) → length (slots q.pools (site q i)) ≤ place → IsOpen q.pools (slots_from q i place) (bounds_at q i) t m used → AddsFirst q.pools (slots_from q i place) (bounds_at q i) t m used old old
-  none_at t m used old past so =
+  pub none_at : (x : Before) (m : ℕ) (used : List Data) (old : List Member) → length (slots q.pools (site q i)) ≤ place → IsOpen q.pools (slots_from q i place) (ending_at q i) x m used → AddsFirst q.pools (slots_from q i place) (ending_at q i) x m used old old
+  none_at x m used old past so =
       let none = no_slots q i place past in
-      subst (λ ss. AddsFirst q.pools ss (bounds_at q i) t m used old old) (sym none) (adds_none q.pools (bounds_at q i) t m used old (subst (λ ss. IsOpen q.pools ss (bounds_at q i) t m used) none so))
+      subst (λ ss. AddsFirst q.pools ss (ending_at q i) x m used old old) (sym none) (adds_none q.pools (ending_at q i) x m used old (subst (λ ss. IsOpen q.pools ss (ending_at q i) x m used) none so))
 
   module _ (first : slots_from q i place ≡ here ∷ behind) where
     keys : AreKeySlots q.pools (here ∷ behind)
     keys = subst (AreKeySlots q.pools) first (keys_at q i place sound)
 
-    opened : (t m : ℕ) (used : List Data) → IsOpen q.pools (slots_from q i place) (bounds_at q i) t m used → IsOpen q.pools (here ∷ behind) (bounds_at q i) t m used
-    opened t m used so = subst (λ ss. IsOpen q.pools ss (bounds_at q i) t m used) first so
+    opened : (x : Before) (m : ℕ) (used : List Data) → IsOpen q.pools (slots_from q i place) (ending_at q i) x m used → IsOpen q.pools (here ∷ behind) (ending_at q i) x m used
+    opened x m used so = subst (λ ss. IsOpen q.pools ss (ending_at q i) x m used) first so
 
     known_here : (used : List Data) → AreUsed q.pools (slots_from q i place) used → AreUsed q.pools (here ∷ behind) used
     known_here used h = subst (λ ss. AreUsed q.pools ss used) first h
 
-    pub out_open : (t m : ℕ) (used : List Data) → here.must ≡ false → CanFill q.pools behind (bounds_at q i) t m → IsOpen q.pools (slots_from q i place) (bounds_at q i) t m used → IsOpen q.pools behind (bounds_at q i) t m used
-    out_open t m used free can so = open_out q.pools (bounds_at q i) here behind t m used keys free can (opened t m used so)
+    pub out_open : (x : Before) (m : ℕ) (used : List Data) → here.must ≡ false → CanFill q.pools behind (ending_at q i) x m → IsOpen q.pools (slots_from q i place) (ending_at q i) x m used → IsOpen q.pools behind (ending_at q i) x m used
+    out_open x m used free can so = open_out q.pools (ending_at q i) here behind x m used keys free can (opened x m used so)
 
-    pub out_adds : (t m : ℕ) (used : List Data) (old new : List Member) → m ≤ most_nodes → here.must ≡ false → AddsFirst q.pools behind (bounds_at q i) t m used old new → AddsFirst q.pools (slots_from q i place) (bounds_at q i) t m used old new
-    out_adds t m used old new small free h = subst (λ ss. AddsFirst q.pools ss (bounds_at q i) t m used old new) (sym first) (adds_out q.pools (bounds_at q i) here behind t m used old new keys small free h)
+    pub out_adds : (x : Before) (m : ℕ) (used : List Data) (old new : List Member) → m ≤ most_nodes → here.must ≡ false → AddsFirst q.pools behind (ending_at q i) x m used old new → AddsFirst q.pools (slots_from q i place) (ending_at q i) x m used old new
+    out_adds x m used old new small free h = subst (λ ss. AddsFirst q.pools ss (ending_at q i) x m used old new) (sym first) (adds_out q.pools (ending_at q i) here behind x m used old new keys small free h)
 
-    grown_adds : (step : Step) (t m : ℕ) (used : List Data) (old new : List Member) → m ≤ most_nodes → (here.must ≡ false → CanFill q.pools behind (bounds_at q i) t m → ⊥) → CanFill q.pools (here ∷ behind) (bounds_at q i) t m
-        → IsGrown step q.pools here behind (bounds_at q i) t m 0 used old new → AddsFirst q.pools (here ∷ behind) (bounds_at q i) t m used old new
-    grown_adds Moved t m used old new small stays can h = adds_grown q.pools (bounds_at q i) here behind t m used old new keys small stays h
-    grown_adds (Last n) t m used old new small stays can h = absurd (not_stuck q.pools (bounds_at q i) here behind t m can stays h.1)
+    grown_adds : (step : Step) (x : Before) (m : ℕ) (used : List Data) (old new : List Member) → m ≤ most_nodes → (here.must ≡ false → CanFill q.pools behind (ending_at q i) x m → ⊥) → CanFill q.pools (here ∷ behind) (ending_at q i) x m
+        → IsGrown step q.pools here behind (ending_at q i) x m 0 used old new → AddsFirst q.pools (here ∷ behind) (ending_at q i) x m used old new
+    grown_adds Moved x m used old new small stays can h = adds_grown q.pools (ending_at q i) here behind x m used old new keys small stays h
+    grown_adds (Last n) x m used old new small stays can h = absurd (not_stuck q.pools (ending_at q i) here behind x m can stays h.1)
 
-    pub grown_at : (step : Step) (t m : ℕ) (used : List Data) (old new : List Member) → m ≤ most_nodes → (here.must ≡ false → CanFill q.pools behind (bounds_at q i) t m → ⊥) → IsOpen q.pools (slots_from q i place) (bounds_at q i) t m used
-        → IsGrown step q.pools here behind (bounds_at q i) t m 0 used old new → AddsFirst q.pools (slots_from q i place) (bounds_at q i) t m used old new
-    grown_at step t m used old new small stays so h = subst (λ ss. AddsFirst q.pools ss (bounds_at q i) t m used old new) (sym first) (grown_adds step t m used old new small stays (opened t m used so).rest h)
+    pub grown_at : (step : Step) (x : Before) (m : ℕ) (used : List Data) (old new : List Member) → m ≤ most_nodes → (here.must ≡ false → CanFill q.pools behind (ending_at q i) x m → ⊥) → IsOpen q.pools (slots_from q i place) (ending_at q i) x m used
+        → IsGrown step q.pools here behind (ending_at q i) x m 0 used old new → AddsFirst q.pools (slots_from q i place) (ending_at q i) x m used old new
+    grown_at step x m used old new small stays so h = subst (λ ss. AddsFirst q.pools ss (ending_at q i) x m used old new) (sym first) (grown_adds step x m used old new small stays (opened x m used so).rest h)
 
-    pub behind_open : (t m : ℕ) (used : List Data) (n : ℕ) (v : Data) → AreUsed q.pools (slots_from q i place) used → FitsSlot q.pools here behind (bounds_at q i) t m n → IsValue q.pools here behind used n v
-        → IsOpen q.pools behind (bounds_at q i) (t + 1) (m - n) (still_used here v used)
-    behind_open t m used n v known fits value =
+    pub behind_open : (x : Before) (m : ℕ) (used : List Data) (n : ℕ) (v : Data) → AreUsed q.pools (slots_from q i place) used → FitsSlot q.pools here behind (ending_at q i) x m n → IsValue q.pools here behind used n v
+        → IsOpen q.pools behind (ending_at q i) (filled here.bit x) (m - n) (still_used here v used)
+    behind_open x m used n v known fits value =
         let sum = fits.1.1.1 in
-        open_behind q.pools (bounds_at q i) here behind t m used n (m - n) v (known_here used known) (omega (arith, sum)) fits value
+        open_behind q.pools (ending_at q i) here behind x m used n (m - n) v (known_here used known) (omega (arith, sum)) fits value
 
     pub key_value : FreeLaw → (c : ℕ) (used : List Data) (n later : ℕ) (v : Data) → site q c ≡ here.site → here.key ≡ true → AreUsed q.pools (slots_from q i place) used → HasTuples q.pools behind later
         → IsLeast tree_cmp (IsFreeKey q c n here.name used later) v → IsLeast tree_cmp (IsValue q.pools here behind used n) v

@@ -1,9 +1,10 @@
 //! Samples of a plan, each from the one before it.
 #![tactic(auto)]
 
+mod before;
+mod building;
 mod copying;
 mod fault;
-mod filling;
 mod leaves;
 mod listed;
 mod live;

@@ -8,10 +8,11 @@ ghost use Rattle.plan.specs.Samples.Candidates.{sort_of};
 ghost use Rattle.plan.specs.declared.sort.Sort.TheVariants as sort;
 ghost use Rattle.enumerate.specs.Internal.Nodes.{site, IsNodeOf, Costs};
 ghost use Rattle.enumerate.specs.Internal.Candidates.{rows_of};
-ghost use Rattle.enumerate.specs.Internal.Rows.{slots_from, bounds_at, CostsSlots};
+ghost use Rattle.enumerate.specs.Internal.Rows.{slots_from, ending_at, CostsSlots};
 ghost use Rattle.enumerate.specs.Internal.Lists.{AreFirst, IsFreshItem};
 ghost use Rattle.enumerate.specs.Internal.Membership.{StandFresh, IsFreshRow, IsListOf};
 
+use crate::before::Before;
 use crate::taken::{references, still_used};
 use jtree::{Member, Tree};
 use plan::{Distinct, Meter, Plan, PlanNode, SizeSet, Sort};
@@ -91,7 +92,7 @@ fn is_fresh_row<Z: SizeSet>(
             plan,
             node,
             0,
-            0,
+            Before::nothing(),
             used,
             object.members.as_slice(),
             meter,
@@ -100,7 +101,7 @@ fn is_fresh_row<Z: SizeSet>(
     }
 }
 
-/// Whether the members stand in the slots from `place` on, where `taken` slots are filled before it, and no used row has the same
+/// Whether the members stand in the slots from `place` on, where `before` stands before it, and no used row has the same
 /// under all keys.
 #[cycle(part)]
 fn stand_fresh<Z: SizeSet>(
@@ -108,7 +109,7 @@ fn stand_fresh<Z: SizeSet>(
     plan: &Plan<Z>,
     node: PlanNode,
     place: u64,
-    taken: u32,
+    before: Before,
     used: &[&Tree],
     members: &[Member],
     meter: &mut Meter,
@@ -116,21 +117,21 @@ fn stand_fresh<Z: SizeSet>(
     requires node { IsNodeOf plan.now node }
     requires row { sort_of (site plan.now node) ≡ sort.Row }
     requires place { place ≤ length (slots_from plan.now node 0) }
-    requires taken { taken ≤ place }
-    requires limit { taken + members_count (members_of members.now) < plan.now.limit }
-    ensures ok { IfOk result (λ is. IsTrue is ↔ StandFresh plan.now.pools (slots_from plan.now node place) (bounds_at plan.now node) taken (rows_of used.now) (members_of members.now)) }
+    requires taken { before.count ≤ place }
+    requires limit { before.count + members_count (members_of members.now) < plan.now.limit }
+    ensures ok { IfOk result (λ is. IsTrue is ↔ StandFresh plan.now.pools (slots_from plan.now node place) (ending_at plan.now node) before (rows_of used.now) (members_of members.now)) }
     ensures steps { CostsSlots plan.now node place meter.old meter.new (members_count (members_of members.now)) }
 {
     plan.sound_parts();
     let _most = plan.limit();
     let Some(slot) = plan.slot(node, place, meter) else {
-        return Ok(ends_fresh(plan, node, place, taken, used, members));
+        return Ok(ends_fresh(plan, node, place, before, used, members));
     };
     let Some(tree) = value_under(members, slot.name) else {
         if slot.must {
             return Ok(false);
         }
-        return stand_fresh(alloc, plan, node, place + 1, taken, used, members, meter);
+        return stand_fresh(alloc, plan, node, place + 1, before, used, members, meter);
     };
     if !is_part(alloc, plan, slot.node, tree, meter)? {
         return Ok(false);
@@ -142,7 +143,7 @@ fn stand_fresh<Z: SizeSet>(
         plan,
         node,
         place + 1,
-        taken + 1,
+        before.fill(&slot),
         same.as_slice(),
         behind,
         meter,
@@ -175,20 +176,20 @@ fn behind_first(members: &[Member]) -> &[Member]
     &members[1..]
 }
 
-/// Whether no member is left behind the last slot, no used row has the same under all keys, and there are as many members as there may be.
+/// Whether no member is left behind the last slot, no used row has the same under all keys, and the row may end there.
 fn ends_fresh<Z: SizeSet>(
     plan: &Plan<Z>,
     node: PlanNode,
     place: u64,
-    taken: u32,
+    before: Before,
     used: &[&Tree],
     members: &[Member],
 ) -> bool
     requires node { IsNodeOf plan.now node }
     requires row { sort_of (site plan.now node) ≡ sort.Row }
     requires place { place ≡ length (slots_from plan.now node 0) }
-    requires taken { taken ≤ place }
-    ensures { IsTrue result ↔ StandFresh plan.now.pools [] (bounds_at plan.now node) taken (rows_of used.now) (members_of members.now) }
+    requires taken { before.count ≤ place }
+    ensures { IsTrue result ↔ StandFresh plan.now.pools [] (ending_at plan.now node) before (rows_of used.now) (members_of members.now) }
 {
     if !members.is_empty() {
         return false;
@@ -196,7 +197,7 @@ fn ends_fresh<Z: SizeSet>(
     if !used.is_empty() {
         return false;
     }
-    plan.rest(node, place, taken).has(0)
+    before.rest(plan, node, place).has(0)
 }
 
 // ---- lists

@@ -9,12 +9,13 @@ ghost use Rattle.plan.specs.Samples.Candidates.{sort_of};
 ghost use Rattle.plan.specs.declared.sort.Sort.TheVariants as sort;
 ghost use Rattle.enumerate.specs.Internal.Nodes.{site, IsNodeOf, IsPartOf, Costs};
 ghost use Rattle.enumerate.specs.Internal.Candidates.{rows_of};
-ghost use Rattle.enumerate.specs.Internal.Rows.{slots_from, slot_in, bounds_at, IsSlotOf, AreUsed, IsRow, IsValue};
+ghost use Rattle.enumerate.specs.Internal.Rows.{slots_from, slot_in, ending_at, IsSlotOf, AreUsed, IsRow, IsValue};
 ghost use Rattle.enumerate.specs.Internal.Lists.{AreFirst, IsFreshItem};
 ghost use Rattle.enumerate.specs.Internal.Steps.{CostsLast, CostsLastStep, CostsLastSlots, CostsTwice};
 ghost use Rattle.enumerate.specs.Internal.Moves.{IsMoved, StandIn, Begins, AreMoved, AreItemsMoved};
 
-use crate::filling::{first_items, grow_items, grow_slots, put_member};
+use crate::before::Before;
+use crate::building::{first_items, grow_items, grow_slots, put_member};
 use crate::leaves::{next_key, next_unused};
 use crate::membership::is_null;
 use crate::moved::{Moved, Step};
@@ -58,9 +59,11 @@ fn past_null<Z: SizeSet>(alloc: Global, plan: &Plan<Z>, node: PlanNode) -> Moved
 {
     plan.no_dead_end();
     match plan.sort(node) {
-        Sort::Row if plan.rest(node, 0, 0).has(0) => Moved::To(Tree::Object(Members {
-            members: Vec::new(alloc),
-        })),
+        Sort::Row if Before::nothing().rest(plan, node, 0).has(0) => Moved::To(Tree::Object(
+            Members {
+                members: Vec::new(alloc),
+            },
+        )),
         Sort::List if plan.more(node, 0).has(0) => Moved::To(Tree::List(Items {
             items: Vec::new(alloc),
         })),
@@ -114,62 +117,74 @@ fn advance_row<Z: SizeSet>(
     let Some(mut members) = into_members(tree) else {
         unreachable!()
     };
-    match advance_slots(alloc, plan, node, 0, 0, used, &mut members, meter)? {
+    let nothing = Before::nothing();
+    match advance_slots(alloc, plan, node, 0, nothing, used, &mut members, meter)? {
         Step::Moved => Ok(Moved::To(Tree::Object(Members { members }))),
         Step::Last(room) => Ok(Moved::Last(room + 1)),
     }
 }
 
 /// Whether the member at a place has the name.
-fn begins(members: &[Member], place: u32, name: &str) -> bool
+fn begins(members: &[Member], place: usize, name: &str) -> bool
     ensures { IsTrue result ↔ Begins name.now (members_of (drop place members.now)) }
 {
-    match members.get(place as usize) {
+    match members.get(place) {
         Some(member) => member.name.as_str() == name,
         None => false,
     }
 }
 
-/// Moves the members from the `taken`-th on, which stand in the slots from `place` on, to the next ones of as many nodes.
+/// Moves the members that stand in the slots from `place` on to the next ones of as many nodes, where `before` stands before it.
 #[cycle(advance)]
 fn advance_slots<Z: SizeSet>(
     alloc: Global,
     plan: &Plan<Z>,
     node: PlanNode,
     place: u64,
-    taken: u32,
+    before: Before,
     used: &[&Tree],
     members: &mut Vec<Member>,
     meter: &mut Meter,
 ) -> Result<Step, AllocError>
     requires node { IsNodeOf plan.now node }
     requires row { sort_of (site plan.now node) ≡ sort.Row }
-    requires taken { taken ≤ place }
-    requires within { taken ≤ length members.old.items }
+    requires taken { before.count ≤ place }
+    requires within { before.count ≤ length members.old.items }
     requires known { AreUsed plan.now.pools (slots_from plan.now node place) (rows_of used.now) }
-    requires stand { (gs : List (Option Data)) × StandIn plan.now.pools (slots_from plan.now node place) (bounds_at plan.now node) taken (rows_of used.now) (drop taken members.old.items) gs }
-    requires limit { taken + members_count (members_of (drop taken members.old.items)) < plan.now.limit }
-    ensures kept { IfOk result (λ _. take taken members.new.items ≡ take taken members.old.items) }
-    ensures moved { IfOk result (λ step. (gs : List (Option Data)) → StandIn plan.now.pools (slots_from plan.now node place) (bounds_at plan.now node) taken (rows_of used.now) (drop taken members.old.items) gs
-        → AreMoved step plan.now.pools (slots_from plan.now node place) (bounds_at plan.now node) taken (rows_of used.now) gs (drop taken members.new.items)) }
-    ensures steps { CostsTwice plan.now node place meter.old meter.new (members_count (members_of (drop taken members.old.items))) }
-    ensures last { IfOk result (λ step. CostsLastSlots step plan.now node place meter.old meter.new (members_count (members_of (drop taken members.old.items)))) }
+    requires stand { (gs : List (Option Data)) × StandIn plan.now.pools (slots_from plan.now node place) (ending_at plan.now node) before (rows_of used.now) (drop before.count members.old.items) gs }
+    requires limit { before.count + members_count (members_of (drop before.count members.old.items)) < plan.now.limit }
+    ensures kept { IfOk result (λ _. take before.count members.new.items ≡ take before.count members.old.items) }
+    ensures moved { IfOk result (λ step. (gs : List (Option Data)) → StandIn plan.now.pools (slots_from plan.now node place) (ending_at plan.now node) before (rows_of used.now) (drop before.count members.old.items) gs
+        → AreMoved step plan.now.pools (slots_from plan.now node place) (ending_at plan.now node) before (rows_of used.now) gs (drop before.count members.new.items)) }
+    ensures steps { CostsTwice plan.now node place meter.old meter.new (members_count (members_of (drop before.count members.old.items))) }
+    ensures last { IfOk result (λ step. CostsLastSlots step plan.now node place meter.old meter.new (members_count (members_of (drop before.count members.old.items)))) }
 {
     plan.sound_parts();
     plan.limit();
     let Some(slot) = plan.slot(node, place, meter) else {
         return Ok(Step::Last(0));
     };
-    if begins(members.as_slice(), taken, slot.name) {
-        return advance_filled(alloc, plan, node, &slot, place, taken, used, members, meter);
+    if begins(members.as_slice(), before.count(), slot.name) {
+        return advance_filled(
+            alloc, plan, node, &slot, place, before, used, members, meter,
+        );
     }
-    let Step::Last(room) = advance_slots(alloc, plan, node, place + 1, taken, used, members, meter)?
+    let Step::Last(room) = advance_slots(
+        alloc,
+        plan,
+        node,
+        place + 1,
+        before,
+        used,
+        members,
+        meter,
+    )?
     else {
         return Ok(Step::Moved);
     };
-    members.truncate(taken as usize);
+    members.truncate(before.count());
     grow_slots(
-        alloc, plan, node, &slot, place, taken, room, 0, used, members, meter,
+        alloc, plan, node, &slot, place, before, room, 0, used, members, meter,
     )
 }
 
@@ -181,7 +196,7 @@ fn advance_filled<Z: SizeSet>(
     node: PlanNode,
     slot: &Slot<'_>,
     place: u64,
-    taken: u32,
+    before: Before,
     used: &[&Tree],
     members: &mut Vec<Member>,
     meter: &mut Meter,
@@ -189,27 +204,27 @@ fn advance_filled<Z: SizeSet>(
     requires node { IsNodeOf plan.now node }
     requires row { sort_of (site plan.now node) ≡ sort.Row }
     requires slot { IsSlotOf plan.now node place slot.now }
-    requires filled { Begins slot.now.name.now (members_of (drop taken members.old.items)) }
-    requires taken { taken ≤ place }
-    requires within { taken ≤ length members.old.items }
+    requires filled { Begins slot.now.name.now (members_of (drop before.count members.old.items)) }
+    requires taken { before.count ≤ place }
+    requires within { before.count ≤ length members.old.items }
     requires known { AreUsed plan.now.pools (slots_from plan.now node place) (rows_of used.now) }
-    requires stand { (gs : List (Option Data)) × StandIn plan.now.pools (slots_from plan.now node place) (bounds_at plan.now node) taken (rows_of used.now) (drop taken members.old.items) gs }
-    requires limit { taken + members_count (members_of (drop taken members.old.items)) < plan.now.limit }
-    ensures kept { IfOk result (λ _. take taken members.new.items ≡ take taken members.old.items) }
-    ensures moved { IfOk result (λ step. (gs : List (Option Data)) → StandIn plan.now.pools (slots_from plan.now node place) (bounds_at plan.now node) taken (rows_of used.now) (drop taken members.old.items) gs
-        → AreMoved step plan.now.pools (slots_from plan.now node place) (bounds_at plan.now node) taken (rows_of used.now) gs (drop taken members.new.items)) }
-    ensures steps { CostsTwice plan.now node (place + 1) meter.old meter.new (members_count (members_of (drop taken members.old.items))) }
-    ensures last { IfOk result (λ step. CostsLastSlots step plan.now node (place + 1) meter.old meter.new (members_count (members_of (drop taken members.old.items)))) }
+    requires stand { (gs : List (Option Data)) × StandIn plan.now.pools (slots_from plan.now node place) (ending_at plan.now node) before (rows_of used.now) (drop before.count members.old.items) gs }
+    requires limit { before.count + members_count (members_of (drop before.count members.old.items)) < plan.now.limit }
+    ensures kept { IfOk result (λ _. take before.count members.new.items ≡ take before.count members.old.items) }
+    ensures moved { IfOk result (λ step. (gs : List (Option Data)) → StandIn plan.now.pools (slots_from plan.now node place) (ending_at plan.now node) before (rows_of used.now) (drop before.count members.old.items) gs
+        → AreMoved step plan.now.pools (slots_from plan.now node place) (ending_at plan.now node) before (rows_of used.now) gs (drop before.count members.new.items)) }
+    ensures steps { CostsTwice plan.now node (place + 1) meter.old meter.new (members_count (members_of (drop before.count members.old.items))) }
+    ensures last { IfOk result (λ step. CostsLastSlots step plan.now node (place + 1) meter.old meter.new (members_count (members_of (drop before.count members.old.items)))) }
 {
     plan.sound_parts();
     plan.limit();
-    let same = still_used(alloc, slot, &members[taken as usize].tree, used)?;
+    let same = still_used(alloc, slot, &members[before.count()].tree, used)?;
     let Step::Last(room) = advance_slots(
         alloc,
         plan,
         node,
         place + 1,
-        taken + 1,
+        before.fill(slot),
         same.as_slice(),
         members,
         meter,
@@ -217,7 +232,7 @@ fn advance_filled<Z: SizeSet>(
     else {
         return Ok(Step::Moved);
     };
-    members.truncate(taken as usize + 1);
+    members.truncate(before.count() + 1);
     let Some(Member { name, tree }) = members.pop() else {
         unreachable!()
     };
@@ -229,7 +244,7 @@ fn advance_filled<Z: SizeSet>(
                 node,
                 slot,
                 place,
-                taken,
+                before,
                 room,
                 used,
                 Member { name, tree },
@@ -244,7 +259,7 @@ fn advance_filled<Z: SizeSet>(
             node,
             slot,
             place,
-            taken,
+            before,
             room + size,
             size + 1,
             used,

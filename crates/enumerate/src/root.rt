@@ -7,7 +7,7 @@ ghost use Rattle.enumerate.specs.View.{tree_of};
 ghost use Rattle.enumerate.specs.Internal.Nodes.{Costs};
 ghost use Rattle.enumerate.specs.Internal.Roots.{IsFirstFrom};
 
-use crate::filling::first;
+use crate::building::first;
 use crate::moved::Moved;
 use crate::moving::advance;
 use jtree::Tree;

@@ -84,9 +84,9 @@ part_entry root s required default N leads r d e (inr b) = subst (IsEntry root) 
 
 mutual
   each_entry : (N : Node) → IsNode N → (e : Entry) → Among (below N) e → IsEntry N e
-  each_entry (node nullable description (object fs preserves type bounds)) n e a =
+  each_entry (node nullable description (object fs preserves type bounds cs)) n e a =
       let r = each_field fs n e a in
-      part_entry (node nullable description (object fs preserves type bounds)) (field r.0) r.1.required r.1.default r.1.node (rw r.2 refl) (rw r.2 refl) (rw r.2 refl) e r.3
+      part_entry (node nullable description (object fs preserves type bounds cs)) (field r.0) r.1.required r.1.default r.1.node (rw r.2 refl) (rw r.2 refl) (rw r.2 refl) e r.3
   each_entry (node nullable description (map_of N type bounds)) n e a =
       part_entry (node nullable description (map_of N type bounds)) value false None N refl refl refl e (in_part value false None N (each_entry N n) e a)
   each_entry (node nullable description (list N type keys bounds)) n e a =
@@ -129,7 +129,7 @@ abbrev IsListed : Node → FieldStep → Node → Type 0
 IsListed N s L = (required : Bool) × (default : Option Data) × ((e : Entry) → Among (part s required default L) e → Among (below N) e)
 
 step_listed : (N : Node) (s : FieldStep) (L : Node) → node_below N (place_step s) ≡ Some L → IsListed N s L
-step_listed (node nullable description (object fs preserves type bounds)) (field k) L leads = elim (option_cases (field_at k fs)) [
+step_listed (node nullable description (object fs preserves type bounds cs)) (field k) L leads = elim (option_cases (field_at k fs)) [
   | inl none ↦ let x = rw none at leads in cc
   | inr f ↦
       let same : f.0.node ≡ L = same_Some f.0.node L (rw f.1 at leads) in
@@ -190,7 +190,7 @@ names_ascend k l p q less = rw less refl
 
 mutual
   node_rising : (N : Node) → IsNode N → Rising Precedes (below N)
-  node_rising (node nullable description (object fs preserves type bounds)) n = fields_rising fs n
+  node_rising (node nullable description (object fs preserves type bounds cs)) n = fields_rising fs n
   node_rising (node nullable description (map_of N type bounds)) n = rising_part value false None N n (node_rising N n)
   node_rising (node nullable description (list N type keys bounds)) n = rising_part item false None N n (node_rising N n)
   node_rising (node nullable description (scalar kind cs)) n = tt

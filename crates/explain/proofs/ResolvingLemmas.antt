@@ -76,11 +76,11 @@ in_list N M nullable description type keys bounds is text found more after = rw 
 
 -- ---- below objects
 
-led : (nullable : Bool) (description : Option (List ℕ)) (fs : Fields) (preserves : Bool) (type : MapType) (bounds : Bounds) (text : List ℕ) (found : Option Node)
-    → IsNodeBelow (field_below fs) text found → IsNodeBelow (λ s. node_below (node nullable description (object fs preserves type bounds)) (place_step s)) text found
-led nullable description fs preserves type bounds text found below (field k) p e = below (field k) p e
-led nullable description fs preserves type bounds text found below item p e = below item p e
-led nullable description fs preserves type bounds text found below value p e = below value p e
+led : (nullable : Bool) (description : Option (List ℕ)) (fs : Fields) (preserves : Bool) (type : MapType) (bounds : Bounds) (cs : Validations) (text : List ℕ) (found : Option Node)
+    → IsNodeBelow (field_below fs) text found → IsNodeBelow (λ s. node_below (node nullable description (object fs preserves type bounds cs)) (place_step s)) text found
+led nullable description fs preserves type bounds cs text found below (field k) p e = below (field k) p e
+led nullable description fs preserves type bounds cs text found below item p e = below item p e
+led nullable description fs preserves type bounds cs text found below value p e = below value p e
 
 -- the first field has another name
 pub other_field : (text : List ℕ) (l : List ℕ) (N : Node) (required : Bool) (default : Option Data) (fs : Fields) → ((rest : List ℕ) → IsAfterStep (field l) text rest → ⊥)
@@ -100,10 +100,10 @@ own_field text rest l N required default fs found after at s p e =
     let named : field_below (nodes.field l N required default fs) s ≡ Some N = ap (field_below (nodes.field l N required default fs)) r.0 ∙ rw (own_name l) refl in
     rw named (at p r.1)
 
-pub in_object : (N : Node) (nullable : Bool) (description : Option (List ℕ)) (fs : Fields) (preserves : Bool) (type : MapType) (bounds : Bounds)
-    → N ≡ node nullable description (object fs preserves type bounds) → (text : List ℕ) (found : Option Node) → text ≢ [] → IsNodeBelow (field_below fs) text found → IsNodeAt N text found
-in_object N nullable description fs preserves type bounds is text found more below = rw is
-    (by_step (node nullable description (object fs preserves type bounds)) text found more (led nullable description fs preserves type bounds text found below))
+pub in_object : (N : Node) (nullable : Bool) (description : Option (List ℕ)) (fs : Fields) (preserves : Bool) (type : MapType) (bounds : Bounds) (cs : Validations)
+    → N ≡ node nullable description (object fs preserves type bounds cs) → (text : List ℕ) (found : Option Node) → text ≢ [] → IsNodeBelow (field_below fs) text found → IsNodeAt N text found
+in_object N nullable description fs preserves type bounds cs is text found more below = rw is
+    (by_step (node nullable description (object fs preserves type bounds cs)) text found more (led nullable description fs preserves type bounds cs text found below))
 
 -- ---- below scalars and open nodes
 

@@ -1,21 +1,24 @@
 -- What is added to a plan, node by node.
-use Rattle.std.specs.Prelude.{◌≡◌, ℕ, zero, suc, ◌+◌, ◌<◌, List, map, take, Bool, true, false, Option, Some, option_map, ◌||◌, is_some}
+use Rattle.std.specs.Prelude.{◌≡◌, ℕ, zero, suc, ◌+◌, ◌^◌, ◌<◌, List, map, take, Bool, true, false, Option, Some, None, option_map, ◌||◌, is_some}
 use Rattle.std.specs.Str.{bytes_eq}
 use Rattle.std.proofs.Common.{Result, Ok, Err, IfOk, refl, ap, sym, ◌∙◌, inl, inr, arith, [], ◌∷◌, ◌++◌, length, get_or}
 use Rattle.std.proofs.lemmas.Bool.{cases_Bool}
 use Rattle.std.proofs.lemmas.List.{get_or_append_left, get_or_push, get_or-append-add, append_assoc, length_push, length-append, take_more}
 use Rattle.jtree.specs.View.{data_of}
 use Rattle.schema.specs.Document.Texts.{is_among}
-use Rattle.schema.specs.Nodes.Node.{Node, node, Sort, scalar, object, list, open_, Fields, no_fields, field, IsNode}
+use Rattle.schema.specs.Nodes.Node.{Node, node, Sort, scalar, object, list, open_, Fields, no_fields, field, Validations, IsNode}
 use Rattle.schema.specs.Nodes.Node as nodes
 use Rattle.schema.specs.Nodes.Items.{HasSoundItems}
+use Rattle.schema.specs.Nodes.Junctors.{HasSoundJunctors}
 use Rattle.schema.specs.declared.node.ListType.{ListType}
 use Rattle.schema.specs.Nodes.View.{node_of, fields_of}
 use Rattle.schema.specs.declared.node.Field.{Field}
 use Rattle.plan.specs.Pools.Pools.{Pools}
 use Rattle.plan.specs.Samples.Sites.{Site, plain, item_site, item_keys, sites_from, sites_below, sites_of_fields, Slot, slots, slots_at, field_slots, value_slot}
 use Rattle.plan.specs.Samples.Candidates.{sort_at, sort_of, AreCandidates}
-use Rattle.plan.specs.Samples.Sizes.{HasSize, bounds_at, bounds_of, IsUpTo}
+use Rattle.plan.specs.Samples.Sizes.{HasSize, ending_at, ending_of, IsUpTo}
+use Rattle.plan.specs.Samples.Presence.{bit_of}
+use Rattle.plan.specs.Internal.Tables.{IsClosed, AreMet}
 use Rattle.plan.specs.Samples.RuleOfParts.{admits_null}
 use Rattle.plan.specs.declared.sort.Sort.TheVariants.{Leaf as LeafSort, Row}
 use Rattle.schema.specs.declared.node.Bounds.{Bounds}
@@ -76,9 +79,12 @@ sites_push [] x = append_none (sites_from (node_of x.node) [])
 sites_push (y ∷ xs) x =
     ap (λ l. sites_from (node_of y.node) [] ++ l) (sites_push xs x) ∙ sym (append_assoc (sites_from (node_of y.node) []) (sites_of_fields (fields_of xs)) (sites_from (node_of x.node) []))
 
-slots_push : (keys : List (List ℕ)) (xs : List Field) (x : Field) → field_slots keys (fields_of (xs ++ x ∷ [])) ≡ field_slots keys (fields_of xs) ++ (record { name = x.name; site = plain (node_of x.node); must = x.required || is_some (option_map data_of x.default); key = is_among x.name keys }) ∷ []
-slots_push keys [] x = refl
-slots_push keys (y ∷ xs) x = ap (λ l. record { name = y.name; site = plain (node_of y.node); must = y.required || is_some (option_map data_of y.default); key = is_among y.name keys } ∷ l) (slots_push keys xs x)
+slots_push : (keys named : List (List ℕ)) (xs : List Field) (x : Field)
+    → field_slots keys named (fields_of (xs ++ x ∷ []))
+    ≡ field_slots keys named (fields_of xs) ++ (record { name = x.name; site = plain (node_of x.node); must = x.required || is_some (option_map data_of x.default); key = is_among x.name keys; bit = bit_of x.name named }) ∷ []
+slots_push keys named [] x = refl
+slots_push keys named (y ∷ xs) x =
+    ap (λ l. record { name = y.name; site = plain (node_of y.node); must = y.required || is_some (option_map data_of y.default); key = is_among y.name keys; bit = bit_of y.name named } ∷ l) (slots_push keys named xs x)
 
 sound_push : (xs : List Field) (x : Field) → AreFieldsSound (fields_of (xs ++ x ∷ [])) → AreFieldsSound (fields_of xs) × IsSound (node_of x.node)
 sound_push [] x h = (tt, h.0)
@@ -104,24 +110,25 @@ map_push f (y ∷ xs) x = ap (λ l. f y ∷ l) (map_push f xs x)
 
 -- the slot of one name of the pools more
 pub value_slots_push : (names : List (List ℕ)) (sites : List Site) (i k : ℕ) (p : PlanNode) (M : Node) (es : List SlotEntry) → k < length names → p < i → site_at sites p ≡ plain M
-    → AreSlots names sites i es (map (value_slot M) (take k names)) → AreSlots names sites i (es ++ record { name = Pool k; node = p; must = false; key = false } ∷ []) (map (value_slot M) (take (k + 1) names))
+    → AreSlots names sites i es (map (value_slot M) (take k names)) → AreSlots names sites i (es ++ record { name = Pool k; node = p; must = false; key = false; bit = None } ∷ []) (map (value_slot M) (take (k + 1) names))
 value_slots_push names sites i k p M es l below site h =
     let x = get_or names k [] in
     rw (take_more names k [] l, map_push (value_slot M) (take k names) x)
-    (slots_are_push names sites i es (map (value_slot M) (take k names)) _ (value_slot M x) h (record { name = refl; below = below; node = site; must = refl; key = refl }))
+    (slots_are_push names sites i es (map (value_slot M) (take k names)) _ (value_slot M x) h (record { name = refl; below = below; node = site; must = refl; key = refl; bit = refl }))
 
-pub no_fields_built : {Z : Type 0} (holds : Z → ℕ → Type 0) (limit : ℕ) (v : Values) (es : List (Entry Z)) (keys : List (List ℕ)) → AreBuilt holds limit v es es no_fields keys []
-no_fields_built holds limit v es keys = record {
+pub no_fields_built : {Z : Type 0} (holds : Z → ℕ → Type 0) (limit : ℕ) (v : Values) (es : List (Entry Z)) (keys named : List (List ℕ)) → AreBuilt holds limit v es es no_fields keys named []
+no_fields_built holds limit v es keys named = record {
   count = omega arith;
   below = λ k d l. absurd (omega arith);
+  bits = λ k d l. absurd (omega arith);
   right = λ P sites values sound stand right. right;
   slots_are = λ names sites i stand within. tt;
 }
 
-pub field_built : {Z : Type 0} (holds : Z → ℕ → Type 0) (limit : ℕ) (v : Values) (old mid new : List (Entry Z)) (xs : List Field) (x : Field) (keys : List (List ℕ)) (slots : List SlotEntry) (s : SlotEntry)
-    → AreBuilt holds limit v old mid (fields_of xs) keys slots → IsBuilt holds limit v mid new (node_of x.node) [] s.node → IsFieldSlot keys x.name x.required (option_map data_of x.default) s
-    → AreBuilt holds limit v old new (fields_of (xs ++ x ∷ [])) keys (slots ++ s ∷ [])
-field_built holds limit v old mid new xs x keys slots s a b f =
+pub field_built : {Z : Type 0} (holds : Z → ℕ → Type 0) (limit : ℕ) (v : Values) (old mid new : List (Entry Z)) (xs : List Field) (x : Field) (keys named : List (List ℕ)) (slots : List SlotEntry) (s : SlotEntry)
+    → AreBuilt holds limit v old mid (fields_of xs) keys named slots → IsBuilt holds limit v mid new (node_of x.node) [] s.node → IsFieldSlot keys named x.name x.required (option_map data_of x.default) s → IsClosed (2 ^ length named) s.bit
+    → AreBuilt holds limit v old new (fields_of (xs ++ x ∷ [])) keys named (slots ++ s ∷ [])
+field_built holds limit v old mid new xs x keys named slots s a b f closed =
     let before = sites_of_fields (fields_of xs) in
     let here = sites_from (node_of x.node) [] in
     let start : length old + length before ≡ length mid = sym a.count in
@@ -132,6 +139,7 @@ field_built holds limit v old mid new xs x keys slots s a b f =
     record {
       count = rw (sites_push xs x) (omega (arith, a.count, b.count, length-append before here));
       below = each_push (λ k (e : SlotEntry). e.node < length new) slots s (λ k d l. let h = a.below k d l in omega (arith, b.count)) (omega (arith, b.last));
+      bits = each_push (λ k (e : SlotEntry). IsClosed (2 ^ length named) e.bit) slots s a.bits closed;
       right = λ P sites values sound stand right.
           let parts = sound_push xs x sound in
           let stands = first sites stand in
@@ -139,8 +147,8 @@ field_built holds limit v old mid new xs x keys slots s a b f =
       slots_are = λ names sites i stand within.
           let stands = first sites stand in
           let site = last_site sites (length mid) s.node (node_of x.node) [] (omega (arith, b.last, b.count)) stands.1 in
-          rw (slots_push keys xs x)
-          (slots_are_push names sites i slots (field_slots keys (fields_of xs)) s _ (a.slots_are names sites i stands.0 (omega (arith, b.count))) (record { name = f.name_is names; below = omega (arith, b.last); node = site; must = f.must; key = f.key }));
+          rw (slots_push keys named xs x)
+          (slots_are_push names sites i slots (field_slots keys named (fields_of xs)) s _ (a.slots_are names sites i stands.0 (omega (arith, b.count))) (record { name = f.name_is names; below = omega (arith, b.last); node = site; must = f.must; key = f.key; bit = f.bit }));
     }
 
 -- a node whose sites below are there
@@ -166,17 +174,18 @@ three_ok (Ok x) A B C D a b c d = d x a b c
 three_ok (Err e) A B C D a b c d = tt
 
 -- a row whose slots' nodes are there
-pub row_built : {Z : Type 0} (holds : Z → ℕ → Type 0) (limit : ℕ) (v : Values) (old mid new : List (Entry Z)) (nullable : Bool) (description : Option (List ℕ)) (sort : Sort) (keys : List (List ℕ)) (b : Bounds) (es : List SlotEntry) (n : ℕ)
-    → IsNode (node nullable description sort) → sort_at (node nullable description sort) ≡ Row → bounds_at (node nullable description sort) ≡ b
+pub row_built : {Z : Type 0} (holds : Z → ℕ → Type 0) (limit : ℕ) (v : Values) (old mid new : List (Entry Z)) (nullable : Bool) (description : Option (List ℕ)) (sort : Sort) (keys : List (List ℕ)) (b : Bounds) (cs : Validations) (ends : List Bool) (es : List SlotEntry) (n : ℕ)
+    → IsNode (node nullable description sort) → sort_at (node nullable description sort) ≡ Row → ending_at (node nullable description sort) ≡ record { bounds = b; asked = cs } → (HasSoundJunctors (node nullable description sort) → AreMet cs ends)
     → n ≡ length old + length (sites_below sort) → length new ≡ n + 1
     → ((P : Pools) (sites : List Site) → AreValues P v → IsSortSound sort → Stand sites (length old) (sites_below sort) → AreRight holds limit P v sites old → AreRight holds limit P v sites mid)
-    → ((P : Pools) (sites : List Site) → AreValues P v → Stand sites (length old) (sites_below sort) → AreSlots v.names.items sites n es (slots_at P (node nullable description sort) keys))
-    → ((P : Pools) (sites : List Site) → AreRight holds limit P v sites mid → IsNode (site_at sites n).node → sort_of (site_at sites n) ≡ Row → bounds_of (site_at sites n) ≡ b → admits_null (site_at sites n) ≡ nullable
-    → AreSlots v.names.items sites n es (slots P (site_at sites n)) → AreRight holds limit P v sites new)
+    → ((P : Pools) (sites : List Site) → AreValues P v → HasSoundJunctors (node nullable description sort) → Stand sites (length old) (sites_below sort) → AreSlots v.names.items sites n es (slots_at P (node nullable description sort) keys))
+    → ((P : Pools) (sites : List Site) (asked : Validations) → AreRight holds limit P v sites mid → IsNode (site_at sites n).node → sort_of (site_at sites n) ≡ Row → ending_of (site_at sites n) ≡ record { bounds = b; asked = asked } → AreMet asked ends
+    → admits_null (site_at sites n) ≡ nullable → AreSlots v.names.items sites n es (slots P (site_at sites n)) → AreRight holds limit P v sites new)
     → IsBuilt holds limit v old new (node nullable description sort) keys n
-row_built holds limit v old mid new nullable description sort keys b es n o row bounds number count below are right =
+row_built holds limit v old mid new nullable description sort keys b cs ends es n o row ending met number count below are right =
     node_built holds limit v old new nullable description sort keys n number count
-    (λ P sites values sound stand here before. right P sites (below P sites values sound.1 stand before) (rw here o) (rw here row) (rw here bounds) (rw here refl) (rw here (are P sites values stand)))
+    (λ P sites values sound stand here before.
+    right P sites cs (below P sites values sound.2 stand before) (rw here o) (rw here row) (rw here ending) (met sound.1) (rw here refl) (rw here (are P sites values sound.1 stand)))
 
 -- a list whose item is there
 pub list_built : {Z : Type 0} (holds : Z → ℕ → Type 0) (limit : ℕ) (v : Values) (old mid new : List (Entry Z)) (nullable : Bool) (description : Option (List ℕ)) (M : Node) (type : ListType) (item_names : List (List ℕ)) (b : Bounds) (keys : List (List ℕ)) (item : PlanNode) (n : ℕ)
@@ -188,11 +197,11 @@ list_built holds limit v old mid new nullable description M type item_names b ke
     node_built holds limit v old new nullable description (list M type item_names b) keys n (number ∙ built.count) count
     (λ P sites values sound stand here before.
     let below = last_site sites (length old) item M (item_keys type item_names) (omega (arith, built.last, built.count)) stand in
-    right P sites description (built.right P sites values sound.1 stand before) (ap (λ s. Site.node s) here) (rw (here, below) refl) (rw here o) (rw here sound.0))
+    right P sites description (built.right P sites values sound.2 stand before) (ap (λ s. Site.node s) here) (rw (here, below) refl) (rw here o) (rw here sound.0))
 
 leaf_below : (nullable : Bool) (description : Option (List ℕ)) (sort : Sort) → sort_at (node nullable description sort) ≡ LeafSort → length (sites_below sort) ≡ 0
 leaf_below n t (scalar kind cs) leaf = refl
-leaf_below n t (object fs preserves type b) leaf = absurd (cc)
+leaf_below n t (object fs preserves type b cs) leaf = absurd (cc)
 leaf_below n t (nodes.map M type b) leaf = absurd (cc)
 leaf_below n t (list M type keys b) leaf = absurd (cc)
 leaf_below n t open_ leaf = refl

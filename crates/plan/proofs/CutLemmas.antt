@@ -12,6 +12,7 @@ use Rattle.stored.specs.Objects.Fault as fault
 use Rattle.plan.specs.Pools.Pools.{Pools}
 use Rattle.plan.specs.Samples.Sites.{Site, item_site, item_site_at, item_keys, slots}
 use Rattle.plan.specs.Samples.Candidates.{sort_at, sort_of, distinct_of, HasCount}
+use Rattle.plan.specs.Samples.Presence.{named}
 use Rattle.plan.specs.Samples.Sizes.{HasMore, bounds_of, IsUpTo}
 use Rattle.plan.specs.Sets.{IsSum}
 use Rattle.std.specs.declared.vec.Vec.{Vec}
@@ -38,12 +39,12 @@ use Rattle.plan.proofs.MapListLemmas.{map_keyed, key_slot}
 
 -- the keys of the items of a map list are leaves of a row
 pub keys_leaves : (P : Pools) (M : Node) (keys : List (List ℕ)) → IsNode M → HasKeys M keys → AreKeysLeaves (slots P (record { node = M; keys = keys }))
-keys_leaves P (node n t (object fs preserves type b)) keys o h = λ s a key.
-    plain_leaf s.site.node (key_slot fs keys o h.2 s a key).2
+keys_leaves P (node n t (object fs preserves type b cs)) keys o h = λ s a key.
+    plain_leaf s.site.node (key_slot fs keys (named cs) o h.2 s a key).2
 keys_leaves P M keys o h = absurd h
 
 pub keys_row : (M : Node) (keys : List (List ℕ)) → HasKeys M keys → sort_at M ≡ Row
-keys_row (node n t (object fs preserves type b)) keys h = refl
+keys_row (node n t (object fs preserves type b cs)) keys h = refl
 keys_row M keys h = absurd h
 
 below_cut : (most : Option ℕ) (p q n : ℕ) → (n ≤ p → n ≤ q) → nat_lt (most_or most p) n ≡ false → nat_lt (most_or most q) n ≡ false

@@ -1,6 +1,6 @@
 -- What the parts of a site are, and that what was begun there can be completed.
 use Rattle.std.specs.Prelude.{◌≡◌, ℕ, ◌+◌, ◌≤◌, ◌⊎◌, ◌↔◌, List, [], ◌∷◌, ◌++◌, length, true, false, Option, Some, None, take, drop, filter}
-use Rattle.std.proofs.Common.{refl, subst, inl, inr, arith}
+use Rattle.std.proofs.Common.{refl, sym, subst, inl, inr, arith}
 use Rattle.std.proofs.lemmas.List.{take-append-drop}
 use Rattle.std.proofs.lemmas.Option.{same_Some}
 use Rattle.jtree.specs.Data.{Data, Items, no_items, item}
@@ -12,11 +12,11 @@ use Rattle.schema.specs.declared.node.ListType.{ListType}
 use Rattle.schema.specs.declared.node.ListType.TheVariants.{Atomic, Set, Map}
 use Rattle.stored.specs.Objects.Fault as fault
 use Rattle.stored.specs.Objects.Fault.{are_alike}
-use Rattle.stored.specs.Objects.StoredByParts.{IsWithin, are_apart}
+use Rattle.stored.specs.Objects.StoredByParts.{are_apart}
 use Rattle.plan.specs.Pools.Pools.{Pools}
 use Rattle.plan.specs.Samples.Sites.{Site, item_site, item_site_at, item_keys, Slot, slots}
 use Rattle.plan.specs.Samples.Candidates.{sort_at, sort_of, AreCandidates}
-use Rattle.plan.specs.Samples.Sizes.{AreFillings, filled_count, HasRest, HasMore, items_from, bounds_of}
+use Rattle.plan.specs.Samples.Sizes.{AreFillings, Before, nothing, filled, state_after, ending_of, MayEnd, HasRest, HasMore, items_from, bounds_of}
 use Rattle.plan.specs.Samples.RuleOfParts.{AreParts, alike_by, alike_at, IsListPart, RuleOfParts}
 use Rattle.plan.specs.Samples.NoDeadEnd.{RowCompletes, items_then, ListCompletes, is_key, AreCounts, NoDeadEnd}
 use Rattle.plan.specs.Internal.PartLaws.{IsItemsPart, PartLaws}
@@ -41,9 +41,9 @@ or_so {A = A} {B = B} {C = C} r s = (
   λ y. r.1 (elim y as (λ _. A ⊎ B) [ inl a ↦ inl a | inr c ↦ inr (s.1 c) ]),
 )
 
--- an object may end behind its last slot where it has as many members as it may
-row_ends : (P : Pools) (s : Site) (t : ℕ) → IsWithin (bounds_of s) t ↔ HasRest P s (length (slots P s)) t 0
-row_ends P s t = let r = fill_none P (bounds_of s) t 0 in rw (drop_all (slots P s)) ((λ w. r.1 (refl, w)), λ h. (r.0 h).1)
+-- where a row may end behind its last slot
+row_ends : (P : Pools) (s : Site) (x : Before) → MayEnd (ending_of s) x ↔ HasRest P s (length (slots P s)) x 0
+row_ends P s x = let r = fill_none P (ending_of s) x 0 in rw (drop_all (slots P s)) ((λ w. r.1 (refl, w)), λ h. (r.0 h).1)
 
 no_nodes : (ds : Items) → fault.items_count ds ≡ 0 → items_count ds ≡ 0
 no_nodes no_items e = refl
@@ -83,8 +83,8 @@ pub rule_of_parts : PartLaws → (P : Pools) (limit : ℕ) (s : Site) → IsNode
 rule_of_parts laws P limit s o h = record {
   leaf = λ v is. let c = h is in ((λ p. (c.0, (c.1, (c.1.each v).1 p))), λ x. (x.1.0.each v).0 x.1.1);
   row = λ v is. or_so (laws.row P s v o is) (
-    (λ q. record { fillings = q.fillings; is = q.is; are = q.are; ends = (row_ends P s (filled_count q.fillings)).0 q.within }),
-    λ q. record { fillings = q.fillings; is = q.is; are = q.are; within = (row_ends P s (filled_count q.fillings)).1 q.ends },
+    (λ q. record { fillings = q.fillings; is = q.is; are = q.are; ends = (row_ends P s (state_after (slots P s) q.fillings nothing)).0 q.ends }),
+    λ q. record { fillings = q.fillings; is = q.is; are = q.are; ends = (row_ends P s (state_after (slots P s) q.fillings nothing)).1 q.ends },
   );
   items = list_item s.node;
   list = λ M v is l. or_so (laws.list P s M v is) (list_ends laws P s M is limit v l);
@@ -98,19 +98,23 @@ join_are P (s ∷ ss) ts (None ∷ gs) hs h k = (h.0, join_are P ss ts gs hs h.1
 join_are P (s ∷ ss) ts (Some v ∷ gs) hs h k = (h.0, join_are P ss ts gs hs h.1 k)
 join_are P ss ts gs hs h k = absurd h
 
-join_count : (gs hs : List (Option Data)) → filled_count (gs ++ hs) ≡ filled_count gs + filled_count hs
-join_count [] hs = omega arith
-join_count (None ∷ gs) hs = join_count gs hs
-join_count (Some v ∷ gs) hs = omega (arith, join_count gs hs)
+join_state : (P : Pools) (ss ts : List Slot) (gs hs : List (Option Data)) (x : Before) → AreFillings P ss gs → state_after (ss ++ ts) (gs ++ hs) x ≡ state_after ts hs (state_after ss gs x)
+join_state P [] ts [] hs x h = refl
+join_state P (s ∷ ss) ts (None ∷ gs) hs x h = join_state P ss ts gs hs x h.1
+join_state P (s ∷ ss) ts (Some v ∷ gs) hs x h = join_state P ss ts gs hs (filled s.bit x) h.1
+join_state P ss ts gs hs x h = absurd h
 
-row_completes : PartLaws → (P : Pools) (s : Site) → IsNode s.node → sort_of s ≡ Row → (front : List (Option Data)) (place m : ℕ) → AreFillings P (take place (slots P s)) front → HasRest P s place (filled_count front) m
+row_completes : PartLaws → (P : Pools) (s : Site) → IsNode s.node → sort_of s ≡ Row → (front : List (Option Data)) (place m : ℕ) → AreFillings P (take place (slots P s)) front → HasRest P s place (state_after (take place (slots P s)) front nothing) m
     → RowCompletes P s place front m
 row_completes laws P s o is front place m h r =
-    let are = rw (take-append-drop place (slots P s)) at (join_are P (take place (slots P s)) (drop place (slots P s)) front r.fillings h r.are) in
+    let first = take place (slots P s) in
+    let later = drop place (slots P s) in
+    let are = rw (take-append-drop place (slots P s)) at (join_are P first later front r.fillings h r.are) in
+    let state = rw (take-append-drop place (slots P s)) at (join_state P first later front r.fillings nothing h) in
     record {
       back = r.fillings;
       are = r.are;
-      part = (laws.row P s _ o is).1 (inr (record { fillings = front ++ r.fillings; is = refl; are = are; within = rw (join_count front r.fillings) r.within }));
+      part = (laws.row P s _ o is).1 (inr (record { fillings = front ++ r.fillings; is = refl; are = are; ends = subst (MayEnd (ending_of s)) (sym state) r.ends }));
       nodes_are = r.nodes_are;
     }
 

@@ -9,11 +9,10 @@ use Rattle.jtree.specs.Order.{text_cmp}
 use Rattle.jtree.specs.Path.{member_at}
 use Rattle.jtree.specs.Internal.Lookups.{bool_cases, option_cases, same_name, later_name, not_itself, member_first, member_later, member_tail, before_each, before_none}
 use Rattle.jtree.specs.Internal.Rising.{Among, contains}
-use Rattle.stored.specs.Objects.Fault as fault
 use Rattle.plan.specs.Pools.Pools.{Pools}
 use Rattle.plan.specs.Samples.Part.{IsPart}
 use Rattle.plan.specs.Samples.Sites.{Slot}
-use Rattle.plan.specs.Samples.Sizes.{AreFillings, filled_nodes, filled_count}
+use Rattle.plan.specs.Samples.Sizes.{AreFillings, filled_nodes}
 use Rattle.plan.specs.Samples.RuleOfParts.{members_in}
 use Rattle.plan.specs.Samples.Keys.{AreInOrder}
 
@@ -56,13 +55,6 @@ in_present P (t ∷ ss) (Some v ∷ gs) o h s (inr a) must none = in_present P s
 
 pub in_slots : (P : Pools) (ss : List Slot) (gs : List (Option Data)) → AreInOrder ss → AreFillings P ss gs → AreInSlots P ss (members_in ss gs)
 in_slots P ss gs o h = record { named = in_named P ss gs h; present = in_present P ss gs o h }
-
-pub in_count : (P : Pools) (ss : List Slot) (gs : List (Option Data)) → AreFillings P ss gs → fault.members_count (members_in ss gs) ≡ filled_count gs
-in_count P [] [] h = refl
-in_count P [] (g ∷ gs) h = absurd h
-in_count P (s ∷ ss) [] h = absurd h
-in_count P (s ∷ ss) (None ∷ gs) h = in_count P ss gs h.1
-in_count P (s ∷ ss) (Some v ∷ gs) h = ap (λ n. 1 + n) (in_count P ss gs h.1)
 
 pub in_nodes : (P : Pools) (ss : List Slot) (gs : List (Option Data)) → AreFillings P ss gs → members_count (members_in ss gs) ≡ filled_nodes gs
 in_nodes P [] [] h = refl

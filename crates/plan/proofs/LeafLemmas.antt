@@ -134,7 +134,7 @@ accepted false d sort v s null = absurd (s.valid [] F02 (record { before = []; l
 over_leaf : (P : Pools) (N : Node) (v : Data) → sort_at N ≡ Leaf → IsStored N v → (is_over_here P N v ≡ true) ↔ Contains (tree.null ∷ listed P N) v
 over_leaf P (node n d (scalar kind cs)) v leaf s = null_or_listed n (listed P (node n d (scalar kind cs))) v (accepted n d (scalar kind cs) v s)
 over_leaf P (node n d open_) v leaf s = null_or_listed n P.any v (accepted n d open_ v s)
-over_leaf P (node n d (object fs preserves type b)) v leaf s = absurd (cc)
+over_leaf P (node n d (object fs preserves type b cs)) v leaf s = absurd (cc)
 over_leaf P (node n d (nodes.map N type b)) v leaf s = absurd (cc)
 over_leaf P (node n d (list N type keys b)) v leaf s = absurd (cc)
 

@@ -3,6 +3,8 @@ pub mod SizeLemmas
 pub mod RowLemmas
 pub mod ListLemmas
 pub mod FillingLemmas
+pub mod NameLemmas
+pub mod SeenLemmas
 pub mod PartLemmas
 pub mod SiteLemmas
 pub mod MoreLemmas

@@ -19,13 +19,13 @@ use Rattle.schema.specs.Nodes.Items.{IsPlainScalar, IsKey, AreKeys, HasKeys}
 use Rattle.schema.specs.declared.node.ListType.TheVariants.{Map}
 use Rattle.schema.specs.declared.node.Bounds.{Bounds}
 use Rattle.stored.specs.Objects.Fault.{agree_at, agree, are_alike}
-use Rattle.stored.specs.Objects.StoredByParts.{IsWithin}
 use Rattle.plan.specs.Pools.Pools.{Pools}
 use Rattle.plan.specs.Samples.Part.{IsPart}
+use Rattle.plan.specs.Samples.Presence.{named}
 use Rattle.plan.specs.Samples.Sites.{Site, Slot, slots, field_slots}
 use Rattle.plan.specs.Samples.Candidates.{sort_of}
 use Rattle.plan.specs.declared.sort.Sort.TheVariants.{Row}
-use Rattle.plan.specs.Samples.Sizes.{AreFillings, filled_nodes, filled_count, bounds_of}
+use Rattle.plan.specs.Samples.Sizes.{AreFillings, filled_nodes, Before, nothing, filled, state_after, ending_of, MayEnd}
 use Rattle.plan.specs.Samples.RuleOfParts.{members_in, admits_null}
 use Rattle.plan.specs.Samples.NoDeadEnd.{is_key, IsTuple, AreCounts, product}
 use Rattle.plan.specs.Samples.Keys.{AreInOrder, IsKeySlot, AreKeySlots, under, key_under, AreMapItems}
@@ -53,10 +53,10 @@ pub record HaveKeys (P : Pools) (keys : List (List ℕ)) (ss : List Slot) : Type
   pub named : (s : Slot) → Among ss s → s.key ≡ true → Among keys s.name
   pub each : (k : List ℕ) → Among keys k → (s : Slot) × (Among ss s × (s.name ≡ k) × (s.key ≡ true))
 
-pub slot_key : (keys : List (List ℕ)) (fs : Fields) (s : Slot) → Among (field_slots keys fs) s → s.key ≡ is_among s.name keys
-slot_key keys no_fields s a = absurd a
-slot_key keys (field l N required default fs) s (inl e) = subst (λ t. Slot.key t ≡ is_among (Slot.name t) keys) e refl
-slot_key keys (field l N required default fs) s (inr a) = slot_key keys fs s a
+pub slot_key : (keys names : List (List ℕ)) (fs : Fields) (s : Slot) → Among (field_slots keys names fs) s → s.key ≡ is_among s.name keys
+slot_key keys names no_fields s a = absurd a
+slot_key keys names (field l N required default fs) s (inl e) = subst (λ t. Slot.key t ≡ is_among (Slot.name t) keys) e refl
+slot_key keys names (field l N required default fs) s (inr a) = slot_key keys names fs s a
 
 key_field : (fs : Fields) (keys : List (List ℕ)) → AreKeys fs keys → (k : List ℕ) → Among keys k → IsKey fs k
 key_field fs [] h k a = absurd a
@@ -64,23 +64,23 @@ key_field fs (l ∷ ls) h k (inl e) = subst (IsKey fs) e h.0
 key_field fs (l ∷ ls) h k (inr a) = key_field fs ls h.2 k a
 
 -- under a key something must stand, and it is a plain scalar
-pub key_slot : (fs : Fields) (keys : List (List ℕ)) → AreOrdered fs → AreKeys fs keys → (s : Slot) → Among (field_slots keys fs) s → s.key ≡ true → Among keys s.name × (s.must ≡ true) × IsPlainScalar s.site.node
-key_slot fs keys o h s a key =
-    let named = among_name s.name keys (sym (slot_key keys fs s a) ∙ key) in
-    let f = field_of_slot keys fs o s a in
-    let g = key_field fs keys h s.name named in
+pub key_slot : (fs : Fields) (keys names : List (List ℕ)) → AreOrdered fs → AreKeys fs keys → (s : Slot) → Among (field_slots keys names fs) s → s.key ≡ true → Among keys s.name × (s.must ≡ true) × IsPlainScalar s.site.node
+key_slot fs keys names o h s a key =
+    let among = among_name s.name keys (sym (slot_key keys names fs s a) ∙ key) in
+    let f = field_of_slot keys names fs o s a in
+    let g = key_field fs keys h s.name among in
     let same : f.0 ≡ g.0 = same_Some f.0 g.0 (sym f.1.0 ∙ g.1) in
-    (named, f.1.1.2 ∙ rw same g.3, subst IsPlainScalar (ap (λ d. Declared.node d) (sym same) ∙ ap (λ x. Site.node x) (sym f.1.1.1)) g.2)
+    (among, f.1.1.2 ∙ rw same g.3, subst IsPlainScalar (ap (λ d. Declared.node d) (sym same) ∙ ap (λ x. Site.node x) (sym f.1.1.1)) g.2)
 
-pub have_keys : StoredLaw → (P : Pools) (fs : Fields) (keys : List (List ℕ)) → AreOrdered fs → AreKeys fs keys → HaveKeys P keys (field_slots keys fs)
-have_keys stored P fs keys o h = record {
-  order = fields_in_order keys fs o;
-  are = λ s c key. let q = key_slot fs keys o h s (contained (field_slots keys fs) s c) key in record { must = q.1; leaf = plain_leaf s.site.node q.2; one = scalar_one stored P s.site q.2; no_null = scalar_no_null stored P s.site q.2 };
-  named = λ s a key. (key_slot fs keys o h s a key).0;
+pub have_keys : StoredLaw → (P : Pools) (fs : Fields) (keys names : List (List ℕ)) → AreOrdered fs → AreKeys fs keys → HaveKeys P keys (field_slots keys names fs)
+have_keys stored P fs keys names o h = record {
+  order = fields_in_order keys names fs o;
+  are = λ s c key. let q = key_slot fs keys names o h s (contained (field_slots keys names fs) s c) key in record { must = q.1; leaf = plain_leaf s.site.node q.2; one = scalar_one stored P s.site q.2; no_null = scalar_no_null stored P s.site q.2 };
+  named = λ s a key. (key_slot fs keys names o h s a key).0;
   each = λ k a.
       let f = key_field fs keys h k a in
-      let s = slot_of_field keys fs k f.0 f.1 in
-      (s.0, (s.1.0, s.1.1.0, slot_key keys fs s.0 s.1.0 ∙ rw s.1.1.0 (name_among k keys a)));
+      let s = slot_of_field keys names fs k f.0 f.1 in
+      (s.0, (s.1.0, s.1.1.0, slot_key keys names fs s.0 s.1.0 ∙ rw s.1.1.0 (name_among k keys a)));
 }
 
 -- ---- the key of an object
@@ -106,13 +106,13 @@ known_key P (s ∷ ss) (Some v ∷ gs) o q h =
       | inr other ↦ rw (other, behind s ss v ms o) r
     ]
 
--- the slots with another key, and as many nodes
+-- the slots with another key, as many nodes, and the same names in them
 pub record Refilled (P : Pools) (ss : List Slot) (gs : List (Option Data)) (k : List Data) : Type 0 where
   pub fillings : List (Option Data)
   pub are : AreFillings P ss fillings
   pub key_is : key_under ss (tree.object (members_in ss fillings)) ≡ k
   pub nodes_are : filled_nodes fillings ≡ filled_nodes gs
-  pub count_is : filled_count fillings ≡ filled_count gs
+  pub state_is : (x : Before) → state_after ss fillings x ≡ state_after ss gs x
 
 key_given : (P : Pools) (s : Slot) (ss : List Slot) (v : Data) (gs : List (Option Data)) (k : List Data) → AreInOrder (s ∷ ss) → s.key ≡ true → ((w : Data) → IsPart P s.site w → node_count w ≡ 1) → IsPart P s.site v
     → IsTuple P (s ∷ filter is_key ss) k → ((l : List Data) → IsTuple P (filter is_key ss) l → Refilled P ss gs l) → Refilled P (s ∷ ss) (Some v ∷ gs) k
@@ -125,11 +125,11 @@ key_given P s ss v gs (x ∷ k) o key one p t rest =
       are = (t.0, r.are);
       key_is = rw (key, member_first s.name x ms, behind s ss x ms o, r.key_is) refl;
       nodes_are = omega (arith, one x t.0, one v p, r.nodes_are);
-      count_is = ap (λ n. 1 + n) r.count_is;
+      state_is = λ x. r.state_is (filled s.bit x);
     }
 
 pub refilled : (P : Pools) (ss : List Slot) (gs : List (Option Data)) (k : List Data) → AreInOrder ss → AreKeySlots P ss → AreFillings P ss gs → IsTuple P (filter is_key ss) k → Refilled P ss gs k
-refilled P [] [] [] o q h t = record { fillings = []; are = tt; key_is = refl; nodes_are = refl; count_is = refl }
+refilled P [] [] [] o q h t = record { fillings = []; are = tt; key_is = refl; nodes_are = refl; state_is = λ x. refl }
 refilled P [] [] (x ∷ k) o q h t = absurd t
 refilled P [] (g ∷ gs) k o q h t = absurd h
 refilled P (s ∷ ss) [] k o q h t = absurd h
@@ -137,13 +137,13 @@ refilled P (s ∷ ss) (None ∷ gs) k o q h t = elim (cases_Bool s.key) [
   | inl key ↦ let must = (own_key P s ss q key).must in let free = h.0 in absurd (cc)
   | inr other ↦
       let r = refilled P ss gs k o.1 (later_keys P s ss q) h.1 (rw other at t) in
-      record { fillings = None ∷ r.fillings; are = (h.0, r.are); key_is = key_other s ss (members_in ss r.fillings) other ∙ r.key_is; nodes_are = r.nodes_are; count_is = r.count_is }
+      record { fillings = None ∷ r.fillings; are = (h.0, r.are); key_is = key_other s ss (members_in ss r.fillings) other ∙ r.key_is; nodes_are = r.nodes_are; state_is = r.state_is }
 ]
 refilled P (s ∷ ss) (Some v ∷ gs) k o q h t = elim (cases_Bool s.key) [
   | inl key ↦ key_given P s ss v gs k o key (own_key P s ss q key).one h.0 (rw key at t) (λ l is. refilled P ss gs l o.1 (later_keys P s ss q) h.1 is)
   | inr other ↦
       let r = refilled P ss gs k o.1 (later_keys P s ss q) h.1 (rw other at t) in
-      record { fillings = Some v ∷ r.fillings; are = (h.0, r.are); key_is = key_other s ss (member s.name v (members_in ss r.fillings)) other ∙ behind s ss v (members_in ss r.fillings) o ∙ r.key_is; nodes_are = ap (λ n. node_count v + n) r.nodes_are; count_is = ap (λ n. 1 + n) r.count_is }
+      record { fillings = Some v ∷ r.fillings; are = (h.0, r.are); key_is = key_other s ss (member s.name v (members_in ss r.fillings)) other ∙ behind s ss v (members_in ss r.fillings) o ∙ r.key_is; nodes_are = ap (λ n. node_count v + n) r.nodes_are; state_is = λ x. r.state_is (filled s.bit x) }
 ]
 
 -- ---- objects that agree on all keys
@@ -180,12 +180,12 @@ module _ {P : Pools} {keys : List (List ℕ)} {ss : List Slot} (h : HaveKeys P k
 
 -- where each part is an object
 module _ (P : Pools) (s : Site) (row : (v : Data) → IsPart P s v ↔ IsObjectPart P s v) (keys : List (List ℕ)) (h : HaveKeys P keys (slots P s)) where
-  object_given : (gs : List (Option Data)) (k : List Data) → AreFillings P (slots P s) gs → IsWithin (bounds_of s) (filled_count gs) → IsTuple P (filter is_key (slots P s)) k
+  object_given : (gs : List (Option Data)) (k : List Data) → AreFillings P (slots P s) gs → MayEnd (ending_of s) (state_after (slots P s) gs nothing) → IsTuple P (filter is_key (slots P s)) k
       → (w : Data) × (IsPart P s w × (key_under (slots P s) w ≡ k) × (node_count w ≡ node_count (tree.object (members_in (slots P s) gs))))
-  object_given gs k are within is =
+  object_given gs k are ends is =
       let r = refilled P (slots P s) gs k h.order h.are are is in
       let w = tree.object (members_in (slots P s) r.fillings) in
-      let part = (row w).1 (record { fillings = r.fillings; is = refl; are = r.are; within = rw r.count_is within }) in
+      let part = (row w).1 (record { fillings = r.fillings; is = refl; are = r.are; ends = subst (MayEnd (ending_of s)) (sym (r.state_is nothing)) ends }) in
       (w, (part, r.key_is, ap (λ m. 1 + m) (in_nodes P (slots P s) r.fillings r.are ∙ r.nodes_are ∙ sym (in_nodes P (slots P s) gs are))))
 
   pub objects_told : (v w : Data) → IsPart P s v → IsPart P s w → (are_alike Map keys v w ≡ true) ↔ (key_under (slots P s) v ≡ key_under (slots P s) w)
@@ -204,7 +204,7 @@ module _ (P : Pools) (s : Site) (row : (v : Data) → IsPart P s v ↔ IsObjectP
           keys = all.0;
           apart = all.1.0.apart;
           known = λ v p. let x = (row v).0 p in (all.1.0.each (key_under (slots P s) v)).1 (rw x.is (known_key P (slots P s) x.fillings h.order h.are x.are));
-          given = λ v k p a. let x = (row v).0 p in rw x.is (object_given x.fillings k x.are x.within ((all.1.0.each k).0 a));
+          given = λ v k p a. let x = (row v).0 p in rw x.is (object_given x.fillings k x.are x.ends ((all.1.0.each k).0 a));
           tells = λ v w p r. (objects_told v w p r).0;
           told = λ v w p r. (objects_told v w p r).1;
         },
@@ -218,10 +218,10 @@ only_objects laws P s o row never v = let r = laws.row P s v o row in ((λ p. el
 -- the items of a map list are alike exactly where they have the same under all keys
 pub map_told : StoredLaw → PartLaws → (P : Pools) (own : List (List ℕ)) (n : Bool) (t : Option (List ℕ)) (N : Node) (keys : List (List ℕ)) (b : Bounds) → IsNode N → HasKeys N keys
     → AreMapItems P (record { node = node n t (list N Map keys b); keys = own }) (record { node = N; keys = keys })
-map_told stored laws P own n t (node m u (object fs preserves type c)) keys b o h =
-    let s : Site = record { node = node m u (object fs preserves type c); keys = keys } in
+map_told stored laws P own n t (node m u (object fs preserves type c cs)) keys b o h =
+    let s : Site = record { node = node m u (object fs preserves type c cs); keys = keys } in
     let law = only_objects laws P s o refl h.0 in
-    let have = have_keys stored P fs keys o h.2 in
+    let have = have_keys stored P fs keys (named cs) o h.2 in
     record {
       row = refl;
       never_null = h.0;
@@ -232,7 +232,7 @@ map_told stored laws P own n t N keys b o h = absurd h
 
 pub map_keyed : StoredLaw → PartLaws → (P : Pools) (N : Node) (keys : List (List ℕ)) (counts : List ℕ) → IsNode N → HasKeys N keys → AreCounts P (filter is_key (slots P (record { node = N; keys = keys }))) counts
     → (K : Keyed P (record { node = N; keys = keys }) (are_alike Map keys)) × (length K.keys ≡ product counts)
-map_keyed stored laws P (node n t (object fs preserves type b)) keys counts o h count =
-    let s : Site = record { node = node n t (object fs preserves type b); keys = keys } in
-    objects_keyed P s (only_objects laws P s o refl h.0) keys (have_keys stored P fs keys o h.2) counts count
+map_keyed stored laws P (node n t (object fs preserves type b cs)) keys counts o h count =
+    let s : Site = record { node = node n t (object fs preserves type b cs); keys = keys } in
+    objects_keyed P s (only_objects laws P s o refl h.0) keys (have_keys stored P fs keys (named cs) o h.2) counts count
 map_keyed stored laws P N keys counts o h count = absurd h

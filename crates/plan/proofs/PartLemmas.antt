@@ -2,18 +2,17 @@
 use Rattle.std.proofs.Common.{◌≡◌, ◌⊎◌, ◌↔◌, ℕ, zero, suc, List, [], ◌∷◌, Bool, true, false, Option, Some, None, refl, ap, sym, ◌∙◌, subst, inl, inr}
 use Rattle.std.specs.Prelude.{option_map, ◌&&◌, ◌||◌, is_some, map}
 use Rattle.std.specs.Str.{bytes_eq}
-use Rattle.std.specs.declared.cmp.Ordering.TheVariants.{Less, Greater}
+use Rattle.std.specs.declared.cmp.Ordering.TheVariants.{Less}
 use Rattle.std.proofs.lemmas.Option.{same_Some}
 use Rattle.std.proofs.lemmas.Cmp.{nat_list_cmp_total}
-use Rattle.std.proofs.lemmas.Map.Lookups.{exact_bytes}
 use Rattle.jtree.specs.Data.{Data, Items, no_items, item, Members, no_members, member, IsTree, AreTrees, AreMembers}
 use Rattle.jtree.specs.Data as tree
 use Rattle.jtree.specs.Order.{text_cmp}
 use Rattle.jtree.specs.Path.{Step, name, index, member_at, item_at, part_by}
-use Rattle.jtree.specs.Internal.Lookups.{bool_cases, option_cases, same_name, own_name, member_first, member_later, member_tail, later_name, ordering_cases}
-use Rattle.jtree.specs.Internal.Rising.{Among, Rising, contained}
+use Rattle.jtree.specs.Internal.Lookups.{bool_cases, option_cases, same_name, own_name, member_first, member_later, member_tail, later_name}
+use Rattle.jtree.specs.Internal.Rising.{Among, contained}
 use Rattle.schema.specs.Document.Texts.{is_among}
-use Rattle.schema.specs.Nodes.Node.{Node, node, Sort, scalar, object, list, open_, Fields, no_fields, field, IsNode, IsBeforeFields, AreOrdered}
+use Rattle.schema.specs.Nodes.Node.{Node, node, Sort, scalar, object, list, open_, Fields, no_fields, field, Validations, IsNode, IsBeforeFields, AreOrdered}
 use Rattle.schema.specs.Nodes.Node as nodes
 use Rattle.schema.specs.Nodes.ByPlace.{Declared, field_at}
 use Rattle.schema.specs.declared.node.Bounds.{Bounds}
@@ -22,18 +21,23 @@ use Rattle.schema.specs.declared.node.ListType.{ListType}
 use Rattle.stored.specs.Objects.Parts.{at, part_of, leads, Everywhere}
 use Rattle.stored.specs.Objects.Fault as fault
 use Rattle.stored.specs.Objects.Becomes.{IsStored}
+use Rattle.stored.specs.Objects.Tests.{has_member, meets_presence}
 use Rattle.stored.specs.Objects.StoredByParts.{StoredByParts, IsStoredField, are_apart, IsWithin}
 use Rattle.plan.specs.Pools.Pools.{Pools}
 use Rattle.plan.specs.Samples.Over.{is_over_here, all_names, IsOver}
 use Rattle.plan.specs.Samples.Part.{IsPart}
-use Rattle.plan.specs.Samples.Sites.{Site, plain, item_site, item_keys, slots, Slot, field_slots, with_name, in_order, value_slot}
+use Rattle.plan.specs.Samples.Sites.{Site, plain, item_site, item_keys, slots, Slot, field_slots, value_slot}
+use Rattle.plan.specs.Samples.Names.{in_order}
+use Rattle.plan.specs.Samples.Presence.{named}
 use Rattle.plan.specs.Samples.RuleOfParts.{AreParts, IsNullPart}
 use Rattle.plan.specs.Samples.Candidates.{sort_at}
 use Rattle.plan.specs.Samples.Keys.{AreInOrder}
-use Rattle.plan.specs.Samples.Sizes.{bounds_of}
+use Rattle.plan.specs.Samples.Sizes.{ending_of}
 use Rattle.plan.specs.Internal.PartLaws.{IsObjectPart, IsItemsPart, PartLaws}
 use Rattle.plan.specs.declared.sort.Sort.TheVariants.{Leaf, Row}
-use Rattle.plan.proofs.FillingLemmas.{AreInSlots, in_members, in_slots, in_count, fill}
+use Rattle.plan.proofs.FillingLemmas.{AreInSlots, in_members, in_slots, fill}
+use Rattle.plan.proofs.NameLemmas.{AreNamesInOrder, in_order_rising, in_order_has, in_order_only}
+use Rattle.plan.proofs.SeenLemmas.{HaveBits, field_bits, value_bits, ends_in}
 
 -- ---- what the crates below say
 
@@ -91,40 +95,40 @@ member_tree k (member l d ms) w members is = elim (bool_cases (bytes_eq k l)) [
 abbrev IsSlotOf : List ℕ → Declared → Slot → Type 0
 IsSlotOf k f s = (s.name ≡ k) × (s.site ≡ plain f.node) × (s.must ≡ (f.required || is_some f.default))
 
-pub slot_of_field : (keys : List (List ℕ)) (fs : Fields) (k : List ℕ) (f : Declared) → field_at k fs ≡ Some f → (s : Slot) × (Among (field_slots keys fs) s × IsSlotOf k f s)
-slot_of_field keys no_fields k f is = absurd (cc)
-slot_of_field keys (field l N required default fs) k f is = elim (bool_cases (bytes_eq k l)) [
+pub slot_of_field : (keys names : List (List ℕ)) (fs : Fields) (k : List ℕ) (f : Declared) → field_at k fs ≡ Some f → (s : Slot) × (Among (field_slots keys names fs) s × IsSlotOf k f s)
+slot_of_field keys names no_fields k f is = absurd (cc)
+slot_of_field keys names (field l N required default fs) k f is = elim (bool_cases (bytes_eq k l)) [
   | inl t ↦
       let same = same_Some (record { node = N; required = required; default = default }) f (rw t at is) in
       (_, (inl refl, (sym (same_name k l t), ap (λ g. plain g.node) same, ap (λ g. g.required || is_some g.default) same)))
-  | inr o ↦ let r = slot_of_field keys fs k f (rw o at is) in (r.0, (inr r.1.0, r.1.1))
+  | inr o ↦ let r = slot_of_field keys names fs k f (rw o at is) in (r.0, (inr r.1.0, r.1.1))
 ]
 
-before_slots : (keys : List (List ℕ)) (k : List ℕ) (fs : Fields) → IsBeforeFields k fs → AreOrdered fs → (s : Slot) → Among (field_slots keys fs) s → text_cmp k s.name ≡ Less
-before_slots keys k no_fields before o s a = absurd a
-before_slots keys k (field l N required default fs) before o s (inl e) = subst (λ t. text_cmp k (Slot.name t) ≡ Less) e before
-before_slots keys k (field l N required default fs) before o s (inr a) = nat_list_cmp_total.trans k l s.name before (before_slots keys l fs o.1 o.2 s a)
+before_slots : (keys names : List (List ℕ)) (k : List ℕ) (fs : Fields) → IsBeforeFields k fs → AreOrdered fs → (s : Slot) → Among (field_slots keys names fs) s → text_cmp k s.name ≡ Less
+before_slots keys names k no_fields before o s a = absurd a
+before_slots keys names k (field l N required default fs) before o s (inl e) = subst (λ t. text_cmp k (Slot.name t) ≡ Less) e before
+before_slots keys names k (field l N required default fs) before o s (inr a) = nat_list_cmp_total.trans k l s.name before (before_slots keys names l fs o.1 o.2 s a)
 
-pub field_of_slot : (keys : List (List ℕ)) (fs : Fields) → AreOrdered fs → (s : Slot) → Among (field_slots keys fs) s → (f : Declared) × ((field_at s.name fs ≡ Some f) × IsSlotOf s.name f s)
-field_of_slot keys no_fields o s a = absurd a
-field_of_slot keys (field l N required default fs) o s (inl e) =
+pub field_of_slot : (keys names : List (List ℕ)) (fs : Fields) → AreOrdered fs → (s : Slot) → Among (field_slots keys names fs) s → (f : Declared) × ((field_at s.name fs ≡ Some f) × IsSlotOf s.name f s)
+field_of_slot keys names no_fields o s a = absurd a
+field_of_slot keys names (field l N required default fs) o s (inl e) =
     let own : bytes_eq s.name l ≡ true = subst (λ t. bytes_eq (Slot.name t) l ≡ true) e (own_name l) in
     (record { node = N; required = required; default = default }, (rw own refl, (refl, ap (λ t. Slot.site t) (sym e), ap (λ t. Slot.must t) (sym e))))
-field_of_slot keys (field l N required default fs) o s (inr a) =
-    let r = field_of_slot keys fs o.2 s a in
-    let other = later_name s.name l (before_slots keys l fs o.1 o.2 s a) in
+field_of_slot keys names (field l N required default fs) o s (inr a) =
+    let r = field_of_slot keys names fs o.2 s a in
+    let other = later_name s.name l (before_slots keys names l fs o.1 o.2 s a) in
     (r.0, (rw other r.1.0, r.1.1))
 
-pub fields_in_order : (keys : List (List ℕ)) (fs : Fields) → AreOrdered fs → AreInOrder (field_slots keys fs)
-fields_in_order keys no_fields o = tt
-fields_in_order keys (field l N required default fs) o = ((λ s c. before_slots keys l fs o.1 o.2 s (contained (field_slots keys fs) s c)), fields_in_order keys fs o.2)
+pub fields_in_order : (keys names : List (List ℕ)) (fs : Fields) → AreOrdered fs → AreInOrder (field_slots keys names fs)
+fields_in_order keys names no_fields o = tt
+fields_in_order keys names (field l N required default fs) o = ((λ s c. before_slots keys names l fs o.1 o.2 s (contained (field_slots keys names fs) s c)), fields_in_order keys names fs o.2)
 
 -- ---- objects
 
 -- what a name leads to
-leads_to_field : (n : Bool) (t : Option (List ℕ)) (fs : Fields) (preserves : Bool) (type : MapType) (b : Bounds) (ms : Members) (k : List ℕ) (f : Declared) (w : Data) → field_at k fs ≡ Some f → member_at k ms ≡ Some w
-    → leads (node n t (object fs preserves type b)) (tree.object ms) (name k) ≡ Some (at f.node w)
-leads_to_field n t fs preserves type b ms k f w is found = rw (is, found) refl
+leads_to_field : (n : Bool) (t : Option (List ℕ)) (fs : Fields) (preserves : Bool) (type : MapType) (b : Bounds) (cs : Validations) (ms : Members) (k : List ℕ) (f : Declared) (w : Data) → field_at k fs ≡ Some f → member_at k ms ≡ Some w
+    → leads (node n t (object fs preserves type b cs)) (tree.object ms) (name k) ≡ Some (at f.node w)
+leads_to_field n t fs preserves type b cs ms k f w is found = rw (is, found) refl
 
 part_from : (o : Option Node) (v : Option Data) (M : Node) (w : Data) → option_map (part_of o) v ≡ Some (at M w) → (o ≡ Some M) × (v ≡ Some w)
 part_from None None M w e = absurd (cc)
@@ -140,21 +144,21 @@ declared : (o : Option Declared) → is_some o ≡ true → (f : Declared) × (o
 declared None e = absurd (cc)
 declared (Some f) e = (f, refl)
 
-pub object_down : StoredLaw → EverywhereLaw → (P : Pools) (n : Bool) (t : Option (List ℕ)) (fs : Fields) (preserves : Bool) (type : MapType) (b : Bounds) (keys : List (List ℕ)) (ms : Members) → AreOrdered fs
-    → IsPart P (record { node = node n t (object fs preserves type b); keys = keys }) (tree.object ms) → AreMembers ms × AreInSlots P (field_slots keys fs) ms × IsWithin b (fault.members_count ms)
-object_down stored everywhere P n t fs preserves type b keys ms o h =
+pub object_down : StoredLaw → EverywhereLaw → (P : Pools) (n : Bool) (t : Option (List ℕ)) (fs : Fields) (preserves : Bool) (type : MapType) (b : Bounds) (cs : Validations) (keys : List (List ℕ)) (ms : Members) → AreOrdered fs
+    → IsPart P (record { node = node n t (object fs preserves type b cs); keys = keys }) (tree.object ms) → AreMembers ms × AreInSlots P (field_slots keys (named cs) fs) ms × (IsWithin b (fault.members_count ms) × (meets_presence cs (has_member ms) ≡ true))
+object_down stored everywhere P n t fs preserves type b cs keys ms o h =
     let parts = (stored _ _).0 h.stored in
     let over = over_down everywhere P _ _ h.over in (
       h.tree,
       record {
         named = λ k w is.
             let f = declared (field_at k fs) (each_name (λ l. is_some (field_at l fs)) ms over.0 k w is) in
-            let s = slot_of_field keys fs k f.0 f.1 in
+            let s = slot_of_field keys (named cs) fs k f.0 f.1 in
             let here : IsStored f.0.node w = rw is at (parts.1.1 k f.0 f.1) in
-            let part : IsPart P (plain f.0.node) w = record { tree = member_tree k ms w h.tree is; stored = here; over = over.1 (name k) f.0.node w (leads_to_field n t fs preserves type b ms k f.0 w f.1 is) } in
+            let part : IsPart P (plain f.0.node) w = record { tree = member_tree k ms w h.tree is; stored = here; over = over.1 (name k) f.0.node w (leads_to_field n t fs preserves type b cs ms k f.0 w f.1 is) } in
             (s.0, s.1.0, s.1.1.0, subst (λ K. IsPart P K w) (sym s.1.1.1) part);
         present = λ s a must none.
-            let f = field_of_slot keys fs o s a in
+            let f = field_of_slot keys (named cs) fs o s a in
             let free = rw none at (parts.1.1 s.name f.0 f.1.0) in
             let no = f.1.1.2 in
             let no' = rw (free.0, free.1, must) at no in
@@ -164,15 +168,15 @@ object_down stored everywhere P n t fs preserves type b keys ms o h =
     )
 
 -- what stands under the name of a field is a part of its node
-field_part : (P : Pools) (keys : List (List ℕ)) (fs : Fields) (ms : Members) → AreOrdered fs → AreInSlots P (field_slots keys fs) ms → (k : List ℕ) (w : Data) → member_at k ms ≡ Some w → (f : Declared) × ((field_at k fs ≡ Some f) × IsPart P (plain f.node) w)
-field_part P keys fs ms o h k w is =
+field_part : (P : Pools) (keys names : List (List ℕ)) (fs : Fields) (ms : Members) → AreOrdered fs → AreInSlots P (field_slots keys names fs) ms → (k : List ℕ) (w : Data) → member_at k ms ≡ Some w → (f : Declared) × ((field_at k fs ≡ Some f) × IsPart P (plain f.node) w)
+field_part P keys names fs ms o h k w is =
     let s = h.named k w is in
-    let f = field_of_slot keys fs o s.0 s.1 in
+    let f = field_of_slot keys names fs o s.0 s.1 in
     (f.0, (subst (λ l. field_at l fs ≡ Some f.0) s.2 f.1.0, subst (λ N. IsPart P N w) f.1.1.1 s.3))
 
-part_of_field : (P : Pools) (keys : List (List ℕ)) (fs : Fields) (ms : Members) → AreOrdered fs → AreInSlots P (field_slots keys fs) ms → (k : List ℕ) (f : Declared) (w : Data) → field_at k fs ≡ Some f → member_at k ms ≡ Some w → IsPart P (plain f.node) w
-part_of_field P keys fs ms o h k f w is found =
-    let g = field_part P keys fs ms o h k w found in
+part_of_field : (P : Pools) (keys names : List (List ℕ)) (fs : Fields) (ms : Members) → AreOrdered fs → AreInSlots P (field_slots keys names fs) ms → (k : List ℕ) (f : Declared) (w : Data) → field_at k fs ≡ Some f → member_at k ms ≡ Some w → IsPart P (plain f.node) w
+part_of_field P keys names fs ms o h k f w is found =
+    let g = field_part P keys names fs ms o h k w found in
     subst (λ x. IsPart P (plain (Declared.node x)) w) (same_Some g.0 f (sym g.1.0 ∙ is)) g.1.1
 
 neither : (a b : Bool) → (a || b) ≡ false → (a ≡ false) × (b ≡ false)
@@ -183,47 +187,46 @@ is_none_of : {A : Type 0} (o : Option A) → is_some o ≡ false → o ≡ None
 is_none_of None e = refl
 is_none_of (Some x) e = absurd (cc)
 
-field_stored : (P : Pools) (keys : List (List ℕ)) (fs : Fields) (ms : Members) → AreOrdered fs → AreInSlots P (field_slots keys fs) ms → (k : List ℕ) (f : Declared) → field_at k fs ≡ Some f → IsStoredField f (member_at k ms)
-field_stored P keys fs ms o h k f is = elim (option_cases (member_at k ms)) [
+field_stored : (P : Pools) (keys names : List (List ℕ)) (fs : Fields) (ms : Members) → AreOrdered fs → AreInSlots P (field_slots keys names fs) ms → (k : List ℕ) (f : Declared) → field_at k fs ≡ Some f → IsStoredField f (member_at k ms)
+field_stored P keys names fs ms o h k f is = elim (option_cases (member_at k ms)) [
   | inl none ↦
-      let s = slot_of_field keys fs k f is in
+      let s = slot_of_field keys names fs k f is in
       let free : (f.required || is_some f.default) ≡ false = elim (bool_cases s.0.must) [
         | inl must ↦ absurd (h.present s.0 s.1.0 must (subst (λ l. member_at l ms ≡ None) (sym s.1.1.0) none))
         | inr e ↦ sym s.1.1.2 ∙ e
       ] in
       let e = neither f.required (is_some f.default) free in
       rw none (e.0, is_none_of f.default e.1)
-  | inr w ↦ rw w.1 (part_of_field P keys fs ms o h k f w.0 is w.1).stored
+  | inr w ↦ rw w.1 (part_of_field P keys names fs ms o h k f w.0 is w.1).stored
 ]
 
-object_below : (P : Pools) (n : Bool) (t : Option (List ℕ)) (fs : Fields) (preserves : Bool) (type : MapType) (b : Bounds) (keys : List (List ℕ)) (ms : Members) → AreOrdered fs
-    → AreInSlots P (field_slots keys fs) ms → Below P (node n t (object fs preserves type b)) (tree.object ms)
-object_below P n t fs preserves type b keys ms o h (name k) M w is =
+object_below : (P : Pools) (n : Bool) (t : Option (List ℕ)) (fs : Fields) (preserves : Bool) (type : MapType) (b : Bounds) (cs : Validations) (keys : List (List ℕ)) (ms : Members) → AreOrdered fs
+    → AreInSlots P (field_slots keys (named cs) fs) ms → Below P (node n t (object fs preserves type b cs)) (tree.object ms)
+object_below P n t fs preserves type b cs keys ms o h (name k) M w is =
     let q = part_from (option_map (λ f. f.node) (field_at k fs)) (member_at k ms) M w is in
     let f = node_from (field_at k fs) M q.0 in
-    subst (λ K. IsOver P K w) f.1.1 (part_of_field P keys fs ms o h k f.0 w f.1.0 q.1).over
-object_below P n t fs preserves type b keys ms o h (index i) M w is = absurd (cc)
+    subst (λ K. IsOver P K w) f.1.1 (part_of_field P keys (named cs) fs ms o h k f.0 w f.1.0 q.1).over
+object_below P n t fs preserves type b cs keys ms o h (index i) M w is = absurd (cc)
 
-pub object_up : StoredLaw → EverywhereLaw → (P : Pools) (n : Bool) (t : Option (List ℕ)) (fs : Fields) (preserves : Bool) (type : MapType) (b : Bounds) (keys : List (List ℕ)) (ms : Members) → AreOrdered fs
-    → AreMembers ms → AreInSlots P (field_slots keys fs) ms → IsWithin b (fault.members_count ms) → IsPart P (record { node = node n t (object fs preserves type b); keys = keys }) (tree.object ms)
-object_up stored everywhere P n t fs preserves type b keys ms o members h within = record {
+pub object_up : StoredLaw → EverywhereLaw → (P : Pools) (n : Bool) (t : Option (List ℕ)) (fs : Fields) (preserves : Bool) (type : MapType) (b : Bounds) (cs : Validations) (keys : List (List ℕ)) (ms : Members) → AreOrdered fs
+    → AreMembers ms → AreInSlots P (field_slots keys (named cs) fs) ms → IsWithin b (fault.members_count ms) × (meets_presence cs (has_member ms) ≡ true) → IsPart P (record { node = node n t (object fs preserves type b cs); keys = keys }) (tree.object ms)
+object_up stored everywhere P n t fs preserves type b cs keys ms o members h within = record {
   tree = members;
   stored = (stored _ _).1 (
     within,
     (
       (λ k none others. elim (option_cases (member_at k ms)) [
         | inl gone ↦ gone
-        | inr w ↦ let f = field_part P keys fs ms o h k w.0 w.1 in let no = sym none ∙ f.1.0 in absurd (cc)
+        | inr w ↦ let f = field_part P keys (named cs) fs ms o h k w.0 w.1 in let no = sym none ∙ f.1.0 in absurd (cc)
       ]),
-      field_stored P keys fs ms o h,
+      field_stored P keys (named cs) fs ms o h,
     ),
   );
-  over = over_up everywhere P _ _ (names_pass (λ l. is_some (field_at l fs)) ms members (λ k w is. let f = field_part P keys fs ms o h k w is in rw f.1.0 refl)) (object_below P n t fs preserves type b keys ms o h);
+  over = over_up everywhere P _ _ (names_pass (λ l. is_some (field_at l fs)) ms members (λ k w is. let f = field_part P keys (named cs) fs ms o h k w is in rw f.1.0 refl)) (object_below P n t fs preserves type b cs keys ms o h);
 }
 
 -- ---- maps
 
--- the names put in order are the same names, in the order of their bytes
 pub among_name : (k : List ℕ) (ls : List (List ℕ)) → is_among k ls ≡ true → Among ls k
 among_name k [] e = absurd (cc)
 among_name k (l ∷ ls) e = elim (bool_cases (bytes_eq k l)) [
@@ -235,63 +238,6 @@ pub name_among : (k : List ℕ) (ls : List (List ℕ)) → Among ls k → is_amo
 name_among k [] a = absurd a
 name_among k (l ∷ ls) (inl e) = rw (e, own_name k) refl
 name_among k (l ∷ ls) (inr a) = rw (name_among k ls a) (or_true (bytes_eq k l))
-
-abbrev AreNamesInOrder : List (List ℕ) → Type 0
-AreNamesInOrder ks = Rising (λ k l. text_cmp k l ≡ Less) ks
-
--- putting in a name: it is there then, with the others, and the order is kept
-put_new : (k : List ℕ) (ls : List (List ℕ)) → Among (with_name k ls) k
-put_new k [] = inl refl
-put_new k (l ∷ ls) = elim (ordering_cases (text_cmp k l)) [
-  | inl less ↦ rw less (inl refl)
-  | inr (inl same) ↦ rw same (inl (sym (exact_bytes k l same)))
-  | inr (inr past) ↦ rw past (inr (put_new k ls))
-]
-
-put_old : (k : List ℕ) (ls : List (List ℕ)) (m : List ℕ) → Among ls m → Among (with_name k ls) m
-put_old k [] m a = absurd a
-put_old k (l ∷ ls) m a = elim (ordering_cases (text_cmp k l)) [
-  | inl less ↦ rw less (inr a)
-  | inr (inl same) ↦ rw same a
-  | inr (inr past) ↦ rw past (elim a as (λ _. (l ≡ m) ⊎ Among (with_name k ls) m) [ inl e ↦ inl e | inr b ↦ inr (put_old k ls m b) ])
-]
-
-put_only : (k : List ℕ) (ls : List (List ℕ)) (m : List ℕ) → Among (with_name k ls) m → (k ≡ m) ⊎ Among ls m
-put_only k [] m a = elim a [ inl e ↦ inl e | inr n ↦ absurd n ]
-put_only k (l ∷ ls) m a = elim (ordering_cases (text_cmp k l)) [
-  | inl less ↦ rw less at a
-  | inr (inl same) ↦ inr (rw same at a)
-  | inr (inr past) ↦
-      let b : (l ≡ m) ⊎ Among (with_name k ls) m = rw past at a in
-      elim b as (λ _. (k ≡ m) ⊎ ((l ≡ m) ⊎ Among ls m)) [
-        | inl e ↦ inr (inl e)
-        | inr c ↦ elim (put_only k ls m c) as (λ _. (k ≡ m) ⊎ ((l ≡ m) ⊎ Among ls m)) [ inl e ↦ inl e | inr d ↦ inr (inr d) ]
-      ]
-]
-
-turned : (k l : List ℕ) → text_cmp k l ≡ Greater → text_cmp l k ≡ Less
-turned k l past = let t = nat_list_cmp_total.antisymm l k in rw past at t
-
-put_in_order : (k : List ℕ) (ls : List (List ℕ)) → AreNamesInOrder ls → AreNamesInOrder (with_name k ls)
-put_in_order k [] o = ((λ v a. absurd a), tt)
-put_in_order k (l ∷ ls) o = elim (ordering_cases (text_cmp k l)) [
-  | inl less ↦ rw less ((λ v a. elim a as (λ _. text_cmp k v ≡ Less) [ inl e ↦ rw e at less | inr b ↦ nat_list_cmp_total.trans k l v less (o.0 v b) ]), o)
-  | inr (inl same) ↦ rw same o
-  | inr (inr past) ↦ rw past ((λ v a. elim (put_only k ls v a) as (λ _. text_cmp l v ≡ Less) [ inl e ↦ rw e at (turned k l past) | inr b ↦ o.0 v b ]), put_in_order k ls o.1)
-]
-
-pub in_order_rising : (ks : List (List ℕ)) → AreNamesInOrder (in_order ks)
-in_order_rising [] = tt
-in_order_rising (k ∷ ks) = put_in_order k (in_order ks) (in_order_rising ks)
-
-pub in_order_has : (ks : List (List ℕ)) (m : List ℕ) → Among ks m → Among (in_order ks) m
-in_order_has [] m a = absurd a
-in_order_has (k ∷ ks) m (inl e) = rw (← e) (put_new k (in_order ks))
-in_order_has (k ∷ ks) m (inr a) = put_old k (in_order ks) m (in_order_has ks m a)
-
-pub in_order_only : (ks : List (List ℕ)) (m : List ℕ) → Among (in_order ks) m → Among ks m
-in_order_only [] m a = a
-in_order_only (k ∷ ks) m a = elim (put_only k (in_order ks) m a) as (λ _. (k ≡ m) ⊎ Among ks m) [ inl e ↦ inl e | inr b ↦ inr (in_order_only ks m b) ]
 
 value_slot_of : (N : Node) (ks : List (List ℕ)) (k : List ℕ) → Among ks k → Among (map (value_slot N) ks) (value_slot N k)
 value_slot_of N [] k a = absurd a
@@ -398,47 +344,54 @@ null_part : EverywhereLaw → (P : Pools) (s : Site) → IsStored s.node tree.nu
 null_part everywhere P s here over = record { tree = tt; stored = here; over = over_up everywhere P s.node tree.null over (λ step M w is. absurd (cc)) }
 
 -- an object in whose slots parts stand
-filled_object : (P : Pools) (s : Site) (ms : Members) → AreInOrder (slots P s) → AreMembers ms → AreInSlots P (slots P s) ms → IsWithin (bounds_of s) (fault.members_count ms) → IsObjectPart P s (tree.object ms)
-filled_object P s ms o members h within =
+filled_object : (P : Pools) (s : Site) (ms : Members) → AreInOrder (slots P s) → HaveBits (named (ending_of s).asked) (slots P s) → AreMembers ms → AreInSlots P (slots P s) ms
+    → IsWithin (ending_of s).bounds (fault.members_count ms) × (meets_presence (ending_of s).asked (has_member ms) ≡ true) → IsObjectPart P s (tree.object ms)
+filled_object P s ms o bits members h ends =
+    let e = ending_of s in
     let r = fill P (slots P s) ms o members h in
-    record { fillings = r.0; is = ap tree.object r.2; are = r.1; within = subst (IsWithin (bounds_of s)) (ap fault.members_count r.2 ∙ in_count P (slots P s) r.0 r.1) within }
+    record {
+      fillings = r.0;
+      is = ap tree.object r.2;
+      are = r.1;
+      ends = (ends_in e (slots P s) r.0 bits).1 (subst (λ ns. IsWithin e.bounds (fault.members_count ns) × (meets_presence e.asked (has_member ns) ≡ true)) r.2 ends);
+    }
 
 abbrev IsRowCase : Pools → Site → Data → Type 0
 IsRowCase P s v = IsNullPart s v ⊎ IsObjectPart P s v
 
-object_cases : StoredLaw → EverywhereLaw → (P : Pools) (keys : List (List ℕ)) (n : Bool) (t : Option (List ℕ)) (fs : Fields) (preserves : Bool) (type : MapType) (b : Bounds) (v : Data) → AreOrdered fs
-    → IsPart P (record { node = node n t (object fs preserves type b); keys = keys }) v → IsRowCase P (record { node = node n t (object fs preserves type b); keys = keys }) v
-object_cases stored everywhere P keys n t fs preserves type b tree.null o h = inl (refl, ((stored _ _).0 h.stored).0)
-object_cases stored everywhere P keys n t fs preserves type b (tree.object ms) o h =
-    let d = object_down stored everywhere P n t fs preserves type b keys ms o h in
-    inr (filled_object P (record { node = node n t (object fs preserves type b); keys = keys }) ms (fields_in_order keys fs o) d.0 d.1 d.2)
-object_cases stored everywhere P keys n t fs preserves type b (tree.boolean x) o h = absurd ((stored _ _).0 h.stored).0
-object_cases stored everywhere P keys n t fs preserves type b (tree.integer x) o h = absurd ((stored _ _).0 h.stored).0
-object_cases stored everywhere P keys n t fs preserves type b (tree.text x) o h = absurd ((stored _ _).0 h.stored).0
-object_cases stored everywhere P keys n t fs preserves type b (tree.list x) o h = absurd ((stored _ _).0 h.stored).0
+object_cases : StoredLaw → EverywhereLaw → (P : Pools) (keys : List (List ℕ)) (n : Bool) (t : Option (List ℕ)) (fs : Fields) (preserves : Bool) (type : MapType) (b : Bounds) (cs : Validations) (v : Data) → AreOrdered fs
+    → IsPart P (record { node = node n t (object fs preserves type b cs); keys = keys }) v → IsRowCase P (record { node = node n t (object fs preserves type b cs); keys = keys }) v
+object_cases stored everywhere P keys n t fs preserves type b cs tree.null o h = inl (refl, ((stored _ _).0 h.stored).0)
+object_cases stored everywhere P keys n t fs preserves type b cs (tree.object ms) o h =
+    let d = object_down stored everywhere P n t fs preserves type b cs keys ms o h in
+    inr (filled_object P (record { node = node n t (object fs preserves type b cs); keys = keys }) ms (fields_in_order keys (named cs) fs o) (field_bits keys (named cs) fs) d.0 d.1 d.2)
+object_cases stored everywhere P keys n t fs preserves type b cs (tree.boolean x) o h = absurd ((stored _ _).0 h.stored).0
+object_cases stored everywhere P keys n t fs preserves type b cs (tree.integer x) o h = absurd ((stored _ _).0 h.stored).0
+object_cases stored everywhere P keys n t fs preserves type b cs (tree.text x) o h = absurd ((stored _ _).0 h.stored).0
+object_cases stored everywhere P keys n t fs preserves type b cs (tree.list x) o h = absurd ((stored _ _).0 h.stored).0
 
 abbrev RowLaw : Pools → Site → Data → Type 0
 RowLaw P s v = IsPart P s v ↔ IsRowCase P s v
 
-object_row : StoredLaw → EverywhereLaw → (P : Pools) (keys : List (List ℕ)) (n : Bool) (t : Option (List ℕ)) (fs : Fields) (preserves : Bool) (type : MapType) (b : Bounds) (v : Data) → AreOrdered fs
-    → RowLaw P (record { node = node n t (object fs preserves type b); keys = keys }) v
-object_row stored everywhere P keys n t fs preserves type b v o =
-    let s : Site = record { node = node n t (object fs preserves type b); keys = keys } in
+object_row : StoredLaw → EverywhereLaw → (P : Pools) (keys : List (List ℕ)) (n : Bool) (t : Option (List ℕ)) (fs : Fields) (preserves : Bool) (type : MapType) (b : Bounds) (cs : Validations) (v : Data) → AreOrdered fs
+    → RowLaw P (record { node = node n t (object fs preserves type b cs); keys = keys }) v
+object_row stored everywhere P keys n t fs preserves type b cs v o =
+    let s : Site = record { node = node n t (object fs preserves type b cs); keys = keys } in
     let up : (u : Data) → IsRowCase P s u → IsPart P s u = λ u h. elim h as (λ _. IsPart P s u) [
       | inl null ↦ rw null.0 (null_part everywhere P s ((stored s.node tree.null).1 (null.1, tt)) refl)
       | inr q ↦
-          let members = in_members P (slots P s) q.fillings (fields_in_order keys fs o) q.are in
-          let inside = in_slots P (slots P s) q.fillings (fields_in_order keys fs o) q.are in
-          rw q.is (object_up stored everywhere P n t fs preserves type b keys _ o members inside (rw (in_count P (slots P s) q.fillings q.are) q.within))
+          let members = in_members P (slots P s) q.fillings (fields_in_order keys (named cs) fs o) q.are in
+          let inside = in_slots P (slots P s) q.fillings (fields_in_order keys (named cs) fs o) q.are in
+          rw q.is (object_up stored everywhere P n t fs preserves type b cs keys _ o members inside ((ends_in (ending_of s) (slots P s) q.fillings (field_bits keys (named cs) fs)).0 q.ends))
     ] in
-    (object_cases stored everywhere P keys n t fs preserves type b v o, up v)
+    (object_cases stored everywhere P keys n t fs preserves type b cs v o, up v)
 
 map_cases : StoredLaw → EverywhereLaw → (P : Pools) (keys : List (List ℕ)) (n : Bool) (t : Option (List ℕ)) (M : Node) (type : MapType) (b : Bounds) (v : Data)
     → IsPart P (record { node = node n t (nodes.map M type b); keys = keys }) v → IsRowCase P (record { node = node n t (nodes.map M type b); keys = keys }) v
 map_cases stored everywhere P keys n t M type b tree.null h = inl (refl, ((stored _ _).0 h.stored).0)
 map_cases stored everywhere P keys n t M type b (tree.object ms) h =
     let d = map_down stored everywhere P keys n t M type b ms h in
-    inr (filled_object P (record { node = node n t (nodes.map M type b); keys = keys }) ms (values_in_order M P.names) d.0 d.1 d.2)
+    inr (filled_object P (record { node = node n t (nodes.map M type b); keys = keys }) ms (values_in_order M P.names) (value_bits M (in_order P.names)) d.0 d.1 (d.2, refl))
 map_cases stored everywhere P keys n t M type b (tree.boolean x) h = absurd ((stored _ _).0 h.stored).0
 map_cases stored everywhere P keys n t M type b (tree.integer x) h = absurd ((stored _ _).0 h.stored).0
 map_cases stored everywhere P keys n t M type b (tree.text x) h = absurd ((stored _ _).0 h.stored).0
@@ -450,7 +403,7 @@ map_row stored everywhere P keys n t M type b v =
     let o = values_in_order M P.names in
     let up : (u : Data) → IsRowCase P s u → IsPart P s u = λ u h. elim h as (λ _. IsPart P s u) [
       | inl null ↦ rw null.0 (null_part everywhere P s ((stored s.node tree.null).1 (null.1, tt)) refl)
-      | inr q ↦ rw q.is (map_up stored everywhere P keys n t M type b _ (in_members P (slots P s) q.fillings o q.are) (in_slots P (slots P s) q.fillings o q.are) (rw (in_count P (slots P s) q.fillings q.are) q.within))
+      | inr q ↦ rw q.is (map_up stored everywhere P keys n t M type b _ (in_members P (slots P s) q.fillings o q.are) (in_slots P (slots P s) q.fillings o q.are) ((ends_in (ending_of s) (slots P s) q.fillings (value_bits M (in_order P.names))).0 q.ends).0)
     ] in
     (map_cases stored everywhere P keys n t M type b v, up v)
 
@@ -474,7 +427,7 @@ list_up_cases stored everywhere P own n t M type keys b v (inl null) = rw null.0
 list_up_cases stored everywhere P own n t M type keys b v (inr q) = rw q.is (list_up stored everywhere P own n t M type keys b q.items q.are q.apart q.within)
 
 row_law : StoredLaw → EverywhereLaw → (P : Pools) (N : Node) (keys : List (List ℕ)) (v : Data) → IsNode N → sort_at N ≡ Row → RowLaw P (record { node = N; keys = keys }) v
-row_law stored everywhere P (node n t (object fs preserves type b)) keys v o is = object_row stored everywhere P keys n t fs preserves type b v o
+row_law stored everywhere P (node n t (object fs preserves type b cs)) keys v o is = object_row stored everywhere P keys n t fs preserves type b cs v o
 row_law stored everywhere P (node n t (nodes.map M type b)) keys v o is = map_row stored everywhere P keys n t M type b v
 row_law stored everywhere P (node n t (scalar kind cs)) keys v o is = absurd (cc)
 row_law stored everywhere P (node n t (list M type ks b)) keys v o is = absurd (cc)
@@ -483,7 +436,7 @@ row_law stored everywhere P (node n t open_) keys v o is = absurd (cc)
 list_law : StoredLaw → EverywhereLaw → (P : Pools) (N : Node) (keys : List (List ℕ)) (M : Site) (v : Data) → item_site (record { node = N; keys = keys }) ≡ Some M → IsPart P (record { node = N; keys = keys }) v ↔ IsListCase P (record { node = N; keys = keys }) M v
 list_law stored everywhere P (node n t (list K type ks b)) keys M v is =
     rw (← same_Some _ M is) (list_cases stored everywhere P keys n t (record { node = K; keys = item_keys type ks }) type ks b v, list_up_cases stored everywhere P keys n t (record { node = K; keys = item_keys type ks }) type ks b v)
-list_law stored everywhere P (node n t (object fs preserves type b)) keys M v is = absurd (cc)
+list_law stored everywhere P (node n t (object fs preserves type b cs)) keys M v is = absurd (cc)
 list_law stored everywhere P (node n t (nodes.map K type b)) keys M v is = absurd (cc)
 list_law stored everywhere P (node n t (scalar kind cs)) keys M v is = absurd (cc)
 list_law stored everywhere P (node n t open_) keys M v is = absurd (cc)
@@ -496,7 +449,7 @@ never_part (Some v) M w e = cc
 leaf_below : (P : Pools) (N : Node) (v : Data) → sort_at N ≡ Leaf → Below P N v
 leaf_below P (node n t (scalar kind cs)) v leaf s M w is = absurd (never_part (part_by v s) M w is)
 leaf_below P (node n t open_) v leaf s M w is = absurd (never_part (part_by v s) M w is)
-leaf_below P (node n t (object fs preserves type b)) v leaf s M w is = absurd (cc)
+leaf_below P (node n t (object fs preserves type b cs)) v leaf s M w is = absurd (cc)
 leaf_below P (node n t (nodes.map K type b)) v leaf s M w is = absurd (cc)
 leaf_below P (node n t (list K type ks b)) v leaf s M w is = absurd (cc)
 

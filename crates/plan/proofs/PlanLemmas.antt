@@ -1,5 +1,5 @@
 -- What is known of an entry of a plan.
-use Rattle.std.specs.Prelude.{◌≡◌, ℕ, ◌+◌, ◌-◌, ◌≤◌, ◌<◌, ◌⊎◌, zero, suc, ◌∷◌, List, IfNone, Option, slice_get, drop, Contains, length, get_or, Some, None, []}
+use Rattle.std.specs.Prelude.{◌≡◌, ℕ, ◌+◌, ◌-◌, ◌%◌, ◌^◌, ◌≤◌, ◌<◌, ◌⊎◌, zero, suc, ◌∷◌, List, IfNone, Option, slice_get, drop, Contains, length, get_or, Some, None, []}
 use Rattle.std.specs.declared.vec.Vec.{Vec}
 use Rattle.std.specs.declared.alloc.Global.{Global}
 use Rattle.std.proofs.Common.{refl, ap, sym, ◌∙◌, subst, inl, inr, arith}
@@ -15,8 +15,11 @@ use Rattle.plan.specs.Sets.{IsEmptyFrom}
 use Rattle.jtree.specs.Data.{Items, no_items, item}
 use Rattle.jtree.specs.Nodes.{items_count}
 use Rattle.std.proofs.lemmas.Option.{same_Some}
+use Rattle.std.proofs.lemmas.Nat.{pow_pos, mod_below}
 use Rattle.plan.specs.Samples.Candidates.{sort_at, sort_of, distinct_at, distinct_of, HasCount}
-use Rattle.plan.specs.Samples.Sizes.{HasRest, HasMore, items_from, IsUpTo}
+use Rattle.plan.specs.Samples.Sizes.{HasRest, HasMore, items_from, ending_of, IsUpTo}
+use Rattle.plan.specs.Samples.Presence.{named}
+use Rattle.plan.specs.Internal.Tables.{IsTable, HasShape}
 use Rattle.plan.specs.declared.sort.Distinct.TheVariants.{Free}
 use Rattle.plan.specs.declared.sort.Sort.TheVariants.{Leaf as LeafSort, Row as RowSort, List as ListSort}
 use Rattle.plan.specs.declared.leaf.Leaf.{Leaf}
@@ -34,6 +37,8 @@ use Rattle.std.proofs.lemmas.List.{get_or_default}
 use Rattle.jtree.specs.Internal.Rising.{Among, contains}
 use Rattle.plan.specs.Samples.Keys.{AreKeySlots, HasTuples}
 use Rattle.plan.proofs.EntryLemmas.{slot_count}
+use Rattle.plan.proofs.RowLemmas.{shape_at, width_at, table_at}
+use Rattle.plan.proofs.SeenLemmas.{low_up_to}
 use Rattle.plan.proofs.ListLemmas.{count_nodes}
 
 -- the entry of a number, in the words of the plan's view
@@ -43,22 +48,42 @@ entry_right {Z = Z} holds BITS root P limit v es first q i e plan view within is
     let r : i < length (sites_of root) → IsRight holds limit P v (sites_of root) i e = λ l. rw (← is) at (plan.right i e (omega (arith, plan.count))) in
     subst (λ (x : Question). i < length (sites_of x.root) → IsRight holds x.limit x.pools v (sites_of x.root) i e) view r within
 
--- the level of a place is long enough, and its set is that of the sizes
-pub level_long : {Z : Type 0} (holds : Z → ℕ → Type 0) (limit : ℕ) (P : Pools) (names : List (List ℕ)) (sites : List Site) (i : ℕ) (r : RowEntry Z) (k place taken : ℕ) (level : Vec Z Global)
-    → IsRow holds limit P names sites i r → k + place ≡ length r.slots.items → taken ≤ place → level ≡ get_or r.levels.items k level → taken < length level.items
-level_long holds limit P names sites i r k place taken level row at within is =
-    let s = rw (← is) at (row.shaped k level (omega (arith, row.whole))) in
-    omega arith
+-- the table of a place has a level for each set of the named fields, which is long enough, and its set is that of the sizes
+pub table_shape : {Z : Type 0} (holds : Z → ℕ → Type 0) (limit : ℕ) (P : Pools) (names : List (List ℕ)) (sites : List Site) (i : ℕ) (r : RowEntry Z) (k place : ℕ) (table : Vec (Vec Z Global) Global) → IsRow holds limit P names sites i r → k + place ≡ length r.slots.items
+    → table ≡ get_or r.tables.items k table → HasShape (2 ^ length (named (ending_of (site_at sites i)).asked)) (place + 1) table.items
+table_shape holds limit P names sites i r k place table row at is =
+    let kinds = 2 ^ length (named (ending_of (site_at sites i)).asked) in
+    let count = length r.slots.items in
+    let e : count + 1 - k ≡ place + 1 = omega arith in
+    rw e at (shape_at count kinds r.tables.items k table table.items row.shaped (omega (arith, row.whole)) is refl)
 
-pub level_rest : {Z : Type 0} (holds : Z → ℕ → Type 0) (limit : ℕ) (P : Pools) (names : List (List ℕ)) (sites : List Site) (i : ℕ) (r : RowEntry Z) (k place taken : ℕ) (level : Vec Z Global) (z : Z)
-    → IsRow holds limit P names sites i r → k + place ≡ length r.slots.items → taken ≤ place → level ≡ get_or r.levels.items k level → z ≡ get_or level.items taken z → IsUpTo limit (holds z) (HasRest P (site_at sites i) place taken)
-level_rest holds limit P names sites i r k place taken level z row at within is is_z =
-    let long = level_long holds limit P names sites i r k place taken level row at within is in
-    let count = slot_count names sites i r.slots.items (slots P (site_at sites i)) row.are in
-    let m = rw (← is) at (row.levels k level (omega (arith, row.whole))) in
-    let e : length (slots P (site_at sites i)) - k ≡ place = omega arith in
-    let n = rw (← is_z) at (m taken z long) in
-    rw e at n
+pub table_some : {Z : Type 0} (holds : Z → ℕ → Type 0) (limit : ℕ) (P : Pools) (names : List (List ℕ)) (sites : List Site) (i : ℕ) (r : RowEntry Z) (k place : ℕ) (table : Vec (Vec Z Global) Global) → IsRow holds limit P names sites i r → k + place ≡ length r.slots.items
+    → table ≡ get_or r.tables.items k table → 0 < length table.items
+table_some holds limit P names sites i r k place table row at is =
+    let shape = table_shape holds limit P names sites i r k place table row at is in
+    omega (arith, shape.whole, pow_pos (length (named (ending_of (site_at sites i)).asked)))
+
+pub level_long : {Z : Type 0} (holds : Z → ℕ → Type 0) (limit : ℕ) (P : Pools) (names : List (List ℕ)) (sites : List Site) (i : ℕ) (r : RowEntry Z) (k place low taken : ℕ) (table : Vec (Vec Z Global) Global) (level : Vec Z Global)
+    → IsRow holds limit P names sites i r → k + place ≡ length r.slots.items → taken ≤ place → table ≡ get_or r.tables.items k table → low < length table.items → level ≡ get_or table.items low level → taken < length level.items
+level_long holds limit P names sites i r k place low taken table level row at within is inside is_level =
+    let shape = table_shape holds limit P names sites i r k place table row at is in
+    let wide = width_at (2 ^ length (named (ending_of (site_at sites i)).asked)) (place + 1) table.items low level shape inside is_level in
+    omega (arith, wide)
+
+pub table_rest : {Z : Type 0} (holds : Z → ℕ → Type 0) (limit : ℕ) (P : Pools) (names : List (List ℕ)) (sites : List Site) (i : ℕ) (r : RowEntry Z) (k place taken seen low : ℕ) (table : Vec (Vec Z Global) Global) (level : Vec Z Global) (z : Z)
+    → IsRow holds limit P names sites i r → k + place ≡ length r.slots.items → taken ≤ place → table ≡ get_or r.tables.items k table → low ≡ seen % length table.items → level ≡ get_or table.items low level → z ≡ get_or level.items taken z
+    → IsUpTo limit (holds z) (HasRest P (site_at sites i) place (record { count = taken; seen = seen }))
+table_rest holds limit P names sites i r k place taken seen low table level z row at within is is_low is_level is_z =
+    let s = site_at sites i in
+    let shape = table_shape holds limit P names sites i r k place table row at is in
+    let some = table_some holds limit P names sites i r k place table row at is in
+    let inside : low < length table.items = rw is_low (mod_below seen (length table.items) some) in
+    let long = level_long holds limit P names sites i r k place low taken table level row at within is inside is_level in
+    let count = slot_count names sites i r.slots.items (slots P s) row.are in
+    let e : length (slots P s) - k ≡ place = omega arith in
+    let here : IsTable holds limit (ending_of s) P (drop place (slots P s)) table.items = rw e at (rw (← is) at (row.tables k table (omega (arith, row.whole)))) in
+    let set = rw (← is_z) at (table_at holds limit (ending_of s) P (drop place (slots P s)) table.items low level level.items here inside is_level refl taken z long) in
+    low_up_to limit P (drop place (slots P s)) (ending_of s) taken seen (holds z) (rw (is_low, shape.whole) at set)
 
 -- as many items as the limit leave no room for the list
 pub more_ends : (limit : ℕ) (P : Pools) (s : Site) (t m : ℕ) → limit ≤ t → HasMore P limit s t m → ⊥
@@ -70,7 +95,7 @@ none_more limit P s t S l none n = ((λ held. absurd (none n held)), λ h. absur
 -- a node of another sort is none of lists
 pub not_list : (N : Node) → (sort_at N ≡ ListSort → ⊥) → distinct_at N ≡ Free
 not_list (node n t (scalar kind cs)) h = refl
-not_list (node n t (object fs preserves type b)) h = refl
+not_list (node n t (object fs preserves type b cs)) h = refl
 not_list (node n t (nodes.map M type b)) h = refl
 not_list (node n t (list M type keys b)) h = absurd (h refl)
 not_list (node n t open_) h = refl
@@ -84,7 +109,7 @@ row_sort holds limit P v sites i e r right is = let h = rw is at right.content i
 
 node_item_sort : (N : Node) (M : Site) → item_site_at N ≡ Some M → sort_at N ≡ ListSort
 node_item_sort (node n t (scalar kind cs)) M is = absurd (cc)
-node_item_sort (node n t (object fs preserves type b)) M is = absurd (cc)
+node_item_sort (node n t (object fs preserves type b cs)) M is = absurd (cc)
 node_item_sort (node n t (nodes.map N type b)) M is = absurd (cc)
 node_item_sort (node n t (list N type keys b)) M is = refl
 node_item_sort (node n t open_) M is = absurd (cc)
@@ -148,11 +173,11 @@ slot_at names sites i (x ∷ es) (s ∷ ss) zero e h is = (s, (refl, subst (λ y
 slot_at names sites i (x ∷ es) (s ∷ ss) (suc place) e h is = slot_at names sites i es ss place e h.1 is
 
 pub row_slot : {Z : Type 0} (holds : Z → ℕ → Type 0) (limit : ℕ) (P : Pools) (names : List (List ℕ)) (sites : List Site) (i place : ℕ) (r : RowEntry Z) (e : SlotEntry) (t : PlanSlot) → IsRow holds limit P names sites i r → slice_get r.slots.items place ≡ Some e
-    → t.name.now ≡ name_of names e.name → t.node ≡ e.node → t.must ≡ e.must → t.key ≡ e.key → IsSlotAt sites (slots P (site_at sites i)) place t × (t.node < i)
-row_slot holds limit P names sites i place r e t row is name same must key =
+    → t.name.now ≡ name_of names e.name → t.node ≡ e.node → t.must ≡ e.must → t.key ≡ e.key → t.bit ≡ e.bit → IsSlotAt sites (slots P (site_at sites i)) place t × (t.node < i)
+row_slot holds limit P names sites i place r e t row is name same must key bit =
     let s = slot_at names sites i r.slots.items (slots P (site_at sites i)) place e row.are is in
     let h = s.1.1 in
-    (record { slot = s.0; is = s.1.0; name = name ∙ h.name; node = rw same h.node; must = must ∙ h.must; key = key ∙ h.key }, rw same h.below)
+    (record { slot = s.0; is = s.1.0; name = name ∙ h.name; node = rw same h.node; must = must ∙ h.must; key = key ∙ h.key; bit = bit ∙ h.bit }, rw same h.below)
 
 drop_among : {X : Type 0} (n : ℕ) (xs : List X) (x : X) → Among (drop n xs) x → Among xs x
 drop_among zero xs x a = a

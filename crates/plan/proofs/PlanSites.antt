@@ -30,7 +30,7 @@ use Rattle.plan.proofs.DeadEndLemmas.{HasCandidates, HaveCandidates, counts, rul
 use Rattle.plan.proofs.PartLemmas.{StoredLaw}
 use Rattle.plan.proofs.PlanLemmas.{item_sort}
 use Rattle.plan.proofs.SoundPartLemmas.{sound_parts}
-use Rattle.plan.proofs.SoundLemmas.{ItemsLaw, IsSoundSite, sites_sound, sound_here}
+use Rattle.plan.proofs.SoundLemmas.{SchemaLaws, IsSoundSite, sites_sound, sound_here}
 
 slot_entry : (names : List (List ℕ)) (sites : List Site) (i : ℕ) (es : List SlotEntry) (ss : List Slot) → AreSlots names sites i es ss → (s : Slot) → Among ss s → (e : SlotEntry) × IsSlot names sites i e s
 slot_entry names sites i [] [] h s a = absurd a
@@ -72,29 +72,29 @@ module _ {Z : Type 0} (holds : Z → ℕ → Type 0) (limit : ℕ) (P : Pools) (
         })
 
 -- at each site of a plan, in the words of its view
-pub plan_rules : StoredLaw → PartLaws → ItemsLaw → {Z : Type 0} (holds : Z → ℕ → Type 0) (BITS : ℕ) (root : Node) (P : Pools) (limit : ℕ) (v : Values) (es : List (Entry Z)) (first : ℕ) (q : Question)
+pub plan_rules : StoredLaw → PartLaws → SchemaLaws → {Z : Type 0} (holds : Z → ℕ → Type 0) (BITS : ℕ) (root : Node) (P : Pools) (limit : ℕ) (v : Values) (es : List (Entry Z)) (first : ℕ) (q : Question)
     → IsSchema root → IsPlan holds BITS root P limit v es first → record { root = root; pools = P; limit = limit } ≡ q → (s : Site) → Contains (sites_of q.root) s → RuleOfParts q.pools q.limit s × NoDeadEnd q.pools q.limit s
-plan_rules stored laws items holds BITS root P limit v es first q schema plan view =
+plan_rules stored laws schema_laws holds BITS root P limit v es first q schema plan view =
     let sites = sites_of root in
     let have = candidates holds limit P v sites es plan.count plan.right in
     subst (λ (x : Question). (s : Site) → Contains (sites_of x.root) s → RuleOfParts x.pools x.limit s × NoDeadEnd x.pools x.limit s) view (λ s c.
-    let sound = All-contains (IsSoundSite sites) sites s (sites_sound items root schema) c in (
+    let sound = All-contains (IsSoundSite sites) sites s (sites_sound schema_laws root schema) c in (
       rule_of_parts laws P limit s sound.0 (have s c).own,
       no_dead_end stored laws P limit s sound.0 (sound_here s.node sound.1) (λ M is. have M (contains sites M (sound.2 M is))),
     ))
 
-pub plan_parts : StoredLaw → PartLaws → ItemsLaw → (root : Node) (P : Pools) (limit : ℕ) (q : Question) → IsSchema root → record { root = root; pools = P; limit = limit } ≡ q
+pub plan_parts : StoredLaw → PartLaws → SchemaLaws → (root : Node) (P : Pools) (limit : ℕ) (q : Question) → IsSchema root → record { root = root; pools = P; limit = limit } ≡ q
     → (s : Site) → Contains (sites_of q.root) s → HasSoundParts q.pools s × ((M : Site) → item_site s ≡ Some M → Contains (sites_of q.root) M)
-plan_parts stored laws items root P limit q schema view =
+plan_parts stored laws schema_laws root P limit q schema view =
     let sites = sites_of root in
     subst (λ (x : Question). (s : Site) → Contains (sites_of x.root) s → HasSoundParts x.pools s × ((M : Site) → item_site s ≡ Some M → Contains (sites_of x.root) M)) view (λ s c.
-    let sound = All-contains (IsSoundSite sites) sites s (sites_sound items root schema) c in
+    let sound = All-contains (IsSoundSite sites) sites s (sites_sound schema_laws root schema) c in
     (sound_parts stored laws P s sound.0 (sound_here s.node sound.1) sound.3, λ M is. contains sites M (sound.2 M is)))
 
 -- ---- the keys of a row
 
 slot_row : (P : Pools) (N : Node) (keys : List (List ℕ)) (t : Slot) → Among (slots_at P N keys) t → sort_at N ≡ Row
-slot_row P (node n d (object fs preserves type b)) keys t a = refl
+slot_row P (node n d (object fs preserves type b cs)) keys t a = refl
 slot_row P (node n d (nodes.map M type b)) keys t a = refl
 slot_row P (node n d (scalar kind cs)) keys t a = absurd a
 slot_row P (node n d (list M type ks b)) keys t a = absurd a

@@ -5,75 +5,67 @@ use Rattle.std.specs.declared.vec.Vec.{Vec}
 use Rattle.std.specs.declared.alloc.Global.{Global}
 use Rattle.jtree.specs.Data.{Data}
 use Rattle.jtree.specs.Nodes.{node_count}
-use Rattle.schema.specs.declared.node.Bounds.{Bounds}
-use Rattle.stored.specs.Objects.StoredByParts.{IsWithin}
 use Rattle.plan.specs.Pools.Pools.{Pools}
 use Rattle.plan.specs.Sets.{IsSum}
 use Rattle.plan.specs.Samples.Sites.{Slot}
-use Rattle.plan.specs.Samples.Sizes.{HasSize, AreFillings, filled_nodes, filled_count, CanFill, IsUpTo}
-use Rattle.plan.specs.Internal.Tables.{IsLevel, AreChoices, AreShaped, AreLevels}
+use Rattle.plan.specs.Samples.Sizes.{HasSize, AreFillings, filled_nodes, Before, filled, state_after, Ending, MayEnd, CanFill, IsUpTo}
+use Rattle.plan.specs.Internal.Tables.{IsLevel, IsTable, HasShape, AreChoices, AreShaped, AreTables}
 use Rattle.plan.specs.declared.rows.Choice.{Choice}
 use Rattle.plan.proofs.SizeLemmas.{sum_up_to, each_push}
 
-zero_more : (t : ℕ) → t + 0 ≡ t
-zero_more t = omega arith
-
-one_more : (t n : ℕ) → t + (1 + n) ≡ t + 1 + n
-one_more t n = omega arith
-
-no_fillings : (P : Pools) (b : Bounds) (t m : ℕ) (gs : List (Option Data)) → AreFillings P [] gs → IsWithin b (t + filled_count gs) → filled_nodes gs ≡ m → (m ≡ 0) × IsWithin b t
-no_fillings P b t m [] h within nodes = (sym nodes, rw zero_more at within)
-no_fillings P b t m (g ∷ gs) h within nodes = absurd h
+no_fillings : (P : Pools) (e : Ending) (x : Before) (m : ℕ) (gs : List (Option Data)) → AreFillings P [] gs → MayEnd e (state_after [] gs x) → filled_nodes gs ≡ m → (m ≡ 0) × MayEnd e x
+no_fillings P e x m [] h ends nodes = (sym nodes, ends)
+no_fillings P e x m (g ∷ gs) h ends nodes = absurd h
 
 -- no slot is left
-pub fill_none : (P : Pools) (b : Bounds) (t m : ℕ) → CanFill P [] b t m ↔ ((m ≡ 0) × IsWithin b t)
-fill_none P b t m = (
-  (λ h. no_fillings P b t m h.fillings h.are h.within h.nodes_are),
-  λ h. record { fillings = []; are = tt; within = rw zero_more h.1; nodes_are = sym h.0 },
+pub fill_none : (P : Pools) (e : Ending) (x : Before) (m : ℕ) → CanFill P [] e x m ↔ ((m ≡ 0) × MayEnd e x)
+fill_none P e x m = (
+  (λ h. no_fillings P e x m h.fillings h.are h.ends h.nodes_are),
+  λ h. record { fillings = []; are = tt; ends = h.1; nodes_are = sym h.0 },
 )
 
-slot_fillings : (P : Pools) (s : Slot) (ss : List Slot) (b : Bounds) (t m : ℕ) (gs : List (Option Data)) → AreFillings P (s ∷ ss) gs → IsWithin b (t + filled_count gs) → filled_nodes gs ≡ m
-    → ((s.must ≡ false) × CanFill P ss b t m) ⊎ IsSum (HasSize P s.site) (CanFill P ss b (t + 1)) m
-slot_fillings P s ss b t m [] h within nodes = absurd h
-slot_fillings P s ss b t m (None ∷ gs) h within nodes = inl (h.0, record { fillings = gs; are = h.1; within = within; nodes_are = nodes })
-slot_fillings P s ss b t m (Some v ∷ gs) h within nodes =
-    inr (node_count v, (filled_nodes gs, (record { part = v; is = h.0; nodes_are = refl }, record { fillings = gs; are = h.1; within = rw (one_more t (filled_count gs)) at within; nodes_are = refl }, nodes)))
+slot_fillings : (P : Pools) (s : Slot) (ss : List Slot) (e : Ending) (x : Before) (m : ℕ) (gs : List (Option Data)) → AreFillings P (s ∷ ss) gs → MayEnd e (state_after (s ∷ ss) gs x) → filled_nodes gs ≡ m
+    → ((s.must ≡ false) × CanFill P ss e x m) ⊎ IsSum (HasSize P s.site) (CanFill P ss e (filled s.bit x)) m
+slot_fillings P s ss e x m [] h ends nodes = absurd h
+slot_fillings P s ss e x m (None ∷ gs) h ends nodes = inl (h.0, record { fillings = gs; are = h.1; ends = ends; nodes_are = nodes })
+slot_fillings P s ss e x m (Some v ∷ gs) h ends nodes =
+    inr (node_count v, (filled_nodes gs, (record { part = v; is = h.0; nodes_are = refl }, record { fillings = gs; are = h.1; ends = ends; nodes_are = refl }, nodes)))
 
 -- one slot more: left out, or given a part
-pub fill_slot : (P : Pools) (s : Slot) (ss : List Slot) (b : Bounds) (t m : ℕ) → CanFill P (s ∷ ss) b t m ↔ (((s.must ≡ false) × CanFill P ss b t m) ⊎ IsSum (HasSize P s.site) (CanFill P ss b (t + 1)) m)
-fill_slot P s ss b t m = (
-  (λ h. slot_fillings P s ss b t m h.fillings h.are h.within h.nodes_are),
-  λ s'. elim s' as (λ _. CanFill P (s ∷ ss) b t m) [
-    | inl h ↦ record { fillings = None ∷ h.1.fillings; are = (h.0, h.1.are); within = h.1.within; nodes_are = h.1.nodes_are }
+pub fill_slot : (P : Pools) (s : Slot) (ss : List Slot) (e : Ending) (x : Before) (m : ℕ) → CanFill P (s ∷ ss) e x m ↔ (((s.must ≡ false) × CanFill P ss e x m) ⊎ IsSum (HasSize P s.site) (CanFill P ss e (filled s.bit x)) m)
+fill_slot P s ss e x m = (
+  (λ h. slot_fillings P s ss e x m h.fillings h.are h.ends h.nodes_are),
+  λ s'. elim s' as (λ _. CanFill P (s ∷ ss) e x m) [
+    | inl h ↦ record { fillings = None ∷ h.1.fillings; are = (h.0, h.1.are); ends = h.1.ends; nodes_are = h.1.nodes_are }
     | inr h ↦
         let v = h.1.1.0 in
         let r = h.1.1.1 in
-        record { fillings = Some v.part ∷ r.fillings; are = (v.is, r.are); within = rw (← one_more t (filled_count r.fillings)) at r.within; nodes_are = omega (arith, v.nodes_are, r.nodes_are, h.1.1.2) }
+        record { fillings = Some v.part ∷ r.fillings; are = (v.is, r.are); ends = r.ends; nodes_are = omega (arith, v.nodes_are, r.nodes_are, h.1.1.2) }
   ],
 )
 
 -- the end, after the last slot
-pub end_up_to : (limit : ℕ) (P : Pools) (b : Bounds) (t : ℕ) (S : ℕ → Type 0) → ((n : ℕ) → S n ↔ ((n ≡ 0) × IsWithin b t)) → IsUpTo limit S (CanFill P [] b t)
-end_up_to limit P b t S s n = (
-  (λ h. let e = (s n).0 h in (omega (arith, e.0), (fill_none P b t n).1 e)),
-  λ h. (s n).1 ((fill_none P b t n).0 h.1),
+pub end_up_to : (limit : ℕ) (P : Pools) (e : Ending) (x : Before) (S : ℕ → Type 0) → ((n : ℕ) → S n ↔ ((n ≡ 0) × MayEnd e x)) → IsUpTo limit S (CanFill P [] e x)
+end_up_to limit P e x S s n = (
+  (λ h. let q = (s n).0 h in (omega (arith, q.0), (fill_none P e x n).1 q)),
+  λ h. (s n).1 ((fill_none P e x n).0 h.1),
 )
 
 -- one slot more
-pub slot_up_to : (limit : ℕ) (P : Pools) (s : Slot) (ss : List Slot) (b : Bounds) (t : ℕ) (A W V S : ℕ → Type 0) → IsUpTo limit A (HasSize P s.site) → IsUpTo limit W (CanFill P ss b t) → IsUpTo limit V (CanFill P ss b (t + 1))
-    → ((n : ℕ) → S n ↔ (((s.must ≡ false) × W n) ⊎ ((n ≤ limit) × IsSum A V n))) → IsUpTo limit S (CanFill P (s ∷ ss) b t)
-slot_up_to limit P s ss b t A W V S a w v set n =
+pub slot_up_to : (limit : ℕ) (P : Pools) (s : Slot) (ss : List Slot) (e : Ending) (x : Before) (A W V S : ℕ → Type 0) → IsUpTo limit A (HasSize P s.site) → IsUpTo limit W (CanFill P ss e x) → IsUpTo limit V (CanFill P ss e (filled s.bit x))
+    → ((n : ℕ) → S n ↔ (((s.must ≡ false) × W n) ⊎ ((n ≤ limit) × IsSum A V n))) → IsUpTo limit S (CanFill P (s ∷ ss) e x)
+slot_up_to limit P s ss e x A W V S a w v set n =
     let G : ℕ → Type 0 = λ k. (k ≤ limit) × IsSum A V k in
-    let g = sum_up_to limit A V (HasSize P s.site) (CanFill P ss b (t + 1)) a v G (λ k. ((λ x. x), λ x. x)) n in
-    let r = fill_slot P s ss b t n in (
-      (λ h. elim ((set n).0 h) as (λ _. (n ≤ limit) × CanFill P (s ∷ ss) b t n) [
-        | inl x ↦ let y = (w n).0 x.1 in (y.0, r.1 (inl (x.0, y.1)))
-        | inr x ↦ let y = g.0 x in (y.0, r.1 (inr y.1))
+    let g = sum_up_to limit A V (HasSize P s.site) (CanFill P ss e (filled s.bit x)) a v G (λ k. ((λ y. y), λ y. y)) n in
+    let r = fill_slot P s ss e x n in (
+      (λ h. elim ((set n).0 h) as (λ _. (n ≤ limit) × CanFill P (s ∷ ss) e x n) [
+        | inl y ↦ let z = (w n).0 y.1 in (z.0, r.1 (inl (y.0, z.1)))
+        | inr y ↦ let z = g.0 y in (z.0, r.1 (inr z.1))
       ]),
       λ h.
           (set n).1
           (elim (r.0 h.1) as (λ _. ((s.must ≡ false) × W n) ⊎ ((n ≤ limit) × IsSum A V n)) [
-            | inl x ↦ inl (x.0, (w n).1 (h.0, x.1))
+            | inl y ↦ inl (y.0, (w n).1 (h.0, y.1))
             | inr y ↦ inr (g.1 (h.0, y))
           ]),
     )
@@ -81,53 +73,79 @@ slot_up_to limit P s ss b t A W V S a w v set n =
 -- ---- levels
 
 -- one set more in a level
-pub level_more : {Z : Type 0} (holds : Z → ℕ → Type 0) (limit : ℕ) (b : Bounds) (P : Pools) (ss : List Slot) (level : List Z) (z : Z) → IsLevel holds limit b P ss level → IsUpTo limit (holds z) (CanFill P ss b (length level)) → IsLevel holds limit b P ss (level ++ z ∷ [])
-level_more holds limit b P ss level z h here = each_push (λ t x. IsUpTo limit (holds x) (CanFill P ss b t)) level z h here
+pub level_more : {Z : Type 0} (holds : Z → ℕ → Type 0) (limit : ℕ) (e : Ending) (P : Pools) (ss : List Slot) (seen : ℕ) (level : List Z) (z : Z) → IsLevel holds limit e P ss seen level
+    → IsUpTo limit (holds z) (CanFill P ss e (record { count = length level; seen = seen })) → IsLevel holds limit e P ss seen (level ++ z ∷ [])
+level_more holds limit e P ss seen level z h here = each_push (λ t x. IsUpTo limit (holds x) (CanFill P ss e (record { count = t; seen = seen }))) level z h here
+
+-- one level more in a table
+pub table_more : {Z : Type 0} (holds : Z → ℕ → Type 0) (limit : ℕ) (e : Ending) (P : Pools) (ss : List Slot) (table : List (Vec Z Global)) (level : Vec Z Global) → IsTable holds limit e P ss table
+    → IsLevel holds limit e P ss (length table) level.items → IsTable holds limit e P ss (table ++ level ∷ [])
+table_more {Z} holds limit e P ss table level h here = each_push (λ seen (v : Vec Z Global). IsLevel holds limit e P ss seen v.items) table level h here
+
+-- all levels are so wide
+abbrev pub AreWide : {Z : Type 0} → ℕ → List (Vec Z Global) → Type 0
+AreWide {Z} width table = (seen : ℕ) (d : Vec Z Global) → seen < length table → length (get_or table seen d).items ≡ width
+
+pub wide_more : {Z : Type 0} (width : ℕ) (table : List (Vec Z Global)) (level : Vec Z Global) → AreWide width table → length level.items ≡ width → AreWide width (table ++ level ∷ [])
+wide_more {Z} width table level h here = each_push (λ seen (v : Vec Z Global). length v.items ≡ width) table level h here
 
 -- the choice and the slot at a place
 pub choice_slot : {Z : Type 0} (holds : Z → ℕ → Type 0) (limit : ℕ) (P : Pools) (cs : List (Choice Z)) (ss : List Slot) → AreChoices holds limit P cs ss → (i : ℕ) (c : Choice Z) → i < length cs
-    → (s : Slot) × (drop i ss ≡ s ∷ drop (suc i) ss) × IsUpTo limit (holds (get_or cs i c).sizes) (HasSize P s.site) × ((get_or cs i c).must ≡ s.must)
+    → (s : Slot) × (drop i ss ≡ s ∷ drop (suc i) ss) × IsUpTo limit (holds (get_or cs i c).sizes) (HasSize P s.site) × ((get_or cs i c).must ≡ s.must) × ((get_or cs i c).bit ≡ s.bit)
 choice_slot holds limit P [] ss h i c l = absurd (omega arith)
 choice_slot holds limit P (x ∷ cs) [] h i c l = absurd h
-choice_slot holds limit P (x ∷ cs) (s ∷ ss) h zero c l = (s, refl, h.0, h.1)
-choice_slot holds limit P (x ∷ cs) (s ∷ ss) h (suc i) c l = choice_slot holds limit P cs ss h.2 i c (omega arith)
+choice_slot holds limit P (x ∷ cs) (s ∷ ss) h zero c l = (s, refl, h.0, h.1, h.2)
+choice_slot holds limit P (x ∷ cs) (s ∷ ss) h (suc i) c l = choice_slot holds limit P cs ss h.3 i c (omega arith)
 
 pub as_many : {Z : Type 0} (holds : Z → ℕ → Type 0) (limit : ℕ) (P : Pools) (cs : List (Choice Z)) (ss : List Slot) → AreChoices holds limit P cs ss → length cs ≡ length ss
 as_many holds limit P [] [] h = refl
 as_many holds limit P [] (s ∷ ss) h = absurd h
 as_many holds limit P (c ∷ cs) [] h = absurd h
-as_many holds limit P (c ∷ cs) (s ∷ ss) h = ap suc (as_many holds limit P cs ss h.2)
+as_many holds limit P (c ∷ cs) (s ∷ ss) h = ap suc (as_many holds limit P cs ss h.3)
 
 pub drop_all : {X : Type 0} (xs : List X) → drop (length xs) xs ≡ []
 drop_all [] = refl
 drop_all (x ∷ xs) = drop_all xs
 
-pub shaped_more : {Z : Type 0} (count : ℕ) (levels : List (Vec Z Global)) (level : Vec Z Global) → AreShaped count levels → length level.items + length levels ≡ count + 1 → AreShaped count (levels ++ level ∷ [])
-shaped_more {Z} count levels level h here = each_push (λ k (v : Vec Z Global). length v.items + k ≡ count + 1) levels level h here
+pub shaped_more : {Z : Type 0} (count kinds : ℕ) (tables : List (Vec (Vec Z Global) Global)) (table : Vec (Vec Z Global) Global) → AreShaped count kinds tables → HasShape kinds (count + 1 - length tables) table.items → AreShaped count kinds (tables ++ table ∷ [])
+shaped_more {Z} count kinds tables table h here = each_push (λ k (v : Vec (Vec Z Global) Global). HasShape kinds (count + 1 - k) v.items) tables table h here
 
-pub levels_more : {Z : Type 0} (holds : Z → ℕ → Type 0) (limit : ℕ) (b : Bounds) (P : Pools) (ss : List Slot) (levels : List (Vec Z Global)) (level : Vec Z Global) → AreLevels holds limit b P ss levels
-    → IsLevel holds limit b P (drop (length ss - length levels) ss) level.items → AreLevels holds limit b P ss (levels ++ level ∷ [])
-levels_more {Z} holds limit b P ss levels level h here = each_push (λ k (v : Vec Z Global). IsLevel holds limit b P (drop (length ss - k) ss) v.items) levels level h here
+pub tables_more : {Z : Type 0} (holds : Z → ℕ → Type 0) (limit : ℕ) (e : Ending) (P : Pools) (ss : List Slot) (tables : List (Vec (Vec Z Global) Global)) (table : Vec (Vec Z Global) Global) → AreTables holds limit e P ss tables
+    → IsTable holds limit e P (drop (length ss - length tables) ss) table.items → AreTables holds limit e P ss (tables ++ table ∷ [])
+tables_more {Z} holds limit e P ss tables table h here = each_push (λ k (v : Vec (Vec Z Global) Global). IsTable holds limit e P (drop (length ss - k) ss) v.items) tables table h here
 
--- the level after the last slot, the first one made
-pub shaped_first : {Z : Type 0} (count : ℕ) (level : Vec Z Global) → length level.items ≡ count + 1 → AreShaped count (level ∷ [])
-shaped_first count level h = shaped_more count [] level (λ k d l. absurd (omega arith)) (omega arith)
+-- the table after the last slot, the first one made
+pub shaped_first : {Z : Type 0} (count kinds : ℕ) (table : Vec (Vec Z Global) Global) → HasShape kinds (count + 1) table.items → AreShaped count kinds (table ∷ [])
+shaped_first count kinds table h =
+    let z : count + 1 - 0 ≡ count + 1 = omega arith in
+    shaped_more count kinds [] table (λ k d l. absurd (omega arith)) (rw z h)
 
-pub levels_first : {Z : Type 0} (holds : Z → ℕ → Type 0) (limit : ℕ) (b : Bounds) (P : Pools) (ss : List Slot) (level : Vec Z Global) → IsLevel holds limit b P [] level.items → AreLevels holds limit b P ss (level ∷ [])
-levels_first holds limit b P ss level here =
+pub tables_first : {Z : Type 0} (holds : Z → ℕ → Type 0) (limit : ℕ) (e : Ending) (P : Pools) (ss : List Slot) (table : Vec (Vec Z Global) Global) → IsTable holds limit e P [] table.items → AreTables holds limit e P ss (table ∷ [])
+tables_first holds limit e P ss table here =
     let z : length ss - 0 ≡ length ss = omega arith in
-    levels_more holds limit b P ss [] level (λ k d l. absurd (omega arith)) (rw (z, drop_all ss) here)
+    tables_more holds limit e P ss [] table (λ k d l. absurd (omega arith)) (rw (z, drop_all ss) here)
 
--- the level of the next place, from the level behind it
-pub levels_next : {Z : Type 0} (holds : Z → ℕ → Type 0) (limit : ℕ) (b : Bounds) (P : Pools) (cs : List (Choice Z)) (ss : List Slot) (levels : List (Vec Z Global)) (level behind : Vec Z Global) (choice : Choice Z) (done i : ℕ)
-    → AreChoices holds limit P cs ss → length levels ≡ done + 1 → i + done + 1 ≡ length cs → AreLevels holds limit b P ss levels → choice ≡ get_or cs i choice → behind ≡ get_or levels done behind
-    → ((s : Slot) (rest : List Slot) → IsUpTo limit (holds choice.sizes) (HasSize P s.site) → choice.must ≡ s.must → IsLevel holds limit b P rest behind.items → IsLevel holds limit b P (s ∷ rest) level.items)
-    → AreLevels holds limit b P ss (levels ++ level ∷ [])
-levels_next holds limit b P cs ss levels level behind choice done i h whole place before is_choice is_behind makes =
+-- the table of the next place, from that behind it
+pub tables_next : {Z : Type 0} (holds : Z → ℕ → Type 0) (limit : ℕ) (e : Ending) (P : Pools) (cs : List (Choice Z)) (ss : List Slot) (tables : List (Vec (Vec Z Global) Global)) (table behind : Vec (Vec Z Global) Global) (choice : Choice Z) (done i : ℕ)
+    → AreChoices holds limit P cs ss → length tables ≡ done + 1 → i + done + 1 ≡ length cs → AreTables holds limit e P ss tables → choice ≡ get_or cs i choice → behind ≡ get_or tables done behind
+    → ((s : Slot) (rest : List Slot) → IsUpTo limit (holds choice.sizes) (HasSize P s.site) → choice.must ≡ s.must → choice.bit ≡ s.bit → IsTable holds limit e P rest behind.items → IsTable holds limit e P (s ∷ rest) table.items)
+    → AreTables holds limit e P ss (tables ++ table ∷ [])
+tables_next holds limit e P cs ss tables table behind choice done i h whole place before is_choice is_behind makes =
     let many = as_many holds limit P cs ss h in
     let s = choice_slot holds limit P cs ss h i choice (omega arith) in
-    let e : length ss - done ≡ suc i = omega arith in
-    let f : length ss - length levels ≡ i = omega arith in
-    let here = rw (← is_behind, e) at (before done behind (omega arith)) in
-    let made = makes s.0 (drop (suc i) ss) (rw (← is_choice) at s.2) (rw (← is_choice) at s.3) here in
-    levels_more holds limit b P ss levels level before (rw (f, s.1) made)
+    let p : length ss - done ≡ suc i = omega arith in
+    let f : length ss - length tables ≡ i = omega arith in
+    let here = rw (← is_behind, p) at (before done behind (omega arith)) in
+    let made = makes s.0 (drop (suc i) ss) (rw (← is_choice) at s.2) (rw (← is_choice) at s.3) (rw (← is_choice) at s.4) here in
+    tables_more holds limit e P ss tables table before (rw (f, s.1) made)
+
+pub table_at : {Z : Type 0} (holds : Z → ℕ → Type 0) (limit : ℕ) (e : Ending) (P : Pools) (ss : List Slot) (table : List (Vec Z Global)) (seen : ℕ) (level : Vec Z Global) (items : List Z) → IsTable holds limit e P ss table → seen < length table → level ≡ get_or table seen level
+    → items ≡ level.items → IsLevel holds limit e P ss seen items
+table_at holds limit e P ss table seen level items h l is same = rw same (rw (← is) at (h seen level l))
+
+pub shape_at : {Z : Type 0} (count kinds : ℕ) (tables : List (Vec (Vec Z Global) Global)) (k : ℕ) (table : Vec (Vec Z Global) Global) (items : List (Vec Z Global)) → AreShaped count kinds tables → k < length tables → table ≡ get_or tables k table → items ≡ table.items
+    → HasShape kinds (count + 1 - k) items
+shape_at count kinds tables k table items h l is same = rw same (rw (← is) at (h k table l))
+
+pub width_at : {Z : Type 0} (kinds width : ℕ) (table : List (Vec Z Global)) (seen : ℕ) (level : Vec Z Global) → HasShape kinds width table → seen < length table → level ≡ get_or table seen level → length level.items ≡ width
+width_at kinds width table seen level h l is = rw (← is) at (h.wide seen level l)

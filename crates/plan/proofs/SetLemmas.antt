@@ -25,7 +25,7 @@ use Rattle.plan.proofs.PartLemmas.{StoredLaw}
 
 pub plain_leaf : (N : Node) → IsPlainScalar N → sort_at N ≡ Leaf
 plain_leaf (node n t (scalar kind cs)) plain = refl
-plain_leaf (node n t (object fs preserves type b)) plain = absurd plain
+plain_leaf (node n t (object fs preserves type b cs)) plain = absurd plain
 plain_leaf (node n t (nodes.map M type b)) plain = absurd plain
 plain_leaf (node n t (list M type keys b)) plain = absurd plain
 plain_leaf (node n t open_) plain = absurd plain
@@ -49,7 +49,7 @@ scalar_one stored P s plain v h = valid_one s.node v plain ((stored s.node v).0 
 
 valid_no_null : (N : Node) → IsPlainScalar N → IsValidHere N tree.null → ⊥
 valid_no_null (node n t (scalar kind cs)) plain valid = let no = sym plain ∙ valid in cc
-valid_no_null (node n t (object fs preserves type b)) plain valid = plain
+valid_no_null (node n t (object fs preserves type b cs)) plain valid = plain
 valid_no_null (node n t (nodes.map M type b)) plain valid = plain
 valid_no_null (node n t (list M type keys b)) plain valid = plain
 valid_no_null (node n t open_) plain valid = plain

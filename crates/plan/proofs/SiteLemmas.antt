@@ -10,7 +10,7 @@ use Rattle.plan.specs.Sets.{IsSum}
 use Rattle.plan.specs.Samples.Part.{IsPart}
 use Rattle.plan.specs.Samples.Sites.{Site, item_site, slots}
 use Rattle.plan.specs.Samples.Candidates.{sort_of}
-use Rattle.plan.specs.Samples.Sizes.{HasSize, CanFill, HasMore, bounds_of, filled_nodes, IsUpTo}
+use Rattle.plan.specs.Samples.Sizes.{HasSize, CanFill, HasMore, nothing, ending_of, filled_nodes, IsUpTo}
 use Rattle.plan.specs.Samples.RuleOfParts.{members_in, admits_null}
 use Rattle.plan.specs.Internal.PartLaws.{PartLaws}
 use Rattle.plan.specs.declared.sort.Sort.TheVariants.{Row}
@@ -35,21 +35,18 @@ whole_up_to limit s P Inside S W room law inside whole n = (
       ]),
 )
 
-none_before : (t : ℕ) → 0 + t ≡ t
-none_before t = omega arith
-
 null_size : (v : Data) (n : ℕ) → v ≡ tree.null → node_count v ≡ n → n ≡ 1
 null_size v n is count = sym count ∙ ap node_count is
 
 -- the sizes of a row
-pub row_sizes : PartLaws → (P : Pools) (s : Site) → IsNode s.node → sort_of s ≡ Row → (n : ℕ) → HasSize P s n ↔ IsWhole s (CanFill P (slots P s) (bounds_of s) 0) n
+pub row_sizes : PartLaws → (P : Pools) (s : Site) → IsNode s.node → sort_of s ≡ Row → (n : ℕ) → HasSize P s n ↔ IsWhole s (CanFill P (slots P s) (ending_of s) nothing) n
 row_sizes laws P s o is n = (
-  (λ h. elim ((laws.row P s h.part o is).0 h.is) as (λ _. IsWhole s (CanFill P (slots P s) (bounds_of s) 0) n) [
+  (λ h. elim ((laws.row P s h.part o is).0 h.is) as (λ _. IsWhole s (CanFill P (slots P s) (ending_of s) nothing) n) [
     | inl null ↦ inl (null.1, null_size h.part n null.0 h.nodes_are)
     | inr q ↦
         let total = in_nodes P (slots P s) q.fillings q.are in
         let count = sym (ap node_count q.is) ∙ h.nodes_are in
-        inr (1, (filled_nodes q.fillings, (refl, record { fillings = q.fillings; are = q.are; within = rw none_before q.within; nodes_are = refl }, omega (arith, total, count))))
+        inr (1, (filled_nodes q.fillings, (refl, record { fillings = q.fillings; are = q.are; ends = q.ends; nodes_are = refl }, omega (arith, total, count))))
   ]),
   λ w. elim w as (λ _. HasSize P s n) [
     | inl x ↦ record { part = tree.null; is = (laws.row P s tree.null o is).1 (inl (refl, x.0)); nodes_are = sym x.1 }
@@ -57,7 +54,7 @@ row_sizes laws P s o is n = (
         let f = y.1.1.1 in
         let v = tree.object (members_in (slots P s) f.fillings) in
         let total = in_nodes P (slots P s) f.fillings f.are in
-        record { part = v; is = (laws.row P s v o is).1 (inr (record { fillings = f.fillings; is = refl; are = f.are; within = rw none_before at f.within })); nodes_are = omega (arith, total, f.nodes_are, y.1.1.0, y.1.1.2) }
+        record { part = v; is = (laws.row P s v o is).1 (inr (record { fillings = f.fillings; is = refl; are = f.are; ends = f.ends })); nodes_are = omega (arith, total, f.nodes_are, y.1.1.0, y.1.1.2) }
   ],
 )
 

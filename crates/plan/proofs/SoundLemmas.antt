@@ -1,4 +1,4 @@
--- The nodes of a schema are ordered, and the items of their lists can be told apart.
+-- The nodes of a schema are ordered, the items of their lists can be told apart, and the junctors of their objects name few fields.
 use Rattle.std.specs.Prelude.{◌≡◌, ◌⊎◌, ℕ, List, [], ◌∷◌, Bool, false, Option, Some, All}
 use Rattle.std.proofs.Common.{refl, subst, inl, inr}
 use Rattle.std.proofs.lemmas.Option.{same_Some}
@@ -13,6 +13,7 @@ use Rattle.schema.specs.Nodes.Node.{Node, node, Sort, scalar, object, map, list,
 use Rattle.schema.specs.Nodes.ByPlace.{Declared, field_at, node_at}
 use Rattle.schema.specs.Nodes.Shape as shape
 use Rattle.schema.specs.Nodes.Items.{HasKeys, AreToldApart, HasSoundItems}
+use Rattle.schema.specs.Nodes.Junctors.{HasSoundJunctors}
 use Rattle.schema.specs.declared.node.ListType.{ListType}
 use Rattle.schema.specs.declared.node.ListType.TheVariants.{Atomic, Set, Map}
 use Rattle.stored.specs.Schemas.Accepted.{IsSchema}
@@ -24,24 +25,30 @@ use Rattle.plan.proofs.PartLemmas.{slot_of_field, fields_in_order}
 abbrev pub ItemsLaw : Type 0
 ItemsLaw = (raw : Data) (root : Node) → shape.IsRootOf root raw → (p : Place) (M : Node) → node_at root p ≡ Some M → HasSoundItems M
 
+abbrev pub JunctorsLaw : Type 0
+JunctorsLaw = (raw : Data) (root : Node) → shape.IsRootOf root raw → (p : Place) (M : Node) → node_at root p ≡ Some M → HasSoundJunctors M
+
+abbrev pub SchemaLaws : Type 0
+SchemaLaws = ItemsLaw × JunctorsLaw
+
 -- ---- from places to nodes
 
 abbrev IsSoundBelow : Node → Type 0
-IsSoundBelow N = (p : Place) (M : Node) → node_at N p ≡ Some M → HasSoundItems M
+IsSoundBelow N = (p : Place) (M : Node) → node_at N p ≡ Some M → HasSoundItems M × HasSoundJunctors M
 
 -- a field behind the first has another name
 behind_first : (l : List ℕ) (N : Node) (required : Bool) (default : Option Data) (fs : Fields) → AreOrdered (field l N required default fs) → (k : List ℕ) (f : Declared) → field_at k fs ≡ Some f → bytes_eq k l ≡ false
 behind_first l N required default fs o k f is =
-    let s = slot_of_field [] fs k f is in
-    later_name k l (subst (λ n. text_cmp l n ≡ Less) s.1.1.0 ((fields_in_order [] (field l N required default fs) o).0 s.0 (contains (field_slots [] fs) s.0 s.1.0)))
+    let s = slot_of_field [] [] fs k f is in
+    later_name k l (subst (λ n. text_cmp l n ≡ Less) s.1.1.0 ((fields_in_order [] [] (field l N required default fs) o).0 s.0 (contains (field_slots [] [] fs) s.0 s.1.0)))
 
 mutual
   sound_from : (N : Node) → IsNode N → IsSoundBelow N → IsSound N
-  sound_from (node n t (object fs preserves type b)) o h = (h [] _ refl, fields_sound fs o (λ k f is p M found. h (property k ∷ p) M (rw is found)))
-  sound_from (node n t (map N type b)) o h = (h [] _ refl, sound_from N o (λ p. h (map_value ∷ p)))
-  sound_from (node n t (list N type keys b)) o h = (h [] _ refl, sound_from N o (λ p. h (items ∷ p)))
-  sound_from (node n t (scalar kind cs)) o h = (tt, tt)
-  sound_from (node n t open_) o h = (tt, tt)
+  sound_from (node n t (object fs preserves type b cs)) o h = let own = h [] _ refl in (own.0, own.1, fields_sound fs o (λ k f is p M found. h (property k ∷ p) M (rw is found)))
+  sound_from (node n t (map N type b)) o h = let own = h [] _ refl in (own.0, own.1, sound_from N o (λ p. h (map_value ∷ p)))
+  sound_from (node n t (list N type keys b)) o h = let own = h [] _ refl in (own.0, own.1, sound_from N o (λ p. h (items ∷ p)))
+  sound_from (node n t (scalar kind cs)) o h = (tt, tt, tt)
+  sound_from (node n t open_) o h = (tt, tt, tt)
 
   fields_sound : (fs : Fields) → AreOrdered fs → ((k : List ℕ) (f : Declared) → field_at k fs ≡ Some f → IsSoundBelow f.node) → AreFieldsSound fs
   fields_sound no_fields o h = tt
@@ -50,10 +57,11 @@ mutual
     fields_sound fs o.2 (λ k f is. h k f (rw (behind_first l N required default fs o k f is) is)),
   )
 
-pub schema_sound : ItemsLaw → (root : Node) → IsSchema root → IsNode root × IsSound root
-schema_sound law root h =
+pub schema_sound : SchemaLaws → (root : Node) → IsSchema root → IsNode root × IsSound root
+schema_sound laws root h =
     let is = h.1 in
-    (is.nodes.ordered, sound_from root is.nodes.ordered (law h.0 root (record { sound = is.sound; unbroken = λ p r b. is.unbroken p r (inl b); nodes = is.nodes })))
+    let of : shape.IsRootOf root h.0 = record { sound = is.sound; unbroken = λ p r b. is.unbroken p r (inl b); nodes = is.nodes } in
+    (is.nodes.ordered, sound_from root is.nodes.ordered (λ p M found. (laws.0 h.0 root of p M found, laws.1 h.0 root of p M found)))
 
 -- ---- each site
 
@@ -93,9 +101,9 @@ module _ (all : List Site) where
         ]
 
     site_below_sound : (n : Bool) (t : Option (List ℕ)) (sort : Sort) → IsSort sort → IsSound (node n t sort) → AreOf (sites_below sort) → (s : Site) → Among (sites_below sort) s → IsSoundSite all s
-    site_below_sound n t (object fs preserves type b) o h of s a = field_site_sound fs o h.1 of s a
-    site_below_sound n t (map N type b) o h of s a = site_sound N [] o h.1 (inl refl) of s a
-    site_below_sound n t (list N type keys b) o h of s a = site_sound N (item_keys type keys) o h.1 (keys_of_items type keys N h.0) of s a
+    site_below_sound n t (object fs preserves type b cs) o h of s a = field_site_sound fs o h.2 of s a
+    site_below_sound n t (map N type b) o h of s a = site_sound N [] o h.2 (inl refl) of s a
+    site_below_sound n t (list N type keys b) o h of s a = site_sound N (item_keys type keys) o h.2 (keys_of_items type keys N h.0) of s a
     site_below_sound n t (scalar kind cs) o h of s a = absurd a
     site_below_sound n t open_ o h of s a = absurd a
 
@@ -109,8 +117,8 @@ module _ (all : List Site) where
           | inr there ↦ field_site_sound fs o.2 h.1 (λ u b. of u (among_right first later u b)) s there
         ]
 
-pub sites_sound : ItemsLaw → (root : Node) → IsSchema root → All (IsSoundSite (sites_of root)) (sites_of root)
-sites_sound law root h = let r = schema_sound law root h in each_of _ (sites_of root) (site_sound (sites_of root) root [] r.0 r.1 (inl refl) (λ s a. a))
+pub sites_sound : SchemaLaws → (root : Node) → IsSchema root → All (IsSoundSite (sites_of root)) (sites_of root)
+sites_sound laws root h = let r = schema_sound laws root h in each_of _ (sites_of root) (site_sound (sites_of root) root [] r.0 r.1 (inl refl) (λ s a. a))
 
 pub sound_here : (N : Node) → IsSound N → HasSoundItems N
 sound_here (node n t sort) h = h.0

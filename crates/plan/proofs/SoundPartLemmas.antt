@@ -9,7 +9,9 @@ use Rattle.schema.specs.Nodes.Node as nodes
 use Rattle.schema.specs.Nodes.Items.{HasKeys, HasSoundItems}
 use Rattle.schema.specs.declared.node.ListType.TheVariants.{Atomic, Set, Map}
 use Rattle.plan.specs.Pools.Pools.{Pools}
-use Rattle.plan.specs.Samples.Sites.{Site, plain, item_site_at, Slot, slots_at, in_order}
+use Rattle.plan.specs.Samples.Sites.{Site, plain, item_site_at, Slot, slots_at}
+use Rattle.plan.specs.Samples.Names.{in_order}
+use Rattle.plan.specs.Samples.Presence.{named}
 use Rattle.plan.specs.Samples.Candidates.{distinct_at}
 use Rattle.plan.specs.Samples.RuleOfParts.{alike_by}
 use Rattle.plan.specs.Samples.Keys.{AreInOrder, AreKeySlots, AreSetItems, AreMapItems, HasSoundParts}
@@ -22,7 +24,7 @@ use Rattle.plan.proofs.SetLemmas.{plain_leaf, scalar_one, set_keyed}
 use Rattle.plan.proofs.SoundLemmas.{AreKeysOf}
 
 slots_in_order : (P : Pools) (N : Node) (keys : List (List ℕ)) → IsNode N → AreInOrder (slots_at P N keys)
-slots_in_order P (node n t (object fs preserves type b)) keys o = fields_in_order keys fs o
+slots_in_order P (node n t (object fs preserves type b cs)) keys o = fields_in_order keys (named cs) fs o
 slots_in_order P (node n t (nodes.map M type b)) keys o = values_in_order M P.names
 slots_in_order P (node n t (scalar kind cs)) keys o = tt
 slots_in_order P (node n t (list M type ks b)) keys o = tt
@@ -31,14 +33,14 @@ slots_in_order P (node n t open_) keys o = tt
 -- ---- keys
 
 no_key : (P : Pools) (N : Node) (s : Slot) → Among (slots_at P N []) s → s.key ≡ false
-no_key P (node n t (object fs preserves type b)) s a = slot_key [] fs s a
+no_key P (node n t (object fs preserves type b cs)) s a = slot_key [] (named cs) fs s a
 no_key P (node n t (nodes.map M type b)) s a = ap (λ u. Slot.key u) (sym (name_of_value_slot M (in_order P.names) s a).1.1)
 no_key P (node n t (scalar kind cs)) s a = absurd a
 no_key P (node n t (list M type ks b)) s a = absurd a
 no_key P (node n t open_) s a = absurd a
 
 own_keys : StoredLaw → (P : Pools) (N : Node) (keys : List (List ℕ)) → IsNode N → HasKeys N keys → AreKeySlots P (slots_at P N keys)
-own_keys stored P (node n t (object fs preserves type b)) keys o h = (have_keys stored P fs keys o h.2).are
+own_keys stored P (node n t (object fs preserves type b cs)) keys o h = (have_keys stored P fs keys (named cs) o h.2).are
 own_keys stored P N keys o h = absurd h
 
 key_slots : StoredLaw → (P : Pools) (N : Node) (keys : List (List ℕ)) → IsNode N → AreKeysOf N keys → AreKeySlots P (slots_at P N keys)

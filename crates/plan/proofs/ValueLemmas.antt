@@ -13,9 +13,9 @@ use Rattle.jtree.specs.Order.{text_cmp, tree_cmp}
 use Rattle.jtree.specs.View.{data_of, tree_from}
 use Rattle.jtree.specs.declared.value.Tree.{Tree}
 use Rattle.jtree.specs.declared.value.Tree.TheVariants as tree
-use Rattle.plan.specs.Samples.Sites.{in_order}
+use Rattle.plan.specs.Samples.Names.{in_order}
 use Rattle.plan.specs.Internal.Values.{trees_of, IsInOrder, IsBase}
-use Rattle.plan.proofs.PartLemmas.{in_order_rising, in_order_has, in_order_only}
+use Rattle.plan.proofs.NameLemmas.{in_order_rising, in_order_has, in_order_only}
 
 -- ---- mapped lists
 

@@ -2,6 +2,8 @@
 pub mod Site
 pub mod Over
 pub mod Part
+pub mod Names
+pub mod Presence
 pub mod Sites
 pub mod Question
 pub mod Candidates

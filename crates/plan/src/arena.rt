@@ -38,22 +38,24 @@ pub(crate) enum SlotName {
     Pool(usize),
 }
 
-/// A slot of a row: the node of what stands in it, whether something must stand there, and whether its name is a key.
+/// A slot of a row: the node of what stands in it, whether something must stand there, whether its name is a key, and its place
+/// among the fields that the junctors name.
 #[derive(Drop)]
 pub(crate) struct SlotEntry {
     pub name: SlotName,
     pub node: PlanNode,
     pub must: bool,
     pub key: bool,
+    pub bit: Option<u8>,
 }
 
-/// The slots of a row, how many tuples the keys behind each have, and the sizes that those from each place on can take, the last
-/// place first.
+/// The slots of a row, how many tuples the keys behind each have, and the sizes that those from each place on can take: the last
+/// place first, then by the named fields that stand before it, and by the number of members there.
 #[derive(Drop)]
 pub(crate) struct RowEntry<Z> {
     pub slots: Vec<SlotEntry>,
     pub later: Vec<u64>,
-    pub levels: Vec<Vec<Z>>,
+    pub tables: Vec<Vec<Vec<Z>>>,
 }
 
 /// The node of the items of a list, which of them may not stand together, and the sizes that items can still take after each

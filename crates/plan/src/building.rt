@@ -1,5 +1,5 @@
 //! The entries of a schema's nodes, those below a node before it.
-ghost use Rattle.std.specs.Prelude.{◌≡◌, ℕ, ◌≤◌, ◌<◌, ◌+◌, List, [], Option, length, IfOk};
+ghost use Rattle.std.specs.Prelude.{◌≡◌, ℕ, ◌≤◌, ◌<◌, ◌+◌, ◌^◌, List, [], Option, length, IfOk};
 ghost use Rattle.schema.specs.Nodes.Node.{Node as NodeData, node as node_with};
 ghost use Rattle.schema.specs.Nodes.View.{node_of, object_of, map_of, list_of};
 ghost use Rattle.schema.specs.Document.Texts.{is_among};
@@ -11,6 +11,8 @@ ghost use Rattle.plan.specs.declared.sort.Sort.TheVariants.{Leaf};
 ghost use Rattle.plan.specs.Internal.Arena.{AreSlots};
 ghost use Rattle.plan.specs.Samples.Sites.{site_at};
 ghost use Rattle.plan.specs.declared.arena.SlotEntry.{SlotEntry as SlotDeclared};
+ghost use Rattle.schema.specs.Nodes.Junctors.{most_named};
+ghost use Rattle.plan.specs.Internal.Tables.{IsClosed};
 ghost use Rattle.plan.specs.Internal.Building.{IsBuilt, AreBuilt, IsFieldSlot};
 
 use crate::SizeSet;
@@ -18,6 +20,7 @@ use crate::arena::{Arena, Content, Entry, PlanNode, SlotEntry, SlotName};
 use crate::entries::add_row;
 use crate::leaf::{leaf_of, leaf_sizes};
 use crate::list_entries::add_list;
+use crate::presence::{bit_of, ends, named_fields};
 use jtree::Text;
 use schema::{Below, Field, Fields, ListNode, ListType, MapNode, Node, ObjectNode, Sort};
 use std::alloc::{AllocError, Global};
@@ -59,27 +62,31 @@ fn build_object<Z: SizeSet>(
     ensures built { IfOk result (λ n. (d : Option (List ℕ)) → IsBuilt Z.holds arena.old.limit arena.old.values arena.old.entries.items arena.new.entries.items (node_with nullable d (object_of object.now)) keys.now n) }
 {
     object.fields.reveal_invariant();
-    let slots = build_fields(arena, alloc, &object.fields, keys)?;
-    add_row(arena, alloc, slots, object.bounds, nullable)
+    let named = named_fields(alloc, &object.junctors)?;
+    let slots = build_fields(arena, alloc, &object.fields, keys, &named)?;
+    let ends = ends(alloc, &object.junctors, &named)?;
+    add_row(arena, alloc, slots, object.bounds, &ends, nullable)
 }
 
-/// Adds the entries of the fields' nodes, and answers their slots.
+/// Adds the entries of the fields' nodes, and answers their slots; `named` are the fields that the junctors name.
 #[cycle(build)]
 fn build_fields<Z: SizeSet>(
     arena: &mut Arena<Z>,
     alloc: Global,
     fields: &Fields,
     keys: &[Text],
+    named: &[Text],
 ) -> Result<Vec<SlotEntry>, AllocError>
     requires limit { arena.old.limit < Z.BITS }
     requires room { 1 ≤ arena.old.limit }
+    requires few { length named.now ≤ most_named }
     ensures values { arena.new.values ≡ arena.old.values }
     ensures limit { arena.new.limit ≡ arena.old.limit }
-    ensures built { IfOk result (λ slots. AreBuilt Z.holds arena.old.limit arena.old.values arena.old.entries.items arena.new.entries.items fields.now keys.now slots.items) }
+    ensures built { IfOk result (λ slots. AreBuilt Z.holds arena.old.limit arena.old.values arena.old.entries.items arena.new.entries.items fields.now keys.now named.now slots.items) }
 {
     let mut slots = Vec::new(alloc);
     for field in &fields.fields {
-        let slot = build_field(arena, alloc, field, keys)?;
+        let slot = build_field(arena, alloc, field, keys, named)?;
         slots.push(slot)?;
     }
     Ok(slots)
@@ -91,13 +98,16 @@ fn build_field<Z: SizeSet>(
     alloc: Global,
     field: &Field,
     keys: &[Text],
+    named: &[Text],
 ) -> Result<SlotEntry, AllocError>
     requires limit { arena.old.limit < Z.BITS }
     requires room { 1 ≤ arena.old.limit }
+    requires few { length named.now ≤ most_named }
     ensures values { arena.new.values ≡ arena.old.values }
     ensures limit { arena.new.limit ≡ arena.old.limit }
     ensures built { IfOk result (λ s. IsBuilt Z.holds arena.old.limit arena.old.values arena.old.entries.items arena.new.entries.items (node_of field.now.node) [] s.node) }
-    ensures slot { IfOk result (λ s. IsFieldSlot keys.now field.now.name field.now.required (option_map data_of field.now.default) s) }
+    ensures slot { IfOk result (λ s. IsFieldSlot keys.now named.now field.now.name field.now.required (option_map data_of field.now.default) s) }
+    ensures bit { IfOk result (λ s. IsClosed (2 ^ length named.now) s.bit) }
 {
     let node = build(arena, alloc, &field.node, &[])?;
     Ok(SlotEntry {
@@ -105,6 +115,7 @@ fn build_field<Z: SizeSet>(
         node,
         must: field.required || field.default.is_some(),
         key: is_key(&field.name, keys),
+        bit: bit_of(&field.name, named),
     })
 }
 
@@ -125,7 +136,7 @@ fn build_map<Z: SizeSet>(
     map.value.reveal_invariant();
     let value = build(arena, alloc, node_below(&map.value), &[])?;
     let slots = value_slots(alloc, arena.values.names.len(), value)?;
-    add_row(arena, alloc, slots, map.bounds, nullable)
+    add_row(arena, alloc, slots, map.bounds, &[true], nullable)
 }
 
 #[cycle(build)]
@@ -189,6 +200,7 @@ fn node_below(below: &Below) -> &Node
 /// A slot for each name of the pools, all of one node.
 fn value_slots(alloc: Global, count: usize, node: PlanNode) -> Result<Vec<SlotEntry>, AllocError>
     ensures below { IfOk result (λ slots. All (λ (s : SlotDeclared). s.node ≡ node) slots.items) }
+    ensures bits { IfOk result (λ slots. All (λ (s : SlotDeclared). IsClosed 1 s.bit) slots.items) }
     ensures slots { IfOk result (λ slots. (names : List (List ℕ)) (sites : List Site) (i : ℕ) (M : NodeData) → count ≡ length names → node < i → site_at sites node ≡ plain M
         → AreSlots names sites i slots.items (map_list (value_slot M) names)) }
 {
@@ -199,6 +211,7 @@ fn value_slots(alloc: Global, count: usize, node: PlanNode) -> Result<Vec<SlotEn
             node,
             must: false,
             key: false,
+            bit: None,
         })?;
     }
     Ok(slots)

@@ -1,13 +1,14 @@
 //! The entries of rows, over the nodes that are there.
 ghost use Rattle.std.specs.Prelude.{◌≡◌, ℕ, ◌+◌, ◌≤◌, ◌<◌, List, All, length, IfOk};
-ghost use Rattle.schema.specs.Nodes.Node.{IsNode};
+ghost use Rattle.schema.specs.Nodes.Node.{IsNode, Validations};
 ghost use Rattle.plan.specs.Pools.Pools.{Pools};
 ghost use Rattle.plan.specs.Samples.Sites.{Site, Slot, slots as slots_of};
 ghost use Rattle.plan.specs.Samples.Candidates.{sort_of};
-ghost use Rattle.plan.specs.Samples.Sizes.{bounds_of};
+ghost use Rattle.plan.specs.Samples.Sizes.{ending_of};
 ghost use Rattle.plan.specs.Samples.RuleOfParts.{admits_null};
 ghost use Rattle.plan.specs.Internal.Arena.{AreChosen, AreSlots, AreLater, AreRight};
 ghost use Rattle.plan.specs.Samples.Sites.{site_at};
+ghost use Rattle.plan.specs.Internal.Tables.{IsClosed, AreMet};
 ghost use Rattle.plan.specs.declared.arena.SlotEntry.{SlotEntry};
 ghost use Rattle.plan.specs.declared.sort.Sort.TheVariants.{Row};
 
@@ -15,7 +16,7 @@ use crate::SizeSet;
 use crate::arena::{Arena, Content, Entry, PlanNode, RowEntry, SlotEntry};
 use crate::laws::parts_one_level;
 use crate::list_entries::tuples;
-use crate::rows::{Choice, levels};
+use crate::rows::{Choice, tables};
 use crate::sizing::whole_sizes;
 use schema::Bounds;
 use std::alloc::{AllocError, Global};
@@ -34,6 +35,7 @@ fn choices<Z: SizeSet>(
         choices.push(Choice {
             sizes: arena.entry(slot.node).sizes,
             must: slot.must,
+            bit: slot.bit,
         })?;
     }
     Ok(choices)
@@ -56,38 +58,41 @@ fn later_tuples<Z: SizeSet>(
     Ok(later)
 }
 
-/// Adds the entry of a row with these slots.
+/// Adds the entry of a row with these slots; `ends` has whether its junctors hold for each set of the named fields.
 pub(crate) fn add_row<Z: SizeSet>(
     arena: &mut Arena<Z>,
     alloc: Global,
     slots: Vec<SlotEntry>,
     bounds: Bounds,
+    ends: &[bool],
     nullable: bool,
 ) -> Result<PlanNode, AllocError>
     requires limit { arena.old.limit < Z.BITS }
     requires room { 1 ≤ arena.old.limit }
     requires below { All (λ (s : SlotEntry). s.node < length arena.old.entries.items) slots.items }
+    requires some { 0 < length ends.now }
+    requires closed { All (λ (s : SlotEntry). IsClosed (length ends.now) s.bit) slots.items }
     requires few { length slots.items < 18446744073709551615 }
     ensures values { arena.new.values ≡ arena.old.values }
     ensures limit { arena.new.limit ≡ arena.old.limit }
     ensures number { IfOk result (λ n. n ≡ length arena.old.entries.items) }
     ensures count { IfOk result (λ n. length arena.new.entries.items ≡ n + 1) }
-    ensures right { IfOk result (λ n. (P : Pools) (sites : List Site) → AreRight Z.holds arena.old.limit P arena.old.values sites arena.old.entries.items
-        → IsNode (site_at sites n).node → sort_of (site_at sites n) ≡ Row → bounds_of (site_at sites n) ≡ bounds → admits_null (site_at sites n) ≡ nullable
+    ensures right { IfOk result (λ n. (P : Pools) (sites : List Site) (cs : Validations) → AreRight Z.holds arena.old.limit P arena.old.values sites arena.old.entries.items
+        → IsNode (site_at sites n).node → sort_of (site_at sites n) ≡ Row → ending_of (site_at sites n) ≡ record { bounds = bounds; asked = cs } → AreMet cs ends.now → admits_null (site_at sites n) ≡ nullable
         → AreSlots arena.old.values.names.items sites n slots.items (slots_of P (site_at sites n)) → AreRight Z.holds arena.old.limit P arena.old.values sites arena.new.entries.items) }
 {
     parts_one_level();
     let choices = choices(arena, alloc, &slots)?;
     let later = later_tuples(arena, alloc, &slots)?;
-    let levels = levels(alloc, &choices, bounds, arena.limit)?;
-    let sizes = whole_sizes(levels[slots.len()][0], nullable, arena.limit);
+    let tables = tables(alloc, &choices, bounds, ends, arena.limit)?;
+    let sizes = whole_sizes(tables[slots.len()][0][0], nullable, arena.limit);
     let node = arena.add(Entry {
         sizes,
         nullable,
         content: Content::Row(RowEntry {
             slots,
             later,
-            levels,
+            tables,
         }),
     })?;
     Ok(node)

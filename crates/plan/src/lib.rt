@@ -13,6 +13,7 @@ mod meter;
 mod plan;
 mod pool_form;
 mod pools;
+mod presence;
 mod rows;
 mod size_set;
 mod sizing;

@@ -9,7 +9,7 @@ use crate::leaf::candidate;
 use crate::values::Values;
 use crate::{Distinct, Meter, PFault, Pools, SizeSet, Sort};
 use jtree::Tree;
-use schema::items_told_apart;
+use schema::{items_told_apart, junctors_name_fields};
 use std::alloc::Global;
 use std::marker::Model;
 use stored::{Schema, stored_by_parts};
@@ -22,6 +22,8 @@ pub struct Slot<'a> {
     pub node: PlanNode,
     pub must: bool,
     pub key: bool,
+    /// The place of the name by bytes among the fields that the junctors of the object name, where it is one of them; below 4.
+    pub bit: Option<u8>,
     /// How many tuples of candidates the keys behind this slot have, at most 2^64 - 1.
     pub later: u64,
 }
@@ -76,6 +78,7 @@ impl<Z: SizeSet> Plan<Z> {
     ghost use Rattle.plan.specs.Samples.Candidates.{sort_of, distinct_of, HasCount, IsWidth};
     ghost use Rattle.plan.specs.Samples.Sizes.{HasSize, HasRest, HasMore, IsUpTo};
     ghost use Rattle.plan.specs.Samples.Sites.{site_at};
+    ghost use Rattle.schema.specs.Nodes.Junctors.{most_named};
     ghost use Rattle.plan.specs.declared.sort.Sort.TheVariants as sort;
 
     /// The plan of these samples: of this schema, over these pools, of at most `limit` nodes. The tables are filled from the
@@ -147,16 +150,20 @@ impl<Z: SizeSet> Plan<Z> {
     }
 
     /// The sizes up to the limit that the slots of a row from `place` on can still take, where `taken` slots before it are
-    /// filled. The caller asks at a row, and keeps `place` at most the number of its slots and `taken` at most `place`.
-    pub fn rest(&self, node: PlanNode, place: u64, taken: u32) -> Z
+    /// filled, and the named fields among them are those whose bits are set in `seen` (see [`Slot::bit`]). The caller asks at a
+    /// row, and keeps `place` at most the number of its slots and `taken` at most `place`.
+    pub fn rest(&self, node: PlanNode, place: u64, taken: u32, seen: u8) -> Z
         requires node { node < length (sites_of self.now.root) }
         requires row { sort_of (site_at (sites_of self.now.root) node) ≡ sort.Row }
         requires place { place ≤ length (slots_of self.now.pools (site_at (sites_of self.now.root) node)) }
         requires taken { taken ≤ place }
-        ensures { IsUpTo self.now.limit (Z.holds result) (HasRest self.now.pools (site_at (sites_of self.now.root) node) place taken) }
+        ensures { IsUpTo self.now.limit (Z.holds result) (HasRest self.now.pools (site_at (sites_of self.now.root) node) place (record { count = taken; seen = seen })) }
     {
         match &self.arena.entry(node).content {
-            Content::Row(row) => row.levels[row.slots.len() - place as usize][taken as usize],
+            Content::Row(row) => {
+                let table = &row.tables[row.slots.len() - place as usize];
+                table[seen as usize % table.len()][taken as usize]
+            }
             Content::Leaf(_) | Content::List(_) => Z::empty(),
         }
     }
@@ -216,6 +223,7 @@ impl<Z: SizeSet> Plan<Z> {
         requires row { sort_of (site_at (sites_of self.now.root) node) ≡ sort.Row }
         ensures some { IfSome result (λ t. IsSlotAt (sites_of self.now.root) (slots_of self.now.pools (site_at (sites_of self.now.root) node)) place t) }
         ensures below { IfSome result (λ t. t.node < node) }
+        ensures bit { IfSome result (λ t. IfSome t.bit (λ j. j < most_named)) }
         ensures later { IfSome result (λ t. HasTuples self.now.pools (drop (place + 1) (slots_of self.now.pools (site_at (sites_of self.now.root) node))) t.later) }
         ensures within { IfSome result (λ _. place < length (slots_of self.now.pools (site_at (sites_of self.now.root) node))) }
         ensures followed { IfSome result (λ _. place < 18446744073709551615) }
@@ -231,6 +239,7 @@ impl<Z: SizeSet> Plan<Z> {
                     node: slot.node,
                     must: slot.must,
                     key: slot.key,
+                    bit: slot.bit,
                     later: row.later[place as usize],
                 }),
                 None => None,
@@ -281,6 +290,7 @@ impl<Z: SizeSet> Plan<Z> {
         stored_by_parts();
         parts_one_level();
         items_told_apart();
+        junctors_name_fields();
         let _ = self.schema.root();
     }
 
@@ -295,6 +305,7 @@ impl<Z: SizeSet> Plan<Z> {
         stored_by_parts();
         parts_one_level();
         items_told_apart();
+        junctors_name_fields();
         let _ = self.schema.root();
     }
 
@@ -322,6 +333,7 @@ fn entries<Z: SizeSet>(
         return Err(PFault::BadLimit);
     }
     items_told_apart();
+    junctors_name_fields();
     let mut arena = Arena {
         values: Values::new(alloc, pools)?,
         limit,

@@ -1,21 +1,25 @@
 //! The tables of a row: the sizes that its slots can still take, from each of them on.
-ghost use Rattle.std.specs.Prelude.{◌≡◌, ℕ, ◌+◌, ◌≤◌, ◌<◌, ◌↔◌, ◌⊎◌, false, List, [], ◌∷◌, length, IfOk, Decides};
+ghost use Rattle.std.specs.Prelude.{◌≡◌, ℕ, ◌+◌, ◌≤◌, ◌<◌, ◌↔◌, ◌⊎◌, true, false, List, [], ◌∷◌, length, All, IfOk, IfSome, Decides};
+ghost use Rattle.schema.specs.Nodes.Junctors.{most_named};
 ghost use Rattle.stored.specs.Objects.StoredByParts.{IsWithin};
 ghost use Rattle.plan.specs.Pools.Pools.{Pools};
 ghost use Rattle.plan.specs.Sets.{IsSum};
 ghost use Rattle.plan.specs.Samples.Sites.{Slot};
-ghost use Rattle.plan.specs.Samples.Sizes.{HasSize, CanFill, IsUpTo};
-ghost use Rattle.plan.specs.Internal.Tables.{IsLevel, AreChoices, AreShaped, AreLevels};
+ghost use Rattle.plan.specs.Samples.Sizes.{HasSize, Ending, IsUpTo};
+ghost use Rattle.plan.specs.Samples.Presence.{with_bit, meets_seen};
+ghost use Rattle.plan.specs.Internal.Tables.{IsClosed, AreMet, IsLevel, IsTable, HasShape, AreChoices, AreShaped, AreTables};
+ghost use Rattle.plan.specs.declared.rows.Choice.{Choice as ChoiceDeclared};
 
 use crate::SizeSet;
 use schema::Bounds;
 use std::alloc::{AllocError, Global};
 
-/// What may stand in a slot: the sizes of its parts, and whether one must stand there.
+/// What may stand in a slot: the sizes of its parts, whether one must stand there, and its place among the named fields.
 #[derive(Clone, Copy)]
 pub(crate) struct Choice<Z> {
     pub sizes: Z,
     pub must: bool,
+    pub bit: Option<u8>,
 }
 
 /// The set of 0 where the bounds let through so many, else the empty one.
@@ -50,63 +54,139 @@ fn slot_sizes<Z: SizeSet>(choice: &Choice<Z>, without: Z, with: Z, limit: u32) -
     }
 }
 
-/// The sizes after the last slot, at each number of members up to `count`.
+/// The set of 0 where a row may end with so many members, else the empty one; `holds` is whether its junctors hold.
+fn row_end<Z: SizeSet>(count: u64, bounds: Bounds, holds: bool) -> Z
+    requires { 0 < Z.BITS }
+    ensures { (n : ℕ) → Z.holds result n ↔ ((n ≡ 0) × (IsWithin bounds count × (holds ≡ true))) }
+{
+    if holds {
+        end_sizes(count, bounds)
+    } else {
+        Z::empty()
+    }
+}
+
+/// The sizes after the last slot, at each number of members up to `count`; `holds` is whether the junctors hold.
 fn last_level<Z: SizeSet>(
     alloc: Global,
     count: usize,
     bounds: Bounds,
+    holds: bool,
     limit: u32,
 ) -> Result<Vec<Z>, AllocError>
     requires limit { limit < Z.BITS }
     requires count { count < 18446744073709551615 }
     ensures whole { IfOk result (λ level. length level.items ≡ count + 1) }
-    ensures level { IfOk result (λ level. (P : Pools) → IsLevel Z.holds limit bounds P [] level.items) }
+    ensures level { IfOk result (λ level. (P : Pools) (e : Ending) (seen : ℕ) → e.bounds ≡ bounds → holds ≡ meets_seen e.asked seen → IsLevel Z.holds limit e P [] seen level.items) }
 {
     let mut level = Vec::new(alloc);
     for taken in 0..count + 1 {
-        level.push(end_sizes(taken as u64, bounds))?;
+        level.push(row_end(taken as u64, bounds, holds))?;
     }
     Ok(level)
 }
 
-/// The sizes from a slot on, at each number of members before it, from those behind it.
-fn slot_level<Z: SizeSet>(
+/// The sizes after the last slot, for each set of the named fields; `ends` has whether the junctors hold.
+fn last_table<Z: SizeSet>(
     alloc: Global,
-    choice: &Choice<Z>,
-    behind: &[Z],
-    limit: u32,
-) -> Result<Vec<Z>, AllocError>
-    requires limit { limit < Z.BITS }
-    requires behind { 0 < length behind.now }
-    ensures whole { IfOk result (λ level. length level.items + 1 ≡ length behind.now) }
-    ensures level { IfOk result (λ level. (P : Pools) (s : Slot) (ss : List Slot) (b : Bounds) → IsUpTo limit (Z.holds choice.now.sizes) (HasSize P s.site) → choice.now.must ≡ s.must → IsLevel Z.holds limit b P ss behind.now → IsLevel Z.holds limit b P (s ∷ ss) level.items) }
-{
-    let mut level = Vec::new(alloc);
-    for taken in 0..behind.len() - 1 {
-        level.push(slot_sizes(choice, behind[taken], behind[taken + 1], limit))?;
-    }
-    Ok(level)
-}
-
-/// The sizes from each place on, the last place first, at each number of members that may stand before it.
-pub(crate) fn levels<Z: SizeSet>(
-    alloc: Global,
-    choices: &[Choice<Z>],
+    count: usize,
     bounds: Bounds,
+    ends: &[bool],
     limit: u32,
 ) -> Result<Vec<Vec<Z>>, AllocError>
     requires limit { limit < Z.BITS }
-    requires count { length choices.now < 18446744073709551615 }
-    ensures whole { IfOk result (λ levels. length levels.items ≡ length choices.now + 1) }
-    ensures shaped { IfOk result (λ levels. AreShaped (length choices.now) levels.items) }
-    ensures levels { IfOk result (λ levels. (P : Pools) (ss : List Slot) → AreChoices Z.holds limit P choices.now ss → AreLevels Z.holds limit bounds P ss levels.items) }
+    requires count { count < 18446744073709551615 }
+    ensures shape { IfOk result (λ table. HasShape (length ends.now) (count + 1) table.items) }
+    ensures table { IfOk result (λ table. (P : Pools) (e : Ending) → e.bounds ≡ bounds → AreMet e.asked ends.now → IsTable Z.holds limit e P [] table.items) }
 {
-    let mut levels = Vec::new(alloc);
-    let count = choices.len();
-    levels.push(last_level(alloc, count, bounds, limit)?)?;
-    for done in 0..count {
-        let level = slot_level(alloc, &choices[count - 1 - done], &levels[done], limit)?;
-        levels.push(level)?;
+    let mut table = Vec::new(alloc);
+    for seen in 0..ends.len() {
+        let holds = ends[seen];
+        let level = last_level(alloc, count, bounds, holds, limit)?;
+        table.push(level)?;
     }
-    Ok(levels)
+    Ok(table)
+}
+
+/// The sizes from a slot on, at each number of members before it, from those behind it without and with a part in the slot.
+fn slot_level<Z: SizeSet>(
+    alloc: Global,
+    choice: &Choice<Z>,
+    without: &[Z],
+    with: &[Z],
+    limit: u32,
+) -> Result<Vec<Z>, AllocError>
+    requires limit { limit < Z.BITS }
+    requires some { 0 < length without.now }
+    requires alike { length with.now ≡ length without.now }
+    ensures whole { IfOk result (λ level. length level.items + 1 ≡ length without.now) }
+    ensures level { IfOk result (λ level. (P : Pools) (s : Slot) (ss : List Slot) (e : Ending) (seen : ℕ) → IsUpTo limit (Z.holds choice.now.sizes) (HasSize P s.site) → choice.now.must ≡ s.must → IsLevel Z.holds limit e P ss seen without.now
+        → IsLevel Z.holds limit e P ss (with_bit s.bit seen) with.now → IsLevel Z.holds limit e P (s ∷ ss) seen level.items) }
+{
+    let mut level = Vec::new(alloc);
+    for taken in 0..without.len() - 1 {
+        level.push(slot_sizes(choice, without[taken], with[taken + 1], limit))?;
+    }
+    Ok(level)
+}
+
+/// The named fields that are there where one more is.
+fn seen_with(bit: Option<u8>, seen: usize) -> usize
+    requires { IfSome bit (λ j. j < most_named) }
+    ensures { result ≡ with_bit bit seen }
+{
+    match bit {
+        Some(bit) => seen | 1 << bit,
+        None => seen,
+    }
+}
+
+/// The sizes from a slot on, for each set of the named fields, from those behind it.
+fn slot_table<Z: SizeSet>(
+    alloc: Global,
+    choice: &Choice<Z>,
+    before: usize,
+    behind: &[Vec<Z>],
+    limit: u32,
+) -> Result<Vec<Vec<Z>>, AllocError>
+    requires limit { limit < Z.BITS }
+    requires closed { IsClosed (length behind.now) choice.now.bit }
+    requires shape { HasShape (length behind.now) (before + 2) behind.now }
+    ensures shape { IfOk result (λ table. HasShape (length behind.now) (before + 1) table.items) }
+    ensures table { IfOk result (λ table. (P : Pools) (s : Slot) (ss : List Slot) (e : Ending) → IsUpTo limit (Z.holds choice.now.sizes) (HasSize P s.site) → choice.now.must ≡ s.must → choice.now.bit ≡ s.bit → IsTable Z.holds limit e P ss behind.now → IsTable Z.holds limit e P (s ∷ ss) table.items) }
+{
+    let mut table = Vec::new(alloc);
+    for seen in 0..behind.len() {
+        let with = seen_with(choice.bit, seen);
+        let level = slot_level(alloc, choice, &behind[seen], &behind[with], limit)?;
+        table.push(level)?;
+    }
+    Ok(table)
+}
+
+/// The sizes from each place on, the last place first: for each set of the named fields, at each number of members that may stand
+/// before it. `ends` has whether the junctors hold for each such set.
+pub(crate) fn tables<Z: SizeSet>(
+    alloc: Global,
+    choices: &[Choice<Z>],
+    bounds: Bounds,
+    ends: &[bool],
+    limit: u32,
+) -> Result<Vec<Vec<Vec<Z>>>, AllocError>
+    requires limit { limit < Z.BITS }
+    requires count { length choices.now < 18446744073709551615 }
+    requires closed { All (λ (c : ChoiceDeclared Z). IsClosed (length ends.now) c.bit) choices.now }
+    ensures whole { IfOk result (λ tables. length tables.items ≡ length choices.now + 1) }
+    ensures shaped { IfOk result (λ tables. AreShaped (length choices.now) (length ends.now) tables.items) }
+    ensures tables { IfOk result (λ tables. (P : Pools) (ss : List Slot) (e : Ending) → e.bounds ≡ bounds → AreMet e.asked ends.now → AreChoices Z.holds limit P choices.now ss → AreTables Z.holds limit e P ss tables.items) }
+{
+    let mut tables = Vec::new(alloc);
+    let count = choices.len();
+    tables.push(last_table(alloc, count, bounds, ends, limit)?)?;
+    for done in 0..count {
+        let before = count - 1 - done;
+        let table = slot_table(alloc, &choices[before], before, &tables[done], limit)?;
+        tables.push(table)?;
+    }
+    Ok(tables)
 }

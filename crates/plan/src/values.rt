@@ -3,7 +3,7 @@ ghost use Rattle.std.specs.Prelude.{◌≡◌, ◌∷◌, ◌++◌, map, IfOk, O
 ghost use Rattle.std.specs.declared.cmp.Ordering.TheVariants.{Equal};
 ghost use Rattle.jtree.specs.Data.{null, integer, text};
 ghost use Rattle.plan.specs.Samples.Over.{scalars_of};
-ghost use Rattle.plan.specs.Samples.Sites.{in_order};
+ghost use Rattle.plan.specs.Samples.Names.{in_order};
 ghost use Rattle.plan.specs.Internal.Values.{trees_of, IsInOrder, IsBase};
 
 use crate::Pools;
@@ -110,7 +110,7 @@ fn names(alloc: Global, names: &[Text]) -> Result<Vec<Text>, AllocError>
 }
 
 /// Puts the elements in order, each once.
-fn put_in_order<T: Ord + Drop>(list: &mut Vec<T>)
+pub(crate) fn put_in_order<T: Ord + Drop>(list: &mut Vec<T>)
     ensures { ((x y : T) → T.cmp x y ≡ Equal → x ≡ y) → IsInOrder T.cmp list.old.items list.new.items }
 {
     list.sort_unstable();

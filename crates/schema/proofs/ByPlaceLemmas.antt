@@ -172,7 +172,7 @@ keyword_below N s d k below by =
 
 each_sort : (root : Bool) (step : Step) (A : Sort) (n : Bool) (x : Option (List ℕ)) (s d : Data) → sort_kind A ≡ step_kind step → scalar_in A ≡ scalar_of (step_kind step)
     → AreBelow root A s → IsNodePlace root (step ∷ []) → schema_by s step ≡ Some d → (M : Node) × (node_below (node n x A) step ≡ Some M) × IsNodeOf false M d
-each_sort root (property k) (object fs p t b) n x s d kind_is scalar_is below place by = let f = field_each root fs s d k below place by in (f.0.node, rw f.1 refl, f.2)
+each_sort root (property k) (object fs p t b cs) n x s d kind_is scalar_is below place by = let f = field_each root fs s d k below place by in (f.0.node, rw f.1 refl, f.2)
 each_sort root map_value (map N t b) n x s d kind_is scalar_is below place by = (N, refl, keyword_below N s d (codes "additionalProperties") below by)
 each_sort root items (list N t k b) n x s d kind_is scalar_is below place by = (N, refl, keyword_below N s d (codes "items") below by)
 each_sort root step A n x s d kind_is scalar_is below place by = let outside = place.0 in absurd (cc)
@@ -188,7 +188,7 @@ node_object (node n x A) d is = kind_object d (sort_kind A) is.0.2
 
 only_below : (root : Bool) (N M : Node) (s : Data) (step : Step) → IsTree s → IsNodeOf root N s → node_below N step ≡ Some M
     → (d : Data) × IsNodePlace root (step ∷ []) × (schema_by s step ≡ Some d) × IsNodeOf false M d
-only_below root (node n x (object fs p t b)) M s (property k) o is leads =
+only_below root (node n x (object fs p t b cs)) M s (property k) o is leads =
     let f = found_node (field_at k fs) M leads in
     let d = field_only root fs s k f.0 o is.1 f.1 in
     (d.0, d.1, d.2, subst (λ K. IsNodeOf false K d.0) f.2 d.3.0)
@@ -203,7 +203,7 @@ only_below root N M s step o is leads = absurd (cc)
 -- ---- at all places
 
 fields_here : (root : Bool) (N : Node) (s : Data) → IsTree s → IsNodeOf root N s → AreFieldsHere N s
-fields_here root (node n x (object fs p t b)) s o is = λ k f found.
+fields_here root (node n x (object fs p t b cs)) s o is = λ k f found.
     let d = field_only root fs s k f o is.1 found in
     (d.3.1, rw d.2 d.3.2)
 fields_here root N s o is = tt

@@ -1,6 +1,6 @@
 -- Where no rule is broken the items of sets and map lists can be told apart.
 use Rattle.std.proofs.Common.{◌≡◌, ◌≢◌, ℕ, List, [], ◌∷◌, ◌++◌, Bool, true, false, Option, Some, None, refl, sym, ◌∙◌, subst, arith}
-use Rattle.std.specs.Prelude.{option_and_then, codes, ◌||◌}
+use Rattle.std.specs.Prelude.{option_and_then, codes, ◌||◌, ◌&&◌}
 use Rattle.std.proofs.lemmas.Bool.{and_parts, not-true, true_from_ne_false}
 use Rattle.std.proofs.lemmas.Option.{none-some, option_and_then_some, same_Some}
 use Rattle.jtree.specs.Data.{Data, text, list as list_data, item}
@@ -11,6 +11,7 @@ use Rattle.schema.specs.Document.Forms.{object as object_form, BreaksForm}
 use Rattle.schema.specs.Document.Texts.{is_among}
 use Rattle.schema.specs.Document.Places.{Step, Place, property, map_value, items, step_path, schema_by, schema_at, is_inside}
 use Rattle.schema.specs.Rules.Keywords.{flag, text_under, items_in, items_under, texts_of, texts_under, is_empty}
+use Rattle.schema.specs.Rules.Profile.{is_root}
 use Rattle.schema.specs.Rules.Lists.{is_of_list_type, is_plain_scalar, has_bad_set_items, has_default, is_key, are_keys, have_keys, has_bad_keys}
 use Rattle.schema.specs.Nodes.Node.{Node, node, scalar, object, list, Fields}
 use Rattle.schema.specs.Nodes.ByPlace.{list_type_named, field_at, node_below, node_at, AreNodesOf}
@@ -24,7 +25,7 @@ use Rattle.schema.proofs.ByPlaceLemmas.{step_part}
 -- ---- the schema of a node
 
 -- each keyword has its form, and so has all that stands below it
-abbrev HaveForms : Data → Type 0
+abbrev pub HaveForms : Data → Type 0
 HaveForms s = (k : List ℕ) (path : Path) → BreaksForm object_form s (name k ∷ path) → ⊥
 
 part_below : (s d : Data) (step : Step) (path : Path) → schema_by s step ≡ Some d → part_at s (step_path step ++ path) ≡ part_at d path
@@ -36,14 +37,19 @@ forms_below map_value s d outside by h = λ k path b. h (codes "additionalProper
 forms_below items s d outside by h = λ k path b. h (codes "items") (name k ∷ path) (b.0, part_below s d items (name k ∷ path) by ∙ b.1, b.2)
 forms_below step s d outside by h = absurd (cc)
 
-schema_of : (p : Place) (root : Bool) (N M : Node) (s : Data) → AreNodesOf root N s → HaveForms s → node_at N p ≡ Some M
-    → (t : Data) × (schema_at s p ≡ Some t) × HaveForms t × (r : Bool) × AreNodesOf r M t
-schema_of [] root N M s h forms at = (s, refl, forms, root, subst (λ K. AreNodesOf root K s) (same_Some N M at) h)
+and_false : (b : Bool) → (b && false) ≡ false
+and_false true = refl
+and_false false = refl
+
+-- at the root it is that of a whole resource
+pub schema_of : (p : Place) (root : Bool) (N M : Node) (s : Data) → AreNodesOf root N s → HaveForms s → node_at N p ≡ Some M
+    → (t : Data) × (schema_at s p ≡ Some t) × HaveForms t × AreNodesOf (is_root p && root) M t
+schema_of [] root N M s h forms at = (s, refl, forms, subst (λ K. AreNodesOf root K s) (same_Some N M at) h)
 schema_of (step ∷ p) root N M s h forms at =
     option_and_then_some (λ K. node_at K p) (node_below N step) M at (λ K leads rest.
     let d = schema_below root N K s step h leads in
     let t = schema_of p false K M d.0 d.3 (forms_below step s d.0 d.1.0 d.2 forms) rest in
-    (t.0, rw d.2 t.1, t.2, t.3, t.4))
+    (t.0, rw d.2 t.1, t.2, subst (λ r. AreNodesOf r M t.0) (and_false (is_root p)) t.3))
 
 -- ---- what the rules ask of the items of a list
 
@@ -66,12 +72,12 @@ plain_scalar (node n x A) d h plain = let kind = rw (here false _ d h).0.2.is at
 -- ---- the keys of the items of a map list
 
 abbrev HasKey : Node → List ℕ → Type 0
-HasKey (node n x (object fs p t b)) k = IsKey fs k
+HasKey (node n x (object fs p t b cs)) k = IsKey fs k
 HasKey _ k = ⊥
 
 key_below : (N : Node) (d : Data) (k : List ℕ) (o : Option Data) → AreNodesOf false N d → schema_by d (property k) ≡ o → is_plain_scalar o ≡ true
     → (is_among k (texts_under d (codes "required")) || has_default o) ≡ true → HasKey N k
-key_below (node n x (object fs p t b)) d k (Some e) h by plain given =
+key_below (node n x (object fs p t b cs)) d k (Some e) h by plain given =
     let M = node_of_below false _ d e (property k) h (refl, λ is e. absurd (cc)) by in
     let f = found_node (field_at k fs) M.0 M.1 in
     let told = (here false _ d h).1 k f.0 f.1 in
@@ -90,7 +96,7 @@ keys_below fs d (k ∷ ks) each are =
     (each k parts.0, not-true _ rest.0, keys_below fs d ks each rest.1)
 
 has_keys : (N : Node) (d : Data) (ks : List (List ℕ)) → AreNodesOf false N d → flag d (codes "nullable") ≡ false → ks ≢ [] → are_keys d ks ≡ true → HasKeys N ks
-has_keys (node n x (object fs p t b)) d ks h never_null some are = ((here false _ d h).0.0 ∙ never_null, some, keys_below fs d ks (λ k. has_key _ d k h) are)
+has_keys (node n x (object fs p t b cs)) d ks h never_null some are = ((here false _ d h).0.0 ∙ never_null, some, keys_below fs d ks (λ k. has_key _ d k h) are)
 has_keys N d [] h never_null some are = absurd (some refl)
 has_keys N d (k ∷ ks) h never_null some are = absurd (has_key N d k h (and_parts _ _ are).0)
 
@@ -116,4 +122,4 @@ pub sound_items_at : (raw : Data) (root : Node) → IsRootOf root raw → (p : P
 sound_items_at raw root is p M at =
     let s = schema_of p true root M raw is.nodes (λ k path. is.sound.forms (name k ∷ path)) at in
     let outside = (is.nodes.only p M at).0.0 in
-    sound_items M s.0 s.3 s.4 s.2 (λ bad. is.unbroken p V11 (outside, (s.0, s.1, bad))) (λ bad. is.unbroken p V12 (outside, (s.0, s.1, bad)))
+    sound_items M s.0 (is_root p && true) s.3 s.2 (λ bad. is.unbroken p V11 (outside, (s.0, s.1, bad))) (λ bad. is.unbroken p V12 (outside, (s.0, s.1, bad)))

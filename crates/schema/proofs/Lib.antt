@@ -20,3 +20,5 @@ pub mod OwnParts
 pub mod OneNode
 pub mod ByPlaceLemmas
 pub mod ItemLemmas
+pub mod NamedLemmas
+pub mod JunctorLemmas

@@ -11,7 +11,7 @@ use Rattle.jtree.specs.Internal.Lookups.{bool_cases, same_name, own_name, later_
 use Rattle.schema.specs.Document.Places.{Step, property, map_value, items, schema_by}
 use Rattle.schema.specs.Rules.Kinds as kinds
 use Rattle.schema.specs.Rules.Kinds.{IsOfKind}
-use Rattle.schema.specs.Nodes.Validations.{AreConstraintsOf, AreValidationsOf, AreBranchesOf}
+use Rattle.schema.specs.Nodes.Validations.{AreConstraintsOf, AreValidationsOf, AreObjectJunctorsOf, AreBranchesOf}
 use Rattle.schema.specs.Nodes.Node.{Validations, validations, Branches, no_branches, branch, Node, node, Sort, scalar, object, map, list, open_, Fields, no_fields, field, IsNode, IsBeforeFields, AreOrdered}
 use Rattle.schema.specs.Nodes.ByPlace.{sort_kind, AreBoundsOf, HasKeywords, IsNodeHere, AreFieldsHere, Declared, field_at, node_below, IsNodePlace, AreNodesOf}
 use Rattle.schema.specs.declared.node.Bounds.{Bounds}
@@ -48,6 +48,7 @@ same_constraints t u s h k = λ i. record {
   exclusive_minimum = (h.exclusive_minimum ∙ sym k.exclusive_minimum) i;
   exclusive_maximum = (h.exclusive_maximum ∙ sym k.exclusive_maximum) i;
   lengths = record { least = (h.least_length ∙ sym k.least_length) i; most = (h.most_length ∙ sym k.most_length) i };
+  required = (h.required ∙ sym k.required) i;
 }
 
 mutual
@@ -61,6 +62,10 @@ mutual
   same_branches no_branches _ (item s ss) h k = absurd h
   same_branches (branch c cs) _ no_items h k = absurd h
   same_branches _ _ _ h k = absurd k
+
+same_object_junctors : (c d : Validations) (s : Data) → AreObjectJunctorsOf c s → AreObjectJunctorsOf d s → c ≡ d
+same_object_junctors (validations t a b e n) (validations u f g j m) s h k = λ i.
+    validations ((h.0 ∙ sym k.0) i) (same_branches a f _ h.1 k.1 i) (same_branches b g _ h.2 k.2 i) (same_branches e j _ h.3 k.3 i) (same_branches n m _ h.4 k.4 i)
 
 -- ---- fields by their names
 
@@ -97,7 +102,7 @@ ordered_field k (field l N r e fs) f ordered found = elim (bool_cases (bytes_eq 
 ]
 
 ordered_below : (N M : Node) (step : Step) → IsNode N → node_below N step ≡ Some M → IsNode M
-ordered_below (node n d (object fs p t b)) M (property k) ordered leads =
+ordered_below (node n d (object fs p t b cs)) M (property k) ordered leads =
     let f = found_node (field_at k fs) M leads in
     subst IsNode f.2 (ordered_field k fs f.0 ordered f.1)
 ordered_below (node n d (map N t b)) M map_value ordered leads = subst IsNode (same_Some N M leads) ordered
@@ -179,11 +184,11 @@ rest_alike k l N M r q e o fs gs same u a m f found =
     let g = a m f (field_later m k N r e fs other ∙ found) in
     (g.0, sym (field_later m l M q o gs (subst (λ n. bytes_eq m n ≡ false) same other)) ∙ g.1, g.2, g.3, g.4)
 
-fields_alike : (n m : Bool) (d e : Option (List ℕ)) (fs gs : Fields) (p q : Bool) (t u : MapType) (b c : Bounds)
-    → AreOfOne (node n d (object fs p t b)) (node m e (object gs q u c)) → AreAlike fs gs
-fields_alike n m d e fs gs p q t u b c both = λ k f found.
-    let N = node n d (object fs p t b) in
-    let M = node m e (object gs q u c) in
+fields_alike : (n m : Bool) (d e : Option (List ℕ)) (fs gs : Fields) (p q : Bool) (t u : MapType) (b c : Bounds) (cs ds : Validations)
+    → AreOfOne (node n d (object fs p t b cs)) (node m e (object gs q u c ds)) → AreAlike fs gs
+fields_alike n m d e fs gs p q t u b c cs ds both = λ k f found.
+    let N = node n d (object fs p t b cs) in
+    let M = node m e (object gs q u c ds) in
     let below = both_below N M f.node (property k) both (rw found refl) in
     let g = found_node (field_at k gs) below.0 below.1 in
     let x = (here both.0 N both.1 both.2).1 k f found in
@@ -205,10 +210,10 @@ mutual
   same_sort : (A B : Sort) (n m : Bool) (d e : Option (List ℕ)) (s : Data) → sort_kind A ≡ sort_kind B → scalar_in A ≡ scalar_in B → HasKeywords A s → HasKeywords B s
       → AreOfOne (node n d A) (node m e B) → A ≡ B
   same_sort (scalar k v) (scalar l w) n m d e s kind_is scalar_is x y both = λ i. scalar (same_Some k l scalar_is i) (same_validations v w s x y i)
-  same_sort (object fs p t b) (object gs q u c) n m d e s kind_is scalar_is x y both =
-      let alike = fields_alike n m d e fs gs p q t u b c both in
-      let back = fields_alike m n e d gs fs q p u t c b (turned (node n d (object fs p t b)) (node m e (object gs q u c)) both) in
-      λ i. object (same_fields fs gs both.2.ordered both.3.ordered alike back i) ((x.0 ∙ sym y.0) i) ((x.1 ∙ sym y.1) i) (same_bounds b c s _ _ x.2 y.2 i)
+  same_sort (object fs p t b cs) (object gs q u c ds) n m d e s kind_is scalar_is x y both =
+      let alike = fields_alike n m d e fs gs p q t u b c cs ds both in
+      let back = fields_alike m n e d gs fs q p u t c b ds cs (turned (node n d (object fs p t b cs)) (node m e (object gs q u c ds)) both) in
+      λ i. object (same_fields fs gs both.2.ordered both.3.ordered alike back i) ((x.0 ∙ sym y.0) i) ((x.1 ∙ sym y.1) i) (same_bounds b c s _ _ x.2 y.2 i) (same_object_junctors cs ds s x.3 y.3 i)
   same_sort (map N t b) (map M u c) n m d e s kind_is scalar_is x y both =
       let below = both_below (node n d (map N t b)) (node m e (map M u c)) N map_value both refl in
       λ i. map (same_node N M (subst (AreOfOne N) (sym (same_Some M below.0 below.1)) below.2) i) ((x.0 ∙ sym y.0) i) (same_bounds b c s _ _ x.1 y.1 i)

@@ -205,7 +205,7 @@ mutual
   node_ordered (node nullable description sort) root s o is = sort_ordered sort root s o is.1
 
   sort_ordered : (A : Sort) (root : Bool) (s : Data) → IsTree s → AreBelow root A s → IsSort A
-  sort_ordered (object fs preserves type bounds) root s o below =
+  sort_ordered (object fs preserves type bounds cs) root s o below =
       fields_ordered fs (texts_under s (codes "required")) (declared_of root (members_under s (codes "properties"))) below (declared_object root (members_under s (codes "properties")) (properties_tree s o))
   sort_ordered (map N type bounds) root s o below = node_ordered N false below.0 (under_tree s (codes "additionalProperties") below.0 o below.1) below.2
   sort_ordered (list N type keys bounds) root s o below = node_ordered N false below.0 (under_tree s (codes "items") below.0 o below.1) below.2

@@ -8,6 +8,8 @@ pub mod Subschemas
 pub mod Contexts
 pub mod KindView
 pub mod RuleParts
+pub mod Named
+pub mod NamedView
 pub mod Judged
 pub mod NodeOf
 pub mod Building

@@ -3,5 +3,6 @@ pub mod Node
 pub mod Validations
 pub mod ByPlace
 pub mod Items
+pub mod Junctors
 pub mod Shape
 pub mod View

@@ -3,5 +3,6 @@ pub mod Keywords
 pub mod Kinds
 pub mod Lists
 pub mod Profile
+pub mod Junctors
 pub mod Broken
 pub mod Breaks

@@ -7,7 +7,8 @@ ghost use Rattle.schema.specs.Document.Places.{only_object};
 ghost use Rattle.schema.specs.Document.Texts.{is_among};
 ghost use Rattle.schema.specs.Internal.KindView.{kind_view, is_asked as is_asked_by};
 ghost use Rattle.schema.specs.Rules.Broken.{metadata_keywords};
-ghost use Rattle.schema.specs.Rules.Profile.{is_branch_keyword as is_branch_keyword_of, is_common_keyword as is_common_keyword_of, own_keywords, keywords_of_all, junctor_keywords, outside_keywords, unsupported_keywords, keywords_of_scalars, keywords_of_objects, keywords_of_lists};
+ghost use Rattle.schema.specs.Rules.Profile.{is_common_keyword as is_common_keyword_of, own_keywords, keywords_of_all, junctor_keywords, outside_keywords, unsupported_keywords, keywords_of_scalars, keywords_of_objects, keywords_of_lists};
+ghost use Rattle.schema.specs.Rules.Junctors.{is_judged_elsewhere as is_judged_elsewhere_of, is_branch_keyword as is_branch_keyword_of, is_presence_keyword as is_presence_keyword_of};
 ghost use Rattle.schema.specs.Rules.Keywords.{is_false, flag, has as has_of, has_text_among as has_text_of, has_other_text as has_other_text_than, has_name, is_empty as is_empty_list, texts_of, texts_under};
 
 use crate::kinds::Kind;
@@ -51,8 +52,10 @@ pub(crate) enum Keywords {
     Unsupported,
     /// All but those of the schema of `metadata`.
     BesideMetadata,
-    /// All but those of a branch of a junctor.
+    /// All but those of a branch that asks of the value.
     BesideBranch,
+    /// All but those of a branch that asks which fields are present.
+    BesidePresence,
     /// All but those of a place of a kind.
     BesideKind(Kind),
 }
@@ -78,6 +81,7 @@ fn is_asked(keyword: &str, keywords: Keywords) -> bool
         Keywords::Unsupported => is_unsupported_keyword(keyword),
         Keywords::BesideMetadata => !is_metadata_keyword(keyword),
         Keywords::BesideBranch => !is_branch_keyword(keyword),
+        Keywords::BesidePresence => !is_presence_keyword(keyword),
         Keywords::BesideKind(kind) => {
             !(is_common_keyword(keyword) || is_own_keyword(keyword, kind))
         }
@@ -93,8 +97,20 @@ fn is_metadata_keyword(keyword: &str) -> bool
 fn is_branch_keyword(keyword: &str) -> bool
     ensures { result ≡ is_branch_keyword_of keyword.now }
 {
-    (is_keyword_of_scalars(keyword) || is_junctor_keyword(keyword))
-        || (keyword == "type" || (is_outside_keyword(keyword) || is_unsupported_keyword(keyword)))
+    (is_keyword_of_scalars(keyword) || is_junctor_keyword(keyword)) || is_judged_elsewhere(keyword)
+}
+
+fn is_presence_keyword(keyword: &str) -> bool
+    ensures { result ≡ is_presence_keyword_of keyword.now }
+{
+    (keyword == "required" || is_junctor_keyword(keyword)) || is_judged_elsewhere(keyword)
+}
+
+/// Whether other rules say where the keyword may stand.
+fn is_judged_elsewhere(keyword: &str) -> bool
+    ensures { result ≡ is_judged_elsewhere_of keyword.now }
+{
+    keyword == "type" || (is_outside_keyword(keyword) || is_unsupported_keyword(keyword))
 }
 
 fn is_common_keyword(keyword: &str) -> bool

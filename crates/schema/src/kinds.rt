@@ -4,6 +4,7 @@ ghost use Rattle.jtree.specs.Data.{object};
 ghost use Rattle.jtree.specs.Path.{under};
 ghost use Rattle.jtree.specs.View.{data_of};
 ghost use Rattle.schema.specs.Rules.Kinds.{kind_of as kind_of_schema, untyped_kind as untyped_kind_of, named_kind as named_kind_of, object_kind as object_kind_of, is_scalar_kind, is_list_kind, is_object_kind, is_open_kind, is_untyped as is_untyped_of, lacks_type as lacks_type_of};
+ghost use Rattle.schema.specs.Rules.Junctors.{declares_fields as declares_fields_of};
 ghost use Rattle.schema.specs.Internal.KindView.{kind_view};
 
 use crate::keywords::has_true;
@@ -106,6 +107,16 @@ pub(crate) fn is_object(schema: &Members) -> bool
 {
     match kind_of_members(schema) {
         Some(Kind::Object | Kind::Map) => true,
+        _ => false,
+    }
+}
+
+/// Whether a schema is of an object with declared fields, and no map.
+pub(crate) fn declares_fields(schema: &Members) -> bool
+    ensures { result ≡ declares_fields_of (kind_of_schema (object schema.now)) }
+{
+    match kind_of_members(schema) {
+        Some(Kind::Object) => true,
         _ => false,
     }
 }

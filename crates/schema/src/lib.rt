@@ -6,9 +6,11 @@ mod definition;
 mod fault;
 mod forms;
 mod judging;
+mod junctor_fields;
 mod keywords;
 mod kinds;
 mod listing;
+mod names;
 mod node;
 mod places;
 mod raw;
@@ -26,6 +28,8 @@ pub use by_place::nodes_are_unique;
 pub use definition::{Crd, read_crd};
 pub use fault::SFault;
 pub use judging::breaks;
+pub use junctor_fields::junctors_name_fields;
+pub use names::Names;
 pub use node::{
     Below, Bounds, Branches, Constraints, Field, Fields, ListNode, ListType, MapNode, MapType,
     Node, ObjectNode, ScalarKind, ScalarNode, Sort, Validations,

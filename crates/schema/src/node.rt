@@ -1,3 +1,4 @@
+use crate::names::Names;
 use jtree::{Items, Text, Tree};
 use std::marker::Model;
 
@@ -32,7 +33,8 @@ pub struct Bounds {
     pub most: Option<u64>,
 }
 
-/// What is asked of a scalar besides its kind. Lengths are counted in Unicode scalar values.
+/// What is asked of a scalar besides its kind, or of an object in a branch of a junctor. Lengths are counted in Unicode scalar
+/// values.
 #[derive(Drop)]
 pub struct Constraints {
     /// The values of `enum` as written, where it is there.
@@ -42,9 +44,11 @@ pub struct Constraints {
     pub exclusive_minimum: bool,
     pub exclusive_maximum: bool,
     pub lengths: Bounds,
+    /// The names of the members that must be there (`required`).
+    pub required: Names,
 }
 
-/// The constraints of a scalar node, or of a branch of a junctor, and the junctors that stand beside them.
+/// The constraints of a node, or of a branch of a junctor, and the junctors that stand beside them.
 #[cycle(validations)]
 #[derive(Drop)]
 pub struct Validations {
@@ -100,6 +104,8 @@ pub struct ObjectNode {
     pub map_type: MapType,
     /// On the number of members (`minProperties`, `maxProperties`).
     pub bounds: Bounds,
+    /// The junctors, which ask which members are there; beside them nothing is asked here.
+    pub junctors: Validations,
 }
 
 #[cycle(node)]

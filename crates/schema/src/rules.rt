@@ -5,20 +5,22 @@ ghost use Rattle.schema.specs.Document.Places.{property, ends_with, is_inside as
 ghost use Rattle.schema.specs.Internal.PlaceView.{step_of, place_of};
 ghost use Rattle.schema.specs.Rules.Broken.{Broken, metadata, is_field as is_field_of, ends_in_field as ends_in_field_of, metadata_names};
 ghost use Rattle.schema.specs.Rules.Lists.{has_bad_list_type, has_bad_keys, has_bad_set_items, has_bad_map_type};
-ghost use Rattle.schema.specs.Rules.Profile.{is_property as is_property_of, has_misplaced_default as has_misplaced_default_at, has_bad_junctor as has_bad_junctor_at, is_outside_profile as is_outside_profile_at, is_root as is_root_of};
+ghost use Rattle.schema.specs.Rules.Profile.{is_property as is_property_of, has_misplaced_default as has_misplaced_default_at, is_outside_profile as is_outside_profile_at, is_root as is_root_of};
 ghost use Rattle.schema.specs.Document.Texts.{is_among};
 ghost use Rattle.schema.specs.Internal.RuleParts.{IsOtherName, IsOtherField, IsUnspecified, HasOutsideKeyword, Restricts};
 ghost use Rattle.schema.specs.Internal.Subschemas.{IsSubschema};
 
+mod junctors;
 mod lists;
 mod profile;
 
 use crate::keywords::{Keywords, has, has_false, has_keyword, has_other_text, has_true};
-use crate::kinds::{is_scalar, lacks_type};
+use crate::kinds::lacks_type;
 use crate::listing::Subschema;
 use crate::places::{Step, is_envelope, is_junctor};
+use crate::rules::junctors::breaks_junctors;
 use crate::rules::lists::{bad_keys, bad_list_type, bad_map_type, bad_set_items};
-use crate::rules::profile::{is_bad_branch, is_outside_profile};
+use crate::rules::profile::is_outside_profile;
 use crate::violation::Rule;
 use jtree::Members;
 
@@ -48,7 +50,7 @@ pub(crate) fn is_broken(subschema: &Subschema<'_>, rule: Rule) -> bool
         Rule::V13 => !is_inside(place) && bad_map_type(subschema.schema),
         Rule::V14 => false,
         Rule::V15 => !is_inside(place) && has_misplaced_default(place, subschema.schema),
-        Rule::V16 => has_bad_junctor(place, subschema.schema),
+        Rule::V16 => breaks_junctors(subschema),
         Rule::V17 => !is_inside(place) && is_outside_profile(is_root(place), subschema.schema),
     }
 }
@@ -87,17 +89,6 @@ fn has_misplaced_default(place: &[Step<'_>], schema: &Members) -> bool
     ensures { result ≡ has_misplaced_default_at (place_of place.now) (object schema.now) }
 {
     has(schema, "default") && (!ends_in_property(place) || is_envelope(place))
-}
-
-/// V16: a junctor outside a scalar, or a branch with another keyword or value than it may have.
-fn has_bad_junctor(place: &[Step<'_>], schema: &Members) -> bool
-    ensures { result ≡ has_bad_junctor_at (is_inside_of (place_of place.now)) (object schema.now) }
-{
-    if is_inside(place) {
-        is_bad_branch(schema)
-    } else {
-        has_keyword(schema, Keywords::Junctors) && !is_scalar(schema)
-    }
 }
 
 /// Whether a step of the place is into a branch.

@@ -25,7 +25,7 @@ use crate::raw::RawSchema;
 use crate::reading::{bounds, copy_text, copy_texts, copy_tree, flag, text};
 use crate::refused::Refused;
 use crate::shaped::Shape;
-use crate::validations::read_validations;
+use crate::validations::{read_object_junctors, read_validations};
 use jtree::{Items, Member, Members, Tree};
 use std::alloc::{AllocError, Global};
 
@@ -112,6 +112,7 @@ fn read_object(alloc: Global, schema: &Tree, root: bool) -> Result<ObjectNode, A
         preserves: flag(schema, "x-kubernetes-preserve-unknown-fields"),
         map_type: map_type(schema),
         bounds: bounds(schema, "minProperties", "maxProperties"),
+        junctors: read_object_junctors(alloc, schema)?,
     })
 }
 

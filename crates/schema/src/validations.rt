@@ -1,13 +1,14 @@
-// What is asked of a scalar besides its kind.
-ghost use Rattle.std.specs.Prelude.{◌≡◌, codes, IfOk};
+// What is asked of a scalar besides its kind, and what junctors ask.
+ghost use Rattle.std.specs.Prelude.{◌≡◌, [], codes, IfOk};
 ghost use Rattle.jtree.specs.Path.{under};
 ghost use Rattle.jtree.specs.View.{data_of};
-ghost use Rattle.schema.specs.Nodes.Validations.{AreConstraintsOf, AreValidationsOf, AreBranchesOf, one_item};
+ghost use Rattle.schema.specs.Nodes.Validations.{AreConstraintsOf, AreValidationsOf, AreObjectJunctorsOf, AreBranchesOf, presence, one_item};
 ghost use Rattle.schema.specs.Nodes.View.{validations_of};
 ghost use Rattle.schema.specs.Rules.Keywords.{items_under};
 
-use crate::node::{Branches, Constraints, Validations};
-use crate::reading::{bounds, copy_list, flag, integer};
+use crate::names::Names;
+use crate::node::{Bounds, Branches, Constraints, Validations};
+use crate::reading::{bounds, copy_list, copy_texts, flag, integer};
 use jtree::{Items, Tree};
 use std::alloc::{AllocError, Global};
 
@@ -41,7 +42,39 @@ fn read_constraints(alloc: Global, schema: &Tree) -> Result<Constraints, AllocEr
         exclusive_minimum: flag(schema, "exclusiveMinimum"),
         exclusive_maximum: flag(schema, "exclusiveMaximum"),
         lengths: bounds(schema, "minLength", "maxLength"),
+        required: Names {
+            names: copy_texts(alloc, schema, "required")?,
+        },
     })
+}
+
+/// The junctors of an object, as its keywords stand there.
+pub(crate) fn read_object_junctors(alloc: Global, schema: &Tree) -> Result<Validations, AllocError>
+    ensures { IfOk result (λ c. AreObjectJunctorsOf (validations_of c) (data_of schema.now)) }
+{
+    let mut validations = read_validations(alloc, schema)?;
+    validations.constraints = no_constraints(alloc);
+    Ok(validations)
+}
+
+/// Constraints that ask nothing.
+fn no_constraints(alloc: Global) -> Constraints
+    ensures { result ≡ presence [] }
+{
+    Constraints {
+        choices: None,
+        minimum: None,
+        maximum: None,
+        exclusive_minimum: false,
+        exclusive_maximum: false,
+        lengths: Bounds {
+            least: None,
+            most: None,
+        },
+        required: Names {
+            names: Vec::new(alloc),
+        },
+    }
 }
 
 /// The branches in the list under a keyword.

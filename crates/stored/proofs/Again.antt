@@ -99,7 +99,7 @@ or_none None = refl
 or_none (Some d) = refl
 
 whole_same : (N : Node) (v w : Data) → pair N v ≡ whole → label w ≡ label v → pair N w ≡ whole
-whole_same (node n t (object fs preserves type bounds)) v (tree.object ns) e l = let is = object_only v (sym l) in let f = rw is.1 at e in absurd (cc)
+whole_same (node n t (object fs preserves type bounds cs)) v (tree.object ns) e l = let is = object_only v (sym l) in let f = rw is.1 at e in absurd (cc)
 whole_same (node n t (map N type bounds)) v (tree.object ns) e l = let is = object_only v (sym l) in let f = rw is.1 at e in absurd (cc)
 whole_same (node n t (list N type keys bounds)) v (tree.list es) e l = let is = list_only v (sym l) in let f = rw is.1 at e in absurd (cc)
 whole_same _ v w e l = refl
@@ -129,8 +129,8 @@ list_step N M ds es was is b (index i) path again =
     rw (is, is) (under_item M (item_at i ds) (item_at i es) path here (again M))
 
 step : (N : Node) (v w : Data) → IsFilled N v w → (s : Step) (path : Path) → ((M : Node) (d e : Data) → IsFilled M d e → IsFilledAgain M e path) → IsFilledAgain N w (s ∷ path)
-step (node n t (object fs preserves type bounds)) (tree.object ms) w b s path again =
-    let N = node n t (object fs preserves type bounds) in
+step (node n t (object fs preserves type bounds cs)) (tree.object ms) w b s path again =
+    let N = node n t (object fs preserves type bounds cs) in
     let is = object_only w (same_label leads_filled N (tree.object ms) w b) in
     subst (λ z. IsFilledAgain N z (s ∷ path)) (sym is.1) (object_step N fs preserves ms is.0 refl refl (subst (IsFilled N (tree.object ms)) is.1 b) s path again)
 step (node n t (map M type bounds)) (tree.object ms) w b s path again =

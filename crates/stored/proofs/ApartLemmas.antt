@@ -69,9 +69,9 @@ agree_on (k ∷ ks) keys ms ns h e =
 
 -- an item of a map list is an object
 keyed_object : (N : Node) (keys : List (List ℕ)) (v : Data) → HasKeys N keys → IsValidHere N v → (ms : Members) × (v ≡ tree.object ms)
-keyed_object (node nullable t (object fs preserves type bounds)) keys (tree.object ms) h here = (ms, refl)
-keyed_object (node nullable t (object fs preserves type bounds)) keys tree.null h here = let f : ◌≡◌ {A = Bool} true false = sym here ∙ h.0 in absurd (cc)
-keyed_object (node nullable t (object fs preserves type bounds)) keys _ h here = elim here [ ]
+keyed_object (node nullable t (object fs preserves type bounds cs)) keys (tree.object ms) h here = (ms, refl)
+keyed_object (node nullable t (object fs preserves type bounds cs)) keys tree.null h here = let f : ◌≡◌ {A = Bool} true false = sym here ∙ h.0 in absurd (cc)
+keyed_object (node nullable t (object fs preserves type bounds cs)) keys _ h here = elim here [ ]
 keyed_object _ keys v h here = elim h [ ]
 
 -- items with the same element may not stand in one list
@@ -120,7 +120,7 @@ tree_below (tree.list ds) (index i) w t e = item_tree i ds w t e
 tree_below _ _ w t e = absurd (cc)
 
 place_below : (N : Node) (v : Data) (s : Step) (M : Node) → node_by (pair N v) s ≡ Some M → (step : places.Step) × (node_below N step ≡ Some M)
-place_below (node n t (object fs preserves type bounds)) (tree.object ms) (name k) M e = (property k, e)
+place_below (node n t (object fs preserves type bounds cs)) (tree.object ms) (name k) M e = (property k, e)
 place_below (node n t (map_of K type bounds)) (tree.object ms) (name k) M e = (map_value, e)
 place_below (node n t (list K type keys bounds)) (tree.list ds) (index i) M e = (items, e)
 place_below _ _ _ M e = absurd (cc)

@@ -11,7 +11,7 @@ use Rattle.stored.specs.Objects.Leaves.{is_divided, element, leaf_at, is_simple,
 use Rattle.stored.proofs.LeafLevelLemmas.{undivided, down}
 
 simple_is_whole : (N : Node) (v : Data) → is_simple v ≡ true → pair N v ≡ whole
-simple_is_whole (node n t (object fs preserves type bounds)) (tree.object ms) simple = cc
+simple_is_whole (node n t (object fs preserves type bounds cs)) (tree.object ms) simple = cc
 simple_is_whole (node n t (map M type bounds)) (tree.object ms) simple = cc
 simple_is_whole (node n t (list M type keys bounds)) (tree.list ds) simple = cc
 simple_is_whole _ _ simple = refl

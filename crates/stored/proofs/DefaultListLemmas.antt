@@ -66,7 +66,7 @@ below N M s x is h = record {
 }
 
 field_below : (N : Node) (k : List ℕ) (f : Declared) → field_of N k ≡ Some f → node_below N (property k) ≡ Some f.node
-field_below (node nullable description (object fs preserves type bounds)) k f is = ap (option_map (λ g. g.node)) is
+field_below (node nullable description (object fs preserves type bounds cs)) k f is = ap (option_map (λ g. g.node)) is
 field_below N k f is = absurd (none-some f is)
 
 own_listed : (N : Node) (k : List ℕ) (f : Declared) → field_of N k ≡ Some f → (default : Option Data) → f.default ≡ default → (x : Default)
@@ -87,8 +87,8 @@ own_listed N k f is (Some d) same x (inl e) = subst (λ y. IsListed N (behind (p
 
 mutual
   node_listed : (N : Node) → IsNode N → (x : Default) → Among (defaults_of N) x → IsListed N x
-  node_listed (node nullable description (object fs preserves type bounds)) ordered x a =
-      fields_listed (node nullable description (object fs preserves type bounds)) fs ordered (λ k f is. is) x a
+  node_listed (node nullable description (object fs preserves type bounds cs)) ordered x a =
+      fields_listed (node nullable description (object fs preserves type bounds cs)) fs ordered (λ k f is. is) x a
   node_listed (node nullable description (map_node M type bounds)) ordered x a = let r = image (behind map_value) (defaults_of M) x a in
       subst (IsListed (node nullable description (map_node M type bounds))) (sym r.1) (below _ M map_value r.0 refl (node_listed M ordered r.0 r.2))
   node_listed (node nullable description (list M type keys bounds)) ordered x a = let r = image (behind items) (defaults_of M) x a in
@@ -128,7 +128,7 @@ field_among (field l M required default fs) k f x is a = elim (bool_cases (bytes
 
 field_found : (N : Node) (k : List ℕ) (f : Declared) (x : Default) → field_of N k ≡ Some f → Among (own_default f.node f.default ++ defaults_of f.node) x
     → Among (defaults_of N) (behind (property k) x)
-field_found (node nullable description (object fs preserves type bounds)) k f x is a = field_among fs k f x is a
+field_found (node nullable description (object fs preserves type bounds cs)) k f x is a = field_among fs k f x is a
 field_found N k f x is a = absurd (none-some f is)
 
 field_cases : (fs : Fields) (k : List ℕ) (M : Node) → option_map (λ f. f.node) (field_at k fs) ≡ Some M → (f : Declared) × (field_at k fs ≡ Some f) × (f.node ≡ M)
@@ -138,7 +138,7 @@ field_cases fs k M is = elim (option_cases (field_at k fs)) [
 ]
 
 below_found : (N : Node) (s : Step) (M : Node) (x : Default) → node_below N s ≡ Some M → Among (defaults_of M) x → Among (defaults_of N) (behind s x)
-below_found (node nullable description (object fs preserves type bounds)) (property k) M x is a = let f = field_cases fs k M is in
+below_found (node nullable description (object fs preserves type bounds cs)) (property k) M x is a = let f = field_cases fs k M is in
     field_among fs k f.0 x f.1 (among_right (own_default f.0.node f.0.default) (defaults_of f.0.node) x (subst (λ K. Among (defaults_of K) x) (sym f.2) a))
 below_found (node nullable description (map_node M' type bounds)) map_value M x is a =
     among_image (behind map_value) (defaults_of M') x (subst (λ K. Among (defaults_of K) x) (sym (same_Some M' M is)) a)
@@ -204,7 +204,7 @@ rising_own M (Some d) ordered r = (λ v a. after_own M v (node_listed M ordered 
 
 mutual
   rising_node : (N : Node) → IsNode N → Rising IsEarlier (defaults_of N)
-  rising_node (node nullable description (object fs preserves type bounds)) ordered = rising_fields fs ordered
+  rising_node (node nullable description (object fs preserves type bounds cs)) ordered = rising_fields fs ordered
   rising_node (node nullable description (map_node M type bounds)) ordered = rising_behind map_value (defaults_of M) (rising_node M ordered)
   rising_node (node nullable description (list M type keys bounds)) ordered = rising_behind items (defaults_of M) (rising_node M ordered)
   rising_node (node nullable description (scalar kind cs)) ordered = tt

@@ -40,19 +40,19 @@ IsSound (items N ds) = IsNode N × AreTrees ds
 IsSound whole = Unit {0}
 
 sound : (N : Node) (v : Data) → IsNode N → IsTree v → IsSound (pair N v)
-sound (node nullable description (object fs preserves type bounds)) (tree.object ms) n t = (n, t)
+sound (node nullable description (object fs preserves type bounds cs)) (tree.object ms) n t = (n, t)
 sound (node nullable description (map_of N type bounds)) (tree.object ms) n t = (n, t)
 sound (node nullable description (list N type keys bounds)) (tree.list ds) n t = (n, t)
 sound _ _ n t = tt
 
 parts_are : (N : Node) (v : Data) → parts N v ≡ parts_in (repeats N v) (pair N v)
-parts_are (node nullable description (object fs preserves type bounds)) (tree.object ms) = refl
+parts_are (node nullable description (object fs preserves type bounds cs)) (tree.object ms) = refl
 parts_are (node nullable description (map_of N type bounds)) (tree.object ms) = refl
 parts_are (node nullable description (list N type keys bounds)) (tree.list ds) = refl
 parts_are _ _ = refl
 
 pub part_is : (N : Node) (v : Data) (s : Step) (M : Node) → node_by (pair N v) s ≡ Some M → part_by v s ≡ part_in (pair N v) s
-part_is (node nullable description (object fs preserves type bounds)) (tree.object ms) (name k) M e = refl
+part_is (node nullable description (object fs preserves type bounds cs)) (tree.object ms) (name k) M e = refl
 part_is (node nullable description (map_of N type bounds)) (tree.object ms) (name k) M e = refl
 part_is (node nullable description (list N type keys bounds)) (tree.list ds) (index i) M e = refl
 part_is _ _ _ M e = cc

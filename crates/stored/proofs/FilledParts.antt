@@ -36,7 +36,7 @@ pub whole_filled : (N : Node) (v : Data) → pair N v ≡ whole → IsFilled N v
 whole_filled N v e = by_steps leads_filled N v v refl (λ s. rw (e, e) (free_stays leads_filled (part_by v s)))
 
 pub whole_tree : (N : Node) (t : Tree) → ((ds : Items) → t ≡ code.List ds → ⊥) → ((ms : Members) → t ≡ code.Object ms → ⊥) → pair N (data_of t) ≡ whole
-whole_tree (node n d (object fs preserves type bounds)) (code.Object ms) no_list no_object = absurd (no_object ms refl)
+whole_tree (node n d (object fs preserves type bounds cs)) (code.Object ms) no_list no_object = absurd (no_object ms refl)
 whole_tree (node n d (map N type bounds)) (code.Object ms) no_list no_object = absurd (no_object ms refl)
 whole_tree (node n d (list N type keys bounds)) (code.List ds) no_list no_object = absurd (no_list ds refl)
 whole_tree _ t no_list no_object = refl

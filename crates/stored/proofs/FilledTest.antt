@@ -29,7 +29,7 @@ StaysUnder N default y path =
 
 null_filled : (N : Node) → is_filled N tree.null ≡ true
 null_filled (node nullable description (scalar kind cs)) = refl
-null_filled (node nullable description (object fs preserves type bounds)) = refl
+null_filled (node nullable description (object fs preserves type bounds cs)) = refl
 null_filled (node nullable description (map N type bounds)) = refl
 null_filled (node nullable description (list N type keys bounds)) = refl
 null_filled (node nullable description open_) = refl
@@ -79,7 +79,7 @@ or_none None = refl
 or_none (Some d) = refl
 
 step_stays : (N : Node) (v : Data) (s : Step) (path : Path) → is_filled N v ≡ true → ((M : Node) (w : Data) → is_filled M w ≡ true → StaysAt M w path) → StaysAt N v (s ∷ path)
-step_stays (node nullable description (object fs preserves type bounds)) (tree.object ms) (name k) path h each = elim (option_cases (field_at k fs)) [
+step_stays (node nullable description (object fs preserves type bounds cs)) (tree.object ms) (name k) path h each = elim (option_cases (field_at k fs)) [
   | inl none ↦ rw none (free_stays leads_filled (member_at k ms) path)
   | inr f ↦ rw f.1 (under_stays f.0.node f.0.default (member_at k ms) path (field_stays fs ms k f.0 h f.1) (each f.0.node))
 ]
@@ -89,7 +89,7 @@ step_stays (node nullable description (list M type keys bounds)) (tree.list ds) 
   | inl none ↦ rw none refl
   | inr d ↦ rw d.1 (each M d.0 (item_stays M ds i d.0 h d.1))
 ]
-step_stays (node nullable description (object fs preserves type bounds)) (tree.object ms) (index i) path h each = refl
+step_stays (node nullable description (object fs preserves type bounds cs)) (tree.object ms) (index i) path h each = refl
 step_stays (node nullable description (map M type bounds)) (tree.object ms) (index i) path h each = refl
 step_stays (node nullable description (list M type keys bounds)) (tree.list ds) (name k) path h each = refl
 step_stays N v s path h each = whole_filled N v refl (s ∷ path)
@@ -141,7 +141,7 @@ items_pass M (item d ds) t h each = and_from _ _ (each d t.0 (h 0 d refl)) (item
 
 mutual
   filled_passes : (N : Node) (v : Data) → IsNode N → IsTree v → IsFilled N v v → is_filled N v ≡ true
-  filled_passes (node nullable description (object fs preserves type bounds)) (tree.object ms) n t h =
+  filled_passes (node nullable description (object fs preserves type bounds cs)) (tree.object ms) n t h =
       fields_pass fs ms n t (λ k f is path. rw is at (h (name k ∷ path)))
   filled_passes (node nullable description (map M type bounds)) (tree.object ms) n t h =
       values_pass M ms t (λ k d is path. rw or_none (rw is at (h (name k ∷ path)))) (λ w tw f. filled_passes M w n tw f)

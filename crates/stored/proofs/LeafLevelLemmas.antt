@@ -54,7 +54,7 @@ rising_below s e (l ∷ ls) r = (
 -- ---- what is divided
 
 pub undivided : (N : Node) (v : Data) → pair N v ≡ whole_value → is_divided N v ≡ true → ⊥
-undivided (node n t (object fs preserves map_type.Granular bounds)) (tree.object ms) e divided = cc
+undivided (node n t (object fs preserves map_type.Granular bounds cs)) (tree.object ms) e divided = cc
 undivided (node n t (map_of M map_type.Granular bounds)) (tree.object ms) e divided = cc
 undivided (node n t (list M list_type.Set keys bounds)) (tree.list ds) e divided = cc
 undivided (node n t (list M list_type.Map keys bounds)) (tree.list ds) e divided = cc
@@ -165,8 +165,8 @@ named_stands N ms nodes by o l x = record {
 }
 
 stands : (N : Node) (v : Data) → IsTree v → (l : LeafAt) → Among (leaves_below N v) l → Stands N v l
-stands (node n t (object fs preserves type bounds)) (tree.object ms) o l a =
-    named_stands (node n t (object fs preserves type bounds)) ms (field_node fs) (λ k. refl) o l (named (field_node fs) ms o l a)
+stands (node n t (object fs preserves type bounds cs)) (tree.object ms) o l a =
+    named_stands (node n t (object fs preserves type bounds cs)) ms (field_node fs) (λ k. refl) o l (named (field_node fs) ms o l a)
 stands (node n t (map_of M type bounds)) (tree.object ms) o l a = named_stands (node n t (map_of M type bounds)) ms (λ k. Some M) (λ k. refl) o l (named (λ k. Some M) ms o l a)
 stands (node n t (list M type keys bounds)) (tree.list ds) o l a =
     let x = placed M (item_element type keys) 0 ds l a in
@@ -190,7 +190,7 @@ named_standing N ms nodes by k q l e a =
 
 standing : (N : Node) (v : Data) (s : Step) (q : Part) (l : LeafAt) → is_divided N v ≡ true → leads N v s ≡ Some q → Among (leaves_in q) l
     → Among (leaves_below N v) (below s (element N s (value_of q)) l)
-standing (node n t (object fs preserves type bounds)) (tree.object ms) (name k) q l divided e a = named_standing (node n t (object fs preserves type bounds)) ms (field_node fs) (λ k. refl) k q l e a
+standing (node n t (object fs preserves type bounds cs)) (tree.object ms) (name k) q l divided e a = named_standing (node n t (object fs preserves type bounds cs)) ms (field_node fs) (λ k. refl) k q l e a
 standing (node n t (map_of M type bounds)) (tree.object ms) (name k) q l divided e a = named_standing (node n t (map_of M type bounds)) ms (λ k. Some M) (λ k. refl) k q l e a
 standing (node n t (list M type keys bounds)) (tree.list ds) (index i) q l divided e a =
     let x = mapped (at M) (item_at i ds) q e in
@@ -259,7 +259,7 @@ earlier l m s t p q e f less = rw (← e, ← f, less) refl
 
 mutual
   rising : (N : Node) (v : Data) → IsTree v → Rising Precedes (leaves_below N v)
-  rising (node n t (object fs preserves type bounds)) (tree.object ms) o = rising_members (field_node fs) ms o
+  rising (node n t (object fs preserves type bounds cs)) (tree.object ms) o = rising_members (field_node fs) ms o
   rising (node n t (map_of M type bounds)) (tree.object ms) o = rising_members (λ k. Some M) ms o
   rising (node n t (list M type keys bounds)) (tree.list ds) o = rising_items M (item_element type keys) 0 ds o
   rising _ _ o = tt

@@ -223,7 +223,7 @@ at_field_rising required failures (Some d) r = r d refl
 
 mutual
   pub parts_rising : (N : Node) (v : Data) → IsNode N → IsTree v → AreRising (parts N v)
-  parts_rising (node nullable description (object fs preserves type bounds)) (tree.object ms) n t = fields_rising fs ms n t
+  parts_rising (node nullable description (object fs preserves type bounds cs)) (tree.object ms) n t = fields_rising fs ms n t
   parts_rising (node nullable description (map N type bounds)) (tree.object ms) n t =
       values_rising (λ d. found false N d) ms t (λ d h. rising_whole false N d (parts N d) (parts_rising N d n h))
   parts_rising (node nullable description (list N type keys bounds)) (tree.list ds) n t =

@@ -9,7 +9,7 @@ use Rattle.jtree.specs.Path.{Step, name, index, Path, member_at, item_at, part_a
 use Rattle.jtree.specs.Internal.Lookups.{bool_cases, option_cases}
 use Rattle.schema.specs.Document.Places as places
 use Rattle.schema.specs.Document.Places.{Place}
-use Rattle.schema.specs.Nodes.Node.{Node, node, object, map, list, Fields}
+use Rattle.schema.specs.Nodes.Node.{Node, node, object, map, list, Fields, Validations}
 use Rattle.schema.specs.Nodes.ByPlace.{Declared, field_at, node_below, node_at}
 use Rattle.schema.specs.declared.node.Bounds.{Bounds}
 use Rattle.schema.specs.declared.node.MapType.{MapType}
@@ -40,10 +40,10 @@ each N (Some e) path h = h e refl
 -- names that are cut are absent from it. Then pruning the second changes nothing.
 pub record Prunes (R : Node → Data → Data → Type 0) : Type 0 where
   pub alike : (N : Node) (v w : Data) → R N v w → label w ≡ label v
-  pub cut : (nullable : Bool) (description : Option (List ℕ)) (fs : Fields) (type : MapType) (bounds : Bounds) (ms ns : Members) (k : List ℕ)
-      → R (node nullable description (object fs false type bounds)) (tree.object ms) (tree.object ns) → field_at k fs ≡ None → member_at k ns ≡ None
-  pub field : (nullable : Bool) (description : Option (List ℕ)) (fs : Fields) (preserves : Bool) (type : MapType) (bounds : Bounds) (ms ns : Members) (k : List ℕ) (f : Declared) (e : Data)
-      → R (node nullable description (object fs preserves type bounds)) (tree.object ms) (tree.object ns) → field_at k fs ≡ Some f → member_at k ns ≡ Some e → (d : Data) × R f.node d e
+  pub cut : (nullable : Bool) (description : Option (List ℕ)) (fs : Fields) (type : MapType) (bounds : Bounds) (cs : Validations) (ms ns : Members) (k : List ℕ)
+      → R (node nullable description (object fs false type bounds cs)) (tree.object ms) (tree.object ns) → field_at k fs ≡ None → member_at k ns ≡ None
+  pub field : (nullable : Bool) (description : Option (List ℕ)) (fs : Fields) (preserves : Bool) (type : MapType) (bounds : Bounds) (cs : Validations) (ms ns : Members) (k : List ℕ) (f : Declared) (e : Data)
+      → R (node nullable description (object fs preserves type bounds cs)) (tree.object ms) (tree.object ns) → field_at k fs ≡ Some f → member_at k ns ≡ Some e → (d : Data) × R f.node d e
   pub value : (nullable : Bool) (description : Option (List ℕ)) (M : Node) (type : MapType) (bounds : Bounds) (ms ns : Members) (k : List ℕ) (e : Data)
       → R (node nullable description (map M type bounds)) (tree.object ms) (tree.object ns) → member_at k ns ≡ Some e → (d : Data) × R M d e
   pub item : (nullable : Bool) (description : Option (List ℕ)) (M : Node) (type : ListType) (keys : List (List ℕ)) (bounds : Bounds) (ds es : Items) (i : ℕ) (e : Data)
@@ -56,18 +56,18 @@ of_list : (R : Node → Data → Data → Type 0) → Prunes R → (N : Node) (v
 of_list R P N v es r = let is = list_only v (sym (P.alike N v (tree.list es) r)) in (is.0, subst (λ z. R N z (tree.list es)) is.1 r)
 
 step : (R : Node → Data → Data → Type 0) → Prunes R → (N : Node) (v w : Data) → R N v w → (s : Step) (path : Path) → ((M : Node) (d e : Data) → R M d e → IsPrunedAgain M e path) → IsPrunedAgain N w (s ∷ path)
-step R P (node n t (object fs preserves type bounds)) v (tree.object ns) r (index i) path again = refl
-step R P (node n t (object fs true type bounds)) v (tree.object ns) r (name k) path again = elim (option_cases (field_at k fs)) [
+step R P (node n t (object fs preserves type bounds cs)) v (tree.object ns) r (index i) path again = refl
+step R P (node n t (object fs true type bounds cs)) v (tree.object ns) r (name k) path again = elim (option_cases (field_at k fs)) [
   | inl none ↦ rw none (free_stays leads_uncut (member_at k ns) path)
   | inr f ↦ rw f.1 (each f.0.node (member_at k ns) path (λ e is.
-      let o = of_object R P (node n t (object fs true type bounds)) v ns r in
-      let d = P.field n t fs true type bounds o.0 ns k f.0 e o.1 f.1 is in again f.0.node d.0 e d.1))
+      let o = of_object R P (node n t (object fs true type bounds cs)) v ns r in
+      let d = P.field n t fs true type bounds cs o.0 ns k f.0 e o.1 f.1 is in again f.0.node d.0 e d.1))
 ]
-step R P (node n t (object fs false type bounds)) v (tree.object ns) r (name k) path again =
-    let o = of_object R P (node n t (object fs false type bounds)) v ns r in
+step R P (node n t (object fs false type bounds cs)) v (tree.object ns) r (name k) path again =
+    let o = of_object R P (node n t (object fs false type bounds cs)) v ns r in
     elim (option_cases (field_at k fs)) [
-      | inl none ↦ rw (none, P.cut n t fs type bounds o.0 ns k o.1 none) refl
-      | inr f ↦ rw f.1 (each f.0.node (member_at k ns) path (λ e is. let d = P.field n t fs false type bounds o.0 ns k f.0 e o.1 f.1 is in again f.0.node d.0 e d.1))
+      | inl none ↦ rw (none, P.cut n t fs type bounds cs o.0 ns k o.1 none) refl
+      | inr f ↦ rw f.1 (each f.0.node (member_at k ns) path (λ e is. let d = P.field n t fs false type bounds cs o.0 ns k f.0 e o.1 f.1 is in again f.0.node d.0 e d.1))
     ]
 step R P (node n t (map M type bounds)) v (tree.object ns) r (index i) path again = refl
 step R P (node n t (map M type bounds)) v (tree.object ns) r (name k) path again =
@@ -86,17 +86,17 @@ prunes R P N v w r (s ∷ path) = step R P N v w r s path (λ M d e h. prunes R 
 -- ---- pruned again
 
 -- a declared name is not cut
-pub uncut : (n : Bool) (t : Option (List ℕ)) (fs : Fields) (preserves : Bool) (type : MapType) (bounds : Bounds) (ms ns : Members) (k : List ℕ) (f : Declared)
-    → IsPruned (node n t (object fs preserves type bounds)) (tree.object ms) (tree.object ns) → field_at k fs ≡ Some f → PartBecomes leads_uncut (option_map (at f.node) (member_at k ms)) (member_at k ns)
-uncut n t fs true type bounds ms ns k f b found path = rw found at (b (name k ∷ path))
-uncut n t fs false type bounds ms ns k f b found path = rw found at (b (name k ∷ path))
+pub uncut : (n : Bool) (t : Option (List ℕ)) (fs : Fields) (preserves : Bool) (type : MapType) (bounds : Bounds) (cs : Validations) (ms ns : Members) (k : List ℕ) (f : Declared)
+    → IsPruned (node n t (object fs preserves type bounds cs)) (tree.object ms) (tree.object ns) → field_at k fs ≡ Some f → PartBecomes leads_uncut (option_map (at f.node) (member_at k ms)) (member_at k ns)
+uncut n t fs true type bounds cs ms ns k f b found path = rw found at (b (name k ∷ path))
+uncut n t fs false type bounds cs ms ns k f b found path = rw found at (b (name k ∷ path))
 
 uncut_below : Prunes IsPruned
 uncut_below = record {
   alike = λ N v w b. same_label leads_uncut N v w b;
-  cut = λ n t fs type bounds ms ns k b none. absent leads_uncut None (member_at k ns) (λ p. rw none at (b (name k ∷ p))) refl;
-  field = λ n t fs preserves type bounds ms ns k f e b found is.
-      let o = of_part leads_uncut f.node (member_at k ms) (member_at k ns) (uncut n t fs preserves type bounds ms ns k f b found) e is in (o.0, o.2);
+  cut = λ n t fs type bounds cs ms ns k b none. absent leads_uncut None (member_at k ns) (λ p. rw none at (b (name k ∷ p))) refl;
+  field = λ n t fs preserves type bounds cs ms ns k f e b found is.
+      let o = of_part leads_uncut f.node (member_at k ms) (member_at k ns) (uncut n t fs preserves type bounds cs ms ns k f b found) e is in (o.0, o.2);
   value = λ n t M type bounds ms ns k e b is. let o = of_part leads_uncut M (member_at k ms) (member_at k ns) (λ p. b (name k ∷ p)) e is in (o.0, o.2);
   item = λ n t M type keys bounds ds es i e b is. let o = of_part leads_uncut M (item_at i ds) (item_at i es) (λ p. b (index i ∷ p)) e is in (o.0, o.2);
 }
@@ -133,17 +133,17 @@ pruned_part N v d b is = rw is at b
 filled_below : Prunes IsGoodFilling
 filled_below = record {
   alike = λ N v w b. same_label leads_filled N v w b.filled;
-  cut = λ n t fs type bounds ms ns k b none.
+  cut = λ n t fs type bounds cs ms ns k b none.
       let gone = absent leads_uncut None (member_at k ms) (λ p. rw none at (b.pruned (name k ∷ p))) refl in
       absent leads_filled None (member_at k ns) (λ p. rw (none, gone) at (b.filled (name k ∷ p))) refl;
-  field = λ n t fs preserves type bounds ms ns k f e b found is.
+  field = λ n t fs preserves type bounds cs ms ns k f e b found is.
       let o = of_part leads_filled f.node (or_default (admitted f.node (member_at k ms)) f.default) (member_at k ns) (λ p. rw found at (b.filled (name k ∷ p))) e is in (
         o.0,
         record {
           good = λ p M j g d leads. b.good (places.property k ∷ p) M j g d (rw found leads);
           pruned = filled_from f.node (member_at k ms) f.default o.0 o.1
-              (pruned_part f.node (member_at k ms) o.0 (uncut n t fs preserves type bounds ms ms k f b.pruned found))
-              (λ default. (b.good [] (node n t (object fs preserves type bounds)) k f o.0 refl found default).pruned);
+              (pruned_part f.node (member_at k ms) o.0 (uncut n t fs preserves type bounds cs ms ms k f b.pruned found))
+              (λ default. (b.good [] (node n t (object fs preserves type bounds cs)) k f o.0 refl found default).pruned);
           filled = o.2;
         },
       );

@@ -39,7 +39,7 @@ declared_at fs (member l d ms) k = elim (bool_cases (bytes_eq k l)) [
 ]
 
 label_pruned : (N : Node) (v : Data) → label (pruned N v) ≡ label v
-label_pruned (node n t (object fs preserves type bounds)) (tree.object ms) = refl
+label_pruned (node n t (object fs preserves type bounds cs)) (tree.object ms) = refl
 label_pruned (node n t (map N type bounds)) (tree.object ms) = refl
 label_pruned (node n t (list N type keys bounds)) (tree.list ds) = refl
 label_pruned _ v = refl
@@ -55,14 +55,14 @@ under None (Some d) path below = free_stays leads_uncut (Some d) path
 under (Some N) (Some d) path below = below N d
 
 step : (N : Node) (v : Data) (s : Step) (path : Path) → ((M : Node) (d : Data) → IsPrunedAt M d path) → IsPrunedAt N v (s ∷ path)
-step (node n t (object fs true type bounds)) (tree.object ms) (name k) path below = rw (members_pruned_at (field_node fs) ms k) (under (field_node fs k) (member_at k ms) path below)
-step (node n t (object fs false type bounds)) (tree.object ms) (name k) path below = rw declared_at (elim (option_cases (field_at k fs)) [
+step (node n t (object fs true type bounds cs)) (tree.object ms) (name k) path below = rw (members_pruned_at (field_node fs) ms k) (under (field_node fs k) (member_at k ms) path below)
+step (node n t (object fs false type bounds cs)) (tree.object ms) (name k) path below = rw declared_at (elim (option_cases (field_at k fs)) [
   | inl none ↦ rw none refl
   | inr f ↦ rw (f.1, members_pruned_at (field_node fs) ms k, f.1) (under (Some f.0.node) (member_at k ms) path below)
 ])
 step (node n t (map N type bounds)) (tree.object ms) (name k) path below = rw (members_pruned_at (λ l. Some N) ms k) (under (Some N) (member_at k ms) path below)
 step (node n t (list N type keys bounds)) (tree.list ds) (index i) path below = rw (items_pruned_at N ds i) (under (Some N) (item_at i ds) path below)
-step (node n t (object fs preserves type bounds)) (tree.object ms) (index i) path below = refl
+step (node n t (object fs preserves type bounds cs)) (tree.object ms) (index i) path below = refl
 step (node n t (map N type bounds)) (tree.object ms) (index i) path below = refl
 step (node n t (list N type keys bounds)) (tree.list ds) (name k) path below = refl
 step _ v s path below = free_stays leads_uncut (part_by v s) path

@@ -7,7 +7,7 @@ use Rattle.jtree.specs.Data.{Data, Items, no_items, item, Members, no_members, m
 use Rattle.jtree.specs.Data as tree
 use Rattle.jtree.specs.Path.{name, index, member_at, item_at}
 use Rattle.jtree.specs.Internal.Lookups.{bool_cases, option_cases, same_name, member_first, member_later, member_tail}
-use Rattle.schema.specs.Nodes.Node.{Node, node, object, map, list, Fields}
+use Rattle.schema.specs.Nodes.Node.{Node, node, object, map, list, Fields, Validations}
 use Rattle.schema.specs.Nodes.ByPlace.{Declared, field_at}
 use Rattle.schema.specs.declared.node.Bounds.{Bounds}
 use Rattle.schema.specs.declared.node.MapType.{MapType}
@@ -43,11 +43,11 @@ pub record PassesTest (N : Node) (v w : Data) : Type 0 where
 passes_below : Prunes PassesTest
 passes_below = record {
   alike = λ N v w p. ap label p.same;
-  cut = λ n t fs type bounds ms ns k p none. elim (option_cases (member_at k ns)) [
+  cut = λ n t fs type bounds cs ms ns k p none. elim (option_cases (member_at k ns)) [
     | inl gone ↦ gone
     | inr d ↦ let no = rw none at (kept_at (field_node fs) false ns k d.0 p.passes d.1) in absurd (cc)
   ];
-  field = λ n t fs preserves type bounds ms ns k f e p found is. (e, record { same = refl; passes = rw found at (kept_at (field_node fs) preserves ns k e p.passes is) });
+  field = λ n t fs preserves type bounds cs ms ns k f e p found is. (e, record { same = refl; passes = rw found at (kept_at (field_node fs) preserves ns k e p.passes is) });
   value = λ n t M type bounds ms ns k e p is. (e, record { same = refl; passes = kept_at (λ l. Some M) true ns k e p.passes is });
   item = λ n t M type keys bounds ds es i e p is. (e, record { same = refl; passes = item_kept M es i e p.passes is });
 }
@@ -64,24 +64,24 @@ field_of_node fs k M is = elim (option_cases (field_at k fs)) [
   | inr f ↦ (f.0, f.1, same_Some f.0.node M (rw f.1 at is))
 ]
 
-field_pruned : (n : Bool) (t : Option (List ℕ)) (fs : Fields) (preserves : Bool) (type : MapType) (bounds : Bounds) (ms : Members) → IsPruned (node n t (object fs preserves type bounds)) (tree.object ms) (tree.object ms)
+field_pruned : (n : Bool) (t : Option (List ℕ)) (fs : Fields) (preserves : Bool) (type : MapType) (bounds : Bounds) (cs : Validations) (ms : Members) → IsPruned (node n t (object fs preserves type bounds cs)) (tree.object ms) (tree.object ms)
     → (k : List ℕ) (M : Node) (d : Data) → field_node fs k ≡ Some M → member_at k ms ≡ Some d → IsPruned M d d
-field_pruned n t fs preserves type bounds ms p k M d is found =
+field_pruned n t fs preserves type bounds cs ms p k M d is found =
     let f = field_of_node fs k M is in
-    subst (λ K. IsPruned K d d) f.2 (pruned_part f.0.node (member_at k ms) d (uncut n t fs preserves type bounds ms ms k f.0 p f.1) found)
+    subst (λ K. IsPruned K d d) f.2 (pruned_part f.0.node (member_at k ms) d (uncut n t fs preserves type bounds cs ms ms k f.0 p f.1) found)
 
-none_cut : (n : Bool) (t : Option (List ℕ)) (fs : Fields) (preserves : Bool) (type : MapType) (bounds : Bounds) (ms : Members) → IsPruned (node n t (object fs preserves type bounds)) (tree.object ms) (tree.object ms)
+none_cut : (n : Bool) (t : Option (List ℕ)) (fs : Fields) (preserves : Bool) (type : MapType) (bounds : Bounds) (cs : Validations) (ms : Members) → IsPruned (node n t (object fs preserves type bounds cs)) (tree.object ms) (tree.object ms)
     → (k : List ℕ) (d : Data) → field_node fs k ≡ None → member_at k ms ≡ Some d → preserves ≡ true
-none_cut n t fs true type bounds ms p k d none found = refl
-none_cut n t fs false type bounds ms p k d none found = elim (option_cases (field_at k fs)) [
+none_cut n t fs true type bounds cs ms p k d none found = refl
+none_cut n t fs false type bounds cs ms p k d none found = elim (option_cases (field_at k fs)) [
   | inl is ↦ let gone = absent leads_uncut None (member_at k ms) (λ q. rw is at (p (name k ∷ q))) refl in let no = sym gone ∙ found in absurd (cc)
   | inr f ↦ let no = rw f.1 at none in absurd (cc)
 ]
 
 mutual
   pub test_complete : (N : Node) (v : Data) → IsTree v → IsPruned N v v → is_pruned N v ≡ true
-  test_complete (node n t (object fs preserves type bounds)) (tree.object ms) o p =
-      members_complete (field_node fs) preserves ms o (field_pruned n t fs preserves type bounds ms p) (none_cut n t fs preserves type bounds ms p)
+  test_complete (node n t (object fs preserves type bounds cs)) (tree.object ms) o p =
+      members_complete (field_node fs) preserves ms o (field_pruned n t fs preserves type bounds cs ms p) (none_cut n t fs preserves type bounds cs ms p)
   test_complete (node n t (map M type bounds)) (tree.object ms) o p =
       members_complete (λ l. Some M) true ms o
       (λ k K d is found. subst (λ J. IsPruned J d d) (same_Some M K is) (pruned_part M (member_at k ms) d (λ q. p (name k ∷ q)) found)) (λ k d none found. refl)

@@ -65,8 +65,8 @@ by_node_tree (Some N) f d t h = h N
 
 mutual
   pub tree_pruned : (N : Node) (v : Data) → IsTree v → IsTree (pruned N v)
-  tree_pruned (node n d (object fs true type bounds)) (tree.object ms) t = sorted_pruned (field_node fs) ms t
-  tree_pruned (node n d (object fs false type bounds)) (tree.object ms) t = declared_members fs (pruned_members (field_node fs) ms) (sorted_pruned (field_node fs) ms t)
+  tree_pruned (node n d (object fs true type bounds cs)) (tree.object ms) t = sorted_pruned (field_node fs) ms t
+  tree_pruned (node n d (object fs false type bounds cs)) (tree.object ms) t = declared_members fs (pruned_members (field_node fs) ms) (sorted_pruned (field_node fs) ms t)
   tree_pruned (node n d (map_node N type bounds)) (tree.object ms) t = sorted_pruned (λ k. Some N) ms t
   tree_pruned (node n d (list N type keys bounds)) (tree.list ds) t = trees_pruned N ds t
   tree_pruned _ v t = t

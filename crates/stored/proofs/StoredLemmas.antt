@@ -48,7 +48,7 @@ field_stored f None r h = (
 field_stored f (Some w) r h = part_stored f.node (Some w) (or_default (admitted f.node (Some w)) f.default) h (λ same. rw same refl) w refl
 
 parts_stored : (N : Node) (v : Data) → FindsNothing N v → ((s : Step) → StaysBy N v s) → ArePartsStored (pair N v)
-parts_stored (node n t (object fs preserves type bounds)) (tree.object ms) found h = (
+parts_stored (node n t (object fs preserves type bounds cs)) (tree.object ms) found h = (
   λ k none others. absent leads_uncut None (member_at k ms) (rw (none, others) at (h (name k)).1) refl,
   λ k f is. field_stored f (member_at k ms) (rw is at (found (name k ∷ []) F12)) (rw (is, and_right (not preserves) false refl) at (h (name k))),
 )
@@ -73,7 +73,7 @@ field_same f None h same = h.1
 field_same f (Some d) h same = rw same refl
 
 stays_by : (N : Node) (v : Data) → ArePartsStored (pair N v) → (s : Step) → StaysBy N v s
-stays_by (node n t (object fs preserves type bounds)) (tree.object ms) h (name k) = let y = member_at k ms in elim (option_cases (field_at k fs)) [
+stays_by (node n t (object fs preserves type bounds cs)) (tree.object ms) h (name k) = let y = member_at k ms in elim (option_cases (field_at k fs)) [
   | inl none ↦ rw none (
     λ M w e. absurd (never_free y M w e),
     elim (bool_cases preserves) [ inl all ↦ rw all (free_stays leads_uncut y) | inr others ↦ rw (others, h.0 k none others) (λ path. refl) ],

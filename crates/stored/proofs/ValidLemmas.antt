@@ -1,5 +1,5 @@
 -- Validity level by level says the same as: no place has a fault.
-use Rattle.std.proofs.Common.{◌≡◌, ℕ, zero, suc, List, [], ◌∷◌, ◌++◌, Bool, true, false, Option, Some, None, refl, ap, sym, subst, inl, inr}
+use Rattle.std.proofs.Common.{◌≡◌, ℕ, zero, suc, List, [], ◌∷◌, ◌++◌, Bool, true, false, Option, Some, None, refl, ap, sym, ◌∙◌, subst, inl, inr}
 use Rattle.std.specs.Prelude.{option_map, not, ◌&&◌, ◌||◌, is_some, is_none}
 use Rattle.std.specs.Str.{bytes_eq}
 use Rattle.std.proofs.lemmas.Bool.{and_parts, and_from, and_right, or_parts, or_from, not-true, not-false, false_from_ne_true}
@@ -14,9 +14,10 @@ use Rattle.schema.specs.Rules.Keywords.{any_item}
 use Rattle.schema.specs.Nodes.Node.{Node, node, scalar, object, map, list, open_, Fields, no_fields, field, Validations, validations, IsNode, AreOrdered}
 use Rattle.schema.specs.Nodes.ByPlace.{Declared, field_at}
 use Rattle.schema.specs.declared.node.Bounds.{Bounds}
+use Rattle.schema.specs.declared.node.Constraints.{Constraints}
 use Rattle.stored.specs.Objects.Parts.{pair, at, part_of, leads, Everywhere}
-use Rattle.stored.specs.Objects.Tests.{accepts_scalar, is_other_value, is_below_minimum, is_above_maximum, is_too_short, is_too_long, holds, meets_junctors}
-use Rattle.stored.specs.Objects.Fault.{Test, F01, F02, F03, F04, F05, F06, F07, F08, F09, F10, F11, F12, F13, F14, is_null, constraints_of, fails_scalar, fails_items, fails_members, are_few, are_many, fails, is_required, lacks_name, has_alike_before, any_before, are_alike, repeats, finds, IsValid}
+use Rattle.stored.specs.Objects.Tests.{accepts_scalar, is_other_value, is_below_minimum, is_above_maximum, is_too_short, is_too_long, meets_constraints, meets_branch, holds, meets_junctors}
+use Rattle.stored.specs.Objects.Fault.{Test, F01, F02, F03, F04, F05, F06, F07, F08, F09, F10, F11, F12, F13, F14, is_null, members_count, constraints_of, fails_scalar, fails_items, fails_members, are_few, are_many, fails, is_required, lacks_name, has_alike_before, any_before, are_alike, repeats, finds, IsValid}
 use Rattle.stored.specs.Objects.StoredByParts.{IsWithin, are_apart, IsValidHere}
 use Rattle.stored.specs.Internal.ValidByLevel.{is_within, has_required, true_if_any, is_valid, are_fields_valid, are_values_valid, are_items_valid}
 use Rattle.stored.proofs.FieldLemmas.{later_field, field_node}
@@ -53,9 +54,19 @@ item_valid N no_items i M w h e = cc
 item_valid N (item d ds) zero M w h e = some_valid (Some (record { node = N; required = false; default = None })) d M w (and_parts _ _ h).0 (same_Some (at N d) (at M w) e)
 item_valid N (item d ds) (suc i) M w h e = item_valid N ds i M w (and_parts _ _ h).1 e
 
+-- what is asked of an object with declared fields, one by one
+object_parts : (fs : Fields) (b : Bounds) (cs : Validations) (ms : Members)
+    → (is_within b (members_count ms) && (meets_junctors cs (tree.object ms) && (has_required fs ms && are_fields_valid fs ms))) ≡ true
+    → (is_within b (members_count ms) ≡ true) × (meets_junctors cs (tree.object ms) ≡ true) × (has_required fs ms ≡ true) × (are_fields_valid fs ms ≡ true)
+object_parts fs b cs ms h =
+    let rest = and_parts (is_within b (members_count ms)) (meets_junctors cs (tree.object ms) && (has_required fs ms && are_fields_valid fs ms)) h in
+    let last = and_parts (meets_junctors cs (tree.object ms)) (has_required fs ms && are_fields_valid fs ms) rest.1 in
+    let fields = and_parts (has_required fs ms) (are_fields_valid fs ms) last.1 in
+    (rest.0, last.0, fields.0, fields.1)
+
 valid_below : (N : Node) (v : Data) (s : Step) (M : Node) (w : Data) → is_valid N v ≡ true → leads N v s ≡ Some (at M w) → is_valid M w ≡ true
-valid_below (node nullable description (object fs preserves type bounds)) (tree.object ms) (name k) M w h e =
-    field_valid fs ms k M w (and_parts _ _ (and_parts _ _ h).1).1 e
+valid_below (node nullable description (object fs preserves type bounds cs)) (tree.object ms) (name k) M w h e =
+    field_valid fs ms k M w (object_parts fs bounds cs ms h).3 e
 valid_below (node nullable description (map N type bounds)) (tree.object ms) (name k) M w h e = value_valid N ms k M w (and_parts _ _ h).1 e
 valid_below (node nullable description (list N type keys bounds)) (tree.list ds) (index i) M w h e =
     item_valid N ds i M w (and_parts _ _ (and_parts _ _ h).1).1 e
@@ -70,10 +81,10 @@ null_is_no_scalar String = refl
 null_is_no_scalar IntOrString = refl
 
 -- of a scalar node: what does not fail where the branch holds
-passes_scalar : (test : Validations → Data → Bool) → ((cs : Validations) (v : Data) → holds cs v ≡ true → test cs v ≡ false) → (N : Node) (v : Data)
+passes_scalar : (test : Validations → Data → Bool) → ((kind : ScalarKind) (cs : Validations) (v : Data) → accepts_scalar kind v ≡ true → holds cs v ≡ true → test cs v ≡ false) → (N : Node) (v : Data)
     → IsValidHere N v → fails_scalar test N v ≡ false
 passes_scalar test p (node nullable description (scalar kind cs)) tree.null h = rw (null_is_no_scalar kind) refl
-passes_scalar test p (node nullable description (scalar kind cs)) v h = and_right _ _ (p cs v h.1)
+passes_scalar test p (node nullable description (scalar kind cs)) v h = and_right _ _ (p kind cs v h.0 h.1)
 passes_scalar test p N v h = refl
 
 passes_items : (test : Bounds → ℕ → Bool) → ((b : Bounds) (n : ℕ) → IsWithin b n → test b n ≡ false) → (N : Node) (v : Data)
@@ -83,7 +94,7 @@ passes_items test p N v h = refl
 
 passes_members : (test : Bounds → ℕ → Bool) → ((b : Bounds) (n : ℕ) → IsWithin b n → test b n ≡ false) → (N : Node) (v : Data)
     → IsValidHere N v → fails_members test N v ≡ false
-passes_members test p (node nullable description (object fs preserves type bounds)) (tree.object ms) h = p bounds _ h
+passes_members test p (node nullable description (object fs preserves type bounds cs)) (tree.object ms) h = p bounds _ h.0
 passes_members test p (node nullable description (map N type bounds)) (tree.object ms) h = p bounds _ h
 passes_members test p N v h = refl
 
@@ -91,21 +102,36 @@ five_parts : (a b c d e : Bool) → (not a && (not b && (not c && (not d && not 
 five_parts false false false false false h = (refl, refl, refl, refl, refl)
 five_parts a b c d e h = cc
 
-met : (cs : Validations) (v : Data) → holds cs v ≡ true
+-- a scalar is no object
+scalar_branch : (kind : ScalarKind) (t : Constraints) (v : Data) → accepts_scalar kind v ≡ true → meets_branch v t ≡ meets_constraints t v
+scalar_branch Boolean t (tree.object ms) h = cc
+scalar_branch Integer t (tree.object ms) h = cc
+scalar_branch String t (tree.object ms) h = cc
+scalar_branch IntOrString t (tree.object ms) h = cc
+scalar_branch kind t v h = refl
+
+met : (kind : ScalarKind) (cs : Validations) (v : Data) → accepts_scalar kind v ≡ true → holds cs v ≡ true
     → (is_other_value (constraints_of cs).choices v ≡ false) × (is_below_minimum (constraints_of cs).minimum (constraints_of cs).exclusive_minimum v ≡ false)
     × (is_above_maximum (constraints_of cs).maximum (constraints_of cs).exclusive_maximum v ≡ false)
     × (is_too_short (constraints_of cs).lengths.least v ≡ false) × (is_too_long (constraints_of cs).lengths.most v ≡ false)
-met (validations t all any one negated) v h =
+met kind (validations t all any one negated) v a h =
     five_parts (is_other_value t.choices v) (is_below_minimum t.minimum t.exclusive_minimum v) (is_above_maximum t.maximum t.exclusive_maximum v)
-    (is_too_short t.lengths.least v) (is_too_long t.lengths.most v) (and_parts _ _ h).0
+    (is_too_short t.lengths.least v) (is_too_long t.lengths.most v) (sym (scalar_branch kind t v a) ∙ (and_parts _ _ h).0)
 
-junctors_met : (cs : Validations) (v : Data) → holds cs v ≡ true → not (meets_junctors cs v) ≡ false
-junctors_met (validations t all any one negated) v h = ap not (and_parts _ _ h).1
+junctors_met : (kind : ScalarKind) (cs : Validations) (v : Data) → accepts_scalar kind v ≡ true → holds cs v ≡ true → not (meets_junctors cs v) ≡ false
+junctors_met kind (validations t all any one negated) v a h = ap not (and_parts _ _ h).1
+
+-- of an object with declared fields, and of a scalar
+passes_junctors : (N : Node) (v : Data) → IsValidHere N v → fails F14 N v ≡ false
+passes_junctors (node nullable description (object fs preserves type bounds cs)) tree.null h = refl
+passes_junctors (node nullable description (object fs preserves type bounds cs)) (tree.object ms) h = ap not h.1
+passes_junctors (node nullable description (object fs preserves type bounds cs)) v h = absurd h
+passes_junctors N v h = passes_scalar (λ cs w. not (meets_junctors cs w)) junctors_met N v h
 
 valid_kind : (N : Node) (v : Data) → IsValidHere N v → fails F01 N v ≡ false
 valid_kind (node nullable description sort) tree.null h = refl
 valid_kind (node nullable description (scalar kind cs)) v h = and_right (not (is_null v)) (not (accepts_scalar kind v)) (ap not h.0)
-valid_kind (node nullable description (object fs preserves type bounds)) (tree.object ms) h = refl
+valid_kind (node nullable description (object fs preserves type bounds cs)) (tree.object ms) h = refl
 valid_kind (node nullable description (map N type bounds)) (tree.object ms) h = refl
 valid_kind (node nullable description (list N type keys bounds)) (tree.list ds) h = refl
 valid_kind (node nullable description open_) v h = refl
@@ -118,16 +144,16 @@ valid_null (node nullable description sort) v h = refl
 valid_passes : (t : Test) (N : Node) (v : Data) → IsValidHere N v → fails t N v ≡ false
 valid_passes F01 N v h = valid_kind N v h
 valid_passes F02 N v h = valid_null N v h
-valid_passes F03 N v h = passes_scalar _ (λ cs w m. (met cs w m).0) N v h
-valid_passes F04 N v h = passes_scalar _ (λ cs w m. (met cs w m).1) N v h
-valid_passes F05 N v h = passes_scalar _ (λ cs w m. (met cs w m).2) N v h
-valid_passes F06 N v h = passes_scalar _ (λ cs w m. (met cs w m).3) N v h
-valid_passes F07 N v h = passes_scalar _ (λ cs w m. (met cs w m).4) N v h
+valid_passes F03 N v h = passes_scalar _ (λ k cs w a m. (met k cs w a m).0) N v h
+valid_passes F04 N v h = passes_scalar _ (λ k cs w a m. (met k cs w a m).1) N v h
+valid_passes F05 N v h = passes_scalar _ (λ k cs w a m. (met k cs w a m).2) N v h
+valid_passes F06 N v h = passes_scalar _ (λ k cs w a m. (met k cs w a m).3) N v h
+valid_passes F07 N v h = passes_scalar _ (λ k cs w a m. (met k cs w a m).4) N v h
 valid_passes F08 N v h = passes_items are_few (λ b n w. w.0) N v h
 valid_passes F09 N v h = passes_items are_many (λ b n w. w.1) N v h
 valid_passes F10 N v h = passes_members are_few (λ b n w. w.0) N v h
 valid_passes F11 N v h = passes_members are_many (λ b n w. w.1) N v h
-valid_passes F14 N v h = passes_scalar _ junctors_met N v h
+valid_passes F14 N v h = passes_junctors N v h
 valid_passes _ N v h = refl
 
 pub unlike : (alike : Data → Data → Bool) (d : Data) (ds : Items) (i : ℕ) (e : Data) → any_item (alike d) ds ≡ false → item_at i ds ≡ Some e → alike d e ≡ false
@@ -187,7 +213,7 @@ names_stand (field l N required default fs) ms k h = let both = and_parts _ _ h 
 ]
 
 valid_name : (N : Node) (v : Data) (k : List ℕ) → is_valid N v ≡ true → lacks_name (pair N v) k ≡ false
-valid_name (node nullable description (object fs preserves type bounds)) (tree.object ms) k h = names_stand fs ms k (and_parts _ _ (and_parts _ _ h).1).0
+valid_name (node nullable description (object fs preserves type bounds cs)) (tree.object ms) k h = names_stand fs ms k (object_parts fs bounds cs ms h).2
 valid_name (node nullable description (map N type bounds)) (tree.object ms) k h = refl
 valid_name (node nullable description (list N type keys bounds)) (tree.list ds) k h = refl
 valid_name N v k h = refl
@@ -198,7 +224,7 @@ within b n h = let both = and_parts _ _ h in (not-true _ both.0, not-true _ both
 valid_here : (N : Node) (v : Data) → is_valid N v ≡ true → IsValidHere N v
 valid_here (node nullable description sort) tree.null h = h
 valid_here (node nullable description (scalar kind cs)) v h = and_parts _ _ h
-valid_here (node nullable description (object fs preserves type bounds)) (tree.object ms) h = within bounds _ (and_parts _ _ h).0
+valid_here (node nullable description (object fs preserves type bounds cs)) (tree.object ms) h = let all = object_parts fs bounds cs ms h in (within bounds _ all.0, all.1)
 valid_here (node nullable description (map N type bounds)) (tree.object ms) h = within bounds _ (and_parts _ _ h).0
 valid_here (node nullable description (list N type keys bounds)) (tree.list ds) h = let both = and_parts _ _ h in (within bounds _ both.0, (and_parts _ _ both.1).0)
 valid_here (node nullable description open_) v h = tt
@@ -224,7 +250,7 @@ holds_from : (nullable : Bool) (description : Option (List ℕ)) (kind : ScalarK
     → ((t : Test) → fails t (node nullable description (scalar kind cs)) v ≡ false) → holds cs v ≡ true
 holds_from nullable description kind (validations t all any one negated) v a f =
     and_from _ _
-    (five_from (is_other_value t.choices v) (is_below_minimum t.minimum t.exclusive_minimum v) (is_above_maximum t.maximum t.exclusive_maximum v)
+    (scalar_branch kind t v a ∙ five_from (is_other_value t.choices v) (is_below_minimum t.minimum t.exclusive_minimum v) (is_above_maximum t.maximum t.exclusive_maximum v)
     (is_too_short t.lengths.least v) (is_too_long t.lengths.most v)
     (second_false _ _ a (f F03)) (second_false _ _ a (f F04)) (second_false _ _ a (f F05)) (second_false _ _ a (f F06)) (second_false _ _ a (f F07)))
     (not-false _ (second_false _ _ a (f F14)))
@@ -260,7 +286,7 @@ apart_from alike (item d ds) h =
 pub here_from : (N : Node) (v : Data) → IsFaultless N v → IsValidHere N v
 here_from (node nullable description sort) tree.null h = not-false _ (h [] _ _ refl [] F02)
 here_from (node nullable description (scalar kind cs)) v h = scalar_valid nullable description kind cs v (h [] _ _ refl [] F01) (h [] _ _ refl [])
-here_from (node nullable description (object fs preserves type bounds)) (tree.object ms) h = (h [] _ _ refl [] F10, h [] _ _ refl [] F11)
+here_from (node nullable description (object fs preserves type bounds cs)) (tree.object ms) h = ((h [] _ _ refl [] F10, h [] _ _ refl [] F11), not-false _ (h [] _ _ refl [] F14))
 here_from (node nullable description (map N type bounds)) (tree.object ms) h = (h [] _ _ refl [] F10, h [] _ _ refl [] F11)
 here_from (node nullable description (list N type keys bounds)) (tree.list ds) h =
     ((h [] _ _ refl [] F08, h [] _ _ refl [] F09), apart_from (are_alike type keys) ds (λ i e is. rw is at (h [] _ _ refl (index i ∷ []) F13)))
@@ -275,9 +301,9 @@ mutual
   valid_from : (N : Node) (v : Data) → IsNode N → IsTree v → IsValidHere N v → IsFaultless N v → is_valid N v ≡ true
   valid_from (node nullable description sort) tree.null n t here h = here
   valid_from (node nullable description (scalar kind cs)) v n t here h = and_from _ _ here.0 here.1
-  valid_from (node nullable description (object fs preserves type bounds)) (tree.object ms) n t here h =
-      and_from _ _ (is_within_bounds bounds _ here)
-      (and_from _ _ (names_from fs ms n (λ k. h [] _ _ refl (name k ∷ []) F12)) (fields_from fs ms n t (λ k f d is found. faultless_below _ _ (name k) f.node d h (rw (is, found) refl))))
+  valid_from (node nullable description (object fs preserves type bounds cs)) (tree.object ms) n t here h =
+      and_from _ _ (is_within_bounds bounds _ here.0)
+      (and_from _ _ here.1 (and_from _ _ (names_from fs ms n (λ k. h [] _ _ refl (name k ∷ []) F12)) (fields_from fs ms n t (λ k f d is found. faultless_below _ _ (name k) f.node d h (rw (is, found) refl)))))
   valid_from (node nullable description (map N type bounds)) (tree.object ms) n t here h =
       and_from _ _ (is_within_bounds bounds _ here) (values_from N ms n t (λ k d found. faultless_below _ _ (name k) N d h (rw found refl)))
   valid_from (node nullable description (list N type keys bounds)) (tree.list ds) n t here h =

@@ -197,14 +197,15 @@ fn member_tests(members: &Members, bounds: Bounds) -> [(u8, bool); 4]
     ]
 }
 
-/// Whether a scalar fails its junctors.
+/// Whether a scalar or an object fails its junctors.
 fn fails_junctors(node: &Node, tree: &Tree) -> bool
     ensures { result ≡ fails F14 (node_of node.now) (data_of tree.now) }
 {
-    match &node.sort {
-        Sort::Scalar(scalar) => {
+    match (&node.sort, tree) {
+        (Sort::Scalar(scalar), _) => {
             accepts_scalar(scalar.kind, tree) && !meets_junctors(&scalar.validations, tree)
         }
+        (Sort::Object(object), Tree::Object(_)) => !meets_junctors(&object.junctors, tree),
         _ => false,
     }
 }

@@ -1,10 +1,10 @@
-//! What is asked of a scalar.
+//! What is asked of a value: of a scalar, and of an object by its junctors.
 ghost use Rattle.std.specs.Prelude.{◌≡◌, ◌+◌, not, ◌&&◌, ◌||◌, nat_eq, length, chars};
 ghost use Rattle.jtree.specs.View.{data_of, items_of};
 ghost use Rattle.schema.specs.Nodes.View.{validations_of, branches_of};
-ghost use Rattle.stored.specs.Objects.Tests.{accepts_scalar as accepts_scalar_of, is_same, is_choice as is_choice_of, is_below as is_below_of, is_above as is_above_of, is_other_value as is_other_value_of, is_below_minimum as is_below_minimum_of, is_above_maximum as is_above_maximum_of, is_too_short as is_too_short_of, is_too_long as is_too_long_of, meets_constraints as meets_constraints_of, holds as holds_of, meets_junctors as meets_junctors_of, all_hold as all_hold_of, any_holds as any_holds_of, is_absent as is_absent_of, holding as holding_of};
+ghost use Rattle.stored.specs.Objects.Tests.{accepts_scalar as accepts_scalar_of, is_same, is_choice as is_choice_of, is_below as is_below_of, is_above as is_above_of, is_other_value as is_other_value_of, is_below_minimum as is_below_minimum_of, is_above_maximum as is_above_maximum_of, is_too_short as is_too_short_of, is_too_long as is_too_long_of, meets_constraints as meets_constraints_of, has_all as has_all_of, has_member, meets_branch as meets_branch_of, holds as holds_of, meets_junctors as meets_junctors_of, all_hold as all_hold_of, any_holds as any_holds_of, is_absent as is_absent_of, holding as holding_of};
 
-use jtree::{Items, Tree};
+use jtree::{Items, Members, Text, Tree};
 use schema::{Branches, Constraints, ScalarKind, Validations};
 
 /// Whether a value is a scalar of this kind.
@@ -120,7 +120,7 @@ pub(crate) fn is_too_long(constraints: &Constraints, tree: &Tree) -> bool
     }
 }
 
-/// Whether a value meets all constraints.
+/// Whether a scalar meets all constraints.
 fn meets_constraints(constraints: &Constraints, tree: &Tree) -> bool
     ensures { result ≡ meets_constraints_of constraints.now (data_of tree.now) }
 {
@@ -130,15 +130,37 @@ fn meets_constraints(constraints: &Constraints, tree: &Tree) -> bool
                 && (!is_too_short(constraints, tree) && !is_too_long(constraints, tree))))
 }
 
-/// Whether a scalar meets the constraints and the junctors of a branch, or of a node.
+/// Whether there are members of all these names.
+fn has_all(names: &[Text], members: &Members) -> bool
+    ensures { result ≡ has_all_of names.now (has_member members.now) }
+{
+    for name in names {
+        if members.get(name.as_str()).is_none() {
+            return false;
+        }
+    }
+    true
+}
+
+/// Whether a value meets what a branch asks itself.
+fn meets_branch(constraints: &Constraints, tree: &Tree) -> bool
+    ensures { result ≡ meets_branch_of (data_of tree.now) constraints.now }
+{
+    match tree {
+        Tree::Object(members) => has_all(&constraints.required.names, members),
+        _ => meets_constraints(constraints, tree),
+    }
+}
+
+/// Whether a value meets what a branch or a scalar node asks, and its junctors.
 #[cycle(branches)]
 pub(crate) fn holds(validations: &Validations, tree: &Tree) -> bool
     ensures { result ≡ holds_of (validations_of validations.now) (data_of tree.now) }
 {
-    meets_constraints(&validations.constraints, tree) && meets_junctors(validations, tree)
+    meets_branch(&validations.constraints, tree) && meets_junctors(validations, tree)
 }
 
-/// Whether a scalar meets the junctors.
+/// Whether a value meets the junctors.
 #[cycle(branches)]
 pub(crate) fn meets_junctors(validations: &Validations, tree: &Tree) -> bool
     ensures { result ≡ meets_junctors_of (validations_of validations.now) (data_of tree.now) }
@@ -160,7 +182,7 @@ fn is_absent(branches: &Branches) -> bool
 
 #[cycle(branches)]
 fn all_hold(branches: &Branches, tree: &Tree) -> bool
-    ensures { result ≡ all_hold_of branches.now (data_of tree.now) }
+    ensures { result ≡ all_hold_of (meets_branch_of (data_of tree.now)) branches.now }
 {
     for branch in &branches.branches {
         if !holds(branch, tree) {
@@ -172,7 +194,7 @@ fn all_hold(branches: &Branches, tree: &Tree) -> bool
 
 #[cycle(branches)]
 fn any_holds(branches: &Branches, tree: &Tree) -> bool
-    ensures { result ≡ any_holds_of branches.now (data_of tree.now) }
+    ensures { result ≡ any_holds_of (meets_branch_of (data_of tree.now)) branches.now }
 {
     for branch in &branches.branches {
         if holds(branch, tree) {
@@ -185,7 +207,7 @@ fn any_holds(branches: &Branches, tree: &Tree) -> bool
 /// How many branches hold.
 #[cycle(branches)]
 fn holding(branches: &Branches, tree: &Tree) -> usize
-    ensures { result ≡ holding_of branches.now (data_of tree.now) }
+    ensures { result ≡ holding_of (meets_branch_of (data_of tree.now)) branches.now }
 {
     let mut count = 0;
     for branch in &branches.branches {

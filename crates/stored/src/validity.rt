@@ -10,7 +10,7 @@ ghost use Rattle.stored.specs.Objects.Fault.{agree as agree_of, agree_at as agre
 ghost use Rattle.stored.specs.Objects.StoredByParts.{are_apart as are_apart_of};
 ghost use Rattle.stored.specs.Internal.ValidByLevel.{true_if_any, is_valid as is_valid_of, is_within as is_within_of, has_required as has_required_of, are_fields_valid as are_fields_valid_of, are_values_valid as are_values_valid_of, are_items_valid as are_items_valid_of};
 
-use crate::tests::{accepts_scalar, holds, is_above, is_below};
+use crate::tests::{accepts_scalar, holds, is_above, is_below, meets_junctors};
 use jtree::{Items, Member, Members, Text, Tree};
 use schema::{Bounds, Fields, ListNode, ListType, Node, Sort};
 
@@ -36,8 +36,9 @@ fn is_valid(node: &Node, tree: &Tree) -> bool
         }
         (Sort::Object(object), Tree::Object(members)) => {
             is_within(object.bounds, members_count(members))
-                && (has_required(&object.fields, members)
-                    && are_fields_valid(&object.fields, members))
+                && (meets_junctors(&object.junctors, tree)
+                    && (has_required(&object.fields, members)
+                        && are_fields_valid(&object.fields, members)))
         }
         (Sort::Map(map), Tree::Object(members)) => {
             is_within(map.bounds, members_count(members))

@@ -1,16 +1,15 @@
 -- What it is to be a part, as one pass over a tree finds it out.
-use Rattle.std.specs.Prelude.{◌≡◌, ℕ, ◌+◌, List, [], ◌∷◌, Option, Some, None}
+use Rattle.std.specs.Prelude.{◌≡◌, ℕ, List, [], ◌∷◌, Option, Some, None}
 use Rattle.jtree.specs.Data.{Data, Items, Members}
 use Rattle.jtree.specs.Data as tree
-use Rattle.schema.specs.declared.node.Bounds.{Bounds}
 use Rattle.plan.specs.Pools.Pools.{Pools}
 use Rattle.plan.specs.Samples.Part.{IsPart}
 use Rattle.plan.specs.Samples.Sites.{Slot}
-use Rattle.plan.specs.Samples.Sizes.{AreFillings, filled_count, CanFill}
+use Rattle.plan.specs.Samples.Sizes.{AreFillings, Before, nothing, state_after, Ending, CanFill}
 use Rattle.plan.specs.Samples.RuleOfParts.{members_in}
 use Rattle.plan.specs.Samples.Question.{Question}
 use Rattle.enumerate.specs.Internal.Nodes.{site}
-use Rattle.enumerate.specs.Internal.Rows.{slots_from, bounds_at, still_used}
+use Rattle.enumerate.specs.Internal.Rows.{slots_from, ending_at, still_used}
 
 -- the used rows that have the same under all keys as what stands in the slots
 abbrev pub still_left : List Slot → List (Option Data) → List Data → List Data
@@ -18,17 +17,18 @@ still_left (s ∷ ss) (Some v ∷ gs) used = still_left ss gs (still_used s v us
 still_left (s ∷ ss) (None ∷ gs) used = still_left ss gs used
 still_left _ _ used = used
 
--- the members stand in the slots, where t slots are filled before them, and no used row has the same under all keys
-pub record StandFresh (P : Pools) (ss : List Slot) (b : Bounds) (t : ℕ) (used : List Data) (ms : Members) : Type 0 where
+-- the members stand in the slots, the row may end behind them, where this stands before them, and no used row has the same under all
+-- keys
+pub record StandFresh (P : Pools) (ss : List Slot) (end : Ending) (x : Before) (used : List Data) (ms : Members) : Type 0 where
   pub fillings : List (Option Data)
   pub are : ms ≡ members_in ss fillings
   pub parts : AreFillings P ss fillings
-  pub ends : CanFill P [] b (t + filled_count fillings) 0
+  pub ends : CanFill P [] end (state_after ss fillings x) 0
   pub fresh : still_left ss fillings used ≡ []
 
 -- an object that is a part, and has not the same under all keys as a used row
 abbrev pub IsFreshRow : Question → ℕ → List Data → Data → Type 0
-IsFreshRow q i used v = (ms : Members) × ((v ≡ tree.object ms) × StandFresh q.pools (slots_from q i 0) (bounds_at q i) 0 used ms)
+IsFreshRow q i used v = (ms : Members) × ((v ≡ tree.object ms) × StandFresh q.pools (slots_from q i 0) (ending_at q i) nothing used ms)
 
 -- a list that is a part
 abbrev pub IsListOf : Question → ℕ → Data → Type 0

@@ -5,10 +5,9 @@ use Rattle.jtree.specs.Nodes.{node_count, items_count}
 use Rattle.jtree.specs.Order.{tree_cmp, items_cmp}
 use Rattle.jtree.specs.View.{data_of, members_of}
 use Rattle.jtree.specs.declared.value.Member.{Member}
-use Rattle.schema.specs.declared.node.Bounds.{Bounds}
 use Rattle.plan.specs.Pools.Pools.{Pools}
 use Rattle.plan.specs.Samples.Sites.{Slot}
-use Rattle.plan.specs.Samples.Sizes.{filled_nodes}
+use Rattle.plan.specs.Samples.Sizes.{filled_nodes, Before, Ending}
 use Rattle.plan.specs.Samples.RuleOfParts.{members_in}
 use Rattle.plan.specs.Samples.Question.{Question}
 use Rattle.enumerate.specs.Least.{IsNext}
@@ -30,19 +29,19 @@ Begins k no_members = ⊥
 Begins k (member l d ms) = l ≡ k
 
 -- the members that stand in the slots are these fillings
-pub record StandIn (P : Pools) (ss : List Slot) (b : Bounds) (t : ℕ) (used : List Data) (members : List Member) (gs : List (Option Data)) : Type 0 where
+pub record StandIn (P : Pools) (ss : List Slot) (end : Ending) (x : Before) (used : List Data) (members : List Member) (gs : List (Option Data)) : Type 0 where
   pub are : members_of members ≡ members_in ss gs
-  pub rest : IsRest P ss b t (filled_nodes gs) used gs
+  pub rest : IsRest P ss end x (filled_nodes gs) used gs
 
-pub record AreNext (P : Pools) (ss : List Slot) (b : Bounds) (t : ℕ) (used : List Data) (old : List (Option Data)) (members : List Member) : Type 0 where
+pub record AreNext (P : Pools) (ss : List Slot) (end : Ending) (x : Before) (used : List Data) (old : List (Option Data)) (members : List Member) : Type 0 where
   pub fillings : List (Option Data)
   pub are : members_of members ≡ members_in ss fillings
-  pub next : IsNext fill_cmp (IsRest P ss b t (filled_nodes old) used) old (Some fillings)
+  pub next : IsNext fill_cmp (IsRest P ss end x (filled_nodes old) used) old (Some fillings)
 
--- the members from the t-th on are the next ones for the slots, behind those before them; or there are none
-abbrev pub AreMoved : Step → Pools → List Slot → Bounds → ℕ → List Data → List (Option Data) → List Member → Type 0
-AreMoved step.Moved P ss b t used old members = AreNext P ss b t used old members
-AreMoved (step.Last n) P ss b t used old members = IsNext fill_cmp (IsRest P ss b t (filled_nodes old) used) old None × (filled_nodes old ≡ n)
+-- the members are the next ones for the slots, behind those before them; or there are none
+abbrev pub AreMoved : Step → Pools → List Slot → Ending → Before → List Data → List (Option Data) → List Member → Type 0
+AreMoved step.Moved P ss end x used old members = AreNext P ss end x used old members
+AreMoved (step.Last n) P ss end x used old members = IsNext fill_cmp (IsRest P ss end x (filled_nodes old) used) old None × (filled_nodes old ≡ n)
 
 -- the items are the next ones, behind the same beginning or another; or there are none
 abbrev pub AreItemsMoved : Step → Question → ℕ → Items → Items → Type 0

@@ -1,5 +1,5 @@
 -- What stands in the slots of a row from a place on, where some rows are used already: none of them may have the same under all keys.
-use Rattle.std.specs.Prelude.{◌≡◌, ◌≢◌, ℕ, ◌+◌, ◌-◌, ◌*◌, ◌≤◌, ◌<◌, ◌++◌, List, [], ◌∷◌, Bool, true, false, Option, Some, None, map, filter, drop, length, get_or, All, AllPairs, Contains}
+use Rattle.std.specs.Prelude.{◌≡◌, ◌≢◌, ℕ, ◌+◌, ◌-◌, ◌*◌, ◌≤◌, ◌<◌, ◌++◌, List, [], ◌∷◌, Bool, true, false, Option, Some, None, IfSome, map, filter, drop, length, get_or, All, AllPairs, Contains}
 use Rattle.std.specs.Cmp.Lexicographic.{slice_cmp}
 use Rattle.std.specs.declared.cmp.Ordering.{Ordering}
 use Rattle.std.specs.declared.cmp.Ordering.TheVariants.{Less, Equal, Greater}
@@ -9,13 +9,11 @@ use Rattle.jtree.specs.Nodes.{node_count}
 use Rattle.jtree.specs.Order.{tree_cmp}
 use Rattle.jtree.specs.View.{data_of, members_of}
 use Rattle.jtree.specs.declared.value.Member.{Member}
-use Rattle.schema.specs.declared.node.Bounds.{Bounds}
-use Rattle.stored.specs.Objects.StoredByParts.{IsWithin}
 use Rattle.plan.specs.Pools.Pools.{Pools}
 use Rattle.plan.specs.Sets.{IsLeastFrom, IsEmptyFrom}
 use Rattle.plan.specs.Samples.Part.{IsPart}
 use Rattle.plan.specs.Samples.Sites.{Slot, no_slot, slots}
-use Rattle.plan.specs.Samples.Sizes.{AreFillings, filled_nodes, filled_count, bounds_of, CanFill, HasSize}
+use Rattle.plan.specs.Samples.Sizes.{AreFillings, filled_nodes, Before, nothing, filled, state_after, Ending, ending_of, MayEnd, CanFill, HasSize}
 use Rattle.plan.specs.Samples.RuleOfParts.{members_in}
 use Rattle.plan.specs.Samples.NoDeadEnd.{is_key, IsTuple, HasFree}
 use Rattle.plan.specs.Samples.Keys.{key_under, HasTuples}
@@ -35,8 +33,8 @@ slots_from q i place = drop place (slots q.pools (site q i))
 abbrev pub slot_in : Question → ℕ → ℕ → Slot
 slot_in q i place = get_or (slots q.pools (site q i)) place no_slot
 
-abbrev pub bounds_at : Question → ℕ → Bounds
-bounds_at q i = bounds_of (site q i)
+abbrev pub ending_at : Question → ℕ → Ending
+ending_at q i = ending_of (site q i)
 
 -- a slot that was handed out is the one at this place
 pub record IsSlotOf (q : Question) (i place : ℕ) (t : handed.Slot) : Type 0 where
@@ -45,6 +43,8 @@ pub record IsSlotOf (q : Question) (i place : ℕ) (t : handed.Slot) : Type 0 wh
   pub node : site q t.node ≡ (slot_in q i place).site
   pub must : t.must ≡ (slot_in q i place).must
   pub key : t.key ≡ (slot_in q i place).key
+  pub bit : t.bit ≡ (slot_in q i place).bit
+  pub few : IfSome t.bit (λ j. j < 4)
   pub below : t.node < i
   pub later : HasTuples q.pools (slots_from q i (place + 1)) t.later
   pub followed : place < 18446744073709551615
@@ -77,10 +77,10 @@ used_keys ss used = map (key_under ss) used
 abbrev pub IsUnused : List Slot → List Data → List Data → Type 0
 IsUnused ss used key = Contains (used_keys ss used) key → ⊥
 
--- the slots filled with m nodes, where t slots are filled before them
-pub record IsRest (P : Pools) (ss : List Slot) (b : Bounds) (t m : ℕ) (used : List Data) (gs : List (Option Data)) : Type 0 where
+-- the slots filled with m nodes, so that the row may end behind them, where this stands before them
+pub record IsRest (P : Pools) (ss : List Slot) (end : Ending) (x : Before) (m : ℕ) (used : List Data) (gs : List (Option Data)) : Type 0 where
   pub are : AreFillings P ss gs
-  pub within : IsWithin b (t + filled_count gs)
+  pub ends : MayEnd end (state_after ss gs x)
   pub nodes_are : filled_nodes gs ≡ m
   pub fresh : IsUnused ss used (key_values ss gs)
 
@@ -91,18 +91,18 @@ pub record AreUsed (P : Pools) (ss : List Slot) (used : List Data) : Type 0 wher
   pub apart : AllPairs (λ t u. t ≢ u) (used_keys ss used)
 
 -- the slots can be filled so
-pub record IsOpen (P : Pools) (ss : List Slot) (b : Bounds) (t m : ℕ) (used : List Data) : Type 0 where
+pub record IsOpen (P : Pools) (ss : List Slot) (end : Ending) (x : Before) (m : ℕ) (used : List Data) : Type 0 where
   pub known : AreUsed P ss used
-  pub rest : CanFill P ss b t m
+  pub rest : CanFill P ss end x m
   pub free : HasFree P (filter is_key ss) (used_keys ss used) []
 
 -- the first members of m nodes for the slots stand behind those that were there
-pub record AddsFirst (P : Pools) (ss : List Slot) (b : Bounds) (t m : ℕ) (used : List Data) (old new : List Member) : Type 0 where
+pub record AddsFirst (P : Pools) (ss : List Slot) (end : Ending) (x : Before) (m : ℕ) (used : List Data) (old new : List Member) : Type 0 where
   pub added : List Member
   pub is : new ≡ old ++ added
   pub fillings : List (Option Data)
   pub are : members_of added ≡ members_in ss fillings
-  pub least : IsLeast fill_cmp (IsRest P ss b t m used) fillings
+  pub least : IsLeast fill_cmp (IsRest P ss end x m used) fillings
 
 -- ---- a slot, and those behind it
 
@@ -117,21 +117,21 @@ pub record IsValue (P : Pools) (s : Slot) (ss : List Slot) (used : List Data) (n
   pub free : HasFree P (filter is_key ss) (used_keys ss (still_used s v used)) []
 
 -- a size for the slot that leaves those behind it the rest of m nodes
-abbrev pub FitsSlot : Pools → Slot → List Slot → Bounds → ℕ → ℕ → ℕ → Type 0
-FitsSlot P s ss b t m n = IsSplit (HasSize P s.site) (CanFill P ss b (t + 1)) m n
+abbrev pub FitsSlot : Pools → Slot → List Slot → Ending → Before → ℕ → ℕ → Type 0
+FitsSlot P s ss end x m n = IsSplit (HasSize P s.site) (CanFill P ss end (filled s.bit x)) m n
 
 -- behind the members that were there stands the first value of the least size from `from` on, and then the first members behind it
-pub record Grows (P : Pools) (s : Slot) (ss : List Slot) (b : Bounds) (t m from : ℕ) (used : List Data) (old new : List Member) : Type 0 where
+pub record Grows (P : Pools) (s : Slot) (ss : List Slot) (end : Ending) (x : Before) (m from : ℕ) (used : List Data) (old new : List Member) : Type 0 where
   pub size : ℕ
   pub one : Member
   pub name : one.name ≡ s.name
-  pub least : IsLeastFrom (FitsSlot P s ss b t m) from size
+  pub least : IsLeastFrom (FitsSlot P s ss end x m) from size
   pub first : IsLeast tree_cmp (IsValue P s ss used size) (data_of one.tree)
-  pub rest : AddsFirst P ss b (t + 1) (m - size) (still_used s (data_of one.tree) used) (old ++ one ∷ []) new
+  pub rest : AddsFirst P ss end (filled s.bit x) (m - size) (still_used s (data_of one.tree) used) (old ++ one ∷ []) new
 
-abbrev pub IsGrown : Step → Pools → Slot → List Slot → Bounds → ℕ → ℕ → ℕ → List Data → List Member → List Member → Type 0
-IsGrown Moved P s ss b t m from used old new = Grows P s ss b t m from used old new
-IsGrown (Last n) P s ss b t m from used old new = (new ≡ old) × IsEmptyFrom (FitsSlot P s ss b t m) from × (n ≡ m)
+abbrev pub IsGrown : Step → Pools → Slot → List Slot → Ending → Before → ℕ → ℕ → List Data → List Member → List Member → Type 0
+IsGrown Moved P s ss end x m from used old new = Grows P s ss end x m from used old new
+IsGrown (Last n) P s ss end x m from used old new = (new ≡ old) × IsEmptyFrom (FitsSlot P s ss end x m) from × (n ≡ m)
 
 -- ---- whole rows
 
@@ -139,7 +139,7 @@ IsGrown (Last n) P s ss b t m from used old new = (new ≡ old) × IsEmptyFrom (
 pub record IsRow (q : Question) (i n : ℕ) (used : List Data) (v : Data) : Type 0 where
   pub fillings : List (Option Data)
   pub is : v ≡ tree.object (members_in (slots_from q i 0) fillings)
-  pub rest : IsRest q.pools (slots_from q i 0) (bounds_at q i) 0 n used fillings
+  pub rest : IsRest q.pools (slots_from q i 0) (ending_at q i) nothing n used fillings
 
 -- for each slot one step, and one for their end, besides those of m nodes
 abbrev pub CostsSlots : Question → ℕ → ℕ → ℕ → ℕ → ℕ → Type 0

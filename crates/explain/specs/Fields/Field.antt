@@ -42,7 +42,7 @@ list_type_of (list N type keys bounds) = Some type
 list_type_of _ = None
 
 abbrev pub map_type_of : Sort → Option MapType
-map_type_of (object fs preserves type bounds) = Some type
+map_type_of (object fs preserves type bounds cs) = Some type
 map_type_of (map N type bounds) = Some type
 map_type_of _ = None
 

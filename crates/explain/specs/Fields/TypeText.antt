@@ -16,7 +16,7 @@ abbrev mutual
 
   pub sort_text : Sort → List ℕ
   sort_text (scalar kind cs) = scalar_text kind
-  sort_text (object fs preserves type bounds) = codes "Object"
+  sort_text (object fs preserves type bounds cs) = codes "Object"
   sort_text (map N type bounds) = codes "map[string]" ++ type_text N
   sort_text (list N type keys bounds) = codes "[]" ++ type_text N
   sort_text open_ = codes "any"

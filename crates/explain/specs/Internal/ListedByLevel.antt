@@ -36,7 +36,7 @@ abbrev mutual
   below (node nullable description sort) = below_sort sort
 
   pub below_sort : Sort → List Entry
-  below_sort (object fs preserves type bounds) = below_fields fs
+  below_sort (object fs preserves type bounds cs) = below_fields fs
   below_sort (map N type bounds) = under value (whole false None N (below N))
   below_sort (list N type keys bounds) = under item (whole false None N (below N))
   below_sort _ = []

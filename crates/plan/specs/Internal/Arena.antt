@@ -1,11 +1,13 @@
 -- What the entries of a plan stand for: each for the site of its number.
-use Rattle.std.specs.Prelude.{◌≡◌, ℕ, ◌+◌, ◌<◌, List, [], ◌∷◌, length, get_or, drop, Some}
+use Rattle.std.specs.Prelude.{◌≡◌, ℕ, ◌+◌, ◌^◌, ◌<◌, List, [], ◌∷◌, length, get_or, drop, Some, All, IfSome}
+use Rattle.schema.specs.Nodes.Junctors.{most_named}
 use Rattle.plan.specs.Pools.Pools.{Pools}
 use Rattle.plan.specs.Samples.Sites.{Site, site_at, item_site, Slot, slots}
 use Rattle.plan.specs.Samples.Candidates.{sort_of, distinct_of, AreCandidates}
-use Rattle.plan.specs.Samples.Sizes.{HasSize, HasMore, bounds_of, IsUpTo}
+use Rattle.plan.specs.Samples.Presence.{named}
+use Rattle.plan.specs.Samples.Sizes.{HasSize, HasMore, ending_of, IsUpTo}
 use Rattle.plan.specs.Samples.RuleOfParts.{admits_null}
-use Rattle.plan.specs.Internal.Tables.{AreShaped, AreLevels}
+use Rattle.plan.specs.Internal.Tables.{AreShaped, AreTables}
 use Rattle.plan.specs.Samples.Keys.{HasTuples}
 use Rattle.plan.specs.Internal.Tuples.{AreKeysLeaves}
 use Rattle.plan.specs.Internal.Values.{candidates_of}
@@ -36,6 +38,7 @@ pub record IsSlot (names : List (List ℕ)) (sites : List Site) (i : ℕ) (e : S
   pub node : site_at sites e.node ≡ s.site
   pub must : e.must ≡ s.must
   pub key : e.key ≡ s.key
+  pub bit : e.bit ≡ s.bit
 
 abbrev pub AreSlots : List (List ℕ) → List Site → ℕ → List SlotEntry → List Slot → Type 0
 AreSlots names sites i [] [] = Unit {0}
@@ -49,6 +52,7 @@ pub record IsChosen {Z : Type 0} (es : List (Entry Z)) (c : Choice Z) (x : SlotE
   pub below : x.node < length es
   pub sizes : c.sizes ≡ entry.sizes
   pub must : c.must ≡ x.must
+  pub bit : c.bit ≡ x.bit
 
 abbrev pub AreChosen : {Z : Type 0} → List (Entry Z) → List (Choice Z) → List SlotEntry → Type 0
 AreChosen es [] [] = Unit {0}
@@ -64,9 +68,10 @@ pub record IsRow {Z : Type 0} (holds : Z → ℕ → Type 0) (limit : ℕ) (P : 
   pub are : AreSlots names sites i r.slots.items (slots P (site_at sites i))
   pub later_whole : length r.later.items ≡ length r.slots.items
   pub later : AreLater P (slots P (site_at sites i)) r.later.items
-  pub whole : length r.levels.items ≡ length r.slots.items + 1
-  pub shaped : AreShaped (length r.slots.items) r.levels.items
-  pub levels : AreLevels holds limit (bounds_of (site_at sites i)) P (slots P (site_at sites i)) r.levels.items
+  pub bits : All (λ (e : SlotEntry). IfSome e.bit (λ j. j < most_named)) r.slots.items
+  pub whole : length r.tables.items ≡ length r.slots.items + 1
+  pub shaped : AreShaped (length r.slots.items) (2 ^ length (named (ending_of (site_at sites i)).asked)) r.tables.items
+  pub tables : AreTables holds limit (ending_of (site_at sites i)) P (slots P (site_at sites i)) r.tables.items
 
 pub record IsList {Z : Type 0} (holds : Z → ℕ → Type 0) (limit : ℕ) (P : Pools) (sites : List Site) (i : ℕ) (l : ListEntry Z) : Type 0 where
   pub item : item_site (site_at sites i) ≡ Some (site_at sites l.item)

@@ -1,24 +1,27 @@
 -- What is added to a plan for a node: entries for its sites, each behind those below it.
-use Rattle.std.specs.Prelude.{◌≡◌, ℕ, ◌+◌, ◌≤◌, ◌<◌, List, length, Bool, Option, All, ◌||◌, is_some}
+use Rattle.std.specs.Prelude.{◌≡◌, ℕ, ◌+◌, ◌^◌, ◌≤◌, ◌<◌, List, length, Bool, Option, All, ◌||◌, is_some}
 use Rattle.jtree.specs.Data.{Data}
 use Rattle.schema.specs.Document.Texts.{is_among}
 use Rattle.schema.specs.Nodes.Node.{Node, node, Sort, object, map, list, Fields, no_fields, field}
 use Rattle.schema.specs.Nodes.Items.{HasSoundItems}
+use Rattle.schema.specs.Nodes.Junctors.{HasSoundJunctors}
 use Rattle.plan.specs.Pools.Pools.{Pools}
+use Rattle.plan.specs.Samples.Presence.{bit_of}
 use Rattle.plan.specs.Samples.Sites.{Site, sites_from, sites_of_fields, field_slots}
+use Rattle.plan.specs.Internal.Tables.{IsClosed}
 use Rattle.plan.specs.Internal.Values.{AreValues}
 use Rattle.plan.specs.Internal.Arena.{Stand, AreRight, AreSlots, name_of}
 use Rattle.plan.specs.declared.values.Values.{Values}
 use Rattle.plan.specs.declared.arena.Entry.{Entry}
 use Rattle.plan.specs.declared.arena.SlotEntry.{SlotEntry}
 
--- the items of each list can be told apart where that is asked
+-- the items of each list can be told apart where that is asked, and the junctors of each object name few fields
 abbrev mutual
   pub IsSound : Node → Type 0
-  IsSound (node nullable description sort) = HasSoundItems (node nullable description sort) × IsSortSound sort
+  IsSound (node nullable description sort) = HasSoundItems (node nullable description sort) × HasSoundJunctors (node nullable description sort) × IsSortSound sort
 
   pub IsSortSound : Sort → Type 0
-  IsSortSound (object fs preserves type bounds) = AreFieldsSound fs
+  IsSortSound (object fs preserves type bounds cs) = AreFieldsSound fs
   IsSortSound (map N type bounds) = IsSound N
   IsSortSound (list N type keys bounds) = IsSound N
   IsSortSound _ = Unit {0}
@@ -35,15 +38,17 @@ pub record IsBuilt {Z : Type 0} (holds : Z → ℕ → Type 0) (limit : ℕ) (v 
       → AreRight holds limit P v sites old → AreRight holds limit P v sites new
 
 -- the slot of a field
-pub record IsFieldSlot (keys : List (List ℕ)) (name : List ℕ) (required : Bool) (default : Option Data) (s : SlotEntry) : Type 0 where
+pub record IsFieldSlot (keys named : List (List ℕ)) (name : List ℕ) (required : Bool) (default : Option Data) (s : SlotEntry) : Type 0 where
   pub name_is : (names : List (List ℕ)) → name_of names s.name ≡ name
   pub must : s.must ≡ (required || is_some default)
   pub key : s.key ≡ is_among name keys
+  pub bit : s.bit ≡ bit_of name named
 
 -- fields and all below them
-pub record AreBuilt {Z : Type 0} (holds : Z → ℕ → Type 0) (limit : ℕ) (v : Values) (old new : List (Entry Z)) (fs : Fields) (keys : List (List ℕ)) (slots : List SlotEntry) : Type 0 where
+pub record AreBuilt {Z : Type 0} (holds : Z → ℕ → Type 0) (limit : ℕ) (v : Values) (old new : List (Entry Z)) (fs : Fields) (keys named : List (List ℕ)) (slots : List SlotEntry) : Type 0 where
   pub count : length new ≡ length old + length (sites_of_fields fs)
   pub below : All (λ (s : SlotEntry). s.node < length new) slots
+  pub bits : All (λ (s : SlotEntry). IsClosed (2 ^ length named) s.bit) slots
   pub right : (P : Pools) (sites : List Site) → AreValues P v → AreFieldsSound fs → Stand sites (length old) (sites_of_fields fs)
       → AreRight holds limit P v sites old → AreRight holds limit P v sites new
-  pub slots_are : (names : List (List ℕ)) (sites : List Site) (i : ℕ) → Stand sites (length old) (sites_of_fields fs) → length new ≤ i → AreSlots names sites i slots (field_slots keys fs)
+  pub slots_are : (names : List (List ℕ)) (sites : List Site) (i : ℕ) → Stand sites (length old) (sites_of_fields fs) → length new ≤ i → AreSlots names sites i slots (field_slots keys named fs)

@@ -1,4 +1,4 @@
--- The parts of a site, one level at a time: what its slots or items hold, within its bounds.
+-- The parts of a site, one level at a time: what its slots or items hold, and that it may end there.
 use Rattle.std.specs.Prelude.{◌≡◌, ◌⊎◌, ◌↔◌, List, true, Option, Some}
 use Rattle.jtree.specs.Data.{Data, Items, IsTree}
 use Rattle.jtree.specs.Data as tree
@@ -11,7 +11,7 @@ use Rattle.plan.specs.Samples.Over.{is_over_here}
 use Rattle.plan.specs.Samples.Part.{IsPart}
 use Rattle.plan.specs.Samples.Sites.{Site, item_site, slots}
 use Rattle.plan.specs.Samples.Candidates.{sort_of}
-use Rattle.plan.specs.Samples.Sizes.{AreFillings, filled_count, bounds_of}
+use Rattle.plan.specs.Samples.Sizes.{AreFillings, bounds_of, nothing, state_after, ending_of, MayEnd}
 use Rattle.plan.specs.Samples.RuleOfParts.{members_in, AreParts, alike_at, IsNullPart}
 use Rattle.plan.specs.declared.sort.Sort.TheVariants.{Leaf, Row}
 
@@ -19,7 +19,7 @@ pub record IsObjectPart (P : Pools) (s : Site) (v : Data) : Type 0 where
   pub fillings : List (Option Data)
   pub is : v ≡ tree.object (members_in (slots P s) fillings)
   pub are : AreFillings P (slots P s) fillings
-  pub within : IsWithin (bounds_of s) (filled_count fillings)
+  pub ends : MayEnd (ending_of s) (state_after (slots P s) fillings nothing)
 
 pub record IsItemsPart (P : Pools) (s M : Site) (v : Data) : Type 0 where
   pub items : Items

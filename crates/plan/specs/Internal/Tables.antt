@@ -1,27 +1,51 @@
 -- What the tables of a plan hold. A set stands for the numbers that it holds.
-use Rattle.std.specs.Prelude.{◌≡◌, ℕ, ◌+◌, ◌-◌, ◌<◌, List, [], ◌∷◌, length, get_or, drop}
+use Rattle.std.specs.Prelude.{◌≡◌, ℕ, ◌+◌, ◌-◌, ◌^◌, ◌<◌, List, [], ◌∷◌, length, get_or, drop, Bool, Option, IfSome}
 use Rattle.std.specs.declared.vec.Vec.{Vec}
 use Rattle.std.specs.declared.alloc.Global.{Global}
-use Rattle.schema.specs.declared.node.Bounds.{Bounds}
+use Rattle.schema.specs.Nodes.Node.{Validations}
+use Rattle.schema.specs.Nodes.Junctors.{most_named}
 use Rattle.plan.specs.Pools.Pools.{Pools}
+use Rattle.plan.specs.Samples.Presence.{named, bit_of, is_set, with_bit, meets_seen}
 use Rattle.plan.specs.Samples.Sites.{Slot}
-use Rattle.plan.specs.Samples.Sizes.{HasSize, CanFill, IsUpTo}
+use Rattle.plan.specs.Samples.Sizes.{HasSize, Ending, CanFill, IsUpTo}
 use Rattle.plan.specs.declared.rows.Choice.{Choice}
 
--- the choices have the sizes of the slots' sites, and say under which something must stand
+-- the place is one of few, and its bit can be set in each number below this one, which stays below it
+abbrev pub IsClosed : ℕ → Option ℕ → Type 0
+IsClosed kinds bit = IfSome bit (λ j. j < most_named) × ((seen : ℕ) → seen < kinds → with_bit bit seen < kinds)
+
+-- the test whether a name is seen: its bit is set
+abbrev pub is_seen : List (List ℕ) → ℕ → List ℕ → Bool
+is_seen names seen k = is_set (bit_of k names) seen
+
+-- for each set of the named fields: whether the junctors hold where these are there
+pub record AreMet (cs : Validations) (ends : List Bool) : Type 0 where
+  pub whole : length ends ≡ 2 ^ length (named cs)
+  pub each : (seen : ℕ) (b : Bool) → seen < length ends → get_or ends seen b ≡ meets_seen cs seen
+
+-- the choices have the sizes of the slots' sites, say under which something must stand, and which named field each is
 abbrev pub AreChoices : {Z : Type 0} → (Z → ℕ → Type 0) → ℕ → Pools → List (Choice Z) → List Slot → Type 0
 AreChoices holds limit P [] [] = Unit {0}
-AreChoices holds limit P (c ∷ cs) (s ∷ ss) = IsUpTo limit (holds c.sizes) (HasSize P s.site) × (c.must ≡ s.must) × AreChoices holds limit P cs ss
+AreChoices holds limit P (c ∷ cs) (s ∷ ss) = IsUpTo limit (holds c.sizes) (HasSize P s.site) × (c.must ≡ s.must) × (c.bit ≡ s.bit) × AreChoices holds limit P cs ss
 AreChoices holds limit P _ _ = ⊥
 
--- at each number of members before: the sizes that the slots can still take
-abbrev pub IsLevel : {Z : Type 0} → (Z → ℕ → Type 0) → ℕ → Bounds → Pools → List Slot → List Z → Type 0
-IsLevel {Z} holds limit b P ss level = (t : ℕ) (z : Z) → t < length level → IsUpTo limit (holds (get_or level t z)) (CanFill P ss b t)
+-- where these named fields were seen, at each number of members before: the sizes that the slots can still take
+abbrev pub IsLevel : {Z : Type 0} → (Z → ℕ → Type 0) → ℕ → Ending → Pools → List Slot → ℕ → List Z → Type 0
+IsLevel {Z} holds limit e P ss seen level = (t : ℕ) (z : Z) → t < length level → IsUpTo limit (holds (get_or level t z)) (CanFill P ss e (record { count = t; seen = seen }))
 
--- the levels, the last place first, have a set for each number of members that may stand before the place
-abbrev pub AreShaped : {Z : Type 0} → ℕ → List (Vec Z Global) → Type 0
-AreShaped {Z} count levels = (k : ℕ) (d : Vec Z Global) → k < length levels → length (get_or levels k d).items + k ≡ count + 1
+-- so it is for each set of the named fields
+abbrev pub IsTable : {Z : Type 0} → (Z → ℕ → Type 0) → ℕ → Ending → Pools → List Slot → List (Vec Z Global) → Type 0
+IsTable {Z} holds limit e P ss table = (seen : ℕ) (d : Vec Z Global) → seen < length table → IsLevel holds limit e P ss seen (get_or table seen d).items
+
+-- a table has a level for each set of the named fields, with a set for each of so many numbers of members
+pub record HasShape {Z : Type 0} (kinds width : ℕ) (table : List (Vec Z Global)) : Type 0 where
+  pub whole : length table ≡ kinds
+  pub wide : (seen : ℕ) (d : Vec Z Global) → seen < length table → length (get_or table seen d).items ≡ width
+
+-- the tables, that of the last place first, have a set for each number of members that may stand before the place
+abbrev pub AreShaped : {Z : Type 0} → ℕ → ℕ → List (Vec (Vec Z Global) Global) → Type 0
+AreShaped {Z} count kinds tables = (k : ℕ) (d : Vec (Vec Z Global) Global) → k < length tables → HasShape kinds (count + 1 - k) (get_or tables k d).items
 
 -- each of them has the sizes of the slots from its place on
-abbrev pub AreLevels : {Z : Type 0} → (Z → ℕ → Type 0) → ℕ → Bounds → Pools → List Slot → List (Vec Z Global) → Type 0
-AreLevels {Z} holds limit b P ss levels = (k : ℕ) (d : Vec Z Global) → k < length levels → IsLevel holds limit b P (drop (length ss - k) ss) (get_or levels k d).items
+abbrev pub AreTables : {Z : Type 0} → (Z → ℕ → Type 0) → ℕ → Ending → Pools → List Slot → List (Vec (Vec Z Global) Global) → Type 0
+AreTables {Z} holds limit e P ss tables = (k : ℕ) (d : Vec (Vec Z Global) Global) → k < length tables → IsTable holds limit e P (drop (length ss - k) ss) (get_or tables k d).items

@@ -10,7 +10,7 @@ use Rattle.schema.specs.Nodes.Node.{Node}
 use Rattle.stored.specs.Objects.Becomes.{IsStored}
 use Rattle.plan.specs.Pools.Pools.{Pools}
 use Rattle.plan.specs.Samples.Over.{scalars_of}
-use Rattle.plan.specs.Samples.Sites.{in_order}
+use Rattle.plan.specs.Samples.Names.{in_order}
 use Rattle.plan.specs.declared.values.Values.{Values}
 use Rattle.plan.specs.declared.leaf.Base.{Base}
 use Rattle.plan.specs.declared.leaf.Base.TheVariants.{Scalars, Any, Own}

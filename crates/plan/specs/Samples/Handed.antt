@@ -15,6 +15,7 @@ pub record IsSlotAt (all : List Site) (ss : List sites.Slot) (place : ℕ) (t : 
   pub node : site_at all t.node ≡ slot.site
   pub must : t.must ≡ slot.must
   pub key : t.key ≡ slot.key
+  pub bit : t.bit ≡ slot.bit
 
 -- the candidate at a place, where there is one
 pub record IsCandidateAt (P : Pools) (s : Site) (place : ℕ) (v : Option Data) : Type 0 where

@@ -10,7 +10,7 @@ use Rattle.plan.specs.Pools.Pools.{Pools}
 use Rattle.plan.specs.Samples.Part.{IsPart}
 use Rattle.plan.specs.Samples.Sites.{Site, item_site, Slot, slots}
 use Rattle.plan.specs.Samples.Candidates.{sort_of, HasCount}
-use Rattle.plan.specs.Samples.Sizes.{AreFillings, filled_nodes, filled_count, HasRest, HasMore}
+use Rattle.plan.specs.Samples.Sizes.{AreFillings, filled_nodes, nothing, state_after, HasRest, HasMore}
 use Rattle.plan.specs.Samples.RuleOfParts.{members_in, AreParts, alike_at}
 use Rattle.plan.specs.declared.sort.Sort.TheVariants.{Row}
 
@@ -70,7 +70,7 @@ HasFree P ss used chosen = (t : List Data) × (IsTuple P ss t × (Contains used 
 
 pub record NoDeadEnd (P : Pools) (limit : ℕ) (s : Site) : Type 0 where
   pub rows : (front : List (Option Data)) (place m : ℕ) → sort_of s ≡ Row → AreFillings P (take place (slots P s)) front → place ≤ length (slots P s)
-      → HasRest P s place (filled_count front) m → RowCompletes P s place front m
+      → HasRest P s place (state_after (take place (slots P s)) front nothing) m → RowCompletes P s place front m
   pub lists : (M : Site) (front : Items) (m : ℕ) → item_site s ≡ Some M → AreParts P M front → are_apart (alike_at s) front ≡ true
       → HasMore P limit s (fault.items_count front) m → ListCompletes P s front m
   -- the first keys of an item, where other items use these tuples

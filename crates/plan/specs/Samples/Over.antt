@@ -41,7 +41,7 @@ all_names test (member k d ms) = test k && all_names test ms
 
 -- a value at its node, its parts aside
 abbrev pub is_over_here : Pools → Node → Data → Bool
-is_over_here P (node nullable description (object fs preserves type bounds)) (tree.object ms) = all_names (λ k. is_some (field_at k fs)) ms
+is_over_here P (node nullable description (object fs preserves type bounds cs)) (tree.object ms) = all_names (λ k. is_some (field_at k fs)) ms
 is_over_here P (node nullable description (nodes.map N type bounds)) (tree.object ms) = all_names (λ k. is_among k P.names) ms
 is_over_here P (node nullable description (scalar kind cs)) v = is_in v (listed P (node nullable description (scalar kind cs))) || (is_null v && nullable)
 is_over_here P (node nullable description open_) v = is_in v (listed P (node nullable description open_)) || (is_null v && nullable)

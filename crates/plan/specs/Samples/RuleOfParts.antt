@@ -12,7 +12,7 @@ use Rattle.plan.specs.Pools.Pools.{Pools}
 use Rattle.plan.specs.Samples.Part.{IsPart}
 use Rattle.plan.specs.Samples.Sites.{Site, item_site, Slot, slots}
 use Rattle.plan.specs.Samples.Candidates.{sort_of, AreCandidates}
-use Rattle.plan.specs.Samples.Sizes.{AreFillings, filled_count, HasRest, HasMore}
+use Rattle.plan.specs.Samples.Sizes.{AreFillings, nothing, state_after, HasRest, HasMore}
 use Rattle.plan.specs.declared.sort.Sort.TheVariants.{Leaf, Row, List as ListSort}
 
 -- the members that stand in the slots
@@ -41,12 +41,12 @@ admits_null s = is_nullable s.node
 abbrev pub IsNullPart : Site → Data → Type 0
 IsNullPart s v = (v ≡ tree.null) × (admits_null s ≡ true)
 
--- an object in whose slots parts stand, with as many members as it may have
+-- an object in whose slots parts stand, and which may end behind them
 pub record IsRowPart (P : Pools) (s : Site) (v : Data) : Type 0 where
   pub fillings : List (Option Data)
   pub is : v ≡ tree.object (members_in (slots P s) fillings)
   pub are : AreFillings P (slots P s) fillings
-  pub ends : HasRest P s (length (slots P s)) (filled_count fillings) 0
+  pub ends : HasRest P s (length (slots P s)) (state_after (slots P s) fillings nothing) 0
 
 -- a list of parts, no two alike, that may end where it does
 pub record IsListPart (P : Pools) (limit : ℕ) (s M : Site) (v : Data) : Type 0 where

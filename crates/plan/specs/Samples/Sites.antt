@@ -1,14 +1,13 @@
 -- The sites of a plan, one for each node of the schema, and the slots of its objects and maps (this project's own).
 use Rattle.std.specs.Prelude.{ℕ, List, [], ◌∷◌, ◌++◌, Bool, false, Option, Some, None, map, ◌||◌, is_some, get_or}
-use Rattle.std.specs.declared.cmp.Ordering.{Ordering}
-use Rattle.std.specs.declared.cmp.Ordering.TheVariants.{Less, Equal, Greater}
-use Rattle.jtree.specs.Order.{text_cmp}
 use Rattle.schema.specs.Document.Texts.{is_among}
 use Rattle.schema.specs.Nodes.Node.{Node, node, Sort, object, list, open_, Fields, no_fields, field}
 use Rattle.schema.specs.Nodes.Node as nodes
 use Rattle.schema.specs.declared.node.ListType.{ListType}
 use Rattle.schema.specs.declared.node.ListType.TheVariants.{Map}
 use Rattle.plan.specs.Pools.Pools.{Pools}
+use Rattle.plan.specs.Samples.Names.{in_order}
+use Rattle.plan.specs.Samples.Presence.{named, bit_of}
 pub use Rattle.plan.specs.Samples.Site.{Site, plain, root_site}
 
 -- what stands for a site where there is none
@@ -34,7 +33,7 @@ abbrev mutual
   sites_from (node nullable description sort) keys = sites_below sort ++ record { node = node nullable description sort; keys = keys } ∷ []
 
   pub sites_below : Sort → List Site
-  sites_below (object fs preserves type bounds) = sites_of_fields fs
+  sites_below (object fs preserves type bounds cs) = sites_of_fields fs
   sites_below (nodes.map N type bounds) = sites_from N []
   sites_below (list N type keys bounds) = sites_from N (item_keys type keys)
   sites_below _ = []
@@ -53,44 +52,31 @@ site_at sites i = get_or sites i no_site
 
 -- ---- slots
 
--- a name under which a member may stand: the site of what stands there, whether something must stand there, and whether the name
--- is a key
+-- a name under which a member may stand: the site of what stands there, whether something must stand there, whether the name is a
+-- key, and its place among the fields that the junctors name
 pub record Slot : Type 0 where
   pub name : List ℕ
   pub site : Site
   pub must : Bool
   pub key : Bool
+  pub bit : Option ℕ
 
 -- what stands for a slot where there is none
 abbrev pub no_slot : Slot
-no_slot = record { name = []; site = no_site; must = false; key = false }
+no_slot = record { name = []; site = no_site; must = false; key = false; bit = None }
 
 -- something must stand under a field that is required or has a default
-abbrev pub field_slots : List (List ℕ) → Fields → List Slot
-field_slots keys no_fields = []
-field_slots keys (field k N required default fs) = record { name = k; site = plain N; must = required || is_some default; key = is_among k keys } ∷ field_slots keys fs
-
--- a name put where it belongs by its bytes, once
-abbrev pub put : Ordering → List ℕ → List ℕ → List (List ℕ) → List (List ℕ) → List (List ℕ)
-put Less k l ls rest = k ∷ l ∷ ls
-put Equal k l ls rest = l ∷ ls
-put Greater k l ls rest = l ∷ rest
-
-abbrev pub with_name : List ℕ → List (List ℕ) → List (List ℕ)
-with_name k [] = k ∷ []
-with_name k (l ∷ ls) = put (text_cmp k l) k l ls (with_name k ls)
-
--- the names in the order of their bytes, each once
-abbrev pub in_order : List (List ℕ) → List (List ℕ)
-in_order [] = []
-in_order (k ∷ ks) = with_name k (in_order ks)
+abbrev pub field_slots : List (List ℕ) → List (List ℕ) → Fields → List Slot
+field_slots keys names no_fields = []
+field_slots keys names (field k N required default fs) =
+    record { name = k; site = plain N; must = required || is_some default; key = is_among k keys; bit = bit_of k names } ∷ field_slots keys names fs
 
 abbrev pub value_slot : Node → List ℕ → Slot
-value_slot N k = record { name = k; site = plain N; must = false; key = false }
+value_slot N k = record { name = k; site = plain N; must = false; key = false; bit = None }
 
 -- the declared names of an object, and the names of the pools at a map
 abbrev pub slots_at : Pools → Node → List (List ℕ) → List Slot
-slots_at P (node nullable description (object fs preserves type bounds)) keys = field_slots keys fs
+slots_at P (node nullable description (object fs preserves type bounds cs)) keys = field_slots keys (named cs) fs
 slots_at P (node nullable description (nodes.map N type bounds)) keys = map (value_slot N) (in_order P.names)
 slots_at P _ keys = []
 

@@ -1,15 +1,16 @@
 -- The sizes of parts, and of what can still follow in an object, a map or a list that was begun: each said by existence (this
 -- project's own). A size is a number of nodes.
-use Rattle.std.specs.Prelude.{◌≡◌, ℕ, zero, suc, ◌+◌, ◌≤◌, ◌↔◌, List, [], ◌∷◌, false, Option, Some, None, drop}
+use Rattle.std.specs.Prelude.{◌≡◌, ℕ, zero, suc, ◌+◌, ◌≤◌, ◌↔◌, List, [], ◌∷◌, true, false, Option, Some, None, drop}
 use Rattle.jtree.specs.Data.{Data, Items, no_items, item}
 use Rattle.jtree.specs.Data as tree
 use Rattle.jtree.specs.Nodes.{node_count, items_count}
-use Rattle.schema.specs.Nodes.Node.{Node, node, object, map, list}
+use Rattle.schema.specs.Nodes.Node.{Node, node, object, map, list, Validations}
 use Rattle.schema.specs.declared.node.Bounds.{Bounds}
 use Rattle.stored.specs.Objects.Fault as fault
 use Rattle.stored.specs.Objects.StoredByParts.{IsWithin}
 use Rattle.plan.specs.Pools.Pools.{Pools}
 use Rattle.plan.specs.Samples.Part.{IsPart}
+use Rattle.plan.specs.Samples.Presence.{with_bit, meets_seen, no_validations}
 use Rattle.plan.specs.Samples.Sites.{Site, Slot, slots}
 
 -- the set A holds exactly the numbers up to the limit for which P holds
@@ -37,22 +38,27 @@ filled_nodes [] = 0
 filled_nodes (None ∷ gs) = filled_nodes gs
 filled_nodes (Some v ∷ gs) = node_count v + filled_nodes gs
 
--- how many slots are filled
-abbrev pub filled_count : List (Option Data) → ℕ
-filled_count [] = 0
-filled_count (None ∷ gs) = filled_count gs
-filled_count (Some v ∷ gs) = 1 + filled_count gs
+-- what stands before a place: how many slots are filled, and which named fields are among them
+pub record Before : Type 0 where
+  pub count : ℕ
+  pub seen : ℕ
 
--- the slots can be filled so that m nodes stand in them, and that with t members more the bounds hold
-pub record CanFill (P : Pools) (ss : List Slot) (b : Bounds) (t m : ℕ) : Type 0 where
-  pub fillings : List (Option Data)
-  pub are : AreFillings P ss fillings
-  pub within : IsWithin b (t + filled_count fillings)
-  pub nodes_are : filled_nodes fillings ≡ m
+abbrev pub nothing : Before
+nothing = record { count = 0; seen = 0 }
+
+-- one slot more is filled
+abbrev pub filled : Option ℕ → Before → Before
+filled bit x = record { count = x.count + 1; seen = with_bit bit x.seen }
+
+-- what stands behind the slots
+abbrev pub state_after : List Slot → List (Option Data) → Before → Before
+state_after (s ∷ ss) (None ∷ gs) x = state_after ss gs x
+state_after (s ∷ ss) (Some v ∷ gs) x = state_after ss gs (filled s.bit x)
+state_after _ _ x = x
 
 -- the bounds on the number of members or items
 abbrev pub bounds_at : Node → Bounds
-bounds_at (node nullable description (object fs preserves type bounds)) = bounds
+bounds_at (node nullable description (object fs preserves type bounds cs)) = bounds
 bounds_at (node nullable description (map N type bounds)) = bounds
 bounds_at (node nullable description (list N type keys bounds)) = bounds
 bounds_at _ = record { least = None; most = None }
@@ -60,9 +66,32 @@ bounds_at _ = record { least = None; most = None }
 abbrev pub bounds_of : Site → Bounds
 bounds_of s = bounds_at s.node
 
--- the slots from a place on can so be filled with m nodes where t slots before it are filled
-abbrev pub HasRest : Pools → Site → ℕ → ℕ → ℕ → Type 0
-HasRest P s place t m = CanFill P (drop place (slots P s)) (bounds_of s) t m
+-- what is asked of a row where it ends: bounds on the number of its members, and its junctors
+pub record Ending : Type 0 where
+  pub bounds : Bounds
+  pub asked : Validations
+
+abbrev pub ending_at : Node → Ending
+ending_at (node nullable description (object fs preserves type bounds cs)) = record { bounds = bounds; asked = cs }
+ending_at N = record { bounds = bounds_at N; asked = no_validations }
+
+abbrev pub ending_of : Site → Ending
+ending_of s = ending_at s.node
+
+-- a row may end behind this
+abbrev pub MayEnd : Ending → Before → Type 0
+MayEnd e x = IsWithin e.bounds x.count × (meets_seen e.asked x.seen ≡ true)
+
+-- the slots can be filled so that m nodes stand in them, and that the row may end behind them where this stands before them
+pub record CanFill (P : Pools) (ss : List Slot) (e : Ending) (x : Before) (m : ℕ) : Type 0 where
+  pub fillings : List (Option Data)
+  pub are : AreFillings P ss fillings
+  pub ends : MayEnd e (state_after ss fillings x)
+  pub nodes_are : filled_nodes fillings ≡ m
+
+-- the slots from a place on can so be filled with m nodes
+abbrev pub HasRest : Pools → Site → ℕ → Before → ℕ → Type 0
+HasRest P s place x m = CanFill P (drop place (slots P s)) (ending_of s) x m
 
 -- ---- lists
 

@@ -4,7 +4,8 @@ use Rattle.jtree.specs.Data.{Data}
 use Rattle.schema.specs.Document.Texts.{is_among}
 use Rattle.schema.specs.Rules.Kinds as kinds
 use Rattle.schema.specs.Rules.Broken.{metadata_keywords}
-use Rattle.schema.specs.Rules.Profile.{junctor_keywords, outside_keywords, unsupported_keywords, is_branch_keyword, is_keyword_of, accepts, is_scalar_value}
+use Rattle.schema.specs.Rules.Profile.{junctor_keywords, outside_keywords, unsupported_keywords, is_keyword_of, accepts, is_scalar_value}
+use Rattle.schema.specs.Rules.Junctors.{is_branch_keyword, is_presence_keyword}
 use Rattle.schema.specs.declared.kinds.Kind.{Kind}
 use Rattle.schema.specs.declared.kinds.Kind.TheVariants as kind
 use Rattle.schema.specs.declared.keywords.Keywords.{Keywords}
@@ -25,6 +26,7 @@ is_asked keywords.Outside k = is_among k outside_keywords
 is_asked keywords.Unsupported k = is_among k unsupported_keywords
 is_asked keywords.BesideMetadata k = not (is_among k metadata_keywords)
 is_asked keywords.BesideBranch k = not (is_branch_keyword k)
+is_asked keywords.BesidePresence k = not (is_presence_keyword k)
 is_asked (keywords.BesideKind kind) k = not (is_keyword_of (kind_view kind) k)
 
 -- the values that are accepted: of a kind, and without one in a branch

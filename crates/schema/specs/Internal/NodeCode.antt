@@ -70,6 +70,9 @@ abbrev pub bounds_coded : Coded Bounds
 bounds_coded = code_by (Option ℕ × Option ℕ) (coded× (coded_option coded_ℕ) (coded_option coded_ℕ))
     (λ b. (b.least, b.most)) (λ p. record { least = p.0; most = p.1 }) (λ _. refl)
 
+abbrev names_coded : Coded (List (List ℕ))
+names_coded = coded_list coded_bytes
+
 abbrev Limits : Type 0
 Limits = Option ℤ × (Option ℤ × (Bool × Bool))
 
@@ -77,9 +80,9 @@ abbrev limits_coded : Coded Limits
 limits_coded = coded× (coded_option coded_ℤ) (coded× (coded_option coded_ℤ) (coded× coded_bool coded_bool))
 
 abbrev pub constraints_coded : Coded Constraints
-constraints_coded = code_by (Option Items × (Limits × Bounds)) (coded× (coded_option items_coded) (coded× limits_coded bounds_coded))
-    (λ t. (t.choices, ((t.minimum, (t.maximum, (t.exclusive_minimum, t.exclusive_maximum))), t.lengths)))
-    (λ p. record { choices = p.0; minimum = p.1.0.0; maximum = p.1.0.1.0; exclusive_minimum = p.1.0.1.1.0; exclusive_maximum = p.1.0.1.1.1; lengths = p.1.1 })
+constraints_coded = code_by (Option Items × (Limits × (Bounds × List (List ℕ)))) (coded× (coded_option items_coded) (coded× limits_coded (coded× bounds_coded names_coded)))
+    (λ t. (t.choices, ((t.minimum, (t.maximum, (t.exclusive_minimum, t.exclusive_maximum))), (t.lengths, t.required))))
+    (λ p. record { choices = p.0; minimum = p.1.0.0; maximum = p.1.0.1.0; exclusive_minimum = p.1.0.1.1.0; exclusive_maximum = p.1.0.1.1.1; lengths = p.1.1.0; required = p.1.1.1 })
     (λ _. refl)
 
 abbrev mutual
@@ -113,18 +116,15 @@ description_coded = coded_option coded_bytes
 abbrev default_coded : Coded (Option Data)
 default_coded = coded_option data_coded
 
-abbrev keys_coded : Coded (List (List ℕ))
-keys_coded = coded_list coded_bytes
-
 abbrev mutual
   pub node_code : Node → Gv
   node_code (node nullable description sort) = gcons (coded_bool.code nullable) (gcons (description_coded.code description) (sort_code sort))
 
   pub sort_code : Sort → Gv
   sort_code (scalar kind cs) = gcons (gnum 0) (gcons (kind_coded.code kind) (validations_code cs))
-  sort_code (object fs preserves type bounds) = gcons (gnum 1) (gcons (fields_code fs) (gcons (coded_bool.code preserves) (gcons (map_type_coded.code type) (bounds_coded.code bounds))))
+  sort_code (object fs preserves type bounds cs) = gcons (gnum 1) (gcons (fields_code fs) (gcons (coded_bool.code preserves) (gcons (map_type_coded.code type) (gcons (bounds_coded.code bounds) (validations_code cs)))))
   sort_code (map N type bounds) = gcons (gnum 2) (gcons (node_code N) (gcons (map_type_coded.code type) (bounds_coded.code bounds)))
-  sort_code (list N type keys bounds) = gcons (gnum 3) (gcons (node_code N) (gcons (list_type_coded.code type) (gcons (keys_coded.code keys) (bounds_coded.code bounds))))
+  sort_code (list N type keys bounds) = gcons (gnum 3) (gcons (node_code N) (gcons (list_type_coded.code type) (gcons (names_coded.code keys) (bounds_coded.code bounds))))
   sort_code open_ = gcons (gnum 4) gnil
 
   pub fields_code : Fields → Gv
@@ -139,15 +139,15 @@ mutual
 
   pub sort_inj : (x y : Sort) → sort_code x ≡ sort_code y → x ≡ y
   sort_inj (scalar k c) (scalar l d) p = λ i. scalar (kind_coded.inj k l (ap (λ v. head (tail v)) p) i) (validations_inj c d (ap (λ v. tail (tail v)) p) i)
-  sort_inj (object f k t b) (object g l u c) p = λ i.
+  sort_inj (object f k t b v) (object g l u c w) p = λ i.
       object (fields_inj f g (ap (λ v. head (tail v)) p) i) (coded_bool.inj k l (ap (λ v. head (tail (tail v))) p) i)
-      (map_type_coded.inj t u (ap (λ v. head (tail (tail (tail v)))) p) i) (bounds_coded.inj b c (ap (λ v. tail (tail (tail (tail v)))) p) i)
+      (map_type_coded.inj t u (ap (λ v. head (tail (tail (tail v)))) p) i) (bounds_coded.inj b c (ap (λ u. head (tail (tail (tail (tail u))))) p) i) (validations_inj v w (ap (λ u. tail (tail (tail (tail (tail u))))) p) i)
   sort_inj (map M t b) (map N u c) p = λ i.
       map (node_inj M N (ap (λ v. head (tail v)) p) i) (map_type_coded.inj t u (ap (λ v. head (tail (tail v))) p) i)
       (bounds_coded.inj b c (ap (λ v. tail (tail (tail v))) p) i)
   sort_inj (list M t k b) (list N u l c) p = λ i.
       list (node_inj M N (ap (λ v. head (tail v)) p) i) (list_type_coded.inj t u (ap (λ v. head (tail (tail v))) p) i)
-      (keys_coded.inj k l (ap (λ v. head (tail (tail (tail v)))) p) i) (bounds_coded.inj b c (ap (λ v. tail (tail (tail (tail v)))) p) i)
+      (names_coded.inj k l (ap (λ v. head (tail (tail (tail v)))) p) i) (bounds_coded.inj b c (ap (λ v. tail (tail (tail (tail v)))) p) i)
   sort_inj open_ open_ p = refl
   sort_inj x y p = cc
 

@@ -24,7 +24,7 @@ abbrev mutual
   IsNodeOf root (node nullable description sort) s = IsNodeHere (node nullable description sort) s × AreBelow root sort s
 
   pub AreBelow : Bool → Sort → Data → Type 0
-  AreBelow root (object fs preserves type bounds) s = AreFieldsOf fs (texts_under s (codes "required")) (declared_of root (members_under s (codes "properties")))
+  AreBelow root (object fs preserves type bounds cs) s = AreFieldsOf fs (texts_under s (codes "required")) (declared_of root (members_under s (codes "properties")))
   AreBelow root (map N type bounds) s = (d : Data) × (under s (codes "additionalProperties") ≡ Some d) × IsNodeOf false N d
   AreBelow root (list N type keys bounds) s = (d : Data) × (under s (codes "items") ≡ Some d) × IsNodeOf false N d
   AreBelow root _ s = Unit {0}

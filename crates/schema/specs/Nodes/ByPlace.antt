@@ -9,7 +9,7 @@ use Rattle.schema.specs.Document.Places.{Step, Place, property, map_value, items
 use Rattle.schema.specs.Rules.Kinds as kinds
 use Rattle.schema.specs.Rules.Kinds.{Kind, IsOfKind}
 use Rattle.schema.specs.Rules.Keywords.{flag, text_under, count_under, texts_under}
-use Rattle.schema.specs.Nodes.Validations.{AreValidationsOf}
+use Rattle.schema.specs.Nodes.Validations.{AreValidationsOf, AreObjectJunctorsOf}
 use Rattle.schema.specs.Nodes.Node.{Node, node, Sort, scalar, object, map, list, open_, Fields, no_fields, field, IsNode}
 use Rattle.schema.specs.declared.node.Bounds.{Bounds}
 use Rattle.schema.specs.declared.node.ListType.{ListType}
@@ -22,7 +22,7 @@ use Rattle.schema.specs.declared.node.MapType.TheVariants as map_type
 -- the kind of the schemas that have a node of this sort
 abbrev pub sort_kind : Sort → Kind
 sort_kind (scalar kind cs) = kinds.scalar kind
-sort_kind (object fs preserves type bounds) = kinds.object
+sort_kind (object fs preserves type bounds cs) = kinds.object
 sort_kind (map N type bounds) = kinds.map
 sort_kind (list N type keys bounds) = kinds.list
 sort_kind open_ = kinds.open_
@@ -44,9 +44,9 @@ AreBoundsOf b s least most = (b.least ≡ count_under s least) × (b.most ≡ co
 -- what is asked of the value itself is what the keywords of the schema say (JSONSchemaProps)
 abbrev pub HasKeywords : Sort → Data → Type 0
 HasKeywords (scalar kind cs) s = AreValidationsOf cs s
-HasKeywords (object fs preserves type bounds) s =
+HasKeywords (object fs preserves type bounds cs) s =
     (preserves ≡ flag s (codes "x-kubernetes-preserve-unknown-fields")) × (type ≡ map_type_named (text_under s (codes "x-kubernetes-map-type")))
-    × AreBoundsOf bounds s (codes "minProperties") (codes "maxProperties")
+    × AreBoundsOf bounds s (codes "minProperties") (codes "maxProperties") × AreObjectJunctorsOf cs s
 HasKeywords (map N type bounds) s =
     (type ≡ map_type_named (text_under s (codes "x-kubernetes-map-type"))) × AreBoundsOf bounds s (codes "minProperties") (codes "maxProperties")
 HasKeywords (list N type keys bounds) s =
@@ -75,7 +75,7 @@ field_at k (field l N required default fs) = if bytes_eq k l then Some (record {
 -- where a step leads in a tree of nodes: from an object to the node of a field, from a map to that of its values, and from a
 -- list to that of its items (this project's own)
 abbrev pub node_below : Node → Step → Option Node
-node_below (node nullable description (object fs preserves type bounds)) (property k) = option_map (λ f. f.node) (field_at k fs)
+node_below (node nullable description (object fs preserves type bounds cs)) (property k) = option_map (λ f. f.node) (field_at k fs)
 node_below (node nullable description (map N type bounds)) map_value = Some N
 node_below (node nullable description (list N type keys bounds)) items = Some N
 node_below _ _ = None
@@ -88,7 +88,7 @@ node_at N (step ∷ p) = option_and_then (λ M. node_at M p) (node_below N step)
 -- a field is required where the schema of the object says so, and has the default of the schema of its own place
 -- (OpenAPI 3.0, `required` and `default`)
 abbrev pub AreFieldsHere : Node → Data → Type 0
-AreFieldsHere (node nullable description (object fs preserves type bounds)) s =
+AreFieldsHere (node nullable description (object fs preserves type bounds cs)) s =
     (k : List ℕ) (f : Declared) → field_at k fs ≡ Some f
     → (f.required ≡ is_among k (texts_under s (codes "required"))) × (f.default ≡ option_and_then (λ d. under d (codes "default")) (schema_by s (property k)))
 AreFieldsHere _ s = Unit {0}

@@ -23,7 +23,7 @@ AreKeys fs (k ∷ ks) = IsKey fs k × (is_among k ks ≡ false) × AreKeys fs ks
 
 -- an object that takes no null and has these keys, at least one
 abbrev pub HasKeys : Node → List (List ℕ) → Type 0
-HasKeys (node nullable description (object fs preserves type bounds)) keys = (nullable ≡ false) × (keys ≢ []) × AreKeys fs keys
+HasKeys (node nullable description (object fs preserves type bounds cs)) keys = (nullable ≡ false) × (keys ≢ []) × AreKeys fs keys
 HasKeys _ keys = ⊥
 
 -- the items can be told apart: in a set they are plain scalars, in a map list objects with its keys; of an atomic list nothing

@@ -10,7 +10,7 @@ use Rattle.schema.specs.declared.node.ScalarKind.{ScalarKind}
 use Rattle.schema.specs.declared.node.ListType.{ListType}
 use Rattle.schema.specs.declared.node.MapType.{MapType}
 
--- what is asked of a scalar: its constraints, and the branches of `allOf`, `anyOf`, `oneOf` and `not`
+-- what is asked of a scalar, or of an object: constraints, and the branches of `allOf`, `anyOf`, `oneOf` and `not`
 mutual
   pub data Validations : Type 0 where
     validations : Constraints → Branches → Branches → Branches → Branches → Validations
@@ -26,8 +26,8 @@ mutual
 
   pub data Sort : Type 0 where
     scalar : ScalarKind → Validations → Sort
-    -- the fields, and whether others are kept
-    object : Fields → Bool → MapType → Bounds → Sort
+    -- the fields, whether others are kept, and the junctors
+    object : Fields → Bool → MapType → Bounds → Validations → Sort
     -- the node of each value
     map : Node → MapType → Bounds → Sort
     -- the node of each item, and the keys of a map list
@@ -51,7 +51,7 @@ abbrev mutual
 
   pub IsSort : Sort → Type 0
   IsSort (scalar kind cs) = Unit {0}
-  IsSort (object fs preserves type bounds) = AreOrdered fs
+  IsSort (object fs preserves type bounds cs) = AreOrdered fs
   IsSort (map N type bounds) = IsNode N
   IsSort (list N type keys bounds) = IsNode N
   IsSort open_ = Unit {0}
@@ -77,7 +77,7 @@ abbrev mutual
 
   pub sort_depth : Sort → ℕ
   sort_depth (scalar kind cs) = 0
-  sort_depth (object fs preserves type bounds) = suc (fields_depth fs)
+  sort_depth (object fs preserves type bounds cs) = suc (fields_depth fs)
   sort_depth (map N type bounds) = suc (node_depth N)
   sort_depth (list N type keys bounds) = suc (node_depth N)
   sort_depth open_ = 0

@@ -1,9 +1,8 @@
--- What is asked of a scalar at a place, outside or in a branch of a junctor: its keywords, as they stand there (OpenAPI 3.0,
--- Schema Object).
-use Rattle.std.specs.Prelude.{◌≡◌, Option, Some, None, codes}
+-- What is asked at a place, outside or in a branch of a junctor: its keywords, as they stand there (OpenAPI 3.0, Schema Object).
+use Rattle.std.specs.Prelude.{◌≡◌, ℕ, List, [], false, Option, Some, None, codes}
 use Rattle.jtree.specs.Data.{Data, Items, no_items, item}
 use Rattle.jtree.specs.Path.{under}
-use Rattle.schema.specs.Rules.Keywords.{flag, integer_under, count_under, list_under, items_under}
+use Rattle.schema.specs.Rules.Keywords.{flag, integer_under, count_under, list_under, items_under, texts_under}
 use Rattle.schema.specs.Nodes.Node.{Validations, validations, Branches, no_branches, branch}
 use Rattle.schema.specs.declared.node.Constraints.{Constraints}
 
@@ -16,6 +15,7 @@ pub record AreConstraintsOf (t : Constraints) (s : Data) : Type 0 where
   pub exclusive_maximum : t.exclusive_maximum ≡ flag s (codes "exclusiveMaximum")
   pub least_length : t.lengths.least ≡ count_under s (codes "minLength")
   pub most_length : t.lengths.most ≡ count_under s (codes "maxLength")
+  pub required : t.required ≡ texts_under s (codes "required")
 
 -- the branch of `not`, where it is there
 abbrev pub one_item : Option Data → Items
@@ -33,3 +33,15 @@ abbrev mutual
   AreBranchesOf no_branches no_items = Unit {0}
   AreBranchesOf (branch c cs) (item d ds) = AreValidationsOf c d × AreBranchesOf cs ds
   AreBranchesOf _ _ = ⊥
+
+-- nothing is asked but members of these names
+abbrev pub presence : List (List ℕ) → Constraints
+presence names =
+    record { choices = None; minimum = None; maximum = None; exclusive_minimum = false; exclusive_maximum = false; lengths = record { least = None; most = None }; required = names }
+
+-- The junctors of an object, as they stand at its place, beside which they ask nothing: what its own `required` names is said of
+-- each field.
+abbrev pub AreObjectJunctorsOf : Validations → Data → Type 0
+AreObjectJunctorsOf (validations constraints all any one negated) s =
+    (constraints ≡ presence []) × AreBranchesOf all (items_under s (codes "allOf")) × AreBranchesOf any (items_under s (codes "anyOf"))
+    × AreBranchesOf one (items_under s (codes "oneOf")) × AreBranchesOf negated (one_item (under s (codes "not")))

@@ -23,7 +23,7 @@ abbrev pub scalar_of : ScalarNode → Sort
 scalar_of n = scalar n.kind (validations_of n.validations)
 
 abbrev pub object_of : ObjectNode → Sort
-object_of n = object n.fields n.preserves n.map_type n.bounds
+object_of n = object n.fields n.preserves n.map_type n.bounds (validations_of n.junctors)
 
 abbrev pub map_of : MapNode → Sort
 map_of n = map n.value n.map_type n.bounds

@@ -1,8 +1,7 @@
--- The rules that are this project's own: where a default may stand, what the branches of a junctor may say, and which
--- keywords a place of each kind may have. Keywords without effect are among them.
-use Rattle.std.specs.Prelude.{ℕ, List, [], ◌∷◌, Bool, true, false, Option, Some, None, if◌then◌else◌, not, ◌&&◌, ◌||◌, codes}
+-- The rules that are this project's own: where a default may stand, and which keywords a place of each kind may have.
+-- Keywords without effect are among them.
+use Rattle.std.specs.Prelude.{ℕ, List, [], ◌∷◌, Bool, true, false, Option, Some, None, not, ◌&&◌, ◌||◌, codes}
 use Rattle.std.specs.Option.{is_some}
-use Rattle.std.specs.Str.{bytes_eq}
 use Rattle.jtree.specs.Data.{Data, text, list, Members}
 use Rattle.jtree.specs.Kind.{is_boolean, is_integer, is_text}
 use Rattle.jtree.specs.Path.{under, member_at}
@@ -94,24 +93,6 @@ accepts IntOrString d = is_integer d || is_text d
 abbrev pub has_bad_choices : Option Kind → Data → Bool
 has_bad_choices (Some (scalar k)) s = are_bad_choices (accepts k) (under s (codes "enum"))
 has_bad_choices _ s = false
-
--- ---- junctors
-
-abbrev pub has_junctor : Data → Bool
-has_junctor s = has_keyword (λ k. is_among k junctor_keywords) s
-
--- the keywords of a branch, with those of which other rules speak
-abbrev pub is_branch_keyword : List ℕ → Bool
-is_branch_keyword k = (is_among k keywords_of_scalars || is_among k junctor_keywords)
-    || (bytes_eq k (codes "type") || (is_among k outside_keywords || is_among k unsupported_keywords))
-
--- a branch has another keyword, or lists what is no scalar
-abbrev pub is_bad_branch : Data → Bool
-is_bad_branch s = has_keyword (λ k. not (is_branch_keyword k)) s || are_bad_choices is_scalar_value (under s (codes "enum"))
-
--- outside, a junctor stands at a place that is no scalar
-abbrev pub has_bad_junctor : Bool → Data → Bool
-has_bad_junctor inside s = if inside then is_bad_branch s else has_junctor s && not (is_scalar_kind (kind_of s))
 
 -- ---- the profile
 

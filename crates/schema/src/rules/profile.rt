@@ -1,4 +1,4 @@
-// What a place of each kind, and a branch of a junctor, may have.
+// What a place of each kind may have.
 ghost use Rattle.std.specs.Prelude.{◌≡◌, not, codes};
 ghost use Rattle.std.specs.Option.{is_some};
 ghost use Rattle.jtree.specs.Data.{object};
@@ -7,7 +7,7 @@ ghost use Rattle.jtree.specs.View.{data_of, items_of};
 ghost use Rattle.schema.specs.Internal.KindView.{is_accepted};
 ghost use Rattle.schema.specs.Rules.Keywords.{members_under, any_item};
 ghost use Rattle.schema.specs.Rules.Kinds.{kind_of as kind_of_schema};
-ghost use Rattle.schema.specs.Rules.Profile.{is_bad_branch as is_bad_branch_of, is_outside_profile as is_outside_profile_of, is_bad_root as is_bad_root_of, is_bad_preserving as is_bad_preserving_of, has_foreign_keyword as has_foreign_keyword_of, lacks_items as lacks_items_of, requires_undeclared as requires_undeclared_of, is_undeclared as is_undeclared_of, has_bad_choices as has_bad_choices_of, are_bad_choices as are_bad_choices_of};
+ghost use Rattle.schema.specs.Rules.Profile.{is_outside_profile as is_outside_profile_of, is_bad_root as is_bad_root_of, is_bad_preserving as is_bad_preserving_of, has_foreign_keyword as has_foreign_keyword_of, lacks_items as lacks_items_of, requires_undeclared as requires_undeclared_of, is_undeclared as is_undeclared_of, has_bad_choices as has_bad_choices_of, are_bad_choices as are_bad_choices_of};
 
 use crate::keywords::{
     Keywords, has, has_keyword, has_other_text, has_true, is_empty, object_under,
@@ -16,13 +16,6 @@ use crate::kinds::{Kind, is_list, is_object, is_open, kind_of_members, lacks_typ
 use crate::node::ScalarKind;
 use crate::places::is_envelope_name;
 use jtree::{Members, Tree};
-
-/// Whether a branch has another keyword or another value of `enum` than it may have.
-pub(crate) fn is_bad_branch(schema: &Members) -> bool
-    ensures { result ≡ is_bad_branch_of (object schema.now) }
-{
-    has_keyword(schema, Keywords::BesideBranch) || are_bad_choices(schema, None)
-}
 
 /// V17: a place that is in no branch is outside the profile.
 pub(crate) fn is_outside_profile(root: bool, schema: &Members) -> bool
@@ -110,7 +103,7 @@ fn is_undeclared(root: bool, schema: &Members, name: &Tree) -> bool
 }
 
 /// Whether a schema has a property of this name.
-fn declares(schema: &Members, name: &str) -> bool
+pub(crate) fn declares(schema: &Members, name: &str) -> bool
     ensures { result ≡ is_some (member_at name.now (members_under (object schema.now) (codes "properties"))) }
 {
     match schema.get("properties") {
@@ -130,7 +123,7 @@ fn has_bad_choices(schema: &Members) -> bool
 }
 
 /// Whether `enum` is empty, or lists a value that is not accepted: of the kind, and without one any scalar.
-fn are_bad_choices(schema: &Members, kind: Option<ScalarKind>) -> bool
+pub(crate) fn are_bad_choices(schema: &Members, kind: Option<ScalarKind>) -> bool
     ensures { result ≡ are_bad_choices_of (is_accepted kind) (under (object schema.now) (codes "enum")) }
 {
     match schema.get("enum") {

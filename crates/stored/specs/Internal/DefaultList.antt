@@ -29,7 +29,7 @@ abbrev mutual
   defaults_of (node nullable description sort) = defaults_in_sort sort
 
   pub defaults_in_sort : Sort → List Default
-  defaults_in_sort (object fs preserves type bounds) = defaults_in_fields fs
+  defaults_in_sort (object fs preserves type bounds cs) = defaults_in_fields fs
   defaults_in_sort (map N type bounds) = prelude.map (behind map_value) (defaults_of N)
   defaults_in_sort (list N type keys bounds) = prelude.map (behind items) (defaults_of N)
   defaults_in_sort _ = []

@@ -75,7 +75,7 @@ whole repeated N v bs = own repeated N v ++ joined bs
 
 abbrev mutual
   pub parts : Node → Data → List Below
-  parts (node nullable description (object fs preserves type bounds)) (tree.object ms) = field_parts fs ms
+  parts (node nullable description (object fs preserves type bounds cs)) (tree.object ms) = field_parts fs ms
   parts (node nullable description (map_of N type bounds)) (tree.object ms) = value_parts (λ d. whole false N d (parts N d)) ms
   parts (node nullable description (list N type keys bounds)) (tree.list ds) =
       item_parts (λ i d. whole (has_alike_before (are_alike type keys) i ds (item_at i ds)) N d (parts N d)) 0 ds

@@ -27,7 +27,7 @@ all_items test (item d ds) = test d && all_items test ds
 
 abbrev mutual
   pub is_filled : Node → Data → Bool
-  is_filled (node nullable description (object fs preserves type bounds)) (tree.object ms) = are_fields_filled fs ms
+  is_filled (node nullable description (object fs preserves type bounds cs)) (tree.object ms) = are_fields_filled fs ms
   is_filled (node nullable description (map N type bounds)) (tree.object ms) = all_values (λ v. stays (is_nullable N) None (λ w. is_filled N w) (Some v)) ms
   is_filled (node nullable description (list N type keys bounds)) (tree.list ds) = all_items (λ v. is_filled N v) ds
   is_filled _ _ = true

@@ -38,7 +38,7 @@ whole N v parts = if is_divided N v then parts else here ∷ []
 -- of the parts of a value, whether it is divided or not
 abbrev mutual
   pub leaves_below : Node → Data → List LeafAt
-  leaves_below (node nullable description (object fs preserves type bounds)) (tree.object ms) = of_members (field_node fs) ms
+  leaves_below (node nullable description (object fs preserves type bounds cs)) (tree.object ms) = of_members (field_node fs) ms
   leaves_below (node nullable description (map_of N type bounds)) (tree.object ms) = of_members (λ k. Some N) ms
   leaves_below (node nullable description (list N type keys bounds)) (tree.list ds) = of_items N (item_element type keys) 0 ds
   leaves_below _ _ = []

@@ -23,7 +23,7 @@ by_node (Some N) f d = f N
 
 abbrev mutual
   pub pruned : Node → Data → Data
-  pruned (node nullable description (object fs preserves type bounds)) (tree.object ms) =
+  pruned (node nullable description (object fs preserves type bounds cs)) (tree.object ms) =
       tree.object (if preserves then pruned_members (field_node fs) ms else declared fs (pruned_members (field_node fs) ms))
   pruned (node nullable description (map N type bounds)) (tree.object ms) = tree.object (pruned_members (λ k. Some N) ms)
   pruned (node nullable description (list N type keys bounds)) (tree.list ds) = tree.list (pruned_items N ds)
@@ -41,7 +41,7 @@ abbrev mutual
 -- nothing is cut
 abbrev mutual
   pub is_pruned : Node → Data → Bool
-  is_pruned (node nullable description (object fs preserves type bounds)) (tree.object ms) = are_pruned (field_node fs) preserves ms
+  is_pruned (node nullable description (object fs preserves type bounds cs)) (tree.object ms) = are_pruned (field_node fs) preserves ms
   is_pruned (node nullable description (map N type bounds)) (tree.object ms) = are_pruned (λ k. Some N) true ms
   is_pruned (node nullable description (list N type keys bounds)) (tree.list ds) = are_items_pruned N ds
   is_pruned _ v = true

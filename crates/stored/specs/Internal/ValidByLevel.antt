@@ -6,7 +6,7 @@ use Rattle.jtree.specs.Path.{member_at}
 use Rattle.schema.specs.Nodes.Node.{Node, node, scalar, object, map, list, open_, Fields, no_fields, field}
 use Rattle.schema.specs.Nodes.ByPlace.{field_at}
 use Rattle.schema.specs.declared.node.Bounds.{Bounds}
-use Rattle.stored.specs.Objects.Tests.{accepts_scalar, is_below, is_above, holds}
+use Rattle.stored.specs.Objects.Tests.{accepts_scalar, is_below, is_above, holds, meets_junctors}
 use Rattle.stored.specs.Objects.Fault.{items_count, members_count, are_alike}
 use Rattle.stored.specs.Objects.StoredByParts.{are_apart}
 
@@ -26,8 +26,8 @@ abbrev mutual
   pub is_valid : Node → Data → Bool
   is_valid (node nullable description sort) tree.null = nullable
   is_valid (node nullable description (scalar kind cs)) v = accepts_scalar kind v && holds cs v
-  is_valid (node nullable description (object fs preserves type bounds)) (tree.object ms) =
-      is_within bounds (members_count ms) && (has_required fs ms && are_fields_valid fs ms)
+  is_valid (node nullable description (object fs preserves type bounds cs)) (tree.object ms) =
+      is_within bounds (members_count ms) && (meets_junctors cs (tree.object ms) && (has_required fs ms && are_fields_valid fs ms))
   is_valid (node nullable description (map N type bounds)) (tree.object ms) = is_within bounds (members_count ms) && are_values_valid N ms
   is_valid (node nullable description (list N type keys bounds)) (tree.list ds) =
       is_within bounds (items_count ds) && (are_apart (are_alike type keys) ds && are_items_valid N ds)

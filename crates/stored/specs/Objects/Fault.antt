@@ -49,7 +49,7 @@ is_null _ = false
 -- besides null
 abbrev pub accepts : Sort → Data → Bool
 accepts (scalar kind cs) v = accepts_scalar kind v
-accepts (object fs preserves type bounds) v = is_object v
+accepts (object fs preserves type bounds cs) v = is_object v
 accepts (map N type bounds) v = is_object v
 accepts (list N type keys bounds) v = is_list v
 accepts open_ v = true
@@ -80,7 +80,7 @@ fails_items test _ _ = false
 
 -- of the number of members, those that are not declared among them
 abbrev pub fails_members : (Bounds → ℕ → Bool) → Node → Data → Bool
-fails_members test (node nullable description (object fs preserves type bounds)) (tree.object ms) = test bounds (members_count ms)
+fails_members test (node nullable description (object fs preserves type bounds cs)) (tree.object ms) = test bounds (members_count ms)
 fails_members test (node nullable description (map N type bounds)) (tree.object ms) = test bounds (members_count ms)
 fails_members test _ _ = false
 
@@ -103,6 +103,7 @@ fails F08 N v = fails_items are_few N v
 fails F09 N v = fails_items are_many N v
 fails F10 N v = fails_members are_few N v
 fails F11 N v = fails_members are_many N v
+fails F14 (node nullable description (object fs preserves type bounds cs)) (tree.object ms) = not (meets_junctors cs (tree.object ms))
 fails F14 N v = fails_scalar (λ cs w. not (meets_junctors cs w)) N v
 fails _ N v = false
 

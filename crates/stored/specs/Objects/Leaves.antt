@@ -21,7 +21,7 @@ use Rattle.stored.specs.declared.leaf.Leaf.{Leaf}
 -- the leaves of the value are those of its parts: so it is with objects and maps that are granular, with sets and with map lists,
 -- where they are not empty
 abbrev pub is_divided : Node → Data → Bool
-is_divided (node nullable description (object fs preserves map_type.Granular bounds)) (tree.object (member k d ms)) = true
+is_divided (node nullable description (object fs preserves map_type.Granular bounds cs)) (tree.object (member k d ms)) = true
 is_divided (node nullable description (map_of N map_type.Granular bounds)) (tree.object (member k d ms)) = true
 is_divided (node nullable description (list N list_type.Set keys bounds)) (tree.list (item d ds)) = true
 is_divided (node nullable description (list N list_type.Map keys bounds)) (tree.list (item d ds)) = true

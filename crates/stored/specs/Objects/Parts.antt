@@ -19,7 +19,7 @@ pub data Pair : Type 0 where
   whole : Pair
 
 abbrev pub pair : Node → Data → Pair
-pair (node nullable description (object fs preserves type bounds)) (tree.object ms) = fields fs preserves ms
+pair (node nullable description (object fs preserves type bounds cs)) (tree.object ms) = fields fs preserves ms
 pair (node nullable description (map N type bounds)) (tree.object ms) = values N ms
 pair (node nullable description (list N type keys bounds)) (tree.list ds) = items N ds
 pair _ _ = whole

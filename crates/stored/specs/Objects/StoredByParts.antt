@@ -9,7 +9,7 @@ use Rattle.schema.specs.Nodes.Node.{Node, node, scalar, object, map, list, open_
 use Rattle.schema.specs.Nodes.ByPlace.{Declared, field_at}
 use Rattle.schema.specs.declared.node.Bounds.{Bounds}
 use Rattle.stored.specs.Objects.Parts.{Pair, fields, values, items, whole, pair}
-use Rattle.stored.specs.Objects.Tests.{accepts_scalar, is_below, is_above, holds}
+use Rattle.stored.specs.Objects.Tests.{accepts_scalar, is_below, is_above, holds, meets_junctors}
 use Rattle.stored.specs.Objects.Fault.{items_count, members_count, are_alike}
 use Rattle.stored.specs.Objects.Becomes.{IsStored}
 
@@ -26,7 +26,7 @@ are_apart alike (item d ds) = not (any_item (alike d) ds) && are_apart alike ds
 abbrev pub IsValidHere : Node → Data → Type 0
 IsValidHere (node nullable description sort) tree.null = nullable ≡ true
 IsValidHere (node nullable description (scalar kind cs)) v = (accepts_scalar kind v ≡ true) × (holds cs v ≡ true)
-IsValidHere (node nullable description (object fs preserves type bounds)) (tree.object ms) = IsWithin bounds (members_count ms)
+IsValidHere (node nullable description (object fs preserves type bounds cs)) (tree.object ms) = IsWithin bounds (members_count ms) × (meets_junctors cs (tree.object ms) ≡ true)
 IsValidHere (node nullable description (map N type bounds)) (tree.object ms) = IsWithin bounds (members_count ms)
 IsValidHere (node nullable description (list N type keys bounds)) (tree.list ds) = IsWithin bounds (items_count ds) × (are_apart (are_alike type keys) ds ≡ true)
 IsValidHere (node nullable description open_) v = Unit {0}

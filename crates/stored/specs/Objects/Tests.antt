@@ -1,11 +1,13 @@
--- What is asked of a scalar (OpenAPI 3.0, Schema Object). Bounds say nothing of texts and truth values, and lengths nothing of
+-- What is asked of a value: of a scalar, and of an object by its junctors (OpenAPI 3.0, Schema Object). Bounds say nothing of texts and truth values, and lengths nothing of
 -- integers and truth values. An exclusive flag without its bound says nothing.
-use Rattle.std.specs.Prelude.{ℕ, ℤ, length, Bool, true, false, Option, Some, None, if◌then◌else◌, not, ◌&&◌, ◌||◌, ◌+◌, nat_lt, nat_eq, int_lt, int_le, chars}
+use Rattle.std.specs.Prelude.{ℕ, ℤ, List, [], ◌∷◌, length, Bool, true, false, Option, Some, None, if◌then◌else◌, not, ◌&&◌, ◌||◌, ◌+◌, nat_lt, nat_eq, int_lt, int_le, chars}
+use Rattle.std.specs.Option.{is_some}
 use Rattle.std.specs.Ordering.{is_eq}
-use Rattle.jtree.specs.Data.{Data, Items, no_items, item}
+use Rattle.jtree.specs.Data.{Data, Items, no_items, item, Members}
 use Rattle.jtree.specs.Data as tree
 use Rattle.jtree.specs.Kind.{is_boolean, is_integer, is_text}
 use Rattle.jtree.specs.Order.{tree_cmp}
+use Rattle.jtree.specs.Path.{member_at}
 use Rattle.schema.specs.Nodes.Node.{Validations, validations, Branches, no_branches, branch}
 use Rattle.schema.specs.declared.node.Constraints.{Constraints}
 use Rattle.schema.specs.declared.node.ScalarKind.{ScalarKind}
@@ -58,11 +60,29 @@ abbrev pub is_too_long : Option ℕ → Data → Bool
 is_too_long most (tree.text s) = is_above most (length (chars s))
 is_too_long _ _ = false
 
--- none of the five fails
+-- a scalar fails none of the five
 abbrev pub meets_constraints : Constraints → Data → Bool
 meets_constraints t v =
     not (is_other_value t.choices v) && (not (is_below_minimum t.minimum t.exclusive_minimum v) && (not (is_above_maximum t.maximum t.exclusive_maximum v)
     && (not (is_too_short t.lengths.least v) && not (is_too_long t.lengths.most v))))
+
+-- ---- `required`
+
+-- there are members of all the names
+abbrev pub has_all : List (List ℕ) → (List ℕ → Bool) → Bool
+has_all [] has = true
+has_all (k ∷ ks) has = has k && has_all ks has
+
+abbrev pub has_member : Members → List ℕ → Bool
+has_member ms k = is_some (member_at k ms)
+
+abbrev pub has_names : (List ℕ → Bool) → Constraints → Bool
+has_names has t = has_all t.required has
+
+-- what a branch asks itself: of an object that it has the names, of any other value what is asked of a scalar
+abbrev pub meets_branch : Data → Constraints → Bool
+meets_branch (tree.object ms) = has_names (has_member ms)
+meets_branch v = λ t. meets_constraints t v
 
 -- ---- junctors
 
@@ -70,27 +90,38 @@ abbrev pub is_absent : Branches → Bool
 is_absent no_branches = true
 is_absent _ = false
 
--- A branch holds where its constraints and its own junctors do.
+-- A branch holds where its constraints pass the test and its own junctors hold.
 abbrev mutual
-  pub holds : Validations → Data → Bool
-  holds (validations t all any one negated) v =
-      meets_constraints t v && (all_hold all v && ((is_absent any || any_holds any v) && ((is_absent one || nat_eq (holding one v) 1) && not (any_holds negated v))))
+  pub holds_by : (Constraints → Bool) → Validations → Bool
+  holds_by test (validations t all any one negated) =
+      test t && (all_hold test all && ((is_absent any || any_holds test any) && ((is_absent one || nat_eq (holding test one) 1) && not (any_holds test negated))))
 
-  pub all_hold : Branches → Data → Bool
-  all_hold no_branches v = true
-  all_hold (branch c cs) v = holds c v && all_hold cs v
+  pub all_hold : (Constraints → Bool) → Branches → Bool
+  all_hold test no_branches = true
+  all_hold test (branch c cs) = holds_by test c && all_hold test cs
 
-  pub any_holds : Branches → Data → Bool
-  any_holds no_branches v = false
-  any_holds (branch c cs) v = holds c v || any_holds cs v
+  pub any_holds : (Constraints → Bool) → Branches → Bool
+  any_holds test no_branches = false
+  any_holds test (branch c cs) = holds_by test c || any_holds test cs
 
   -- how many branches hold
-  pub holding : Branches → Data → ℕ
-  holding no_branches v = 0
-  holding (branch c cs) v = (if holds c v then 1 else 0) + holding cs v
+  pub holding : (Constraints → Bool) → Branches → ℕ
+  holding test no_branches = 0
+  holding test (branch c cs) = (if holds_by test c then 1 else 0) + holding test cs
 
 -- `allOf` asks for all branches, `anyOf` for one at least, `oneOf` for exactly one, and `not` that its branch does not hold. A
 -- junctor that is absent has no branches, and asks nothing.
+abbrev pub meets_junctors_by : (Constraints → Bool) → Validations → Bool
+meets_junctors_by test (validations t all any one negated) =
+    all_hold test all && ((is_absent any || any_holds test any) && ((is_absent one || nat_eq (holding test one) 1) && not (any_holds test negated)))
+
+-- of a value
+abbrev pub holds : Validations → Data → Bool
+holds cs v = holds_by (meets_branch v) cs
+
 abbrev pub meets_junctors : Validations → Data → Bool
-meets_junctors (validations t all any one negated) v =
-    all_hold all v && ((is_absent any || any_holds any v) && ((is_absent one || nat_eq (holding one v) 1) && not (any_holds negated v)))
+meets_junctors cs v = meets_junctors_by (meets_branch v) cs
+
+-- of an object, by the names that it has
+abbrev pub meets_presence : Validations → (List ℕ → Bool) → Bool
+meets_presence cs has = meets_junctors_by (has_names has) cs

@@ -17,7 +17,7 @@ pub record IsGoodDefault (N : Node) (d : Data) : Type 0 where
 
 -- a declared field of an object node
 abbrev pub field_of : Node → List ℕ → Option Declared
-field_of (node nullable description (object fs preserves type bounds)) k = field_at k fs
+field_of (node nullable description (object fs preserves type bounds cs)) k = field_at k fs
 field_of _ k = None
 
 -- in a tree of nodes, the field at this place has this node and this default

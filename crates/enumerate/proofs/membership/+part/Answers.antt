@@ -6,10 +6,11 @@ use Rattle.jtree.specs.Nodes.{node_count, items_count, members_count}
 use Rattle.jtree.specs.View.{data_of, items_of, members_of}
 use Rattle.plan.specs.Samples.Part.{IsPart}
 use Rattle.plan.specs.Samples.Candidates.{sort_of}
+use Rattle.plan.specs.Samples.Sizes.{Before, filled}
 use Rattle.plan.specs.declared.sort.Sort.TheVariants as sort
 use Rattle.enumerate.specs.Internal.Nodes.{site, IsNodeOf, Costs}
 use Rattle.enumerate.specs.Internal.Candidates.{rows_of}
-use Rattle.enumerate.specs.Internal.Rows.{slots_from, bounds_at}
+use Rattle.enumerate.specs.Internal.Rows.{slots_from, ending_at}
 use Rattle.enumerate.specs.Internal.Lists.{AreFirst}
 use Rattle.enumerate.specs.Internal.Membership.{StandFresh, IsFreshRow}
 use Rattle.std.proofs.Common.{ap, sym, refl, subst, ◌∙◌, arith}
@@ -248,7 +249,8 @@ stand_fresh-stand_fresh-requires-2 g t c κs within =
     let some = some_nodes (data_of c.in-Some-value_under.tree.now) in
     let less = one_slot_less q c.args.node c.args.place c.in-Some.slot c.in-Some.ensures.some in
     let rest = ap (λ ms. members_count (members_of ms)) c.behind_first-behind.ensures in
-    (omega (arith, c.decreases, less), (within, (c.requires.node, (c.requires.row, (omega (arith, c.in-Some.ensures.within), (omega (arith, c.requires.taken), omega (arith, count, some, rest, c.requires.limit)))))))
+    let more = ap (λ (x : Before). x.count) c.fill.ensures in
+    (omega (arith, c.decreases, less), (within, (c.requires.node, (c.requires.row, (omega (arith, c.in-Some.ensures.within), (omega (arith, c.requires.taken, more), omega (arith, count, some, rest, c.requires.limit, more)))))))
 
 pub stand_fresh-returns-clause-ok : goal.stand_fresh-returns-clause-ok
 stand_fresh-returns-clause-ok g t c =
@@ -260,10 +262,10 @@ stand_fresh-returns-clause-ok g t c =
     let same = ap rows_of c.as_slice.ensures.value ∙ c.in_ok-same.ensures in
     let part : IsPart q.pools (site q c.in-Some.slot.node) d = c.in_ok-is_part.ensures.ok.0 c.if-not-branch.false in
     let order = (c.sound_parts.ensures.parts _ (site_among q c.args.node c.requires.node)).order in
-    let Behind = λ (us : List Data). StandFresh q.pools (slots_from q c.args.node (c.args.place + 1)) (bounds_at q c.args.node) (c.args.taken + 1) us (members_of c.behind_first-behind.result.now) in
-    answered c.stand_fresh-2.result (Behind (rows_of c.as_slice.result.now)) _
-    (λ st. filled_there q c.args.node c.args.place c.in-Some.slot h _ _ _ _ d _ first part (subst Behind same st))
-    (λ st. subst Behind (sym same) (filled_here q c.args.node c.args.place c.in-Some.slot h _ _ _ _ d _ first order st).1) c.stand_fresh-2.ensures.ok
+    let Behind = λ (x : Before) (us : List Data). StandFresh q.pools (slots_from q c.args.node (c.args.place + 1)) (ending_at q c.args.node) x us (members_of c.behind_first-behind.result.now) in
+    answered c.stand_fresh-2.result (Behind c.fill.result (rows_of c.as_slice.result.now)) _
+    (λ st. filled_there q c.args.node c.args.place c.in-Some.slot h _ _ _ _ d _ first part (subst (Behind (filled c.in-Some.slot.bit c.args.before)) same (subst (λ x. Behind x (rows_of c.as_slice.result.now)) c.fill.ensures st)))
+    (λ st. subst (λ x. Behind x (rows_of c.as_slice.result.now)) (sym c.fill.ensures) (subst (Behind (filled c.in-Some.slot.bit c.args.before)) (sym same) (filled_here q c.args.node c.args.place c.in-Some.slot h _ _ _ _ d _ first order st).1)) c.stand_fresh-2.ensures.ok
 
 pub stand_fresh-returns-clause-steps : goal.stand_fresh-returns-clause-steps
 stand_fresh-returns-clause-steps g t c =

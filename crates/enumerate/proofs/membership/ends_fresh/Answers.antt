@@ -10,7 +10,7 @@ use Rattle.jtree.specs.declared.value.Tree.{Tree}
 use Rattle.plan.specs.Samples.Sizes.{CanFill}
 use Rattle.plan.specs.Samples.Sites.{slots}
 use Rattle.enumerate.specs.Internal.Nodes.{site}
-use Rattle.enumerate.specs.Internal.Rows.{bounds_at}
+use Rattle.enumerate.specs.Internal.Rows.{ending_at}
 use Rattle.enumerate.specs.Internal.Candidates.{rows_of}
 use Rattle.enumerate.proofs.MembershipLemmas.{ends_is, ends_from}
 use Rattle.enumerate.proofs.membership.ends_fresh.Goals as goal
@@ -37,18 +37,18 @@ a_row (r ∷ rs) e = cc
 pub returns-then-not-is_empty : goal.returns-then-not-is_empty
 returns-then-not-is_empty g c =
     let some = sym c.is_empty.ensures ∙ c.if-not-is_empty.true in
-    (λ no. cc, λ h. let none = a_member c.args.members.now (ends_is c.args.plan.now.pools (bounds_at c.args.plan.now c.args.node) c.args.taken (rows_of c.args.used.now) (members_of c.args.members.now) h).0 in cc)
+    (λ no. cc, λ h. let none = a_member c.args.members.now (ends_is c.args.plan.now.pools (ending_at c.args.plan.now c.args.node) c.args.before (rows_of c.args.used.now) (members_of c.args.members.now) h).0 in cc)
 
 pub returns : goal.returns
 returns g c =
     let q = c.args.plan.now in
     let i = c.args.node in
     let P = q.pools in
-    let b = bounds_at q i in
-    let t = c.args.taken in
+    let end = ending_at q i in
+    let x = c.args.before in
     let all : drop c.args.place (slots P (site q i)) ≡ [] = drop_all c.args.place (slots P (site q i)) (omega arith) in
     let none = no_member c.args.members.now (sym c.is_empty.ensures ∙ c.if-not-is_empty.false) in
     let nobody = no_row c.args.used.now (sym c.is_empty-2.ensures ∙ c.if-not-is_empty-2.false) in (
-      λ yes. ends_from P b t (rows_of c.args.used.now) (members_of c.args.members.now) none nobody (subst (λ ss. CanFill P ss b t 0) all ((c.rest.ensures 0).0 (c.has.ensures.0 yes)).1),
-      λ h. c.has.ensures.1 ((c.rest.ensures 0).1 (omega arith, subst (λ ss. CanFill P ss b t 0) (sym all) (ends_is P b t (rows_of c.args.used.now) (members_of c.args.members.now) h).2)),
+      λ yes. ends_from P end x (rows_of c.args.used.now) (members_of c.args.members.now) none nobody (subst (λ ss. CanFill P ss end x 0) all ((c.rest.ensures 0).0 (c.has.ensures.0 yes)).1),
+      λ h. c.has.ensures.1 ((c.rest.ensures 0).1 (omega arith, subst (λ ss. CanFill P ss end x 0) (sym all) (ends_is P end x (rows_of c.args.used.now) (members_of c.args.members.now) h).2)),
     )

@@ -12,18 +12,18 @@ use Rattle.plan.specs.Samples.Sites.{sites_of}
 use Rattle.enumerate.specs.Least.{IsNext}
 use Rattle.enumerate.specs.Internal.Nodes.{site, IsPartOf, Costs}
 use Rattle.enumerate.specs.Internal.Candidates.{IsUnusedPart, IsFreeKey, rows_of}
-use Rattle.plan.specs.Samples.Sizes.{AreFillings, CanFill, filled_nodes, HasMore}
-use Rattle.enumerate.specs.Internal.Rows.{fill_cmp, IsRest, IsOpen, IsSlotOf, still_used, slots_from, slot_in, bounds_at, AreUsed, IsRow, IsValue}
+use Rattle.plan.specs.Samples.Sizes.{AreFillings, Before, nothing, filled, CanFill, filled_nodes, HasMore}
+use Rattle.enumerate.specs.Internal.Rows.{fill_cmp, IsRest, IsOpen, IsSlotOf, still_used, slots_from, slot_in, ending_at, AreUsed, IsRow, IsValue}
 use Rattle.enumerate.proofs.ListLemmas.{some_nodes, site_among, few_items, counted}
 use Rattle.enumerate.proofs.MoveLemmas.{moved_same, item_moved}
-use Rattle.enumerate.proofs.MoveCosts.{costs_within, costs_twice, costs_row, twice_row, costs_wider, twice_wider, last_wider, twice_out, twice_behind, twice_value, twice_put, costs_value, twice_grown, costs_last, last_kept}
-use Rattle.enumerate.proofs.MoveSteps.{IsEnded, IsOutEnded, row_stands, stand_nodes, none_left, moved_behind, same_used, filled_in, ended, left_out, out_ended, known_behind, known_out, open_here, out_next, out_grown, in_next, in_value, in_grown, key_moved, part_moved}
-use Rattle.enumerate.proofs.MemberCuts.{IsCut, count_here, begins_within, member_here, count_from, kept_one, cut_off, added_kept, grown_kept}
+use Rattle.enumerate.proofs.MoveCosts.{costs_within, costs_twice, costs_row, twice_row, costs_wider, twice_wider, last_wider, twice_out, twice_behind, twice_value, twice_put, costs_value, twice_grown, costs_last, last_kept, twice_at, last_at}
+use Rattle.enumerate.proofs.MoveSteps.{moved_at, IsEnded, IsOutEnded, row_stands, stand_nodes, none_left, moved_behind, same_used, filled_in, ended, left_out, out_ended, known_behind, known_out, open_here, out_next, out_grown, in_next, in_value, in_grown, key_moved, part_moved}
+use Rattle.enumerate.proofs.MemberCuts.{at_count, begins_at, cut_at, kept_at, IsCut, count_here, begins_within, member_here, count_from, kept_one, cut_off, added_kept, grown_kept}
 use Rattle.enumerate.proofs.NullMoves.{row_moved}
 use Rattle.enumerate.proofs.PartRows.{weight_next, row_unless_null}
 use Rattle.enumerate.proofs.RowLemmas.{can_fill}
 use Rattle.enumerate.proofs.RowOrder.{in_members, row_next}
-use Rattle.enumerate.proofs.RowSteps.{slot_of, one_fewer, no_slots, key_leaf}
+use Rattle.enumerate.proofs.RowSteps.{slot_of, filled_at, one_fewer, no_slots, key_leaf}
 use Rattle.jtree.specs.View.{data_of, items_of, members_of}
 use Rattle.plan.specs.Samples.Part.{IsPart}
 use Rattle.plan.specs.Samples.Candidates.{sort_of, distinct_of}
@@ -117,7 +117,7 @@ advance-returns-in-Leaf-clause-last g t c = IfOk-weaker c.next_unused.result _ _
 pub advance_filled-index-requires : goal.advance_filled-index-requires
 advance_filled-index-requires g t c =
     let old = c.args.members.now.items in
-    let taken = c.args.taken in
+    let taken = c.args.before.count in
     let inside = begins_within c.args.slot.now.name.now old taken c.requires.filled in
     omega (arith, inside, c.args.members.now.ok.0)
 
@@ -127,17 +127,18 @@ advance_filled-returns-in_err-same-clause-steps g t c = λ w wide. omega arith
 pub advance_filled-overflow_add-place : goal.advance_filled-overflow_add-place
 advance_filled-overflow_add-place g t c = omega (arith, c.requires.slot.followed)
 
-pub advance_filled-overflow_add-taken : goal.advance_filled-overflow_add-taken
-advance_filled-overflow_add-taken g t c = omega (arith, c.requires.limit, c.limit.ensures, c.limit.type_inv)
-
 pub advance_filled-advance_slots-requires : goal.advance_filled-advance_slots-requires
 advance_filled-advance_slots-requires g t c κs within =
     let q = c.args.plan.now in
     let sound = c.sound_parts.ensures.parts _ (site_among q c.args.node c.requires.node) in
-    let here = member_here c.args.slot.now.name.now c.args.taken c.args.members.now.items c.index.result.now c.requires.filled c.index.ensures in
-    let count = count_from c.args.members.now.items c.args.taken c.index.result.now here in
+    let here = member_here c.args.slot.now.name.now c.args.before.count c.args.members.now.items c.index.result.now c.requires.filled (at_count c.args.members.now.items c.index.result.now c.count.ensures c.index.ensures) in
+    let count = count_from c.args.members.now.items c.args.before.count c.index.result.now here in
     let same = same_used q c.args.node c.args.place c.args.slot.now c.requires.slot sound (rows_of c.as_slice.result.now) (rows_of c.args.used.now) (data_of c.index.result.now.tree) (ap rows_of c.as_slice.ensures.value ∙ c.in_ok-same.ensures) in
-    let f = (filled_in q c.args.node c.args.place c.args.slot.now c.requires.slot sound c.args.taken (rows_of c.args.used.now) c.args.members.now.items c.index.result.now c.requires.stand.0 (omega (arith, c.requires.limit, c.limit.ensures, c.limit.type_inv)) here c.requires.filled c.requires.stand.1).1 in (
+    let f = (filled_in q c.args.node c.args.place c.args.slot.now c.requires.slot sound c.args.before (rows_of c.args.used.now) c.args.members.now.items c.index.result.now c.requires.stand.0 (omega (arith, c.requires.limit, c.limit.ensures, c.limit.type_inv)) here c.requires.filled c.requires.stand.1).1 in
+    let more : c.fill.result.count ≡ c.args.before.count + 1 = ap (λ (x : Before). x.count) c.fill.ensures in
+    let Stand = λ (x : Before) (us : List Data). StandIn q.pools (slots_from q c.args.node (c.args.place + 1)) (ending_at q c.args.node) x us (drop x.count c.args.members.now.items) f.rest in
+    let stand = subst (λ x. Stand x (rows_of c.as_slice.result.now)) (sym (filled_at c.args.plan.now c.args.node c.args.place c.args.slot.now c.args.before c.fill.result c.requires.slot c.fill.ensures)) (subst (Stand (filled (slot_in q c.args.node c.args.place).bit c.args.before)) (sym same) f.stand) in
+    let behind = ap (λ n. members_count (members_of (drop n c.args.members.now.items))) more in (
       omega (arith, c.decreases),
       (
         within,
@@ -146,14 +147,14 @@ advance_filled-advance_slots-requires g t c κs within =
           (
             c.requires.row,
             (
-              omega (arith, c.requires.taken),
+              omega (arith, c.requires.taken, more),
               (
-                omega (arith, begins_within c.args.slot.now.name.now c.args.members.now.items c.args.taken c.requires.filled),
+                omega (arith, more, begins_within c.args.slot.now.name.now c.args.members.now.items c.args.before.count c.requires.filled),
                 (
                   subst (AreUsed q.pools (slots_from q c.args.node (c.args.place + 1))) (sym same) (known_behind q c.args.node c.args.place sound c.requires.slot.first (rows_of c.args.used.now) (data_of c.index.result.now.tree) c.requires.known),
                   (
-                    (f.rest, subst (λ us. StandIn q.pools (slots_from q c.args.node (c.args.place + 1)) (bounds_at q c.args.node) (c.args.taken + 1) us (drop (c.args.taken + 1) c.args.members.now.items) f.rest) (sym same) f.stand),
-                    omega (arith, count, some_nodes (data_of c.index.result.now.tree), c.requires.limit),
+                    (f.rest, stand),
+                    omega (arith, count, some_nodes (data_of c.index.result.now.tree), c.requires.limit, more, behind),
                   ),
                 ),
               ),
@@ -164,65 +165,62 @@ advance_filled-advance_slots-requires g t c κs within =
     )
 
 pub advance_filled-returns-in_err-room-clause-steps : goal.advance_filled-returns-in_err-room-clause-steps
-advance_filled-returns-in_err-room-clause-steps g t c = twice_behind c.args.plan.now c.args.node (c.args.place + 1) c.args.meter.now c.advance_slots.new.meter (node_count (data_of c.index.result.now.tree)) (members_count (members_of (drop (c.args.taken + 1) c.args.members.now.items))) (members_count (members_of (drop c.args.taken c.args.members.now.items))) (count_here c.args.slot.now.name.now c.args.taken c.args.members.now.items c.index.result.now c.requires.filled c.index.ensures) c.advance_slots.ensures.steps
+advance_filled-returns-in_err-room-clause-steps g t c = twice_behind c.args.plan.now c.args.node (c.args.place + 1) c.args.meter.now c.advance_slots.new.meter (node_count (data_of c.index.result.now.tree)) (members_count (members_of (drop (c.args.before.count + 1) c.args.members.now.items))) (members_count (members_of (drop c.args.before.count c.args.members.now.items))) (count_here c.args.slot.now.name.now c.args.before.count c.args.members.now.items c.index.result.now c.requires.filled (at_count c.args.members.now.items c.index.result.now c.count.ensures c.index.ensures)) (twice_at c.args.plan.now c.args.node (c.args.place + 1) c.args.meter.now c.advance_slots.new.meter c.args.members.now.items (filled_at c.args.plan.now c.args.node c.args.place c.args.slot.now c.args.before c.fill.result c.requires.slot c.fill.ensures) c.advance_slots.ensures.steps)
 
 pub advance_filled-returns-in_default-clause-kept : goal.advance_filled-returns-in_default-clause-kept
 advance_filled-returns-in_default-clause-kept g t c =
-    let here = member_here c.args.slot.now.name.now c.args.taken c.args.members.now.items c.index.result.now c.requires.filled c.index.ensures in
-    (kept_one c.args.taken c.advance_slots.new.members.items c.args.members.now.items c.index.result.now c.in_ok-room.ensures.kept here).0
+    let here = member_here c.args.slot.now.name.now c.args.before.count c.args.members.now.items c.index.result.now c.requires.filled (at_count c.args.members.now.items c.index.result.now c.count.ensures c.index.ensures) in
+    (kept_one c.args.before.count c.advance_slots.new.members.items c.args.members.now.items c.index.result.now (kept_at c.advance_slots.new.members.items c.args.members.now.items (filled_at c.args.plan.now c.args.node c.args.place c.args.slot.now c.args.before c.fill.result c.requires.slot c.fill.ensures) c.in_ok-room.ensures.kept) here).0
 
 pub advance_filled-returns-in_default-clause-moved : goal.advance_filled-returns-in_default-clause-moved
 advance_filled-returns-in_default-clause-moved g t c = λ gs s.
     let q = c.args.plan.now in
     let sound = c.sound_parts.ensures.parts _ (site_among q c.args.node c.requires.node) in
-    let here = member_here c.args.slot.now.name.now c.args.taken c.args.members.now.items c.index.result.now c.requires.filled c.index.ensures in
+    let here = member_here c.args.slot.now.name.now c.args.before.count c.args.members.now.items c.index.result.now c.requires.filled (at_count c.args.members.now.items c.index.result.now c.count.ensures c.index.ensures) in
     let mid = c.advance_slots.new.members.items in
     let same = same_used q c.args.node c.args.place c.args.slot.now c.requires.slot sound (rows_of c.as_slice.result.now) (rows_of c.args.used.now) (data_of c.index.result.now.tree) (ap rows_of c.as_slice.ensures.value ∙ c.in_ok-same.ensures) in
-    let f = filled_in q c.args.node c.args.place c.args.slot.now c.requires.slot sound c.args.taken (rows_of c.args.used.now) c.args.members.now.items c.index.result.now gs (omega (arith, c.requires.limit, c.limit.ensures, c.limit.type_inv)) here c.requires.filled s in
-    let next = subst (λ st. AreMoved st q.pools (slots_from q c.args.node (c.args.place + 1)) (bounds_at q c.args.node) (c.args.taken + 1) (still_used (slot_in q c.args.node c.args.place) (data_of c.index.result.now.tree) (rows_of c.args.used.now)) f.1.rest (drop (c.args.taken + 1) mid)) c.in_default.is
-    (moved_behind q c.args.node c.args.place sound c.requires.slot.first c.in_ok-room.field-0 c.args.taken (rows_of c.args.used.now) (rows_of c.as_slice.result.now) c.index.result.now (drop (c.args.taken + 1) c.args.members.now.items) (drop (c.args.taken + 1) mid) gs f.1 same c.in_ok-room.ensures.moved) in
-    subst (λ ms. AreMoved step.Moved q.pools (slots_from q c.args.node c.args.place) (bounds_at q c.args.node) c.args.taken (rows_of c.args.used.now) gs ms) (sym (kept_one c.args.taken mid c.args.members.now.items c.index.result.now c.in_ok-room.ensures.kept here).1)
-    (in_next q c.args.node c.args.place sound c.requires.slot.first c.args.taken (rows_of c.args.used.now) c.index.result.now (drop (c.args.taken + 1) c.args.members.now.items) gs f.0 f.1 (drop (c.args.taken + 1) mid) next)
+    let f = filled_in q c.args.node c.args.place c.args.slot.now c.requires.slot sound c.args.before (rows_of c.args.used.now) c.args.members.now.items c.index.result.now gs (omega (arith, c.requires.limit, c.limit.ensures, c.limit.type_inv)) here c.requires.filled s in
+    let next = subst (λ st. AreMoved st q.pools (slots_from q c.args.node (c.args.place + 1)) (ending_at q c.args.node) (filled (slot_in q c.args.node c.args.place).bit c.args.before) (still_used (slot_in q c.args.node c.args.place) (data_of c.index.result.now.tree) (rows_of c.args.used.now)) f.1.rest (drop (c.args.before.count + 1) mid)) c.in_default.is
+    (moved_behind q c.args.node c.args.place sound c.requires.slot.first c.in_ok-room.field-0 c.args.before (rows_of c.args.used.now) (rows_of c.as_slice.result.now) c.index.result.now (drop (c.args.before.count + 1) c.args.members.now.items) (drop (c.args.before.count + 1) mid) gs f.1 same (moved_at c.in_ok-room.field-0 q.pools (slots_from q c.args.node (c.args.place + 1)) (ending_at q c.args.node) (rows_of c.as_slice.result.now) c.args.members.now.items c.advance_slots.new.members.items (filled_at c.args.plan.now c.args.node c.args.place c.args.slot.now c.args.before c.fill.result c.requires.slot c.fill.ensures) c.in_ok-room.ensures.moved)) in
+    subst (λ ms. AreMoved step.Moved q.pools (slots_from q c.args.node c.args.place) (ending_at q c.args.node) c.args.before (rows_of c.args.used.now) gs ms) (sym (kept_one c.args.before.count mid c.args.members.now.items c.index.result.now (kept_at c.advance_slots.new.members.items c.args.members.now.items (filled_at c.args.plan.now c.args.node c.args.place c.args.slot.now c.args.before c.fill.result c.requires.slot c.fill.ensures) c.in_ok-room.ensures.kept) here).1)
+    (in_next q c.args.node c.args.place sound c.requires.slot.first c.args.before (rows_of c.args.used.now) c.index.result.now (drop (c.args.before.count + 1) c.args.members.now.items) gs f.0 f.1 (drop (c.args.before.count + 1) mid) next)
 
 pub advance_filled-returns-in_default-clause-steps : goal.advance_filled-returns-in_default-clause-steps
-advance_filled-returns-in_default-clause-steps g t c = twice_behind c.args.plan.now c.args.node (c.args.place + 1) c.args.meter.now c.advance_slots.new.meter (node_count (data_of c.index.result.now.tree)) (members_count (members_of (drop (c.args.taken + 1) c.args.members.now.items))) (members_count (members_of (drop c.args.taken c.args.members.now.items))) (count_here c.args.slot.now.name.now c.args.taken c.args.members.now.items c.index.result.now c.requires.filled c.index.ensures) c.advance_slots.ensures.steps
+advance_filled-returns-in_default-clause-steps g t c = twice_behind c.args.plan.now c.args.node (c.args.place + 1) c.args.meter.now c.advance_slots.new.meter (node_count (data_of c.index.result.now.tree)) (members_count (members_of (drop (c.args.before.count + 1) c.args.members.now.items))) (members_count (members_of (drop c.args.before.count c.args.members.now.items))) (count_here c.args.slot.now.name.now c.args.before.count c.args.members.now.items c.index.result.now c.requires.filled (at_count c.args.members.now.items c.index.result.now c.count.ensures c.index.ensures)) (twice_at c.args.plan.now c.args.node (c.args.place + 1) c.args.meter.now c.advance_slots.new.meter c.args.members.now.items (filled_at c.args.plan.now c.args.node c.args.place c.args.slot.now c.args.before c.fill.result c.requires.slot c.fill.ensures) c.advance_slots.ensures.steps)
 
 pub advance_filled-returns-in_default-clause-last : goal.advance_filled-returns-in_default-clause-last
 advance_filled-returns-in_default-clause-last g t c = tt
 
-pub advance_filled-overflow_add-taken-2 : goal.advance_filled-overflow_add-taken-2
-advance_filled-overflow_add-taken-2 g t c = omega (arith, c.ranges.taken.fits)
-
 pub advance_filled-unreachable-requires : goal.advance_filled-unreachable-requires
 advance_filled-unreachable-requires g t c =
     let old = c.args.members.now.items in
-    let count = length-take-le (c.args.taken + 1) old (omega (arith, begins_within c.args.slot.now.name.now old c.args.taken c.requires.filled)) in
-    let same = ap (λ (ms : List Member). length ms) (c.truncate.ensures.items ∙ c.in_ok-room.ensures.kept) in
+    let count = length-take-le (c.args.before.count + 1) old (omega (arith, begins_within c.args.slot.now.name.now old c.args.before.count c.requires.filled)) in
+    let same = ap (λ (ms : List Member). length ms) ((cut_at c.advance_slots.new.members.items c.truncate.new.self.items (ap (λ n. n + 1) c.count-2.ensures) c.truncate.ensures.items) ∙ (kept_at c.advance_slots.new.members.items c.args.members.now.items (filled_at c.args.plan.now c.args.node c.args.place c.args.slot.now c.args.before c.fill.result c.requires.slot c.fill.ensures) c.in_ok-room.ensures.kept)) in
     let none = c.in_default-pop.ensures.cases.0 in
     omega (arith, count, same, none, c.truncate.new.self.ok.0)
 
 -- what is known of the slot once its member was taken off
-cut_here : (g : Over) (t : ℕ) (c : advance_filled-In-Some g t) → IsCut c.args.taken c.args.members.now.items c.pop.new.self.items c.index.result.now c.in-Some.field-0
-cut_here g t c = cut_off c.args.slot.now.name.now c.args.taken c.args.members.now.items c.advance_slots.new.members.items c.truncate.new.self.items c.pop.new.self.items c.index.result.now c.in-Some.field-0 c.requires.filled c.index.ensures c.in_ok-room.ensures.kept c.truncate.ensures.items c.in-Some.ensures.items
+cut_here : (g : Over) (t : ℕ) (c : advance_filled-In-Some g t) → IsCut c.args.before.count c.args.members.now.items c.pop.new.self.items c.index.result.now c.in-Some.field-0
+cut_here g t c = cut_off c.args.slot.now.name.now c.args.before.count c.args.members.now.items c.advance_slots.new.members.items c.truncate.new.self.items c.pop.new.self.items c.index.result.now c.in-Some.field-0 c.requires.filled (at_count c.args.members.now.items c.index.result.now c.count.ensures c.index.ensures) (kept_at c.advance_slots.new.members.items c.args.members.now.items (filled_at c.args.plan.now c.args.node c.args.place c.args.slot.now c.args.before c.fill.result c.requires.slot c.fill.ensures) c.in_ok-room.ensures.kept) (cut_at c.advance_slots.new.members.items c.truncate.new.self.items (ap (λ n. n + 1) c.count-2.ensures) c.truncate.ensures.items) c.in-Some.ensures.items
 
-ended_here : (g : Over) (t : ℕ) (c : advance_filled-In-Some g t) (gs : List (Option Data)) → StandIn c.args.plan.now.pools (slots_from c.args.plan.now c.args.node c.args.place) (bounds_at c.args.plan.now c.args.node) c.args.taken (rows_of c.args.used.now) (drop c.args.taken c.args.members.now.items) gs
-    → IsEnded c.args.plan.now c.args.node c.args.place c.args.taken c.in-Last.room (rows_of c.args.used.now) c.args.members.now.items c.in-Some.field-0 gs
+ended_here : (g : Over) (t : ℕ) (c : advance_filled-In-Some g t) (gs : List (Option Data)) → StandIn c.args.plan.now.pools (slots_from c.args.plan.now c.args.node c.args.place) (ending_at c.args.plan.now c.args.node) c.args.before (rows_of c.args.used.now) (drop c.args.before.count c.args.members.now.items) gs
+    → IsEnded c.args.plan.now c.args.node c.args.place c.args.before c.in-Last.room (rows_of c.args.used.now) c.args.members.now.items c.in-Some.field-0 gs
 ended_here g t c gs s =
     let q = c.args.plan.now in
     let sound = c.sound_parts.ensures.parts _ (site_among q c.args.node c.requires.node) in
-    ended q c.args.node c.args.place c.args.slot.now c.requires.slot sound c.in_ok-room.field-0 c.args.taken c.in-Last.room (rows_of c.args.used.now) (rows_of c.as_slice.result.now) c.args.members.now.items c.pop.new.self.items (drop (c.args.taken + 1) c.advance_slots.new.members.items) c.index.result.now c.in-Some.field-0 gs
-    (cut_here g t c) c.requires.filled (omega (arith, c.requires.limit, c.limit.ensures, c.limit.type_inv)) c.in-Last.is (ap rows_of c.as_slice.ensures.value ∙ c.in_ok-same.ensures) c.in_ok-room.ensures.moved s
+    ended q c.args.node c.args.place c.args.slot.now c.requires.slot sound c.in_ok-room.field-0 c.args.before c.in-Last.room (rows_of c.args.used.now) (rows_of c.as_slice.result.now) c.args.members.now.items c.pop.new.self.items (drop (c.args.before.count + 1) c.advance_slots.new.members.items) c.index.result.now c.in-Some.field-0 gs
+    (cut_here g t c) c.requires.filled (omega (arith, c.requires.limit, c.limit.ensures, c.limit.type_inv)) c.in-Last.is (ap rows_of c.as_slice.ensures.value ∙ c.in_ok-same.ensures) (moved_at c.in_ok-room.field-0 q.pools (slots_from q c.args.node (c.args.place + 1)) (ending_at q c.args.node) (rows_of c.as_slice.result.now) c.args.members.now.items c.advance_slots.new.members.items (filled_at c.args.plan.now c.args.node c.args.place c.args.slot.now c.args.before c.fill.result c.requires.slot c.fill.ensures) c.in_ok-room.ensures.moved) s
 
 pub advance_filled-advance_value-requires : goal.advance_filled-advance_value-requires
 advance_filled-advance_value-requires g t c κs within =
     let q = c.args.plan.now in
     let sound = c.sound_parts.ensures.parts _ (site_among q c.args.node c.requires.node) in
     let cut = cut_here g t (goal.at.advance_filled-advance_value-requires g t c).In-Some in
-    let f = filled_in q c.args.node c.args.place c.args.slot.now c.requires.slot sound c.args.taken (rows_of c.args.used.now) c.args.members.now.items c.in-Some.field-0 c.requires.stand.0 (omega (arith, c.requires.limit, c.limit.ensures, c.limit.type_inv)) cut.there c.requires.filled c.requires.stand.1 in
+    let f = filled_in q c.args.node c.args.place c.args.slot.now c.requires.slot sound c.args.before (rows_of c.args.used.now) c.args.members.now.items c.in-Some.field-0 c.requires.stand.0 (omega (arith, c.requires.limit, c.limit.ensures, c.limit.type_inv)) cut.there c.requires.filled c.requires.stand.1 in
     (omega (arith, c.decreases), (within, (c.requires.node, (c.requires.slot, (c.requires.known, (f.1.value, omega (arith, cut.nodes_are, c.requires.limit)))))))
 
 pub advance_filled-returns-in_err-tree-clause-steps : goal.advance_filled-returns-in_err-tree-clause-steps
-advance_filled-returns-in_err-tree-clause-steps g t c = twice_value c.args.plan.now c.args.node (c.args.place + 1) c.args.meter.now c.advance_slots.new.meter (node_count (data_of c.in-Some.field-0.tree)) (members_count (members_of (drop (c.args.taken + 1) c.args.members.now.items))) (members_count (members_of (drop c.args.taken c.args.members.now.items))) (cut_here g t (goal.at.advance_filled-returns-in_err-tree-clause-steps g t c).In-Some).nodes_are c.advance_value.new.meter (subst (λ st. CostsLastSlots st c.args.plan.now c.args.node (c.args.place + 1) c.args.meter.now c.advance_slots.new.meter (members_count (members_of (drop (c.args.taken + 1) c.args.members.now.items)))) c.in-Last.is c.in_ok-room.ensures.last) c.advance_value.ensures.steps
+advance_filled-returns-in_err-tree-clause-steps g t c = twice_value c.args.plan.now c.args.node (c.args.place + 1) c.args.meter.now c.advance_slots.new.meter (node_count (data_of c.in-Some.field-0.tree)) (members_count (members_of (drop (c.args.before.count + 1) c.args.members.now.items))) (members_count (members_of (drop c.args.before.count c.args.members.now.items))) (cut_here g t (goal.at.advance_filled-returns-in_err-tree-clause-steps g t c).In-Some).nodes_are c.advance_value.new.meter (subst (λ st. CostsLastSlots st c.args.plan.now c.args.node (c.args.place + 1) c.args.meter.now c.advance_slots.new.meter (members_count (members_of (drop (c.args.before.count + 1) c.args.members.now.items)))) c.in-Last.is (last_at c.in_ok-room.field-0 c.args.plan.now c.args.node (c.args.place + 1) c.args.meter.now c.advance_slots.new.meter c.args.members.now.items (filled_at c.args.plan.now c.args.node c.args.place c.args.slot.now c.args.before c.fill.result c.requires.slot c.fill.ensures) c.in_ok-room.ensures.last)) c.advance_value.ensures.steps
 
 pub advance_filled-put_member-requires-clause-taken : goal.advance_filled-put_member-requires-clause-taken
 advance_filled-put_member-requires-clause-taken g t c = c.requires.taken
@@ -241,20 +239,20 @@ advance_filled-put_member-requires-clause-open g t c =
     let next = subst (λ m. IsMoved (IsValue q.pools (slot_in q c.args.node c.args.place) (slots_from q c.args.node (c.args.place + 1)) (rows_of c.args.used.now) (node_count (data_of c.in-Some.field-0.tree))) (data_of c.in-Some.field-0.tree) m) c.in-To.is c.in_ok-tree.ensures.ok in
     record {
       known = known_behind q c.args.node c.args.place sound c.requires.slot.first (rows_of c.args.used.now) (data_of c.in-To.tree) c.requires.known;
-      rest = subst (λ m. CanFill q.pools (slots_from q c.args.node (c.args.place + 1)) (bounds_at q c.args.node) (c.args.taken + 1) m) e.room_is (can_fill q.pools (slots_from q c.args.node (c.args.place + 1)) (bounds_at q c.args.node) (c.args.taken + 1) _ (still_used (slot_in q c.args.node c.args.place) (data_of c.in-Some.field-0.tree) (rows_of c.args.used.now)) e.filled.rest e.filled.stand.rest);
+      rest = subst (λ m. CanFill q.pools (slots_from q c.args.node (c.args.place + 1)) (ending_at q c.args.node) (filled (slot_in q c.args.node c.args.place).bit c.args.before) m) e.room_is (can_fill q.pools (slots_from q c.args.node (c.args.place + 1)) (ending_at q c.args.node) (filled (slot_in q c.args.node c.args.place).bit c.args.before) _ (still_used (slot_in q c.args.node c.args.place) (data_of c.in-Some.field-0.tree) (rows_of c.args.used.now)) e.stood.rest e.stood.stand.rest);
       free = next.is.0.free;
     }
 
 pub advance_filled-returns-in_err-put_member-in-To-clause-steps : goal.advance_filled-returns-in_err-put_member-in-To-clause-steps
 advance_filled-returns-in_err-put_member-in-To-clause-steps g t c =
     let e = ended_here g t (goal.at.advance_filled-returns-in_err-put_member-in-To-clause-steps g t c).In-Some c.requires.stand.0 c.requires.stand.1 in
-    twice_put c.args.plan.now c.args.node (c.args.place + 1) c.args.meter.now c.advance_slots.new.meter (node_count (data_of c.in-Some.field-0.tree)) (members_count (members_of (drop (c.args.taken + 1) c.args.members.now.items))) (members_count (members_of (drop c.args.taken c.args.members.now.items))) (cut_here g t (goal.at.advance_filled-returns-in_err-put_member-in-To-clause-steps g t c).In-Some).nodes_are c.advance_value.new.meter (subst (λ st. CostsLastSlots st c.args.plan.now c.args.node (c.args.place + 1) c.args.meter.now c.advance_slots.new.meter (members_count (members_of (drop (c.args.taken + 1) c.args.members.now.items)))) c.in-Last.is c.in_ok-room.ensures.last) c.put_member.new.meter c.in-Last.room e.behind_are c.advance_value.ensures.steps c.put_member.ensures.steps
+    twice_put c.args.plan.now c.args.node (c.args.place + 1) c.args.meter.now c.advance_slots.new.meter (node_count (data_of c.in-Some.field-0.tree)) (members_count (members_of (drop (c.args.before.count + 1) c.args.members.now.items))) (members_count (members_of (drop c.args.before.count c.args.members.now.items))) (cut_here g t (goal.at.advance_filled-returns-in_err-put_member-in-To-clause-steps g t c).In-Some).nodes_are c.advance_value.new.meter (subst (λ st. CostsLastSlots st c.args.plan.now c.args.node (c.args.place + 1) c.args.meter.now c.advance_slots.new.meter (members_count (members_of (drop (c.args.before.count + 1) c.args.members.now.items)))) c.in-Last.is (last_at c.in_ok-room.field-0 c.args.plan.now c.args.node (c.args.place + 1) c.args.meter.now c.advance_slots.new.meter c.args.members.now.items (filled_at c.args.plan.now c.args.node c.args.place c.args.slot.now c.args.before c.fill.result c.requires.slot c.fill.ensures) c.in_ok-room.ensures.last)) c.put_member.new.meter c.in-Last.room e.behind_are c.advance_value.ensures.steps c.put_member.ensures.steps
 
 pub advance_filled-returns-in-To-clause-kept : goal.advance_filled-returns-in-To-clause-kept
 advance_filled-returns-in-To-clause-kept g t c =
     let q = c.args.plan.now in
     let cut = cut_here g t (goal.at.advance_filled-returns-in-To-clause-kept g t c).In-Some in
-    added_kept q.pools (slots_from q c.args.node (c.args.place + 1)) (bounds_at q c.args.node) (c.args.taken + 1) c.in-Last.room c.args.taken _ c.pop.new.self.items (record { name = c.in-Some.field-0.name; tree = c.in-To.tree }) c.put_member.new.members.items c.in_ok-put_member-in-To.ensures.ok cut.count ∙ cut.front_is
+    added_kept q.pools (slots_from q c.args.node (c.args.place + 1)) (ending_at q c.args.node) (filled (slot_in q c.args.node c.args.place).bit c.args.before) c.in-Last.room c.args.before.count _ c.pop.new.self.items (record { name = c.in-Some.field-0.name; tree = c.in-To.tree }) c.put_member.new.members.items c.in_ok-put_member-in-To.ensures.ok cut.count ∙ cut.front_is
 
 pub advance_filled-returns-in-To-clause-moved : goal.advance_filled-returns-in-To-clause-moved
 advance_filled-returns-in-To-clause-moved g t c = λ gs s.
@@ -263,13 +261,13 @@ advance_filled-returns-in-To-clause-moved g t c = λ gs s.
     let cut = cut_here g t (goal.at.advance_filled-returns-in-To-clause-moved g t c).In-Some in
     let e = ended_here g t (goal.at.advance_filled-returns-in-To-clause-moved g t c).In-Some gs s in
     let next = subst (λ m. IsMoved (IsValue q.pools (slot_in q c.args.node c.args.place) (slots_from q c.args.node (c.args.place + 1)) (rows_of c.args.used.now) (node_count (data_of c.in-Some.field-0.tree))) (data_of c.in-Some.field-0.tree) m) c.in-To.is c.in_ok-tree.ensures.ok in
-    in_value q c.args.node c.args.place sound c.requires.slot.first c.args.taken (rows_of c.args.used.now) c.in-Some.field-0 (drop (c.args.taken + 1) c.args.members.now.items) gs e.small e.filled c.in-Last.room (record { name = c.in-Some.field-0.name; tree = c.in-To.tree }) c.pop.new.self.items c.put_member.new.members.items
-    cut.count e.filled.name e.room_is e.last next c.in_ok-put_member-in-To.ensures.ok
+    in_value q c.args.node c.args.place sound c.requires.slot.first c.args.before (rows_of c.args.used.now) c.in-Some.field-0 (drop (c.args.before.count + 1) c.args.members.now.items) gs e.small e.stood c.in-Last.room (record { name = c.in-Some.field-0.name; tree = c.in-To.tree }) c.pop.new.self.items c.put_member.new.members.items
+    cut.count e.stood.name e.room_is e.last next c.in_ok-put_member-in-To.ensures.ok
 
 pub advance_filled-returns-in-To-clause-steps : goal.advance_filled-returns-in-To-clause-steps
 advance_filled-returns-in-To-clause-steps g t c =
     let e = ended_here g t (goal.at.advance_filled-returns-in-To-clause-steps g t c).In-Some c.requires.stand.0 c.requires.stand.1 in
-    twice_put c.args.plan.now c.args.node (c.args.place + 1) c.args.meter.now c.advance_slots.new.meter (node_count (data_of c.in-Some.field-0.tree)) (members_count (members_of (drop (c.args.taken + 1) c.args.members.now.items))) (members_count (members_of (drop c.args.taken c.args.members.now.items))) (cut_here g t (goal.at.advance_filled-returns-in-To-clause-steps g t c).In-Some).nodes_are c.advance_value.new.meter (subst (λ st. CostsLastSlots st c.args.plan.now c.args.node (c.args.place + 1) c.args.meter.now c.advance_slots.new.meter (members_count (members_of (drop (c.args.taken + 1) c.args.members.now.items)))) c.in-Last.is c.in_ok-room.ensures.last) c.put_member.new.meter c.in-Last.room e.behind_are c.advance_value.ensures.steps c.put_member.ensures.steps
+    twice_put c.args.plan.now c.args.node (c.args.place + 1) c.args.meter.now c.advance_slots.new.meter (node_count (data_of c.in-Some.field-0.tree)) (members_count (members_of (drop (c.args.before.count + 1) c.args.members.now.items))) (members_count (members_of (drop c.args.before.count c.args.members.now.items))) (cut_here g t (goal.at.advance_filled-returns-in-To-clause-steps g t c).In-Some).nodes_are c.advance_value.new.meter (subst (λ st. CostsLastSlots st c.args.plan.now c.args.node (c.args.place + 1) c.args.meter.now c.advance_slots.new.meter (members_count (members_of (drop (c.args.before.count + 1) c.args.members.now.items)))) c.in-Last.is (last_at c.in_ok-room.field-0 c.args.plan.now c.args.node (c.args.place + 1) c.args.meter.now c.advance_slots.new.meter c.args.members.now.items (filled_at c.args.plan.now c.args.node c.args.place c.args.slot.now c.args.before c.fill.result c.requires.slot c.fill.ensures) c.in_ok-room.ensures.last)) c.put_member.new.meter c.in-Last.room e.behind_are c.advance_value.ensures.steps c.put_member.ensures.steps
 
 pub advance_filled-returns-in-To-clause-last : goal.advance_filled-returns-in-To-clause-last
 advance_filled-returns-in-To-clause-last g t c = tt
@@ -308,15 +306,15 @@ advance_filled-grow_slots-requires-clause-open g t c =
     let e = ended_here g t (goal.at.advance_filled-grow_slots-requires-clause-open g t c).In-Some c.requires.stand.0 c.requires.stand.1 in
     let none = subst (λ m. IsMoved (IsValue q.pools (slot_in q c.args.node c.args.place) (slots_from q c.args.node (c.args.place + 1)) (rows_of c.args.used.now) (node_count (data_of c.in-Some.field-0.tree))) (data_of c.in-Some.field-0.tree) m) c.in-Last-2.is c.in_ok-tree.ensures.ok in
     let own = none.1 in
-    let whole : filled_nodes c.requires.stand.0 ≡ c.in-Last.room + c.in-Last-2.size = ap filled_nodes e.filled.is ∙ omega (arith, e.room_is, own) in
-    subst (λ m. IsOpen q.pools (slots_from q c.args.node c.args.place) (bounds_at q c.args.node) c.args.taken m (rows_of c.args.used.now)) whole
-    (open_here q c.args.node c.args.place sound c.requires.slot.first c.args.taken (rows_of c.args.used.now) (drop c.args.taken c.args.members.now.items) c.requires.stand.0 c.requires.known c.requires.stand.1)
+    let whole : filled_nodes c.requires.stand.0 ≡ c.in-Last.room + c.in-Last-2.size = ap filled_nodes e.stood.is ∙ omega (arith, e.room_is, own) in
+    subst (λ m. IsOpen q.pools (slots_from q c.args.node c.args.place) (ending_at q c.args.node) c.args.before m (rows_of c.args.used.now)) whole
+    (open_here q c.args.node c.args.place sound c.requires.slot.first c.args.before (rows_of c.args.used.now) (drop c.args.before.count c.args.members.now.items) c.requires.stand.0 c.requires.known c.requires.stand.1)
 
 pub advance_filled-returns-clause-kept : goal.advance_filled-returns-clause-kept
 advance_filled-returns-clause-kept g t c =
     let q = c.args.plan.now in
     let cut = cut_here g t (goal.at.advance_filled-returns-clause-kept g t c).In-Some in
-    IfOk-weaker c.grow_slots.result _ _ (λ st h. grown_kept st q.pools (slot_in q c.args.node c.args.place) (slots_from q c.args.node (c.args.place + 1)) (bounds_at q c.args.node) c.args.taken (c.in-Last.room + c.in-Last-2.size) (c.in-Last-2.size + 1) c.args.taken (rows_of c.args.used.now) c.pop.new.self.items c.grow_slots.new.members.items h cut.count ∙ cut.front_is) c.grow_slots.ensures.ok
+    IfOk-weaker c.grow_slots.result _ _ (λ st h. grown_kept st q.pools (slot_in q c.args.node c.args.place) (slots_from q c.args.node (c.args.place + 1)) (ending_at q c.args.node) c.args.before (c.in-Last.room + c.in-Last-2.size) (c.in-Last-2.size + 1) c.args.before.count (rows_of c.args.used.now) c.pop.new.self.items c.grow_slots.new.members.items h cut.count ∙ cut.front_is) c.grow_slots.ensures.ok
 
 pub advance_filled-returns-clause-moved : goal.advance_filled-returns-clause-moved
 advance_filled-returns-clause-moved g t c =
@@ -326,7 +324,7 @@ advance_filled-returns-clause-moved g t c =
     let cut = cut_here g t (goal.at.advance_filled-returns-clause-moved g t c).In-Some in
     let e = ended_here g t (goal.at.advance_filled-returns-clause-moved g t c).In-Some gs s in
     let none = subst (λ m. IsMoved (IsValue q.pools (slot_in q c.args.node c.args.place) (slots_from q c.args.node (c.args.place + 1)) (rows_of c.args.used.now) (node_count (data_of c.in-Some.field-0.tree))) (data_of c.in-Some.field-0.tree) m) c.in-Last-2.is c.in_ok-tree.ensures.ok in
-    in_grown q c.args.node c.args.place sound c.requires.slot.first c.args.taken (rows_of c.args.used.now) c.in-Some.field-0 (drop (c.args.taken + 1) c.args.members.now.items) gs e.small e.filled st c.in-Last.room c.in-Last-2.size c.pop.new.self.items c.grow_slots.new.members.items
+    in_grown q c.args.node c.args.place sound c.requires.slot.first c.args.before (rows_of c.args.used.now) c.in-Some.field-0 (drop (c.args.before.count + 1) c.args.members.now.items) gs e.small e.stood st c.in-Last.room c.in-Last-2.size c.pop.new.self.items c.grow_slots.new.members.items
     cut.count e.room_is none.1 e.last none.0 h) c.grow_slots.ensures.ok
 
 pub advance_filled-returns-clause-steps : goal.advance_filled-returns-clause-steps
@@ -334,11 +332,11 @@ advance_filled-returns-clause-steps g t c =
     let q = c.args.plan.now in
     let e = ended_here g t (goal.at.advance_filled-returns-clause-steps g t c).In-Some c.requires.stand.0 c.requires.stand.1 in
     let none = subst (λ m. IsMoved (IsValue q.pools (slot_in q c.args.node c.args.place) (slots_from q c.args.node (c.args.place + 1)) (rows_of c.args.used.now) (node_count (data_of c.in-Some.field-0.tree))) (data_of c.in-Some.field-0.tree) m) c.in-Last-2.is c.in_ok-tree.ensures.ok in
-    twice_grown c.args.plan.now c.args.node (c.args.place + 1) c.args.meter.now c.advance_slots.new.meter (node_count (data_of c.in-Some.field-0.tree)) (members_count (members_of (drop (c.args.taken + 1) c.args.members.now.items))) (members_count (members_of (drop c.args.taken c.args.members.now.items))) (cut_here g t (goal.at.advance_filled-returns-clause-steps g t c).In-Some).nodes_are c.advance_value.new.meter (subst (λ st. CostsLastSlots st c.args.plan.now c.args.node (c.args.place + 1) c.args.meter.now c.advance_slots.new.meter (members_count (members_of (drop (c.args.taken + 1) c.args.members.now.items)))) c.in-Last.is c.in_ok-room.ensures.last) c.grow_slots.new.meter (c.in-Last.room + c.in-Last-2.size) (omega (arith, e.nodes_are, none.1)) (subst (λ m. CostsLast m c.args.plan.now c.advance_slots.new.meter c.advance_value.new.meter (node_count (data_of c.in-Some.field-0.tree))) c.in-Last-2.is c.in_ok-tree.ensures.last) c.grow_slots.ensures.steps
+    twice_grown c.args.plan.now c.args.node (c.args.place + 1) c.args.meter.now c.advance_slots.new.meter (node_count (data_of c.in-Some.field-0.tree)) (members_count (members_of (drop (c.args.before.count + 1) c.args.members.now.items))) (members_count (members_of (drop c.args.before.count c.args.members.now.items))) (cut_here g t (goal.at.advance_filled-returns-clause-steps g t c).In-Some).nodes_are c.advance_value.new.meter (subst (λ st. CostsLastSlots st c.args.plan.now c.args.node (c.args.place + 1) c.args.meter.now c.advance_slots.new.meter (members_count (members_of (drop (c.args.before.count + 1) c.args.members.now.items)))) c.in-Last.is (last_at c.in_ok-room.field-0 c.args.plan.now c.args.node (c.args.place + 1) c.args.meter.now c.advance_slots.new.meter c.args.members.now.items (filled_at c.args.plan.now c.args.node c.args.place c.args.slot.now c.args.before c.fill.result c.requires.slot c.fill.ensures) c.in_ok-room.ensures.last)) c.grow_slots.new.meter (c.in-Last.room + c.in-Last-2.size) (omega (arith, e.nodes_are, none.1)) (subst (λ m. CostsLast m c.args.plan.now c.advance_slots.new.meter c.advance_value.new.meter (node_count (data_of c.in-Some.field-0.tree))) c.in-Last-2.is c.in_ok-tree.ensures.last) c.grow_slots.ensures.steps
 
 pub advance_filled-returns-clause-last : goal.advance_filled-returns-clause-last
 advance_filled-returns-clause-last g t c =
-    IfOk-weaker c.grow_slots.result _ _ (λ st k. last_kept st c.args.plan.now c.args.node (c.args.place + 1) c.args.meter.now c.advance_value.new.meter c.grow_slots.new.meter (members_count (members_of (drop c.args.taken c.args.members.now.items))) (costs_value c.args.plan.now c.args.node (c.args.place + 1) c.args.meter.now c.advance_slots.new.meter (node_count (data_of c.in-Some.field-0.tree)) (members_count (members_of (drop (c.args.taken + 1) c.args.members.now.items))) (members_count (members_of (drop c.args.taken c.args.members.now.items))) (cut_here g t (goal.at.advance_filled-returns-clause-last g t c).In-Some).nodes_are c.advance_value.new.meter (subst (λ st. CostsLastSlots st c.args.plan.now c.args.node (c.args.place + 1) c.args.meter.now c.advance_slots.new.meter (members_count (members_of (drop (c.args.taken + 1) c.args.members.now.items)))) c.in-Last.is c.in_ok-room.ensures.last) (subst (λ m. CostsLast m c.args.plan.now c.advance_slots.new.meter c.advance_value.new.meter (node_count (data_of c.in-Some.field-0.tree))) c.in-Last-2.is c.in_ok-tree.ensures.last)) k) c.grow_slots.ensures.last
+    IfOk-weaker c.grow_slots.result _ _ (λ st k. last_kept st c.args.plan.now c.args.node (c.args.place + 1) c.args.meter.now c.advance_value.new.meter c.grow_slots.new.meter (members_count (members_of (drop c.args.before.count c.args.members.now.items))) (costs_value c.args.plan.now c.args.node (c.args.place + 1) c.args.meter.now c.advance_slots.new.meter (node_count (data_of c.in-Some.field-0.tree)) (members_count (members_of (drop (c.args.before.count + 1) c.args.members.now.items))) (members_count (members_of (drop c.args.before.count c.args.members.now.items))) (cut_here g t (goal.at.advance_filled-returns-clause-last g t c).In-Some).nodes_are c.advance_value.new.meter (subst (λ st. CostsLastSlots st c.args.plan.now c.args.node (c.args.place + 1) c.args.meter.now c.advance_slots.new.meter (members_count (members_of (drop (c.args.before.count + 1) c.args.members.now.items)))) c.in-Last.is (last_at c.in_ok-room.field-0 c.args.plan.now c.args.node (c.args.place + 1) c.args.meter.now c.advance_slots.new.meter c.args.members.now.items (filled_at c.args.plan.now c.args.node c.args.place c.args.slot.now c.args.before c.fill.result c.requires.slot c.fill.ensures) c.in_ok-room.ensures.last)) (subst (λ m. CostsLast m c.args.plan.now c.advance_slots.new.meter c.advance_value.new.meter (node_count (data_of c.in-Some.field-0.tree))) c.in-Last-2.is c.in_ok-tree.ensures.last)) k) c.grow_slots.ensures.last
 
 pub advance_row-unreachable-requires : goal.advance_row-unreachable-requires
 advance_row-unreachable-requires g t c =
@@ -346,18 +344,21 @@ advance_row-unreachable-requires g t c =
     none _ c.requires.row.is
 
 -- the members stand in the slots
-row_here : (g : Over) (t : ℕ) (c : advance_row-In-Some g t) → StandIn c.args.plan.now.pools (slots_from c.args.plan.now c.args.node 0) (bounds_at c.args.plan.now c.args.node) 0 (rows_of c.args.used.now) c.in-Some.members.items c.requires.row.fillings
+row_here : (g : Over) (t : ℕ) (c : advance_row-In-Some g t) → StandIn c.args.plan.now.pools (slots_from c.args.plan.now c.args.node 0) (ending_at c.args.plan.now c.args.node) nothing (rows_of c.args.used.now) c.in-Some.members.items c.requires.row.fillings
 row_here g t c = row_stands c.args.plan.now c.args.node (node_count (data_of c.args.tree) - 1) (rows_of c.args.used.now) (data_of c.args.tree) c.in-Some.members.items c.requires.row c.in-Some.ensures.some
 
 row_cost : (g : Over) (t : ℕ) (c : advance_row-After-advance_slots g t) → Costs c.args.plan.now c.args.meter.now c.advance_slots.new.meter (2 * node_count (data_of c.args.tree))
-row_cost g t c = twice_row c.args.plan.now c.args.node c.args.meter.now c.advance_slots.new.meter (members_count (members_of c.in-Some.members.items)) (node_count (data_of c.args.tree)) c.requires.node c.requires.sort (ap node_count c.in-Some.ensures.some) c.advance_slots.ensures.steps
+row_cost g t c = twice_row c.args.plan.now c.args.node c.args.meter.now c.advance_slots.new.meter (members_count (members_of c.in-Some.members.items)) (node_count (data_of c.args.tree)) c.requires.node c.requires.sort (ap node_count c.in-Some.ensures.some) (twice_at c.args.plan.now c.args.node 0 c.args.meter.now c.advance_slots.new.meter c.in-Some.members.items c.nothing-nothing.ensures c.advance_slots.ensures.steps)
 
 pub advance_row-advance_slots-requires : goal.advance_row-advance_slots-requires
 advance_row-advance_slots-requires g t c κs within =
     let r = c.requires.row in
     let stand = row_here g t (goal.at.advance_row-advance_slots-requires g t c).In-Some in
     let count : node_count (data_of c.args.tree) ≡ 1 + members_count (members_of c.in-Some.members.items) = ap node_count c.in-Some.ensures.some in
-    (omega (arith, c.decreases), (within, (c.requires.node, (c.requires.sort, (omega arith, (omega arith, (c.requires.known, ((r.fillings, stand), omega (arith, count, c.requires.limit)))))))))
+    let none = ap (λ (x : Before). x.count) c.nothing-nothing.ensures in
+    let all = ap (λ (x : Before). members_count (members_of (drop x.count c.in-Some.members.items))) c.nothing-nothing.ensures in
+    let there = subst (λ (x : Before). StandIn c.args.plan.now.pools (slots_from c.args.plan.now c.args.node 0) (ending_at c.args.plan.now c.args.node) x (rows_of c.args.used.now) (drop x.count c.in-Some.members.items) r.fillings) (sym c.nothing-nothing.ensures) stand in
+    (omega (arith, c.decreases), (within, (c.requires.node, (c.requires.sort, (omega (arith, none), (omega (arith, none), (c.requires.known, ((r.fillings, there), omega (arith, count, c.requires.limit, none, all)))))))))
 
 pub advance_row-returns-in_err-advance_slots-clause-steps : goal.advance_row-returns-in_err-advance_slots-clause-steps
 advance_row-returns-in_err-advance_slots-clause-steps g t c = row_cost g t (goal.at.advance_row-returns-in_err-advance_slots-clause-steps g t c).After-advance_slots
@@ -368,7 +369,7 @@ advance_row-invariant_of-result g t c =
     let sound = c.sound_parts.ensures.parts _ (site_among q c.args.node c.requires.node) in
     let r = c.requires.row in
     let stand = row_here g t (goal.at.advance_row-invariant_of-result g t c).In-Some in
-    let next = subst (λ st. AreMoved st q.pools (slots_from q c.args.node 0) (bounds_at q c.args.node) 0 (rows_of c.args.used.now) r.fillings c.advance_slots.new.members.items) c.in-Moved.is (c.in_ok-advance_slots.ensures.moved r.fillings stand) in
+    let next = subst (λ st. AreMoved st q.pools (slots_from q c.args.node 0) (ending_at q c.args.node) nothing (rows_of c.args.used.now) r.fillings c.advance_slots.new.members.items) c.in-Moved.is (moved_at c.in_ok-advance_slots.field-0 q.pools (slots_from q c.args.node 0) (ending_at q c.args.node) (rows_of c.args.used.now) c.in-Some.members.items c.advance_slots.new.members.items c.nothing-nothing.ensures c.in_ok-advance_slots.ensures.moved r.fillings stand) in
     subst AreMembers (sym next.are) (in_members q.pools (slots_from q c.args.node 0) next.fillings sound.order next.next.is.0.are)
 
 pub advance_row-overflow_add-result : goal.advance_row-overflow_add-result
@@ -377,9 +378,9 @@ advance_row-overflow_add-result g t c =
     let r = c.requires.row in
     let stand = row_here g t (goal.at.advance_row-overflow_add-result g t c).In-Some in
     let count : node_count (data_of c.args.tree) ≡ 1 + members_count (members_of c.in-Some.members.items) = ap node_count c.in-Some.ensures.some in
-    let none = subst (λ st. AreMoved st q.pools (slots_from q c.args.node 0) (bounds_at q c.args.node) 0 (rows_of c.args.used.now) r.fillings c.advance_slots.new.members.items) c.in-Last.is (c.in_ok-advance_slots.ensures.moved r.fillings stand) in
+    let none = subst (λ st. AreMoved st q.pools (slots_from q c.args.node 0) (ending_at q c.args.node) nothing (rows_of c.args.used.now) r.fillings c.advance_slots.new.members.items) c.in-Last.is (moved_at c.in_ok-advance_slots.field-0 q.pools (slots_from q c.args.node 0) (ending_at q c.args.node) (rows_of c.args.used.now) c.in-Some.members.items c.advance_slots.new.members.items c.nothing-nothing.ensures c.in_ok-advance_slots.ensures.moved r.fillings stand) in
     let left = none.1 in
-    let all = stand_nodes q.pools (slots_from q c.args.node 0) (bounds_at q c.args.node) 0 (rows_of c.args.used.now) c.in-Some.members.items r.fillings stand in
+    let all = stand_nodes q.pools (slots_from q c.args.node 0) (ending_at q c.args.node) nothing (rows_of c.args.used.now) c.in-Some.members.items r.fillings stand in
     omega (arith, left, all, count, c.requires.limit, c.limit.ensures, c.limit.type_inv)
 
 pub advance_row-returns-in-Moved-clause-ok : goal.advance_row-returns-in-Moved-clause-ok
@@ -389,7 +390,7 @@ advance_row-returns-in-Moved-clause-ok g t c =
     let r = c.requires.row in
     let nodes = r.rest.nodes_are in
     let stand = row_here g t (goal.at.advance_row-returns-in-Moved-clause-ok g t c).In-Some in
-    let next = subst (λ st. AreMoved st q.pools (slots_from q c.args.node 0) (bounds_at q c.args.node) 0 (rows_of c.args.used.now) r.fillings c.advance_slots.new.members.items) c.in-Moved.is (c.in_ok-advance_slots.ensures.moved r.fillings stand) in
+    let next = subst (λ st. AreMoved st q.pools (slots_from q c.args.node 0) (ending_at q c.args.node) nothing (rows_of c.args.used.now) r.fillings c.advance_slots.new.members.items) c.in-Moved.is (moved_at c.in_ok-advance_slots.field-0 q.pools (slots_from q c.args.node 0) (ending_at q c.args.node) (rows_of c.args.used.now) c.in-Some.members.items c.advance_slots.new.members.items c.nothing-nothing.ensures c.in_ok-advance_slots.ensures.moved r.fillings stand) in
     subst (λ ms. IsNext tree_cmp (IsRow q c.args.node (node_count (data_of c.args.tree) - 1) (rows_of c.args.used.now)) (data_of c.args.tree) (Some (object_data ms))) (sym next.are)
     (row_next q c.args.node (rows_of c.args.used.now) (data_of c.args.tree) r.fillings (Some next.fillings) sound.order r.is stand.rest nodes next.next)
 
@@ -406,7 +407,7 @@ advance_row-returns-in-Last-clause-ok g t c =
     let r = c.requires.row in
     let nodes = r.rest.nodes_are in
     let stand = row_here g t (goal.at.advance_row-returns-in-Last-clause-ok g t c).In-Some in
-    let none = subst (λ st. AreMoved st q.pools (slots_from q c.args.node 0) (bounds_at q c.args.node) 0 (rows_of c.args.used.now) r.fillings c.advance_slots.new.members.items) c.in-Last.is (c.in_ok-advance_slots.ensures.moved r.fillings stand) in
+    let none = subst (λ st. AreMoved st q.pools (slots_from q c.args.node 0) (ending_at q c.args.node) nothing (rows_of c.args.used.now) r.fillings c.advance_slots.new.members.items) c.in-Last.is (moved_at c.in_ok-advance_slots.field-0 q.pools (slots_from q c.args.node 0) (ending_at q c.args.node) (rows_of c.args.used.now) c.in-Some.members.items c.advance_slots.new.members.items c.nothing-nothing.ensures c.in_ok-advance_slots.ensures.moved r.fillings stand) in
     let left = none.1 in
     (row_next q c.args.node (rows_of c.args.used.now) (data_of c.args.tree) r.fillings None sound.order r.is stand.rest nodes none.0, omega (arith, left, nodes, some_nodes (data_of c.args.tree)))
 
@@ -416,11 +417,11 @@ advance_row-returns-in-Last-clause-steps g t c = row_cost g t (goal.at.advance_r
 pub advance_row-returns-in-Last-clause-last : goal.advance_row-returns-in-Last-clause-last
 advance_row-returns-in-Last-clause-last g t c =
     costs_row c.args.plan.now c.args.node c.args.meter.now c.advance_slots.new.meter (members_count (members_of c.in-Some.members.items)) (node_count (data_of c.args.tree)) c.requires.node c.requires.sort (ap node_count c.in-Some.ensures.some)
-    (subst (λ st. CostsLastSlots st c.args.plan.now c.args.node 0 c.args.meter.now c.advance_slots.new.meter (members_count (members_of c.in-Some.members.items))) c.in-Last.is c.in_ok-advance_slots.ensures.last)
+    (subst (λ st. CostsLastSlots st c.args.plan.now c.args.node 0 c.args.meter.now c.advance_slots.new.meter (members_count (members_of c.in-Some.members.items))) c.in-Last.is (last_at c.in_ok-advance_slots.field-0 c.args.plan.now c.args.node 0 c.args.meter.now c.advance_slots.new.meter c.in-Some.members.items c.nothing-nothing.ensures c.in_ok-advance_slots.ensures.last))
 
 -- the slot at the place, and those behind it
 slot_here : (g : Over) (t : ℕ) (c : advance_slots-In-Some g t) → IsSlotOf c.args.plan.now c.args.node c.args.place c.in-Some.slot
-slot_here g t c = slot_of c.args.plan.now c.args.node c.args.place c.in-Some.slot c.in-Some.ensures.some c.in-Some.ensures.below c.in-Some.ensures.later c.in-Some.ensures.followed
+slot_here g t c = slot_of c.args.plan.now c.args.node c.args.place c.in-Some.slot c.in-Some.ensures.some c.in-Some.ensures.below c.in-Some.ensures.later c.in-Some.ensures.bit c.in-Some.ensures.followed
 
 fewer_here : (g : Over) (t : ℕ) (c : advance_slots-In-Some g t) → length (slots_from c.args.plan.now c.args.node c.args.place) ≡ 1 + length (slots_from c.args.plan.now c.args.node (c.args.place + 1))
 fewer_here g t c = one_fewer c.args.plan.now c.args.node c.args.place (slot_here g t c).first
@@ -432,8 +433,8 @@ pub advance_slots-returns-in_default-clause-moved : goal.advance_slots-returns-i
 advance_slots-returns-in_default-clause-moved g t c = λ gs s.
     let q = c.args.plan.now in
     let none = no_slots q c.args.node c.args.place c.in_default.ensures.none in
-    let at_end = none_left q.pools (bounds_at q c.args.node) c.args.taken (filled_nodes gs) (rows_of c.args.used.now) gs (subst (λ ss. AreFillings q.pools ss gs) none s.rest.are) in
-    (subst (λ ss. IsNext fill_cmp (IsRest q.pools ss (bounds_at q c.args.node) c.args.taken (filled_nodes gs) (rows_of c.args.used.now)) gs None) (sym none) at_end.0, at_end.1)
+    let at_end = none_left q.pools (ending_at q c.args.node) c.args.before (filled_nodes gs) (rows_of c.args.used.now) gs (subst (λ ss. AreFillings q.pools ss gs) none s.rest.are) in
+    (subst (λ ss. IsNext fill_cmp (IsRest q.pools ss (ending_at q c.args.node) c.args.before (filled_nodes gs) (rows_of c.args.used.now)) gs None) (sym none) at_end.0, at_end.1)
 
 pub advance_slots-returns-in_default-clause-steps : goal.advance_slots-returns-in_default-clause-steps
 advance_slots-returns-in_default-clause-steps g t c = λ w wide. omega (arith, c.slot.ensures.step)
@@ -446,7 +447,7 @@ advance_slots-advance_filled-requires g t c κs within =
     let q = c.args.plan.now in
     let s = slot_here g t (goal.at.advance_slots-advance_filled-requires g t c).In-Some in
     let fewer = fewer_here g t (goal.at.advance_slots-advance_filled-requires g t c).In-Some in
-    let begun = subst (λ ms. Begins c.in-Some.slot.name.now (members_of (drop c.args.taken ms))) c.as_slice.ensures.value (c.begins.ensures.0 c.if-begins.true) in
+    let begun = subst (λ ms. Begins c.in-Some.slot.name.now (members_of (drop c.args.before.count ms))) c.as_slice.ensures.value (begins_at c.in-Some.slot.name.now c.as_slice.result.now c.count.ensures (c.begins.ensures.0 c.if-begins.true)) in
     (omega (arith, c.decreases, fewer), (within, (c.requires.node, (c.requires.row, (s, (begun, (c.requires.taken, (c.requires.within, (c.requires.known, (c.requires.stand, c.requires.limit))))))))))
 
 pub advance_slots-returns-then-begins-clause-kept : goal.advance_slots-returns-then-begins-clause-kept
@@ -456,10 +457,10 @@ pub advance_slots-returns-then-begins-clause-moved : goal.advance_slots-returns-
 advance_slots-returns-then-begins-clause-moved g t c = c.advance_filled.ensures.moved
 
 pub advance_slots-returns-then-begins-clause-steps : goal.advance_slots-returns-then-begins-clause-steps
-advance_slots-returns-then-begins-clause-steps g t c = twice_wider c.args.plan.now c.args.node c.args.place c.args.meter.now c.slot.new.meter (members_count (members_of (drop c.args.taken c.args.members.now.items))) c.slot.ensures.step (fewer_here g t (goal.at.advance_slots-returns-then-begins-clause-steps g t c).In-Some) c.advance_filled.new.meter c.advance_filled.ensures.steps
+advance_slots-returns-then-begins-clause-steps g t c = twice_wider c.args.plan.now c.args.node c.args.place c.args.meter.now c.slot.new.meter (members_count (members_of (drop c.args.before.count c.args.members.now.items))) c.slot.ensures.step (fewer_here g t (goal.at.advance_slots-returns-then-begins-clause-steps g t c).In-Some) c.advance_filled.new.meter c.advance_filled.ensures.steps
 
 pub advance_slots-returns-then-begins-clause-last : goal.advance_slots-returns-then-begins-clause-last
-advance_slots-returns-then-begins-clause-last g t c = IfOk-weaker c.advance_filled.result _ _ (λ st h. last_wider c.args.plan.now c.args.node c.args.place c.args.meter.now c.slot.new.meter (members_count (members_of (drop c.args.taken c.args.members.now.items))) c.slot.ensures.step (fewer_here g t (goal.at.advance_slots-returns-then-begins-clause-last g t c).In-Some) st c.advance_filled.new.meter h) c.advance_filled.ensures.last
+advance_slots-returns-then-begins-clause-last g t c = IfOk-weaker c.advance_filled.result _ _ (λ st h. last_wider c.args.plan.now c.args.node c.args.place c.args.meter.now c.slot.new.meter (members_count (members_of (drop c.args.before.count c.args.members.now.items))) c.slot.ensures.step (fewer_here g t (goal.at.advance_slots-returns-then-begins-clause-last g t c).In-Some) st c.advance_filled.new.meter h) c.advance_filled.ensures.last
 
 pub advance_slots-overflow_add-place : goal.advance_slots-overflow_add-place
 advance_slots-overflow_add-place g t c = omega (arith, c.in-Some.ensures.followed)
@@ -470,11 +471,11 @@ advance_slots-advance_slots-requires g t c κs within =
     let sound = c.sound_parts.ensures.parts _ (site_among q c.args.node c.requires.node) in
     let s = slot_here g t (goal.at.advance_slots-advance_slots-requires g t c).In-Some in
     let fewer = fewer_here g t (goal.at.advance_slots-advance_slots-requires g t c).In-Some in
-    let out = left_out q c.args.node c.args.place c.in-Some.slot s sound c.args.taken (rows_of c.args.used.now) c.args.members.now.items c.as_slice.result.now c.requires.stand.0 c.as_slice.ensures.value (λ h. let yes = c.begins.ensures.1 h in let no = c.if-begins.false in cc) c.requires.stand.1 in
+    let out = left_out q c.args.node c.args.place c.in-Some.slot s sound c.args.before (rows_of c.args.used.now) c.args.members.now.items c.as_slice.result.now c.requires.stand.0 c.as_slice.ensures.value (λ h. let yes = c.begins.ensures.1 (begins_at c.in-Some.slot.name.now c.as_slice.result.now (sym c.count.ensures) h) in let no = c.if-begins.false in cc) c.requires.stand.1 in
     (omega (arith, c.decreases, fewer), (within, (c.requires.node, (c.requires.row, (omega (arith, c.requires.taken), (c.requires.within, (known_out q c.args.node c.args.place sound s.first (rows_of c.args.used.now) out.1.1.0 c.requires.known, ((out.0, out.1.1.1), c.requires.limit))))))))
 
 pub advance_slots-returns-in_err-room-clause-steps : goal.advance_slots-returns-in_err-room-clause-steps
-advance_slots-returns-in_err-room-clause-steps g t c = twice_wider c.args.plan.now c.args.node c.args.place c.args.meter.now c.slot.new.meter (members_count (members_of (drop c.args.taken c.args.members.now.items))) c.slot.ensures.step (fewer_here g t (goal.at.advance_slots-returns-in_err-room-clause-steps g t c).In-Some) c.advance_slots.new.meter c.advance_slots.ensures.steps
+advance_slots-returns-in_err-room-clause-steps g t c = twice_wider c.args.plan.now c.args.node c.args.place c.args.meter.now c.slot.new.meter (members_count (members_of (drop c.args.before.count c.args.members.now.items))) c.slot.ensures.step (fewer_here g t (goal.at.advance_slots-returns-in_err-room-clause-steps g t c).In-Some) c.advance_slots.new.meter c.advance_slots.ensures.steps
 
 pub advance_slots-returns-in_default-2-clause-kept : goal.advance_slots-returns-in_default-2-clause-kept
 advance_slots-returns-in_default-2-clause-kept g t c = c.in_ok-room.ensures.kept
@@ -484,25 +485,25 @@ advance_slots-returns-in_default-2-clause-moved g t c = λ gs st.
     let q = c.args.plan.now in
     let sound = c.sound_parts.ensures.parts _ (site_among q c.args.node c.requires.node) in
     let s = slot_here g t (goal.at.advance_slots-returns-in_default-2-clause-moved g t c).In-Some in
-    let out = left_out q c.args.node c.args.place c.in-Some.slot s sound c.args.taken (rows_of c.args.used.now) c.args.members.now.items c.as_slice.result.now gs c.as_slice.ensures.value (λ h. let yes = c.begins.ensures.1 h in let no = c.if-begins.false in cc) st in
-    let next = subst (λ m. AreMoved m q.pools (slots_from q c.args.node (c.args.place + 1)) (bounds_at q c.args.node) c.args.taken (rows_of c.args.used.now) out.0 (drop c.args.taken c.advance_slots.new.members.items)) c.in_default-2.is (c.in_ok-room.ensures.moved out.0 out.1.1.1) in
-    let nodes = stand_nodes q.pools (slots_from q c.args.node (c.args.place + 1)) (bounds_at q c.args.node) c.args.taken (rows_of c.args.used.now) (drop c.args.taken c.args.members.now.items) out.0 out.1.1.1 in
-    out_next q c.args.node c.args.place sound s.first c.args.taken (rows_of c.args.used.now) gs out.0 (drop c.args.taken c.advance_slots.new.members.items) out.1.0 (omega (arith, nodes, c.requires.limit, c.limit.ensures, c.limit.type_inv)) out.1.1.0 next
+    let out = left_out q c.args.node c.args.place c.in-Some.slot s sound c.args.before (rows_of c.args.used.now) c.args.members.now.items c.as_slice.result.now gs c.as_slice.ensures.value (λ h. let yes = c.begins.ensures.1 (begins_at c.in-Some.slot.name.now c.as_slice.result.now (sym c.count.ensures) h) in let no = c.if-begins.false in cc) st in
+    let next = subst (λ m. AreMoved m q.pools (slots_from q c.args.node (c.args.place + 1)) (ending_at q c.args.node) c.args.before (rows_of c.args.used.now) out.0 (drop c.args.before.count c.advance_slots.new.members.items)) c.in_default-2.is (c.in_ok-room.ensures.moved out.0 out.1.1.1) in
+    let nodes = stand_nodes q.pools (slots_from q c.args.node (c.args.place + 1)) (ending_at q c.args.node) c.args.before (rows_of c.args.used.now) (drop c.args.before.count c.args.members.now.items) out.0 out.1.1.1 in
+    out_next q c.args.node c.args.place sound s.first c.args.before (rows_of c.args.used.now) gs out.0 (drop c.args.before.count c.advance_slots.new.members.items) out.1.0 (omega (arith, nodes, c.requires.limit, c.limit.ensures, c.limit.type_inv)) out.1.1.0 next
 
 pub advance_slots-returns-in_default-2-clause-steps : goal.advance_slots-returns-in_default-2-clause-steps
-advance_slots-returns-in_default-2-clause-steps g t c = twice_wider c.args.plan.now c.args.node c.args.place c.args.meter.now c.slot.new.meter (members_count (members_of (drop c.args.taken c.args.members.now.items))) c.slot.ensures.step (fewer_here g t (goal.at.advance_slots-returns-in_default-2-clause-steps g t c).In-Some) c.advance_slots.new.meter c.advance_slots.ensures.steps
+advance_slots-returns-in_default-2-clause-steps g t c = twice_wider c.args.plan.now c.args.node c.args.place c.args.meter.now c.slot.new.meter (members_count (members_of (drop c.args.before.count c.args.members.now.items))) c.slot.ensures.step (fewer_here g t (goal.at.advance_slots-returns-in_default-2-clause-steps g t c).In-Some) c.advance_slots.new.meter c.advance_slots.ensures.steps
 
 pub advance_slots-returns-in_default-2-clause-last : goal.advance_slots-returns-in_default-2-clause-last
 advance_slots-returns-in_default-2-clause-last g t c = tt
 
-out_here : (g : Over) (t : ℕ) (c : advance_slots-In-Last g t) (gs : List (Option Data)) → StandIn c.args.plan.now.pools (slots_from c.args.plan.now c.args.node c.args.place) (bounds_at c.args.plan.now c.args.node) c.args.taken (rows_of c.args.used.now) (drop c.args.taken c.args.members.now.items) gs
-    → IsOutEnded c.args.plan.now c.args.node c.args.place c.args.taken c.in-Last.room (rows_of c.args.used.now) (drop c.args.taken c.args.members.now.items) gs
+out_here : (g : Over) (t : ℕ) (c : advance_slots-In-Last g t) (gs : List (Option Data)) → StandIn c.args.plan.now.pools (slots_from c.args.plan.now c.args.node c.args.place) (ending_at c.args.plan.now c.args.node) c.args.before (rows_of c.args.used.now) (drop c.args.before.count c.args.members.now.items) gs
+    → IsOutEnded c.args.plan.now c.args.node c.args.place c.args.before c.in-Last.room (rows_of c.args.used.now) (drop c.args.before.count c.args.members.now.items) gs
 out_here g t c gs st =
     let q = c.args.plan.now in
     let sound = c.sound_parts.ensures.parts _ (site_among q c.args.node c.requires.node) in
-    let s = slot_of q c.args.node c.args.place c.in-Some.slot c.in-Some.ensures.some c.in-Some.ensures.below c.in-Some.ensures.later c.in-Some.ensures.followed in
-    out_ended q c.args.node c.args.place c.in-Some.slot s sound c.in_ok-room.field-0 c.args.taken c.in-Last.room (rows_of c.args.used.now) c.args.members.now.items c.as_slice.result.now (drop c.args.taken c.advance_slots.new.members.items) gs
-    c.as_slice.ensures.value (λ h. let yes = c.begins.ensures.1 h in let no = c.if-begins.false in cc) (omega (arith, c.requires.limit, c.limit.ensures, c.limit.type_inv)) c.in-Last.is c.in_ok-room.ensures.moved st
+    let s = slot_of q c.args.node c.args.place c.in-Some.slot c.in-Some.ensures.some c.in-Some.ensures.below c.in-Some.ensures.later c.in-Some.ensures.bit c.in-Some.ensures.followed in
+    out_ended q c.args.node c.args.place c.in-Some.slot s sound c.in_ok-room.field-0 c.args.before c.in-Last.room (rows_of c.args.used.now) c.args.members.now.items c.as_slice.result.now (drop c.args.before.count c.advance_slots.new.members.items) gs
+    c.as_slice.ensures.value (λ h. let yes = c.begins.ensures.1 (begins_at c.in-Some.slot.name.now c.as_slice.result.now (sym c.count.ensures) h) in let no = c.if-begins.false in cc) (omega (arith, c.requires.limit, c.limit.ensures, c.limit.type_inv)) c.in-Last.is c.in_ok-room.ensures.moved st
 
 pub advance_slots-grow_slots-requires-clause-slot : goal.advance_slots-grow_slots-requires-clause-slot
 advance_slots-grow_slots-requires-clause-slot g t c = slot_here g t (goal.at.advance_slots-grow_slots-requires-clause-slot g t c).In-Some
@@ -521,15 +522,15 @@ advance_slots-grow_slots-requires-clause-open g t c =
     let sound = c.sound_parts.ensures.parts _ (site_among q c.args.node c.requires.node) in
     let s = slot_here g t (goal.at.advance_slots-grow_slots-requires-clause-open g t c).In-Some in
     let e = out_here g t (goal.at.advance_slots-grow_slots-requires-clause-open g t c).In-Last c.requires.stand.0 c.requires.stand.1 in
-    subst (λ m. IsOpen q.pools (slots_from q c.args.node c.args.place) (bounds_at q c.args.node) c.args.taken m (rows_of c.args.used.now)) (ap filled_nodes e.is ∙ e.room_is)
-    (open_here q c.args.node c.args.place sound s.first c.args.taken (rows_of c.args.used.now) (drop c.args.taken c.args.members.now.items) c.requires.stand.0 c.requires.known c.requires.stand.1)
+    subst (λ m. IsOpen q.pools (slots_from q c.args.node c.args.place) (ending_at q c.args.node) c.args.before m (rows_of c.args.used.now)) (ap filled_nodes e.is ∙ e.room_is)
+    (open_here q c.args.node c.args.place sound s.first c.args.before (rows_of c.args.used.now) (drop c.args.before.count c.args.members.now.items) c.requires.stand.0 c.requires.known c.requires.stand.1)
 
 pub advance_slots-returns-clause-kept : goal.advance_slots-returns-clause-kept
 advance_slots-returns-clause-kept g t c =
     let q = c.args.plan.now in
-    let front = c.truncate.ensures.items ∙ c.in_ok-room.ensures.kept in
-    let count : length c.truncate.new.self.items ≡ c.args.taken = ap (λ (ms : List Member). length ms) front ∙ length-take-le c.args.taken c.args.members.now.items c.requires.within in
-    IfOk-weaker c.grow_slots.result _ _ (λ st h. grown_kept st q.pools (slot_in q c.args.node c.args.place) (slots_from q c.args.node (c.args.place + 1)) (bounds_at q c.args.node) c.args.taken c.in-Last.room 0 c.args.taken (rows_of c.args.used.now) c.truncate.new.self.items c.grow_slots.new.members.items h count ∙ front) c.grow_slots.ensures.ok
+    let front = (cut_at c.advance_slots.new.members.items c.truncate.new.self.items c.count-2.ensures c.truncate.ensures.items) ∙ c.in_ok-room.ensures.kept in
+    let count : length c.truncate.new.self.items ≡ c.args.before.count = ap (λ (ms : List Member). length ms) front ∙ length-take-le c.args.before.count c.args.members.now.items c.requires.within in
+    IfOk-weaker c.grow_slots.result _ _ (λ st h. grown_kept st q.pools (slot_in q c.args.node c.args.place) (slots_from q c.args.node (c.args.place + 1)) (ending_at q c.args.node) c.args.before c.in-Last.room 0 c.args.before.count (rows_of c.args.used.now) c.truncate.new.self.items c.grow_slots.new.members.items h count ∙ front) c.grow_slots.ensures.ok
 
 pub advance_slots-returns-clause-moved : goal.advance_slots-returns-clause-moved
 advance_slots-returns-clause-moved g t c =
@@ -538,18 +539,18 @@ advance_slots-returns-clause-moved g t c =
     let sound = c.sound_parts.ensures.parts _ (site_among q c.args.node c.requires.node) in
     let s = slot_here g t (goal.at.advance_slots-returns-clause-moved g t c).In-Some in
     let e = out_here g t (goal.at.advance_slots-returns-clause-moved g t c).In-Last gs st in
-    let front = c.truncate.ensures.items ∙ c.in_ok-room.ensures.kept in
-    let count : length c.truncate.new.self.items ≡ c.args.taken = ap (λ (ms : List Member). length ms) front ∙ length-take-le c.args.taken c.args.members.now.items c.requires.within in
-    out_grown q c.args.node c.args.place sound s.first m c.args.taken (rows_of c.args.used.now) gs e.rest c.in-Last.room c.truncate.new.self.items c.grow_slots.new.members.items e.is e.small e.free count e.room_is e.last h) c.grow_slots.ensures.ok
+    let front = (cut_at c.advance_slots.new.members.items c.truncate.new.self.items c.count-2.ensures c.truncate.ensures.items) ∙ c.in_ok-room.ensures.kept in
+    let count : length c.truncate.new.self.items ≡ c.args.before.count = ap (λ (ms : List Member). length ms) front ∙ length-take-le c.args.before.count c.args.members.now.items c.requires.within in
+    out_grown q c.args.node c.args.place sound s.first m c.args.before (rows_of c.args.used.now) gs e.rest c.in-Last.room c.truncate.new.self.items c.grow_slots.new.members.items e.is e.small e.free count e.room_is e.last h) c.grow_slots.ensures.ok
 
 pub advance_slots-returns-clause-steps : goal.advance_slots-returns-clause-steps
 advance_slots-returns-clause-steps g t c =
     let e = out_here g t (goal.at.advance_slots-returns-clause-steps g t c).In-Last c.requires.stand.0 c.requires.stand.1 in
-    twice_out c.args.plan.now c.args.node c.args.place c.args.meter.now c.slot.new.meter (members_count (members_of (drop c.args.taken c.args.members.now.items))) c.slot.ensures.step (fewer_here g t (goal.at.advance_slots-returns-clause-steps g t c).In-Some) c.advance_slots.new.meter c.grow_slots.new.meter c.in-Last.room e.nodes_are (subst (λ m. CostsLastSlots m c.args.plan.now c.args.node (c.args.place + 1) c.slot.new.meter c.advance_slots.new.meter (members_count (members_of (drop c.args.taken c.args.members.now.items)))) c.in-Last.is c.in_ok-room.ensures.last) c.grow_slots.ensures.steps
+    twice_out c.args.plan.now c.args.node c.args.place c.args.meter.now c.slot.new.meter (members_count (members_of (drop c.args.before.count c.args.members.now.items))) c.slot.ensures.step (fewer_here g t (goal.at.advance_slots-returns-clause-steps g t c).In-Some) c.advance_slots.new.meter c.grow_slots.new.meter c.in-Last.room e.nodes_are (subst (λ m. CostsLastSlots m c.args.plan.now c.args.node (c.args.place + 1) c.slot.new.meter c.advance_slots.new.meter (members_count (members_of (drop c.args.before.count c.args.members.now.items)))) c.in-Last.is c.in_ok-room.ensures.last) c.grow_slots.ensures.steps
 
 pub advance_slots-returns-clause-last : goal.advance_slots-returns-clause-last
 advance_slots-returns-clause-last g t c =
-    IfOk-weaker c.grow_slots.result _ _ (λ m k. last_kept m c.args.plan.now c.args.node c.args.place c.args.meter.now c.advance_slots.new.meter c.grow_slots.new.meter (members_count (members_of (drop c.args.taken c.args.members.now.items))) (costs_wider c.args.plan.now c.args.node c.args.place c.args.meter.now c.slot.new.meter (members_count (members_of (drop c.args.taken c.args.members.now.items))) c.slot.ensures.step (fewer_here g t (goal.at.advance_slots-returns-clause-last g t c).In-Some) c.advance_slots.new.meter (subst (λ m. CostsLastSlots m c.args.plan.now c.args.node (c.args.place + 1) c.slot.new.meter c.advance_slots.new.meter (members_count (members_of (drop c.args.taken c.args.members.now.items)))) c.in-Last.is c.in_ok-room.ensures.last)) k) c.grow_slots.ensures.last
+    IfOk-weaker c.grow_slots.result _ _ (λ m k. last_kept m c.args.plan.now c.args.node c.args.place c.args.meter.now c.advance_slots.new.meter c.grow_slots.new.meter (members_count (members_of (drop c.args.before.count c.args.members.now.items))) (costs_wider c.args.plan.now c.args.node c.args.place c.args.meter.now c.slot.new.meter (members_count (members_of (drop c.args.before.count c.args.members.now.items))) c.slot.ensures.step (fewer_here g t (goal.at.advance_slots-returns-clause-last g t c).In-Some) c.advance_slots.new.meter (subst (λ m. CostsLastSlots m c.args.plan.now c.args.node (c.args.place + 1) c.slot.new.meter c.advance_slots.new.meter (members_count (members_of (drop c.args.before.count c.args.members.now.items)))) c.in-Last.is c.in_ok-room.ensures.last)) k) c.grow_slots.ensures.last
 
 pub advance_value-next_key-requires-clause-node : goal.advance_value-next_key-requires-clause-node
 advance_value-next_key-requires-clause-node g t c = omega (arith, c.requires.slot.below, c.requires.node)

@@ -6,7 +6,9 @@ use Rattle.plan.specs.Samples.Candidates.{sort_of}
 use Rattle.plan.specs.declared.sort.Sort.TheVariants as sort
 use Rattle.plan.specs.declared.sort.Sort.{Sort}
 use Rattle.enumerate.specs.Least.{IsNext}
+use Rattle.plan.specs.Samples.Sizes.{CanFill}
 use Rattle.enumerate.specs.Internal.Nodes.{site, IsPartOf}
+use Rattle.enumerate.specs.Internal.Rows.{slots_from, ending_at}
 use Rattle.enumerate.proofs.ListLemmas.{site_among}
 use Rattle.enumerate.proofs.NullMoves.{empty_row, no_row, empty_list, no_list}
 use Rattle.enumerate.proofs.moving.past_null.Goals.{in_default-via-in-Row+else-has, in_default-via-in-List+else-has-2, in_default-via-in_default}
@@ -21,7 +23,7 @@ pub returns-in-Row : goal.returns-in-Row
 returns-in-Row g c =
     let q = c.args.plan.now in
     let there = site_among q c.args.node c.requires.node in
-    let can = ((c.rest.ensures 0).0 (c.has.ensures.0 c.if-has.true)).1 in
+    let can = subst (λ x. CanFill q.pools (slots_from q c.args.node 0) (ending_at q c.args.node) x 0) c.nothing.ensures ((c.rest.ensures 0).0 (c.has.ensures.0 c.if-has.true)).1 in
     subst (λ ms. IsNext tree_cmp (IsPartOf q c.args.node 1) null_data (Some (object_data (members_of ms)))) (sym c.new.ensures.items)
     (empty_row q c.args.node (c.no_dead_end.ensures.parts _ there) (sym c.sort.ensures ∙ c.in-Row.is) can)
 
@@ -38,7 +40,7 @@ returns-in_default g c =
     let q = c.args.plan.now in
     let rule = c.no_dead_end.ensures.parts _ (site_among q c.args.node c.requires.node) in (
       elim c.in_default.branch [
-        | in_default-via-in-Row+else-has w ↦ no_row q c.args.node rule (sym c.sort.ensures ∙ w.in-Row.is) (λ can. let yes = w.has.ensures.1 ((w.rest.ensures 0).1 (omega arith, can)) in let no = w.if-has.false in cc)
+        | in_default-via-in-Row+else-has w ↦ no_row q c.args.node rule (sym c.sort.ensures ∙ w.in-Row.is) (λ can. let yes = w.has.ensures.1 ((w.rest.ensures 0).1 (omega arith, subst (λ x. CanFill q.pools (slots_from q c.args.node 0) (ending_at q c.args.node) x 0) (sym w.nothing.ensures) can)) in let no = w.if-has.false in cc)
         | in_default-via-in-List+else-has-2 w ↦ no_list q c.args.node rule (sym c.sort.ensures ∙ w.in-List.is) c.requires.some (λ more. let yes = w.if-has-2.ensures.1 ((w.more.ensures 0).1 (omega arith, more)) in cc)
         | in_default-via-in_default w ↦ absurd (other (sort_of (site q c.args.node)) c.requires.no_leaf (λ r. let no = w.in_default.not-Row in no (c.sort.ensures ∙ r)) (λ l. let no = w.in_default.not-List in no (c.sort.ensures ∙ l)))
       ],

@@ -21,7 +21,7 @@ pub node_at-returns-in-Object : goal.node_at-returns-in-Object
 node_at-returns-in-Object t c =
     let n = c.args.node.now in
     let o = c.in-Object.object in
-    in_object (node_of n) n.nullable n.description o.fields o.preserves o.map_type o.bounds (ap (λ s. node n.nullable n.description (sort_of s)) c.in-Object.is) c.args.text.now
+    in_object (node_of n) n.nullable n.description o.fields o.preserves o.map_type o.bounds (validations_of o.junctors) (ap (λ s. node n.nullable n.description (sort_of s)) c.in-Object.is) c.args.text.now
     (option_map (λ m. node_of m.now) c.node_in.result) (some_text c.args.text.now (sym c.is_empty.ensures ∙ c.if-is_empty.false)) c.node_in.ensures
 
 pub node_at-returns-in-Map : goal.node_at-returns-in-Map

@@ -1,7 +1,13 @@
-use Rattle.std.proofs.Common.{take, refl, [], ◌∙◌, length, arith, rules}
+use Rattle.std.proofs.Common.{subst, take, refl, [], ◌∙◌, length, arith, rules}
 use Rattle.std.proofs.lemmas.List.{take_more}
 use Rattle.schema.specs.Nodes.Node.{object, map as map_sort}
 use Rattle.plan.proofs.BuildingLemmas.{field_built, no_fields_built, row_built, list_built, last_site, three_ok}
+use Rattle.schema.specs.Nodes.View.{validations_of}
+use Rattle.plan.specs.Samples.Presence.{no_validations}
+use Rattle.plan.specs.Samples.Sites.{field_slots}
+use Rattle.plan.specs.Internal.Arena.{AreSlots}
+use Rattle.plan.proofs.NameLemmas.{few_named}
+use Rattle.plan.proofs.SeenLemmas.{closed_of, map_met, object_met}
 use Rattle.plan.proofs.building.+build.Goals as goal
 
 pub build_fields-loop-field-preserved : goal.build_fields-loop-field-preserved
@@ -16,19 +22,25 @@ build_fields-loop-field-preserved g t c =
       values = c.in_ok-slot.ensures.values ∙ inv.values;
       limit = c.in_ok-slot.ensures.limit ∙ inv.limit;
       built = rw (c.in_ok-push.ensures.items, take_more items i field c.loop-field-test.true, ← c.field-item.is)
-          (field_built holds c.args.arena.now.limit c.args.arena.now.values c.args.arena.now.entries.items c.loop-field.arena.entries.items c.build_field.new.arena.entries.items (take i items) field c.args.keys.now c.loop-field.slots.items c.in_ok-slot.slot inv.built built c.in_ok-slot.ensures.slot);
+          (field_built holds c.args.arena.now.limit c.args.arena.now.values c.args.arena.now.entries.items c.loop-field.arena.entries.items c.build_field.new.arena.entries.items (take i items) field c.args.keys.now c.args.named.now c.loop-field.slots.items c.in_ok-slot.slot inv.built built c.in_ok-slot.ensures.slot c.in_ok-slot.ensures.bit);
     }
 
 pub build_object-returns-clause-built : goal.build_object-returns-clause-built
 build_object-returns-clause-built g t c =
     let v = c.args.arena.now.values in
     let o = c.args.object.now in
+    let cs = validations_of o.junctors in
     let mid = c.build_fields.new.arena.entries.items in
-    let b = c.in_ok-slots.ensures.built in
-    let added = c.add_row.ensures in
+    let names = c.in_ok-named.named.items in
+    let b = rw c.deref.ensures.value at c.in_ok-slots.ensures.built in
+    let ends = c.in_ok-ends.ends.items in
+    let added = rw c.deref-3.ensures.value at c.add_row.ensures in
     three_ok c.add_row.result _ _ _ _ added.number added.count (rw (c.in_ok-slots.ensures.limit, c.in_ok-slots.ensures.values) at added.right)
-    (λ n number count right d. row_built g.Z.SizeSet.holds c.args.arena.now.limit v c.args.arena.now.entries.items mid c.add_row.new.arena.entries.items c.args.nullable d (object o.fields o.preserves o.map_type o.bounds) c.args.keys.now o.bounds c.in_ok-slots.slots.items n
-    c.reveal_invariant.ensures refl refl (number ∙ b.count) count b.right (λ P sites values stand. b.slots_are v.names.items sites n stand (omega arith)) right)
+    (λ n number count right d. row_built g.Z.SizeSet.holds c.args.arena.now.limit v c.args.arena.now.entries.items mid c.add_row.new.arena.entries.items c.args.nullable d (object o.fields o.preserves o.map_type o.bounds cs) c.args.keys.now o.bounds cs ends c.in_ok-slots.slots.items n
+    c.reveal_invariant.ensures refl refl
+    (λ sound. object_met cs names ends (c.in_ok-named.ensures.names (few_named o.fields cs sound)) (rw c.deref-2.ensures.value at c.in_ok-ends.ensures.whole) (rw c.deref-2.ensures.value at c.in_ok-ends.ensures.each))
+    (number ∙ b.count) count b.right
+    (λ P sites values sound stand. subst (λ ns. AreSlots v.names.items sites n c.in_ok-slots.slots.items (field_slots c.args.keys.now ns o.fields)) (c.in_ok-named.ensures.names (few_named o.fields cs sound)) (b.slots_are v.names.items sites n stand (omega arith))) right)
 
 pub build_map-returns-clause-built : goal.build_map-returns-clause-built
 build_map-returns-clause-built g t c =
@@ -41,9 +53,9 @@ build_map-returns-clause-built g t c =
     let names = rw c.in_ok-value.ensures.values at c.len.ensures in
     let added = c.add_row.ensures in
     three_ok c.add_row.result _ _ _ _ added.number added.count (rw (c.in_ok-value.ensures.limit, c.in_ok-value.ensures.values) at added.right)
-    (λ n number count right d. row_built g.Z.SizeSet.holds c.args.arena.now.limit v old mid c.add_row.new.arena.entries.items c.args.nullable d (map_sort m.value m.map_type m.bounds) c.args.keys.now m.bounds c.in_ok-slots.slots.items n
-    c.reveal_invariant.ensures refl refl (number ∙ b.count) count b.right
-    (λ P sites values stand. rw (← values.names) (c.in_ok-slots.ensures.slots v.names.items sites n m.value (omega (arith, names)) (omega (arith, b.last, number)) (last_site sites (length old) p m.value [] (omega (arith, b.last, b.count)) stand))) right)
+    (λ n number count right d. row_built g.Z.SizeSet.holds c.args.arena.now.limit v old mid c.add_row.new.arena.entries.items c.args.nullable d (map_sort m.value m.map_type m.bounds) c.args.keys.now m.bounds no_validations _ c.in_ok-slots.slots.items n
+    c.reveal_invariant.ensures refl refl (λ sound. map_met) (number ∙ b.count) count b.right
+    (λ P sites values sound stand. rw (← values.names) (c.in_ok-slots.ensures.slots v.names.items sites n m.value (omega (arith, names)) (omega (arith, b.last, number)) (last_site sites (length old) p m.value [] (omega (arith, b.last, b.count)) stand))) right)
 
 pub build_list-returns-clause-built : goal.build_list-returns-clause-built
 build_list-returns-clause-built g t c =
@@ -55,15 +67,18 @@ build_list-returns-clause-built g t c =
     c.in_ok-item.item n c.reveal_invariant.ensures b number count right)
 
 pub build_field-returns-clause-slot : goal.build_field-returns-clause-slot
-build_field-returns-clause-slot g t c = record { name_is = λ names. c.in_ok-copy.ensures; must = search rules; key = c.is_key.ensures }
+build_field-returns-clause-slot g t c = record { name_is = λ names. c.in_ok-copy.ensures; must = search rules; key = c.is_key.ensures; bit = c.bit_of.ensures.bit }
 
 pub build_fields-loop-field-init : goal.build_fields-loop-field-init
 build_fields-loop-field-init g t c =
     let a = c.args.arena.now in
-    record { values = refl; limit = refl; built = rw c.new-slots.ensures.items (no_fields_built g.Z.SizeSet.holds a.limit a.values a.entries.items c.args.keys.now) }
+    record { values = refl; limit = refl; built = rw c.new-slots.ensures.items (no_fields_built g.Z.SizeSet.holds a.limit a.values a.entries.items c.args.keys.now c.args.named.now) }
 
 pub build_map-add_row-requires-clause-below : goal.build_map-add_row-requires-clause-below
 build_map-add_row-requires-clause-below g t c = λ k d l. let h = c.in_ok-slots.ensures.below k d l in omega (arith, c.in_ok-value.ensures.built.last)
 
 pub build_list-add_list-requires-clause-item : goal.build_list-add_list-requires-clause-item
 build_list-add_list-requires-clause-item g t c = omega (arith, c.in_ok-item.ensures.built.last)
+
+pub build_field-returns-clause-bit : goal.build_field-returns-clause-bit
+build_field-returns-clause-bit g t c = closed_of _ _ c.requires.few c.bit_of.ensures.below

@@ -1,5 +1,6 @@
 use Rattle.std.proofs.Common.{◌≡◌, take, arith, refl}
 use Rattle.std.proofs.lemmas.List.{take_all}
+use Rattle.plan.specs.Internal.Tables.{IsClosed}
 use Rattle.plan.specs.declared.arena.SlotEntry.{SlotEntry}
 use Rattle.plan.proofs.SizeLemmas.{each_push}
 use Rattle.plan.proofs.BuildingLemmas.{value_slots_push}
@@ -10,6 +11,7 @@ loop-place-preserved c =
     rw c.in_ok-push.ensures.items
     (record {
       below = each_push (λ k (s : SlotEntry). s.node ≡ c.args.node) c.loop-place.slots.items _ c.loop-place.invariant.below refl;
+      bits = each_push (λ k (s : SlotEntry). IsClosed 1 s.bit) c.loop-place.slots.items _ c.loop-place.invariant.bits (tt, λ seen l. l);
       slots = λ names sites i M l within site. value_slots_push names sites i c.loop-place.place c.args.node M c.loop-place.slots.items (omega arith) within site (c.loop-place.invariant.slots names sites i M (omega arith) within site);
     })
 

@@ -11,7 +11,7 @@ returns-in-Some-clause-some g c =
     let row = rw c.in-Row.is at r.content in
     let l = rw c.deref.ensures.value at c.in-Some.ensures.lookup.3 in
     let is = slice_get_at c.in-Row.row.slots.items c.args.place c.in-Some.slot.now l.0 (l.1 c.in-Some.slot.now) in
-    (row_slot holds c.args.self.now.limit c.args.self.now.pools c.self.inside.arena.values.names.items (sites_of c.args.self.now.root) c.args.node c.args.place c.in-Row.row c.in-Some.slot.now _ row is c.name.ensures refl refl refl).0
+    (row_slot holds c.args.self.now.limit c.args.self.now.pools c.self.inside.arena.values.names.items (sites_of c.args.self.now.root) c.args.node c.args.place c.in-Row.row c.in-Some.slot.now _ row is c.name.ensures refl refl refl refl).0
 
 pub returns-in-Some-clause-below : goal.returns-in-Some-clause-below
 returns-in-Some-clause-below g c =
@@ -56,3 +56,11 @@ returns-in-Some-clause-later g c =
     let l = rw c.deref.ensures.value at c.in-Some.ensures.lookup.3 in
     let sound = c.sound_parts.ensures.parts (site_at sites c.args.node) (site_among sites c.args.node c.requires.node) in
     row_later holds c.args.self.now.limit c.args.self.now.pools _ sites c.args.node c.args.place c.index.result.now c.in-Row.row row sound.keys l.0 c.index.ensures
+
+pub returns-in-Some-clause-bit : goal.returns-in-Some-clause-bit
+returns-in-Some-clause-bit g c =
+    let holds = g.Z.SizeSet.holds in
+    let r = entry_right holds g.Z.SizeSet.BITS c.self.inside.schema c.self.inside.pools c.self.inside.arena.limit c.self.inside.arena.values c.self.inside.arena.entries.items c.self.inside.root c.args.self.now c.args.node c.entry.result.now c.self.invariant c.self.view_is c.requires.node c.entry.ensures in
+    let row = rw c.in-Row.is at r.content in
+    let l = rw c.deref.ensures.value at c.in-Some.ensures.lookup.3 in
+    rw (← l.1 c.in-Some.slot.now) at (row.bits c.args.place c.in-Some.slot.now l.0)

@@ -6,16 +6,17 @@ ghost use Rattle.jtree.specs.Order.{tree_cmp};
 ghost use Rattle.jtree.specs.View.{data_of, items_of};
 ghost use Rattle.plan.specs.Samples.Candidates.{sort_of};
 ghost use Rattle.plan.specs.Samples.NoDeadEnd.{is_key, HasFree};
-ghost use Rattle.plan.specs.Samples.Sizes.{HasMore};
+ghost use Rattle.plan.specs.Samples.Sizes.{nothing, filled, HasMore};
 ghost use Rattle.plan.specs.Samples.RuleOfParts.{admits_null};
 ghost use Rattle.plan.specs.declared.sort.Sort.TheVariants as sort;
 ghost use Rattle.enumerate.specs.Least.{IsLeast};
 ghost use Rattle.enumerate.specs.Internal.Nodes.{site, IsNodeOf, IsPartOf, HasSizeAt, Costs};
 ghost use Rattle.enumerate.specs.Internal.Candidates.{rows_of};
 ghost use Rattle.enumerate.specs.Internal.Steps.{KeepsMeter};
-ghost use Rattle.enumerate.specs.Internal.Rows.{slots_from, slot_in, bounds_at, used_keys, IsSlotOf, AreUsed, IsOpen, AddsFirst, IsRow, still_used, IsValue, IsGrown, CostsSlots};
+ghost use Rattle.enumerate.specs.Internal.Rows.{slots_from, slot_in, ending_at, used_keys, IsSlotOf, AreUsed, IsOpen, AddsFirst, IsRow, still_used, IsValue, IsGrown, CostsSlots};
 ghost use Rattle.enumerate.specs.Internal.Lists.{AreFirst, CanFollow, IsFreshItem, AddsItems, AreGrown};
 
+use crate::before::Before;
 use crate::leaves::{first_key, first_unused};
 use crate::moved::Step;
 use crate::splitting::least_split;
@@ -63,24 +64,34 @@ pub(crate) fn first_row<Z: SizeSet>(
     requires row { sort_of (site plan.now node) ≡ sort.Row }
     requires some { 1 ≤ size }
     requires limit { size ≤ plan.now.limit }
-    requires open { IsOpen plan.now.pools (slots_from plan.now node 0) (bounds_at plan.now node) 0 (size - 1) (rows_of used.now) }
+    requires open { IsOpen plan.now.pools (slots_from plan.now node 0) (ending_at plan.now node) nothing (size - 1) (rows_of used.now) }
     ensures ok { IfOk result (λ v. IsLeast tree_cmp (IsRow plan.now node (size - 1) (rows_of used.now)) (data_of v)) }
     ensures steps { Costs plan.now meter.old meter.new size }
 {
     plan.sound_parts();
     let mut members = Vec::new(alloc);
-    first_slots(alloc, plan, node, 0, 0, size - 1, used, &mut members, meter)?;
+    first_slots(
+        alloc,
+        plan,
+        node,
+        0,
+        Before::nothing(),
+        size - 1,
+        used,
+        &mut members,
+        meter,
+    )?;
     Ok(Tree::Object(Members { members }))
 }
 
-/// Appends the first members of `room` nodes that stand in the slots from `place` on, where `taken` slots are filled before it.
+/// Appends the first members of `room` nodes that stand in the slots from `place` on, where `before` stands before it.
 #[cycle(first)]
 pub(crate) fn first_slots<Z: SizeSet>(
     alloc: Global,
     plan: &Plan<Z>,
     node: PlanNode,
     place: u64,
-    taken: u32,
+    before: Before,
     room: u32,
     used: &[&Tree],
     members: &mut Vec<Member>,
@@ -88,23 +99,23 @@ pub(crate) fn first_slots<Z: SizeSet>(
 ) -> Result<(), AllocError>
     requires node { IsNodeOf plan.now node }
     requires row { sort_of (site plan.now node) ≡ sort.Row }
-    requires taken { taken ≤ place }
-    requires limit { taken + room < plan.now.limit }
-    requires open { IsOpen plan.now.pools (slots_from plan.now node place) (bounds_at plan.now node) taken room (rows_of used.now) }
-    ensures ok { OnOk result (AddsFirst plan.now.pools (slots_from plan.now node place) (bounds_at plan.now node) taken room (rows_of used.now) members.old.items members.new.items) }
+    requires taken { before.count ≤ place }
+    requires limit { before.count + room < plan.now.limit }
+    requires open { IsOpen plan.now.pools (slots_from plan.now node place) (ending_at plan.now node) before room (rows_of used.now) }
+    ensures ok { OnOk result (AddsFirst plan.now.pools (slots_from plan.now node place) (ending_at plan.now node) before room (rows_of used.now) members.old.items members.new.items) }
     ensures steps { CostsSlots plan.now node place meter.old meter.new room }
 {
     plan.sound_parts();
     let Some(slot) = plan.slot(node, place, meter) else {
         return Ok(());
     };
-    if !slot.must && plan.rest(node, place + 1, taken).has(room) {
+    if !slot.must && before.rest(plan, node, place + 1).has(room) {
         return first_slots(
             alloc,
             plan,
             node,
             place + 1,
-            taken,
+            before,
             room,
             used,
             members,
@@ -112,7 +123,7 @@ pub(crate) fn first_slots<Z: SizeSet>(
         );
     }
     grow_slots(
-        alloc, plan, node, &slot, place, taken, room, 0, used, members, meter,
+        alloc, plan, node, &slot, place, before, room, 0, used, members, meter,
     )?;
     Ok(())
 }
@@ -126,7 +137,7 @@ pub(crate) fn grow_slots<Z: SizeSet>(
     node: PlanNode,
     slot: &Slot<'_>,
     place: u64,
-    taken: u32,
+    before: Before,
     room: u32,
     from: u32,
     used: &[&Tree],
@@ -136,17 +147,17 @@ pub(crate) fn grow_slots<Z: SizeSet>(
     requires node { IsNodeOf plan.now node }
     requires row { sort_of (site plan.now node) ≡ sort.Row }
     requires slot { IsSlotOf plan.now node place slot.now }
-    requires taken { taken ≤ place }
-    requires limit { taken + room < plan.now.limit }
-    requires open { IsOpen plan.now.pools (slots_from plan.now node place) (bounds_at plan.now node) taken room (rows_of used.now) }
-    ensures ok { IfOk result (λ step. IsGrown step plan.now.pools (slot_in plan.now node place) (slots_from plan.now node (place + 1)) (bounds_at plan.now node) taken room from (rows_of used.now) members.old.items members.new.items) }
+    requires taken { before.count ≤ place }
+    requires limit { before.count + room < plan.now.limit }
+    requires open { IsOpen plan.now.pools (slots_from plan.now node place) (ending_at plan.now node) before room (rows_of used.now) }
+    ensures ok { IfOk result (λ step. IsGrown step plan.now.pools (slot_in plan.now node place) (slots_from plan.now node (place + 1)) (ending_at plan.now node) before room from (rows_of used.now) members.old.items members.new.items) }
     ensures steps { CostsSlots plan.now node (place + 1) meter.old meter.new room }
     ensures last { IfOk result (λ step. KeepsMeter step meter.old meter.new) }
 {
     plan.sound_parts();
     plan.limit();
     let sizes = plan.sizes(slot.node);
-    let rest = plan.rest(node, place + 1, taken + 1);
+    let rest = before.fill(slot).rest(plan, node, place + 1);
     let Some(size) = least_split(sizes, rest, room, from) else {
         return Ok(Step::Last(room));
     };
@@ -158,7 +169,7 @@ pub(crate) fn grow_slots<Z: SizeSet>(
         node,
         slot,
         place,
-        taken,
+        before,
         room - size,
         used,
         Member { name, tree },
@@ -204,7 +215,7 @@ pub(crate) fn put_member<Z: SizeSet>(
     node: PlanNode,
     slot: &Slot<'_>,
     place: u64,
-    taken: u32,
+    before: Before,
     room: u32,
     used: &[&Tree],
     member: Member,
@@ -214,10 +225,10 @@ pub(crate) fn put_member<Z: SizeSet>(
     requires node { IsNodeOf plan.now node }
     requires row { sort_of (site plan.now node) ≡ sort.Row }
     requires slot { IsSlotOf plan.now node place slot.now }
-    requires taken { taken ≤ place }
-    requires limit { taken + 1 + room < plan.now.limit }
-    requires open { IsOpen plan.now.pools (slots_from plan.now node (place + 1)) (bounds_at plan.now node) (taken + 1) room (still_used (slot_in plan.now node place) (data_of member.tree) (rows_of used.now)) }
-    ensures ok { OnOk result (AddsFirst plan.now.pools (slots_from plan.now node (place + 1)) (bounds_at plan.now node) (taken + 1) room (still_used (slot_in plan.now node place) (data_of member.tree) (rows_of used.now))
+    requires taken { before.count ≤ place }
+    requires limit { before.count + 1 + room < plan.now.limit }
+    requires open { IsOpen plan.now.pools (slots_from plan.now node (place + 1)) (ending_at plan.now node) (filled (slot_in plan.now node place).bit before) room (still_used (slot_in plan.now node place) (data_of member.tree) (rows_of used.now)) }
+    ensures ok { OnOk result (AddsFirst plan.now.pools (slots_from plan.now node (place + 1)) (ending_at plan.now node) (filled (slot_in plan.now node place).bit before) room (still_used (slot_in plan.now node place) (data_of member.tree) (rows_of used.now))
         (members.old.items ++ member ∷ []) members.new.items) }
     ensures steps { CostsSlots plan.now node (place + 1) meter.old meter.new room }
 {
@@ -229,7 +240,7 @@ pub(crate) fn put_member<Z: SizeSet>(
         plan,
         node,
         place + 1,
-        taken + 1,
+        before.fill(slot),
         room,
         same.as_slice(),
         members,

@@ -1,7 +1,7 @@
 use Rattle.std.proofs.Common.{◌+◌, ◌*◌, length}
 use Rattle.enumerate.specs.Internal.Nodes.{weight}
 use Rattle.enumerate.specs.Internal.Rows.{slots_from}
-use Rattle.enumerate.proofs.filling.+first.Given as goal
+use Rattle.enumerate.proofs.building.+first.Given as goal
 
 abbrev pub decreases-first : goal.decreases-first
 decreases-first g l = weight l.plan.now (l.node + 1)

@@ -5,18 +5,18 @@ use Rattle.enumerate.proofs.MembershipLemmas.{lighter, row_lighter, null_part}
 use Rattle.enumerate.proofs.MoveCosts.{part_within, costs_within, costs_both, costs_below, costs_row, costs_slots, costs_both_slots, costs_wider}
 use Rattle.plan.specs.Samples.Sizes.{HasSize}
 use Rattle.enumerate.specs.Internal.Candidates.{IsFreeKey}
-use Rattle.enumerate.proofs.RowSteps.{slot_of, none_at, one_fewer, out_open, out_adds, grown_at, key_there, key_value, key_leaf, part_value, behind_open, place_within, keys_at}
+use Rattle.enumerate.proofs.RowSteps.{slot_of, filled_at, none_at, one_fewer, out_open, out_adds, grown_at, key_there, key_value, key_leaf, part_value, behind_open, place_within, keys_at}
 use Rattle.enumerate.proofs.RowOrder.{in_members, row_least}
 use Rattle.enumerate.proofs.PartRows.{weight_next, null_first, plain_least, plain_open}
 use Rattle.enumerate.proofs.LeastLemmas.{least_same}
 use Rattle.jtree.specs.Internal.Rising.{contained}
 use Rattle.enumerate.specs.Internal.Candidates.{IsUnusedPart}
-use Rattle.enumerate.proofs.filling.+first.Goals.{first-then-size-eq1+else-null_ok, first-else-size-eq1}
+use Rattle.enumerate.proofs.building.+first.Goals.{first-then-size-eq1+else-null_ok, first-else-size-eq1}
 use Rattle.jtree.specs.Data.{AreMembers, object as object_data}
 use Rattle.jtree.specs.View.{members_of}
 use Rattle.plan.specs.Samples.Sizes.{CanFill}
 use Rattle.enumerate.specs.Internal.Candidates.{agreeing_if}
-use Rattle.enumerate.proofs.filling.+first.Goals.{first_slots-else-not-slot-via-then-not-slot+else-has, first_slots-else-not-slot-via-else-not-slot}
+use Rattle.enumerate.proofs.building.+first.Goals.{first_slots-else-not-slot-via-then-not-slot+else-has, first_slots-else-not-slot-via-else-not-slot}
 use Rattle.std.proofs.Common.{refl, sym, ap, subst, ◌∙◌, arith}
 use Rattle.std.proofs.lemmas.Result.{IfOk-weaker}
 use Rattle.jtree.specs.Data.{list as list_data}
@@ -29,22 +29,22 @@ use Rattle.enumerate.specs.Internal.Lists.{FitsItem}
 use Rattle.enumerate.proofs.LeastLemmas.{least_same}
 use Rattle.enumerate.proofs.ListLemmas.{some_nodes, some_size, few_items, counted, split_same, fits_same, least_from_same, empty_from_same, adds_none, adds_grown, follow_item, site_among}
 use Rattle.enumerate.proofs.WholeListLemmas.{list_longer, list_follow, list_first, list_alone, part_fresh, unused_fresh}
-use Rattle.enumerate.proofs.filling.+first.Goals.{first_list-then-size-gt1+in-Some+in_ok-first_items, first_list-else-size-gt1}
+use Rattle.enumerate.proofs.building.+first.Goals.{first_list-then-size-gt1+in-Some+in_ok-first_items, first_list-else-size-gt1}
 use Rattle.enumerate.proofs.SetItemLemmas.{set_free}
 use Rattle.std.proofs.Common.{◌≡◌, ◌+◌, ◌-◌, ◌≤◌, ◌<◌, [], ℕ, length, IfNone}
 use Rattle.jtree.specs.Data.{Data, null}
 use Rattle.jtree.specs.Order.{tree_cmp}
 use Rattle.jtree.specs.View.{data_of, items_of}
 use Rattle.plan.specs.Samples.Candidates.{sort_of}
-use Rattle.plan.specs.Samples.Sizes.{HasMore}
+use Rattle.plan.specs.Samples.Sizes.{Before, nothing, filled, HasMore}
 use Rattle.enumerate.specs.Least.{IsLeast}
 use Rattle.enumerate.specs.Internal.Nodes.{site, IsPartOf, Costs}
 use Rattle.enumerate.specs.Internal.Candidates.{rows_of}
-use Rattle.enumerate.specs.Internal.Rows.{slots_from, slot_in, bounds_at, IsSlotOf, IsOpen, AddsFirst, IsRow, still_used}
+use Rattle.enumerate.specs.Internal.Rows.{slots_from, slot_in, ending_at, IsSlotOf, IsOpen, AddsFirst, IsRow, still_used}
 use Rattle.enumerate.specs.Internal.Lists.{CanFollow, IsFreshItem, AddsItems}
-use Rattle.enumerate.proofs.filling.+first.Given.{Over}
-use Rattle.enumerate.proofs.filling.+first.Goals as goal
-use Rattle.enumerate.proofs.filling.+first.Goals.{first_slots-In-Some}
+use Rattle.enumerate.proofs.building.+first.Given.{Over}
+use Rattle.enumerate.proofs.building.+first.Goals as goal
+use Rattle.enumerate.proofs.building.+first.Goals.{first_slots-In-Some}
 
 pub first_items-returns-in_ok-grow_items-clause-ok : goal.first_items-returns-in_ok-grow_items-clause-ok
 first_items-returns-in_ok-grow_items-clause-ok g t c =
@@ -207,7 +207,7 @@ first_item-first_unused-requires-clause-free g t c =
 
 -- the slot at the place, and those behind it
 slot_here : (g : Over) (t : ℕ) (c : first_slots-In-Some g t) → IsSlotOf c.args.plan.now c.args.node c.args.place c.in-Some.slot
-slot_here g t c = slot_of c.args.plan.now c.args.node c.args.place c.in-Some.slot c.in-Some.ensures.some c.in-Some.ensures.below c.in-Some.ensures.later c.in-Some.ensures.followed
+slot_here g t c = slot_of c.args.plan.now c.args.node c.args.place c.in-Some.slot c.in-Some.ensures.some c.in-Some.ensures.below c.in-Some.ensures.later c.in-Some.ensures.bit c.in-Some.ensures.followed
 
 fewer_here : (g : Over) (t : ℕ) (c : first_slots-In-Some g t) → length (slots_from c.args.plan.now c.args.node c.args.place) ≡ 1 + length (slots_from c.args.plan.now c.args.node (c.args.place + 1))
 fewer_here g t c = one_fewer c.args.plan.now c.args.node c.args.place (slot_here g t c).first
@@ -215,7 +215,7 @@ fewer_here g t c = one_fewer c.args.plan.now c.args.node c.args.place (slot_here
 pub first_slots-returns-in_default-clause-ok : goal.first_slots-returns-in_default-clause-ok
 first_slots-returns-in_default-clause-ok g t c =
     let q = c.args.plan.now in
-    none_at q c.args.node c.args.place (c.sound_parts.ensures.parts _ (site_among q c.args.node c.requires.node)) c.args.taken c.args.room (rows_of c.args.used.now) c.args.members.now.items c.in_default.ensures.none c.requires.open
+    none_at q c.args.node c.args.place (c.sound_parts.ensures.parts _ (site_among q c.args.node c.requires.node)) c.args.before c.args.room (rows_of c.args.used.now) c.args.members.now.items c.in_default.ensures.none c.requires.open
 
 pub first_slots-returns-in_default-clause-steps : goal.first_slots-returns-in_default-clause-steps
 first_slots-returns-in_default-clause-steps g t c = λ w wide. omega (arith, c.slot.ensures.step)
@@ -232,7 +232,7 @@ first_slots-first_slots-requires g t c κs within =
     let can = ((c.rest.ensures c.args.room).0 (c.has.ensures.0 c.if-has.true)).1 in
     let fewer = fewer_here g t (goal.at.first_slots-first_slots-requires g t c).In-Some in (
       omega (arith, c.decreases, fewer),
-      (within, (c.requires.node, (c.requires.row, (omega (arith, c.requires.taken), (c.requires.limit, out_open q c.args.node c.args.place sound s.first c.args.taken c.args.room (rows_of c.args.used.now) free can c.requires.open))))),
+      (within, (c.requires.node, (c.requires.row, (omega (arith, c.requires.taken), (c.requires.limit, out_open q c.args.node c.args.place sound s.first c.args.before c.args.room (rows_of c.args.used.now) free can c.requires.open))))),
     )
 
 pub first_slots-returns-then-has-clause-ok : goal.first_slots-returns-then-has-clause-ok
@@ -241,7 +241,7 @@ first_slots-returns-then-has-clause-ok g t c =
     let s = slot_here g t (goal.at.first_slots-returns-then-has-clause-ok g t c).In-Some in
     let sound = c.sound_parts.ensures.parts _ (site_among q c.args.node c.requires.node) in
     let free = sym s.must ∙ c.if-not-slot.true in
-    on_ok_weaker c.first_slots.result (λ a. out_adds q c.args.node c.args.place sound s.first c.args.taken c.args.room (rows_of c.args.used.now) c.args.members.now.items c.first_slots.new.members.items (omega (arith, c.ranges.room.fits)) free a)
+    on_ok_weaker c.first_slots.result (λ a. out_adds q c.args.node c.args.place sound s.first c.args.before c.args.room (rows_of c.args.used.now) c.args.members.now.items c.first_slots.new.members.items (omega (arith, c.ranges.room.fits)) free a)
     c.first_slots.ensures.ok
 
 pub first_slots-returns-then-has-clause-steps : goal.first_slots-returns-then-has-clause-steps
@@ -265,7 +265,7 @@ first_slots-returns-clause-ok g t c =
     let q = c.args.plan.now in
     let s = slot_here g t (goal.at.first_slots-returns-clause-ok g t c).In-Some in
     let sound = c.sound_parts.ensures.parts _ (site_among q c.args.node c.requires.node) in
-    grown_at q c.args.node c.args.place sound s.first c.in_ok-grow_slots.field-0 c.args.taken c.args.room (rows_of c.args.used.now) c.args.members.now.items c.grow_slots.new.members.items (omega (arith, c.ranges.room.fits))
+    grown_at q c.args.node c.args.place sound s.first c.in_ok-grow_slots.field-0 c.args.before c.args.room (rows_of c.args.used.now) c.args.members.now.items c.grow_slots.new.members.items (omega (arith, c.ranges.room.fits))
     (λ free can. elim c.else-not-slot.branch [
       | first_slots-else-not-slot-via-then-not-slot+else-has w ↦ let yes = w.has.ensures.1 ((w.rest.ensures c.args.room).1 (omega (arith, c.requires.limit), can)) in let no = sym yes ∙ w.if-has.false in cc
       | first_slots-else-not-slot-via-else-not-slot w ↦ let yes = w.if-not-slot.false in let no = sym yes ∙ s.must ∙ free in cc
@@ -314,9 +314,6 @@ grow_slots-sizes-sizes-requires g t c = omega (arith, c.requires.slot.below, c.r
 pub grow_slots-overflow_add-place : goal.grow_slots-overflow_add-place
 grow_slots-overflow_add-place g t c = omega (arith, c.requires.slot.followed)
 
-pub grow_slots-overflow_add-taken : goal.grow_slots-overflow_add-taken
-grow_slots-overflow_add-taken g t c = omega (arith, c.requires.limit, c.limit.ensures, c.limit.type_inv)
-
 pub grow_slots-rest-rest-requires-clause-place : goal.grow_slots-rest-rest-requires-clause-place
 grow_slots-rest-rest-requires-clause-place g t c = place_within c.args.plan.now c.args.node c.args.place c.requires.slot.first
 
@@ -326,11 +323,12 @@ grow_slots-least_split-requires g t c = omega (arith, c.limit.type_inv, c.limit.
 pub grow_slots-returns-in_default-clause-ok : goal.grow_slots-returns-in_default-clause-ok
 grow_slots-returns-in_default-clause-ok g t c =
     let q = c.args.plan.now in
-    let sizes = subst (λ x. IsUpTo q.limit (g.Z.SizeSet.holds c.sizes-sizes.result) (HasSize q.pools x)) c.requires.slot.node c.sizes-sizes.ensures in (
+    let sizes = subst (λ x. IsUpTo q.limit (g.Z.SizeSet.holds c.sizes-sizes.result) (HasSize q.pools x)) c.requires.slot.node c.sizes-sizes.ensures in
+    let rest = subst (λ x. IsUpTo q.limit (g.Z.SizeSet.holds c.rest-rest.result) (CanFill q.pools (slots_from q c.args.node (c.args.place + 1)) (ending_at q c.args.node) x)) (filled_at q c.args.node c.args.place c.args.slot.now c.args.before c.fill.result c.requires.slot c.fill.ensures) c.rest-rest.ensures in (
       refl,
       empty_from_same _ _ c.args.from
           (split_same q.limit c.args.room (g.Z.SizeSet.holds c.sizes-sizes.result) (g.Z.SizeSet.holds c.rest-rest.result) (HasSize q.pools (slot_in q c.args.node c.args.place).site)
-          (CanFill q.pools (slots_from q c.args.node (c.args.place + 1)) (bounds_at q c.args.node) (c.args.taken + 1)) (omega (arith, c.requires.limit)) sizes c.rest-rest.ensures) c.in_default.ensures,
+          (CanFill q.pools (slots_from q c.args.node (c.args.place + 1)) (ending_at q c.args.node) (filled (slot_in q c.args.node c.args.place).bit c.args.before)) (omega (arith, c.requires.limit)) sizes rest) c.in_default.ensures,
       refl,
     )
 
@@ -347,8 +345,9 @@ grow_slots-put_member-requires g t c κs within =
     let q = c.args.plan.now in
     let sound = c.sound_parts.ensures.parts _ (site_among q c.args.node c.requires.node) in
     let sizes = subst (λ x. IsUpTo q.limit (g.Z.SizeSet.holds c.sizes-sizes.result) (HasSize q.pools x)) c.requires.slot.node c.sizes-sizes.ensures in
+    let rest = subst (λ x. IsUpTo q.limit (g.Z.SizeSet.holds c.rest-rest.result) (CanFill q.pools (slots_from q c.args.node (c.args.place + 1)) (ending_at q c.args.node) x)) (filled_at q c.args.node c.args.place c.args.slot.now c.args.before c.fill.result c.requires.slot c.fill.ensures) c.rest-rest.ensures in
     let fits = (split_same q.limit c.args.room (g.Z.SizeSet.holds c.sizes-sizes.result) (g.Z.SizeSet.holds c.rest-rest.result) (HasSize q.pools (slot_in q c.args.node c.args.place).site)
-    (CanFill q.pools (slots_from q c.args.node (c.args.place + 1)) (bounds_at q c.args.node) (c.args.taken + 1)) (omega (arith, c.requires.limit)) sizes c.rest-rest.ensures c.in-Some.size).0 c.in-Some.ensures.1 in
+    (CanFill q.pools (slots_from q c.args.node (c.args.place + 1)) (ending_at q c.args.node) (filled (slot_in q c.args.node c.args.place).bit c.args.before)) (omega (arith, c.requires.limit)) sizes rest c.in-Some.size).0 c.in-Some.ensures.1 in
     let value = c.in_ok-tree.ensures.ok.is in
     let some : 1 ≤ c.in-Some.size = omega (arith, some_nodes (data_of c.in_ok-tree.tree), value.nodes_are) in
     let few : c.in-Some.size ≤ c.args.room = omega (arith, c.in-Some.ensures.1.1.1.1) in (
@@ -365,7 +364,7 @@ grow_slots-put_member-requires g t c κs within =
                 c.requires.taken,
                 (
                   omega (arith, c.requires.limit, some, few),
-                  behind_open q c.args.node c.args.place sound c.requires.slot.first c.args.taken c.args.room (rows_of c.args.used.now) c.in-Some.size (data_of c.in_ok-tree.tree) c.requires.open.known fits value,
+                  behind_open q c.args.node c.args.place sound c.requires.slot.first c.args.before c.args.room (rows_of c.args.used.now) c.in-Some.size (data_of c.in_ok-tree.tree) c.requires.open.known fits value,
                 ),
               ),
             ),
@@ -378,13 +377,14 @@ pub grow_slots-returns-clause-ok : goal.grow_slots-returns-clause-ok
 grow_slots-returns-clause-ok g t c =
     let q = c.args.plan.now in
     let sizes = subst (λ x. IsUpTo q.limit (g.Z.SizeSet.holds c.sizes-sizes.result) (HasSize q.pools x)) c.requires.slot.node c.sizes-sizes.ensures in
+    let rest = subst (λ x. IsUpTo q.limit (g.Z.SizeSet.holds c.rest-rest.result) (CanFill q.pools (slots_from q c.args.node (c.args.place + 1)) (ending_at q c.args.node) x)) (filled_at q c.args.node c.args.place c.args.slot.now c.args.before c.fill.result c.requires.slot c.fill.ensures) c.rest-rest.ensures in
     record {
       size = c.in-Some.size;
       one = record { name = c.in_ok-name.name; tree = c.in_ok-tree.tree };
       name = c.in_ok-name.ensures ∙ c.requires.slot.name;
       least = least_from_same _ _ c.args.from c.in-Some.size
           (split_same q.limit c.args.room (g.Z.SizeSet.holds c.sizes-sizes.result) (g.Z.SizeSet.holds c.rest-rest.result) (HasSize q.pools (slot_in q c.args.node c.args.place).site)
-          (CanFill q.pools (slots_from q c.args.node (c.args.place + 1)) (bounds_at q c.args.node) (c.args.taken + 1)) (omega (arith, c.requires.limit)) sizes c.rest-rest.ensures) c.in-Some.ensures;
+          (CanFill q.pools (slots_from q c.args.node (c.args.place + 1)) (ending_at q c.args.node) (filled (slot_in q c.args.node c.args.place).bit c.args.before)) (omega (arith, c.requires.limit)) sizes rest) c.in-Some.ensures;
       first = c.in_ok-tree.ensures.ok;
       rest = c.in_ok-put_member.ensures.ok;
     }
@@ -407,6 +407,7 @@ put_member-overflow_add-place g t c = omega (arith, c.requires.slot.followed)
 pub put_member-first_slots-requires : goal.put_member-first_slots-requires
 put_member-first_slots-requires g t c κs within =
     let q = c.args.plan.now in
+    let count = ap (λ (x : Before). x.count) c.fill.ensures in
     let same = ap rows_of c.as_slice.ensures.value ∙ c.in_ok-same.ensures ∙ (λ i. agreeing_if (c.requires.slot.key i) (c.requires.slot.name i) (data_of c.args.member.tree) (rows_of c.args.used.now)) in (
       omega (arith, c.decreases),
       (
@@ -416,10 +417,11 @@ put_member-first_slots-requires g t c κs within =
           (
             c.requires.row,
             (
-              omega (arith, c.requires.taken),
+              omega (arith, c.requires.taken, count),
               (
-                c.requires.limit,
-                subst (IsOpen q.pools (slots_from q c.args.node (c.args.place + 1)) (bounds_at q c.args.node) (c.args.taken + 1) c.args.room) (sym same) c.requires.open,
+                omega (arith, c.requires.limit, count),
+                subst (λ x. IsOpen q.pools (slots_from q c.args.node (c.args.place + 1)) (ending_at q c.args.node) x c.args.room (rows_of c.as_slice.result.now)) (sym (filled_at q c.args.node c.args.place c.args.slot.now c.args.before c.fill.result c.requires.slot c.fill.ensures))
+                    (subst (IsOpen q.pools (slots_from q c.args.node (c.args.place + 1)) (ending_at q c.args.node) (filled (slot_in q c.args.node c.args.place).bit c.args.before) c.args.room) (sym same) c.requires.open),
               ),
             ),
           ),
@@ -432,25 +434,32 @@ put_member-returns-clause-ok g t c =
     let q = c.args.plan.now in
     let same = ap rows_of c.as_slice.ensures.value ∙ c.in_ok-same.ensures ∙ (λ i. agreeing_if (c.requires.slot.key i) (c.requires.slot.name i) (data_of c.args.member.tree) (rows_of c.args.used.now)) in
     on_ok_weaker c.first_slots.result (λ a.
-    subst (λ l. AddsFirst q.pools (slots_from q c.args.node (c.args.place + 1)) (bounds_at q c.args.node) (c.args.taken + 1) c.args.room (still_used (slot_in q c.args.node c.args.place) (data_of c.args.member.tree) (rows_of c.args.used.now)) l c.first_slots.new.members.items)
+    subst (λ l. AddsFirst q.pools (slots_from q c.args.node (c.args.place + 1)) (ending_at q c.args.node) (filled (slot_in q c.args.node c.args.place).bit c.args.before) c.args.room (still_used (slot_in q c.args.node c.args.place) (data_of c.args.member.tree) (rows_of c.args.used.now)) l c.first_slots.new.members.items)
     c.in_ok-push.ensures.items
-    (subst (λ u. AddsFirst q.pools (slots_from q c.args.node (c.args.place + 1)) (bounds_at q c.args.node) (c.args.taken + 1) c.args.room u c.push.new.self.items c.first_slots.new.members.items) same a)) c.first_slots.ensures.ok
+    (subst (λ u. AddsFirst q.pools (slots_from q c.args.node (c.args.place + 1)) (ending_at q c.args.node) (filled (slot_in q c.args.node c.args.place).bit c.args.before) c.args.room u c.push.new.self.items c.first_slots.new.members.items) same
+    (subst (λ x. AddsFirst q.pools (slots_from q c.args.node (c.args.place + 1)) (ending_at q c.args.node) x c.args.room (rows_of c.as_slice.result.now) c.push.new.self.items c.first_slots.new.members.items) (filled_at q c.args.node c.args.place c.args.slot.now c.args.before c.fill.result c.requires.slot c.fill.ensures) a))) c.first_slots.ensures.ok
 
 pub first_row-first_slots-requires : goal.first_row-first_slots-requires
-first_row-first_slots-requires g t c κs within = (omega (arith, c.decreases), (within, (c.requires.node, (c.requires.row, (omega arith, (omega (arith, c.requires.some, c.requires.limit), c.requires.open))))))
+first_row-first_slots-requires g t c κs within =
+    let q = c.args.plan.now in
+    let count = ap (λ (x : Before). x.count) c.nothing.ensures in
+    let can = subst (λ x. IsOpen q.pools (slots_from q c.args.node 0) (ending_at q c.args.node) x (c.args.size - 1) (rows_of c.args.used.now)) (sym c.nothing.ensures) c.requires.open in
+    (omega (arith, c.decreases), (within, (c.requires.node, (c.requires.row, (omega (arith, count), (omega (arith, c.requires.some, c.requires.limit, count), can))))))
 
 pub first_row-invariant_of-result : goal.first_row-invariant_of-result
 first_row-invariant_of-result g t c =
     let q = c.args.plan.now in
     let sound = c.sound_parts.ensures.parts _ (site_among q c.args.node c.requires.node) in
-    let adds = subst (λ old. AddsFirst q.pools (slots_from q c.args.node 0) (bounds_at q c.args.node) 0 (c.args.size - 1) (rows_of c.args.used.now) old c.first_slots.new.members.items) c.new-members.ensures.items c.in_ok-first_slots.ensures.ok in
+    let adds = subst (λ old. AddsFirst q.pools (slots_from q c.args.node 0) (ending_at q c.args.node) nothing (c.args.size - 1) (rows_of c.args.used.now) old c.first_slots.new.members.items) c.new-members.ensures.items
+    (subst (λ x. AddsFirst q.pools (slots_from q c.args.node 0) (ending_at q c.args.node) x (c.args.size - 1) (rows_of c.args.used.now) c.new-members.result.items c.first_slots.new.members.items) c.nothing.ensures c.in_ok-first_slots.ensures.ok) in
     subst AreMembers (sym (ap members_of adds.is ∙ adds.are)) (in_members q.pools (slots_from q c.args.node 0) adds.fillings sound.order adds.least.is.are)
 
 pub first_row-returns-clause-ok : goal.first_row-returns-clause-ok
 first_row-returns-clause-ok g t c =
     let q = c.args.plan.now in
     let sound = c.sound_parts.ensures.parts _ (site_among q c.args.node c.requires.node) in
-    let adds = subst (λ old. AddsFirst q.pools (slots_from q c.args.node 0) (bounds_at q c.args.node) 0 (c.args.size - 1) (rows_of c.args.used.now) old c.first_slots.new.members.items) c.new-members.ensures.items c.in_ok-first_slots.ensures.ok in
+    let adds = subst (λ old. AddsFirst q.pools (slots_from q c.args.node 0) (ending_at q c.args.node) nothing (c.args.size - 1) (rows_of c.args.used.now) old c.first_slots.new.members.items) c.new-members.ensures.items
+    (subst (λ x. AddsFirst q.pools (slots_from q c.args.node 0) (ending_at q c.args.node) x (c.args.size - 1) (rows_of c.args.used.now) c.new-members.result.items c.first_slots.new.members.items) c.nothing.ensures c.in_ok-first_slots.ensures.ok) in
     subst (λ ms. IsLeast tree_cmp (IsRow q c.args.node (c.args.size - 1) (rows_of c.args.used.now)) (object_data ms)) (sym (ap members_of adds.is ∙ adds.are)) (row_least q c.args.node (c.args.size - 1) (rows_of c.args.used.now) adds.fillings sound.order adds.least)
 
 pub first_row-returns-clause-steps : goal.first_row-returns-clause-steps
@@ -458,9 +467,6 @@ first_row-returns-clause-steps g t c = costs_row c.args.plan.now c.args.node c.a
 
 pub first_row-returns-in_err-first_slots-clause-steps : goal.first_row-returns-in_err-first_slots-clause-steps
 first_row-returns-in_err-first_slots-clause-steps g t c = costs_row c.args.plan.now c.args.node c.args.meter.now c.first_slots.new.meter (c.args.size - 1) c.args.size c.requires.node c.requires.row (omega (arith, c.requires.some)) c.first_slots.ensures.steps
-
-pub put_member-overflow_add-taken : goal.put_member-overflow_add-taken
-put_member-overflow_add-taken g t c = omega (arith, c.requires.limit, c.limit.ensures, c.limit.type_inv)
 
 pub first-first_row-requires : goal.first-first_row-requires
 first-first_row-requires g t c κs within =
@@ -571,7 +577,7 @@ first_item-first_row-requires g t c κs within =
               some,
               (
                 c.requires.limit,
-                subst (IsOpen q.pools (slots_from q c.args.child 0) (bounds_at q c.args.child) 0 (c.args.size - 1)) (sym (ap rows_of c.as_slice.ensures.value ∙ c.in_ok-used-in-Keys.ensures))
+                subst (IsOpen q.pools (slots_from q c.args.child 0) (ending_at q c.args.child) nothing (c.args.size - 1)) (sym (ap rows_of c.as_slice.ensures.value ∙ c.in_ok-used-in-Keys.ensures))
                     (item_open q c.args.node c.args.child (c.no_dead_end.ensures.parts _ here) (c.no_dead_end.ensures.parts _ there) (c.sound_parts.ensures.parts _ there) items c.sound_parts.ensures.free counts.0 counts.1 c.args.items.now c.args.size c.requires.fresh.0
                     (omega (arith, c.limit.ensures, c.limit.type_inv)) c.requires.first c.requires.fresh.1 c.requires.size),
               ),

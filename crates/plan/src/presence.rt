@@ -1,0 +1,194 @@
+//! What the junctors of an object ask of the fields that are there.
+ghost use Rattle.std.specs.Prelude.{◌≡◌, ℕ, ◌≤◌, ◌<◌, ◌^◌, ◌++◌, ◌+◌, Bool, List, length, get_or, IfOk, OnOk, IfSome};
+ghost use Rattle.schema.specs.Nodes.View.{validations_of};
+ghost use Rattle.schema.specs.Nodes.Junctors.{names_in, names_of, most_named};
+ghost use Rattle.stored.specs.Objects.Tests.{has_names, has_all as has_all_of, holds_by, all_hold as all_hold_of, any_holds as any_holds_of, is_absent as is_absent_of, holding as holding_of, meets_junctors_by, meets_presence as meets_presence_of};
+ghost use Rattle.plan.specs.Samples.Presence.{named, bit_of as bit_of_name, is_set};
+ghost use Rattle.plan.specs.Internal.Tables.{is_seen};
+
+use crate::values::put_in_order;
+use jtree::Text;
+use schema::{Branches, Names, Validations};
+use std::alloc::{AllocError, Global};
+
+/// The most fields that the junctors of an object name, by the rules of the schema.
+const MOST_NAMED: usize = 4;
+
+/// The fields that the junctors name, by bytes, each once.
+pub(crate) fn named_fields(alloc: Global, junctors: &Validations) -> Result<Vec<Text>, AllocError>
+    ensures few { IfOk result (λ names. length names.items ≤ most_named) }
+    ensures names { IfOk result (λ names. length (named (validations_of junctors.now)) ≤ most_named → names.items ≡ named (validations_of junctors.now)) }
+{
+    let mut names = Vec::new(alloc);
+    push_names(alloc, &mut names, junctors)?;
+    put_in_order(&mut names);
+    names.truncate(MOST_NAMED);
+    Ok(names)
+}
+
+/// Adds the names that are asked for, as written.
+#[cycle(names)]
+fn push_names(
+    alloc: Global,
+    names: &mut Vec<Text>,
+    validations: &Validations,
+) -> Result<(), AllocError>
+    ensures { OnOk result (names.new.items ≡ names.old.items ++ names_in (validations_of validations.now)) }
+{
+    push_required(alloc, names, &validations.constraints.required)?;
+    push_branch_names(alloc, names, &validations.all_of)?;
+    push_branch_names(alloc, names, &validations.any_of)?;
+    push_branch_names(alloc, names, &validations.one_of)?;
+    push_branch_names(alloc, names, &validations.negated)
+}
+
+/// Adds the names that a branch asks for itself.
+fn push_required(alloc: Global, names: &mut Vec<Text>, required: &Names) -> Result<(), AllocError>
+    ensures { OnOk result (names.new.items ≡ names.old.items ++ required.now) }
+{
+    for name in &required.names {
+        names.push(name.copy(alloc)?)?;
+    }
+    Ok(())
+}
+
+#[cycle(names)]
+fn push_branch_names(
+    alloc: Global,
+    names: &mut Vec<Text>,
+    branches: &Branches,
+) -> Result<(), AllocError>
+    ensures { OnOk result (names.new.items ≡ names.old.items ++ names_of branches.now) }
+{
+    for branch in &branches.branches {
+        push_names(alloc, names, branch)?;
+    }
+    Ok(())
+}
+
+/// The place of a name.
+pub(crate) fn bit_of(name: &Text, names: &[Text]) -> Option<u8>
+    requires { length names.now ≤ most_named }
+    ensures bit { result ≡ bit_of_name name.now names.now }
+    ensures below { IfSome result (λ j. j < length names.now) }
+{
+    for place in 0..names.len() {
+        if name == &names[place] {
+            return Some(place as u8);
+        }
+    }
+    None
+}
+
+/// For each set of the named fields: whether the junctors hold where these are there.
+pub(crate) fn ends(
+    alloc: Global,
+    junctors: &Validations,
+    names: &[Text],
+) -> Result<Vec<bool>, AllocError>
+    requires { length names.now ≤ most_named }
+    ensures whole { IfOk result (λ ends. length ends.items ≡ 2 ^ length names.now) }
+    ensures each { IfOk result (λ ends. (seen : ℕ) (b : Bool) → seen < length ends.items → get_or ends.items seen b ≡ meets_presence_of (validations_of junctors.now) (is_seen names.now seen)) }
+{
+    let mut ends = Vec::new(alloc);
+    for seen in 0..1u8 << names.len() {
+        ends.push(meets_presence(junctors, names, seen))?;
+    }
+    Ok(ends)
+}
+
+/// Whether the junctors hold where these of the named fields are there.
+#[cycle(branches)]
+fn meets_presence(validations: &Validations, names: &[Text], seen: u8) -> bool
+    requires { length names.now ≤ most_named }
+    ensures { result ≡ meets_junctors_by (has_names (is_seen names.now seen)) (validations_of validations.now) }
+{
+    all_hold(&validations.all_of, names, seen)
+        && ((is_absent(&validations.any_of) || any_holds(&validations.any_of, names, seen))
+            && ((is_absent(&validations.one_of) || holding(&validations.one_of, names, seen) == 1)
+                && !any_holds(&validations.negated, names, seen)))
+}
+
+/// Whether a branch holds.
+#[cycle(branches)]
+fn holds(validations: &Validations, names: &[Text], seen: u8) -> bool
+    requires { length names.now ≤ most_named }
+    ensures { result ≡ holds_by (has_names (is_seen names.now seen)) (validations_of validations.now) }
+{
+    has_all(&validations.constraints.required, names, seen)
+        && meets_presence(validations, names, seen)
+}
+
+fn is_absent(branches: &Branches) -> bool
+    ensures { result ≡ is_absent_of branches.now }
+{
+    match branches.branches.as_slice() {
+        [] => true,
+        _ => false,
+    }
+}
+
+#[cycle(branches)]
+fn all_hold(branches: &Branches, names: &[Text], seen: u8) -> bool
+    requires { length names.now ≤ most_named }
+    ensures { result ≡ all_hold_of (has_names (is_seen names.now seen)) branches.now }
+{
+    for branch in &branches.branches {
+        if !holds(branch, names, seen) {
+            return false;
+        }
+    }
+    true
+}
+
+#[cycle(branches)]
+fn any_holds(branches: &Branches, names: &[Text], seen: u8) -> bool
+    requires { length names.now ≤ most_named }
+    ensures { result ≡ any_holds_of (has_names (is_seen names.now seen)) branches.now }
+{
+    for branch in &branches.branches {
+        if holds(branch, names, seen) {
+            return true;
+        }
+    }
+    false
+}
+
+/// How many branches hold.
+#[cycle(branches)]
+fn holding(branches: &Branches, names: &[Text], seen: u8) -> usize
+    requires { length names.now ≤ most_named }
+    ensures { result ≡ holding_of (has_names (is_seen names.now seen)) branches.now }
+{
+    let mut count = 0;
+    for branch in &branches.branches {
+        if holds(branch, names, seen) {
+            count += 1;
+        }
+    }
+    count
+}
+
+/// Whether all these fields are there.
+fn has_all(required: &Names, names: &[Text], seen: u8) -> bool
+    requires { length names.now ≤ most_named }
+    ensures { result ≡ has_all_of required.now (is_seen names.now seen) }
+{
+    for name in &required.names {
+        if !is_there(name, names, seen) {
+            return false;
+        }
+    }
+    true
+}
+
+/// Whether a named field is there.
+fn is_there(name: &Text, names: &[Text], seen: u8) -> bool
+    requires { length names.now ≤ most_named }
+    ensures { result ≡ is_seen names.now seen name.now }
+{
+    match bit_of(name, names) {
+        Some(bit) => seen >> bit & 1 == 1,
+        None => false,
+    }
+}
