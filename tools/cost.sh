@@ -138,6 +138,37 @@ fifteen() {
     function truth(is) { return is ? "true" : "false" }'
 }
 
+# the object of this number, from 0 on, among those of a required list of fifteen objects that have one of two truth values: all
+# have 32 nodes
+one_of_two() {
+    awk -v number="$1" 'BEGIN {
+        split("{\"b\":false} {\"b\":true} {\"a\":false} {\"a\":true}", choices, " ")
+        items = ""
+        for (i = 0; i < 15; i++) {
+            items = choices[number % 4 + 1] (i ? "," : "") items
+            number = int(number / 4)
+        }
+        printf "{\"t\":[%s]}", items
+    }'
+}
+
+# an object of 28 objects of truth values, with junctors at each object that name so many fields, or with none: with junctors 511
+# places
+named_fields() {
+    awk -v named="$1" 'BEGIN {
+        for (i = 0; i < named; i++) names = names (i ? "," : "") "\"b" i "\""
+        junctor = named ? "\"not\":{\"required\":[" names "]}," : ""
+        for (i = 0; i < 16; i++) fields = fields (i ? "," : "") "\"b" i "\":{\"type\":\"boolean\"}"
+        printf "{\"type\":\"object\",%s\"properties\":{", junctor
+        for (i = 0; i < 4; i++) printf "\"b%d\":{\"type\":\"boolean\"},", i
+        for (i = 0; i < 28; i++) {
+            printf "%s\"a%d\":{\"type\":\"object\",%s\"properties\":{%s", i ? "," : "", i, junctor, fields
+            printf "%s}}", i ? "" : ",\"b16\":{\"type\":\"boolean\"}"
+        }
+        printf "}}"
+    }'
+}
+
 # pools with as many entries as there may be
 full_pools() {
     awk 'BEGIN {
@@ -253,3 +284,22 @@ past() {
 }
 [ "$(past 999999 2>/dev/null | head -n 1)" = "$(fifteen 1000000)" ] || stop 'another sample past the millionth than wanted'
 ratio 'past the millionth sample, against past the first (about 1)' "$(best past 999999)" "$(best past 0)"
+
+# the same of 32 nodes, where a junctor asks which fields are there
+echo '{"type":"object","required":["t"],"properties":{"t":{"type":"array","minItems":15,"maxItems":15,"items":{"type":"object","oneOf":[{"required":["a"]},{"required":["b"]}],"properties":{"a":{"type":"boolean"},"b":{"type":"boolean"}}}}}}' | define >"$folder/one-of-two"
+past_junctors() {
+    ./crdx sample "$folder/one-of-two" v1 --limit 63 --count 640 --after "$(one_of_two "$1")"
+}
+[ "$(past_junctors 999999 2>/dev/null | head -n 1)" = "$(one_of_two 1000000)" ] || stop 'another sample with junctors past the millionth than wanted'
+ratio 'with junctors, past the millionth sample, against past the first (about 1)' "$(best past_junctors 999999)" "$(best past_junctors 0)"
+
+# plans of 511 places with junctors at each object, against one without
+for named in 0 2 4; do
+    named_fields "$named" | define >"$folder/named-$named"
+done
+named_plan() {
+    ./crdx sample "$folder/named-$1" v1 --limit 63 --count 1
+}
+without=$(best named_plan 0)
+ratio 'a plan with two named fields at each object, against none (at most 2)' "$(best named_plan 2)" "$without" 2
+ratio 'a plan with four named fields at each object, against none (at most 5)' "$(best named_plan 4)" "$without" 5

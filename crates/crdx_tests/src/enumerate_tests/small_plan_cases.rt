@@ -35,7 +35,7 @@ static HOLDERS: [(&str, &str, &str); 6] = [
 ];
 
 // The same for nodes of which two values can be told apart by a list.
-static HOLDERS_OF_SCALARS: [(&str, &str, &str); 4] = [
+static HOLDERS_OF_SCALARS: [(&str, &str, &str); 5] = [
     (
         "a set",
         r#"{"type":"object","properties":{"x":{"type":"array","x-kubernetes-list-type":"set","items":"#,
@@ -54,6 +54,11 @@ static HOLDERS_OF_SCALARS: [(&str, &str, &str); 4] = [
     (
         "a map list by two keys",
         r#"{"type":"object","properties":{"x":{"type":"array","maxItems":3,"x-kubernetes-list-type":"map","x-kubernetes-list-map-keys":["l","k"],"items":{"type":"object","required":["k","l"],"properties":{"l":{"type":"boolean"},"v":{"type":"object"},"k":"#,
+        "}}}}}",
+    ),
+    (
+        "a map list whose key a junctor names",
+        r#"{"type":"object","properties":{"x":{"type":"array","x-kubernetes-list-type":"map","x-kubernetes-list-map-keys":["k"],"items":{"type":"object","required":["k"],"oneOf":[{"required":["k","v"]},{"required":["w"]}],"properties":{"v":{"type":"boolean"},"w":{"type":"object"},"k":"#,
         "}}}}}",
     ),
 ];
@@ -173,6 +178,62 @@ static NODES: [(&str, &str); 22] = [
     ),
 ];
 
+// A name, and the schema of an object whose junctors ask which fields are there.
+static PRESENCE: [(&str, &str); 13] = [
+    (
+        "one of two fields",
+        r#"{"type":"object","oneOf":[{"required":["a"]},{"required":["b"]}],"properties":{"a":{"type":"boolean"},"b":{"type":"string"}}}"#,
+    ),
+    (
+        "two fields of which one may be null",
+        r#"{"type":"object","nullable":true,"anyOf":[{"required":["a"]},{"required":["b"]}],"properties":{"a":{"type":"boolean","nullable":true},"b":{"type":"object"},"c":{"type":"boolean"}}}"#,
+    ),
+    (
+        "fields that are not both there",
+        r#"{"type":"object","not":{"required":["b","a"]},"properties":{"a":{"type":"boolean"},"b":{"type":"integer"}}}"#,
+    ),
+    (
+        "fields that are all there",
+        r#"{"type":"object","allOf":[{"required":["a"]},{"required":["c"]}],"properties":{"a":{"type":"boolean"},"b":{"type":"boolean"},"c":{"type":"object"}}}"#,
+    ),
+    (
+        "four named fields",
+        r#"{"type":"object","oneOf":[{"required":["d","a"]},{"required":["b"]},{"required":["c"]}],"properties":{"a":{"type":"object"},"b":{"type":"object"},"c":{"type":"object"},"d":{"type":"object"},"e":{"type":"object"}}}"#,
+    ),
+    (
+        "nested junctors",
+        r#"{"type":"object","allOf":[{"anyOf":[{"required":["a"]},{"not":{"required":["b"]}}]},{"oneOf":[{"required":["c"]},{}]}],"properties":{"a":{"type":"object"},"b":{"type":"boolean"},"c":{"type":"object"}}}"#,
+    ),
+    (
+        "a named field with a default",
+        r#"{"type":"object","oneOf":[{"required":["a"]},{"required":["b"]}],"properties":{"a":{"type":"boolean","default":true},"b":{"type":"boolean"},"c":{"type":"object"}}}"#,
+    ),
+    (
+        "junctors beside bounds",
+        r#"{"type":"object","minProperties":1,"maxProperties":2,"not":{"anyOf":[{"required":["a","c"]},{"required":["b"]}]},"properties":{"a":{"type":"object"},"b":{"type":"object"},"c":{"type":"boolean"},"d":{"type":"object"}}}"#,
+    ),
+    (
+        "a required field that is named",
+        r#"{"type":"object","required":["b"],"anyOf":[{"required":["a"]},{"not":{"required":["b"]}}],"properties":{"a":{"type":"boolean"},"b":{"type":"integer"}}}"#,
+    ),
+    (
+        "objects that keep other fields",
+        r#"{"type":"object","x-kubernetes-preserve-unknown-fields":true,"oneOf":[{"required":["a"]},{"required":["b"]}],"properties":{"a":{"type":"boolean"},"b":{"type":"boolean"}}}"#,
+    ),
+    (
+        "objects below a named field",
+        r#"{"type":"object","oneOf":[{"required":["a"]},{"required":["b"]}],"properties":{"a":{"type":"object","not":{"required":["c"]},"properties":{"c":{"type":"object"},"d":{"type":"boolean"}}},"b":{"type":"object","default":{},"anyOf":[{"required":["c"]},{"required":[]}],"properties":{"c":{"type":"boolean"}}}}}"#,
+    ),
+    (
+        "lists and maps that are named",
+        r#"{"type":"object","anyOf":[{"required":["l","m"]},{"not":{"required":["l"]}}],"properties":{"l":{"type":"array","items":{"type":"boolean"}},"m":{"type":"object","additionalProperties":{"type":"boolean"}}}}"#,
+    ),
+    (
+        "junctors that nothing meets",
+        r#"{"type":"object","allOf":[{"required":["a"]},{"not":{"required":["a"]}}],"properties":{"a":{"type":"boolean"}}}"#,
+    ),
+];
+
 const POOLS: &str =
     r#"{"any":[[1],null,"z",{"q":1},"z"],"integers":[1,0,1],"names":["q","p","q"],"strings":["bb","a"]}"#;
 
@@ -200,6 +261,7 @@ fn all_plans(rt: &impl Abort, alloc: Global, pools: &str, limit: u32) -> Result<
     for holder in &HOLDERS {
         all_nodes(rt, alloc, holder, &SCALARS, pools, limit)?;
         all_nodes(rt, alloc, holder, &NODES, pools, limit)?;
+        all_nodes(rt, alloc, holder, &PRESENCE, pools, limit)?;
     }
     for holder in &HOLDERS_OF_SCALARS {
         all_nodes(rt, alloc, holder, &SCALARS, pools, limit)?;

@@ -3,13 +3,13 @@ ghost use Rattle.std.specs.Prelude.{◌<◌, length, IfSome};
 ghost use Rattle.plan.specs.Samples.Sites.{sites_of};
 
 use crate::support::documents::{
-    DEFAULTED, FIFTEEN, LABELS, LONG_MAP_LIST, MAP_LIST, NAMES, NULLABLE, OPEN, REPEATED, SET,
-    SPEC, TRUTHS, TWO_TEXTS, ZERO_AND_ONE, ZERO_AND_SEVEN,
+    DEFAULTED, FIFTEEN, LABELS, LONG_MAP_LIST, MAP_LIST, NAMES, NULLABLE, ONE_OF_TWO, OPEN,
+    REPEATED, SET, SPEC, TRUTHS, TWO_TEXTS, ZERO_AND_ONE, ZERO_AND_SEVEN,
 };
 use crate::support::harness::{holds, is_number, is_said, is_value, made, pools_of, schema_of};
 use crate::support::plans::{are_sizes, item_of, more_of, place_of, rest_of, slot_of};
 use plan::{Distinct, Meter, PFault, Plan, PlanNode, Sort};
-use schema::items_told_apart;
+use schema::{items_told_apart, junctors_name_fields};
 use std::alloc::{AllocError, Global};
 use std::process::Abort;
 use std::test::Fail;
@@ -17,6 +17,10 @@ use stored::stored_by_parts;
 
 const THREE_KEYS: &str =
     r#"{"type":"object","properties":{"m":{"type":"array","x-kubernetes-list-type":"map","x-kubernetes-list-map-keys":["d","a","c"],"items":{"type":"object","properties":{"a":{"type":"integer"},"b":{"type":"string"},"c":{"type":"boolean"},"d":{"type":"string"}},"required":["a","c","d"]}}}}"#;
+
+// Junctors that name four of five fields.
+const NAMED_FIELDS: &str =
+    r#"{"type":"object","properties":{"o":{"type":"object","not":{"required":["z","b","a0"]},"anyOf":[{"required":["b"]},{"not":{"required":["a"]}}],"properties":{"a":{"type":"boolean"},"a0":{"type":"boolean"},"b":{"type":"boolean"},"c":{"type":"boolean"},"z":{"type":"boolean"}}}}}"#;
 
 const FOUR_NODES: &str = r#"{"any":[[1,2,3]]}"#;
 
@@ -56,17 +60,17 @@ fn node_at(plan: &Plan<u64>, at: At, meter: &mut Meter) -> Option<PlanNode>
     }
 }
 
-// What is asked of a node: its sizes, what the slots from a place on can take behind so many filled ones, or what can follow
-// behind so many items.
+// What is asked of a node: its sizes, what the slots from a place on can take behind so many filled ones with these named fields
+// among them, or what can follow behind so many items.
 #[derive(Clone, Copy)]
 enum Asked {
     Sizes,
-    Rest(u64, u32),
+    Rest(u64, u32, u8),
     More(u32),
 }
 
 // A name, a schema with its pools and limit, a node, what is asked of it, and the sizes that are answered.
-static SIZES: [(&str, (&str, &str, u32), At, Asked, &[u32]); 22] = [
+static SIZES: [(&str, (&str, &str, u32), At, Asked, &[u32]); 30] = [
     (
         "the sizes of at least two of three truth values",
         (TRUTHS, "{}", 4),
@@ -148,49 +152,49 @@ static SIZES: [(&str, (&str, &str, u32), At, Asked, &[u32]); 22] = [
         "the rest behind no slot",
         (TRUTHS, "{}", 4),
         At::First,
-        Asked::Rest(0, 0),
+        Asked::Rest(0, 0, 0),
         &[2, 3],
     ),
     (
         "the rest behind an empty slot",
         (TRUTHS, "{}", 4),
         At::First,
-        Asked::Rest(1, 0),
+        Asked::Rest(1, 0, 0),
         &[2],
     ),
     (
         "the rest behind a filled slot",
         (TRUTHS, "{}", 4),
         At::First,
-        Asked::Rest(1, 1),
+        Asked::Rest(1, 1, 0),
         &[1, 2],
     ),
     (
         "the rest behind two empty slots",
         (TRUTHS, "{}", 4),
         At::First,
-        Asked::Rest(2, 0),
+        Asked::Rest(2, 0, 0),
         &[],
     ),
     (
         "the rest behind a filled slot of two",
         (TRUTHS, "{}", 4),
         At::First,
-        Asked::Rest(2, 1),
+        Asked::Rest(2, 1, 0),
         &[1],
     ),
     (
         "the rest behind two filled slots of three",
         (TRUTHS, "{}", 4),
         At::First,
-        Asked::Rest(3, 2),
+        Asked::Rest(3, 2, 0),
         &[0],
     ),
     (
         "the rest behind a filled slot of three",
         (TRUTHS, "{}", 4),
         At::First,
-        Asked::Rest(3, 1),
+        Asked::Rest(3, 1, 0),
         &[],
     ),
     (
@@ -221,6 +225,62 @@ static SIZES: [(&str, (&str, &str, u32), At, Asked, &[u32]); 22] = [
         Asked::More(3),
         &[],
     ),
+    (
+        "the sizes where one of two fields is asked for",
+        (ONE_OF_TWO, "{}", 4),
+        At::First,
+        Asked::Sizes,
+        &[2, 3],
+    ),
+    (
+        "the sizes of the root where one of two fields is asked for",
+        (ONE_OF_TWO, "{}", 4),
+        At::Root,
+        Asked::Sizes,
+        &[1, 3, 4],
+    ),
+    (
+        "the rest behind no slot where one of two fields is asked for",
+        (ONE_OF_TWO, "{}", 4),
+        At::First,
+        Asked::Rest(0, 0, 0),
+        &[1, 2],
+    ),
+    (
+        "the rest behind the first of two named fields",
+        (ONE_OF_TWO, "{}", 4),
+        At::First,
+        Asked::Rest(2, 1, 1),
+        &[0, 1],
+    ),
+    (
+        "the rest behind both named fields",
+        (ONE_OF_TWO, "{}", 4),
+        At::First,
+        Asked::Rest(2, 2, 3),
+        &[],
+    ),
+    (
+        "the rest behind no named field",
+        (ONE_OF_TWO, "{}", 4),
+        At::First,
+        Asked::Rest(2, 0, 0),
+        &[],
+    ),
+    (
+        "the rest at the second of two named fields, behind the first",
+        (ONE_OF_TWO, "{}", 4),
+        At::First,
+        Asked::Rest(1, 1, 1),
+        &[0, 1],
+    ),
+    (
+        "the rest behind the second of two named fields, and bits of none",
+        (ONE_OF_TWO, "{}", 4),
+        At::First,
+        Asked::Rest(2, 1, 254),
+        &[0, 1],
+    ),
 ];
 
 fn try_sizes(
@@ -237,7 +297,7 @@ fn try_sizes(
     };
     let found = match asked {
         Asked::Sizes => Some(plan.sizes(node)),
-        Asked::Rest(place, taken) => rest_of(plan, node, place, taken, meter),
+        Asked::Rest(place, taken, seen) => rest_of(plan, node, place, taken, seen, meter),
         Asked::More(taken) => more_of(plan, node, taken),
     };
     let Some(sizes) = found else {
@@ -356,45 +416,63 @@ fn sorts(rt: HostRuntime) -> Result<(), Fail> {
 }
 
 // A name, a schema with its pools and limit, a node, and the names of its slots, each with whether something must stand
-// there, whether it is a key, and how many tuples the keys behind it have.
-static SLOTS: [(&str, (&str, &str, u32), At, &[(&str, bool, bool, u64)]); 3] = [
+// there, whether it is a key, its place among the named fields, and how many tuples the keys behind it have.
+static SLOTS: [(
+    &str,
+    (&str, &str, u32),
+    At,
+    &[(&str, bool, bool, Option<u8>, u64)],
+); 4] = [
     (
         "an item of a map list with three keys",
         (THREE_KEYS, TWO_TEXTS, 8),
         At::Item,
         &[
-            ("a", true, true, 4),
-            ("b", false, false, 4),
-            ("c", true, true, 2),
-            ("d", true, true, 1),
+            ("a", true, true, None, 4),
+            ("b", false, false, None, 4),
+            ("c", true, true, None, 2),
+            ("d", true, true, None, 1),
         ],
     ),
     (
         "a field with a default",
         (DEFAULTED, ZERO_AND_SEVEN, 3),
         At::First,
-        &[("f", true, false, 1)],
+        &[("f", true, false, None, 1)],
     ),
     (
         "a map over names with a repeat",
         (LABELS, NAMES, 4),
         At::First,
-        &[("j", false, false, 1), ("k", false, false, 1)],
+        &[("j", false, false, None, 1), ("k", false, false, None, 1)],
+    ),
+    (
+        "an object whose junctors name four fields",
+        (NAMED_FIELDS, "{}", 8),
+        At::First,
+        &[
+            ("a", false, false, Some(0), 1),
+            ("a0", false, false, Some(1), 1),
+            ("b", false, false, Some(2), 1),
+            ("c", false, false, None, 1),
+            ("z", false, false, Some(3), 1),
+        ],
     ),
 ];
 
-// The name of a slot, whether something must stand there, whether it is a key, and the tuples of the keys behind it.
+// The name of a slot, whether something must stand there, whether it is a key, its place among the named fields, and the tuples
+// of the keys behind it.
 fn slot_parts<'a>(
     plan: &'a Plan<u64>,
     node: PlanNode,
     place: u64,
     meter: &mut Meter,
-) -> Option<(&'a str, bool, bool, u64)>
+) -> Option<(&'a str, bool, bool, Option<u8>, u64)>
     requires { node < length (sites_of plan.now.root) }
 {
     match plan.sort(node) {
         Sort::Row => match plan.slot(node, place, meter) {
-            Some(slot) => Some((slot.name, slot.must, slot.key, slot.later)),
+            Some(slot) => Some((slot.name, slot.must, slot.key, slot.bit, slot.later)),
             None => None,
         },
         Sort::Leaf | Sort::List => None,
@@ -405,7 +483,12 @@ fn try_slots(
     rt: &impl Abort,
     plan: &Plan<u64>,
     meter: &mut Meter,
-    row: &(&str, (&str, &str, u32), At, &[(&str, bool, bool, u64)]),
+    row: &(
+        &str,
+        (&str, &str, u32),
+        At,
+        &[(&str, bool, bool, Option<u8>, u64)],
+    ),
 ) {
     let (name, _given, at, wanted) = *row;
     let Some(node) = node_at(plan, at, meter) else {
@@ -423,7 +506,12 @@ fn try_slots(
 fn have_slots(
     rt: &impl Abort,
     alloc: Global,
-    row: &(&str, (&str, &str, u32), At, &[(&str, bool, bool, u64)]),
+    row: &(
+        &str,
+        (&str, &str, u32),
+        At,
+        &[(&str, bool, bool, Option<u8>, u64)],
+    ),
 ) -> Result<(), Fail> {
     let mut plan = plan_of(rt, alloc, row.1, row.0)?;
     let mut meter = plan.meter();
@@ -511,6 +599,7 @@ fn limits(rt: HostRuntime) -> Result<(), Fail> {
 #[test]
 fn laws(rt: HostRuntime) -> Result<(), Fail> {
     items_told_apart();
+    junctors_name_fields();
     stored_by_parts();
     let plan = plan_of(&rt, rt.alloc(), (MAP_LIST, TWO_TEXTS, 8), "a map list")?;
     plan.no_dead_end();

@@ -86,7 +86,6 @@ V09 "/properties/p" int-or-string with a type
 V07 "/properties/q" additionalProperties is false
 V08 "/properties/q" properties with additionalProperties
 V05 "/properties/r" keyword not supported
-V16 "/properties/s" junctor outside the profile
 V16 "/properties/s/allOf/0" junctor outside the profile
 V02 "/properties/s/allOf/0/properties/u" not specified outside the junctor
 "#,
@@ -137,7 +136,6 @@ V17 "/properties/metadata" outside the profile
         "keywords that are not supported",
         r#"{"type":"object","definitions":1,"dependencies":1,"deprecated":1,"not":{"discriminator":1,"uniqueItems":true}}"#,
         r#"V05 "" keyword not supported
-V16 "" junctor outside the profile
 V05 "/not" keyword not supported
 V06 "/not" uniqueItems is true
 V16 "/not" junctor outside the profile
@@ -209,16 +207,14 @@ V03 "/properties/x/anyOf/1" keyword not allowed in a junctor
     (
         "keywords of a value in a junctor",
         r#"{"type":"object","not":{"description":"","default":1,"nullable":false,"additionalProperties":{"type":"string"}}}"#,
-        r#"V16 "" junctor outside the profile
-V03 "/not" keyword not allowed in a junctor
+        r#"V03 "/not" keyword not allowed in a junctor
 V03 "/not/additionalProperties" keyword not allowed in a junctor
 "#,
     ),
     (
         "items in a junctor alone",
         r#"{"type":"object","oneOf":[{"items":{"minimum":1}},{"required":["a"]}]}"#,
-        r#"V16 "" junctor outside the profile
-V16 "/oneOf/0" junctor outside the profile
+        r#"V16 "/oneOf/0" junctor outside the profile
 V02 "/oneOf/0/items" not specified outside the junctor
 V16 "/oneOf/1" junctor outside the profile
 "#,

@@ -12,7 +12,7 @@ static JUNCTORS: [(&str, &str, &str); 13] = [
     (
         "allOf of an object",
         r#"{"type":"object","properties":{"x":{"type":"object","allOf":[{}]}}}"#,
-        "V16 \"/properties/x\" junctor outside the profile\n",
+        "structural\n",
     ),
     (
         "anyOf of a list",
@@ -32,7 +32,7 @@ static JUNCTORS: [(&str, &str, &str); 13] = [
     (
         "not of the root",
         r#"{"type":"object","not":{}}"#,
-        "V16 \"\" junctor outside the profile\n",
+        "structural\n",
     ),
     (
         "a junctor without a type",

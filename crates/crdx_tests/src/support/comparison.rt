@@ -7,12 +7,13 @@ ghost use Rattle.plan.specs.declared.sort.Sort.TheVariants as sort;
 use crate::support::harness::{holds, is_number, made, pools_of, schema_of};
 use crate::support::plans::{are_sizes, item_of, more_of, place_of, rest_of, slot_of};
 use crate::support::reference::{
-    Choice, node_below, plain_more, plain_parts, plain_rest, plain_slots,
+    Before, Choice, Ending, node_below, plain_more, plain_named, plain_parts, plain_rest,
+    plain_slots,
 };
 use enumerate::page;
-use jtree::Tree;
+use jtree::{Text, Tree};
 use plan::{Meter, Plan, PlanNode, Pools, Sort};
-use schema::{Bounds, Fields, Node, Sort as NodeSort};
+use schema::{Fields, Node, Sort as NodeSort};
 use std::alloc::Global;
 use std::process::Abort;
 use std::test::Fail;
@@ -122,13 +123,15 @@ fn all_rests(
     alloc: Global,
     plan: &Plan<u64>,
     number: PlanNode,
-    bounds: Bounds,
+    ending: Ending<'_>,
     slots: &[Choice],
     meter: &mut Meter,
     name: &str,
 ) -> Result<(), Fail>
     requires { number < length (sites_of plan.now.root) }
 {
+    let named = plain_named(alloc, ending)?;
+    holds(rt, named.len() <= 4, "few named fields", name);
     for place in 0..=slots.len() {
         let (_, behind) = slots.split_at(place);
         rests_at(
@@ -136,7 +139,8 @@ fn all_rests(
             alloc,
             plan,
             number,
-            bounds,
+            ending,
+            &named,
             behind,
             place_of(place),
             meter,
@@ -146,12 +150,14 @@ fn all_rests(
     Ok(())
 }
 
+/// From one place on, behind each number of members and each choice of the named fields.
 fn rests_at(
     rt: &impl Abort,
     alloc: Global,
     plan: &Plan<u64>,
     number: PlanNode,
-    bounds: Bounds,
+    ending: Ending<'_>,
+    named: &[Text],
     behind: &[Choice],
     place: u64,
     meter: &mut Meter,
@@ -160,14 +166,51 @@ fn rests_at(
     requires { number < length (sites_of plan.now.root) }
 {
     for taken in 0..=place.min(99) as u32 {
-        let Some(rest) = rest_of(plan, number, place, taken, meter) else {
-            return Err(Fail::from("no place"));
-        };
-        let limit = u64::from(plan.limit());
-        let wanted = plain_rest(alloc, behind, limit, bounds, u64::from(taken))?;
-        are_sizes(rt, alloc, rest, &wanted, "the rest", name)?;
+        for seen in 0..choices_of(named) {
+            let before = Before {
+                taken: u64::from(taken),
+                named,
+                seen,
+            };
+            is_rest(
+                rt, alloc, plan, number, ending, before, behind, place, meter, name,
+            )?;
+        }
     }
     Ok(())
+}
+
+/// How many sets there are of at most four names.
+fn choices_of(named: &[Text]) -> u8 {
+    match named.len() {
+        0 => 1,
+        1 => 2,
+        2 => 4,
+        3 => 8,
+        _ => 16,
+    }
+}
+
+fn is_rest(
+    rt: &impl Abort,
+    alloc: Global,
+    plan: &Plan<u64>,
+    number: PlanNode,
+    ending: Ending<'_>,
+    before: Before<'_>,
+    behind: &[Choice],
+    place: u64,
+    meter: &mut Meter,
+    name: &str,
+) -> Result<(), Fail>
+    requires { number < length (sites_of plan.now.root) }
+{
+    let taken = before.taken.min(99) as u32;
+    let Some(rest) = rest_of(plan, number, place, taken, before.seen, meter) else {
+        return Err(Fail::from("no place"));
+    };
+    let wanted = plain_rest(alloc, behind, u64::from(plan.limit()), ending, before)?;
+    are_sizes(rt, alloc, rest, &wanted, "the rest", name)
 }
 
 /// What a plan says of a node, of which these are the parts, and of each node below it.
@@ -254,7 +297,11 @@ fn try_row(
     let slots = plain_slots(alloc, node, pools, u64::from(plan.limit()))?;
     match &node.sort {
         NodeSort::Object(object) => {
-            all_rests(rt, alloc, plan, number, object.bounds, &slots, meter, name)?;
+            let ending = Ending {
+                bounds: object.bounds,
+                junctors: Some(&object.junctors),
+            };
+            all_rests(rt, alloc, plan, number, ending, &slots, meter, name)?;
             try_fields(
                 rt,
                 alloc,
@@ -268,7 +315,11 @@ fn try_row(
             )
         }
         NodeSort::Map(map) => {
-            all_rests(rt, alloc, plan, number, map.bounds, &slots, meter, name)?;
+            let ending = Ending {
+                bounds: map.bounds,
+                junctors: None,
+            };
+            all_rests(rt, alloc, plan, number, ending, &slots, meter, name)?;
             try_slot(
                 rt,
                 alloc,

@@ -24,6 +24,10 @@ pub const TEN_LINES: &str = r#"{}
 pub const TRUTHS: &str =
     r#"{"type":"object","properties":{"o":{"type":"object","minProperties":2,"properties":{"a":{"type":"boolean"},"b":{"type":"boolean"},"c":{"type":"boolean"}}}}}"#;
 
+/// An object of three truth values that has exactly one of the first two.
+pub const ONE_OF_TWO: &str =
+    r#"{"type":"object","properties":{"o":{"type":"object","oneOf":[{"required":["a"]},{"required":["b"]}],"properties":{"a":{"type":"boolean"},"b":{"type":"boolean"},"c":{"type":"boolean"}}}}}"#;
+
 /// A map list with a text `k` as its key and an integer `v`.
 pub const MAP_LIST: &str =
     r#"{"type":"object","properties":{"m":{"type":"array","x-kubernetes-list-type":"map","x-kubernetes-list-map-keys":["k"],"items":{"type":"object","properties":{"k":{"type":"string"},"v":{"type":"integer"}},"required":["k"]}}}}"#;

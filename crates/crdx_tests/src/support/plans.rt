@@ -63,12 +63,13 @@ pub fn rest_of(
     node: PlanNode,
     place: u64,
     taken: u32,
+    seen: u8,
     meter: &mut Meter,
 ) -> Option<u64>
     requires { node < length (sites_of plan.now.root) }
 {
     match plan.sort(node) {
-        Sort::Row if u64::from(taken) <= place => rest_at(plan, node, place, taken, meter),
+        Sort::Row if u64::from(taken) <= place => rest_at(plan, node, place, taken, seen, meter),
         _ => None,
     }
 }
@@ -78,6 +79,7 @@ fn rest_at(
     node: PlanNode,
     place: u64,
     taken: u32,
+    seen: u8,
     meter: &mut Meter,
 ) -> Option<u64>
     requires node { node < length (sites_of plan.now.root) }
@@ -85,10 +87,10 @@ fn rest_at(
     requires taken { taken ≤ place }
 {
     if place == 0 {
-        return Some(plan.rest(node, 0, 0));
+        return Some(plan.rest(node, 0, 0, seen));
     }
     match plan.slot(node, place - 1, meter) {
-        Some(_) => Some(plan.rest(node, place, taken)),
+        Some(_) => Some(plan.rest(node, place, taken, seen)),
         None => None,
     }
 }

@@ -6,7 +6,7 @@ ghost use Rattle.schema.specs.Nodes.View.{node_of};
 
 use jtree::{Items, Member, Members, Text, Tree};
 use plan::Pools;
-use schema::{Below, Bounds, Fields, Node, ScalarKind, ScalarNode, Sort};
+use schema::{Below, Bounds, Branches, Fields, Node, ScalarKind, ScalarNode, Sort, Validations};
 use std::alloc::{AllocError, Global};
 use stored::is_stored;
 
@@ -141,18 +141,33 @@ fn name_slots(
     Ok(slots)
 }
 
+/// What is asked of an object or a map where it ends: bounds, and of an object its junctors.
+#[derive(Clone, Copy)]
+pub struct Ending<'a> {
+    pub bounds: Bounds,
+    pub junctors: Option<&'a Validations>,
+}
+
+/// What stands before a place: how many members, and which of the named fields, the first of them at the lowest bit.
+#[derive(Clone, Copy)]
+pub struct Before<'a> {
+    pub taken: u64,
+    pub named: &'a [Text],
+    pub seen: u8,
+}
+
 /// The numbers of nodes of what may stand in these slots, of at most `limit` nodes together: none is left empty that must be
-/// filled, and with `taken` members more the bounds hold.
+/// filled, and with what stands before them the whole may end.
 pub fn plain_rest(
     alloc: Global,
     slots: &[Choice],
     limit: u64,
-    bounds: Bounds,
-    taken: u64,
+    ending: Ending<'_>,
+    before: Before<'_>,
 ) -> Result<Vec<u32>, AllocError> {
     let mut counts = Vec::new(alloc);
     for row in rows_of(alloc, slots, limit)? {
-        if is_filled(&row, slots) && is_within(&row, bounds, taken) {
+        if is_filled(&row, slots) && may_end(&row, ending, before) {
             counts.push(row.nodes().min(99) as u32)?;
         }
     }
@@ -168,6 +183,97 @@ fn is_filled(row: &Members, slots: &[Choice]) -> bool {
         }
     }
     true
+}
+
+fn may_end(row: &Members, ending: Ending<'_>, before: Before<'_>) -> bool {
+    let is_met = match ending.junctors {
+        Some(junctors) => is_met(junctors, row, before),
+        None => true,
+    };
+    is_met && is_within(row, ending.bounds, before.taken)
+}
+
+/// The fields that junctors name, by bytes, each once.
+pub fn plain_named(alloc: Global, ending: Ending<'_>) -> Result<Vec<Text>, AllocError> {
+    let mut names = Vec::new(alloc);
+    if let Some(junctors) = ending.junctors {
+        push_named(alloc, &mut names, junctors)?;
+    }
+    names.sort_unstable();
+    names.dedup();
+    Ok(names)
+}
+
+#[cycle(named)]
+fn push_named(
+    alloc: Global,
+    names: &mut Vec<Text>,
+    validations: &Validations,
+) -> Result<(), AllocError> {
+    for name in &validations.constraints.required.names {
+        names.push(name.copy(alloc)?)?;
+    }
+    push_named_in(alloc, names, &validations.all_of)?;
+    push_named_in(alloc, names, &validations.any_of)?;
+    push_named_in(alloc, names, &validations.one_of)?;
+    push_named_in(alloc, names, &validations.negated)
+}
+
+#[cycle(named)]
+fn push_named_in(
+    alloc: Global,
+    names: &mut Vec<Text>,
+    branches: &Branches,
+) -> Result<(), AllocError> {
+    for branch in &branches.branches {
+        push_named(alloc, names, branch)?;
+    }
+    Ok(())
+}
+
+/// Whether junctors hold of a row with what stands before it, by how many of their branches do.
+#[cycle(met)]
+fn is_met(validations: &Validations, row: &Members, before: Before<'_>) -> bool {
+    let all = &validations.all_of;
+    let any = &validations.any_of;
+    let one = &validations.one_of;
+    met_branches(all, row, before) == all.branches.len()
+        && (any.branches.is_empty() || met_branches(any, row, before) > 0)
+        && (one.branches.is_empty() || met_branches(one, row, before) == 1)
+        && met_branches(&validations.negated, row, before) == 0
+}
+
+#[cycle(met)]
+fn met_branches(branches: &Branches, row: &Members, before: Before<'_>) -> usize {
+    let mut count: usize = 0;
+    for branch in &branches.branches {
+        if has_names(&branch.constraints.required.names, row, before)
+            && is_met(branch, row, before)
+        {
+            count = count.saturating_add(1);
+        }
+    }
+    count
+}
+
+fn has_names(names: &[Text], row: &Members, before: Before<'_>) -> bool {
+    for name in names {
+        if row.get(name.as_str()).is_none() && !is_seen(name, before) {
+            return false;
+        }
+    }
+    true
+}
+
+fn is_seen(name: &Text, before: Before<'_>) -> bool {
+    let mut seen = before.seen;
+    for other in before.named {
+        if *other == *name {
+            return seen % 2 == 1;
+        }
+        seen /= 2;
+    }
+    false
 }
 
 fn is_within(row: &Members, bounds: Bounds, taken: u64) -> bool {
