@@ -61,7 +61,9 @@ Rules that a schema can break, where allOf, anyOf, oneOf and not are junctors:
   V14  A default is not pruned, or is not valid once it is completed. This is
        judged where no other rule is broken.
   V15  A default is not at a property, or is in apiVersion, kind or metadata.
-  V16  A junctor is not at a scalar, or has keywords or values beyond scalars.
+  V16  A junctor is neither at a scalar nor at an object, or has keywords or
+       values beyond scalars, or asks more of an object than which of at most
+       four fields it has.
   V17  The schema is outside the profile of crdx: a keyword that does not go
        with the type, a type that crdx does not know, a list without items, a
        required name that is no property, or the like.
