@@ -7,6 +7,10 @@ use Rattle.std.proofs.lemmas.Nat.Bits.{bit_at_and, bit_at_or, bit_at-lt, bit_at-
 use Rattle.plan.specs.Sets.{HasBit, IsSum, IsLeastFrom, IsEmptyFrom}
 use mir.Val.{bits}
 
+-- `0`
+pub no_bits : (w n : ℕ) → ¬ HasBit w 0 n
+no_bits w n h = omega (arith, h.1, bit_at-zero n)
+
 -- `1 << k`
 pub one_bits : (w k : ℕ) → k < w → (m : ℕ) → HasBit w (1 * 2 ^ k % 2 ^ w) m ↔ (m ≡ k)
 one_bits w k h m = rw (one_shl k w h) (grind (arith, bit_at-pow_same, bit_at-pow_other))
@@ -66,12 +70,12 @@ sums_more {w = w} {b = b} {k = k} {s = s} h here =
       whole = λ i j n. grind (arith, both n, moved n, h.whole i j n);
     }
 
-pub sums_limited : {w a b s limit : ℕ} → IsSumsBelow w a b w s → limit < w → (n : ℕ) → HasBit w (bit_and s ((2 ^ w - 1) / 2 ^ (w - 1 - limit))) n ↔ ((n ≤ limit) × IsSum (HasBit w a) (HasBit w b) n)
-sums_limited {w = w} {s = s} {limit = limit} h within n =
+pub sums_limited : {w a b k s limit : ℕ} → IsSumsBelow w a b k s → w ≤ k → limit < w → (n : ℕ) → HasBit w (bit_and s ((2 ^ w - 1) / 2 ^ (w - 1 - limit))) n ↔ ((n ≤ limit) × IsSum (HasBit w a) (HasBit w b) n)
+sums_limited {w = w} {s = s} {limit = limit} h past within n =
     let count : w - (w - 1 - limit) ≡ limit + 1 = omega arith in
     let fits : w - 1 - limit ≤ w = omega arith in
     let low = low_bits w (limit + 1) s n in
     rw (ones_shr w (w - 1 - limit) fits, count) (
       (λ m. let p = low.0 m in (omega arith, h.sound n p.1)),
-      (λ (small, (i, (j, (p, q, sum)))). low.1 (omega arith, h.whole i j n p.0 p q sum (omega arith))),
+      (λ (small, (i, (j, (p, q, sum)))). low.1 (omega arith, h.whole i j n (omega (arith, p.0)) p q sum (omega arith))),
     )

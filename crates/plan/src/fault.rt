@@ -16,7 +16,7 @@ pub enum PFault {
     /// An allocation failed.
     #[error("P3")]
     NoMemory,
-    /// The node limit is 0, or not below the `BITS` of the plan's sets: with `u64`, not 1 to 63.
+    /// The node limit is 0, or not below the `BITS` of the plan's sets: with `u64`, not 1 to 63, and with `u128`, not 1 to 127.
     #[error("P4")]
     BadLimit,
 }

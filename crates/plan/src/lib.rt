@@ -19,6 +19,7 @@ mod size_set;
 mod sizing;
 mod sort;
 mod values;
+mod wide_word;
 mod word;
 
 pub use arena::PlanNode;

@@ -84,7 +84,7 @@ impl<Z: SizeSet> Plan<Z> {
     /// The plan of these samples: of this schema, over these pools, of at most `limit` nodes. The tables are filled from the
     /// leaves upward; no object is made.
     ///
-    /// `BadLimit` where the limit is 0, or is not below `Z::BITS` (with `u64`: where it is not 1 to 63), which is decided first.
+    /// `BadLimit` where the limit is 0, or is not below `Z::BITS` (with `u64`: where it is not 1 to 63; with `u128`: not 1 to 127), which is decided first.
     /// `NoMemory` where an allocation fails.
     pub fn new(alloc: Global, schema: Schema, pools: Pools, limit: u32) -> Result<Plan<Z>, PFault>
         ensures ok { IfOk result (λ plan. plan ≡ record { root = schema; pools = pools; limit = limit }) }

@@ -1,6 +1,7 @@
 //! Sets of sizes, in numbers of nodes.
 
-/// A set of sizes: whole numbers of nodes, 0 among them, each below `BITS`. No call takes memory.
+/// A set of sizes: whole numbers of nodes, 0 among them, each below `BITS`. A `u64` holds sizes up to 63, a `u128` up to
+/// 127. No call takes memory.
 pub trait SizeSet: Copy {
     ghost use Rattle.std.specs.Prelude.{◌≡◌, ℕ, ◌≤◌, ◌<◌, ◌⊎◌, ◌↔◌, IsTrue, MatchOption};
     ghost use Rattle.plan.specs.Sets.{IsSum, IsLeastFrom, IsEmptyFrom};

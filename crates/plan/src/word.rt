@@ -1,7 +1,39 @@
-//! Sets of sizes as the bits of a word: the bit of place `n` says whether `n` is a member.
+//! Sets of sizes up to 63 as the bits of a word: the bit of place `n` says whether `n` is a member.
 ghost use Rattle.plan.specs.Sets.{HasBit};
 
 use crate::SizeSet;
+
+// The body of `sums`, for a word of any width: `$other` shifted by each member of `$set`, and cut after the limit.
+macro_rules! word_sums {
+    ($set:expr, $other:expr, $limit:expr) => {{
+        let mut sums = 0;
+        for n in 0..Self::BITS {
+            if $set.has(n) {
+                sums |= $other << n;
+            }
+        }
+        sums & Self::MAX >> (Self::BITS - 1 - $limit)
+    }};
+}
+
+// The body of `next`: behind the shift, the least member is how many zeros the word ends in.
+macro_rules! word_next {
+    ($set:expr, $n:expr) => {
+        if $n >= Self::BITS {
+            None
+        } else {
+            let rest = $set >> $n;
+            if rest == 0 {
+                None
+            } else {
+                Some($n + rest.trailing_zeros())
+            }
+        }
+    };
+}
+
+pub(crate) use word_next;
+pub(crate) use word_sums;
 
 impl SizeSet for u64 {
     ghost holds = { HasBit 64 };
@@ -12,6 +44,7 @@ impl SizeSet for u64 {
 
     ghost below = { λ set n member. member.0 };
 
+    #[tactic(auto, using(crate::proofs::WordLemmas::no_bits))]
     fn empty() -> u64 {
         0
     }
@@ -25,13 +58,7 @@ impl SizeSet for u64 {
     }
 
     fn sums(self, other: u64, limit: u32) -> u64 {
-        let mut sums = 0;
-        for n in 0..Self::BITS {
-            if self.has(n) {
-                sums |= other << n;
-            }
-        }
-        sums & u64::MAX >> (Self::BITS - 1 - limit)
+        word_sums!(self, other, limit)
     }
 
     fn has(self, n: u32) -> bool {
@@ -39,14 +66,6 @@ impl SizeSet for u64 {
     }
 
     fn next(self, n: u32) -> Option<u32> {
-        if n >= Self::BITS {
-            return None;
-        }
-        let rest = self >> n;
-        if rest == 0 {
-            None
-        } else {
-            Some(n + rest.trailing_zeros())
-        }
+        word_next!(self, n)
     }
 }

@@ -1,4 +1,3 @@
-use Rattle.std.proofs.Common.{◌≡◌, arith}
 use Rattle.std.proofs.lemmas.Bool.{iff_false}
 use Rattle.plan.proofs.WordLemmas.{sums_none, sums_skip, sums_more, sums_limited}
 use Rattle.plan.proofs.word.U64SizeSet.sums.Goals as goal
@@ -15,7 +14,4 @@ loop-n-preserved c =
     ]
 
 pub returns : goal.returns
-returns c =
-    let e : c.loop-n.n ≡ 64 = omega arith in
-    let sums = rw e at c.loop-n.invariant in
-    λ n. grind (arith, sums_limited sums c.requires n)
+returns c = sums_limited c.loop-n.invariant c.loop-n-test.false c.requires

@@ -1,6 +1,5 @@
-use Rattle.std.proofs.Common.{arith}
 use Rattle.plan.proofs.WordLemmas.{union_bits}
 use Rattle.plan.proofs.word.U64SizeSet.union.Goals as goal
 
 pub returns : goal.returns
-returns c = grind (arith, union_bits 64 c.args.self c.args.other)
+returns c = union_bits 64 c.args.self c.args.other
