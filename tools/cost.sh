@@ -293,6 +293,12 @@ past_junctors() {
 [ "$(past_junctors 999999 2>/dev/null | head -n 1)" = "$(one_of_two 1000000)" ] || stop 'another sample with junctors past the millionth than wanted'
 ratio 'with junctors, past the millionth sample, against past the first (about 1)' "$(best past_junctors 999999)" "$(best past_junctors 0)"
 
+# the same samples with words of 64 bits and with words of 128
+words() {
+    ./crdx sample "$folder/optional" v1 --pools "$folder/two" --limit "$1" --count 10000
+}
+ratio 'limit 64, against limit 63 (at most 1.5)' "$(best words 64)" "$(best words 63)" 1.5
+
 # plans of 511 places with junctors at each object, against one without
 for named in 0 2 4; do
     named_fields "$named" | define >"$folder/named-$named"

@@ -18,8 +18,10 @@
 //! | `enumerate_tests/page_cases` | pages, walks and enumerations, with their steps |
 //! | `enumerate_tests/reference_cases` | the plain reference, and walks, against lists made by hand |
 //! | `enumerate_tests/small_plan_cases` | 960 small plans and their pages against the plain reference |
+//! | `enumerate_tests/wide_cases` | plans over words of 128 bits |
 //! | `program/argument_cases` | the arguments, mistakes in them, and help |
 //! | `program/check_cases`, `validate_cases`, `prune_cases`, `sample_cases` | what each command prints |
+//! | `program/limit_cases` | `sample` with limits up to 127 |
 //! | `program/presence_cases` | junctors that ask which fields an object has: judged, validated and listed |
 //! | `program/explain_cases`, `leaf_cases` | what `explain` and `leaves` print, and what they refuse |
 //! | `program/refusal_cases` | inputs that are refused, and which is judged first |

@@ -6,6 +6,7 @@ mod explain_cases;
 mod hostile_cases;
 mod input_cases;
 mod leaf_cases;
+mod limit_cases;
 mod presence_cases;
 mod prune_cases;
 mod refusal_cases;

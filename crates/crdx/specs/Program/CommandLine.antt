@@ -41,7 +41,7 @@ object_app name = with_rule (crd_app name) (new_rule (codes "OBJECT"))
 
 abbrev pub sample_app : App
 sample_app = with_rule (with_rule (with_rule (with_rule (with_rule (crd_app (codes "sample")) (option_rule (codes "pools")))
-    (number_rule (codes "limit") 63 (codes "8"))) (number_rule (codes "count") 10000 (codes "100"))) (option_rule (codes "after"))) (option_rule (codes "name"))
+    (number_rule (codes "limit") 127 (codes "8"))) (number_rule (codes "count") 10000 (codes "100"))) (option_rule (codes "after"))) (option_rule (codes "name"))
 
 abbrev pub top_app : App
 top_app = on_top (λ s. record s { has_version = true; subcommand_required = true }) (new_app (codes "crdx"))
@@ -84,7 +84,7 @@ abbrev pub AreSampleArguments : List Row → SampleArguments → Type 0
 AreSampleArguments rows arguments = (arguments.crd.now ≡ value_of (codes "CRD") rows) × (arguments.version.now ≡ value_of (codes "VERSION") rows)
     × (option_map (λ s. s.now) arguments.pools ≡ first_of (codes "pools") rows)
     × (option_map (λ s. s.now) arguments.after ≡ first_of (codes "after") rows) × (option_map (λ s. s.now) arguments.name ≡ first_of (codes "name") rows)
-    × IsNumberOf (codes "limit") 63 rows arguments.limit × IsNumberOf (codes "count") 10000 rows arguments.count
+    × IsNumberOf (codes "limit") 127 rows arguments.limit × IsNumberOf (codes "count") 10000 rows arguments.count
 
 abbrev pub object_command_name : ObjectCommand → Text
 object_command_name Validate = codes "validate"

@@ -280,10 +280,10 @@ values where the schema leaves the value open. Each may be left out,
 and without this option all are empty. Both booleans are always
 there, and an `enum` has its own values."#;
 
-pub(super) const LIMIT: &str = "The most nodes of a sample, 1 to 63";
+pub(super) const LIMIT: &str = "The most nodes of a sample, 1 to 127";
 
 pub(super) const LIMIT_LONG: &str =
-    r#"The most nodes of a sample, 1 to 63. Each scalar, null, list and
+    r#"The most nodes of a sample, 1 to 127. Each scalar, null, list and
 object is one node. Names do not count. So {"spec":{"a":0}} has
 three nodes."#;
 

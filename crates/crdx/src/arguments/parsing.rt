@@ -17,7 +17,7 @@ use clap::{Arg, ArgMatches, Command, Error};
 use std::alloc::{AllocError, Global};
 
 /// The greatest node limit that may be asked for.
-pub const MOST_LIMIT: u32 = 63;
+pub const MOST_LIMIT: u32 = 127;
 
 /// The greatest number of samples that may be asked for.
 pub const MOST_COUNT: u32 = 10_000;
@@ -282,7 +282,7 @@ fn pools_option<'a>(alloc: Global) -> Arg<'a>
 }
 
 fn limit_option<'a>(alloc: Global) -> Arg<'a>
-    ensures rule { rule_of result ≡ number_rule (codes "limit") 63 (codes "8") }
+    ensures rule { rule_of result ≡ number_rule (codes "limit") 127 (codes "8") }
     ensures local { result.global ≡ false }
 {
     Arg::new(alloc, "limit")
@@ -290,7 +290,7 @@ fn limit_option<'a>(alloc: Global) -> Arg<'a>
         .value_name("N")
         .help(help::LIMIT)
         .long_help(help::LIMIT_LONG)
-        .value_parser(clap::value_parser!(u32).range(1..=63))
+        .value_parser(clap::value_parser!(u32).range(1..=127))
         .default_value("8")
 }
 

@@ -14,12 +14,12 @@ pub struct SampleArguments<'a> {
     pub after: Option<&'a str>,
     /// The name in the envelope that samples are printed with, where there is one.
     pub name: Option<&'a str>,
-    /// The node limit, 1 to 63.
+    /// The node limit, 1 to 127.
     pub limit: u32,
     /// How many samples are asked for, 1 to 10,000.
     pub count: u32,
     ghost limit_least: { 1 ≤ limit },
-    ghost limit_most: { limit ≤ 63 },
+    ghost limit_most: { limit ≤ 127 },
     ghost count_least: { 1 ≤ count },
     ghost count_most: { count ≤ 10000 },
 }

@@ -1,5 +1,5 @@
 // What `sample` writes.
-ghost use Rattle.std.specs.Prelude.{◌≡◌, ◌≤◌, ◌⊎◌, Option, IfOk, IfErr, OnOk, IfSome, option_map};
+ghost use Rattle.std.specs.Prelude.{◌≡◌, ◌≤◌, ◌<◌, ◌⊎◌, Option, IfOk, IfErr, OnOk, IfSome, option_map};
 ghost use Rattle.jtree.specs.Data.{Data};
 ghost use Rattle.jtree.specs.View.{data_of};
 ghost use Rattle.plan.specs.Samples.Question.{Question};
@@ -18,22 +18,25 @@ use crate::running::documents::{Accepted, accepted_schema, after_of, pools_of};
 use crate::sink::Sink;
 use crate::walk::{Envelope, Walked, walk};
 use jtree::{Text, Tree};
-use plan::{Plan, Pools};
+use plan::{Plan, Pools, SizeSet};
 use std::alloc::{AllocError, Global};
 
 /// The most samples that are held at a time.
 const PAGE: u32 = 64;
 
+/// The node limits below this have plans over words of 64 bits.
+const WORD: u32 = 64;
+
 /// What samples are listed from: a plan, the tree to go on from, and the envelope that they are printed with.
 #[derive(Drop)]
-struct SampleInputs {
-    plan: Plan<u64>,
+struct SampleInputs<Z: SizeSet> {
+    plan: Plan<Z>,
     after: Option<Tree>,
     envelope: Option<Envelope>,
 }
 
 /// Lists samples. Inputs are judged in the order CustomResourceDefinition, its schema, pools, the tree to go on from, and the
-/// first refusal ends the run.
+/// first refusal ends the run. A set of sizes is a word of 64 bits where the limit is below that, and else one of 128.
 pub(crate) fn sample<I: Inputs, W: Sink>(
     alloc: Global,
     arguments: &SampleArguments<'_>,
@@ -53,14 +56,42 @@ pub(crate) fn sample<I: Inputs, W: Sink>(
       failed_writes = W.failures out.new;
     }) arguments.now) }
 {
-    let mut sample_inputs = sample_inputs(alloc, arguments, inputs)?;
+    if arguments.limit < WORD {
+        sample_with::<u64, I, W>(alloc, arguments, inputs, out)
+    } else {
+        sample_with::<u128, I, W>(alloc, arguments, inputs, out)
+    }
+}
+
+/// As `sample`, by plans over these sets of sizes.
+fn sample_with<Z: SizeSet, I: Inputs, W: Sink>(
+    alloc: Global,
+    arguments: &SampleArguments<'_>,
+    inputs: &mut I,
+    out: &mut W,
+) -> Result<Walked, Cause>
+    requires { arguments.now.limit < Z.BITS }
+    ensures sampled { IfOk result (λ walked. (q : Question) × (after : Option Data) × (e : Option EnvelopeData) × IsRequested (I.has inputs.old) arguments.now q after e
+        × IfSome after (IsSampleOf q) × WritesPage q after arguments.now.count e walked.lines walked.end (W.taken out.old) (W.taken out.new)) }
+    ensures unfailed { OnOk result (W.failures out.new ≡ W.failures out.old) }
+    ensures cause { IfErr result (IsSampleCause (record {
+      documents = I.has inputs.old;
+      failed_reads_before = I.failures inputs.old;
+      failed_reads = I.failures inputs.new;
+      output_before = W.taken out.old;
+      output = W.taken out.new;
+      failed_writes_before = W.failures out.old;
+      failed_writes = W.failures out.new;
+    }) arguments.now) }
+{
+    let mut sample_inputs = sample_inputs::<Z, I>(alloc, arguments, inputs)?;
     write_samples(alloc, &mut sample_inputs, arguments.count, out)
 }
 
 /// Writes the first `count` samples past the tree to go on from, and flushes.
-fn write_samples<W: Sink>(
+fn write_samples<Z: SizeSet, W: Sink>(
     alloc: Global,
-    inputs: &mut SampleInputs,
+    inputs: &mut SampleInputs<Z>,
     count: u32,
     out: &mut W,
 ) -> Result<Walked, Cause>
@@ -90,11 +121,12 @@ fn write_samples<W: Sink>(
 }
 
 /// What the arguments ask for: a plan of the schema and the pools, the tree to go on from, and the envelope.
-fn sample_inputs<I: Inputs>(
+fn sample_inputs<Z: SizeSet, I: Inputs>(
     alloc: Global,
     arguments: &SampleArguments<'_>,
     inputs: &mut I,
-) -> Result<SampleInputs, Cause>
+) -> Result<SampleInputs<Z>, Cause>
+    requires { arguments.now.limit < Z.BITS }
     ensures requested { IfOk result (λ a. IsRequested (I.has inputs.old) arguments.now a.plan (option_map data_of a.after) a.envelope) }
     ensures cause { IfErr result (IsInputCause (I.has inputs.old) (I.failures inputs.old) (I.failures inputs.new) (Sample arguments.now)) }
 {
@@ -112,12 +144,13 @@ fn sample_inputs<I: Inputs>(
 }
 
 /// What samples of this schema over these pools are listed from.
-fn inputs_of(
+fn inputs_of<Z: SizeSet>(
     alloc: Global,
     arguments: &SampleArguments<'_>,
     accepted: Accepted,
     pools: Pools,
-) -> Result<SampleInputs, Cause>
+) -> Result<SampleInputs<Z>, Cause>
+    requires { arguments.now.limit < Z.BITS }
     ensures ok { IfOk result (λ a. (a.plan ≡ record { root = accepted.schema; pools = pools; limit = arguments.now.limit })
         × IsAfter arguments.now.after (option_map data_of a.after) × (a.envelope ≡ envelope_for accepted.group arguments.now.version.now accepted.kind arguments.now.name)) }
     ensures cause { IfErr result (λ cause. IsAfterCause arguments.now.after cause ⊎ (cause ≡ NoMemory)) }

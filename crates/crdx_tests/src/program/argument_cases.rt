@@ -63,8 +63,8 @@ static REQUESTS: [(&str, &str, &str); 12] = [
     ),
     (
         "the greatest limit and count",
-        "crdx sample --limit 63 --count=10000 - v1beta1",
-        "sample - v1beta1 - - - 63 10000",
+        "crdx sample --limit 127 --count=10000 - v1beta1",
+        "sample - v1beta1 - - - 127 10000",
     ),
     (
         "a sample to go on from, and a name",
@@ -126,12 +126,12 @@ static MISTAKES: [(&str, &str, &str); 19] = [
     (
         "limit 0",
         "crdx sample crd.json v1 --limit 0",
-        "error: invalid value '0' for '--limit <N>': 0 is not in 1..=63\n",
+        "error: invalid value '0' for '--limit <N>': 0 is not in 1..=127\n",
     ),
     (
-        "limit 64",
-        "crdx sample crd.json v1 --limit 64",
-        "error: invalid value '64' for '--limit <N>': 64 is not in 1..=63\n",
+        "limit 128",
+        "crdx sample crd.json v1 --limit 128",
+        "error: invalid value '128' for '--limit <N>': 128 is not in 1..=127\n",
     ),
     (
         "count 0",

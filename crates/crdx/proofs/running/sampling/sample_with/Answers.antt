@@ -1,7 +1,7 @@
 use Rattle.std.proofs.Common.{inr, option_map}
 use Rattle.std.proofs.lemmas.Result.{IfOk-weaker, IfErr-weaker}
 use Rattle.jtree.specs.View.{data_of}
-use Rattle.crdx.proofs.running.sampling.sample.Goals as goal
+use Rattle.crdx.proofs.running.sampling.sample_with.Goals as goal
 
 pub returns-clause-sampled : goal.returns-clause-sampled
 returns-clause-sampled g c =
