@@ -3,7 +3,6 @@ use Rattle.std.proofs.Common.{◌≡◌, ◌≢◌, ◌⊎◌, ℕ, List, [], �
 use Rattle.std.specs.Prelude.{IfSome, IfOk, IfErr, OnOk, OnErr, Result}
 use Rattle.std.specs.Io.KnownBytes.{Appends, Keeps}
 use Rattle.jtree.specs.Data.{Data}
-use Rattle.jtree.specs.Internal.OrderLaws.{tree_total}
 use Rattle.jtree.specs.Internal.Rising.{contained}
 use Rattle.schema.specs.Nodes.Node.{Node}
 use Rattle.schema.specs.Nodes.ByPlace.{AreNodesOf}
@@ -47,7 +46,7 @@ use Rattle.crdx.specs.declared.walk.fault.WFault.{WFault}
 use Rattle.crdx.specs.declared.walk.fault.WFault.TheVariants as w
 use Rattle.jtree.specs.Failures.{HasFailed, one_more}
 use Rattle.std.proofs.lemmas.Bool.Decides.{nat_tests}
-use Rattle.crdx.proofs.PageLemmas.{same_items}
+use Rattle.crdx.proofs.PageLemmas.{PagesAgree}
 use Rattle.crdx.proofs.WalkLemmas.{Appends-nothing}
 
 module _ (has : Documents) (unread read : ℕ) (crd version : List ℕ) where
@@ -228,13 +227,13 @@ walk_cause q after count e old new before now (w.NoMemory n) (same, inr (sample,
 walk_cause q after count e old new before now (w.Write n) is = (is.0, is.1, λ items end page. inl (n, is.2 items end page))
 
 -- all lines were taken, and the flush after them failed
-pub flush_cause : (q : Question) (after : Option Data) (count : ℕ) (e : Option Envelope) (lines_out n : ℕ) (end : Bool) (old new : Option (List ℕ)) (before now : ℕ)
+pub flush_cause : PagesAgree → (q : Question) (after : Option Data) (count : ℕ) (e : Option Envelope) (lines_out n : ℕ) (end : Bool) (old new : Option (List ℕ)) (before now : ℕ)
     → IfSome after (IsSampleOf q) → WritesPage q after count e lines_out end old new → HasFailed before now → IsWalkCause q after count e old new before now (Write n)
-flush_cause q after count e lines_out n end old new before now sample wrote failed = (
+flush_cause law q after count e lines_out n end old new before now sample wrote failed = (
   failed,
   sample,
   λ items end' page.
-      inr (subst (λ us. Appends old new (lines e us)) (same_items tree_total q after count wrote.items items end end' wrote.page page) wrote.written),
+      inr (subst (λ us. Appends old new (lines e us)) (law.0 q after count wrote.items items end end' wrote.page page) wrote.written),
 )
 
 module _ (run : Effects) (arguments : SampleArguments) where

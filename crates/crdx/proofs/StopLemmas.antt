@@ -12,20 +12,11 @@ use Rattle.crdx.specs.Output.PartialOutput.{IsMissing, CanGoOn, IsPartialOutput}
 use Rattle.crdx.specs.declared.walk.line.Envelope.{Envelope}
 use Rattle.crdx.specs.declared.walk.fault.WFault.{WFault}
 use Rattle.crdx.specs.declared.walk.fault.WFault.TheVariants.{NotASample, NoMemory, Write}
-use Rattle.crdx.proofs.PageLemmas.{not_before_itself, not_both, pass, before_last}
-
-rising_left : (xs ys : List Data) → Rising Precedes (xs ++ ys) → Rising Precedes xs
-rising_left [] ys r = tt
-rising_left (x ∷ xs) ys r = (λ v a. r.0 v (among_left xs ys v a), rising_left xs ys r.1)
+use Rattle.crdx.proofs.PageLemmas.{not_before_itself, pass, rising_left, rising_across, split}
 
 rising_right : (xs ys : List Data) → Rising Precedes (xs ++ ys) → Rising Precedes ys
 rising_right [] ys r = r
 rising_right (x ∷ xs) ys r = rising_right xs ys r.1
-
-rising_across : (xs ys : List Data) → Rising Precedes (xs ++ ys) → (u v : Data) → Among xs u → Among ys v → Precedes u v
-rising_across [] ys r u v a b = elim a [ ]
-rising_across (x ∷ xs) ys r u v (inl e) b = subst (λ t. Precedes t v) e (r.0 v (among_right xs ys v b))
-rising_across (x ∷ xs) ys r u v (inr a) b = rising_across xs ys r.1 u v a b
 
 module _ (q : Question) (after : Option Data) (count : ℕ) (front : List Data) (l : Data) (more : List Data) (end : Bool) (p : IsPage q after count ((front ++ l ∷ []) ++ more) end) where
   abbrev early : List Data
@@ -47,13 +38,13 @@ module _ (q : Question) (after : Option Data) (count : ℕ) (front : List Data) 
   past_sample v a = All-contains (IsPastSample q after) whole v p.samples (contains whole v a)
 
   later : (v : Data) → IsPastSample q (Some l) v → IsPastSample q after v
-  later v c = record { sample = c.sample; past = pass tree_total after l v (past_sample l last_among).past c.past }
+  later v c = record { sample = c.sample; past = pass after l v (past_sample l last_among).past c.past }
 
   -- what is past the last early item is none of them
   not_early : (v : Data) → Precedes l v → Among early v → ⊥
   not_early v past a = elim (among_parts front (l ∷ []) v a) [
-    | inl before ↦ not_both tree_total v l (before_last tree_total q after front l v (rising_left early more rises) before) past
-    | inr here ↦ elim here [ inl same ↦ not_before_itself tree_total l v same past | inr none ↦ elim none [ ] ]
+    | inl before ↦ not_before_itself v v refl (tree_total.trans v l v (rising_across front (l ∷ []) (rising_left early more rises) v l before (inl refl)) past)
+    | inr here ↦ elim here [ inl same ↦ not_before_itself l v same past | inr none ↦ elim none [ ] ]
   ]
 
   among_more : (v : Data) → Precedes l v → Among whole v → Among more v
@@ -79,31 +70,6 @@ module _ (q : Question) (after : Option Data) (count : ℕ) (front : List Data) 
   }
 
 -- ---- at any place
-
--- a list at an index: what is before, what stands there, and what comes after
-record IsSplit (xs : List Data) (n : ℕ) : Type 0 where
-  front : List Data
-  at : Data
-  more : List Data
-  whole : xs ≡ (front ++ at ∷ []) ++ more
-  counted : length front ≡ n
-  after : drop (suc n) xs ≡ more
-  there : slice_get xs n ≡ Some at
-
-split : (xs : List Data) (n : ℕ) → n < length xs → IsSplit xs n
-split [] n lt = absurd (omega arith)
-split (x ∷ xs) zero lt = record { front = []; at = x; more = xs; whole = refl; counted = refl; after = refl; there = refl }
-split (x ∷ xs) (suc n) lt =
-    let s = split xs n (omega arith) in
-    record {
-      front = x ∷ s.front;
-      at = s.at;
-      more = s.more;
-      whole = ap (λ ys. x ∷ ys) s.whole;
-      counted = omega (arith, s.counted);
-      after = s.after;
-      there = s.there;
-    }
 
 missing : (q : Question) (after : Option Data) (total : ℕ) (items : List Data) (end : Bool) (n : ℕ) → n < total → (n ≡ 0) ⊎ (n ≤ length items) → IsPage q after total items end → IsMissing q after total items end n
 missing q after total items end zero left some p =

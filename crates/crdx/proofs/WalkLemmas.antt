@@ -11,7 +11,6 @@ use Rattle.jtree.specs.declared.value.Tree.{Tree}
 use Rattle.enumerate.specs.View.{resume_point}
 use Rattle.std.specs.Borrow.{Bor}
 use Rattle.std.specs.Option.{option_copied}
-use Rattle.jtree.specs.Internal.OrderLaws.{tree_total}
 use Rattle.jtree.specs.Internal.Rising.{contains, among_right}
 use Rattle.plan.specs.Samples.Question.{Question}
 use Rattle.enumerate.specs.Page.{IsPage, IsPastSample, IsSampleOf}
@@ -23,10 +22,10 @@ use Rattle.crdx.specs.Internal.Progress.{IsLast, AddsPage, IsPartialPage, IsSoFa
 use Rattle.crdx.specs.declared.walk.line.Envelope.{Envelope}
 use Rattle.crdx.specs.declared.walk.fault.WFault.{WFault}
 use Rattle.crdx.specs.declared.walk.fault.WFault.TheVariants.{NotASample, NoMemory, Write}
-use Rattle.crdx.proofs.PageLemmas.{begins, longer, page_behind, page_counted, page_of_total}
+use Rattle.crdx.proofs.PageLemmas.{PagesAgree, begins, longer, page_behind, page_counted, page_of_total}
 use Rattle.crdx.proofs.WrittenLemmas.{lines-append, lines_front, cut_within}
 
-module _ (q : Question) (after : Option Data) (total : ℕ) (e : Option Envelope) (old mid new : Option (List ℕ)) (unfailed failed : ℕ) where
+module _ (law : PagesAgree) (q : Question) (after : Option Data) (total : ℕ) (e : Option Envelope) (old mid new : Option (List ℕ)) (unfailed failed : ℕ) where
   -- a page was written in part behind others: so it stands with the items of any page with all the room
   pub partial_output_of_lines : (front more : List Data) (count n : ℕ) (end : Bool) (fault : WFault) → IfSome after (IsSampleOf q) → n ≡ length front
       → IsPage q after count (front ++ more) end → count ≤ total → Appends old mid (lines e front)
@@ -38,7 +37,7 @@ module _ (q : Question) (after : Option Data) (total : ℕ) (e : Option Envelope
       sample,
       λ us d r.
           let k = s.1.0 in
-          let rest = begins tree_total q after count total (front ++ more) us end d p r le in
+          let rest = begins law q after count total (front ++ more) us end d p r le in
           let is : us ≡ front ++ (more ++ rest.0) = rest.1 ∙ append_assoc front more rest.0 in
           let at : m ≡ length front + k = s.1.1 ∙ ap (λ i. i + k) place in
           let text : lines e front ++ lines e (take k more) ≡ lines e (take m us) =
@@ -54,7 +53,7 @@ module _ (q : Question) (after : Option Data) (total : ℕ) (e : Option Envelope
     sample,
     λ us d r.
         let k = s.1.0 in
-        let rest = begins tree_total q after count total (front ++ more) us end d p r le in
+        let rest = begins law q after count total (front ++ more) us end d p r le in
         let is : us ≡ front ++ (more ++ rest.0) = rest.1 ∙ append_assoc front more rest.0 in
         let at : m ≡ length front + k = s.1.1 ∙ ap (λ i. i + k) place in
         let there = cut_within e front more rest.0 k old mid new before s.1.2 in
@@ -62,14 +61,14 @@ module _ (q : Question) (after : Option Data) (total : ℕ) (e : Option Envelope
   )
 
 -- memory was wanting behind pages with more to come
-pub partial_output_of_pages : (q : Question) (after : Option Data) (total : ℕ) (e : Option Envelope) (old new : Option (List ℕ)) (items us : List Data) (end : Bool)
+pub partial_output_of_pages : (law : PagesAgree) (q : Question) (after : Option Data) (total : ℕ) (e : Option Envelope) (old new : Option (List ℕ)) (items us : List Data) (end : Bool)
     → IsPage q after (length items) items false → length items < total → Appends old new (lines e items) → IsPage q after total us end → IsCutBetweenLines e us (length items) old new
-partial_output_of_pages q after total e old new items us end p lt out r =
-    let rest = begins tree_total q after (length items) total items us false end p r (omega (arith, lt)) in
+partial_output_of_pages law q after total e old new items us end p lt out r =
+    let rest = begins law q after (length items) total items us false end p r (omega (arith, lt)) in
     let front : take (length items) us ≡ items = ap (λ vs. take (length items) vs) rest.1 ∙ take-append_seam items rest.0 in
     record {
       out = subst (λ vs. Appends old new (lines e vs)) (sym front) out;
-      fewer = longer tree_total q after (length items) total items us end p r lt;
+      fewer = longer law q after (length items) total items us end p r lt;
     }
 
 -- the page past the last item, joined on
@@ -78,7 +77,7 @@ pub page_onto : (q : Question) (after : Option Data) (k : ℕ) (items more : Lis
 page_onto q after k items more None end p some is r = absurd (omega (arith, some, ap length is))
 page_onto q after k items more (Some l) end p some (front, is) r =
     subst (λ us. IsPage q after (length us + k) (us ++ more) end) (sym is)
-    (page_behind tree_total q after (length items) k front l more false end (subst (λ us. IsPage q after (length items) us false) is p) r)
+    (page_behind q after (length items) k front l more false end (subst (λ us. IsPage q after (length items) us false) is p) r)
 
 -- the last of joined items is the last of those that were joined on
 pub last_onto : (items more : List Data) (last : Option Data) → 0 < length more → IsLast more last → IsLast (items ++ more) last
@@ -125,12 +124,12 @@ module _ (q : Question) (after : Option Data) (total : ℕ) (e : Option Envelope
   }
 
   -- the first page was not written whole
-  pub cut_first : (count : ℕ) (old new : Option (List ℕ)) (unfailed failed : ℕ) (fault : WFault) → count ≤ total → IsPartialPage q after count e 0 old new unfailed failed fault
+  pub cut_first : PagesAgree → (count : ℕ) (old new : Option (List ℕ)) (unfailed failed : ℕ) (fault : WFault) → count ≤ total → IsPartialPage q after count e 0 old new unfailed failed fault
       → IsPartialOutput q after total e old new unfailed failed fault
-  cut_first count old new unfailed failed fault le (inl (inl is, keeps, same)) = rw is (same, inl (refl, keeps))
-  cut_first count old new unfailed failed fault le (inl (inr (is, none), keeps, same)) = rw is (none, keeps, same)
-  cut_first count old new unfailed failed fault le (inr (sample, (items, end, page, part))) =
-      partial_output_of_lines q after total e old old new unfailed failed [] items count 0 end fault sample refl page le (Appends-nil old) part
+  cut_first law count old new unfailed failed fault le (inl (inl is, keeps, same)) = rw is (same, inl (refl, keeps))
+  cut_first law count old new unfailed failed fault le (inl (inr (is, none), keeps, same)) = rw is (none, keeps, same)
+  cut_first law count old new unfailed failed fault le (inr (sample, (items, end, page, part))) =
+      partial_output_of_lines law q after total e old old new unfailed failed [] items count 0 end fault sample refl page le (Appends-nil old) part
 
   -- the last sample that is out is a sample
   last_is_sample : (items : List Data) (last : Option Data) (count : ℕ) (end : Bool) → IsPage q after count items end → 0 < length items → IsLast items last → IsSomeAnd last (λ a. IsSampleOf q a → ⊥) → ⊥
@@ -139,19 +138,19 @@ module _ (q : Question) (after : Option Data) (total : ℕ) (e : Option Envelope
       none (All-contains (IsPastSample q after) items l p.samples (subst (λ us. Contains us l) (sym is) (contains (front ++ l ∷ []) l (among_right front (l ∷ []) l (inl refl))))).sample
 
   -- a later page was not written whole
-  pub cut_later : (k lines_then : ℕ) (last : Option Data) (goes : Bool) (old mid new : Option (List ℕ)) (unfailed failed : ℕ) (fault : WFault)
+  pub cut_later : PagesAgree → (k lines_then : ℕ) (last : Option Data) (goes : Bool) (old mid new : Option (List ℕ)) (unfailed failed : ℕ) (fault : WFault)
       → IfSome after (IsSampleOf q) → goes ≡ false → 1 ≤ k → lines_then + k ≤ total
       → IsSoFar q after total e lines_then goes last old mid → IsPartialPage q last k e lines_then mid new unfailed failed fault → IsPartialOutput q after total e old new unfailed failed fault
-  cut_later k lines_then last goes old mid new unfailed failed fault sample not_yet some le s (inl (inl is, keeps, same)) =
+  cut_later law k lines_then last goes old mid new unfailed failed fault sample not_yet some le s (inl (inl is, keeps, same)) =
       let page = subst (IsPage q after (length s.items) s.items) not_yet s.page in
       let out = Appends-kept old mid new (lines e s.items) s.written keeps in
-      rw (is, s.counted) (same, inr (sample, λ us d r. partial_output_of_pages q after total e old new s.items us d page (omega (arith, s.counted, some, le)) out r))
-  cut_later k lines_then last goes old mid new unfailed failed fault sample not_yet some le s (inl (inr (is, none), keeps, same)) =
+      rw (is, s.counted) (same, inr (sample, λ us d r. partial_output_of_pages law q after total e old new s.items us d page (omega (arith, s.counted, some, le)) out r))
+  cut_later law k lines_then last goes old mid new unfailed failed fault sample not_yet some le s (inl (inr (is, none), keeps, same)) =
       let going = s.going_on not_yet in
       absurd (last_is_sample s.items last (length s.items) goes s.page going.0 going.1 none)
-  cut_later k lines_then last goes old mid new unfailed failed fault sample not_yet some le s (inr (last_sample, (items, end, page, part))) =
+  cut_later law k lines_then last goes old mid new unfailed failed fault sample not_yet some le s (inr (last_sample, (items, end, page, part))) =
       let going = s.going_on not_yet in
-      partial_output_of_lines q after total e old mid new unfailed failed s.items items (length s.items + k) lines_then end fault sample s.counted
+      partial_output_of_lines law q after total e old mid new unfailed failed s.items items (length s.items + k) lines_then end fault sample s.counted
       (page_onto q after k s.items items last end (subst (IsPage q after (length s.items) s.items) not_yet s.page) going.0 going.1 page) (omega (arith, s.counted, le)) s.written part
 
 -- a tree that is lent, as the place to go on from

@@ -74,10 +74,13 @@ next_same cmp C D old None there back h = λ u d. h u (back u d)
 
 -- ---- by size
 
-pub fewer_nodes : (u v : Data) → node_count u < node_count v → node_count v ≤ most_nodes → tree_cmp u v ≡ Less
-fewer_nodes u v h k =
-    let e : nat_cmp (nodes u) (nodes v) ≡ Less = sym (nat_cmp_is (nodes u) (nodes v) Less (omega arith)) in
+pub by_nodes : (u v : Data) → nodes u < nodes v → tree_cmp u v ≡ Less
+by_nodes u v h =
+    let e : nat_cmp (nodes u) (nodes v) ≡ Less = sym (nat_cmp_is (nodes u) (nodes v) Less h) in
     rw e refl
+
+pub fewer_nodes : (u v : Data) → node_count u < node_count v → node_count v ≤ most_nodes → tree_cmp u v ≡ Less
+fewer_nodes u v h k = by_nodes u v (omega arith)
 
 not_fewer : (u v : Data) → tree_cmp u v ≡ Less → node_count u ≤ most_nodes → node_count u ≤ node_count v
 not_fewer u v p k = elim (cases_lt (node_count v) (node_count u)) [

@@ -21,4 +21,5 @@ pub mod WholeListLemmas
 pub mod MoveLemmas
 pub mod RootLemmas
 pub mod PageLemmas
+pub mod PageLaws
 pub mod LiveLemmas

@@ -5,6 +5,7 @@ mod before;
 mod building;
 mod copying;
 mod fault;
+mod law;
 mod leaves;
 mod listed;
 mod live;
@@ -17,6 +18,7 @@ mod splitting;
 mod taken;
 
 pub use fault::EFault;
+pub use law::pages_agree;
 pub use listed::Page;
 pub use live::Live;
 pub use paging::page;

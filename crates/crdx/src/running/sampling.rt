@@ -17,6 +17,7 @@ use crate::running::causes::Cause;
 use crate::running::documents::{Accepted, accepted_schema, after_of, pools_of};
 use crate::sink::Sink;
 use crate::walk::{Envelope, Walked, walk};
+use enumerate::pages_agree;
 use jtree::{Text, Tree};
 use plan::{Plan, Pools, SizeSet};
 use std::alloc::{AllocError, Global};
@@ -103,6 +104,7 @@ fn write_samples<Z: SizeSet, W: Sink>(
     ensures cause { IfErr result (IsWalkCause inputs.old.plan (option_map data_of inputs.old.after) count inputs.old.envelope
         (W.taken out.old) (W.taken out.new) (W.failures out.old) (W.failures out.new)) }
 {
+    pages_agree();
     let mut meter = inputs.plan.meter();
     let walked = walk(
         alloc,

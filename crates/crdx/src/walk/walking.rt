@@ -15,7 +15,7 @@ use crate::sink::{Sink, put_all};
 use crate::walk::blocks::{block_of, whole_lines};
 use crate::walk::fault::WFault;
 use crate::walk::line::Envelope;
-use enumerate::EFault;
+use enumerate::{EFault, pages_agree};
 use jtree::Tree;
 use plan::{Meter, Plan, SizeSet};
 use std::alloc::Global;
@@ -73,6 +73,7 @@ pub fn walk<Z: SizeSet, W: Sink>(
     ensures goes_on { IfErr result (CanGoOn plan.now (resume_point after.entry) total) }
     ensures unfailed { OnOk result (W.failures out.new ≡ W.failures out.old) }
 {
+    pages_agree();
     let mut so_far = match write_page(
         alloc,
         plan,

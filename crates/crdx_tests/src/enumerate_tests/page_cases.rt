@@ -6,8 +6,8 @@ use crate::support::documents::{
 use crate::support::fakes::FailingSink;
 use crate::support::harness::{holds, is_number, is_said, is_text, is_value, made};
 use crate::support::pages::{lines_of, place_of, walked};
-use crdx::walk::{WFault, Walked, pages_agree};
-use enumerate::{EFault, Live, page};
+use crdx::walk::{WFault, Walked};
+use enumerate::{EFault, Live, page, pages_agree};
 use jtree::Tree;
 use plan::{Meter, Plan};
 use std::alloc::Global;

@@ -51,7 +51,7 @@ returns-in-Err-clause-cause g c =
     rw (← place, ← c.as_ref-2.ensures.value, ← c.meter-meter.ensures.same) c.in_ok-walked.ensures.lines in
     let sample : IfSome after (IsSampleOf inputs.plan) = rw (← place, ← c.meter-meter.ensures.same) c.in_ok-walked.ensures.sample in
     let failed = failed_once _ _ (c.in-Err.ensures.err ∙ ap one_more c.in_ok-walked.ensures.unfailed) in
-    flush_cause inputs.plan after c.args.count inputs.envelope _ c.in_ok-walked.walked.lines c.in_ok-walked.walked.end
+    flush_cause (c.pages_agree.ensures.items, c.pages_agree.ensures.end) inputs.plan after c.args.count inputs.envelope _ c.in_ok-walked.walked.lines c.in_ok-walked.walked.end
     (g.W.Sink.taken c.args.out.now) (g.W.Sink.taken c.flush.new.self) _ _ sample (record {
       items = wrote.items;
       page = wrote.page;

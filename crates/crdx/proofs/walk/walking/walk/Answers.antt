@@ -10,7 +10,7 @@ use Rattle.crdx.proofs.walk.walking.walk.Goals.{then-pages-test+else-so_far-tota
 
 pub returns-in-Err-clause-cut : goal.returns-in-Err-clause-cut
 returns-in-Err-clause-cut g c =
-    cut_first c.args.plan.now (resume_point c.args.after) c.args.total (option_copied c.args.envelope) c.min.result _ _ _ _ c.in-Err.fault (omega arith) c.in-Err.ensures.err
+    cut_first c.args.plan.now (resume_point c.args.after) c.args.total (option_copied c.args.envelope) (c.pages_agree.ensures.items, c.pages_agree.ensures.end) c.min.result _ _ _ _ c.in-Err.fault (omega arith) c.in-Err.ensures.err
 
 pub returns-in-Err-clause-goes_on : goal.returns-in-Err-clause-goes_on
 returns-in-Err-clause-goes_on g c =
@@ -32,7 +32,7 @@ returns-in-Err-write_page-clause-cut g c =
     let same : resume_point c.as_ref.result ≡ last = resumed c.as_ref.result ∙ ap (option_map data_of) c.as_ref.ensures.value in
     let part : IsPartialPage q last c.min-count.result e c.pages.so_far.lines (g.W.Sink.taken c.pages.out) (g.W.Sink.taken c.write_page-in-pages.new.out) (g.W.Sink.failures c.args.out.now) (g.W.Sink.failures c.write_page-in-pages.new.out) c.in-Err-write_page.fault =
     rw (← same, ← c.pages.invariant.failures) c.in-Err-write_page.ensures.err in
-    cut_later q (resume_point c.args.after) c.args.total e c.min-count.result c.pages.so_far.lines last c.pages.so_far.end _ _ _ _ _ c.in-Err-write_page.fault
+    cut_later q (resume_point c.args.after) c.args.total e (c.pages_agree.ensures.items, c.pages_agree.ensures.end) c.min-count.result c.pages.so_far.lines last c.pages.so_far.end _ _ _ _ _ c.in-Err-write_page.fault
     c.pages.invariant.sample c.pages-test.true (omega arith) (omega arith) c.pages.invariant.so_far part
 
 pub returns-in-Err-write_page-clause-goes_on : goal.returns-in-Err-write_page-clause-goes_on

@@ -1,0 +1,120 @@
+-- A question has one page past a place with a count; and what stands past its last sample at a larger limit.
+use Rattle.std.proofs.Common.{◌≡◌, ◌⊎◌, ◌↔◌, ℕ, ◌-◌, ◌<◌, ◌≤◌, List, [], ◌∷◌, length, Bool, Option, Some, refl, sym, ◌∙◌, subst, inl, inr, arith}
+use Rattle.std.specs.Prelude.{Contains}
+use Rattle.std.proofs.lemmas.Bool.{cases_lt}
+use Rattle.std.proofs.lemmas.List.Elements.{All-contains}
+use Rattle.jtree.specs.Data.{Data}
+use Rattle.jtree.specs.Nodes.{nodes}
+use Rattle.jtree.specs.Order.{tree_cmp}
+use Rattle.jtree.specs.Internal.Lookups.{bool_cases}
+use Rattle.jtree.specs.Internal.Rising.{Among, Rising, contained, contains, rising}
+use Rattle.plan.specs.Samples.Question.{Question}
+use Rattle.enumerate.specs.Limit.{at_limit, IsLastSample}
+use Rattle.enumerate.specs.Page.{Precedes, IsPastSample, IsSampleOf, IsPage}
+use Rattle.enumerate.proofs.LeastLemmas.{by_nodes, tree_order, tree_turned, not_itself}
+
+-- the first ones of what meets C, in order, `count` of them or all
+record IsFront (C : Data → Type 0) (count : ℕ) (xs : List Data) : Type 0 where
+  each : (v : Data) → Among xs v → C v
+  ascending : Rising Precedes xs
+  short : length xs ≤ count
+  rest : (v : Data) → C v → Among xs v ⊎ ((u : Data) → Among xs u → Precedes u v)
+  full : ((v : Data) → C v → Among xs v) ⊎ (length xs ≡ count)
+
+page_front : (q : Question) (after : Option Data) (count : ℕ) (xs : List Data) (end : Bool) → IsPage q after count xs end → IsFront (IsPastSample q after) count xs
+page_front q after count xs end p = record {
+  each = λ v a. All-contains (IsPastSample q after) xs v p.samples (contains xs v a);
+  ascending = rising Precedes xs p.ascending;
+  short = p.short;
+  rest = λ v c. elim (p.rest v c) [
+    | inl found ↦ inl (contained xs v found)
+    | inr all ↦ inr (λ u a. All-contains (λ w. Precedes w v) xs u all (contains xs u a))
+  ];
+  full = elim (bool_cases end) [
+    | inl t ↦ inl (λ v c. contained xs v (p.exact_end.0 t v c))
+    | inr f ↦ inr (p.full f)
+  ];
+}
+
+front_tail : (C : Data → Type 0) (count : ℕ) (x : Data) (xs : List Data) → IsFront C count (x ∷ xs) → IsFront (λ v. C v × Precedes x v) (count - 1) xs
+front_tail C count x xs f =
+    let later : (v : Data) → C v × Precedes x v → (x ≡ v) ⊎ Among xs v → Among xs v =
+    λ v c here. elim here [ inl same ↦ absurd (not_itself tree_cmp tree_order x v same c.1) | inr a ↦ a ] in
+    record {
+      each = λ v a. (f.each v (inr a), f.ascending.0 v a);
+      ascending = f.ascending.1;
+      short = omega (arith, f.short);
+      rest = λ v c. elim (f.rest v c.0) [
+        | inl here ↦ inl (later v c here)
+        | inr all ↦ inr (λ u a. all u (inr a))
+      ];
+      full = elim f.full [
+        | inl all ↦ inl (λ v c. later v c (all v c.0))
+        | inr is ↦ inr (omega (arith, is))
+      ];
+    }
+
+-- the first of one front is the first of the other, or after it
+first_after : (C : Data → Type 0) (count : ℕ) (x y : Data) (ys : List Data) → C x → IsFront C count (y ∷ ys) → (y ≡ x) ⊎ Precedes y x
+first_after C count x y ys c f = elim (f.rest x c) [
+  | inl here ↦ elim here [ inl same ↦ inl same | inr later ↦ inr (f.ascending.0 x later) ]
+  | inr all ↦ inr (all y (inl refl))
+]
+
+same_first : (C : Data → Type 0) (count : ℕ) (x y : Data) (xs ys : List Data) → IsFront C count (x ∷ xs) → IsFront C count (y ∷ ys) → x ≡ y
+same_first C count x y xs ys f g = elim (first_after C count x y ys (f.each x (inl refl)) g) [
+  | inl same ↦ sym same
+  | inr before ↦ elim (first_after C count y x xs (g.each y (inl refl)) f) [
+    | inl same ↦ same
+    | inr after ↦ absurd (tree_turned x y after before)
+  ]
+]
+
+-- where one front is empty, there is nothing for the other
+none_left : (C : Data → Type 0) (count : ℕ) (y : Data) (ys : List Data) → IsFront C count [] → IsFront C count (y ∷ ys) → ⊥
+none_left C count y ys f g = elim f.full [
+  | inl all ↦ all y (g.each y (inl refl))
+  | inr none ↦ omega (arith, none, g.short)
+]
+
+same_front : (C : Data → Type 0) (count : ℕ) (xs ys : List Data) → IsFront C count xs → IsFront C count ys → xs ≡ ys
+same_front C count [] [] f g = refl
+same_front C count [] (y ∷ ys) f g = absurd (none_left C count y ys f g)
+same_front C count (x ∷ xs) [] f g = absurd (none_left C count x xs g f)
+same_front C count (x ∷ xs) (y ∷ ys) f g =
+    let same = same_first C count x y xs ys f g in
+    let back : IsFront C count (x ∷ ys) = subst (λ t. IsFront C count (t ∷ ys)) (sym same) g in
+    let tails = same_front (λ v. C v × Precedes x v) (count - 1) xs ys (front_tail C count x xs f) (front_tail C count x ys back) in
+    λ i. same i ∷ tails i
+
+pub same_items : (q : Question) (after : Option Data) (count : ℕ) (xs ys : List Data) (d e : Bool) → IsPage q after count xs d → IsPage q after count ys e → xs ≡ ys
+same_items q after count xs ys d e p r = same_front (IsPastSample q after) count xs ys (page_front q after count xs d p) (page_front q after count ys e r)
+
+pub same_end : (q : Question) (after : Option Data) (count : ℕ) (xs ys : List Data) (d e : Bool) → IsPage q after count xs d → IsPage q after count ys e → d ≡ e
+same_end q after count xs ys d e p r =
+    let same = same_items q after count xs ys d e p r in
+    elim (bool_cases d) [
+      | inl t ↦ t ∙ sym (r.exact_end.1 (subst (λ us. (v : Data) → IsPastSample q after v → Contains us v) same (p.exact_end.0 t)))
+      | inr f ↦ elim (bool_cases e) [
+        | inl t ↦ let d_too = p.exact_end.1 (subst (λ us. (v : Data) → IsPastSample q after v → Contains us v) (sym same) (r.exact_end.0 t)) in cc
+        | inr g ↦ f ∙ sym g
+      ]
+    ]
+
+-- ---- larger limits
+
+pub larger_sample : (q : Question) (larger : ℕ) (v : Data) → q.limit ≤ larger → IsSampleOf q v → IsSampleOf (at_limit q larger) v
+larger_sample q larger v le s = record { part = s.part; within = omega (arith, le, s.within) }
+
+pub past_last_sample : (q : Question) (larger : ℕ) (last v : Data) → IsLastSample q last
+    → IsPastSample (at_limit q larger) (Some last) v ↔ (IsSampleOf (at_limit q larger) v × (q.limit < nodes v))
+past_last_sample q larger last v end = (
+  λ p. (
+    p.sample,
+    elim (cases_lt q.limit (nodes v)) [
+      | inl more ↦ more
+      | inr within ↦ absurd (end.none_past v (record { sample = record { part = p.sample.part; within = within }; past = p.past }))
+    ],
+  ),
+  λ s. record { sample = s.0; past = by_nodes last v (omega (arith, end.sample.within, s.1)) },
+)
