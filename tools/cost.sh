@@ -182,6 +182,16 @@ full_pools() {
     }'
 }
 
+# pools with 64 lists of 64 integers, for the paths of the first four objects of `objects`
+listed_pools() {
+    awk 'BEGIN {
+        for (i = 0; i < 64; i++) integers = integers (i ? "," : "") i
+        printf "{\"paths\":{"
+        for (i = 0; i < 64; i++) printf "%s\"/a%d/b%d\":[%s]", i ? "," : "", int(i / 16), i % 16, integers
+        printf "}}"
+    }'
+}
+
 # best WORD..: the least time of seven runs of these words, in microseconds
 best() {
     local least=0 began took i
@@ -258,11 +268,16 @@ for row in validate:set:160000-integers validate:set:200000-integers-of-10000-va
     measure "$command of $object by $schema" "$folder/objects/$object" "$command" "$folder/$schema" v1 "$folder/objects/$object"
 done
 
-# samples: a plan of many places with full pools and the greatest limit
+# samples: plans of many places with full pools, at the greatest limit of words of 64 bits and at that of words of 128, and with as
+# many lists for paths as there may be
 full_pools >"$folder/full-pools"
 for schema in 511-places-1-MiB 84-map-lists-of-4-keys; do
-    measure "a sample of $schema" "$folder/schemas/$schema" sample "$folder/schemas/$schema" v1 --pools "$folder/full-pools" --limit 63 --count 1
+    for limit in 63 127; do
+        measure "a sample of $schema within $limit nodes" "$folder/schemas/$schema" sample "$folder/schemas/$schema" v1 --pools "$folder/full-pools" --limit "$limit" --count 1
+    done
 done
+listed_pools >"$folder/listed-pools"
+measure 'a sample of 511-places-1-MiB with 64 lists for paths' "$folder/schemas/511-places-1-MiB" sample "$folder/schemas/511-places-1-MiB" v1 --pools "$folder/listed-pools" --limit 127 --count 1
 
 # 10,000 samples, against `cat` of their lines, and against reading all of them and printing them again, in one list
 optional 12 | define >"$folder/optional"

@@ -164,12 +164,16 @@ cat >"$folder/owned" <<'LINES'
 ["f:spec","f:sel"]
 ["f:spec","f:tags","v:\"t\""]
 LINES
+echo 'crdx: pools: P5 "/spec/acme/privateKeySecretRef/key"' >"$folder/bad-path"
 widget=examples/widget
 
 row 'sample of the widget' lines 0 $widget/samples-of-4-nodes.txt "$folder/end" \
     sample $widget/crd.json v1 --pools $widget/pools.json --limit 4
 row 'sample past another, with a name' lines 0 examples/issuer/named-samples.txt "$folder/more" \
     sample examples/issuer/crd.json v1 --pools examples/issuer/pools.json --limit 6 --count 2 --name web --after '{"spec":{"ca":{"secretName":"web"}}}'
+row 'sample of chosen values' lines 0 examples/issuer/samples-of-chosen-values.txt "$folder/end" \
+    sample examples/issuer/crd.json v1 --pools examples/issuer/chosen-values.json --limit 8
+row 'sample with a bad path' nothing 3 /dev/null "$folder/bad-path" sample $widget/crd.json v1 --pools examples/issuer/chosen-values.json
 row 'check of two violations' nothing 1 "$folder/broken" /dev/null check "$folder/broken.json" v1
 row 'check of the widget' nothing 0 "$folder/structural" /dev/null check $widget/crd.json v1
 row 'check of two bad defaults' nothing 1 "$folder/bad-default" /dev/null check "$folder/bad-default.json" v1

@@ -1,6 +1,6 @@
 -- How the causes of a run and its status go together with what is asked of the documents at hand.
 use Rattle.std.proofs.Common.{◌≡◌, ◌≢◌, ◌⊎◌, ℕ, List, [], ◌∷◌, Option, Some, None, Bor, Ok, Err, refl, ap, subst, inl, inr, take, map, string_bytes, IsSomeAnd, Bool, true, codes, ◌∙◌, arith}
-use Rattle.std.specs.Prelude.{IfSome, IfOk, IfErr, OnOk, OnErr, Result}
+use Rattle.std.specs.Prelude.{IfSome, IfOk, IfErr, OnOk, OnErr, Result, ◌≤◌, ◌<◌}
 use Rattle.std.specs.Io.KnownBytes.{Appends, Keeps}
 use Rattle.jtree.specs.Data.{Data}
 use Rattle.jtree.specs.Internal.Rising.{contained}
@@ -18,12 +18,13 @@ use Rattle.crdx.specs.Program.RunResult.{Effects, WritesNothing, IsRunResult, an
 use Rattle.crdx.specs.Output.Line.{lines}
 use Rattle.crdx.specs.Output.PartialOutput.{IsPartialOutput}
 use Rattle.crdx.specs.Output.Walk.{WritesPage}
-use Rattle.crdx.specs.Program.Requested.{IsRequested, IsRequestedCrd, IsRequestedSchema, IsRequestedRoot, HasAcceptedSchema, IsCrdRefused, ArePools}
+use Rattle.crdx.specs.Program.Requested.{IsRequested, IsRequestedCrd, IsRequestedSchema, IsRequestedRoot, HasAcceptedSchema, IsCrdRefused, ArePools, AreRootAndPools}
 use Rattle.crdx.specs.Program.Documents.{Documents, file_name, AreAmong}
 use Rattle.crdx.specs.Internal.ExitStatus.{status, cause_of_reading, cause_of_refusal, cause_of_pools, cause_of_walk, IsGiven}
-use Rattle.crdx.specs.Internal.Cause.{IsUnreadCause, IsReadCause, IsBrokenCause, IsSchemaCause, IsPoolsCause, IsTextCause, IsAfterCause, IsFieldCause, IsObjectCause, IsDocumentCause, IsInputCause, IsSampleCause, IsWalkCause}
+use Rattle.crdx.specs.Internal.Cause.{IsUnreadCause, IsReadCause, IsBrokenCause, IsSchemaCause, IsPoolsCause, IsPlanCause, IsTextCause, IsSamplingCause, IsFieldCause, IsObjectCause, IsDocumentCause, IsInputCause, IsSampleCause, IsWalkCause}
 use Rattle.plan.specs.Pools.Pools.{Pools}
 use Rattle.plan.specs.Pools.PoolsFault.{IsPoolsFault}
+use Rattle.plan.specs.Pools.PlanFault.{HasGoodPaths, IsPlanFault}
 use Rattle.plan.specs.Samples.Question.{Question}
 use Rattle.plan.specs.declared.fault.PFault.{PFault}
 use Rattle.plan.specs.declared.fault.PFault.TheVariants.{Form}
@@ -134,6 +135,7 @@ cause_of_pools_fault has unread read name d (Form p) at is = (d, at, λ e. cc, i
 cause_of_pools_fault has unread read name d p.TooLarge at is = (d, at, λ e. cc, is)
 cause_of_pools_fault has unread read name d p.NoMemory at is = tt
 cause_of_pools_fault has unread read name d p.BadLimit at is = absurd is
+cause_of_pools_fault has unread read name d (p.BadPath text) at is = absurd is
 
 among_some : (first second : Documents) (name : Option (Bor (List ℕ))) (r : Bor (List ℕ) → Type 0) (q : Bor (List ℕ) → Type 0) → ((n : Bor (List ℕ)) → r n → q n) → IsSomeAnd name r → IsSomeAnd name q
 among_some first second None r q f is = is
@@ -144,11 +146,11 @@ pub pools_input : (has later : Documents) (unread read : ℕ) (arguments : Sampl
     → IsPoolsCause later unread read arguments.pools cause → IsInputCause has unread read (Sample arguments) cause
 pools_input has later unread read arguments (Unread i) among accepted why = why.1
 pools_input has later unread read arguments (Document i fault) among accepted why =
-    inr (accepted, inl (inl (fault, why.1, among_some later has arguments.pools _ _ (λ n is. among (Some n.now) (Err fault) is) why.2)))
+    inr (inl (accepted, inl (fault, why.1, among_some later has arguments.pools _ _ (λ n is. among (Some n.now) (Err fault) is) why.2)))
 pools_input has later unread read arguments (PoolsCause fault) among accepted why =
-    inr (accepted, inl (inr (fault, among_some later has arguments.pools _ _ (λ n is. (is.0, among (Some n.now) (Ok is.0) is.1, is.2, is.3)) why)))
+    inr (inl (accepted, inr (fault, among_some later has arguments.pools _ _ (λ n is. (is.0, among (Some n.now) (Ok is.0) is.1, is.2, is.3)) why)))
 pools_input has later unread read arguments (Place input.Pools code.Form p) among accepted why =
-    inr (accepted, inl (inr (Form p, among_some later has arguments.pools _ _ (λ n is. (is.0, among (Some n.now) (Ok is.0) is.1, is.2, is.3)) why)))
+    inr (inl (accepted, inr (Form p, among_some later has arguments.pools _ _ (λ n is. (is.0, among (Some n.now) (Ok is.0) is.1, is.2, is.3)) why)))
 pools_input has later unread read arguments NoMemory among accepted why = tt
 pools_input has later unread read arguments _ among accepted why = absurd why
 
@@ -157,18 +159,30 @@ pub pools_before : (has later : Documents) (name : Option (Bor (List ℕ))) (P :
 pools_before has later None P among is = is
 pools_before has later (Some n) P among is = (is.0, among (Some n.now) (Ok is.0) is.1, is.2, is.3, is.4)
 
-text_input : (has : Documents) (unread read : ℕ) (arguments : SampleArguments) (text : Bor (List ℕ)) (cause : Cause) → arguments.after ≡ Some text → HasAcceptedSchema has arguments.crd.now arguments.version.now
-    → (P : Pools) → ArePools has arguments.pools P → IsTextCause text.now cause → IsInputCause has unread read (Sample arguments) cause
-text_input has unread read arguments text (Document i fault) is accepted P are why = inr (accepted, inr ((P, are), (fault, why.1, rw is why.2)))
-text_input has unread read arguments text NoMemory is accepted P are why = tt
-text_input has unread read arguments text _ is accepted P are why = absurd why
+-- why there is no plan, as the cause that its fault becomes; the limit is one that sets of sizes have room for
+pub cause_of_plan_fault : (N : Node) (P : Pools) (limit bits : ℕ) (fault : PFault) → 1 ≤ limit → limit < bits → IsPlanFault N P limit bits fault → IsPlanCause N P (cause_of_pools fault)
+cause_of_plan_fault N P limit bits p.BadLimit least most (inl is) = grind (arith, nat_tests)
+cause_of_plan_fault N P limit bits p.BadLimit least most (inr is) = grind (arith, nat_tests)
+cause_of_plan_fault N P limit bits (p.BadPath text) least most is = is.1
+cause_of_plan_fault N P limit bits p.NoMemory least most is = tt
+cause_of_plan_fault N P limit bits _ least most is = absurd is
 
--- the tree to go on from is read where the schema and the pools are taken
-pub after_input : (has : Documents) (unread read : ℕ) (arguments : SampleArguments) (after : Option (Bor (List ℕ))) (cause : Cause) → arguments.after ≡ after → HasAcceptedSchema has arguments.crd.now arguments.version.now
-    → (P : Pools) → ArePools has arguments.pools P → IsAfterCause after cause ⊎ (cause ≡ NoMemory) → IsInputCause has unread read (Sample arguments) cause
-after_input has unread read arguments after cause is accepted P are (inr memory) = rw memory tt
-after_input has unread read arguments None cause is accepted P are (inl why) = absurd why
-after_input has unread read arguments (Some text) cause is accepted P are (inl why) = text_input has unread read arguments text cause is accepted P are why
+module _ (has : Documents) (unread read : ℕ) (arguments : SampleArguments) (N : Node) (P : Pools) (are : AreRootAndPools has arguments N P) where
+  plan_input : (cause : Cause) → IsPlanCause N P cause → IsInputCause has unread read (Sample arguments) cause
+  plan_input (Place input.Pools code.BadPath text) why = inr (inr (N, P, are, inl (string_bytes text, why)))
+  plan_input NoMemory why = tt
+  plan_input _ why = absurd why
+
+  text_input : (text : Bor (List ℕ)) (cause : Cause) → arguments.after ≡ Some text → HasGoodPaths N P → IsTextCause text.now cause → IsInputCause has unread read (Sample arguments) cause
+  text_input text (Document i fault) is good why = inr (inr (N, P, are, inr (good, (fault, why.1, rw is why.2))))
+  text_input text NoMemory is good why = tt
+  text_input text _ is good why = absurd why
+
+  -- the paths of the pools are judged where the schema and the pools are taken, and the tree to go on from is read where all are good
+  pub sampling_input : (after : Option (Bor (List ℕ))) (cause : Cause) → arguments.after ≡ after → IsSamplingCause N P after cause → IsInputCause has unread read (Sample arguments) cause
+  sampling_input after cause is (inl why) = plan_input cause why
+  sampling_input None cause is (inr why) = absurd why.1
+  sampling_input (Some text) cause is (inr why) = text_input text cause is why.0 why.1
 
 module _ (run : Effects) (request : Request) where
   kept : Keeps run.output_before run.output → (r : Request) → IsCutByMemory run r

@@ -1,4 +1,5 @@
 mod argument_cases;
+mod bad_path_cases;
 mod broken_sink_cases;
 mod check_cases;
 mod envelope_cases;
@@ -7,6 +8,7 @@ mod hostile_cases;
 mod input_cases;
 mod leaf_cases;
 mod limit_cases;
+mod path_cases;
 mod presence_cases;
 mod prune_cases;
 mod refusal_cases;

@@ -3,4 +3,3 @@ pub mod FieldCode
 pub mod Reading
 pub mod Resolving
 pub mod ListedByLevel
-pub mod StepView

@@ -2,3 +2,4 @@
 pub mod FieldPath
 pub mod PathText
 pub mod FieldOrder
+pub mod StepView

@@ -15,4 +15,5 @@ pub use fault::XFault;
 pub use field::Field;
 pub use listing::Listing;
 pub use one_text::paths_have_one_text;
+pub use path_text::{Step, path_below};
 pub use resolving::resolve;

@@ -1,21 +1,30 @@
 //! How a path is written.
-ghost use Rattle.std.specs.Prelude.{◌≡◌, ◌++◌, OnOk, flat_map, string_bytes};
+ghost use Rattle.std.specs.Prelude.{◌≡◌, ◌++◌, IfOk, OnOk, flat_map, string_bytes};
 ghost use Rattle.std.specs.Char.{encode_utf8};
 ghost use Rattle.explain.specs.Paths.FieldPath.{field};
 ghost use Rattle.explain.specs.Paths.PathText.{escaped, step_text};
-ghost use Rattle.explain.specs.Internal.StepView.{step_of};
+ghost use Rattle.explain.specs.Paths.StepView.{step_of};
 
-use std::alloc::AllocError;
+use std::alloc::{AllocError, Global};
 
-/// A step of a path.
+/// A step of the path of a field.
 #[derive(Clone, Copy, Drop)]
-pub(crate) enum Step<'a> {
+pub enum Step<'a> {
     /// To the field of this name.
     Field(&'a str),
     /// To the items of a list.
     Item,
     /// To the values of a map.
     Value,
+}
+
+/// The text of the path that goes on by a step from the path of this text. `AllocError` where an allocation fails.
+pub fn path_below(alloc: Global, path: &str, step: Step<'_>) -> Result<String, AllocError>
+    ensures { IfOk result (λ s. string_bytes s ≡ path.now ++ step_text (step_of step.entry)) }
+{
+    let mut text = String::from_str(alloc, path)?;
+    push_step(&mut text, step)?;
+    Ok(text)
 }
 
 /// Appends the text of a step.

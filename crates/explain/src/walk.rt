@@ -4,7 +4,7 @@ ghost use Rattle.jtree.specs.View.{data_of};
 ghost use Rattle.schema.specs.Nodes.View.{node_of};
 ghost use Rattle.explain.specs.Paths.FieldPath.{field as field_step};
 ghost use Rattle.explain.specs.Internal.ListedByLevel.{progress, noted, added, told_as, under, whole, below, below_fields};
-ghost use Rattle.explain.specs.Internal.StepView.{step_of};
+ghost use Rattle.explain.specs.Paths.StepView.{step_of};
 
 use crate::describing::{copied_default, describe};
 use crate::field::Field;

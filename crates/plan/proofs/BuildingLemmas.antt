@@ -3,7 +3,7 @@ use Rattle.std.specs.Prelude.{◌≡◌, ℕ, zero, suc, ◌+◌, ◌^◌, ◌<�
 use Rattle.std.specs.Str.{bytes_eq}
 use Rattle.std.proofs.Common.{Result, Ok, Err, IfOk, refl, ap, sym, ◌∙◌, inl, inr, arith, [], ◌∷◌, ◌++◌, length, get_or}
 use Rattle.std.proofs.lemmas.Bool.{cases_Bool}
-use Rattle.std.proofs.lemmas.List.{get_or_append_left, get_or_push, get_or-append-add, append_assoc, length_push, length-append, take_more}
+use Rattle.std.proofs.lemmas.List.{get_or_append_left, get_or_push, get_or-append-add, append-nil, append_assoc, length_push, length-append, take_more}
 use Rattle.jtree.specs.View.{data_of}
 use Rattle.schema.specs.Document.Texts.{is_among}
 use Rattle.schema.specs.Nodes.Node.{Node, node, Sort, scalar, object, list, open_, Fields, no_fields, field, Validations, IsNode}
@@ -14,7 +14,8 @@ use Rattle.schema.specs.declared.node.ListType.{ListType}
 use Rattle.schema.specs.Nodes.View.{node_of, fields_of}
 use Rattle.schema.specs.declared.node.Field.{Field}
 use Rattle.plan.specs.Pools.Pools.{Pools}
-use Rattle.plan.specs.Samples.Sites.{Site, plain, item_site, item_keys, sites_from, sites_below, sites_of_fields, Slot, slots, slots_at, field_slots, value_slot}
+use Rattle.explain.specs.Paths.FieldPath as step
+use Rattle.plan.specs.Samples.Sites.{Site, plain, below, item_site, item_keys, sites_from, sites_below, sites_of_fields, Slot, slots, slots_at, field_slots, value_slot}
 use Rattle.plan.specs.Samples.Candidates.{sort_at, sort_of, AreCandidates}
 use Rattle.plan.specs.Samples.Sizes.{HasSize, ending_at, ending_of, IsUpTo}
 use Rattle.plan.specs.Samples.Presence.{bit_of}
@@ -70,33 +71,34 @@ stand_last sites start xs s h = h (length xs) s (omega (arith, length_push xs s)
 
 -- ---- fields
 
-pub append_none : {X : Type 0} (xs : List X) → xs ++ [] ≡ xs
-append_none [] = refl
-append_none (x ∷ xs) = ap (λ l. x ∷ l) (append_none xs)
+-- the sites of a field
+abbrev field_sites : List ℕ → Field → List Site
+field_sites path x = sites_from (below path (step.field x.name)) (node_of x.node) []
 
-sites_push : (xs : List Field) (x : Field) → sites_of_fields (fields_of (xs ++ x ∷ [])) ≡ sites_of_fields (fields_of xs) ++ sites_from (node_of x.node) []
-sites_push [] x = append_none (sites_from (node_of x.node) [])
-sites_push (y ∷ xs) x =
-    ap (λ l. sites_from (node_of y.node) [] ++ l) (sites_push xs x) ∙ sym (append_assoc (sites_from (node_of y.node) []) (sites_of_fields (fields_of xs)) (sites_from (node_of x.node) []))
+sites_push : (path : List ℕ) (xs : List Field) (x : Field) → sites_of_fields path (fields_of (xs ++ x ∷ [])) ≡ sites_of_fields path (fields_of xs) ++ field_sites path x
+sites_push path [] x = append-nil (field_sites path x)
+sites_push path (y ∷ xs) x =
+    ap (λ l. field_sites path y ++ l) (sites_push path xs x) ∙ sym (append_assoc (field_sites path y) (sites_of_fields path (fields_of xs)) (field_sites path x))
 
-slots_push : (keys named : List (List ℕ)) (xs : List Field) (x : Field)
-    → field_slots keys named (fields_of (xs ++ x ∷ []))
-    ≡ field_slots keys named (fields_of xs) ++ (record { name = x.name; site = plain (node_of x.node); must = x.required || is_some (option_map data_of x.default); key = is_among x.name keys; bit = bit_of x.name named }) ∷ []
-slots_push keys named [] x = refl
-slots_push keys named (y ∷ xs) x =
-    ap (λ l. record { name = y.name; site = plain (node_of y.node); must = y.required || is_some (option_map data_of y.default); key = is_among y.name keys; bit = bit_of y.name named } ∷ l) (slots_push keys named xs x)
+abbrev slot_of : List ℕ → List (List ℕ) → List (List ℕ) → Field → Slot
+slot_of path keys named x =
+    record { name = x.name; site = plain (below path (step.field x.name)) (node_of x.node); must = x.required || is_some (option_map data_of x.default); key = is_among x.name keys; bit = bit_of x.name named }
+
+slots_push : (path : List ℕ) (keys named : List (List ℕ)) (xs : List Field) (x : Field) → field_slots path keys named (fields_of (xs ++ x ∷ [])) ≡ field_slots path keys named (fields_of xs) ++ slot_of path keys named x ∷ []
+slots_push path keys named [] x = refl
+slots_push path keys named (y ∷ xs) x = ap (λ l. slot_of path keys named y ∷ l) (slots_push path keys named xs x)
 
 sound_push : (xs : List Field) (x : Field) → AreFieldsSound (fields_of (xs ++ x ∷ [])) → AreFieldsSound (fields_of xs) × IsSound (node_of x.node)
 sound_push [] x h = (tt, h.0)
 sound_push (y ∷ xs) x h = let r = sound_push xs x h.1 in ((h.0, r.0), r.1)
 
 -- the site of the node itself is the last of its sites
-pub last_site : (sites : List Site) (start n : ℕ) (N : Node) (keys : List (List ℕ)) → n + 1 ≡ start + length (sites_from N keys) → Stand sites start (sites_from N keys) → site_at sites n ≡ record { node = N; keys = keys }
-last_site sites start n (node nullable description sort) keys last stand =
-    let below = sites_below sort in
-    let s : Site = record { node = node nullable description sort; keys = keys } in
-    let e : start + length below ≡ n = omega (arith, last, length_push below s) in
-    rw e at (stand_last sites start below s stand)
+pub last_site : (sites : List Site) (start n : ℕ) (path : List ℕ) (N : Node) (keys : List (List ℕ)) → n + 1 ≡ start + length (sites_from path N keys) → Stand sites start (sites_from path N keys) → site_at sites n ≡ record { node = N; keys = keys; path = path }
+last_site sites start n path (node nullable description sort) keys last stand =
+    let under = sites_below path sort in
+    let s : Site = record { node = node nullable description sort; keys = keys; path = path } in
+    let e : start + length under ≡ n = omega (arith, last, length_push under s) in
+    rw e at (stand_last sites start under s stand)
 
 slots_are_push : (names : List (List ℕ)) (sites : List Site) (i : ℕ) (es : List SlotEntry) (ss : List Slot) (e : SlotEntry) (s : Slot) → AreSlots names sites i es ss → IsSlot names sites i e s → AreSlots names sites i (es ++ e ∷ []) (ss ++ s ∷ [])
 slots_are_push names sites i [] [] e s h here = (here, tt)
@@ -109,63 +111,63 @@ map_push f [] x = refl
 map_push f (y ∷ xs) x = ap (λ l. f y ∷ l) (map_push f xs x)
 
 -- the slot of one name of the pools more
-pub value_slots_push : (names : List (List ℕ)) (sites : List Site) (i k : ℕ) (p : PlanNode) (M : Node) (es : List SlotEntry) → k < length names → p < i → site_at sites p ≡ plain M
-    → AreSlots names sites i es (map (value_slot M) (take k names)) → AreSlots names sites i (es ++ record { name = Pool k; node = p; must = false; key = false; bit = None } ∷ []) (map (value_slot M) (take (k + 1) names))
-value_slots_push names sites i k p M es l below site h =
+pub value_slots_push : (names : List (List ℕ)) (sites : List Site) (i k : ℕ) (p : PlanNode) (path : List ℕ) (M : Node) (es : List SlotEntry) → k < length names → p < i → site_at sites p ≡ plain (below path step.value) M
+    → AreSlots names sites i es (map (value_slot path M) (take k names)) → AreSlots names sites i (es ++ record { name = Pool k; node = p; must = false; key = false; bit = None } ∷ []) (map (value_slot path M) (take (k + 1) names))
+value_slots_push names sites i k p path M es l within site h =
     let x = get_or names k [] in
-    rw (take_more names k [] l, map_push (value_slot M) (take k names) x)
-    (slots_are_push names sites i es (map (value_slot M) (take k names)) _ (value_slot M x) h (record { name = refl; below = below; node = site; must = refl; key = refl; bit = refl }))
+    rw (take_more names k [] l, map_push (value_slot path M) (take k names) x)
+    (slots_are_push names sites i es (map (value_slot path M) (take k names)) _ (value_slot path M x) h (record { name = refl; below = within; node = site; must = refl; key = refl; bit = refl }))
 
-pub no_fields_built : {Z : Type 0} (holds : Z → ℕ → Type 0) (limit : ℕ) (v : Values) (es : List (Entry Z)) (keys named : List (List ℕ)) → AreBuilt holds limit v es es no_fields keys named []
-no_fields_built holds limit v es keys named = record {
+pub no_fields_built : {Z : Type 0} (holds : Z → ℕ → Type 0) (limit : ℕ) (P : Pools) (v : Values) (es : List (Entry Z)) (path : List ℕ) (keys named : List (List ℕ)) → AreBuilt holds limit P v es es path no_fields keys named []
+no_fields_built holds limit P v es path keys named = record {
   count = omega arith;
   below = λ k d l. absurd (omega arith);
   bits = λ k d l. absurd (omega arith);
-  right = λ P sites values sound stand right. right;
+  right = λ sites values sound stand right. right;
   slots_are = λ names sites i stand within. tt;
 }
 
-pub field_built : {Z : Type 0} (holds : Z → ℕ → Type 0) (limit : ℕ) (v : Values) (old mid new : List (Entry Z)) (xs : List Field) (x : Field) (keys named : List (List ℕ)) (slots : List SlotEntry) (s : SlotEntry)
-    → AreBuilt holds limit v old mid (fields_of xs) keys named slots → IsBuilt holds limit v mid new (node_of x.node) [] s.node → IsFieldSlot keys named x.name x.required (option_map data_of x.default) s → IsClosed (2 ^ length named) s.bit
-    → AreBuilt holds limit v old new (fields_of (xs ++ x ∷ [])) keys named (slots ++ s ∷ [])
-field_built holds limit v old mid new xs x keys named slots s a b f closed =
-    let before = sites_of_fields (fields_of xs) in
-    let here = sites_from (node_of x.node) [] in
+pub field_built : {Z : Type 0} (holds : Z → ℕ → Type 0) (limit : ℕ) (P : Pools) (v : Values) (old mid new : List (Entry Z)) (path : List ℕ) (xs : List Field) (x : Field) (keys named : List (List ℕ)) (slots : List SlotEntry) (s : SlotEntry)
+    → AreBuilt holds limit P v old mid path (fields_of xs) keys named slots → IsBuilt holds limit P v mid new (below path (step.field x.name)) (node_of x.node) [] s.node → IsFieldSlot keys named x.name x.required (option_map data_of x.default) s → IsClosed (2 ^ length named) s.bit
+    → AreBuilt holds limit P v old new path (fields_of (xs ++ x ∷ [])) keys named (slots ++ s ∷ [])
+field_built holds limit P v old mid new path xs x keys named slots s a b f closed =
+    let before = sites_of_fields path (fields_of xs) in
+    let here = field_sites path x in
     let start : length old + length before ≡ length mid = sym a.count in
-    let first : (sites : List Site) → Stand sites (length old) (sites_of_fields (fields_of (xs ++ x ∷ []))) → Stand sites (length old) before × Stand sites (length mid) here = λ sites stand.
-    let both : Stand sites (length old) (before ++ here) = rw (sites_push xs x) at stand in
+    let first : (sites : List Site) → Stand sites (length old) (sites_of_fields path (fields_of (xs ++ x ∷ []))) → Stand sites (length old) before × Stand sites (length mid) here = λ sites stand.
+    let both : Stand sites (length old) (before ++ here) = rw (sites_push path xs x) at stand in
     (stand_left sites (length old) before here both, rw start at (stand_right sites (length old) before here both))
     in
     record {
-      count = rw (sites_push xs x) (omega (arith, a.count, b.count, length-append before here));
+      count = rw (sites_push path xs x) (omega (arith, a.count, b.count, length-append before here));
       below = each_push (λ k (e : SlotEntry). e.node < length new) slots s (λ k d l. let h = a.below k d l in omega (arith, b.count)) (omega (arith, b.last));
       bits = each_push (λ k (e : SlotEntry). IsClosed (2 ^ length named) e.bit) slots s a.bits closed;
-      right = λ P sites values sound stand right.
+      right = λ sites values sound stand right.
           let parts = sound_push xs x sound in
           let stands = first sites stand in
-          b.right P sites values parts.1 stands.1 (a.right P sites values parts.0 stands.0 right);
+          b.right sites values parts.1 stands.1 (a.right sites values parts.0 stands.0 right);
       slots_are = λ names sites i stand within.
           let stands = first sites stand in
-          let site = last_site sites (length mid) s.node (node_of x.node) [] (omega (arith, b.last, b.count)) stands.1 in
-          rw (slots_push keys named xs x)
-          (slots_are_push names sites i slots (field_slots keys named (fields_of xs)) s _ (a.slots_are names sites i stands.0 (omega (arith, b.count))) (record { name = f.name_is names; below = omega (arith, b.last); node = site; must = f.must; key = f.key; bit = f.bit }));
+          let site = last_site sites (length mid) s.node (below path (step.field x.name)) (node_of x.node) [] (omega (arith, b.last, b.count)) stands.1 in
+          rw (slots_push path keys named xs x)
+          (slots_are_push names sites i slots (field_slots path keys named (fields_of xs)) s _ (a.slots_are names sites i stands.0 (omega (arith, b.count))) (record { name = f.name_is names; below = omega (arith, b.last); node = site; must = f.must; key = f.key; bit = f.bit }));
     }
 
 -- a node whose sites below are there
-pub node_built : {Z : Type 0} (holds : Z → ℕ → Type 0) (limit : ℕ) (v : Values) (old new : List (Entry Z)) (nullable : Bool) (description : Option (List ℕ)) (sort : Sort) (keys : List (List ℕ)) (n : ℕ)
-    → n ≡ length old + length (sites_below sort) → length new ≡ n + 1
-    → ((P : Pools) (sites : List Site) → AreValues P v → IsSound (node nullable description sort) → Stand sites (length old) (sites_below sort) → site_at sites n ≡ record { node = node nullable description sort; keys = keys }
+pub node_built : {Z : Type 0} (holds : Z → ℕ → Type 0) (limit : ℕ) (P : Pools) (v : Values) (old new : List (Entry Z)) (path : List ℕ) (nullable : Bool) (description : Option (List ℕ)) (sort : Sort) (keys : List (List ℕ)) (n : ℕ)
+    → n ≡ length old + length (sites_below path sort) → length new ≡ n + 1
+    → ((sites : List Site) → AreValues P v → IsSound (node nullable description sort) → Stand sites (length old) (sites_below path sort) → site_at sites n ≡ record { node = node nullable description sort; keys = keys; path = path }
     → AreRight holds limit P v sites old → AreRight holds limit P v sites new)
-    → IsBuilt holds limit v old new (node nullable description sort) keys n
-node_built holds limit v old new nullable description sort keys n number count right =
-    let s : Site = record { node = node nullable description sort; keys = keys } in
-    let below = sites_below sort in
+    → IsBuilt holds limit P v old new path (node nullable description sort) keys n
+node_built holds limit P v old new path nullable description sort keys n number count right =
+    let s : Site = record { node = node nullable description sort; keys = keys; path = path } in
+    let under = sites_below path sort in
     record {
-      count = omega (arith, length_push below s);
+      count = omega (arith, length_push under s);
       last = omega arith;
-      right = λ P sites values sound stand before.
-          let here : site_at sites n ≡ s = rw (← number) at (stand_last sites (length old) below s stand) in
-          right P sites values sound (stand_left sites (length old) below (s ∷ []) stand) here before;
+      right = λ sites values sound stand before.
+          let here : site_at sites n ≡ s = rw (← number) at (stand_last sites (length old) under s stand) in
+          right sites values sound (stand_left sites (length old) under (s ∷ []) stand) here before;
     }
 
 -- what three clauses say of a value, if there is one
@@ -174,45 +176,44 @@ three_ok (Ok x) A B C D a b c d = d x a b c
 three_ok (Err e) A B C D a b c d = tt
 
 -- a row whose slots' nodes are there
-pub row_built : {Z : Type 0} (holds : Z → ℕ → Type 0) (limit : ℕ) (v : Values) (old mid new : List (Entry Z)) (nullable : Bool) (description : Option (List ℕ)) (sort : Sort) (keys : List (List ℕ)) (b : Bounds) (cs : Validations) (ends : List Bool) (es : List SlotEntry) (n : ℕ)
+pub row_built : {Z : Type 0} (holds : Z → ℕ → Type 0) (limit : ℕ) (P : Pools) (v : Values) (old mid new : List (Entry Z)) (path : List ℕ) (nullable : Bool) (description : Option (List ℕ)) (sort : Sort) (keys : List (List ℕ)) (b : Bounds) (cs : Validations) (ends : List Bool) (es : List SlotEntry) (n : ℕ)
     → IsNode (node nullable description sort) → sort_at (node nullable description sort) ≡ Row → ending_at (node nullable description sort) ≡ record { bounds = b; asked = cs } → (HasSoundJunctors (node nullable description sort) → AreMet cs ends)
-    → n ≡ length old + length (sites_below sort) → length new ≡ n + 1
-    → ((P : Pools) (sites : List Site) → AreValues P v → IsSortSound sort → Stand sites (length old) (sites_below sort) → AreRight holds limit P v sites old → AreRight holds limit P v sites mid)
-    → ((P : Pools) (sites : List Site) → AreValues P v → HasSoundJunctors (node nullable description sort) → Stand sites (length old) (sites_below sort) → AreSlots v.names.items sites n es (slots_at P (node nullable description sort) keys))
-    → ((P : Pools) (sites : List Site) (asked : Validations) → AreRight holds limit P v sites mid → IsNode (site_at sites n).node → sort_of (site_at sites n) ≡ Row → ending_of (site_at sites n) ≡ record { bounds = b; asked = asked } → AreMet asked ends
-    → admits_null (site_at sites n) ≡ nullable → AreSlots v.names.items sites n es (slots P (site_at sites n)) → AreRight holds limit P v sites new)
-    → IsBuilt holds limit v old new (node nullable description sort) keys n
-row_built holds limit v old mid new nullable description sort keys b cs ends es n o row ending met number count below are right =
-    node_built holds limit v old new nullable description sort keys n number count
-    (λ P sites values sound stand here before.
-    right P sites cs (below P sites values sound.2 stand before) (rw here o) (rw here row) (rw here ending) (met sound.1) (rw here refl) (rw here (are P sites values sound.1 stand)))
+    → n ≡ length old + length (sites_below path sort) → length new ≡ n + 1
+    → ((sites : List Site) → AreValues P v → IsSortSound sort → Stand sites (length old) (sites_below path sort) → AreRight holds limit P v sites old → AreRight holds limit P v sites mid)
+    → ((sites : List Site) → AreValues P v → HasSoundJunctors (node nullable description sort) → Stand sites (length old) (sites_below path sort) → AreSlots v.names.items sites n es (slots_at P path (node nullable description sort) keys))
+    → ((Q : Pools) (sites : List Site) (asked : Validations) → AreRight holds limit Q v sites mid → IsNode (site_at sites n).node → sort_of (site_at sites n) ≡ Row → ending_of (site_at sites n) ≡ record { bounds = b; asked = asked } → AreMet asked ends
+    → admits_null (site_at sites n) ≡ nullable → AreSlots v.names.items sites n es (slots Q (site_at sites n)) → AreRight holds limit Q v sites new)
+    → IsBuilt holds limit P v old new path (node nullable description sort) keys n
+row_built holds limit P v old mid new path nullable description sort keys b cs ends es n o row ending met number count under are right =
+    node_built holds limit P v old new path nullable description sort keys n number count
+    (λ sites values sound stand here before.
+    right P sites cs (under sites values sound.2 stand before) (rw here o) (rw here row) (rw here ending) (met sound.1) (rw here refl) (rw here (are sites values sound.1 stand)))
 
 -- a list whose item is there
-pub list_built : {Z : Type 0} (holds : Z → ℕ → Type 0) (limit : ℕ) (v : Values) (old mid new : List (Entry Z)) (nullable : Bool) (description : Option (List ℕ)) (M : Node) (type : ListType) (item_names : List (List ℕ)) (b : Bounds) (keys : List (List ℕ)) (item : PlanNode) (n : ℕ)
-    → IsNode M → IsBuilt holds limit v old mid M (item_keys type item_names) item → n ≡ length mid → length new ≡ n + 1
-    → ((P : Pools) (sites : List Site) (d : Option (List ℕ)) → AreRight holds limit P v sites mid → (site_at sites n).node ≡ node nullable d (list M type item_names b) → item_site (site_at sites n) ≡ Some (site_at sites item)
-    → IsNode (site_at sites n).node → HasSoundItems (site_at sites n).node → AreRight holds limit P v sites new)
-    → IsBuilt holds limit v old new (node nullable description (list M type item_names b)) keys n
-list_built holds limit v old mid new nullable description M type item_names b keys item n o built number count right =
-    node_built holds limit v old new nullable description (list M type item_names b) keys n (number ∙ built.count) count
-    (λ P sites values sound stand here before.
-    let below = last_site sites (length old) item M (item_keys type item_names) (omega (arith, built.last, built.count)) stand in
-    right P sites description (built.right P sites values sound.2 stand before) (ap (λ s. Site.node s) here) (rw (here, below) refl) (rw here o) (rw here sound.0))
+pub list_built : {Z : Type 0} (holds : Z → ℕ → Type 0) (limit : ℕ) (P : Pools) (v : Values) (old mid new : List (Entry Z)) (path : List ℕ) (nullable : Bool) (description : Option (List ℕ)) (M : Node) (type : ListType) (item_names : List (List ℕ)) (b : Bounds) (keys : List (List ℕ)) (item : PlanNode) (n : ℕ)
+    → IsNode M → IsBuilt holds limit P v old mid (below path step.item) M (item_keys type item_names) item → n ≡ length mid → length new ≡ n + 1
+    → ((Q : Pools) (sites : List Site) (d : Option (List ℕ)) → AreRight holds limit Q v sites mid → (site_at sites n).node ≡ node nullable d (list M type item_names b) → item_site (site_at sites n) ≡ Some (site_at sites item)
+    → IsNode (site_at sites n).node → HasSoundItems (site_at sites n).node → AreRight holds limit Q v sites new)
+    → IsBuilt holds limit P v old new path (node nullable description (list M type item_names b)) keys n
+list_built holds limit P v old mid new path nullable description M type item_names b keys item n o built number count right =
+    node_built holds limit P v old new path nullable description (list M type item_names b) keys n (number ∙ built.count) count
+    (λ sites values sound stand here before.
+    let under = last_site sites (length old) item (below path step.item) M (item_keys type item_names) (omega (arith, built.last, built.count)) stand in
+    right P sites description (built.right sites values sound.2 stand before) (ap (λ s. Site.node s) here) (rw (here, under) refl) (rw here o) (rw here sound.0))
 
-leaf_below : (nullable : Bool) (description : Option (List ℕ)) (sort : Sort) → sort_at (node nullable description sort) ≡ LeafSort → length (sites_below sort) ≡ 0
-leaf_below n t (scalar kind cs) leaf = refl
-leaf_below n t (object fs preserves type b cs) leaf = absurd (cc)
-leaf_below n t (nodes.map M type b) leaf = absurd (cc)
-leaf_below n t (list M type keys b) leaf = absurd (cc)
-leaf_below n t open_ leaf = refl
+leaf_below : (path : List ℕ) (nullable : Bool) (description : Option (List ℕ)) (sort : Sort) → sort_at (node nullable description sort) ≡ LeafSort → length (sites_below path sort) ≡ 0
+leaf_below path n t (scalar kind cs) leaf = refl
+leaf_below path n t (object fs preserves type b cs) leaf = absurd (cc)
+leaf_below path n t (nodes.map M type b) leaf = absurd (cc)
+leaf_below path n t (list M type keys b) leaf = absurd (cc)
+leaf_below path n t open_ leaf = refl
 
 -- a leaf
-pub leaf_built : {Z : Type 0} (holds : Z → ℕ → Type 0) (limit : ℕ) (v : Values) (old new : List (Entry Z)) (N : Node) (keys : List (List ℕ)) (l : Leaf) (sizes : Z) (n : ℕ) → sort_at N ≡ LeafSort
+pub leaf_built : {Z : Type 0} (holds : Z → ℕ → Type 0) (limit : ℕ) (P : Pools) (v : Values) (old new : List (Entry Z)) (path : List ℕ) (N : Node) (keys : List (List ℕ)) (l : Leaf) (sizes : Z) (n : ℕ) → sort_at N ≡ LeafSort
     → new ≡ old ++ record { sizes = sizes; nullable = is_nullable N; content = content.Leaf l } ∷ [] → n ≡ length old → length new ≡ n + 1
-    → ((P : Pools) → AreValues P v → AreCandidates P (record { node = N; keys = keys }) (candidates_of v l)) → ((P : Pools) → AreValues P v → IsUpTo limit (holds sizes) (HasSize P (record { node = N; keys = keys }))) → IsBuilt holds limit v old new N keys n
-leaf_built holds limit v old new (node nullable description sort) keys l sizes n leaf is number count candidates sized =
-    let N = node nullable description sort in
-    let none : length (sites_below sort) ≡ 0 = leaf_below nullable description sort leaf in
-    node_built holds limit v old new nullable description sort keys n (omega arith) count
-    (λ P sites values sound stand here right.
-    right_push holds limit P v sites old new _ n right is number (record { sizes = rw here (sized P values); nullable = rw here refl; content = record { sort = rw here leaf; candidates = rw here (candidates P values) } }))
+    → (AreValues P v → AreCandidates P (record { node = N; keys = keys; path = path }) (candidates_of v l)) → (AreValues P v → IsUpTo limit (holds sizes) (HasSize P (record { node = N; keys = keys; path = path }))) → IsBuilt holds limit P v old new path N keys n
+leaf_built holds limit P v old new path (node nullable description sort) keys l sizes n leaf is number count candidates sized =
+    let none : length (sites_below path sort) ≡ 0 = leaf_below path nullable description sort leaf in
+    node_built holds limit P v old new path nullable description sort keys n (omega arith) count
+    (λ sites values sound stand here right.
+    right_push holds limit P v sites old new _ n right is number (record { sizes = rw here (sized values); nullable = rw here refl; content = record { sort = rw here leaf; candidates = rw here (candidates values) } }))

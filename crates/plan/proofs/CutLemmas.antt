@@ -10,7 +10,8 @@ use Rattle.schema.specs.declared.node.Bounds.{Bounds}
 use Rattle.schema.specs.declared.node.ListType.TheVariants.{Atomic, Set, Map}
 use Rattle.stored.specs.Objects.Fault as fault
 use Rattle.plan.specs.Pools.Pools.{Pools}
-use Rattle.plan.specs.Samples.Sites.{Site, item_site, item_site_at, item_keys, slots}
+use Rattle.explain.specs.Paths.FieldPath as step
+use Rattle.plan.specs.Samples.Sites.{Site, below, item_site, item_site_at, item_keys, slots}
 use Rattle.plan.specs.Samples.Candidates.{sort_at, sort_of, distinct_of, HasCount}
 use Rattle.plan.specs.Samples.Presence.{named}
 use Rattle.plan.specs.Samples.Sizes.{HasMore, bounds_of, IsUpTo}
@@ -38,10 +39,10 @@ use Rattle.plan.proofs.SetLemmas.{plain_leaf, set_keyed}
 use Rattle.plan.proofs.MapListLemmas.{map_keyed, key_slot}
 
 -- the keys of the items of a map list are leaves of a row
-pub keys_leaves : (P : Pools) (M : Node) (keys : List (List ℕ)) → IsNode M → HasKeys M keys → AreKeysLeaves (slots P (record { node = M; keys = keys }))
-keys_leaves P (node n t (object fs preserves type b cs)) keys o h = λ s a key.
-    plain_leaf s.site.node (key_slot fs keys (named cs) o h.2 s a key).2
-keys_leaves P M keys o h = absurd h
+pub keys_leaves : (P : Pools) (path : List ℕ) (M : Node) (keys : List (List ℕ)) → IsNode M → HasKeys M keys → AreKeysLeaves (slots P (record { node = M; keys = keys; path = path }))
+keys_leaves P path (node n t (object fs preserves type b cs)) keys o h = λ s a key.
+    plain_leaf s.site.node (key_slot fs path keys (named cs) o h.2 s a key).2
+keys_leaves P path M keys o h = absurd h
 
 pub keys_row : (M : Node) (keys : List (List ℕ)) → HasKeys M keys → sort_at M ≡ Row
 keys_row (node n t (object fs preserves type b cs)) keys h = refl
@@ -72,8 +73,8 @@ cut_by laws P limit s M b is cuts t m = let x = more_parts laws P s M is limit t
 pub free_cut : PartLaws → (P : Pools) (limit : ℕ) (s M : Site) (n : Bool) (d : Option (List ℕ)) (K : Node) (keys : List (List ℕ)) (b : Bounds) → s.node ≡ node n d (list K Atomic keys b) → item_site s ≡ Some M → IsCutTo P limit s M b
 free_cut laws P limit s M n d K keys b is item = cut_by laws P limit s M b item (rw is (λ t m. more_free P limit M (alike_by (node n d (list K Atomic keys b))) b t m (λ v w. refl)))
 
-pub item_is : (s M : Site) (n : Bool) (d : Option (List ℕ)) (K : Node) (type : ListType) (keys : List (List ℕ)) (b : Bounds) → s.node ≡ node n d (list K type keys b) → item_site s ≡ Some M → record { node = K; keys = item_keys type keys } ≡ M
-item_is s M n d K type keys b is item = same_Some _ M (sym (ap item_site_at is) ∙ item)
+pub item_is : (s M : Site) (n : Bool) (d : Option (List ℕ)) (K : Node) (type : ListType) (keys : List (List ℕ)) (b : Bounds) → s.node ≡ node n d (list K type keys b) → item_site s ≡ Some M → record { node = K; keys = item_keys type keys; path = below s.path step.item } ≡ M
+item_is s M n d K type keys b is item = same_Some _ M (sym (ap (item_site_at s.path) is) ∙ item)
 
 pub set_cut : StoredLaw → PartLaws → (P : Pools) (limit : ℕ) (s M : Site) (n : Bool) (d : Option (List ℕ)) (K : Node) (keys : List (List ℕ)) (b : Bounds) (count : ℕ) → s.node ≡ node n d (list K Set keys b) → item_site s ≡ Some M
     → IsPlainScalar M.node → HasCount P M count → IsCutTo P limit s M (cut count b)
@@ -85,7 +86,7 @@ pub map_cut : StoredLaw → PartLaws → (P : Pools) (limit : ℕ) (s M : Site) 
     → IsNode M.node → HasKeys M.node M.keys → HasTuples P (slots P M) count → IsCutTo P limit s M (cut count b)
 map_cut stored laws P limit s M n d K keys b count room is item o h has =
     let same : keys ≡ M.keys = ap (λ x. Site.keys x) (item_is s M n d K Map keys b is item) in
-    let k = map_keyed stored laws P M.node M.keys has.0 o h has.1.0 in
+    let k = map_keyed stored laws P M.path M.node M.keys has.0 o h has.1.0 in
     let tuples = length k.0.keys in
     let capped : count ≡ min tuples (2 ^ 64 - 1) = has.1.1 ∙ ap (λ x. min x (2 ^ 64 - 1)) (sym k.1) in
     cut_by laws P limit s M (cut count b) item (rw (is, same) (λ t m.
@@ -102,7 +103,7 @@ map_items s M n d K keys b is item o sound =
     let e = item_is s M n d K Map keys b is item in
     let here : IsNode K = subst IsNode is o in
     let has : HasKeys K keys = subst HasSoundItems is sound in
-    (subst (λ x. IsNode (Site.node x)) e here, subst (λ x. HasKeys (Site.node x) (Site.keys x)) e has, subst (λ x. sort_of x ≡ Row) e (keys_row K keys has), λ P. subst (λ x. AreKeysLeaves (slots P x)) e (keys_leaves P K keys here has))
+    (subst (λ x. IsNode (Site.node x)) e here, subst (λ x. HasKeys (Site.node x) (Site.keys x)) e has, subst (λ x. sort_of x ≡ Row) e (keys_row K keys has), λ P. subst (λ x. AreKeysLeaves (slots P x)) e (keys_leaves P (below s.path step.item) K keys here has))
 
 -- ---- the entry of a list
 

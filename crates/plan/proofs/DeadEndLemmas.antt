@@ -14,7 +14,8 @@ use Rattle.stored.specs.Objects.Fault as fault
 use Rattle.stored.specs.Objects.Fault.{are_alike}
 use Rattle.stored.specs.Objects.StoredByParts.{are_apart}
 use Rattle.plan.specs.Pools.Pools.{Pools}
-use Rattle.plan.specs.Samples.Sites.{Site, item_site, item_site_at, item_keys, Slot, slots}
+use Rattle.explain.specs.Paths.FieldPath as step
+use Rattle.plan.specs.Samples.Sites.{Site, below, item_site, item_site_at, item_keys, Slot, slots}
 use Rattle.plan.specs.Samples.Candidates.{sort_at, sort_of, AreCandidates}
 use Rattle.plan.specs.Samples.Sizes.{AreFillings, Before, nothing, filled, state_after, ending_of, MayEnd, HasRest, HasMore, items_from, bounds_of}
 use Rattle.plan.specs.Samples.RuleOfParts.{AreParts, alike_by, alike_at, IsListPart, RuleOfParts}
@@ -75,9 +76,9 @@ abbrev pub HasCandidates : Pools → Site → Type 0
 HasCandidates P s = sort_of s ≡ Leaf → (vs : List Data) × AreCandidates P s vs
 
 -- a list has items of one site
-list_item : (N : Node) → sort_at N ≡ ListSort → (M : Site) × (item_site_at N ≡ Some M)
-list_item (node n t (list N type keys b)) e = (_, refl)
-list_item N e = cc
+list_item : (path : List ℕ) (N : Node) → sort_at N ≡ ListSort → (M : Site) × (item_site_at path N ≡ Some M)
+list_item path (node n t (list N type keys b)) e = (_, refl)
+list_item path N e = cc
 
 pub rule_of_parts : PartLaws → (P : Pools) (limit : ℕ) (s : Site) → IsNode s.node → HasCandidates P s → RuleOfParts P limit s
 rule_of_parts laws P limit s o h = record {
@@ -86,7 +87,7 @@ rule_of_parts laws P limit s o h = record {
     (λ q. record { fillings = q.fillings; is = q.is; are = q.are; ends = (row_ends P s (state_after (slots P s) q.fillings nothing)).0 q.ends }),
     λ q. record { fillings = q.fillings; is = q.is; are = q.are; ends = (row_ends P s (state_after (slots P s) q.fillings nothing)).1 q.ends },
   );
-  items = list_item s.node;
+  items = list_item s.path s.node;
   list = λ M v is l. or_so (laws.list P s M v is) (list_ends laws P s M is limit v l);
 }
 
@@ -132,29 +133,29 @@ pub record HaveCandidates (P : Pools) (s : Site) : Type 0 where
   pub own : HasCandidates P s
   pub below : sort_of s ≡ Row → (t : Slot) → Among (slots P s) t → HasCandidates P t.site
 
-key_counts : (P : Pools) (N : Node) (keys : List (List ℕ)) → IsNode N → HasKeys N keys → HaveCandidates P (record { node = N; keys = keys }) → (ns : List ℕ) × AreCounts P (filter is_key (slots P (record { node = N; keys = keys }))) ns
-key_counts P N keys o h c =
-    let ss = slots P (record { node = N; keys = keys }) in
-    counts P (filter is_key ss) (λ s a. let f = among_filter is_key ss s a in c.below (keys_row N keys h) s f.0 (keys_leaves P N keys o h s f.0 f.1))
+key_counts : (P : Pools) (path : List ℕ) (N : Node) (keys : List (List ℕ)) → IsNode N → HasKeys N keys → HaveCandidates P (record { node = N; keys = keys; path = path }) → (ns : List ℕ) × AreCounts P (filter is_key (slots P (record { node = N; keys = keys; path = path }))) ns
+key_counts P path N keys o h c =
+    let ss = slots P (record { node = N; keys = keys; path = path }) in
+    counts P (filter is_key ss) (λ s a. let f = among_filter is_key ss s a in c.below (keys_row N keys h) s f.0 (keys_leaves P path N keys o h s f.0 f.1))
 
 -- no two items are alike, or each has a key
-told_apart : StoredLaw → PartLaws → (P : Pools) (type : ListType) (keys : List (List ℕ)) (N : Node) → IsNode N → AreToldApart type keys N → HaveCandidates P (record { node = N; keys = item_keys type keys })
-    → ((v w : Data) → are_alike type keys v w ≡ false) ⊎ Keyed P (record { node = N; keys = item_keys type keys }) (are_alike type keys)
-told_apart stored laws P Atomic keys N o h c = inl (λ v w. refl)
-told_apart stored laws P Set keys N o h c = let vs = c.own (plain_leaf N h) in inr (set_keyed stored P _ (length vs.0) h (record { candidates = vs.0; are = vs.1; count_is = refl })).0
-told_apart stored laws P Map keys N o h c = let ns = key_counts P N keys o h c in inr (map_keyed stored laws P N keys ns.0 o h ns.1).0
+told_apart : StoredLaw → PartLaws → (P : Pools) (path : List ℕ) (type : ListType) (keys : List (List ℕ)) (N : Node) → IsNode N → AreToldApart type keys N → HaveCandidates P (record { node = N; keys = item_keys type keys; path = path })
+    → ((v w : Data) → are_alike type keys v w ≡ false) ⊎ Keyed P (record { node = N; keys = item_keys type keys; path = path }) (are_alike type keys)
+told_apart stored laws P path Atomic keys N o h c = inl (λ v w. refl)
+told_apart stored laws P path Set keys N o h c = let vs = c.own (plain_leaf N h) in inr (set_keyed stored P _ (length vs.0) h (record { candidates = vs.0; are = vs.1; count_is = refl })).0
+told_apart stored laws P path Map keys N o h c = let ns = key_counts P path N keys o h c in inr (map_keyed stored laws P path N keys ns.0 o h ns.1).0
 
-items_told : StoredLaw → PartLaws → (P : Pools) (N : Node) (keys : List (List ℕ)) (M : Site) → item_site (record { node = N; keys = keys }) ≡ Some M → IsNode N → HasSoundItems N → HaveCandidates P M
+items_told : StoredLaw → PartLaws → (P : Pools) (path : List ℕ) (N : Node) (keys : List (List ℕ)) (M : Site) → item_site (record { node = N; keys = keys; path = path }) ≡ Some M → IsNode N → HasSoundItems N → HaveCandidates P M
     → ((v w : Data) → alike_by N v w ≡ false) ⊎ Keyed P M (alike_by N)
-items_told stored laws P (node n t (list K type ks b)) keys M is o h c = subst (λ (s : Site). HaveCandidates P s → ((v w : Data) → are_alike type ks v w ≡ false) ⊎ Keyed P s (are_alike type ks)) (same_Some _ M is) (told_apart stored laws P type ks K o h) c
-items_told stored laws P N keys M is o h c = absurd (cc)
+items_told stored laws P path (node n t (list K type ks b)) keys M is o h c = subst (λ (s : Site). HaveCandidates P s → ((v w : Data) → are_alike type ks v w ≡ false) ⊎ Keyed P s (are_alike type ks)) (same_Some _ M is) (told_apart stored laws P (below path step.item) type ks K o h) c
+items_told stored laws P path N keys M is o h c = absurd (cc)
 
 list_completes : StoredLaw → PartLaws → (P : Pools) (limit : ℕ) (s M : Site) → item_site s ≡ Some M → IsNode s.node → HasSoundItems s.node → HaveCandidates P M → (front : Items) (m : ℕ) → AreParts P M front → are_apart (alike_at s) front ≡ true
     → HasMore P limit s (fault.items_count front) m → ListCompletes P s front m
 list_completes stored laws P limit s M is o h c front m are apart more =
     let b = bounds_of s in
     let a = (more_parts laws P s M is limit (fault.items_count front) m).0 more in
-    let r : CompletesApart P M (alike_at s) b front m = elim (items_told stored laws P s.node s.keys M is o h c) [
+    let r : CompletesApart P M (alike_at s) b front m = elim (items_told stored laws P s.path s.node s.keys M is o h c) [
       | inl never ↦ completes_free P limit M (alike_at s) b front m never a
       | inr K ↦ completes_apart K limit b front m are apart a
     ] in

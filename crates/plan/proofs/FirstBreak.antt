@@ -6,18 +6,23 @@ use Rattle.std.proofs.lemmas.Bool.{cases_lt}
 use Rattle.std.proofs.lemmas.Option.{same_Some}
 use Rattle.std.specs.declared.cmp.Ordering.TheVariants.{Less}
 use Rattle.jtree.specs.Data.{Data, list, object, Items, no_items, item, Members, no_members, member, IsTree, IsNameBefore, AreMembers}
-use Rattle.jtree.specs.Path.{name, index, Path, item_at}
+use Rattle.jtree.specs.Path.{name, index, Path, item_at, member_at}
 use Rattle.jtree.specs.PathOrder.{path_cmp, IsFirst}
 use Rattle.jtree.specs.Pointer.{pointer}
 use Rattle.jtree.specs.Internal.PathLaws.{not_before_root, same_step, not_before_name, not_before_index}
 use Rattle.jtree.specs.Internal.Lookups.{bool_cases, same_name, member_first, member_later, member_tail, before_each}
-use Rattle.plan.specs.Pools.Document.{entry_test, BreaksPool, other_name, no_list, other_entry, BreaksForm, no_object, in_member}
-use Rattle.plan.specs.Internal.PoolBreak.{other_item, pool_break, or_else, members_break, first_break}
+use Rattle.jtree.specs.Kind.{is_list}
+use Rattle.plan.specs.Pools.Document.{PoolForm, entries, lists, unknown, pool_form, BreaksPool, other_name, no_list, other_entry, no_lists, no_list_at, BreaksForm, no_object, in_member}
+use Rattle.plan.specs.Internal.PoolBreak.{other_item, below_name, list_break, pool_break, member_break, or_else, members_break, first_break}
 
 -- the option is the first path at which something holds, or there is none
 abbrev pub IsFound : (Path → Type 0) → Option Path → Type 0
 IsFound Holds None = (p : Path) → Holds p → ⊥
 IsFound Holds (Some p) = IsFirst Holds p
+
+found_by : (A B : Path → Type 0) → ((p : Path) → A p → B p) → ((p : Path) → B p → A p) → (o : Option Path) → IsFound A o → IsFound B o
+found_by A B to from None none = λ p b. none p (from p b)
+found_by A B to from (Some p) first = record { here = to p first.here; none_before = λ e b. first.none_before e (from e b) }
 
 root_found : (Holds : Path → Type 0) → Holds [] → IsFound Holds (Some [])
 root_found Holds here = record { here = here; none_before = λ e _. not_before_root e }
@@ -50,7 +55,7 @@ other_item_least test (item d ds) = item_step test d ds (test d) (other_item tes
 
 -- ---- a pool
 
-other_at : (test : Data → Bool) (ds : Items) (e : Path) → BreaksPool (Some test) (list ds) e → (i : ℕ) × (e ≡ index i ∷ []) × IsOther test ds i
+other_at : (test : Data → Bool) (ds : Items) (e : Path) → BreaksPool (entries test) (list ds) e → (i : ℕ) × (e ≡ index i ∷ []) × IsOther test ds i
 other_at test ds e (no_list _ _ h) = cc
 other_at test ds e (other_entry _ _ i v at fails) = (i, refl, record { value = v; at = at; fails = fails })
 
@@ -60,7 +65,7 @@ not_before_entry n i least = elim (cases_lt n i) [
   | inr after ↦ let same : i ≡ n = omega arith in λ less. let equal = same_step (index n) [] [] in cc
 ]
 
-items_found : (test : Data → Bool) (ds : Items) (o : Option ℕ) → IsLeast (IsOther test ds) o → IsFound (BreaksPool (Some test) (list ds)) (option_map (λ i. index i ∷ []) o)
+items_found : (test : Data → Bool) (ds : Items) (o : Option ℕ) → IsLeast (IsOther test ds) o → IsFound (BreaksPool (entries test) (list ds)) (option_map (λ i. index i ∷ []) o)
 items_found test ds None none = λ e b. let other = other_at test ds e b in none other.0 other.2
 items_found test ds (Some n) least = record {
   here = other_entry test ds n least.0.value least.0.at least.0.fails;
@@ -69,66 +74,107 @@ items_found test ds (Some n) least = record {
       subst (λ x. path_cmp x (index n ∷ []) ≢ Less) (sym other.1) (not_before_entry n other.0 (least.1 other.0 other.2));
 }
 
-pool_found : (test : Option (Data → Bool)) (d : Data) → IsFound (BreaksPool test d) (pool_break test d)
-pool_found (Some test) (list ds) = items_found test ds (other_item test ds) (other_item_least test ds)
-pool_found (Some test) d = root_found (BreaksPool (Some test) d) (no_list test d refl)
-pool_found None d = root_found (BreaksPool None d) (other_name d)
+-- ---- among members
 
--- ---- the members
+-- a path below the name of a member, at which something holds of the member
+record IsBelow (Holds : List ℕ → Data → Path → Type 0) (ms : Members) (e : Path) : Type 0 where
+  pub key : List ℕ
+  pub value : Data
+  pub rest : Path
+  pub is : e ≡ name key ∷ rest
+  pub at : member_at key ms ≡ Some value
+  pub holds : Holds key value rest
 
--- a break is one of the first member, or of those behind it
-parted : (k : List ℕ) (d : Data) (ms : Members) (e : Path) → BreaksForm (object (member k d ms)) e
-    → ((path : Path) × (e ≡ name k ∷ path) × BreaksPool (entry_test k) d path) ⊎ BreaksForm (object ms) e
-parted k d ms e (no_object _ h) = cc
-parted k d ms e (in_member _ l v path at b) = elim (bool_cases (bytes_eq l k)) [
+-- below the first member, or below one of those behind it
+parted : (Holds : List ℕ → Data → Path → Type 0) (k : List ℕ) (d : Data) (ms : Members) (e : Path) → IsBelow Holds (member k d ms) e
+    → ((path : Path) × (e ≡ name k ∷ path) × Holds k d path) ⊎ IsBelow Holds ms e
+parted Holds k d ms e b = elim (bool_cases (bytes_eq b.key k)) [
   | inl t ↦
-      let same : l ≡ k = same_name l k t in
-      let value : v ≡ d = sym (same_Some d v (rw t at at)) in
-      inl (path, ap (λ n. name n ∷ path) same, subst (λ n. BreaksPool (entry_test n) d path) same (subst (λ x. BreaksPool (entry_test l) x path) value b))
-  | inr f ↦ inr (in_member ms l v path (sym (member_later l k d ms f) ∙ at) b)
+      let same : b.key ≡ k = same_name b.key k t in
+      let value : b.value ≡ d = sym (same_Some d b.value (rw t at b.at)) in
+      inl (b.rest, b.is ∙ ap (λ n. name n ∷ b.rest) same, subst (λ n. Holds n d b.rest) same (subst (λ x. Holds b.key x b.rest) value b.holds))
+  | inr f ↦ inr (record { key = b.key; value = b.value; rest = b.rest; is = b.is; at = sym (member_later b.key k d ms f) ∙ b.at; holds = b.holds })
 ]
 
-raised : (k : List ℕ) (d : Data) (ms : Members) → AreMembers (member k d ms) → (e : Path) → BreaksForm (object ms) e → BreaksForm (object (member k d ms)) e
-raised k d ms o e (no_object _ h) = cc
-raised k d ms o e (in_member _ l v path at b) = in_member _ l v path (member_tail k d ms l v o at) b
+raised : (Holds : List ℕ → Data → Path → Type 0) (k : List ℕ) (d : Data) (ms : Members) → AreMembers (member k d ms) → (e : Path) → IsBelow Holds ms e
+    → IsBelow Holds (member k d ms) e
+raised Holds k d ms o e b = record { key = b.key; value = b.value; rest = b.rest; is = b.is; at = member_tail k d ms b.key b.value o b.at; holds = b.holds }
 
-not_before_member : (k : List ℕ) (ms : Members) (q : Path) → IsNameBefore k ms → AreMembers ms → (e : Path) → BreaksForm (object ms) e → path_cmp e (name k ∷ q) ≢ Less
-not_before_member k ms q before o e (no_object _ h) = λ _. cc
-not_before_member k ms q before o e (in_member _ l v path at b) = not_before_name k l path q (before_each k ms l v before o at)
+not_before_member : (Holds : List ℕ → Data → Path → Type 0) (k : List ℕ) (ms : Members) (q : Path) → IsNameBefore k ms → AreMembers ms → (e : Path)
+    → IsBelow Holds ms e → path_cmp e (name k ∷ q) ≢ Less
+not_before_member Holds k ms q before o e b =
+    subst (λ x. path_cmp x (name k ∷ q) ≢ Less) (sym b.is) (not_before_name k b.key b.rest q (before_each k ms b.key b.value before o b.at))
 
-member_step : (k : List ℕ) (d : Data) (ms : Members) (o rest : Option Path) → AreMembers (member k d ms) → IsFound (BreaksPool (entry_test k) d) o
-    → IsFound (BreaksForm (object ms)) rest → IsFound (BreaksForm (object (member k d ms))) (or_else (option_map (λ path. name k ∷ path) o) rest)
-member_step k d ms None None m none h = λ e b. elim (parted k d ms e b) [
+member_step : (Holds : List ℕ → Data → Path → Type 0) (k : List ℕ) (d : Data) (ms : Members) (o rest : Option Path) → AreMembers (member k d ms)
+    → IsFound (Holds k d) o → IsFound (IsBelow Holds ms) rest → IsFound (IsBelow Holds (member k d ms)) (or_else (below_name k o) rest)
+member_step Holds k d ms None None m none h = λ e b. elim (parted Holds k d ms e b) [
   | inl here ↦ none here.0 here.2
   | inr later ↦ h e later
 ]
-member_step k d ms None (Some p) m none h = record {
-  here = raised k d ms m p h.here;
-  none_before = λ e b. elim (parted k d ms e b) [
+member_step Holds k d ms None (Some p) m none h = record {
+  here = raised Holds k d ms m p h.here;
+  none_before = λ e b. elim (parted Holds k d ms e b) [
     | inl here ↦ absurd (none here.0 here.2)
     | inr later ↦ h.none_before e later
   ];
 }
-member_step k d ms (Some q) rest m first h = record {
-  here = in_member _ k d q (member_first k d ms) first.here;
-  none_before = λ e b. elim (parted k d ms e b) [
+member_step Holds k d ms (Some q) rest m first h = record {
+  here = record { key = k; value = d; rest = q; is = refl; at = member_first k d ms; holds = first.here };
+  none_before = λ e b. elim (parted Holds k d ms e b) [
     | inl here ↦
         let below : path_cmp (name k ∷ here.0) (name k ∷ q) ≢ Less = subst (λ order. order ≢ Less) (sym (same_step (name k) here.0 q)) (first.none_before here.0 here.2) in
         subst (λ x. path_cmp x (name k ∷ q) ≢ Less) (sym here.1) below
-    | inr later ↦ not_before_member k ms q m.1 m.2 e later
+    | inr later ↦ not_before_member Holds k ms q m.1 m.2 e later
   ];
 }
 
-no_member : (e : Path) → BreaksForm (object no_members) e → ⊥
-no_member e (no_object _ h) = cc
-no_member e (in_member _ k v path at b) = cc
+members_found : (Holds : List ℕ → Data → Path → Type 0) (break : List ℕ → Data → Option Path) → ((k : List ℕ) (d : Data) → IsTree d → IsFound (Holds k d) (break k d)) → (ms : Members) → AreMembers ms
+    → IsFound (IsBelow Holds ms) (members_break (λ k d. below_name k (break k d)) ms)
+members_found Holds break each no_members o = λ e b. let at = b.at in cc
+members_found Holds break each (member k d ms) o = member_step Holds k d ms (break k d) (members_break (λ l x. below_name l (break l x)) ms) o (each k d o.0) (members_found Holds break each ms o.2)
 
-members_found : (ms : Members) → AreMembers ms → IsFound (BreaksForm (object ms)) (members_break ms)
-members_found no_members o = no_member
-members_found (member k d ms) o = member_step k d ms (pool_break (entry_test k) d) (members_break ms) o (pool_found (entry_test k) d) (members_found ms o.2)
+-- ---- the lists of paths
+
+abbrev IsNoList : List ℕ → Data → Path → Type 0
+IsNoList k d path = (path ≡ []) × (is_list d ≡ false)
+
+no_list_found : (k : List ℕ) (d : Data) (b : Bool) → is_list d ≡ b → IsFound (IsNoList k d) (if b then None else Some [])
+no_list_found k d true is = λ e no_list. let fails = no_list.1 in cc
+no_list_found k d false is = root_found (IsNoList k d) (refl, is)
+
+lists_broken : (ms : Members) (e : Path) → IsBelow IsNoList ms e → BreaksPool lists (object ms) e
+lists_broken ms e b = subst (BreaksPool lists (object ms)) (sym (b.is ∙ ap (λ path. name b.key ∷ path) b.holds.0)) (no_list_at ms b.key b.value b.at b.holds.1)
+
+lists_below : (ms : Members) (e : Path) → BreaksPool lists (object ms) e → IsBelow IsNoList ms e
+lists_below ms e (no_lists _ h) = cc
+lists_below ms e (no_list_at _ k v at fails) = record { key = k; value = v; rest = []; is = refl; at = at; holds = (refl, fails) }
+
+lists_found : (ms : Members) → AreMembers ms → IsFound (BreaksPool lists (object ms)) (members_break list_break ms)
+lists_found ms o = found_by (IsBelow IsNoList ms) (BreaksPool lists (object ms)) (lists_broken ms) (lists_below ms) (members_break list_break ms)
+    (members_found IsNoList (λ k d. if is_list d then None else Some []) (λ k d _. no_list_found k d (is_list d) refl) ms o)
+
+-- ---- the document
+
+pool_found : (form : PoolForm) (d : Data) → IsTree d → IsFound (BreaksPool form d) (pool_break form d)
+pool_found (entries test) (list ds) o = items_found test ds (other_item test ds) (other_item_least test ds)
+pool_found (entries test) d o = root_found (BreaksPool (entries test) d) (no_list test d refl)
+pool_found lists (object ms) o = lists_found ms o
+pool_found lists d o = root_found (BreaksPool lists d) (no_lists d refl)
+pool_found unknown d o = root_found (BreaksPool unknown d) (other_name d)
+
+abbrev IsBroken : List ℕ → Data → Path → Type 0
+IsBroken k d path = BreaksPool (pool_form k) d path
+
+form_broken : (ms : Members) (e : Path) → IsBelow IsBroken ms e → BreaksForm (object ms) e
+form_broken ms e b = subst (BreaksForm (object ms)) (sym b.is) (in_member ms b.key b.value b.rest b.at b.holds)
+
+form_below : (ms : Members) (e : Path) → BreaksForm (object ms) e → IsBelow IsBroken ms e
+form_below ms e (no_object _ h) = cc
+form_below ms e (in_member _ k v path at b) = record { key = k; value = v; rest = path; is = refl; at = at; holds = b }
 
 first_found : (d : Data) → IsTree d → IsFound (BreaksForm d) (first_break d)
-first_found (object ms) o = members_found ms o
+first_found (object ms) o = found_by (IsBelow IsBroken ms) (BreaksForm (object ms)) (form_broken ms) (form_below ms) (members_break member_break ms)
+    (members_found IsBroken (λ k d. pool_break (pool_form k) d) (λ k d t. pool_found (pool_form k) d t) ms o)
 first_found d o = root_found (BreaksForm d) (no_object d refl)
 
 -- ---- and its pointer

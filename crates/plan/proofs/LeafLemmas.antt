@@ -1,5 +1,5 @@
 -- The candidates of leaves: those of their bases that are stored.
-use Rattle.std.proofs.Common.{◌≡◌, ◌⊎◌, ◌↔◌, ◌≤◌, ◌<◌, ◌+◌, ℕ, List, [], ◌∷◌, ◌++◌, Bool, true, false, Option, ◌&&◌, ◌||◌, Contains, Decides, take, length, get_or, refl, ap, sym, ◌∙◌, subst, inl, inr}
+use Rattle.std.proofs.Common.{Result, Ok, Err, IfOk, ◌≡◌, ◌⊎◌, ◌↔◌, ◌≤◌, ◌<◌, ◌+◌, ℕ, List, [], ◌∷◌, ◌++◌, Bool, true, false, Option, ◌&&◌, ◌||◌, Contains, Decides, take, length, get_or, refl, ap, sym, ◌∙◌, subst, inl, inr}
 use Rattle.std.specs.Cmp.{Equal-is}
 use Rattle.std.specs.Ordering.{is_eq}
 use Rattle.std.specs.declared.cmp.Ordering.TheVariants.{Less}
@@ -12,7 +12,7 @@ use Rattle.jtree.specs.Data.{Data, Items, no_items, item, IsTree}
 use Rattle.jtree.specs.Data as tree
 use Rattle.jtree.specs.Nodes.{node_count}
 use Rattle.jtree.specs.Order.{tree_cmp}
-use Rattle.jtree.specs.View.{data_of, items_of}
+use Rattle.jtree.specs.View.{data_of}
 use Rattle.jtree.specs.declared.value.Tree.{Tree}
 use Rattle.jtree.specs.Internal.OrderLaws.{tree_same, tree_total}
 use Rattle.jtree.specs.Internal.Rising.{Among, Rising, contains, contained, rising, all_pairs, among_left, among_right, rising_join}
@@ -23,7 +23,7 @@ use Rattle.stored.specs.Objects.Fault.{is_null, F02}
 use Rattle.stored.specs.Objects.Becomes.{IsStored}
 use Rattle.plan.specs.Pools.Pools.{Pools}
 use Rattle.plan.specs.Samples.Sites.{Site}
-use Rattle.plan.specs.Samples.Over.{items_list, listed, is_in, is_over_here}
+use Rattle.plan.specs.Samples.Over.{listed, is_in, is_over_here}
 use Rattle.plan.specs.Samples.Candidates.{sort_at, sort_of, AreCandidates}
 use Rattle.plan.specs.Samples.Sizes.{HasSize, IsUpTo}
 use Rattle.plan.specs.Internal.PartLaws.{PartLaws}
@@ -96,9 +96,9 @@ place_less N past ts places i t within is s not =
 
 -- ---- what is listed
 
-pub listed_items : (ts : List Tree) → trees_of ts ≡ items_list (items_of ts)
-listed_items [] = refl
-listed_items (t ∷ ts) = ap (λ ds. data_of t ∷ ds) (listed_items ts)
+pub ok_so : {X E : Type 0} (r : Result X E) (A B : X → Type 0) → IfOk r A → ((x : X) → A x → B x) → IfOk r B
+ok_so (Ok x) A B a so = so x a
+ok_so (Err e) A B a so = tt
 
 same_decides : (v d : Data) → Decides (is_same v d) (d ≡ v)
 same_decides v d = ((λ e. sym (tree_same v d ((Equal-is (tree_cmp v d)).0 e))), λ e. rw e (ap is_eq (tied_itself tree_total v)))
@@ -131,20 +131,20 @@ accepted : (nullable : Bool) (d : Option (List ℕ)) (sort : Sort) (v : Data) �
 accepted true d sort v s null = refl
 accepted false d sort v s null = absurd (s.valid [] F02 (record { before = []; last = []; is = refl; node = node false d sort; value = v; leads_there = refl; found = rw (← null) refl }))
 
-over_leaf : (P : Pools) (N : Node) (v : Data) → sort_at N ≡ Leaf → IsStored N v → (is_over_here P N v ≡ true) ↔ Contains (tree.null ∷ listed P N) v
-over_leaf P (node n d (scalar kind cs)) v leaf s = null_or_listed n (listed P (node n d (scalar kind cs))) v (accepted n d (scalar kind cs) v s)
-over_leaf P (node n d open_) v leaf s = null_or_listed n P.any v (accepted n d open_ v s)
-over_leaf P (node n d (object fs preserves type b cs)) v leaf s = absurd (cc)
-over_leaf P (node n d (nodes.map N type b)) v leaf s = absurd (cc)
-over_leaf P (node n d (list N type keys b)) v leaf s = absurd (cc)
+over_leaf : (P : Pools) (path : List ℕ) (N : Node) (v : Data) → sort_at N ≡ Leaf → IsStored N v → (is_over_here P path N v ≡ true) ↔ Contains (tree.null ∷ listed P path N) v
+over_leaf P path (node n d (scalar kind cs)) v leaf s = null_or_listed n (listed P path (node n d (scalar kind cs))) v (accepted n d (scalar kind cs) v s)
+over_leaf P path (node n d open_) v leaf s = null_or_listed n (listed P path (node n d open_)) v (accepted n d open_ v s)
+over_leaf P path (node n d (object fs preserves type b cs)) v leaf s = absurd (cc)
+over_leaf P path (node n d (nodes.map N type b)) v leaf s = absurd (cc)
+over_leaf P path (node n d (list N type keys b)) v leaf s = absurd (cc)
 
 -- ---- candidates
 
-pub candidates_from : PartLaws → (P : Pools) (site : Site) (ts : List Tree) (vs : List Data) → sort_of site ≡ Leaf → IsBase (tree.null ∷ listed P site.node) ts → AreStored site.node (trees_of ts) vs → AreCandidates P site vs
+pub candidates_from : PartLaws → (P : Pools) (site : Site) (ts : List Tree) (vs : List Data) → sort_of site ≡ Leaf → IsBase (tree.null ∷ listed P site.path site.node) ts → AreStored site.node (trees_of ts) vs → AreCandidates P site vs
 candidates_from laws P site ts vs leaf b s = record {
   each = λ v. (
-    (λ c. let h = (s.each v).0 c in (laws.leaf P site v leaf).1 (h.1.0, h.1.1, (over_leaf P site.node v leaf h.1.1).1 ((b.each v).0 h.0))),
-    λ p. let h = (laws.leaf P site v leaf).0 p in (s.each v).1 ((b.each v).1 ((over_leaf P site.node v leaf h.1).0 h.2), (h.0, h.1)),
+    (λ c. let h = (s.each v).0 c in (laws.leaf P site v leaf).1 (h.1.0, h.1.1, (over_leaf P site.path site.node v leaf h.1.1).1 ((b.each v).0 h.0))),
+    λ p. let h = (laws.leaf P site v leaf).0 p in (s.each v).1 ((b.each v).1 ((over_leaf P site.path site.node v leaf h.1).0 h.2), (h.0, h.1)),
   );
   ascending = s.ascending b.ascending;
 }

@@ -19,6 +19,8 @@ pub mod ValueLemmas
 pub mod LeafLemmas
 pub mod WordLemmas
 pub mod FirstBreak
+pub mod PoolLemmas
+pub mod PoolPathLemmas
 pub mod ApartLemmas
 pub mod TupleLemmas
 pub mod KeyedLemmas

@@ -2,6 +2,7 @@
 use Rattle.std.specs.Prelude.{◌≡◌, ℕ, zero, suc, ◌-◌, ◌*◌, ◌^◌, ◌≤◌, ◌<◌, ◌⊎◌, Bool, true, false, List, filter, min, cond}
 use Rattle.std.proofs.Common.{refl, ap, sym, ◌∙◌, inl, inr, arith, [], ◌∷◌, ◌++◌}
 use Rattle.std.proofs.lemmas.Bool.{cases_lt}
+use Rattle.std.proofs.lemmas.List.{append-nil}
 use Rattle.std.proofs.Math.Nat.{mul-le-mul_left, mul-le-mul_right}
 use Rattle.jtree.specs.Internal.Rising.{among_left, among_right}
 use Rattle.plan.specs.Pools.Pools.{Pools}
@@ -14,7 +15,6 @@ use Rattle.plan.specs.Samples.Keys.{HasTuples}
 use Rattle.plan.specs.Internal.Tuples.{AreKeysLeaves}
 use Rattle.plan.specs.declared.sort.Sort.TheVariants.{Leaf}
 use Rattle.plan.specs.declared.arena.SlotEntry.{SlotEntry}
-use Rattle.plan.proofs.BuildingLemmas.{append_none}
 
 -- the last slot of some
 pub slots_last : (names : List (List ℕ)) (sites : List Site) (i : ℕ) (xs : List SlotEntry) (x : SlotEntry) (ss : List Slot) → AreSlots names sites i (xs ++ x ∷ []) ss
@@ -81,7 +81,7 @@ key_more P ss s n c key h k =
 pub other_more : (P : Pools) (ss : List Slot) (s : Slot) (n : ℕ) → s.key ≡ false → HasTuples P ss n → HasTuples P (ss ++ s ∷ []) n
 other_more P ss s n key h =
     let e : filter is_key (s ∷ []) ≡ [] = of_other s.key s key in
-    (h.0, (rw (filter_last ss s, e, append_none (filter is_key ss)) h.1.0, h.1.1))
+    (h.0, (rw (filter_last ss s, e, append-nil (filter is_key ss)) h.1.0, h.1.1))
 
 -- one slot more
 pub tuples_step : (P : Pools) (names : List (List ℕ)) (sites : List Site) (i : ℕ) (xs : List SlotEntry) (x : SlotEntry) (ss : List Slot) (n m c : ℕ) → AreSlots names sites i (xs ++ x ∷ []) ss → AreKeysLeaves ss

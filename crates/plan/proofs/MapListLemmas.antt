@@ -22,7 +22,8 @@ use Rattle.stored.specs.Objects.Fault.{agree_at, agree, are_alike}
 use Rattle.plan.specs.Pools.Pools.{Pools}
 use Rattle.plan.specs.Samples.Part.{IsPart}
 use Rattle.plan.specs.Samples.Presence.{named}
-use Rattle.plan.specs.Samples.Sites.{Site, Slot, slots, field_slots}
+use Rattle.explain.specs.Paths.FieldPath as step
+use Rattle.plan.specs.Samples.Sites.{Site, below, Slot, slots, field_slots}
 use Rattle.plan.specs.Samples.Candidates.{sort_of}
 use Rattle.plan.specs.declared.sort.Sort.TheVariants.{Row}
 use Rattle.plan.specs.Samples.Sizes.{AreFillings, filled_nodes, Before, nothing, filled, state_after, ending_of, MayEnd}
@@ -53,10 +54,10 @@ pub record HaveKeys (P : Pools) (keys : List (List ℕ)) (ss : List Slot) : Type
   pub named : (s : Slot) → Among ss s → s.key ≡ true → Among keys s.name
   pub each : (k : List ℕ) → Among keys k → (s : Slot) × (Among ss s × (s.name ≡ k) × (s.key ≡ true))
 
-pub slot_key : (keys names : List (List ℕ)) (fs : Fields) (s : Slot) → Among (field_slots keys names fs) s → s.key ≡ is_among s.name keys
-slot_key keys names no_fields s a = absurd a
-slot_key keys names (field l N required default fs) s (inl e) = subst (λ t. Slot.key t ≡ is_among (Slot.name t) keys) e refl
-slot_key keys names (field l N required default fs) s (inr a) = slot_key keys names fs s a
+pub slot_key : (path : List ℕ) (keys names : List (List ℕ)) (fs : Fields) (s : Slot) → Among (field_slots path keys names fs) s → s.key ≡ is_among s.name keys
+slot_key path keys names no_fields s a = absurd a
+slot_key path keys names (field l N required default fs) s (inl e) = subst (λ t. Slot.key t ≡ is_among (Slot.name t) keys) e refl
+slot_key path keys names (field l N required default fs) s (inr a) = slot_key path keys names fs s a
 
 key_field : (fs : Fields) (keys : List (List ℕ)) → AreKeys fs keys → (k : List ℕ) → Among keys k → IsKey fs k
 key_field fs [] h k a = absurd a
@@ -64,23 +65,23 @@ key_field fs (l ∷ ls) h k (inl e) = subst (IsKey fs) e h.0
 key_field fs (l ∷ ls) h k (inr a) = key_field fs ls h.2 k a
 
 -- under a key something must stand, and it is a plain scalar
-pub key_slot : (fs : Fields) (keys names : List (List ℕ)) → AreOrdered fs → AreKeys fs keys → (s : Slot) → Among (field_slots keys names fs) s → s.key ≡ true → Among keys s.name × (s.must ≡ true) × IsPlainScalar s.site.node
-key_slot fs keys names o h s a key =
-    let among = among_name s.name keys (sym (slot_key keys names fs s a) ∙ key) in
-    let f = field_of_slot keys names fs o s a in
+pub key_slot : (fs : Fields) (path : List ℕ) (keys names : List (List ℕ)) → AreOrdered fs → AreKeys fs keys → (s : Slot) → Among (field_slots path keys names fs) s → s.key ≡ true → Among keys s.name × (s.must ≡ true) × IsPlainScalar s.site.node
+key_slot fs path keys names o h s a key =
+    let among = among_name s.name keys (sym (slot_key path keys names fs s a) ∙ key) in
+    let f = field_of_slot path keys names fs o s a in
     let g = key_field fs keys h s.name among in
     let same : f.0 ≡ g.0 = same_Some f.0 g.0 (sym f.1.0 ∙ g.1) in
     (among, f.1.1.2 ∙ rw same g.3, subst IsPlainScalar (ap (λ d. Declared.node d) (sym same) ∙ ap (λ x. Site.node x) (sym f.1.1.1)) g.2)
 
-pub have_keys : StoredLaw → (P : Pools) (fs : Fields) (keys names : List (List ℕ)) → AreOrdered fs → AreKeys fs keys → HaveKeys P keys (field_slots keys names fs)
-have_keys stored P fs keys names o h = record {
-  order = fields_in_order keys names fs o;
-  are = λ s c key. let q = key_slot fs keys names o h s (contained (field_slots keys names fs) s c) key in record { must = q.1; leaf = plain_leaf s.site.node q.2; one = scalar_one stored P s.site q.2; no_null = scalar_no_null stored P s.site q.2 };
-  named = λ s a key. (key_slot fs keys names o h s a key).0;
+pub have_keys : StoredLaw → (P : Pools) (fs : Fields) (path : List ℕ) (keys names : List (List ℕ)) → AreOrdered fs → AreKeys fs keys → HaveKeys P keys (field_slots path keys names fs)
+have_keys stored P fs path keys names o h = record {
+  order = fields_in_order path keys names fs o;
+  are = λ s c key. let q = key_slot fs path keys names o h s (contained (field_slots path keys names fs) s c) key in record { must = q.1; leaf = plain_leaf s.site.node q.2; one = scalar_one stored P s.site q.2; no_null = scalar_no_null stored P s.site q.2 };
+  named = λ s a key. (key_slot fs path keys names o h s a key).0;
   each = λ k a.
       let f = key_field fs keys h k a in
-      let s = slot_of_field keys names fs k f.0 f.1 in
-      (s.0, (s.1.0, s.1.1.0, slot_key keys names fs s.0 s.1.0 ∙ rw s.1.1.0 (name_among k keys a)));
+      let s = slot_of_field path keys names fs k f.0 f.1 in
+      (s.0, (s.1.0, s.1.1.0, slot_key path keys names fs s.0 s.1.0 ∙ rw s.1.1.0 (name_among k keys a)));
 }
 
 -- ---- the key of an object
@@ -216,23 +217,23 @@ only_objects : PartLaws → (P : Pools) (s : Site) → IsNode s.node → sort_of
 only_objects laws P s o row never v = let r = laws.row P s v o row in ((λ p. elim (r.0 p) [ inl null ↦ let no = sym null.1 ∙ never in absurd (cc) | inr x ↦ x ]), λ x. r.1 (inr x))
 
 -- the items of a map list are alike exactly where they have the same under all keys
-pub map_told : StoredLaw → PartLaws → (P : Pools) (own : List (List ℕ)) (n : Bool) (t : Option (List ℕ)) (N : Node) (keys : List (List ℕ)) (b : Bounds) → IsNode N → HasKeys N keys
-    → AreMapItems P (record { node = node n t (list N Map keys b); keys = own }) (record { node = N; keys = keys })
-map_told stored laws P own n t (node m u (object fs preserves type c cs)) keys b o h =
-    let s : Site = record { node = node m u (object fs preserves type c cs); keys = keys } in
+pub map_told : StoredLaw → PartLaws → (P : Pools) (path : List ℕ) (own : List (List ℕ)) (n : Bool) (t : Option (List ℕ)) (N : Node) (keys : List (List ℕ)) (b : Bounds) → IsNode N → HasKeys N keys
+    → AreMapItems P (record { node = node n t (list N Map keys b); keys = own; path = path }) (record { node = N; keys = keys; path = below path step.item })
+map_told stored laws P path own n t (node m u (object fs preserves type c cs)) keys b o h =
+    let s : Site = record { node = node m u (object fs preserves type c cs); keys = keys; path = below path step.item } in
     let law = only_objects laws P s o refl h.0 in
-    let have = have_keys stored P fs keys (named cs) o h.2 in
+    let have = have_keys stored P fs (below path step.item) keys (named cs) o h.2 in
     record {
       row = refl;
       never_null = h.0;
       alike = objects_told P s law keys have;
       most = λ ds counts are apart count. let k = objects_keyed P s law keys have counts count in at_most k.0 (product counts) k.1 ds are apart;
     }
-map_told stored laws P own n t N keys b o h = absurd h
+map_told stored laws P path own n t N keys b o h = absurd h
 
-pub map_keyed : StoredLaw → PartLaws → (P : Pools) (N : Node) (keys : List (List ℕ)) (counts : List ℕ) → IsNode N → HasKeys N keys → AreCounts P (filter is_key (slots P (record { node = N; keys = keys }))) counts
-    → (K : Keyed P (record { node = N; keys = keys }) (are_alike Map keys)) × (length K.keys ≡ product counts)
-map_keyed stored laws P (node n t (object fs preserves type b cs)) keys counts o h count =
-    let s : Site = record { node = node n t (object fs preserves type b cs); keys = keys } in
-    objects_keyed P s (only_objects laws P s o refl h.0) keys (have_keys stored P fs keys (named cs) o h.2) counts count
-map_keyed stored laws P N keys counts o h count = absurd h
+pub map_keyed : StoredLaw → PartLaws → (P : Pools) (path : List ℕ) (N : Node) (keys : List (List ℕ)) (counts : List ℕ) → IsNode N → HasKeys N keys → AreCounts P (filter is_key (slots P (record { node = N; keys = keys; path = path }))) counts
+    → (K : Keyed P (record { node = N; keys = keys; path = path }) (are_alike Map keys)) × (length K.keys ≡ product counts)
+map_keyed stored laws P path (node n t (object fs preserves type b cs)) keys counts o h count =
+    let s : Site = record { node = node n t (object fs preserves type b cs); keys = keys; path = path } in
+    objects_keyed P s (only_objects laws P s o refl h.0) keys (have_keys stored P fs path keys (named cs) o h.2) counts count
+map_keyed stored laws P path N keys counts o h count = absurd h

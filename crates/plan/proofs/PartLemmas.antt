@@ -3,30 +3,33 @@ use Rattle.std.proofs.Common.{◌≡◌, ◌⊎◌, ◌↔◌, ℕ, zero, suc, L
 use Rattle.std.specs.Prelude.{option_map, ◌&&◌, ◌||◌, is_some, map}
 use Rattle.std.specs.Str.{bytes_eq}
 use Rattle.std.specs.declared.cmp.Ordering.TheVariants.{Less}
-use Rattle.std.proofs.lemmas.Option.{same_Some}
+use Rattle.std.proofs.lemmas.Option.{same_Some, option_and_then_some}
+use Rattle.std.proofs.lemmas.List.{append-nil, append_assoc}
 use Rattle.std.proofs.lemmas.Cmp.{nat_list_cmp_total}
 use Rattle.jtree.specs.Data.{Data, Items, no_items, item, Members, no_members, member, IsTree, AreTrees, AreMembers}
 use Rattle.jtree.specs.Data as tree
 use Rattle.jtree.specs.Order.{text_cmp}
-use Rattle.jtree.specs.Path.{Step, name, index, member_at, item_at, part_by}
+use Rattle.jtree.specs.Path.{Step, name, index, member_at, item_at, part_by, part_at}
 use Rattle.jtree.specs.Internal.Lookups.{bool_cases, option_cases, same_name, own_name, member_first, member_later, member_tail, later_name}
 use Rattle.jtree.specs.Internal.Rising.{Among, contained}
 use Rattle.schema.specs.Document.Texts.{is_among}
 use Rattle.schema.specs.Nodes.Node.{Node, node, Sort, scalar, object, list, open_, Fields, no_fields, field, Validations, IsNode, IsBeforeFields, AreOrdered}
 use Rattle.schema.specs.Nodes.Node as nodes
-use Rattle.schema.specs.Nodes.ByPlace.{Declared, field_at}
+use Rattle.schema.specs.Nodes.ByPlace.{Declared, field_at, node_below, node_at}
 use Rattle.schema.specs.declared.node.Bounds.{Bounds}
 use Rattle.schema.specs.declared.node.MapType.{MapType}
 use Rattle.schema.specs.declared.node.ListType.{ListType}
-use Rattle.stored.specs.Objects.Parts.{at, part_of, leads, Everywhere}
 use Rattle.stored.specs.Objects.Fault as fault
 use Rattle.stored.specs.Objects.Becomes.{IsStored}
 use Rattle.stored.specs.Objects.Tests.{has_member, meets_presence}
 use Rattle.stored.specs.Objects.StoredByParts.{StoredByParts, IsStoredField, are_apart, IsWithin}
 use Rattle.plan.specs.Pools.Pools.{Pools}
-use Rattle.plan.specs.Samples.Over.{is_over_here, all_names, IsOver}
+use Rattle.explain.specs.Paths.FieldPath.{FieldStep, place_step, place_of}
+use Rattle.explain.specs.Paths.FieldPath as step
+use Rattle.explain.specs.Paths.PathText.{step_text, path_text}
+use Rattle.plan.specs.Samples.Over.{is_over_here, all_names, StepFollows, IsOver}
 use Rattle.plan.specs.Samples.Part.{IsPart}
-use Rattle.plan.specs.Samples.Sites.{Site, plain, item_site, item_keys, slots, Slot, field_slots, value_slot}
+use Rattle.plan.specs.Samples.Sites.{Site, plain, below, item_site, item_keys, slots, Slot, field_slots, value_slot}
 use Rattle.plan.specs.Samples.Names.{in_order}
 use Rattle.plan.specs.Samples.Presence.{named}
 use Rattle.plan.specs.Samples.RuleOfParts.{AreParts, IsNullPart}
@@ -44,18 +47,27 @@ use Rattle.plan.proofs.SeenLemmas.{HaveBits, field_bits, value_bits, ends_in}
 abbrev pub StoredLaw : Type 0
 StoredLaw = (N : Node) (v : Data) → IsStored N v ↔ StoredByParts N v
 
-abbrev pub EverywhereLaw : Type 0
-EverywhereLaw = (test : Node → Data → Bool) (N : Node) (v : Data) → Everywhere (λ M w. test M w ≡ true) N v
-    ↔ ((test N v ≡ true) × ((s : Step) (M : Node) (w : Data) → leads N v s ≡ Some (at M w) → Everywhere (λ K u. test K u ≡ true) M w))
+-- ---- over the pools, one level at a time
 
-abbrev Below : Pools → Node → Data → Type 0
-Below P N v = (s : Step) (M : Node) (w : Data) → leads N v s ≡ Some (at M w) → IsOver P M w
+-- the parts one step below a value at its node are over the pools
+abbrev ArePartsOver : Pools → List ℕ → Node → Data → Type 0
+ArePartsOver P path N v = (s : Step) (t : FieldStep) (M : Node) (w : Data) → StepFollows s t → node_below N (place_step t) ≡ Some M → part_by v s ≡ Some w → IsOver P (below path t) M w
 
-pub over_down : EverywhereLaw → (P : Pools) (N : Node) (v : Data) → IsOver P N v → (is_over_here P N v ≡ true) × Below P N v
-over_down law P N v h = (law (is_over_here P) N v).0 h
+over_down : (P : Pools) (path : List ℕ) (N : Node) (v : Data) → IsOver P path N v → (is_over_here P path N v ≡ true) × ArePartsOver P path N v
+over_down P path N v h = (
+  subst (λ l. is_over_here P l N v ≡ true) (append-nil path) (h [] [] N v tt refl refl),
+  λ s t M w follows leads found rest p K u after there is.
+      subst (λ l. is_over_here P l K u ≡ true) (sym (append_assoc path (step_text t) (path_text p))) (h (s ∷ rest) (t ∷ p) K u (follows, after) (rw leads there) (rw found is)),
+)
 
-pub over_up : EverywhereLaw → (P : Pools) (N : Node) (v : Data) → is_over_here P N v ≡ true → Below P N v → IsOver P N v
-over_up law P N v here below = (law (is_over_here P) N v).1 (here, below)
+over_up : (P : Pools) (path : List ℕ) (N : Node) (v : Data) → is_over_here P path N v ≡ true → ArePartsOver P path N v → IsOver P path N v
+over_up P path N v here parts [] [] M w after there is = rw (← same_Some N M there, ← same_Some v w is, append-nil path) here
+over_up P path N v here parts [] (t ∷ p) M w after there is = absurd after
+over_up P path N v here parts (s ∷ rest) [] M w after there is = absurd after
+over_up P path N v here parts (s ∷ rest) (t ∷ p) M w after there is =
+    option_and_then_some (λ K. node_at K (place_of p)) (node_below N (place_step t)) M there (λ K leads there_behind.
+    option_and_then_some (λ u. part_at u rest) (part_by v s) w is (λ u found is_behind.
+    subst (λ l. is_over_here P l M w ≡ true) (append_assoc path (step_text t) (path_text p)) (parts s t K u after.0 leads found rest p M w after.1 there_behind is_behind)))
 
 -- ---- names
 
@@ -92,49 +104,38 @@ member_tree k (member l d ms) w members is = elim (bool_cases (bytes_eq k l)) [
 
 -- ---- the slots of an object
 
-abbrev IsSlotOf : List ℕ → Declared → Slot → Type 0
-IsSlotOf k f s = (s.name ≡ k) × (s.site ≡ plain f.node) × (s.must ≡ (f.required || is_some f.default))
+abbrev IsSlotOf : List ℕ → List ℕ → Declared → Slot → Type 0
+IsSlotOf path k f s = (s.name ≡ k) × (s.site ≡ plain (below path (step.field k)) f.node) × (s.must ≡ (f.required || is_some f.default))
 
-pub slot_of_field : (keys names : List (List ℕ)) (fs : Fields) (k : List ℕ) (f : Declared) → field_at k fs ≡ Some f → (s : Slot) × (Among (field_slots keys names fs) s × IsSlotOf k f s)
-slot_of_field keys names no_fields k f is = absurd (cc)
-slot_of_field keys names (field l N required default fs) k f is = elim (bool_cases (bytes_eq k l)) [
+pub slot_of_field : (path : List ℕ) (keys names : List (List ℕ)) (fs : Fields) (k : List ℕ) (f : Declared) → field_at k fs ≡ Some f → (s : Slot) × (Among (field_slots path keys names fs) s × IsSlotOf path k f s)
+slot_of_field path keys names no_fields k f is = absurd (cc)
+slot_of_field path keys names (field l N required default fs) k f is = elim (bool_cases (bytes_eq k l)) [
   | inl t ↦
       let same = same_Some (record { node = N; required = required; default = default }) f (rw t at is) in
-      (_, (inl refl, (sym (same_name k l t), ap (λ g. plain g.node) same, ap (λ g. g.required || is_some g.default) same)))
-  | inr o ↦ let r = slot_of_field keys names fs k f (rw o at is) in (r.0, (inr r.1.0, r.1.1))
+      (_, (inl refl, (sym (same_name k l t), subst (λ n. plain (below path (step.field l)) N ≡ plain (below path (step.field n)) f.node) (sym (same_name k l t)) (ap (λ g. plain (below path (step.field l)) g.node) same), ap (λ g. g.required || is_some g.default) same)))
+  | inr o ↦ let r = slot_of_field path keys names fs k f (rw o at is) in (r.0, (inr r.1.0, r.1.1))
 ]
 
-before_slots : (keys names : List (List ℕ)) (k : List ℕ) (fs : Fields) → IsBeforeFields k fs → AreOrdered fs → (s : Slot) → Among (field_slots keys names fs) s → text_cmp k s.name ≡ Less
-before_slots keys names k no_fields before o s a = absurd a
-before_slots keys names k (field l N required default fs) before o s (inl e) = subst (λ t. text_cmp k (Slot.name t) ≡ Less) e before
-before_slots keys names k (field l N required default fs) before o s (inr a) = nat_list_cmp_total.trans k l s.name before (before_slots keys names l fs o.1 o.2 s a)
+before_slots : (path : List ℕ) (keys names : List (List ℕ)) (k : List ℕ) (fs : Fields) → IsBeforeFields k fs → AreOrdered fs → (s : Slot) → Among (field_slots path keys names fs) s → text_cmp k s.name ≡ Less
+before_slots path keys names k no_fields before o s a = absurd a
+before_slots path keys names k (field l N required default fs) before o s (inl e) = subst (λ t. text_cmp k (Slot.name t) ≡ Less) e before
+before_slots path keys names k (field l N required default fs) before o s (inr a) = nat_list_cmp_total.trans k l s.name before (before_slots path keys names l fs o.1 o.2 s a)
 
-pub field_of_slot : (keys names : List (List ℕ)) (fs : Fields) → AreOrdered fs → (s : Slot) → Among (field_slots keys names fs) s → (f : Declared) × ((field_at s.name fs ≡ Some f) × IsSlotOf s.name f s)
-field_of_slot keys names no_fields o s a = absurd a
-field_of_slot keys names (field l N required default fs) o s (inl e) =
+pub field_of_slot : (path : List ℕ) (keys names : List (List ℕ)) (fs : Fields) → AreOrdered fs → (s : Slot) → Among (field_slots path keys names fs) s → (f : Declared) × ((field_at s.name fs ≡ Some f) × IsSlotOf path s.name f s)
+field_of_slot path keys names no_fields o s a = absurd a
+field_of_slot path keys names (field l N required default fs) o s (inl e) =
     let own : bytes_eq s.name l ≡ true = subst (λ t. bytes_eq (Slot.name t) l ≡ true) e (own_name l) in
-    (record { node = N; required = required; default = default }, (rw own refl, (refl, ap (λ t. Slot.site t) (sym e), ap (λ t. Slot.must t) (sym e))))
-field_of_slot keys names (field l N required default fs) o s (inr a) =
-    let r = field_of_slot keys names fs o.2 s a in
-    let other = later_name s.name l (before_slots keys names l fs o.1 o.2 s a) in
+    (record { node = N; required = required; default = default }, (rw own refl, (refl, subst (λ t. Slot.site t ≡ plain (below path (step.field (Slot.name t))) N) e refl, ap (λ t. Slot.must t) (sym e))))
+field_of_slot path keys names (field l N required default fs) o s (inr a) =
+    let r = field_of_slot path keys names fs o.2 s a in
+    let other = later_name s.name l (before_slots path keys names l fs o.1 o.2 s a) in
     (r.0, (rw other r.1.0, r.1.1))
 
-pub fields_in_order : (keys names : List (List ℕ)) (fs : Fields) → AreOrdered fs → AreInOrder (field_slots keys names fs)
-fields_in_order keys names no_fields o = tt
-fields_in_order keys names (field l N required default fs) o = ((λ s c. before_slots keys names l fs o.1 o.2 s (contained (field_slots keys names fs) s c)), fields_in_order keys names fs o.2)
+pub fields_in_order : (path : List ℕ) (keys names : List (List ℕ)) (fs : Fields) → AreOrdered fs → AreInOrder (field_slots path keys names fs)
+fields_in_order path keys names no_fields o = tt
+fields_in_order path keys names (field l N required default fs) o = ((λ s c. before_slots path keys names l fs o.1 o.2 s (contained (field_slots path keys names fs) s c)), fields_in_order path keys names fs o.2)
 
 -- ---- objects
-
--- what a name leads to
-leads_to_field : (n : Bool) (t : Option (List ℕ)) (fs : Fields) (preserves : Bool) (type : MapType) (b : Bounds) (cs : Validations) (ms : Members) (k : List ℕ) (f : Declared) (w : Data) → field_at k fs ≡ Some f → member_at k ms ≡ Some w
-    → leads (node n t (object fs preserves type b cs)) (tree.object ms) (name k) ≡ Some (at f.node w)
-leads_to_field n t fs preserves type b cs ms k f w is found = rw (is, found) refl
-
-part_from : (o : Option Node) (v : Option Data) (M : Node) (w : Data) → option_map (part_of o) v ≡ Some (at M w) → (o ≡ Some M) × (v ≡ Some w)
-part_from None None M w e = absurd (cc)
-part_from None (Some v) M w e = absurd (cc)
-part_from (Some N) None M w e = absurd (cc)
-part_from (Some N) (Some v) M w e = (cc, cc)
 
 node_from : (o : Option Declared) (M : Node) → option_map (λ f. f.node) o ≡ Some M → (f : Declared) × ((o ≡ Some f) × (f.node ≡ M))
 node_from None M e = absurd (cc)
@@ -144,21 +145,21 @@ declared : (o : Option Declared) → is_some o ≡ true → (f : Declared) × (o
 declared None e = absurd (cc)
 declared (Some f) e = (f, refl)
 
-pub object_down : StoredLaw → EverywhereLaw → (P : Pools) (n : Bool) (t : Option (List ℕ)) (fs : Fields) (preserves : Bool) (type : MapType) (b : Bounds) (cs : Validations) (keys : List (List ℕ)) (ms : Members) → AreOrdered fs
-    → IsPart P (record { node = node n t (object fs preserves type b cs); keys = keys }) (tree.object ms) → AreMembers ms × AreInSlots P (field_slots keys (named cs) fs) ms × (IsWithin b (fault.members_count ms) × (meets_presence cs (has_member ms) ≡ true))
-object_down stored everywhere P n t fs preserves type b cs keys ms o h =
+pub object_down : StoredLaw → (P : Pools) (n : Bool) (t : Option (List ℕ)) (fs : Fields) (preserves : Bool) (type : MapType) (b : Bounds) (cs : Validations) (path : List ℕ) (keys : List (List ℕ)) (ms : Members) → AreOrdered fs
+    → IsPart P (record { node = node n t (object fs preserves type b cs); keys = keys; path = path }) (tree.object ms) → AreMembers ms × AreInSlots P (field_slots path keys (named cs) fs) ms × (IsWithin b (fault.members_count ms) × (meets_presence cs (has_member ms) ≡ true))
+object_down stored P n t fs preserves type b cs path keys ms o h =
     let parts = (stored _ _).0 h.stored in
-    let over = over_down everywhere P _ _ h.over in (
+    let over = over_down P _ _ _ h.over in (
       h.tree,
       record {
         named = λ k w is.
             let f = declared (field_at k fs) (each_name (λ l. is_some (field_at l fs)) ms over.0 k w is) in
-            let s = slot_of_field keys (named cs) fs k f.0 f.1 in
+            let s = slot_of_field path keys (named cs) fs k f.0 f.1 in
             let here : IsStored f.0.node w = rw is at (parts.1.1 k f.0 f.1) in
-            let part : IsPart P (plain f.0.node) w = record { tree = member_tree k ms w h.tree is; stored = here; over = over.1 (name k) f.0.node w (leads_to_field n t fs preserves type b cs ms k f.0 w f.1 is) } in
+            let part : IsPart P (plain (below path (step.field k)) f.0.node) w = record { tree = member_tree k ms w h.tree is; stored = here; over = over.1 (name k) (step.field k) f.0.node w refl (ap (option_map (λ g. g.node)) f.1) is } in
             (s.0, s.1.0, s.1.1.0, subst (λ K. IsPart P K w) (sym s.1.1.1) part);
         present = λ s a must none.
-            let f = field_of_slot keys (named cs) fs o s a in
+            let f = field_of_slot path keys (named cs) fs o s a in
             let free = rw none at (parts.1.1 s.name f.0 f.1.0) in
             let no = f.1.1.2 in
             let no' = rw (free.0, free.1, must) at no in
@@ -168,16 +169,17 @@ object_down stored everywhere P n t fs preserves type b cs keys ms o h =
     )
 
 -- what stands under the name of a field is a part of its node
-field_part : (P : Pools) (keys names : List (List ℕ)) (fs : Fields) (ms : Members) → AreOrdered fs → AreInSlots P (field_slots keys names fs) ms → (k : List ℕ) (w : Data) → member_at k ms ≡ Some w → (f : Declared) × ((field_at k fs ≡ Some f) × IsPart P (plain f.node) w)
-field_part P keys names fs ms o h k w is =
+field_part : (P : Pools) (path : List ℕ) (keys names : List (List ℕ)) (fs : Fields) (ms : Members) → AreOrdered fs → AreInSlots P (field_slots path keys names fs) ms → (k : List ℕ) (w : Data) → member_at k ms ≡ Some w → (f : Declared) × ((field_at k fs ≡ Some f) × IsPart P (plain (below path (step.field k)) f.node) w)
+field_part P path keys names fs ms o h k w is =
     let s = h.named k w is in
-    let f = field_of_slot keys names fs o s.0 s.1 in
-    (f.0, (subst (λ l. field_at l fs ≡ Some f.0) s.2 f.1.0, subst (λ N. IsPart P N w) f.1.1.1 s.3))
+    let f = field_of_slot path keys names fs o s.0 s.1 in
+    let here : IsPart P (plain (below path (step.field s.0.name)) f.0.node) w = subst (λ N. IsPart P N w) f.1.1.1 s.3 in
+    (f.0, subst (λ l. (field_at l fs ≡ Some f.0) × IsPart P (plain (below path (step.field l)) f.0.node) w) s.2 (f.1.0, here))
 
-part_of_field : (P : Pools) (keys names : List (List ℕ)) (fs : Fields) (ms : Members) → AreOrdered fs → AreInSlots P (field_slots keys names fs) ms → (k : List ℕ) (f : Declared) (w : Data) → field_at k fs ≡ Some f → member_at k ms ≡ Some w → IsPart P (plain f.node) w
-part_of_field P keys names fs ms o h k f w is found =
-    let g = field_part P keys names fs ms o h k w found in
-    subst (λ x. IsPart P (plain (Declared.node x)) w) (same_Some g.0 f (sym g.1.0 ∙ is)) g.1.1
+part_of_field : (P : Pools) (path : List ℕ) (keys names : List (List ℕ)) (fs : Fields) (ms : Members) → AreOrdered fs → AreInSlots P (field_slots path keys names fs) ms → (k : List ℕ) (f : Declared) (w : Data) → field_at k fs ≡ Some f → member_at k ms ≡ Some w → IsPart P (plain (below path (step.field k)) f.node) w
+part_of_field P path keys names fs ms o h k f w is found =
+    let g = field_part P path keys names fs ms o h k w found in
+    subst (λ x. IsPart P (plain (below path (step.field k)) (Declared.node x)) w) (same_Some g.0 f (sym g.1.0 ∙ is)) g.1.1
 
 neither : (a b : Bool) → (a || b) ≡ false → (a ≡ false) × (b ≡ false)
 neither true b e = absurd (cc)
@@ -187,42 +189,44 @@ is_none_of : {A : Type 0} (o : Option A) → is_some o ≡ false → o ≡ None
 is_none_of None e = refl
 is_none_of (Some x) e = absurd (cc)
 
-field_stored : (P : Pools) (keys names : List (List ℕ)) (fs : Fields) (ms : Members) → AreOrdered fs → AreInSlots P (field_slots keys names fs) ms → (k : List ℕ) (f : Declared) → field_at k fs ≡ Some f → IsStoredField f (member_at k ms)
-field_stored P keys names fs ms o h k f is = elim (option_cases (member_at k ms)) [
+field_stored : (P : Pools) (path : List ℕ) (keys names : List (List ℕ)) (fs : Fields) (ms : Members) → AreOrdered fs → AreInSlots P (field_slots path keys names fs) ms → (k : List ℕ) (f : Declared) → field_at k fs ≡ Some f → IsStoredField f (member_at k ms)
+field_stored P path keys names fs ms o h k f is = elim (option_cases (member_at k ms)) [
   | inl none ↦
-      let s = slot_of_field keys names fs k f is in
+      let s = slot_of_field path keys names fs k f is in
       let free : (f.required || is_some f.default) ≡ false = elim (bool_cases s.0.must) [
         | inl must ↦ absurd (h.present s.0 s.1.0 must (subst (λ l. member_at l ms ≡ None) (sym s.1.1.0) none))
         | inr e ↦ sym s.1.1.2 ∙ e
       ] in
       let e = neither f.required (is_some f.default) free in
       rw none (e.0, is_none_of f.default e.1)
-  | inr w ↦ rw w.1 (part_of_field P keys names fs ms o h k f w.0 is w.1).stored
+  | inr w ↦ rw w.1 (part_of_field P path keys names fs ms o h k f w.0 is w.1).stored
 ]
 
-object_below : (P : Pools) (n : Bool) (t : Option (List ℕ)) (fs : Fields) (preserves : Bool) (type : MapType) (b : Bounds) (cs : Validations) (keys : List (List ℕ)) (ms : Members) → AreOrdered fs
-    → AreInSlots P (field_slots keys (named cs) fs) ms → Below P (node n t (object fs preserves type b cs)) (tree.object ms)
-object_below P n t fs preserves type b cs keys ms o h (name k) M w is =
-    let q = part_from (option_map (λ f. f.node) (field_at k fs)) (member_at k ms) M w is in
-    let f = node_from (field_at k fs) M q.0 in
-    subst (λ K. IsOver P K w) f.1.1 (part_of_field P keys (named cs) fs ms o h k f.0 w f.1.0 q.1).over
-object_below P n t fs preserves type b cs keys ms o h (index i) M w is = absurd (cc)
+object_parts_over : (P : Pools) (n : Bool) (t : Option (List ℕ)) (fs : Fields) (preserves : Bool) (type : MapType) (b : Bounds) (cs : Validations) (path : List ℕ) (keys : List (List ℕ)) (ms : Members) → AreOrdered fs
+    → AreInSlots P (field_slots path keys (named cs) fs) ms → ArePartsOver P path (node n t (object fs preserves type b cs)) (tree.object ms)
+object_parts_over P n t fs preserves type b cs path keys ms o h (name k) (step.field l) M w same leads found =
+    let f = node_from (field_at l fs) M leads in
+    let here = subst (λ j. member_at j ms ≡ Some w) same found in
+    subst (λ K. IsOver P (below path (step.field l)) K w) f.1.1 (part_of_field P path keys (named cs) fs ms o h l f.0 w f.1.0 here).over
+object_parts_over P n t fs preserves type b cs path keys ms o h (name k) step.item M w follows leads found = absurd follows
+object_parts_over P n t fs preserves type b cs path keys ms o h (name k) step.value M w follows leads found = absurd (cc)
+object_parts_over P n t fs preserves type b cs path keys ms o h (index i) s M w follows leads found = absurd (cc)
 
-pub object_up : StoredLaw → EverywhereLaw → (P : Pools) (n : Bool) (t : Option (List ℕ)) (fs : Fields) (preserves : Bool) (type : MapType) (b : Bounds) (cs : Validations) (keys : List (List ℕ)) (ms : Members) → AreOrdered fs
-    → AreMembers ms → AreInSlots P (field_slots keys (named cs) fs) ms → IsWithin b (fault.members_count ms) × (meets_presence cs (has_member ms) ≡ true) → IsPart P (record { node = node n t (object fs preserves type b cs); keys = keys }) (tree.object ms)
-object_up stored everywhere P n t fs preserves type b cs keys ms o members h within = record {
+pub object_up : StoredLaw → (P : Pools) (n : Bool) (t : Option (List ℕ)) (fs : Fields) (preserves : Bool) (type : MapType) (b : Bounds) (cs : Validations) (path : List ℕ) (keys : List (List ℕ)) (ms : Members) → AreOrdered fs
+    → AreMembers ms → AreInSlots P (field_slots path keys (named cs) fs) ms → IsWithin b (fault.members_count ms) × (meets_presence cs (has_member ms) ≡ true) → IsPart P (record { node = node n t (object fs preserves type b cs); keys = keys; path = path }) (tree.object ms)
+object_up stored P n t fs preserves type b cs path keys ms o members h within = record {
   tree = members;
   stored = (stored _ _).1 (
     within,
     (
       (λ k none others. elim (option_cases (member_at k ms)) [
         | inl gone ↦ gone
-        | inr w ↦ let f = field_part P keys (named cs) fs ms o h k w.0 w.1 in let no = sym none ∙ f.1.0 in absurd (cc)
+        | inr w ↦ let f = field_part P path keys (named cs) fs ms o h k w.0 w.1 in let no = sym none ∙ f.1.0 in absurd (cc)
       ]),
-      field_stored P keys (named cs) fs ms o h,
+      field_stored P path keys (named cs) fs ms o h,
     ),
   );
-  over = over_up everywhere P _ _ (names_pass (λ l. is_some (field_at l fs)) ms members (λ k w is. let f = field_part P keys (named cs) fs ms o h k w is in rw f.1.0 refl)) (object_below P n t fs preserves type b cs keys ms o h);
+  over = over_up P _ _ _ (names_pass (λ l. is_some (field_at l fs)) ms members (λ k w is. let f = field_part P path keys (named cs) fs ms o h k w is in rw f.1.0 refl)) (object_parts_over P n t fs preserves type b cs path keys ms o h);
 }
 
 -- ---- maps
@@ -239,69 +243,69 @@ name_among k [] a = absurd a
 name_among k (l ∷ ls) (inl e) = rw (e, own_name k) refl
 name_among k (l ∷ ls) (inr a) = rw (name_among k ls a) (or_true (bytes_eq k l))
 
-value_slot_of : (N : Node) (ks : List (List ℕ)) (k : List ℕ) → Among ks k → Among (map (value_slot N) ks) (value_slot N k)
-value_slot_of N [] k a = absurd a
-value_slot_of N (l ∷ ks) k (inl e) = inl (ap (value_slot N) e)
-value_slot_of N (l ∷ ks) k (inr a) = inr (value_slot_of N ks k a)
+value_slot_of : (path : List ℕ) (N : Node) (ks : List (List ℕ)) (k : List ℕ) → Among ks k → Among (map (value_slot path N) ks) (value_slot path N k)
+value_slot_of path N [] k a = absurd a
+value_slot_of path N (l ∷ ks) k (inl e) = inl (ap (value_slot path N) e)
+value_slot_of path N (l ∷ ks) k (inr a) = inr (value_slot_of path N ks k a)
 
-pub name_of_value_slot : (N : Node) (ks : List (List ℕ)) (s : Slot) → Among (map (value_slot N) ks) s → (k : List ℕ) × (Among ks k × (value_slot N k ≡ s))
-name_of_value_slot N [] s a = absurd a
-name_of_value_slot N (l ∷ ks) s (inl e) = (l, (inl refl, e))
-name_of_value_slot N (l ∷ ks) s (inr a) = let r = name_of_value_slot N ks s a in (r.0, (inr r.1.0, r.1.1))
+pub name_of_value_slot : (path : List ℕ) (N : Node) (ks : List (List ℕ)) (s : Slot) → Among (map (value_slot path N) ks) s → (k : List ℕ) × (Among ks k × (value_slot path N k ≡ s))
+name_of_value_slot path N [] s a = absurd a
+name_of_value_slot path N (l ∷ ks) s (inl e) = (l, (inl refl, e))
+name_of_value_slot path N (l ∷ ks) s (inr a) = let r = name_of_value_slot path N ks s a in (r.0, (inr r.1.0, r.1.1))
 
-value_slots_in_order : (N : Node) (ks : List (List ℕ)) → AreNamesInOrder ks → AreInOrder (map (value_slot N) ks)
-value_slots_in_order N [] o = tt
-value_slots_in_order N (k ∷ ks) o = ((λ s c. let r = name_of_value_slot N ks s (contained (map (value_slot N) ks) s c) in subst (λ t. text_cmp k (Slot.name t) ≡ Less) r.1.1 (o.0 r.0 r.1.0)), value_slots_in_order N ks o.1)
+value_slots_in_order : (path : List ℕ) (N : Node) (ks : List (List ℕ)) → AreNamesInOrder ks → AreInOrder (map (value_slot path N) ks)
+value_slots_in_order path N [] o = tt
+value_slots_in_order path N (k ∷ ks) o = ((λ s c. let r = name_of_value_slot path N ks s (contained (map (value_slot path N) ks) s c) in subst (λ t. text_cmp k (Slot.name t) ≡ Less) r.1.1 (o.0 r.0 r.1.0)), value_slots_in_order path N ks o.1)
 
-pub values_in_order : (N : Node) (ks : List (List ℕ)) → AreInOrder (map (value_slot N) (in_order ks))
-values_in_order N ks = value_slots_in_order N (in_order ks) (in_order_rising ks)
+pub values_in_order : (path : List ℕ) (N : Node) (ks : List (List ℕ)) → AreInOrder (map (value_slot path N) (in_order ks))
+values_in_order path N ks = value_slots_in_order path N (in_order ks) (in_order_rising ks)
 
-abbrev MapSlots : Pools → Node → List Slot
-MapSlots P M = map (value_slot M) (in_order P.names)
+abbrev MapSlots : Pools → List ℕ → Node → List Slot
+MapSlots P path M = map (value_slot path M) (in_order P.names)
 
 -- what stands under a name of the pools is a part of the site of values
-value_part : (P : Pools) (M : Node) (ms : Members) → AreInSlots P (MapSlots P M) ms → (k : List ℕ) (w : Data) → member_at k ms ≡ Some w → (is_among k P.names ≡ true) × IsPart P (plain M) w
-value_part P M ms h k w is =
+value_part : (P : Pools) (path : List ℕ) (M : Node) (ms : Members) → AreInSlots P (MapSlots P path M) ms → (k : List ℕ) (w : Data) → member_at k ms ≡ Some w → (is_among k P.names ≡ true) × IsPart P (plain (below path step.value) M) w
+value_part P path M ms h k w is =
     let s = h.named k w is in
-    let r = name_of_value_slot M (in_order P.names) s.0 s.1 in
+    let r = name_of_value_slot path M (in_order P.names) s.0 s.1 in
     let same : r.0 ≡ k = ap (λ t. Slot.name t) r.1.1 ∙ s.2 in
     (subst (λ l. is_among l P.names ≡ true) same (name_among r.0 P.names (in_order_only P.names r.0 r.1.0)), subst (λ t. IsPart P (Slot.site t) w) (sym r.1.1) s.3)
 
-pub map_down : StoredLaw → EverywhereLaw → (P : Pools) (keys : List (List ℕ)) (n : Bool) (t : Option (List ℕ)) (M : Node) (type : MapType) (b : Bounds) (ms : Members)
-    → IsPart P (record { node = node n t (nodes.map M type b); keys = keys }) (tree.object ms) → AreMembers ms × AreInSlots P (map (value_slot M) (in_order P.names)) ms × IsWithin b (fault.members_count ms)
-map_down stored everywhere P keys n t M type b ms h =
+pub map_down : StoredLaw → (P : Pools) (path : List ℕ) (keys : List (List ℕ)) (n : Bool) (t : Option (List ℕ)) (M : Node) (type : MapType) (b : Bounds) (ms : Members)
+    → IsPart P (record { node = node n t (nodes.map M type b); keys = keys; path = path }) (tree.object ms) → AreMembers ms × AreInSlots P (MapSlots P path M) ms × IsWithin b (fault.members_count ms)
+map_down stored P path keys n t M type b ms h =
     let parts = (stored _ _).0 h.stored in
-    let over = over_down everywhere P _ _ h.over in (
+    let over = over_down P _ _ _ h.over in (
       h.tree,
       record {
         named = λ k w is. (
-          value_slot M k,
-          value_slot_of M (in_order P.names) k (in_order_has P.names k (among_name k P.names (each_name (λ l. is_among l P.names) ms over.0 k w is))),
+          value_slot path M k,
+          value_slot_of path M (in_order P.names) k (in_order_has P.names k (among_name k P.names (each_name (λ l. is_among l P.names) ms over.0 k w is))),
           refl,
-          record { tree = member_tree k ms w h.tree is; stored = parts.1 k w is; over = over.1 (name k) M w (rw is refl) },
+          record { tree = member_tree k ms w h.tree is; stored = parts.1 k w is; over = over.1 (name k) step.value M w tt refl is },
         );
-        present = λ s a must none. let r = name_of_value_slot M (in_order P.names) s a in let no : false ≡ true = ap (λ t. Slot.must t) r.1.1 ∙ must in cc;
+        present = λ s a must none. let r = name_of_value_slot path M (in_order P.names) s a in let no : false ≡ true = ap (λ t. Slot.must t) r.1.1 ∙ must in cc;
       },
       parts.0,
     )
 
-map_below : (P : Pools) (n : Bool) (t : Option (List ℕ)) (M : Node) (type : MapType) (b : Bounds) (ms : Members) → AreInSlots P (map (value_slot M) (in_order P.names)) ms → Below P (node n t (nodes.map M type b)) (tree.object ms)
-map_below P n t M type b ms h (name k) K w is =
-    let q = part_from (Some M) (member_at k ms) K w is in
-    subst (λ J. IsOver P J w) (same_Some M K q.0) (value_part P M ms h k w q.1).1.over
-map_below P n t M type b ms h (index i) K w is = absurd (cc)
+map_parts_over : (P : Pools) (path : List ℕ) (n : Bool) (t : Option (List ℕ)) (M : Node) (type : MapType) (b : Bounds) (ms : Members) → AreInSlots P (MapSlots P path M) ms → ArePartsOver P path (node n t (nodes.map M type b)) (tree.object ms)
+map_parts_over P path n t M type b ms h (name k) step.value K w follows leads found = subst (λ J. IsOver P (below path step.value) J w) (same_Some M K leads) (value_part P path M ms h k w found).1.over
+map_parts_over P path n t M type b ms h (name k) step.item K w follows leads found = absurd follows
+map_parts_over P path n t M type b ms h (name k) (step.field l) K w follows leads found = absurd (cc)
+map_parts_over P path n t M type b ms h (index i) s K w follows leads found = absurd (cc)
 
-pub map_up : StoredLaw → EverywhereLaw → (P : Pools) (keys : List (List ℕ)) (n : Bool) (t : Option (List ℕ)) (M : Node) (type : MapType) (b : Bounds) (ms : Members)
-    → AreMembers ms → AreInSlots P (map (value_slot M) (in_order P.names)) ms → IsWithin b (fault.members_count ms) → IsPart P (record { node = node n t (nodes.map M type b); keys = keys }) (tree.object ms)
-map_up stored everywhere P keys n t M type b ms members h within = record {
+pub map_up : StoredLaw → (P : Pools) (path : List ℕ) (keys : List (List ℕ)) (n : Bool) (t : Option (List ℕ)) (M : Node) (type : MapType) (b : Bounds) (ms : Members)
+    → AreMembers ms → AreInSlots P (MapSlots P path M) ms → IsWithin b (fault.members_count ms) → IsPart P (record { node = node n t (nodes.map M type b); keys = keys; path = path }) (tree.object ms)
+map_up stored P path keys n t M type b ms members h within = record {
   tree = members;
-  stored = (stored _ _).1 (within, λ k w is. (value_part P M ms h k w is).1.stored);
-  over = over_up everywhere P _ _ (names_pass (λ l. is_among l P.names) ms members (λ k w is. (value_part P M ms h k w is).0)) (map_below P n t M type b ms h);
+  stored = (stored _ _).1 (within, λ k w is. (value_part P path M ms h k w is).1.stored);
+  over = over_up P _ _ _ (names_pass (λ l. is_among l P.names) ms members (λ k w is. (value_part P path M ms h k w is).0)) (map_parts_over P path n t M type b ms h);
 }
 
 -- ---- lists
 
-items_parts : (P : Pools) (M : Site) (ds : Items) → AreTrees ds → ((i : ℕ) (w : Data) → item_at i ds ≡ Some w → IsStored M.node w × IsOver P M.node w) → AreParts P M ds
+items_parts : (P : Pools) (M : Site) (ds : Items) → AreTrees ds → ((i : ℕ) (w : Data) → item_at i ds ≡ Some w → IsStored M.node w × IsOver P M.path M.node w) → AreParts P M ds
 items_parts P M no_items trees h = tt
 items_parts P M (item d ds) trees h =
     let first = h zero d refl in
@@ -316,32 +320,37 @@ items_trees : (P : Pools) (M : Site) (ds : Items) → AreParts P M ds → AreTre
 items_trees P M no_items h = tt
 items_trees P M (item d ds) h = (h.0.tree, items_trees P M ds h.1)
 
-pub list_down : StoredLaw → EverywhereLaw → (P : Pools) (own : List (List ℕ)) (n : Bool) (t : Option (List ℕ)) (M : Site) (type : ListType) (keys : List (List ℕ)) (b : Bounds) (ds : Items)
-    → IsPart P (record { node = node n t (list M.node type keys b); keys = own }) (tree.list ds) → AreParts P M ds × (are_apart (fault.are_alike type keys) ds ≡ true) × IsWithin b (fault.items_count ds)
-list_down stored everywhere P own n t M type keys b ds h =
+abbrev item_of : List ℕ → Node → List (List ℕ) → Site
+item_of path K names = record { node = K; keys = names; path = below path step.item }
+
+list_down : StoredLaw → (P : Pools) (path : List ℕ) (own : List (List ℕ)) (n : Bool) (t : Option (List ℕ)) (K : Node) (names : List (List ℕ)) (type : ListType) (keys : List (List ℕ)) (b : Bounds) (ds : Items)
+    → IsPart P (record { node = node n t (list K type keys b); keys = own; path = path }) (tree.list ds) → AreParts P (item_of path K names) ds × (are_apart (fault.are_alike type keys) ds ≡ true) × IsWithin b (fault.items_count ds)
+list_down stored P path own n t K names type keys b ds h =
     let parts = (stored _ _).0 h.stored in
-    let over = over_down everywhere P _ _ h.over in
-    (items_parts P M ds h.tree (λ i w is. (parts.1 i w is, over.1 (index i) M.node w (rw is refl))), parts.0.1, parts.0.0)
+    let over = over_down P _ _ _ h.over in
+    (items_parts P (item_of path K names) ds h.tree (λ i w is. (parts.1 i w is, over.1 (index i) step.item K w tt refl is)), parts.0.1, parts.0.0)
 
-list_below : (P : Pools) (n : Bool) (t : Option (List ℕ)) (M : Site) (type : ListType) (keys : List (List ℕ)) (b : Bounds) (ds : Items) → AreParts P M ds → Below P (node n t (list M.node type keys b)) (tree.list ds)
-list_below P n t M type keys b ds h (name k) K w is = absurd (cc)
-list_below P n t M type keys b ds h (index i) K w is =
-    let q = part_from (Some M.node) (item_at i ds) K w is in
-    subst (λ J. IsOver P J w) (same_Some M.node K q.0) (part_at_index P M ds i w h q.1).over
+list_parts_over : (P : Pools) (path : List ℕ) (n : Bool) (t : Option (List ℕ)) (K : Node) (names : List (List ℕ)) (type : ListType) (keys : List (List ℕ)) (b : Bounds) (ds : Items) → AreParts P (item_of path K names) ds
+    → ArePartsOver P path (node n t (list K type keys b)) (tree.list ds)
+list_parts_over P path n t K names type keys b ds h (index i) step.item M w follows leads found =
+    subst (λ J. IsOver P (below path step.item) J w) (same_Some K M leads) (part_at_index P (item_of path K names) ds i w h found).over
+list_parts_over P path n t K names type keys b ds h (index i) (step.field l) M w follows leads found = absurd follows
+list_parts_over P path n t K names type keys b ds h (index i) step.value M w follows leads found = absurd follows
+list_parts_over P path n t K names type keys b ds h (name k) s M w follows leads found = absurd (cc)
 
-pub list_up : StoredLaw → EverywhereLaw → (P : Pools) (own : List (List ℕ)) (n : Bool) (t : Option (List ℕ)) (M : Site) (type : ListType) (keys : List (List ℕ)) (b : Bounds) (ds : Items)
-    → AreParts P M ds → are_apart (fault.are_alike type keys) ds ≡ true → IsWithin b (fault.items_count ds) → IsPart P (record { node = node n t (list M.node type keys b); keys = own }) (tree.list ds)
-list_up stored everywhere P own n t M type keys b ds h apart within = record {
-  tree = items_trees P M ds h;
-  stored = (stored _ _).1 ((within, apart), λ i w is. (part_at_index P M ds i w h is).stored);
-  over = over_up everywhere P _ _ refl (list_below P n t M type keys b ds h);
+list_up : StoredLaw → (P : Pools) (path : List ℕ) (own : List (List ℕ)) (n : Bool) (t : Option (List ℕ)) (K : Node) (names : List (List ℕ)) (type : ListType) (keys : List (List ℕ)) (b : Bounds) (ds : Items)
+    → AreParts P (item_of path K names) ds → are_apart (fault.are_alike type keys) ds ≡ true → IsWithin b (fault.items_count ds) → IsPart P (record { node = node n t (list K type keys b); keys = own; path = path }) (tree.list ds)
+list_up stored P path own n t K names type keys b ds h apart within = record {
+  tree = items_trees P (item_of path K names) ds h;
+  stored = (stored _ _).1 ((within, apart), λ i w is. (part_at_index P (item_of path K names) ds i w h is).stored);
+  over = over_up P _ _ _ refl (list_parts_over P path n t K names type keys b ds h);
 }
 
 -- ---- all of it
 
 -- a null that is stored has no parts
-null_part : EverywhereLaw → (P : Pools) (s : Site) → IsStored s.node tree.null → is_over_here P s.node tree.null ≡ true → IsPart P s tree.null
-null_part everywhere P s here over = record { tree = tt; stored = here; over = over_up everywhere P s.node tree.null over (λ step M w is. absurd (cc)) }
+null_part : (P : Pools) (s : Site) → IsStored s.node tree.null → is_over_here P s.path s.node tree.null ≡ true → IsPart P s tree.null
+null_part P s here over = record { tree = tt; stored = here; over = over_up P s.path s.node tree.null over (λ s t M w follows leads found. absurd (cc)) }
 
 -- an object in whose slots parts stand
 filled_object : (P : Pools) (s : Site) (ms : Members) → AreInOrder (slots P s) → HaveBits (named (ending_of s).asked) (slots P s) → AreMembers ms → AreInSlots P (slots P s) ms
@@ -359,106 +368,102 @@ filled_object P s ms o bits members h ends =
 abbrev IsRowCase : Pools → Site → Data → Type 0
 IsRowCase P s v = IsNullPart s v ⊎ IsObjectPart P s v
 
-object_cases : StoredLaw → EverywhereLaw → (P : Pools) (keys : List (List ℕ)) (n : Bool) (t : Option (List ℕ)) (fs : Fields) (preserves : Bool) (type : MapType) (b : Bounds) (cs : Validations) (v : Data) → AreOrdered fs
-    → IsPart P (record { node = node n t (object fs preserves type b cs); keys = keys }) v → IsRowCase P (record { node = node n t (object fs preserves type b cs); keys = keys }) v
-object_cases stored everywhere P keys n t fs preserves type b cs tree.null o h = inl (refl, ((stored _ _).0 h.stored).0)
-object_cases stored everywhere P keys n t fs preserves type b cs (tree.object ms) o h =
-    let d = object_down stored everywhere P n t fs preserves type b cs keys ms o h in
-    inr (filled_object P (record { node = node n t (object fs preserves type b cs); keys = keys }) ms (fields_in_order keys (named cs) fs o) (field_bits keys (named cs) fs) d.0 d.1 d.2)
-object_cases stored everywhere P keys n t fs preserves type b cs (tree.boolean x) o h = absurd ((stored _ _).0 h.stored).0
-object_cases stored everywhere P keys n t fs preserves type b cs (tree.integer x) o h = absurd ((stored _ _).0 h.stored).0
-object_cases stored everywhere P keys n t fs preserves type b cs (tree.text x) o h = absurd ((stored _ _).0 h.stored).0
-object_cases stored everywhere P keys n t fs preserves type b cs (tree.list x) o h = absurd ((stored _ _).0 h.stored).0
+object_cases : StoredLaw → (P : Pools) (path : List ℕ) (keys : List (List ℕ)) (n : Bool) (t : Option (List ℕ)) (fs : Fields) (preserves : Bool) (type : MapType) (b : Bounds) (cs : Validations) (v : Data) → AreOrdered fs
+    → IsPart P (record { node = node n t (object fs preserves type b cs); keys = keys; path = path }) v → IsRowCase P (record { node = node n t (object fs preserves type b cs); keys = keys; path = path }) v
+object_cases stored P path keys n t fs preserves type b cs tree.null o h = inl (refl, ((stored _ _).0 h.stored).0)
+object_cases stored P path keys n t fs preserves type b cs (tree.object ms) o h =
+    let d = object_down stored P n t fs preserves type b cs path keys ms o h in
+    inr (filled_object P (record { node = node n t (object fs preserves type b cs); keys = keys; path = path }) ms (fields_in_order path keys (named cs) fs o) (field_bits path keys (named cs) fs) d.0 d.1 d.2)
+object_cases stored P path keys n t fs preserves type b cs (tree.boolean x) o h = absurd ((stored _ _).0 h.stored).0
+object_cases stored P path keys n t fs preserves type b cs (tree.integer x) o h = absurd ((stored _ _).0 h.stored).0
+object_cases stored P path keys n t fs preserves type b cs (tree.text x) o h = absurd ((stored _ _).0 h.stored).0
+object_cases stored P path keys n t fs preserves type b cs (tree.list x) o h = absurd ((stored _ _).0 h.stored).0
 
 abbrev RowLaw : Pools → Site → Data → Type 0
 RowLaw P s v = IsPart P s v ↔ IsRowCase P s v
 
-object_row : StoredLaw → EverywhereLaw → (P : Pools) (keys : List (List ℕ)) (n : Bool) (t : Option (List ℕ)) (fs : Fields) (preserves : Bool) (type : MapType) (b : Bounds) (cs : Validations) (v : Data) → AreOrdered fs
-    → RowLaw P (record { node = node n t (object fs preserves type b cs); keys = keys }) v
-object_row stored everywhere P keys n t fs preserves type b cs v o =
-    let s : Site = record { node = node n t (object fs preserves type b cs); keys = keys } in
+object_row : StoredLaw → (P : Pools) (path : List ℕ) (keys : List (List ℕ)) (n : Bool) (t : Option (List ℕ)) (fs : Fields) (preserves : Bool) (type : MapType) (b : Bounds) (cs : Validations) (v : Data) → AreOrdered fs
+    → RowLaw P (record { node = node n t (object fs preserves type b cs); keys = keys; path = path }) v
+object_row stored P path keys n t fs preserves type b cs v o =
+    let s : Site = record { node = node n t (object fs preserves type b cs); keys = keys; path = path } in
     let up : (u : Data) → IsRowCase P s u → IsPart P s u = λ u h. elim h as (λ _. IsPart P s u) [
-      | inl null ↦ rw null.0 (null_part everywhere P s ((stored s.node tree.null).1 (null.1, tt)) refl)
+      | inl null ↦ rw null.0 (null_part P s ((stored s.node tree.null).1 (null.1, tt)) refl)
       | inr q ↦
-          let members = in_members P (slots P s) q.fillings (fields_in_order keys (named cs) fs o) q.are in
-          let inside = in_slots P (slots P s) q.fillings (fields_in_order keys (named cs) fs o) q.are in
-          rw q.is (object_up stored everywhere P n t fs preserves type b cs keys _ o members inside ((ends_in (ending_of s) (slots P s) q.fillings (field_bits keys (named cs) fs)).0 q.ends))
+          let members = in_members P (slots P s) q.fillings (fields_in_order path keys (named cs) fs o) q.are in
+          let inside = in_slots P (slots P s) q.fillings (fields_in_order path keys (named cs) fs o) q.are in
+          rw q.is (object_up stored P n t fs preserves type b cs path keys _ o members inside ((ends_in (ending_of s) (slots P s) q.fillings (field_bits path keys (named cs) fs)).0 q.ends))
     ] in
-    (object_cases stored everywhere P keys n t fs preserves type b cs v o, up v)
+    (object_cases stored P path keys n t fs preserves type b cs v o, up v)
 
-map_cases : StoredLaw → EverywhereLaw → (P : Pools) (keys : List (List ℕ)) (n : Bool) (t : Option (List ℕ)) (M : Node) (type : MapType) (b : Bounds) (v : Data)
-    → IsPart P (record { node = node n t (nodes.map M type b); keys = keys }) v → IsRowCase P (record { node = node n t (nodes.map M type b); keys = keys }) v
-map_cases stored everywhere P keys n t M type b tree.null h = inl (refl, ((stored _ _).0 h.stored).0)
-map_cases stored everywhere P keys n t M type b (tree.object ms) h =
-    let d = map_down stored everywhere P keys n t M type b ms h in
-    inr (filled_object P (record { node = node n t (nodes.map M type b); keys = keys }) ms (values_in_order M P.names) (value_bits M (in_order P.names)) d.0 d.1 (d.2, refl))
-map_cases stored everywhere P keys n t M type b (tree.boolean x) h = absurd ((stored _ _).0 h.stored).0
-map_cases stored everywhere P keys n t M type b (tree.integer x) h = absurd ((stored _ _).0 h.stored).0
-map_cases stored everywhere P keys n t M type b (tree.text x) h = absurd ((stored _ _).0 h.stored).0
-map_cases stored everywhere P keys n t M type b (tree.list x) h = absurd ((stored _ _).0 h.stored).0
+map_cases : StoredLaw → (P : Pools) (path : List ℕ) (keys : List (List ℕ)) (n : Bool) (t : Option (List ℕ)) (M : Node) (type : MapType) (b : Bounds) (v : Data)
+    → IsPart P (record { node = node n t (nodes.map M type b); keys = keys; path = path }) v → IsRowCase P (record { node = node n t (nodes.map M type b); keys = keys; path = path }) v
+map_cases stored P path keys n t M type b tree.null h = inl (refl, ((stored _ _).0 h.stored).0)
+map_cases stored P path keys n t M type b (tree.object ms) h =
+    let d = map_down stored P path keys n t M type b ms h in
+    inr (filled_object P (record { node = node n t (nodes.map M type b); keys = keys; path = path }) ms (values_in_order path M P.names) (value_bits path M (in_order P.names)) d.0 d.1 (d.2, refl))
+map_cases stored P path keys n t M type b (tree.boolean x) h = absurd ((stored _ _).0 h.stored).0
+map_cases stored P path keys n t M type b (tree.integer x) h = absurd ((stored _ _).0 h.stored).0
+map_cases stored P path keys n t M type b (tree.text x) h = absurd ((stored _ _).0 h.stored).0
+map_cases stored P path keys n t M type b (tree.list x) h = absurd ((stored _ _).0 h.stored).0
 
-map_row : StoredLaw → EverywhereLaw → (P : Pools) (keys : List (List ℕ)) (n : Bool) (t : Option (List ℕ)) (M : Node) (type : MapType) (b : Bounds) (v : Data) → RowLaw P (record { node = node n t (nodes.map M type b); keys = keys }) v
-map_row stored everywhere P keys n t M type b v =
-    let s : Site = record { node = node n t (nodes.map M type b); keys = keys } in
-    let o = values_in_order M P.names in
+map_row : StoredLaw → (P : Pools) (path : List ℕ) (keys : List (List ℕ)) (n : Bool) (t : Option (List ℕ)) (M : Node) (type : MapType) (b : Bounds) (v : Data) → RowLaw P (record { node = node n t (nodes.map M type b); keys = keys; path = path }) v
+map_row stored P path keys n t M type b v =
+    let s : Site = record { node = node n t (nodes.map M type b); keys = keys; path = path } in
+    let o = values_in_order path M P.names in
     let up : (u : Data) → IsRowCase P s u → IsPart P s u = λ u h. elim h as (λ _. IsPart P s u) [
-      | inl null ↦ rw null.0 (null_part everywhere P s ((stored s.node tree.null).1 (null.1, tt)) refl)
-      | inr q ↦ rw q.is (map_up stored everywhere P keys n t M type b _ (in_members P (slots P s) q.fillings o q.are) (in_slots P (slots P s) q.fillings o q.are) ((ends_in (ending_of s) (slots P s) q.fillings (value_bits M (in_order P.names))).0 q.ends).0)
+      | inl null ↦ rw null.0 (null_part P s ((stored s.node tree.null).1 (null.1, tt)) refl)
+      | inr q ↦ rw q.is (map_up stored P path keys n t M type b _ (in_members P (slots P s) q.fillings o q.are) (in_slots P (slots P s) q.fillings o q.are) ((ends_in (ending_of s) (slots P s) q.fillings (value_bits path M (in_order P.names))).0 q.ends).0)
     ] in
-    (map_cases stored everywhere P keys n t M type b v, up v)
+    (map_cases stored P path keys n t M type b v, up v)
 
 abbrev IsListCase : Pools → Site → Site → Data → Type 0
 IsListCase P s M v = IsNullPart s v ⊎ IsItemsPart P s M v
 
-list_cases : StoredLaw → EverywhereLaw → (P : Pools) (own : List (List ℕ)) (n : Bool) (t : Option (List ℕ)) (M : Site) (type : ListType) (keys : List (List ℕ)) (b : Bounds) (v : Data)
-    → IsPart P (record { node = node n t (list M.node type keys b); keys = own }) v → IsListCase P (record { node = node n t (list M.node type keys b); keys = own }) M v
-list_cases stored everywhere P own n t M type keys b tree.null h = inl (refl, ((stored _ _).0 h.stored).0)
-list_cases stored everywhere P own n t M type keys b (tree.list ds) h =
-    let d = list_down stored everywhere P own n t M type keys b ds h in
+list_cases : StoredLaw → (P : Pools) (path : List ℕ) (own : List (List ℕ)) (n : Bool) (t : Option (List ℕ)) (K : Node) (names : List (List ℕ)) (type : ListType) (keys : List (List ℕ)) (b : Bounds) (v : Data)
+    → IsPart P (record { node = node n t (list K type keys b); keys = own; path = path }) v → IsListCase P (record { node = node n t (list K type keys b); keys = own; path = path }) (item_of path K names) v
+list_cases stored P path own n t K names type keys b tree.null h = inl (refl, ((stored _ _).0 h.stored).0)
+list_cases stored P path own n t K names type keys b (tree.list ds) h =
+    let d = list_down stored P path own n t K names type keys b ds h in
     inr (record { items = ds; is = refl; are = d.0; apart = d.1; within = d.2 })
-list_cases stored everywhere P own n t M type keys b (tree.boolean x) h = absurd ((stored _ _).0 h.stored).0
-list_cases stored everywhere P own n t M type keys b (tree.integer x) h = absurd ((stored _ _).0 h.stored).0
-list_cases stored everywhere P own n t M type keys b (tree.text x) h = absurd ((stored _ _).0 h.stored).0
-list_cases stored everywhere P own n t M type keys b (tree.object x) h = absurd ((stored _ _).0 h.stored).0
+list_cases stored P path own n t K names type keys b (tree.boolean x) h = absurd ((stored _ _).0 h.stored).0
+list_cases stored P path own n t K names type keys b (tree.integer x) h = absurd ((stored _ _).0 h.stored).0
+list_cases stored P path own n t K names type keys b (tree.text x) h = absurd ((stored _ _).0 h.stored).0
+list_cases stored P path own n t K names type keys b (tree.object x) h = absurd ((stored _ _).0 h.stored).0
 
-list_up_cases : StoredLaw → EverywhereLaw → (P : Pools) (own : List (List ℕ)) (n : Bool) (t : Option (List ℕ)) (M : Site) (type : ListType) (keys : List (List ℕ)) (b : Bounds) (v : Data)
-    → IsListCase P (record { node = node n t (list M.node type keys b); keys = own }) M v → IsPart P (record { node = node n t (list M.node type keys b); keys = own }) v
-list_up_cases stored everywhere P own n t M type keys b v (inl null) = rw null.0 (null_part everywhere P _ ((stored _ tree.null).1 (null.1, tt)) refl)
-list_up_cases stored everywhere P own n t M type keys b v (inr q) = rw q.is (list_up stored everywhere P own n t M type keys b q.items q.are q.apart q.within)
+list_up_cases : StoredLaw → (P : Pools) (path : List ℕ) (own : List (List ℕ)) (n : Bool) (t : Option (List ℕ)) (K : Node) (names : List (List ℕ)) (type : ListType) (keys : List (List ℕ)) (b : Bounds) (v : Data)
+    → IsListCase P (record { node = node n t (list K type keys b); keys = own; path = path }) (item_of path K names) v → IsPart P (record { node = node n t (list K type keys b); keys = own; path = path }) v
+list_up_cases stored P path own n t K names type keys b v (inl null) = rw null.0 (null_part P _ ((stored _ tree.null).1 (null.1, tt)) refl)
+list_up_cases stored P path own n t K names type keys b v (inr q) = rw q.is (list_up stored P path own n t K names type keys b q.items q.are q.apart q.within)
 
-row_law : StoredLaw → EverywhereLaw → (P : Pools) (N : Node) (keys : List (List ℕ)) (v : Data) → IsNode N → sort_at N ≡ Row → RowLaw P (record { node = N; keys = keys }) v
-row_law stored everywhere P (node n t (object fs preserves type b cs)) keys v o is = object_row stored everywhere P keys n t fs preserves type b cs v o
-row_law stored everywhere P (node n t (nodes.map M type b)) keys v o is = map_row stored everywhere P keys n t M type b v
-row_law stored everywhere P (node n t (scalar kind cs)) keys v o is = absurd (cc)
-row_law stored everywhere P (node n t (list M type ks b)) keys v o is = absurd (cc)
-row_law stored everywhere P (node n t open_) keys v o is = absurd (cc)
+row_law : StoredLaw → (P : Pools) (N : Node) (path : List ℕ) (keys : List (List ℕ)) (v : Data) → IsNode N → sort_at N ≡ Row → RowLaw P (record { node = N; keys = keys; path = path }) v
+row_law stored P (node n t (object fs preserves type b cs)) path keys v o is = object_row stored P path keys n t fs preserves type b cs v o
+row_law stored P (node n t (nodes.map M type b)) path keys v o is = map_row stored P path keys n t M type b v
+row_law stored P (node n t (scalar kind cs)) path keys v o is = absurd (cc)
+row_law stored P (node n t (list M type ks b)) path keys v o is = absurd (cc)
+row_law stored P (node n t open_) path keys v o is = absurd (cc)
 
-list_law : StoredLaw → EverywhereLaw → (P : Pools) (N : Node) (keys : List (List ℕ)) (M : Site) (v : Data) → item_site (record { node = N; keys = keys }) ≡ Some M → IsPart P (record { node = N; keys = keys }) v ↔ IsListCase P (record { node = N; keys = keys }) M v
-list_law stored everywhere P (node n t (list K type ks b)) keys M v is =
-    rw (← same_Some _ M is) (list_cases stored everywhere P keys n t (record { node = K; keys = item_keys type ks }) type ks b v, list_up_cases stored everywhere P keys n t (record { node = K; keys = item_keys type ks }) type ks b v)
-list_law stored everywhere P (node n t (object fs preserves type b cs)) keys M v is = absurd (cc)
-list_law stored everywhere P (node n t (nodes.map K type b)) keys M v is = absurd (cc)
-list_law stored everywhere P (node n t (scalar kind cs)) keys M v is = absurd (cc)
-list_law stored everywhere P (node n t open_) keys M v is = absurd (cc)
-
-never_part : (o : Option Data) (M : Node) (w : Data) → option_map (part_of None) o ≡ Some (at M w) → ⊥
-never_part None M w e = cc
-never_part (Some v) M w e = cc
+list_law : StoredLaw → (P : Pools) (N : Node) (path : List ℕ) (keys : List (List ℕ)) (M : Site) (v : Data) → item_site (record { node = N; keys = keys; path = path }) ≡ Some M → IsPart P (record { node = N; keys = keys; path = path }) v ↔ IsListCase P (record { node = N; keys = keys; path = path }) M v
+list_law stored P (node n t (list K type ks b)) path keys M v is =
+    rw (← same_Some _ M is) (list_cases stored P path keys n t K (item_keys type ks) type ks b v, list_up_cases stored P path keys n t K (item_keys type ks) type ks b v)
+list_law stored P (node n t (object fs preserves type b cs)) path keys M v is = absurd (cc)
+list_law stored P (node n t (nodes.map K type b)) path keys M v is = absurd (cc)
+list_law stored P (node n t (scalar kind cs)) path keys M v is = absurd (cc)
+list_law stored P (node n t open_) path keys M v is = absurd (cc)
 
 -- a leaf has no parts but itself
-leaf_below : (P : Pools) (N : Node) (v : Data) → sort_at N ≡ Leaf → Below P N v
-leaf_below P (node n t (scalar kind cs)) v leaf s M w is = absurd (never_part (part_by v s) M w is)
-leaf_below P (node n t open_) v leaf s M w is = absurd (never_part (part_by v s) M w is)
-leaf_below P (node n t (object fs preserves type b cs)) v leaf s M w is = absurd (cc)
-leaf_below P (node n t (nodes.map K type b)) v leaf s M w is = absurd (cc)
-leaf_below P (node n t (list K type ks b)) v leaf s M w is = absurd (cc)
+leaf_parts_over : (P : Pools) (path : List ℕ) (N : Node) (v : Data) → sort_at N ≡ Leaf → ArePartsOver P path N v
+leaf_parts_over P path (node n t (scalar kind cs)) v leaf s u M w follows leads found = absurd (cc)
+leaf_parts_over P path (node n t open_) v leaf s u M w follows leads found = absurd (cc)
+leaf_parts_over P path (node n t (object fs preserves type b cs)) v leaf s u M w follows leads found = absurd (cc)
+leaf_parts_over P path (node n t (nodes.map K type b)) v leaf s u M w follows leads found = absurd (cc)
+leaf_parts_over P path (node n t (list K type ks b)) v leaf s u M w follows leads found = absurd (cc)
 
-pub part_laws : StoredLaw → EverywhereLaw → PartLaws
-part_laws stored everywhere = record {
+pub part_laws : StoredLaw → PartLaws
+part_laws stored = record {
   leaf = λ P s v leaf. (
-    (λ h. (h.tree, h.stored, (over_down everywhere P s.node v h.over).0)),
-    λ h. record { tree = h.0; stored = h.1; over = over_up everywhere P s.node v h.2 (leaf_below P s.node v leaf) },
+    (λ h. (h.tree, h.stored, (over_down P s.path s.node v h.over).0)),
+    λ h. record { tree = h.0; stored = h.1; over = over_up P s.path s.node v h.2 (leaf_parts_over P s.path s.node v leaf) },
   );
-  row = λ P s v o is. row_law stored everywhere P s.node s.keys v o is;
-  list = λ P s M v is. list_law stored everywhere P s.node s.keys M v is;
+  row = λ P s v o is. row_law stored P s.node s.path s.keys v o is;
+  list = λ P s M v is. list_law stored P s.node s.path s.keys M v is;
 }

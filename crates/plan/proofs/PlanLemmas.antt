@@ -107,15 +107,15 @@ leaf_sort holds limit P v sites i e l right is = let h = rw is at right.content 
 pub row_sort : {Z : Type 0} (holds : Z → ℕ → Type 0) (limit : ℕ) (P : Pools) (v : Values) (sites : List Site) (i : ℕ) (e : Entry Z) (r : RowEntry Z) → IsRight holds limit P v sites i e → e.content ≡ content.Row r → sort_of (site_at sites i) ≡ RowSort
 row_sort holds limit P v sites i e r right is = let h = rw is at right.content in h.sort
 
-node_item_sort : (N : Node) (M : Site) → item_site_at N ≡ Some M → sort_at N ≡ ListSort
-node_item_sort (node n t (scalar kind cs)) M is = absurd (cc)
-node_item_sort (node n t (object fs preserves type b cs)) M is = absurd (cc)
-node_item_sort (node n t (nodes.map N type b)) M is = absurd (cc)
-node_item_sort (node n t (list N type keys b)) M is = refl
-node_item_sort (node n t open_) M is = absurd (cc)
+node_item_sort : (path : List ℕ) (N : Node) (M : Site) → item_site_at path N ≡ Some M → sort_at N ≡ ListSort
+node_item_sort path (node n t (scalar kind cs)) M is = absurd (cc)
+node_item_sort path (node n t (object fs preserves type b cs)) M is = absurd (cc)
+node_item_sort path (node n t (nodes.map N type b)) M is = absurd (cc)
+node_item_sort path (node n t (list N type keys b)) M is = refl
+node_item_sort path (node n t open_) M is = absurd (cc)
 
 pub item_sort : (s M : Site) → item_site s ≡ Some M → sort_of s ≡ ListSort
-item_sort s M is = node_item_sort s.node M is
+item_sort s M is = node_item_sort s.path s.node M is
 
 pub list_sort : {Z : Type 0} (holds : Z → ℕ → Type 0) (limit : ℕ) (P : Pools) (v : Values) (sites : List Site) (i : ℕ) (e : Entry Z) (l : ListEntry Z) → IsRight holds limit P v sites i e → e.content ≡ content.List l → sort_of (site_at sites i) ≡ ListSort
 list_sort holds limit P v sites i e l right is = let h = rw is at right.content in item_sort (site_at sites i) (site_at sites l.item) h.item
@@ -142,14 +142,14 @@ stands_itself xs j s l =
     rw e (get_or_default xs j no_site s l)
 
 -- a plan, from what was built for the root
-pub plan_made : {Z : Type 0} (holds : Z → ℕ → Type 0) (BITS : ℕ) (root : Node) (P : Pools) (limit : ℕ) (v : Values) (es : List (Entry Z)) (n : ℕ) → limit < BITS → 1 ≤ limit → AreValues P v → IsSound root → IsBuilt holds limit v [] es root [] n → IsPlan holds BITS root P limit v es n
+pub plan_made : {Z : Type 0} (holds : Z → ℕ → Type 0) (BITS : ℕ) (root : Node) (P : Pools) (limit : ℕ) (v : Values) (es : List (Entry Z)) (n : ℕ) → limit < BITS → 1 ≤ limit → AreValues P v → IsSound root → IsBuilt holds limit P v [] es [] root [] n → IsPlan holds BITS root P limit v es n
 plan_made holds BITS root P limit v es n within room values sound built = record {
   within = within;
   room = room;
   values = values;
   count = omega (arith, built.count);
   last = built.last;
-  right = built.right P (sites_of root) values sound (stands_itself (sites_of root)) (λ i e l. absurd (omega arith));
+  right = built.right (sites_of root) values sound (stands_itself (sites_of root)) (λ i e l. absurd (omega arith));
 }
 
 -- the number of candidates of a leaf, in the words of the plan's view

@@ -93,12 +93,12 @@ plan_parts stored laws schema_laws root P limit q schema view =
 
 -- ---- the keys of a row
 
-slot_row : (P : Pools) (N : Node) (keys : List (List ℕ)) (t : Slot) → Among (slots_at P N keys) t → sort_at N ≡ Row
-slot_row P (node n d (object fs preserves type b cs)) keys t a = refl
-slot_row P (node n d (nodes.map M type b)) keys t a = refl
-slot_row P (node n d (scalar kind cs)) keys t a = absurd a
-slot_row P (node n d (list M type ks b)) keys t a = absurd a
-slot_row P (node n d open_) keys t a = absurd a
+slot_row : (P : Pools) (path : List ℕ) (N : Node) (keys : List (List ℕ)) (t : Slot) → Among (slots_at P path N keys) t → sort_at N ≡ Row
+slot_row P path (node n d (object fs preserves type b cs)) keys t a = refl
+slot_row P path (node n d (nodes.map M type b)) keys t a = refl
+slot_row P path (node n d (scalar kind cs)) keys t a = absurd a
+slot_row P path (node n d (list M type ks b)) keys t a = absurd a
+slot_row P path (node n d open_) keys t a = absurd a
 
 -- the numbers of their candidates, at each site of a plan
 pub plan_counts : {Z : Type 0} (holds : Z → ℕ → Type 0) (BITS : ℕ) (root : Node) (P : Pools) (limit : ℕ) (v : Values) (es : List (Entry Z)) (first : ℕ) (q : Question) → IsPlan holds BITS root P limit v es first
@@ -109,4 +109,4 @@ plan_counts holds BITS root P limit v es first q plan view =
     let ss = slots P s in
     counts P (filter is_key ss) (λ t a.
     let f = among_filter is_key ss t a in
-    have.below (slot_row P s.node s.keys t f.0) t f.0 ((sound s c).keys t (contains ss t f.0) f.1).leaf))
+    have.below (slot_row P s.path s.node s.keys t f.0) t f.0 ((sound s c).keys t (contains ss t f.0) f.1).leaf))

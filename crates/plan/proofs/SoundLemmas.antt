@@ -17,7 +17,8 @@ use Rattle.schema.specs.Nodes.Junctors.{HasSoundJunctors}
 use Rattle.schema.specs.declared.node.ListType.{ListType}
 use Rattle.schema.specs.declared.node.ListType.TheVariants.{Atomic, Set, Map}
 use Rattle.stored.specs.Schemas.Accepted.{IsSchema}
-use Rattle.plan.specs.Samples.Sites.{Site, item_site, item_site_at, sites_from, sites_below, sites_of_fields, sites_of, item_keys, field_slots}
+use Rattle.explain.specs.Paths.FieldPath as step
+use Rattle.plan.specs.Samples.Sites.{Site, below, item_site, item_site_at, sites_from, sites_below, sites_of_fields, sites_of, item_keys, field_slots}
 use Rattle.plan.specs.Internal.Building.{IsSound, AreFieldsSound}
 use Rattle.plan.proofs.PartLemmas.{slot_of_field, fields_in_order}
 
@@ -39,8 +40,8 @@ IsSoundBelow N = (p : Place) (M : Node) → node_at N p ≡ Some M → HasSoundI
 -- a field behind the first has another name
 behind_first : (l : List ℕ) (N : Node) (required : Bool) (default : Option Data) (fs : Fields) → AreOrdered (field l N required default fs) → (k : List ℕ) (f : Declared) → field_at k fs ≡ Some f → bytes_eq k l ≡ false
 behind_first l N required default fs o k f is =
-    let s = slot_of_field [] [] fs k f is in
-    later_name k l (subst (λ n. text_cmp l n ≡ Less) s.1.1.0 ((fields_in_order [] [] (field l N required default fs) o).0 s.0 (contains (field_slots [] [] fs) s.0 s.1.0)))
+    let s = slot_of_field [] [] [] fs k f is in
+    later_name k l (subst (λ n. text_cmp l n ≡ Less) s.1.1.0 ((fields_in_order [] [] [] (field l N required default fs) o).0 s.0 (contains (field_slots [] [] [] fs) s.0 s.1.0)))
 
 mutual
   sound_from : (N : Node) → IsNode N → IsSoundBelow N → IsSound N
@@ -65,12 +66,12 @@ schema_sound laws root h =
 
 -- ---- each site
 
-itself : (N : Node) (keys : List (List ℕ)) → Among (sites_from N keys) (record { node = N; keys = keys })
-itself (node n t sort) keys = among_right (sites_below sort) _ _ (inl refl)
+itself : (path : List ℕ) (N : Node) (keys : List (List ℕ)) → Among (sites_from path N keys) (record { node = N; keys = keys; path = path })
+itself path (node n t sort) keys = among_right (sites_below path sort) _ _ (inl refl)
 
-own_item : (n : Bool) (t : Option (List ℕ)) (sort : Sort) (M : Site) → item_site_at (node n t sort) ≡ Some M → Among (sites_below sort) M
-own_item n t (list N type keys b) M is = subst (Among (sites_from N (item_keys type keys))) (same_Some _ M is) (itself N (item_keys type keys))
-own_item n t sort M is = absurd (cc)
+own_item : (path : List ℕ) (n : Bool) (t : Option (List ℕ)) (sort : Sort) (M : Site) → item_site_at path (node n t sort) ≡ Some M → Among (sites_below path sort) M
+own_item path n t (list N type keys b) M is = subst (Among (sites_from (below path step.item) N (item_keys type keys))) (same_Some _ M is) (itself (below path step.item) N (item_keys type keys))
+own_item path n t sort M is = absurd (cc)
 
 -- there are no keys, or they are those of the items of a map list
 abbrev pub AreKeysOf : Node → List (List ℕ) → Type 0
@@ -90,35 +91,35 @@ module _ (all : List Site) where
   AreOf ss = (s : Site) → Among ss s → Among all s
 
   mutual
-    site_sound : (N : Node) (keys : List (List ℕ)) → IsNode N → IsSound N → AreKeysOf N keys → AreOf (sites_from N keys) → (s : Site) → Among (sites_from N keys) s → IsSoundSite all s
-    site_sound (node n t sort) keys o h k of s a =
-        let own : Site = record { node = node n t sort; keys = keys } in
-        let of_below : AreOf (sites_below sort) = λ u b. of u (among_left (sites_below sort) (own ∷ []) u b) in
-        let here : IsSoundSite all own = (o, h, (λ M is. of_below M (own_item n t sort M is)), k) in
-        elim (among_parts (sites_below sort) (own ∷ []) s a) [
-          | inl below ↦ site_below_sound n t sort o h of_below s below
+    site_sound : (path : List ℕ) (N : Node) (keys : List (List ℕ)) → IsNode N → IsSound N → AreKeysOf N keys → AreOf (sites_from path N keys) → (s : Site) → Among (sites_from path N keys) s → IsSoundSite all s
+    site_sound path (node n t sort) keys o h k of s a =
+        let own : Site = record { node = node n t sort; keys = keys; path = path } in
+        let of_below : AreOf (sites_below path sort) = λ u b. of u (among_left (sites_below path sort) (own ∷ []) u b) in
+        let here : IsSoundSite all own = (o, h, (λ M is. of_below M (own_item path n t sort M is)), k) in
+        elim (among_parts (sites_below path sort) (own ∷ []) s a) [
+          | inl under ↦ site_below_sound path n t sort o h of_below s under
           | inr last ↦ elim last [ inl e ↦ subst (IsSoundSite all) e here | inr none ↦ absurd none ]
         ]
 
-    site_below_sound : (n : Bool) (t : Option (List ℕ)) (sort : Sort) → IsSort sort → IsSound (node n t sort) → AreOf (sites_below sort) → (s : Site) → Among (sites_below sort) s → IsSoundSite all s
-    site_below_sound n t (object fs preserves type b cs) o h of s a = field_site_sound fs o h.2 of s a
-    site_below_sound n t (map N type b) o h of s a = site_sound N [] o h.2 (inl refl) of s a
-    site_below_sound n t (list N type keys b) o h of s a = site_sound N (item_keys type keys) o h.2 (keys_of_items type keys N h.0) of s a
-    site_below_sound n t (scalar kind cs) o h of s a = absurd a
-    site_below_sound n t open_ o h of s a = absurd a
+    site_below_sound : (path : List ℕ) (n : Bool) (t : Option (List ℕ)) (sort : Sort) → IsSort sort → IsSound (node n t sort) → AreOf (sites_below path sort) → (s : Site) → Among (sites_below path sort) s → IsSoundSite all s
+    site_below_sound path n t (object fs preserves type b cs) o h of s a = field_site_sound path fs o h.2 of s a
+    site_below_sound path n t (map N type b) o h of s a = site_sound (below path step.value) N [] o h.2 (inl refl) of s a
+    site_below_sound path n t (list N type keys b) o h of s a = site_sound (below path step.item) N (item_keys type keys) o h.2 (keys_of_items type keys N h.0) of s a
+    site_below_sound path n t (scalar kind cs) o h of s a = absurd a
+    site_below_sound path n t open_ o h of s a = absurd a
 
-    field_site_sound : (fs : Fields) → AreOrdered fs → AreFieldsSound fs → AreOf (sites_of_fields fs) → (s : Site) → Among (sites_of_fields fs) s → IsSoundSite all s
-    field_site_sound no_fields o h of s a = absurd a
-    field_site_sound (field l N required default fs) o h of s a =
-        let first = sites_from N [] in
-        let later = sites_of_fields fs in
+    field_site_sound : (path : List ℕ) (fs : Fields) → AreOrdered fs → AreFieldsSound fs → AreOf (sites_of_fields path fs) → (s : Site) → Among (sites_of_fields path fs) s → IsSoundSite all s
+    field_site_sound path no_fields o h of s a = absurd a
+    field_site_sound path (field l N required default fs) o h of s a =
+        let first = sites_from (below path (step.field l)) N [] in
+        let later = sites_of_fields path fs in
         elim (among_parts first later s a) [
-          | inl here ↦ site_sound N [] o.0 h.0 (inl refl) (λ u b. of u (among_left first later u b)) s here
-          | inr there ↦ field_site_sound fs o.2 h.1 (λ u b. of u (among_right first later u b)) s there
+          | inl here ↦ site_sound (below path (step.field l)) N [] o.0 h.0 (inl refl) (λ u b. of u (among_left first later u b)) s here
+          | inr there ↦ field_site_sound path fs o.2 h.1 (λ u b. of u (among_right first later u b)) s there
         ]
 
 pub sites_sound : SchemaLaws → (root : Node) → IsSchema root → All (IsSoundSite (sites_of root)) (sites_of root)
-sites_sound laws root h = let r = schema_sound laws root h in each_of _ (sites_of root) (site_sound (sites_of root) root [] r.0 r.1 (inl refl) (λ s a. a))
+sites_sound laws root h = let r = schema_sound laws root h in each_of _ (sites_of root) (site_sound (sites_of root) [] root [] r.0 r.1 (inl refl) (λ s a. a))
 
 pub sound_here : (N : Node) → IsSound N → HasSoundItems N
 sound_here (node n t sort) h = h.0

@@ -9,7 +9,8 @@ use Rattle.schema.specs.Nodes.Node as nodes
 use Rattle.schema.specs.Nodes.Items.{HasKeys, HasSoundItems}
 use Rattle.schema.specs.declared.node.ListType.TheVariants.{Atomic, Set, Map}
 use Rattle.plan.specs.Pools.Pools.{Pools}
-use Rattle.plan.specs.Samples.Sites.{Site, plain, item_site_at, Slot, slots_at}
+use Rattle.explain.specs.Paths.FieldPath.{item}
+use Rattle.plan.specs.Samples.Sites.{Site, plain, below, item_site_at, Slot, slots_at}
 use Rattle.plan.specs.Samples.Names.{in_order}
 use Rattle.plan.specs.Samples.Presence.{named}
 use Rattle.plan.specs.Samples.Candidates.{distinct_at}
@@ -23,29 +24,29 @@ use Rattle.plan.proofs.PartLemmas.{StoredLaw, fields_in_order, name_of_value_slo
 use Rattle.plan.proofs.SetLemmas.{plain_leaf, scalar_one, set_keyed}
 use Rattle.plan.proofs.SoundLemmas.{AreKeysOf}
 
-slots_in_order : (P : Pools) (N : Node) (keys : List (List ℕ)) → IsNode N → AreInOrder (slots_at P N keys)
-slots_in_order P (node n t (object fs preserves type b cs)) keys o = fields_in_order keys (named cs) fs o
-slots_in_order P (node n t (nodes.map M type b)) keys o = values_in_order M P.names
-slots_in_order P (node n t (scalar kind cs)) keys o = tt
-slots_in_order P (node n t (list M type ks b)) keys o = tt
-slots_in_order P (node n t open_) keys o = tt
+slots_in_order : (P : Pools) (path : List ℕ) (N : Node) (keys : List (List ℕ)) → IsNode N → AreInOrder (slots_at P path N keys)
+slots_in_order P path (node n t (object fs preserves type b cs)) keys o = fields_in_order path keys (named cs) fs o
+slots_in_order P path (node n t (nodes.map M type b)) keys o = values_in_order path M P.names
+slots_in_order P path (node n t (scalar kind cs)) keys o = tt
+slots_in_order P path (node n t (list M type ks b)) keys o = tt
+slots_in_order P path (node n t open_) keys o = tt
 
 -- ---- keys
 
-no_key : (P : Pools) (N : Node) (s : Slot) → Among (slots_at P N []) s → s.key ≡ false
-no_key P (node n t (object fs preserves type b cs)) s a = slot_key [] (named cs) fs s a
-no_key P (node n t (nodes.map M type b)) s a = ap (λ u. Slot.key u) (sym (name_of_value_slot M (in_order P.names) s a).1.1)
-no_key P (node n t (scalar kind cs)) s a = absurd a
-no_key P (node n t (list M type ks b)) s a = absurd a
-no_key P (node n t open_) s a = absurd a
+no_key : (P : Pools) (path : List ℕ) (N : Node) (s : Slot) → Among (slots_at P path N []) s → s.key ≡ false
+no_key P path (node n t (object fs preserves type b cs)) s a = slot_key path [] (named cs) fs s a
+no_key P path (node n t (nodes.map M type b)) s a = ap (λ u. Slot.key u) (sym (name_of_value_slot path M (in_order P.names) s a).1.1)
+no_key P path (node n t (scalar kind cs)) s a = absurd a
+no_key P path (node n t (list M type ks b)) s a = absurd a
+no_key P path (node n t open_) s a = absurd a
 
-own_keys : StoredLaw → (P : Pools) (N : Node) (keys : List (List ℕ)) → IsNode N → HasKeys N keys → AreKeySlots P (slots_at P N keys)
-own_keys stored P (node n t (object fs preserves type b cs)) keys o h = (have_keys stored P fs keys (named cs) o h.2).are
-own_keys stored P N keys o h = absurd h
+own_keys : StoredLaw → (P : Pools) (path : List ℕ) (N : Node) (keys : List (List ℕ)) → IsNode N → HasKeys N keys → AreKeySlots P (slots_at P path N keys)
+own_keys stored P path (node n t (object fs preserves type b cs)) keys o h = (have_keys stored P fs path keys (named cs) o h.2).are
+own_keys stored P path N keys o h = absurd h
 
-key_slots : StoredLaw → (P : Pools) (N : Node) (keys : List (List ℕ)) → IsNode N → AreKeysOf N keys → AreKeySlots P (slots_at P N keys)
-key_slots stored P N keys o (inl none) = rw none (λ s c key. let no = sym (no_key P N s (contained (slots_at P N []) s c)) ∙ key in absurd (cc))
-key_slots stored P N keys o (inr h) = own_keys stored P N keys o h
+key_slots : StoredLaw → (P : Pools) (path : List ℕ) (N : Node) (keys : List (List ℕ)) → IsNode N → AreKeysOf N keys → AreKeySlots P (slots_at P path N keys)
+key_slots stored P path N keys o (inl none) = rw none (λ s c key. let no = sym (no_key P path N s (contained (slots_at P path N []) s c)) ∙ key in absurd (cc))
+key_slots stored P path N keys o (inr h) = own_keys stored P path N keys o h
 
 -- ---- items
 
@@ -53,29 +54,29 @@ never_alike : (N : Node) → distinct_at N ≡ Free → (v w : Data) → alike_b
 never_alike (node n t (list N Atomic keys b)) e v w = refl
 never_alike N e v w = cc
 
-set_items : StoredLaw → (P : Pools) (N : Node) (own : List (List ℕ)) (M : Site) → item_site_at N ≡ Some M → distinct_at N ≡ Whole → HasSoundItems N → AreSetItems P (record { node = N; keys = own }) M
-set_items stored P (node n t (list K Set keys b)) own M is whole h =
-    subst (AreSetItems P (record { node = node n t (list K Set keys b); keys = own })) (same_Some _ M is) (record {
+set_items : StoredLaw → (P : Pools) (path : List ℕ) (N : Node) (own : List (List ℕ)) (M : Site) → item_site_at path N ≡ Some M → distinct_at N ≡ Whole → HasSoundItems N → AreSetItems P (record { node = N; keys = own; path = path }) M
+set_items stored P path (node n t (list K Set keys b)) own M is whole h =
+    subst (AreSetItems P (record { node = node n t (list K Set keys b); keys = own; path = path })) (same_Some _ M is) (record {
       leaf = plain_leaf K h;
-      one = scalar_one stored P (plain K) h;
+      one = scalar_one stored P (plain (below path item) K) h;
       alike = λ v w. refl;
-      most = λ ds count are apart candidates. let k = set_keyed stored P (plain K) count h candidates in at_most k.0 count k.1 ds are apart;
+      most = λ ds count are apart candidates. let k = set_keyed stored P (plain (below path item) K) count h candidates in at_most k.0 count k.1 ds are apart;
     })
-set_items stored P (node n t (list K Map keys b)) own M is whole h = absurd (cc)
-set_items stored P (node n t (list K Atomic keys b)) own M is whole h = absurd (cc)
-set_items stored P N own M is whole h = absurd (cc)
+set_items stored P path (node n t (list K Map keys b)) own M is whole h = absurd (cc)
+set_items stored P path (node n t (list K Atomic keys b)) own M is whole h = absurd (cc)
+set_items stored P path N own M is whole h = absurd (cc)
 
-map_items : StoredLaw → PartLaws → (P : Pools) (N : Node) (own : List (List ℕ)) (M : Site) → item_site_at N ≡ Some M → distinct_at N ≡ Keys → IsNode N → HasSoundItems N → AreMapItems P (record { node = N; keys = own }) M
-map_items stored laws P (node n t (list K Map keys b)) own M is by o h = subst (AreMapItems P (record { node = node n t (list K Map keys b); keys = own })) (same_Some _ M is) (map_told stored laws P own n t K keys b o h)
-map_items stored laws P (node n t (list K Set keys b)) own M is by o h = absurd (cc)
-map_items stored laws P (node n t (list K Atomic keys b)) own M is by o h = absurd (cc)
-map_items stored laws P N own M is by o h = absurd (cc)
+map_items : StoredLaw → PartLaws → (P : Pools) (path : List ℕ) (N : Node) (own : List (List ℕ)) (M : Site) → item_site_at path N ≡ Some M → distinct_at N ≡ Keys → IsNode N → HasSoundItems N → AreMapItems P (record { node = N; keys = own; path = path }) M
+map_items stored laws P path (node n t (list K Map keys b)) own M is by o h = subst (AreMapItems P (record { node = node n t (list K Map keys b); keys = own; path = path })) (same_Some _ M is) (map_told stored laws P path own n t K keys b o h)
+map_items stored laws P path (node n t (list K Set keys b)) own M is by o h = absurd (cc)
+map_items stored laws P path (node n t (list K Atomic keys b)) own M is by o h = absurd (cc)
+map_items stored laws P path N own M is by o h = absurd (cc)
 
 pub sound_parts : StoredLaw → PartLaws → (P : Pools) (s : Site) → IsNode s.node → HasSoundItems s.node → AreKeysOf s.node s.keys → HasSoundParts P s
 sound_parts stored laws P s o h k = record {
-  order = slots_in_order P s.node s.keys o;
-  keys = key_slots stored P s.node s.keys o k;
+  order = slots_in_order P s.path s.node s.keys o;
+  keys = key_slots stored P s.path s.node s.keys o k;
   free = λ v w is. never_alike s.node is v w;
-  set = λ M is whole. set_items stored P s.node s.keys M is whole h;
-  map = λ M is by. map_items stored laws P s.node s.keys M is by o h;
+  set = λ M is whole. set_items stored P s.path s.node s.keys M is whole h;
+  map = λ M is by. map_items stored laws P s.path s.node s.keys M is by o h;
 }

@@ -6,6 +6,7 @@ pub mod Values
 pub mod Arena
 pub mod PoolBreak
 pub mod PoolsCode
+pub mod PathLists
 pub mod Building
 pub mod Keyed
 pub mod Plan

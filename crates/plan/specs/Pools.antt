@@ -2,3 +2,4 @@
 pub mod Pools
 pub mod Document
 pub mod PoolsFault
+pub mod PlanFault

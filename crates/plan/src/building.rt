@@ -5,7 +5,8 @@ ghost use Rattle.schema.specs.Nodes.View.{node_of, object_of, map_of, list_of};
 ghost use Rattle.schema.specs.Document.Texts.{is_among};
 ghost use Rattle.jtree.specs.View.{data_of};
 ghost use Rattle.std.specs.Prelude.{option_map, All, map as map_list};
-ghost use Rattle.plan.specs.Samples.Sites.{Site, plain, value_slot, item_keys};
+ghost use Rattle.explain.specs.Paths.FieldPath.{field as field_step, value as value_step};
+ghost use Rattle.plan.specs.Samples.Sites.{Site, plain, below, value_slot, item_keys};
 ghost use Rattle.plan.specs.Samples.Candidates.{sort_at};
 ghost use Rattle.plan.specs.declared.sort.Sort.TheVariants.{Leaf};
 ghost use Rattle.plan.specs.Internal.Arena.{AreSlots};
@@ -15,21 +16,25 @@ ghost use Rattle.schema.specs.Nodes.Junctors.{most_named};
 ghost use Rattle.plan.specs.Internal.Tables.{IsClosed};
 ghost use Rattle.plan.specs.Internal.Building.{IsBuilt, AreBuilt, IsFieldSlot};
 
-use crate::SizeSet;
 use crate::arena::{Arena, Content, Entry, PlanNode, SlotEntry, SlotName};
 use crate::entries::add_row;
 use crate::leaf::{leaf_of, leaf_sizes};
 use crate::list_entries::add_list;
 use crate::presence::{bit_of, ends, named_fields};
+use crate::{Pools, SizeSet};
+use explain::{Step, path_below};
 use jtree::Text;
 use schema::{Below, Field, Fields, ListNode, ListType, MapNode, Node, ObjectNode, Sort};
 use std::alloc::{AllocError, Global};
 
-/// Adds the entries of a node and of all nodes below it; `keys` are the keys of the map list whose item it is.
+/// Adds the entries of a node and of all nodes below it; `path` is the text of its path, and `keys` are the keys of the map list
+/// whose item it is.
 #[cycle(build)]
 pub(crate) fn build<Z: SizeSet>(
     arena: &mut Arena<Z>,
     alloc: Global,
+    pools: &Pools,
+    path: &str,
     node: &Node,
     keys: &[Text],
 ) -> Result<PlanNode, AllocError>
@@ -37,13 +42,21 @@ pub(crate) fn build<Z: SizeSet>(
     requires room { 1 ≤ arena.old.limit }
     ensures values { arena.new.values ≡ arena.old.values }
     ensures limit { arena.new.limit ≡ arena.old.limit }
-    ensures built { IfOk result (λ n. IsBuilt Z.holds arena.old.limit arena.old.values arena.old.entries.items arena.new.entries.items (node_of node.now) keys.now n) }
+    ensures built { IfOk result (λ n. IsBuilt Z.holds arena.old.limit pools.now arena.old.values arena.old.entries.items arena.new.entries.items path.now (node_of node.now) keys.now n) }
 {
     match &node.sort {
-        Sort::Object(object) => build_object(arena, alloc, object, node.nullable, keys),
-        Sort::Map(map) => build_map(arena, alloc, map, node.nullable, keys),
-        Sort::List(list) => build_list(arena, alloc, list, node.nullable, keys),
-        Sort::Scalar(_) | Sort::Open => build_leaf(arena, alloc, node),
+        Sort::Object(object) => build_object(
+            arena,
+            alloc,
+            pools,
+            path,
+            object,
+            node.nullable,
+            keys,
+        ),
+        Sort::Map(map) => build_map(arena, alloc, pools, path, map, node.nullable, keys),
+        Sort::List(list) => build_list(arena, alloc, pools, path, list, node.nullable, keys),
+        Sort::Scalar(_) | Sort::Open => build_leaf(arena, alloc, pools, path, node),
     }
 }
 
@@ -51,6 +64,8 @@ pub(crate) fn build<Z: SizeSet>(
 fn build_object<Z: SizeSet>(
     arena: &mut Arena<Z>,
     alloc: Global,
+    pools: &Pools,
+    path: &str,
     object: &ObjectNode,
     nullable: bool,
     keys: &[Text],
@@ -59,11 +74,11 @@ fn build_object<Z: SizeSet>(
     requires room { 1 ≤ arena.old.limit }
     ensures values { arena.new.values ≡ arena.old.values }
     ensures limit { arena.new.limit ≡ arena.old.limit }
-    ensures built { IfOk result (λ n. (d : Option (List ℕ)) → IsBuilt Z.holds arena.old.limit arena.old.values arena.old.entries.items arena.new.entries.items (node_with nullable d (object_of object.now)) keys.now n) }
+    ensures built { IfOk result (λ n. (d : Option (List ℕ)) → IsBuilt Z.holds arena.old.limit pools.now arena.old.values arena.old.entries.items arena.new.entries.items path.now (node_with nullable d (object_of object.now)) keys.now n) }
 {
     object.fields.reveal_invariant();
     let named = named_fields(alloc, &object.junctors)?;
-    let slots = build_fields(arena, alloc, &object.fields, keys, &named)?;
+    let slots = build_fields(arena, alloc, pools, path, &object.fields, keys, &named)?;
     let ends = ends(alloc, &object.junctors, &named)?;
     add_row(arena, alloc, slots, object.bounds, &ends, nullable)
 }
@@ -73,6 +88,8 @@ fn build_object<Z: SizeSet>(
 fn build_fields<Z: SizeSet>(
     arena: &mut Arena<Z>,
     alloc: Global,
+    pools: &Pools,
+    path: &str,
     fields: &Fields,
     keys: &[Text],
     named: &[Text],
@@ -82,11 +99,11 @@ fn build_fields<Z: SizeSet>(
     requires few { length named.now ≤ most_named }
     ensures values { arena.new.values ≡ arena.old.values }
     ensures limit { arena.new.limit ≡ arena.old.limit }
-    ensures built { IfOk result (λ slots. AreBuilt Z.holds arena.old.limit arena.old.values arena.old.entries.items arena.new.entries.items fields.now keys.now named.now slots.items) }
+    ensures built { IfOk result (λ slots. AreBuilt Z.holds arena.old.limit pools.now arena.old.values arena.old.entries.items arena.new.entries.items path.now fields.now keys.now named.now slots.items) }
 {
     let mut slots = Vec::new(alloc);
     for field in &fields.fields {
-        let slot = build_field(arena, alloc, field, keys, named)?;
+        let slot = build_field(arena, alloc, pools, path, field, keys, named)?;
         slots.push(slot)?;
     }
     Ok(slots)
@@ -96,6 +113,8 @@ fn build_fields<Z: SizeSet>(
 fn build_field<Z: SizeSet>(
     arena: &mut Arena<Z>,
     alloc: Global,
+    pools: &Pools,
+    path: &str,
     field: &Field,
     keys: &[Text],
     named: &[Text],
@@ -105,11 +124,12 @@ fn build_field<Z: SizeSet>(
     requires few { length named.now ≤ most_named }
     ensures values { arena.new.values ≡ arena.old.values }
     ensures limit { arena.new.limit ≡ arena.old.limit }
-    ensures built { IfOk result (λ s. IsBuilt Z.holds arena.old.limit arena.old.values arena.old.entries.items arena.new.entries.items (node_of field.now.node) [] s.node) }
+    ensures built { IfOk result (λ s. IsBuilt Z.holds arena.old.limit pools.now arena.old.values arena.old.entries.items arena.new.entries.items (below path.now (field_step field.now.name)) (node_of field.now.node) [] s.node) }
     ensures slot { IfOk result (λ s. IsFieldSlot keys.now named.now field.now.name field.now.required (option_map data_of field.now.default) s) }
     ensures bit { IfOk result (λ s. IsClosed (2 ^ length named.now) s.bit) }
 {
-    let node = build(arena, alloc, &field.node, &[])?;
+    let below = path_below(alloc, path, Step::Field(field.name.as_str()))?;
+    let node = build(arena, alloc, pools, &below, &field.node, &[])?;
     Ok(SlotEntry {
         name: SlotName::Field(field.name.copy(alloc)?),
         node,
@@ -123,6 +143,8 @@ fn build_field<Z: SizeSet>(
 fn build_map<Z: SizeSet>(
     arena: &mut Arena<Z>,
     alloc: Global,
+    pools: &Pools,
+    path: &str,
     map: &MapNode,
     nullable: bool,
     keys: &[Text],
@@ -131,10 +153,11 @@ fn build_map<Z: SizeSet>(
     requires room { 1 ≤ arena.old.limit }
     ensures values { arena.new.values ≡ arena.old.values }
     ensures limit { arena.new.limit ≡ arena.old.limit }
-    ensures built { IfOk result (λ n. (d : Option (List ℕ)) → IsBuilt Z.holds arena.old.limit arena.old.values arena.old.entries.items arena.new.entries.items (node_with nullable d (map_of map.now)) keys.now n) }
+    ensures built { IfOk result (λ n. (d : Option (List ℕ)) → IsBuilt Z.holds arena.old.limit pools.now arena.old.values arena.old.entries.items arena.new.entries.items path.now (node_with nullable d (map_of map.now)) keys.now n) }
 {
     map.value.reveal_invariant();
-    let value = build(arena, alloc, node_below(&map.value), &[])?;
+    let below = path_below(alloc, path, Step::Value)?;
+    let value = build(arena, alloc, pools, &below, node_below(&map.value), &[])?;
     let slots = value_slots(alloc, arena.values.names.len(), value)?;
     add_row(arena, alloc, slots, map.bounds, &[true], nullable)
 }
@@ -143,6 +166,8 @@ fn build_map<Z: SizeSet>(
 fn build_list<Z: SizeSet>(
     arena: &mut Arena<Z>,
     alloc: Global,
+    pools: &Pools,
+    path: &str,
     list: &ListNode,
     nullable: bool,
     keys: &[Text],
@@ -151,10 +176,18 @@ fn build_list<Z: SizeSet>(
     requires room { 1 ≤ arena.old.limit }
     ensures values { arena.new.values ≡ arena.old.values }
     ensures limit { arena.new.limit ≡ arena.old.limit }
-    ensures built { IfOk result (λ n. (d : Option (List ℕ)) → IsBuilt Z.holds arena.old.limit arena.old.values arena.old.entries.items arena.new.entries.items (node_with nullable d (list_of list.now)) keys.now n) }
+    ensures built { IfOk result (λ n. (d : Option (List ℕ)) → IsBuilt Z.holds arena.old.limit pools.now arena.old.values arena.old.entries.items arena.new.entries.items path.now (node_with nullable d (list_of list.now)) keys.now n) }
 {
     list.item.reveal_invariant();
-    let item = build(arena, alloc, node_below(&list.item), item_keys(list))?;
+    let below = path_below(alloc, path, Step::Item)?;
+    let item = build(
+        arena,
+        alloc,
+        pools,
+        &below,
+        node_below(&list.item),
+        item_keys(list),
+    )?;
     add_list(arena, alloc, item, list, nullable)
 }
 
@@ -172,15 +205,17 @@ fn item_keys(list: &ListNode) -> &[Text]
 fn build_leaf<Z: SizeSet>(
     arena: &mut Arena<Z>,
     alloc: Global,
+    pools: &Pools,
+    path: &str,
     node: &Node,
 ) -> Result<PlanNode, AllocError>
     requires limit { arena.old.limit < Z.BITS }
     requires leaf { sort_at (node_of node.now) ≡ Leaf }
     ensures values { arena.new.values ≡ arena.old.values }
     ensures limit { arena.new.limit ≡ arena.old.limit }
-    ensures built { IfOk result (λ n. (keys : List (List ℕ)) → IsBuilt Z.holds arena.old.limit arena.old.values arena.old.entries.items arena.new.entries.items (node_of node.now) keys n) }
+    ensures built { IfOk result (λ n. (keys : List (List ℕ)) → IsBuilt Z.holds arena.old.limit pools.now arena.old.values arena.old.entries.items arena.new.entries.items path.now (node_of node.now) keys n) }
 {
-    let leaf = leaf_of(alloc, &arena.values, node)?;
+    let leaf = leaf_of(alloc, pools, &arena.values, path, node)?;
     let sizes = leaf_sizes(&arena.values, &leaf, arena.limit);
     let node = arena.add(Entry {
         sizes,
@@ -201,8 +236,8 @@ fn node_below(below: &Below) -> &Node
 fn value_slots(alloc: Global, count: usize, node: PlanNode) -> Result<Vec<SlotEntry>, AllocError>
     ensures below { IfOk result (λ slots. All (λ (s : SlotDeclared). s.node ≡ node) slots.items) }
     ensures bits { IfOk result (λ slots. All (λ (s : SlotDeclared). IsClosed 1 s.bit) slots.items) }
-    ensures slots { IfOk result (λ slots. (names : List (List ℕ)) (sites : List Site) (i : ℕ) (M : NodeData) → count ≡ length names → node < i → site_at sites node ≡ plain M
-        → AreSlots names sites i slots.items (map_list (value_slot M) names)) }
+    ensures slots { IfOk result (λ slots. (names : List (List ℕ)) (sites : List Site) (i : ℕ) (path : List ℕ) (M : NodeData) → count ≡ length names → node < i → site_at sites node ≡ plain (below path value_step) M
+        → AreSlots names sites i slots.items (map_list (value_slot path M) names)) }
 {
     let mut slots = Vec::new(alloc);
     for place in 0..count {

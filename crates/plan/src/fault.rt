@@ -4,7 +4,7 @@ ghost use Rattle.plan.specs.declared.fault.PFault.TheVariants.{NoMemory};
 use std::alloc::AllocError;
 use thiserror::Error;
 
-/// Why a pools document or a node limit was refused. Each is displayed as its code.
+/// Why a pools document, a node limit or a path of the pools was refused. Each is displayed as its code.
 #[derive(Debug, Drop, Error)]
 pub enum PFault {
     /// What stands at the pointer (RFC 6901) has not the form that it has to have there.
@@ -19,6 +19,9 @@ pub enum PFault {
     /// The node limit is 0, or not below the `BITS` of the plan's sets: with `u64`, not 1 to 63, and with `u128`, not 1 to 127.
     #[error("P4")]
     BadLimit,
+    /// A path of the pools leads to no scalar and no open node of the schema.
+    #[error("P5")]
+    BadPath(String),
 }
 
 impl From<AllocError> for PFault {

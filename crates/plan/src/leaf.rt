@@ -7,24 +7,25 @@ ghost use Rattle.jtree.specs.Nodes.{node_count};
 ghost use Rattle.jtree.specs.View.{data_of};
 ghost use Rattle.jtree.specs.declared.value.Tree.{Tree};
 ghost use Rattle.schema.specs.Nodes.View.{node_of};
-ghost use Rattle.plan.specs.Pools.Pools.{Pools};
+ghost use Rattle.plan.specs.Pools.Pools.{Pools as PoolsData};
 ghost use Rattle.plan.specs.Samples.Sites.{Site};
-ghost use Rattle.plan.specs.Samples.Over.{listed};
+ghost use Rattle.plan.specs.Samples.Over.{listed_for, listed};
 ghost use Rattle.plan.specs.Samples.Candidates.{sort_at, sort_of, AreCandidates};
 ghost use Rattle.plan.specs.Samples.Sizes.{HasSize, IsUpTo};
 ghost use Rattle.plan.specs.Internal.Values.{trees_of, IsBase, AreValues, base_of, tree_of, at_places, AreStored, candidates_of};
 ghost use Rattle.plan.specs.declared.values.Values.{Values};
 ghost use Rattle.plan.specs.declared.sort.Sort.TheVariants.{Leaf as LeafSort};
 
-use crate::SizeSet;
 use crate::laws::parts_one_level;
 use crate::values::{Values, with_null};
+use crate::{Pools, SizeSet};
 use jtree::Tree;
 use schema::{Node, Sort};
 use std::alloc::{AllocError, Global};
 use stored::is_stored;
 
-/// Where the candidates of a leaf stand: among the values of the pools, or in a list of its own (`enum`).
+/// Where the candidates of a leaf stand: among the values of the pools that all nodes share, or in a list of its own (`enum`, or a
+/// list for its path).
 #[derive(Drop)]
 pub(crate) enum Base {
     Scalars,
@@ -39,19 +40,35 @@ pub(crate) struct Leaf {
     pub places: Vec<usize>,
 }
 
-/// The candidates of a node: null and what is listed for it, as far as it is stored there.
-pub(crate) fn leaf_of(alloc: Global, values: &Values, node: &Node) -> Result<Leaf, AllocError>
-    ensures { IfOk result (λ l. (P : Pools) (s : Site) → AreValues P values.now → s.node ≡ node_of node.now → sort_of s ≡ LeafSort → AreCandidates P s (candidates_of values.now l)) }
+/// The candidates of a node at this path: null and what is listed for it, as far as it is stored there.
+pub(crate) fn leaf_of(
+    alloc: Global,
+    pools: &Pools,
+    values: &Values,
+    path: &str,
+    node: &Node,
+) -> Result<Leaf, AllocError>
+    ensures { IfOk result (λ l. (s : Site) → AreValues pools.now values.now → s.node ≡ node_of node.now → s.path ≡ path.now → sort_of s ≡ LeafSort → AreCandidates pools.now s (candidates_of values.now l)) }
 {
     parts_one_level();
-    let base = base_for(alloc, node)?;
+    let base = base_for(alloc, pools, path, node)?;
     let places = stored_places(alloc, node, base.trees(values))?;
     Ok(Leaf { base, places })
 }
 
-/// Where null and what is listed for a scalar or an open node stand.
-fn base_for(alloc: Global, node: &Node) -> Result<Base, AllocError>
-    ensures { IfOk result (λ b. (P : Pools) (v : Values) → AreValues P v → sort_at (node_of node.now) ≡ LeafSort → IsBase (null ∷ listed P (node_of node.now)) (base_of v b)) }
+/// Where null and what is listed for a scalar or an open node at this path stand.
+fn base_for(alloc: Global, pools: &Pools, path: &str, node: &Node) -> Result<Base, AllocError>
+    ensures { IfOk result (λ b. (v : Values) → AreValues pools.now v → sort_at (node_of node.now) ≡ LeafSort → IsBase (null ∷ listed pools.now path.now (node_of node.now)) (base_of v b)) }
+{
+    match pools.list_at(path) {
+        Some(list) => Ok(Base::Own(with_null(alloc, list)?)),
+        None => base_by_node(alloc, node),
+    }
+}
+
+/// Where null and what is listed for each scalar or open node like this one stand.
+fn base_by_node(alloc: Global, node: &Node) -> Result<Base, AllocError>
+    ensures { IfOk result (λ b. (P : PoolsData) (v : Values) → AreValues P v → sort_at (node_of node.now) ≡ LeafSort → IsBase (null ∷ listed_for P (node_of node.now)) (base_of v b)) }
 {
     match &node.sort {
         Sort::Scalar(scalar) => match &scalar.validations.constraints.choices {
@@ -107,7 +124,7 @@ pub(crate) fn candidate<'a>(values: &'a Values, leaf: &'a Leaf, place: usize) ->
 /// The sizes of the candidates, up to the limit.
 pub(crate) fn leaf_sizes<Z: SizeSet>(values: &Values, leaf: &Leaf, limit: u32) -> Z
     requires { limit < Z.BITS }
-    ensures { (P : Pools) (s : Site) → AreCandidates P s (candidates_of values.now leaf.now) → IsUpTo limit (Z.holds result) (HasSize P s) }
+    ensures { (P : PoolsData) (s : Site) → AreCandidates P s (candidates_of values.now leaf.now) → IsUpTo limit (Z.holds result) (HasSize P s) }
 {
     let mut sizes = Z::empty();
     for place in &leaf.places {

@@ -1,11 +1,12 @@
-ghost use Rattle.std.specs.Prelude.{◌≡◌, ◌≤◌, ◌<◌, ◌⊎◌, ℕ, IfOk, IfErr};
-ghost use Rattle.plan.specs.declared.fault.PFault.TheVariants.{BadLimit, NoMemory};
+ghost use Rattle.std.specs.Prelude.{◌≡◌, ◌≤◌, ◌<◌, ℕ, IfOk, IfErr, OnOk};
+ghost use Rattle.plan.specs.Pools.PlanFault.{HasGoodPaths, IsPlanFault};
 ghost use Rattle.plan.specs.Internal.Plan.{IsPlan};
 
 use crate::arena::{Arena, Content, PlanNode};
 use crate::building::build;
 use crate::laws::parts_one_level;
 use crate::leaf::candidate;
+use crate::pool_paths::check_paths;
 use crate::values::Values;
 use crate::{Distinct, Meter, PFault, Pools, SizeSet, Sort};
 use jtree::Tree;
@@ -85,11 +86,14 @@ impl<Z: SizeSet> Plan<Z> {
     /// leaves upward; no object is made.
     ///
     /// `BadLimit` where the limit is 0, or is not below `Z::BITS` (with `u64`: where it is not 1 to 63; with `u128`: not 1 to 127), which is decided first.
-    /// `NoMemory` where an allocation fails.
+    /// `BadPath` with the text of a path of the pools that is that of no path, or of one that the schema does not declare, or one
+    /// at which neither a scalar nor an open node stands: the first by bytes. It is decided after the limit. `NoMemory` where an
+    /// allocation fails.
     pub fn new(alloc: Global, schema: Schema, pools: Pools, limit: u32) -> Result<Plan<Z>, PFault>
         ensures ok { IfOk result (λ plan. plan ≡ record { root = schema; pools = pools; limit = limit }) }
         ensures limit { OnOk result ((1 ≤ limit) × (limit < Z.BITS)) }
-        ensures err { IfErr result (λ e. ((e ≡ BadLimit) × ((limit ≡ 0) ⊎ (Z.BITS ≤ limit))) ⊎ ((e ≡ NoMemory) × ((1 ≤ limit) × (limit < Z.BITS)))) }
+        ensures paths { OnOk result (HasGoodPaths schema pools) }
+        ensures err { IfErr result (IsPlanFault schema pools limit Z.BITS) }
     {
         match entries(alloc, &schema, &pools, limit) {
             Ok((arena, root)) => Ok(Plan {
@@ -327,11 +331,13 @@ fn entries<Z: SizeSet>(
 ) -> Result<(Arena<Z>, PlanNode), PFault>
     ensures limit { IfOk result (λ made. made.0.limit ≡ limit) }
     ensures made { IfOk result (λ made. IsPlan Z.holds Z.BITS schema.now pools.now limit made.0.values made.0.entries.items made.1) }
-    ensures err { IfErr result (λ e. ((e ≡ BadLimit) × ((limit ≡ 0) ⊎ (Z.BITS ≤ limit))) ⊎ ((e ≡ NoMemory) × ((1 ≤ limit) × (limit < Z.BITS)))) }
+    ensures paths { OnOk result (HasGoodPaths schema.now pools.now) }
+    ensures err { IfErr result (IsPlanFault schema.now pools.now limit Z.BITS) }
 {
     if limit == 0 || limit >= Z::BITS {
         return Err(PFault::BadLimit);
     }
+    check_paths(alloc, schema, pools)?;
     items_told_apart();
     junctors_name_fields();
     let mut arena = Arena {
@@ -339,6 +345,6 @@ fn entries<Z: SizeSet>(
         limit,
         entries: Vec::new(alloc),
     };
-    let root = build(&mut arena, alloc, schema.root(), &[])?;
+    let root = build(&mut arena, alloc, pools, "", schema.root(), &[])?;
     Ok((arena, root))
 }

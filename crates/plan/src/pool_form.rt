@@ -3,15 +3,15 @@ ghost use Rattle.std.specs.Prelude.{◌≡◌, ◌∷◌, [], OnOk, IfOk, IfErr,
 ghost use Rattle.jtree.specs.Path.{name as name_step, index as index_step};
 ghost use Rattle.jtree.specs.Pointer.{pointer as pointer_of};
 ghost use Rattle.jtree.specs.View.{data_of};
-ghost use Rattle.plan.specs.Pools.Document.{HasForm, entry_test};
+ghost use Rattle.plan.specs.Pools.Document.{HasForm, pool_form, entries as entries_of, lists};
 ghost use Rattle.plan.specs.Pools.PoolsFault.{IsPoolsFault};
-ghost use Rattle.plan.specs.Internal.PoolBreak.{test_of, other_item, member_break as member_break_of, members_break as members_break_of, first_break as first_break_of};
+ghost use Rattle.plan.specs.Internal.PoolBreak.{test_of, form_of, other_item, below_name, list_break, pool_break, member_break as member_break_of, members_break as members_break_of, first_break as first_break_of};
 
 use crate::fault::PFault;
 use jtree::{Items, Members, Tree, push_index, push_name};
 use std::alloc::{AllocError, Global};
 
-/// What the entries of a pool have to be.
+/// What an entry of a list has to be.
 #[derive(Clone, Copy)]
 enum EntryKind {
     Integer,
@@ -19,19 +19,33 @@ enum EntryKind {
     Any,
 }
 
-impl EntryKind {
-    /// Of the entries of the pool of this name.
-    fn of_pool(name: &str) -> Option<EntryKind>
-        ensures { option_map test_of result ≡ entry_test name.now }
+/// What a member has to be.
+#[derive(Clone, Copy)]
+enum PoolForm {
+    /// A list of entries.
+    Entries(EntryKind),
+    /// An object of lists.
+    Lists,
+    /// No member has this name.
+    Unknown,
+}
+
+impl PoolForm {
+    /// Of the member of this name.
+    fn of_pool(name: &str) -> PoolForm
+        ensures { form_of result ≡ pool_form name.now }
     {
         match name {
-            "integers" => Some(EntryKind::Integer),
-            "strings" | "names" => Some(EntryKind::Text),
-            "any" => Some(EntryKind::Any),
-            _ => None,
+            "integers" => PoolForm::Entries(EntryKind::Integer),
+            "strings" | "names" => PoolForm::Entries(EntryKind::Text),
+            "any" => PoolForm::Entries(EntryKind::Any),
+            "paths" => PoolForm::Lists,
+            _ => PoolForm::Unknown,
         }
     }
+}
 
+impl EntryKind {
     fn admits(self, entry: &Tree) -> bool
         ensures { result ≡ test_of self (data_of entry.now) }
     {
@@ -66,7 +80,7 @@ fn first_break(alloc: Global, document: &Tree) -> Result<Option<String>, AllocEr
 }
 
 fn members_break(alloc: Global, members: &Members) -> Result<Option<String>, AllocError>
-    ensures { IfOk result (λ o. option_map string_bytes o ≡ option_map pointer_of (members_break_of members.now)) }
+    ensures { IfOk result (λ o. option_map string_bytes o ≡ option_map pointer_of (members_break_of member_break_of members.now)) }
 {
     for member in &members.members {
         if let Some(pointer) = member_break(alloc, member.name.as_str(), &member.tree)? {
@@ -79,13 +93,37 @@ fn members_break(alloc: Global, members: &Members) -> Result<Option<String>, All
 fn member_break(alloc: Global, name: &str, tree: &Tree) -> Result<Option<String>, AllocError>
     ensures { IfOk result (λ o. option_map string_bytes o ≡ option_map pointer_of (member_break_of name.now (data_of tree.now))) }
 {
-    let Some(kind) = EntryKind::of_pool(name) else {
-        return Ok(Some(name_pointer(alloc, name)?));
-    };
+    match PoolForm::of_pool(name) {
+        PoolForm::Entries(kind) => entries_break(alloc, name, kind, tree),
+        PoolForm::Lists => lists_break(alloc, name, tree),
+        PoolForm::Unknown => Ok(Some(name_pointer(alloc, name)?)),
+    }
+}
+
+fn entries_break(
+    alloc: Global,
+    name: &str,
+    kind: EntryKind,
+    tree: &Tree,
+) -> Result<Option<String>, AllocError>
+    ensures { IfOk result (λ o. option_map string_bytes o ≡ option_map pointer_of (below_name name.now (pool_break (entries_of (test_of kind)) (data_of tree.now)))) }
+{
     match tree {
         Tree::List(items) => match first_other(kind, items) {
             None => Ok(None),
             Some(i) => Ok(Some(entry_pointer(alloc, name, i as u64)?)),
+        },
+        _ => Ok(Some(name_pointer(alloc, name)?)),
+    }
+}
+
+fn lists_break(alloc: Global, name: &str, tree: &Tree) -> Result<Option<String>, AllocError>
+    ensures { IfOk result (λ o. option_map string_bytes o ≡ option_map pointer_of (below_name name.now (pool_break lists (data_of tree.now)))) }
+{
+    match tree {
+        Tree::Object(members) => match first_no_list(members) {
+            None => Ok(None),
+            Some(key) => Ok(Some(member_pointer(alloc, name, key)?)),
         },
         _ => Ok(Some(name_pointer(alloc, name)?)),
     }
@@ -107,6 +145,14 @@ fn entry_pointer(alloc: Global, name: &str, index: u64) -> Result<String, AllocE
     Ok(pointer)
 }
 
+fn member_pointer(alloc: Global, name: &str, key: &str) -> Result<String, AllocError>
+    ensures { IfOk result (λ s. string_bytes s ≡ pointer_of (name_step name.now ∷ name_step key.now ∷ [])) }
+{
+    let mut pointer = name_pointer(alloc, name)?;
+    push_name(&mut pointer, key).map_err(|_| AllocError)?;
+    Ok(pointer)
+}
+
 /// The index of the first item of another kind.
 fn first_other(kind: EntryKind, items: &Items) -> Option<usize>
     ensures { result ≡ other_item (test_of kind) items.now }
@@ -114,6 +160,18 @@ fn first_other(kind: EntryKind, items: &Items) -> Option<usize>
     for (i, item) in items.items.iter().enumerate() {
         if !kind.admits(item) {
             return Some(i);
+        }
+    }
+    None
+}
+
+/// The name of the first member that is no list.
+fn first_no_list(members: &Members) -> Option<&str>
+    ensures { option_map (λ key. name_step key.now ∷ []) result ≡ members_break_of list_break members.now }
+{
+    for member in &members.members {
+        if !matches!(&member.tree, Tree::List(_)) {
+            return Some(member.name.as_str());
         }
     }
     None

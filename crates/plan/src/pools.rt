@@ -1,14 +1,17 @@
 use crate::fault::PFault;
 use crate::pool_form::check_form;
-use jtree::{Text, Tree};
+use jtree::{Members, Text, Tree};
 use std::alloc::{AllocError, Global};
 use std::marker::Model;
 
-/// The most entries that the pools of integers, of strings and of trees may have each.
+/// The most entries that the pools of integers, of strings and of trees, and each list of a path, may have.
 pub const MOST_ENTRIES: usize = 64;
 
 /// The most names that a pool may have.
 pub const MOST_NAMES: usize = 32;
+
+/// The most paths that pools may have lists for.
+pub const MOST_PATHS: usize = 64;
 
 /// The values that samples may hold.
 pub struct Pools {
@@ -16,6 +19,8 @@ pub struct Pools {
     strings: Vec<Text>,
     names: Vec<Text>,
     any: Vec<Tree>,
+    /// Lists, each under the text of a path.
+    paths: Members,
 }
 
 impl Drop for Pools {
@@ -25,6 +30,7 @@ impl Drop for Pools {
             strings: _,
             names: _,
             any: _,
+            paths: _,
         } = self;
     }
 }
@@ -42,28 +48,31 @@ impl Model for Pools {
 
     ghost use Rattle.jtree.specs.View.{data_of};
 
-    ghost view = { λ a. record { integers = a.integers.items; strings = a.strings.items; names = a.names.items; any = map data_of a.any.items } };
+    ghost view = { λ a. record { integers = a.integers.items; strings = a.strings.items; names = a.names.items; any = map data_of a.any.items; paths = a.paths } };
 
     ghost invariant = { λ a. All (λ z. FitsSigned w64 z) a.integers.items × All IsTree (map data_of a.any.items) };
 }
 
 impl Pools {
-    ghost use Rattle.std.specs.Prelude.{◌≡◌, ◌↔◌, All, map, FitsSigned, IfOk, IfErr, OnOk, IsTrue, []};
+    ghost use Rattle.std.specs.Prelude.{◌≡◌, ◌↔◌, ◌≤◌, All, length, map, option_map, FitsSigned, IfOk, IfErr, OnOk, IsTrue, []};
     ghost use Rattle.std.specs.Int.{w64};
-    ghost use Rattle.jtree.specs.Data.{IsTree};
+    ghost use Rattle.jtree.specs.Data.{IsTree, no_members};
     ghost use Rattle.jtree.specs.View.{data_of};
-    ghost use Rattle.plan.specs.Pools.Pools.{AreSmall};
+    ghost use Rattle.plan.specs.Pools.Pools.{AreSmall, most_entries, most_names, list_at as list_of};
     ghost use Rattle.plan.specs.Pools.Document.{HasForm, pools_of};
     ghost use Rattle.plan.specs.Pools.PoolsFault.{IsPoolsFault};
 
     /// The pools of a document: an object with any of the members `integers` (a list of integers of 64 bits), `strings`
-    /// and `names` (lists of texts) and `any` (a list of trees). Entries stay as written, repeats among them, and a
-    /// missing member is an empty pool.
+    /// and `names` (lists of texts), `any` (a list of trees) and `paths` (an object whose members are lists of trees, each
+    /// under the text of the path of a field). Entries stay as written, repeats among them, and a missing member is an
+    /// empty pool, or no path.
     ///
     /// `Form` with the pointer (RFC 6901) of the first place in path order that has another form, also where a pool has
-    /// too many entries: the document itself where it is no object, a member of another name, what is no list, an entry
-    /// of another kind. `TooLarge` where the form is right and there are more than 64 integers, strings or trees, or more
-    /// than 32 names, each repeat counted. `NoMemory` where an allocation fails. Never `BadLimit`.
+    /// too many entries: the document itself where it is no object, a member of another name, `paths` where it is no
+    /// object, a member of `paths` that is no list, any other member that is no list, an entry of another kind. `TooLarge`
+    /// where the form is right and there are more than 64 integers, strings or trees, more than 32 names, more than 64
+    /// paths, or more than 64 trees in the list of a path, each repeat counted. `NoMemory` where an allocation fails. Never
+    /// `BadLimit` or `BadPath`, which are faults of a plan.
     pub fn read(alloc: Global, document: &Tree) -> Result<Pools, PFault>
         ensures ok { IfOk result (λ p. p ≡ pools_of (data_of document.now)) }
         ensures form { OnOk result (HasForm (data_of document.now)) }
@@ -76,6 +85,7 @@ impl Pools {
             strings: texts_of(alloc, entries(document, "strings"))?,
             names: texts_of(alloc, entries(document, "names"))?,
             any: trees_of(alloc, entries(document, "any"))?,
+            paths: paths_of(alloc, document)?,
         };
         if pools.is_small() {
             Ok(pools)
@@ -86,13 +96,14 @@ impl Pools {
 
     /// Empty pools.
     pub fn new(alloc: Global) -> Pools
-        ensures { result ≡ record { integers = []; strings = []; names = []; any = [] } }
+        ensures { result ≡ record { integers = []; strings = []; names = []; any = []; paths = no_members } }
     {
         Pools {
             integers: Vec::new(alloc),
             strings: Vec::new(alloc),
             names: Vec::new(alloc),
             any: Vec::new(alloc),
+            paths: no_members(alloc),
         }
     }
 
@@ -126,8 +137,32 @@ impl Pools {
         self.any.as_slice()
     }
 
+    /// The lists by path: each under the text of its path, which need not be that of a declared field.
+    pub fn paths(&self) -> &Members
+        ensures { result.now ≡ self.now.paths }
+    {
+        &self.paths
+    }
+
+    /// The trees that are listed for the path of this text; `None` where there is no list for it.
+    pub fn list_at(&self, path: &str) -> Option<&[Tree]>
+        ensures { option_map (λ ts. map data_of ts.now) result ≡ list_of path.now self.now }
+    {
+        match self.paths.get(path) {
+            Some(Tree::List(items)) => Some(items.items.as_slice()),
+            _ => None,
+        }
+    }
+
     fn is_small(&self) -> bool
         ensures { IsTrue result ↔ AreSmall self.now }
+    {
+        self.has_few_entries() && are_few_and_short(&self.paths)
+    }
+
+    /// Whether the pools for all paths have not too many entries.
+    fn has_few_entries(&self) -> bool
+        ensures { IsTrue result ↔ (((length self.now.integers ≤ most_entries) × (length self.now.strings ≤ most_entries)) × ((length self.now.names ≤ most_names) × (length self.now.any ≤ most_entries))) }
     {
         self.integers.len() <= MOST_ENTRIES
             && self.strings.len() <= MOST_ENTRIES
@@ -137,11 +172,14 @@ impl Pools {
 }
 
 ghost use Rattle.std.specs.Int.{w64};
-ghost use Rattle.std.specs.Prelude.{◌≡◌, All, FitsSigned, IfOk, map, filter_map};
-ghost use Rattle.jtree.specs.Data.{IsTree};
+ghost use Rattle.std.specs.Prelude.{◌≡◌, ◌↔◌, ◌≤◌, All, FitsSigned, IfOk, IsTrue, Some, codes, map, filter_map};
+ghost use Rattle.jtree.specs.Data.{IsTree, no_members as no_members_of};
 ghost use Rattle.jtree.specs.Path.{under};
 ghost use Rattle.jtree.specs.View.{data_of};
-ghost use Rattle.plan.specs.Pools.Document.{entries_of, integer_of, text_of};
+ghost use Rattle.plan.specs.Pools.Document.{entries_of, integer_of, text_of, members_of};
+ghost use Rattle.plan.specs.Pools.Pools.{most_paths};
+ghost use Rattle.plan.specs.Internal.PathLists.{AreShort, is_short as is_short_list, are_short as are_short_lists};
+ghost use Rattle.stored.specs.Objects.Fault.{members_count};
 
 /// The entries of a pool, none where it is missing.
 fn entries<'a>(document: &'a Tree, name: &str) -> &'a [Tree]
@@ -187,4 +225,60 @@ fn trees_of(alloc: Global, entries: &[Tree]) -> Result<Vec<Tree>, AllocError>
         trees.push(entry.copy(alloc).map_err(|_| AllocError)?)?;
     }
     Ok(trees)
+}
+
+/// The members of `paths`, none where it is missing.
+fn paths_of(alloc: Global, document: &Tree) -> Result<Members, AllocError>
+    ensures { IfOk result (λ ms. ms ≡ members_of (under (data_of document.now) (codes "paths"))) }
+{
+    match document.get("paths") {
+        Some(paths) => Ok(members_in(alloc, paths.copy(alloc).map_err(|_| AllocError)?)),
+        None => Ok(no_members(alloc)),
+    }
+}
+
+/// The members of an object, and none of what is no object.
+fn members_in(alloc: Global, tree: Tree) -> Members
+    ensures { result ≡ members_of (Some (data_of tree)) }
+{
+    match tree {
+        Tree::Object(members) => members,
+        _ => no_members(alloc),
+    }
+}
+
+fn no_members(alloc: Global) -> Members
+    ensures { result ≡ no_members_of }
+{
+    Members {
+        members: Vec::new(alloc),
+    }
+}
+
+/// Whether there are not too many paths, and none has a list of too many trees.
+fn are_few_and_short(paths: &Members) -> bool
+    ensures { IsTrue result ↔ ((members_count paths.now ≤ most_paths) × AreShort paths.now) }
+{
+    paths.reveal_invariant();
+    paths.members.len() <= MOST_PATHS && are_short(paths)
+}
+
+fn are_short(paths: &Members) -> bool
+    ensures { result ≡ are_short_lists paths.now }
+{
+    for member in &paths.members {
+        if !is_short(&member.tree) {
+            return false;
+        }
+    }
+    true
+}
+
+fn is_short(tree: &Tree) -> bool
+    ensures { result ≡ is_short_list (data_of tree.now) }
+{
+    match tree {
+        Tree::List(items) => items.items.len() <= MOST_ENTRIES,
+        _ => true,
+    }
 }

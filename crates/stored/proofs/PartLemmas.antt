@@ -5,7 +5,11 @@ use Rattle.jtree.specs.Data.{Data}
 use Rattle.jtree.specs.Path.{Step, Path, part_by}
 use Rattle.jtree.specs.Internal.Lookups.{option_cases}
 use Rattle.schema.specs.Nodes.Node.{Node}
-use Rattle.stored.specs.Objects.Parts.{Part, at, free, part_of, part_by_path, leads, Everywhere}
+use Rattle.stored.specs.Objects.Parts.{Part, at, free, part_of, part_by_path, leads}
+
+-- something holds of each part for which a node stands, and of that node
+abbrev pub Everywhere : (Node → Data → Type 0) → Node → Data → Type 0
+Everywhere Holds N v = (path : Path) (M : Node) (w : Data) → part_by_path leads (at N v) path ≡ Some (at M w) → Holds M w
 
 same_node : (N M : Node) (v w : Data) → ◌≡◌ {A = Option Part} (Some (at N v)) (Some (at M w)) → N ≡ M
 same_node N M v w e = cc
@@ -52,12 +56,7 @@ kept_everywhere Holds step N v h (s ∷ path) M w e = elim (step_cases N v s) [
 pub holds_below : (Holds : Node → Data → Type 0) (N : Node) (v : Data) (s : Step) (M : Node) (w : Data) → Everywhere Holds N v → leads N v s ≡ Some (at M w) → Everywhere Holds M w
 holds_below Holds N v s M w h is path K x e = h (s ∷ path) K x (rw is e)
 
--- so what holds everywhere holds here, and everywhere below each step
-pub everywhere_down : (Holds : Node → Data → Type 0) (N : Node) (v : Data) → Everywhere Holds N v
-    → Holds N v × ((s : Step) (M : Node) (w : Data) → leads N v s ≡ Some (at M w) → Everywhere Holds M w)
-everywhere_down Holds N v h = (h [] N v refl, λ s M w is. holds_below Holds N v s M w h is)
-
--- and the other way round
+-- what holds here, and everywhere below each step, holds everywhere
 pub everywhere_up : (Holds : Node → Data → Type 0) (N : Node) (v : Data) → Holds N v × ((s : Step) (M : Node) (w : Data) → leads N v s ≡ Some (at M w) → Everywhere Holds M w)
     → Everywhere Holds N v
 everywhere_up Holds N v h [] M w e = same_part Holds N v h.0 M w e

@@ -15,13 +15,13 @@ use Rattle.schema.specs.Nodes.Node.{Node, node, scalar, object, map, list, open_
 use Rattle.schema.specs.Nodes.ByPlace.{Declared, field_at}
 use Rattle.schema.specs.declared.node.Bounds.{Bounds}
 use Rattle.schema.specs.declared.node.Constraints.{Constraints}
-use Rattle.stored.specs.Objects.Parts.{pair, at, part_of, leads, Everywhere}
+use Rattle.stored.specs.Objects.Parts.{pair, at, part_of, leads}
 use Rattle.stored.specs.Objects.Tests.{accepts_scalar, is_other_value, is_below_minimum, is_above_maximum, is_too_short, is_too_long, meets_constraints, meets_branch, holds, meets_junctors}
 use Rattle.stored.specs.Objects.Fault.{Test, F01, F02, F03, F04, F05, F06, F07, F08, F09, F10, F11, F12, F13, F14, is_null, members_count, constraints_of, fails_scalar, fails_items, fails_members, are_few, are_many, fails, is_required, lacks_name, has_alike_before, any_before, are_alike, repeats, finds, IsValid}
 use Rattle.stored.specs.Objects.StoredByParts.{IsWithin, are_apart, IsValidHere}
 use Rattle.stored.specs.Internal.ValidByLevel.{is_within, has_required, true_if_any, is_valid, are_fields_valid, are_values_valid, are_items_valid}
 use Rattle.stored.proofs.FieldLemmas.{later_field, field_node}
-use Rattle.stored.proofs.PartLemmas.{never_free, kept_everywhere, holds_below}
+use Rattle.stored.proofs.PartLemmas.{Everywhere, never_free, kept_everywhere, holds_below}
 
 -- ---- below a step
 

@@ -1,5 +1,5 @@
 -- Why a run has no answer, said of the documents at hand; the counts are those of the reads that failed, before and now.
-use Rattle.std.specs.Prelude.{◌≡◌, ◌≢◌, ◌⊎◌, ℕ, List, [], Bool, Option, Some, IfSome, IsSomeAnd, Ok, Err}
+use Rattle.std.specs.Prelude.{◌≡◌, ◌≢◌, ◌⊎◌, ℕ, List, [], Bool, Option, Some, IfSome, IsSomeAnd, Ok, Err, string_bytes}
 use Rattle.std.specs.Borrow.{Bor}
 use Rattle.std.specs.Io.KnownBytes.{Keeps}
 use Rattle.jtree.specs.Data.{Data}
@@ -14,6 +14,8 @@ use Rattle.crdx.specs.Program.FieldAnswer.{IsFieldAnswer}
 use Rattle.crdx.specs.Program.ObjectAnswer.{IsObjectAnswer}
 use Rattle.crdx.specs.Program.Requested.{IsRequestedSchema, HasReadFault, HasPoolsFault, IsRequested}
 use Rattle.crdx.specs.Program.RunResult.{IsAnswer, IsInputRefused, Effects, WritesNothing}
+use Rattle.plan.specs.Pools.Pools.{Pools as PoolsData}
+use Rattle.plan.specs.Pools.PlanFault.{HasGoodPaths, IsFirstBadPath}
 use Rattle.plan.specs.Samples.Question.{Question}
 use Rattle.enumerate.specs.Page.{IsPage, IsSampleOf}
 use Rattle.jtree.specs.Reads.{IsNoDocument}
@@ -68,6 +70,12 @@ IsPoolsCause has before now pools (Place input.Pools code.Form p) = HasPoolsFaul
 IsPoolsCause has before now pools NoMemory = Unit {0}
 IsPoolsCause has before now pools _ = ⊥
 
+-- why there is no plan: a path of the pools is bad
+abbrev pub IsPlanCause : Node → PoolsData → Cause → Type 0
+IsPlanCause N P (Place input.Pools code.BadPath text) = IsFirstBadPath N P (string_bytes text)
+IsPlanCause N P NoMemory = Unit {0}
+IsPlanCause N P _ = ⊥
+
 -- why a text is no tree to go on from
 abbrev pub IsTextCause : List ℕ → Cause → Type 0
 IsTextCause text (Document i fault) = (i ≡ input.After) × IsOfBytes fault × IsNoDocument text fault
@@ -77,6 +85,10 @@ IsTextCause text _ = ⊥
 -- why there is no tree to go on from
 abbrev pub IsAfterCause : Option (Bor (List ℕ)) → Cause → Type 0
 IsAfterCause after cause = IsSomeAnd after (λ text. IsTextCause text.now cause)
+
+-- why no samples are listed of this schema over these pools
+abbrev pub IsSamplingCause : Node → PoolsData → Option (Bor (List ℕ)) → Cause → Type 0
+IsSamplingCause N P after cause = IsPlanCause N P cause ⊎ (HasGoodPaths N P × IsAfterCause after cause)
 
 -- why the fields of an accepted schema are not printed
 abbrev pub IsFieldCause : Node → Option (Bor (List ℕ)) → Cause → Type 0

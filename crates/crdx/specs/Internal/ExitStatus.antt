@@ -31,6 +31,7 @@ abbrev pub code_name : PlaceCode → List ℕ
 code_name code.KeywordForm = codes "S3"
 code_name code.TooLarge = codes "S4"
 code_name code.Form = codes "P1"
+code_name code.BadPath = codes "P5"
 
 -- running out of memory is no fault of a document
 abbrev pub cause_of_reading : SFault → Cause
@@ -53,6 +54,7 @@ cause_of_pools (p.Form pointer) = cause.Place input.Pools code.Form pointer
 cause_of_pools p.TooLarge = cause.Pools p.TooLarge
 cause_of_pools p.NoMemory = cause.NoMemory
 cause_of_pools p.BadLimit = cause.Pools p.BadLimit
+cause_of_pools (p.BadPath path) = cause.Place input.Pools code.BadPath path
 
 abbrev pub cause_of_walk : WFault → Cause
 cause_of_walk w.NotASample = cause.NotASample

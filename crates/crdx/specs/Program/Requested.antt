@@ -2,7 +2,7 @@
 -- samples a question and the sample to go on from, and else an object (this project's own).
 use Rattle.std.specs.Prelude.{◌≡◌, ◌≢◌, ◌⊎◌, ◌++◌, ℕ, List, [], true, Option, Some, None, IsSomeAnd, Ok, Err, codes}
 use Rattle.std.specs.Borrow.{Bor}
-use Rattle.jtree.specs.Data.{Data}
+use Rattle.jtree.specs.Data.{Data, no_members}
 use Rattle.jtree.specs.Reads.{Reads}
 use Rattle.jtree.specs.declared.fault.JFault.{JFault}
 use Rattle.schema.specs.Document.Crd.{IsRead}
@@ -16,6 +16,7 @@ use Rattle.stored.specs.Schemas.Accepted.{IsBroken}
 use Rattle.plan.specs.Pools.Pools.{Pools, AreSmall}
 use Rattle.plan.specs.Pools.Document.{HasForm, pools_of}
 use Rattle.plan.specs.Pools.PoolsFault.{IsPoolsFault}
+use Rattle.plan.specs.Pools.PlanFault.{HasGoodPaths}
 use Rattle.plan.specs.Samples.Question.{Question}
 use Rattle.plan.specs.declared.fault.PFault.{PFault}
 use Rattle.plan.specs.declared.fault.PFault.TheVariants as p
@@ -59,7 +60,7 @@ IsCrdRefused has crd version = ((fault : JFault) × IsOfBytes fault × has (Some
 
 -- the pools of the document of this name, and empty ones without a name
 abbrev pub ArePools : Documents → Option (Bor (List ℕ)) → Pools → Type 0
-ArePools has None P = P ≡ record { integers = []; strings = []; names = []; any = [] }
+ArePools has None P = P ≡ record { integers = []; strings = []; names = []; any = []; paths = no_members }
 ArePools has (Some name) P = (document : Data) × has (Some name.now) (Ok document) × HasForm document × (P ≡ pools_of document) × AreSmall P
 
 -- a fault of the document of this name as pools
@@ -69,6 +70,11 @@ HasPoolsFault has pools fault = IsSomeAnd pools (λ name. (document : Data) × h
 -- there is no document of this name, or it has a fault as pools
 abbrev pub ArePoolsRefused : Documents → Option (Bor (List ℕ)) → Type 0
 ArePoolsRefused has pools = ((fault : JFault) × IsOfBytes fault × IsSomeAnd pools (λ name. has (Some name.now) (Err fault))) ⊎ ((fault : PFault) × HasPoolsFault has pools fault)
+
+-- the root of the schema that the arguments of `sample` ask for, and the pools whose paths are judged by it
+pub record AreRootAndPools (has : Documents) (arguments : SampleArguments) (N : Node) (P : Pools) : Type 0 where
+  pub root : IsRequestedRoot has arguments.crd.now arguments.version.now N
+  pub pools : ArePools has arguments.pools P
 
 -- the tree to go on from: the body of what the text is read as, and nothing without a text
 abbrev pub IsAfter : Option (Bor (List ℕ)) → Option Data → Type 0
@@ -93,6 +99,7 @@ pub record IsRequested (has : Documents) (arguments : SampleArguments) (q : Ques
   pub unbroken : IsUnbroken (IsBroken raw)
   pub root : AreNodesOf true q.root raw
   pub pools : ArePools has arguments.pools q.pools
+  pub paths : HasGoodPaths q.root q.pools
   pub limit : q.limit ≡ arguments.limit
   pub resumed : IsAfter arguments.after after
   pub envelope : e ≡ envelope_for group arguments.version.now kind arguments.name

@@ -14,8 +14,9 @@ use Rattle.crdx.specs.Program.Documents.{Documents}
 use Rattle.crdx.specs.Program.FieldAnswer.{IsFieldAnswer}
 use Rattle.crdx.specs.Program.ObjectAnswer.{IsObjectAnswer}
 use Rattle.crdx.specs.Program.Phrases.{phrase_of}
-use Rattle.crdx.specs.Program.Requested.{IsRequestedSchema, HasAcceptedSchema, IsCrdRefused, ArePools, IsAfterRefused, IsRequested, ArePoolsRefused, IsRequestedRoot, IsRequestedObject, IsObjectRefused}
+use Rattle.crdx.specs.Program.Requested.{IsRequestedSchema, HasAcceptedSchema, IsCrdRefused, AreRootAndPools, IsAfterRefused, IsRequested, ArePoolsRefused, IsRequestedRoot, IsRequestedObject, IsObjectRefused}
 use Rattle.plan.specs.Pools.Pools.{Pools}
+use Rattle.plan.specs.Pools.PlanFault.{HasGoodPaths, IsFirstBadPath}
 use Rattle.plan.specs.Samples.Question.{Question}
 use Rattle.enumerate.specs.Page.{IsPage, IsSampleOf}
 use Rattle.crdx.specs.declared.walk.line.Envelope.{Envelope}
@@ -58,16 +59,17 @@ pub data IsAnswer (has : Documents) : Request → ℕ → List ℕ → Type 0 wh
   help : (said : String Global) → IsAnswer has (Help said) 0 (string_bytes said)
   usage_error : (said : String Global) → IsAnswer has (UsageError said) 2 []
 
--- an input of the request is refused: an object or pools only where the schema is taken, and the tree to go on from only where the
--- pools are
+-- an input of the request is refused: an object or pools only where the schema is taken, a path of the pools only where their
+-- document is, and the tree to go on from only where all paths are
 abbrev pub IsInputRefused : Documents → Request → Type 0
 IsInputRefused has (Check arguments) = IsCrdRefused has arguments.crd.now arguments.version.now
 IsInputRefused has (Explain arguments) = IsCrdRefused has arguments.crd.now arguments.version.now
 IsInputRefused has (Object arguments) = IsCrdRefused has arguments.crd.now arguments.version.now
     ⊎ (HasAcceptedSchema has arguments.crd.now arguments.version.now × IsObjectRefused has arguments)
 IsInputRefused has (Sample arguments) = IsCrdRefused has arguments.crd.now arguments.version.now
-    ⊎ (HasAcceptedSchema has arguments.crd.now arguments.version.now
-    × (ArePoolsRefused has arguments.pools ⊎ (((P : Pools) × ArePools has arguments.pools P) × IsAfterRefused arguments.after)))
+    ⊎ ((HasAcceptedSchema has arguments.crd.now arguments.version.now × ArePoolsRefused has arguments.pools)
+    ⊎ ((N : Node) × (P : Pools) × AreRootAndPools has arguments N P
+    × (((text : List ℕ) × IsFirstBadPath N P text) ⊎ (HasGoodPaths N P × IsAfterRefused arguments.after))))
 IsInputRefused has _ = ⊥
 
 -- What a run finds outside of it and leaves there: the documents at hand before it, and, before it and after it, how often reads

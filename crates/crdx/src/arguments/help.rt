@@ -35,8 +35,8 @@ Exit status:
      from is no sample.
   2  The command line is refused. Standard error says why.
   3  An input is refused. Standard error has a line with its code, such as
-     `crdx: crd: S2`, `crdx: object: J3`, `crdx: after: J3` or
-     `crdx: pools: P1 "/integers/0"`.
+     `crdx: crd: S2`, `crdx: object: J3`, `crdx: after: J3`,
+     `crdx: pools: P1 "/integers/0"` or `crdx: pools: P5 "/spec/c"`.
   4  An input could not be read, or standard output could not be written.
      Standard error says which.
   5  There was not enough memory.
@@ -97,9 +97,12 @@ Codes of an input that is refused:
        properties, 32 names in required, 4 map keys, 64 values in an enum.
   P1   The pools have the wrong form: they are an object with any of integers,
        strings, names and any, each a list, of integers of 64 bits, of texts,
-       of texts, and of any values.
+       of texts, and of any values, and of paths, an object of such lists of
+       any values.
   P2   The pools have more than 64 integers, 64 strings, 32 names or 64 values
-       of any kind.
+       of any kind, more than 64 paths, or more than 64 values at a path.
+  P5   A path of the pools leads to no field, or to one that is an object, a
+       map or a list.
 
 Codes of a path that leads to no field, and of an object without leaves:
   X1   The text is not written as a path.
@@ -109,7 +112,7 @@ Codes of a path that leads to no field, and of an object without leaves:
 
 A rule, a fault, S3, S4 and P1 come with a JSON pointer to the place. Of a
 schema it begins at openAPIV3Schema, of an object at the object, and "" is the
-whole."#;
+whole. P5 comes with the path, as the pools have it."#;
 
 pub(super) const CHECK: &str =
     "Says which rules a schema breaks and where, or that it is structural";
@@ -243,22 +246,32 @@ status.";
 
 pub(super) const SAMPLE: &str = "Lists sample objects of a schema, one on each line";
 
-pub(super) const SAMPLE_LONG: &str = "Lists sample objects of a schema, one on each line, as JSON.
+pub(super) const SAMPLE_LONG: &str = r#"Lists sample objects of a schema, one on each line, as JSON.
 
 A sample is an object that the schema accepts and that pruning and defaulting
 leave unchanged. Its integers and texts are among those of an `enum` or of the
 pools, and it has at most as many nodes as the limit says. The apiVersion, kind
 and metadata of the resource are left out, unless --name is given.
 
+To say which values a field may have, look up its path with `crdx explain`, and
+list the values under `paths` in the pools, such as
+
+    {"paths":{"/spec/replicas":[1,3],"/spec/ports/[]/name":["web"]}}
+
+The field then has these values alone, in place of those of the other pools and
+of an `enum`, and of true and false.
+
 Samples with fewer nodes come first. None comes twice, and none is passed over.
 Standard error says `crdx: end` where no sample is left, else `crdx: more`. The
-last line, given back by --after, goes on from there.";
+last line, given back by --after, goes on from there."#;
 
-pub(super) const SAMPLE_END: &str = r#"Example, at the top of the repository:
+pub(super) const SAMPLE_END: &str = r#"Examples, at the top of the repository:
   ./crdx sample examples/widget/crd.json v1 \
       --pools examples/widget/pools.json --limit 4
+  ./crdx sample examples/issuer/crd.json v1 \
+      --pools examples/issuer/chosen-values.json --limit 8
 
-It lists ten objects, from {} to {"spec":{"a":1,"b":true}}.
+The first lists ten objects, from {} to {"spec":{"a":1,"b":true}}.
 
 `crdx --help` explains the rules, the codes of inputs that are refused, and the
 exit status."#;
@@ -278,7 +291,12 @@ pub(super) const POOLS_LONG: &str = r#"A JSON file with the values that samples 
 most 64 integers and 64 strings, 32 names of members of maps, and 64
 values where the schema leaves the value open. Each may be left out,
 and without this option all are empty. Both booleans are always
-there, and an `enum` has its own values."#;
+there, and an `enum` has its own values. Under "paths", such as
+{"paths":{"/spec/a":[0,7]}}, there are the values of single fields:
+up to 64 paths, as `crdx explain` prints them, of fields that are
+scalars or open, each with up to 64 values in place of all these.
+Null stays where the schema is nullable, and a value that is not
+valid there, by its `enum` too, is in no sample."#;
 
 pub(super) const LIMIT: &str = "The most nodes of a sample, 1 to 127";
 

@@ -42,6 +42,7 @@ pub(crate) enum PlaceCode {
     KeywordForm,
     TooLarge,
     Form,
+    BadPath,
 }
 
 impl fmt::Display for PlaceCode {
@@ -55,6 +56,7 @@ impl fmt::Display for PlaceCode {
             PlaceCode::KeywordForm => write!(f, "S3"),
             PlaceCode::TooLarge => write!(f, "S4"),
             PlaceCode::Form => write!(f, "P1"),
+            PlaceCode::BadPath => write!(f, "P5"),
         }
     }
 }
@@ -70,7 +72,7 @@ pub(crate) enum Cause {
     Crd(SFault),
     /// The pools or the limit are refused.
     Pools(PFault),
-    /// An input is refused at a pointer, with this code.
+    /// An input is refused with this code, at a pointer or at the path of a field.
     Place(Input, PlaceCode, String),
     /// The schema breaks rules.
     Violations(Vec<Violation>),
@@ -177,6 +179,7 @@ impl From<PFault> for Cause {
     fn from(fault: PFault) -> Cause {
         match fault {
             PFault::Form(pointer) => Cause::Place(Input::Pools, PlaceCode::Form, pointer),
+            PFault::BadPath(path) => Cause::Place(Input::Pools, PlaceCode::BadPath, path),
             PFault::NoMemory => Cause::NoMemory,
             other => Cause::Pools(other),
         }

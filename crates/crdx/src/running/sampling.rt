@@ -1,14 +1,14 @@
 // What `sample` writes.
-ghost use Rattle.std.specs.Prelude.{◌≡◌, ◌≤◌, ◌<◌, ◌⊎◌, Option, IfOk, IfErr, OnOk, IfSome, option_map};
+ghost use Rattle.std.specs.Prelude.{◌≡◌, ◌≤◌, ◌<◌, Option, IfOk, IfErr, OnOk, IfSome, option_map};
 ghost use Rattle.jtree.specs.Data.{Data};
 ghost use Rattle.jtree.specs.View.{data_of};
+ghost use Rattle.plan.specs.Pools.PlanFault.{HasGoodPaths};
 ghost use Rattle.plan.specs.Samples.Question.{Question};
 ghost use Rattle.enumerate.specs.Page.{IsSampleOf};
-ghost use Rattle.crdx.specs.Internal.Cause.{IsInputCause, IsAfterCause, IsSampleCause, IsWalkCause};
+ghost use Rattle.crdx.specs.Internal.Cause.{IsInputCause, IsSamplingCause, IsSampleCause, IsWalkCause};
 ghost use Rattle.crdx.specs.Output.Walk.{WritesPage};
 ghost use Rattle.crdx.specs.Program.Requested.{IsRequested, IsAfter, envelope_for};
 ghost use Rattle.crdx.specs.declared.arguments.request.Request.TheVariants.{Sample};
-ghost use Rattle.crdx.specs.declared.running.causes.Cause.TheVariants.{NoMemory};
 ghost use Rattle.crdx.specs.declared.walk.line.Envelope.{Envelope as EnvelopeData};
 
 use crate::arguments::SampleArguments;
@@ -36,8 +36,8 @@ struct SampleInputs<Z: SizeSet> {
     envelope: Option<Envelope>,
 }
 
-/// Lists samples. Inputs are judged in the order CustomResourceDefinition, its schema, pools, the tree to go on from, and the
-/// first refusal ends the run. A set of sizes is a word of 64 bits where the limit is below that, and else one of 128.
+/// Lists samples. Inputs are judged in the order CustomResourceDefinition, its schema, pools, their paths, the tree to go on
+/// from, and the first refusal ends the run. A set of sizes is a word of 64 bits where the limit is below that, and else one of 128.
 pub(crate) fn sample<I: Inputs, W: Sink>(
     alloc: Global,
     arguments: &SampleArguments<'_>,
@@ -154,8 +154,9 @@ fn inputs_of<Z: SizeSet>(
 ) -> Result<SampleInputs<Z>, Cause>
     requires { arguments.now.limit < Z.BITS }
     ensures ok { IfOk result (λ a. (a.plan ≡ record { root = accepted.schema; pools = pools; limit = arguments.now.limit })
-        × IsAfter arguments.now.after (option_map data_of a.after) × (a.envelope ≡ envelope_for accepted.group arguments.now.version.now accepted.kind arguments.now.name)) }
-    ensures cause { IfErr result (λ cause. IsAfterCause arguments.now.after cause ⊎ (cause ≡ NoMemory)) }
+        × HasGoodPaths accepted.schema pools × IsAfter arguments.now.after (option_map data_of a.after)
+        × (a.envelope ≡ envelope_for accepted.group arguments.now.version.now accepted.kind arguments.now.name)) }
+    ensures cause { IfErr result (IsSamplingCause accepted.schema pools arguments.now.after) }
 {
     let envelope = envelope_named(
         alloc,

@@ -4,62 +4,77 @@ use std::alloc::Global;
 use std::process::Abort;
 use std::test::Fail;
 
-// Names of ways to hold a node, each with what stands before it and behind it.
-static HOLDERS: [(&str, &str, &str); 6] = [
-    ("a field", r#"{"type":"object","properties":{"x":"#, "}}"),
+// Names of ways to hold a node, each with what stands before it and behind it, and the path of the node.
+static HOLDERS: [(&str, &str, &str, &str); 6] = [
+    (
+        "a field",
+        r#"{"type":"object","properties":{"x":"#,
+        "}}",
+        "/x",
+    ),
     (
         "a required field",
         r#"{"type":"object","required":["x"],"properties":{"x":"#,
         "}}",
+        "/x",
     ),
     (
         "a list",
         r#"{"type":"object","properties":{"x":{"type":"array","items":"#,
         "}}}",
+        "/x/[]",
     ),
     (
         "a map",
         r#"{"type":"object","properties":{"x":{"type":"object","additionalProperties":"#,
         "}}}",
+        "/x/{}",
     ),
     (
         "an object with one field or two",
         r#"{"type":"object","properties":{"x":{"type":"object","minProperties":1,"properties":{"z":{"type":"boolean"},"y":"#,
         "}}}}",
+        "/x/y",
     ),
     (
         "a short list beside a required field with a default",
         r#"{"type":"object","required":["y"],"properties":{"y":{"type":"string","default":"a"},"x":{"type":"array","minItems":1,"maxItems":2,"items":"#,
         "}}}",
+        "/x/[]",
     ),
 ];
 
 // The same for nodes of which two values can be told apart by a list.
-static HOLDERS_OF_SCALARS: [(&str, &str, &str); 5] = [
+static HOLDERS_OF_SCALARS: [(&str, &str, &str, &str); 5] = [
     (
         "a set",
         r#"{"type":"object","properties":{"x":{"type":"array","x-kubernetes-list-type":"set","items":"#,
         "}}}",
+        "/x/[]",
     ),
     (
         "a set of at least two",
         r#"{"type":"object","required":["x"],"properties":{"x":{"type":"array","minItems":2,"x-kubernetes-list-type":"set","items":"#,
         "}}}",
+        "/x/[]",
     ),
     (
         "a map list",
         r#"{"type":"object","properties":{"x":{"type":"array","x-kubernetes-list-type":"map","x-kubernetes-list-map-keys":["k"],"items":{"type":"object","required":["k"],"properties":{"v":{"type":"boolean"},"k":"#,
         "}}}}}",
+        "/x/[]/k",
     ),
     (
         "a map list by two keys",
         r#"{"type":"object","properties":{"x":{"type":"array","maxItems":3,"x-kubernetes-list-type":"map","x-kubernetes-list-map-keys":["l","k"],"items":{"type":"object","required":["k","l"],"properties":{"l":{"type":"boolean"},"v":{"type":"object"},"k":"#,
         "}}}}}",
+        "/x/[]/k",
     ),
     (
         "a map list whose key a junctor names",
         r#"{"type":"object","properties":{"x":{"type":"array","x-kubernetes-list-type":"map","x-kubernetes-list-map-keys":["k"],"items":{"type":"object","required":["k"],"oneOf":[{"required":["k","v"]},{"required":["w"]}],"properties":{"v":{"type":"boolean"},"w":{"type":"object"},"k":"#,
         "}}}}}",
+        "/x/[]/k",
     ),
 ];
 
@@ -89,8 +104,8 @@ static SCALARS: [(&str, &str); 10] = [
     ),
 ];
 
-// A name, and the schema of another node.
-static NODES: [(&str, &str); 22] = [
+// A name, and the schema of another scalar or an open node.
+static LEAVES: [(&str, &str); 4] = [
     (
         "truth values or null",
         r#"{"type":"boolean","nullable":true}"#,
@@ -107,6 +122,10 @@ static NODES: [(&str, &str); 22] = [
         "any value",
         r#"{"x-kubernetes-preserve-unknown-fields":true,"nullable":true}"#,
     ),
+];
+
+// A name, and the schema of a node that is neither.
+static NODES: [(&str, &str); 18] = [
     ("empty objects", r#"{"type":"object"}"#),
     (
         "empty objects or null",
@@ -243,12 +262,12 @@ const FEW: &str =
 fn all_nodes(
     rt: &impl Abort,
     alloc: Global,
-    holder: &(&str, &str, &str),
+    holder: &(&str, &str, &str, &str),
     nodes: &[(&str, &str)],
     pools: &str,
     limit: u32,
 ) -> Result<(), Fail> {
-    let (holder, head, tail) = *holder;
+    let (holder, head, tail, _path) = *holder;
     for (node, schema) in nodes {
         let name = format!(in alloc; "{holder} of {node}, of at most {limit} nodes")?;
         let schema = format!(in alloc; "{head}{schema}{tail}")?;
@@ -260,6 +279,7 @@ fn all_nodes(
 fn all_plans(rt: &impl Abort, alloc: Global, pools: &str, limit: u32) -> Result<(), Fail> {
     for holder in &HOLDERS {
         all_nodes(rt, alloc, holder, &SCALARS, pools, limit)?;
+        all_nodes(rt, alloc, holder, &LEAVES, pools, limit)?;
         all_nodes(rt, alloc, holder, &NODES, pools, limit)?;
         all_nodes(rt, alloc, holder, &PRESENCE, pools, limit)?;
     }
@@ -282,4 +302,40 @@ fn plans_over_few_values(rt: HostRuntime) -> Result<(), Fail> {
 #[test]
 fn plans_without_pools(rt: HostRuntime) -> Result<(), Fail> {
     all_plans(&rt, rt.alloc(), "{}", 8)
+}
+
+// Lists for the path of the node that is held: with values of another kind and a repeat, and without values.
+static LISTS: [&str; 3] = [r#"[3,1,"bb",null,true,3]"#, r#"[{"q":[1]},"a",[]]"#, "[]"];
+
+fn listed_nodes(
+    rt: &impl Abort,
+    alloc: Global,
+    holder: &(&str, &str, &str, &str),
+    nodes: &[(&str, &str)],
+    list: &str,
+) -> Result<(), Fail> {
+    let (_name, _head, _tail, path) = *holder;
+    let pools = format!(in alloc;
+        r#"{{"any":["z"],"integers":[0,5],"names":["p"],"strings":["bb","c"],"paths":{{"{path}":{list}}}}}"#
+    )?;
+    all_nodes(rt, alloc, holder, nodes, pools.as_str(), 6)
+}
+
+fn listed_plans(rt: &impl Abort, alloc: Global, list: &str) -> Result<(), Fail> {
+    for holder in &HOLDERS {
+        listed_nodes(rt, alloc, holder, &SCALARS, list)?;
+        listed_nodes(rt, alloc, holder, &LEAVES, list)?;
+    }
+    for holder in &HOLDERS_OF_SCALARS {
+        listed_nodes(rt, alloc, holder, &SCALARS, list)?;
+    }
+    Ok(())
+}
+
+#[test]
+fn plans_with_lists_for_paths(rt: HostRuntime) -> Result<(), Fail> {
+    for list in &LISTS {
+        listed_plans(&rt, rt.alloc(), list)?;
+    }
+    Ok(())
 }

@@ -14,14 +14,15 @@ fn said(alloc: Global, fault: &PFault) -> Result<String, AllocError> {
     }
 }
 
-// How many integers, strings, names and trees there are.
+// How many integers, strings, names, trees and paths there are.
 fn counts(alloc: Global, pools: &Pools) -> Result<String, AllocError> {
     format!(in alloc;
-        "{} {} {} {}",
+        "{} {} {} {} {}",
         pools.integers().len(),
         pools.strings().len(),
         pools.names().len(),
-        pools.any().len()
+        pools.any().len(),
+        pools.paths().members.len()
     )
 }
 
@@ -49,17 +50,55 @@ fn is_outcome(
 }
 
 // A name, a document, and how many entries there are in each pool, or the fault.
-static DOCUMENTS: [(&str, &str, &str); 18] = [
-    ("no member", "{}", "0 0 0 0"),
+static DOCUMENTS: [(&str, &str, &str); 28] = [
+    ("no member", "{}", "0 0 0 0 0"),
     (
         "each pool",
         r#"{"any":[null],"integers":[1,1,1,1],"names":["n","n"],"strings":["a","b","a"]}"#,
-        "4 3 2 1",
+        "4 3 2 1 0",
     ),
     (
         "trees of each kind",
         r#"{"any":[null,true,-1,"t",[[]],{"q":1}]}"#,
-        "0 0 0 6",
+        "0 0 0 6 0",
+    ),
+    ("no paths", r#"{"paths":{}}"#, "0 0 0 0 0"),
+    (
+        "paths with trees of each kind",
+        r#"{"paths":{"":[],"/a":[null,true,-1,"t",[[]],{"q":1}],"no path":[1,1]}}"#,
+        "0 0 0 0 3",
+    ),
+    ("a list of paths", r#"{"paths":[]}"#, r#"P1 "/paths""#),
+    ("null for paths", r#"{"paths":null}"#, r#"P1 "/paths""#),
+    (
+        "an integer for a path",
+        r#"{"paths":{"/spec/b":1}}"#,
+        r#"P1 "/paths/~1spec~1b""#,
+    ),
+    (
+        "an object for a path",
+        r#"{"paths":{"/a":[],"/b~0":{}}}"#,
+        r#"P1 "/paths/~1b~00""#,
+    ),
+    (
+        "null for the path of the root",
+        r#"{"paths":{"":null}}"#,
+        r#"P1 "/paths/""#,
+    ),
+    (
+        "the first of two paths",
+        r#"{"paths":{"/b":1,"/a":2}}"#,
+        r#"P1 "/paths/~1a""#,
+    ),
+    (
+        "a path before a string",
+        r#"{"strings":[1],"paths":{"/a":[],"/b":2}}"#,
+        r#"P1 "/paths/~1b""#,
+    ),
+    (
+        "a name before a path",
+        r#"{"names":[1],"paths":{"/b":2}}"#,
+        r#"P1 "/names/0""#,
     ),
     ("a list", "[]", r#"P1 """#),
     (
@@ -132,14 +171,14 @@ static DOCUMENTS: [(&str, &str, &str); 18] = [
 
 // A name, the beginning of a document, an entry with its comma, how many there are, what stands behind them, and what is
 // answered. Each repeat counts, and the form is judged before the limits.
-static LONG: [(&str, &str, &str, usize, &str, &str); 11] = [
+static LONG: [(&str, &str, &str, usize, &str, &str); 14] = [
     (
         "64 integers",
         r#"{"integers":["#,
         "0,",
         63,
         "0]}",
-        "64 0 0 0",
+        "64 0 0 0 0",
     ),
     ("65 integers", r#"{"integers":["#, "0,", 64, "0]}", "P2"),
     (
@@ -148,7 +187,7 @@ static LONG: [(&str, &str, &str, usize, &str, &str); 11] = [
         r#""s","#,
         63,
         r#""s"]}"#,
-        "0 64 0 0",
+        "0 64 0 0 0",
     ),
     (
         "65 strings",
@@ -164,11 +203,35 @@ static LONG: [(&str, &str, &str, usize, &str, &str); 11] = [
         r#""n","#,
         31,
         r#""n"]}"#,
-        "0 0 32 0",
+        "0 0 32 0 0",
     ),
     ("33 names", r#"{"names":["#, r#""n","#, 32, r#""n"]}"#, "P2"),
-    ("64 trees", r#"{"any":["#, "{},", 63, "{}]}", "0 0 0 64"),
+    ("64 trees", r#"{"any":["#, "{},", 63, "{}]}", "0 0 0 64 0"),
     ("65 trees", r#"{"any":["#, "{},", 64, "{}]}", "P2"),
+    (
+        "64 entries at a path",
+        r#"{"paths":{"/a":["#,
+        "0,",
+        63,
+        "0]}}",
+        "0 0 0 0 1",
+    ),
+    (
+        "65 entries at a path",
+        r#"{"paths":{"/a":["#,
+        "0,",
+        64,
+        "0]}}",
+        "P2",
+    ),
+    (
+        "an integer for a path behind 65 integers",
+        r#"{"integers":["#,
+        "0,",
+        64,
+        r#"0],"paths":{"/a":1}}"#,
+        r#"P1 "/paths/~1a""#,
+    ),
     (
         "a text for strings behind 65 integers",
         r#"{"integers":["#,
@@ -220,6 +283,25 @@ fn forms_and_limits(rt: HostRuntime) -> Result<(), Fail> {
     Ok(())
 }
 
+// Pools with so many paths, the last of them with an entry.
+fn many_paths(alloc: Global, count: usize) -> Result<String, AllocError> {
+    let mut document = String::from_str(alloc, r#"{"paths":{"#)?;
+    for path in 1..count {
+        document.push_str(format!(in alloc; r#""/{path}":[],"#)?.as_str())?;
+    }
+    document.push_str(r#""/last":[0]}}"#)?;
+    Ok(document)
+}
+
+#[test]
+fn paths(rt: HostRuntime) -> Result<(), Fail> {
+    for (count, wanted) in [(1, "0 0 0 0 1"), (64, "0 0 0 0 64"), (65, "P2")] {
+        let document = many_paths(rt.alloc(), count)?;
+        is_outcome(&rt, rt.alloc(), "many paths", document.as_str(), wanted)?;
+    }
+    Ok(())
+}
+
 fn are_texts(rt: &impl Abort, found: &[Text], wanted: &[&str], pool: &str) {
     is_number(
         rt,
@@ -248,7 +330,21 @@ fn are_trees(rt: &impl Abort, alloc: Global, found: &[Tree], wanted: &[&str]) ->
 }
 
 static WRITTEN: &str =
-    r#"{"strings":["b","a","b"],"names":["","é"],"integers":[3,-1,3],"any":[{"q":[1]},null]}"#;
+    r#"{"strings":["b","a","b"],"names":["","é"],"integers":[3,-1,3],"any":[{"q":[1]},null],"paths":{"/b":[2,"x",2],"/a":[]}}"#;
+
+// The values for a path.
+fn at_path(
+    rt: &impl Abort,
+    alloc: Global,
+    pools: &Pools,
+    path: &str,
+    wanted: &[&str],
+) -> Result<(), Fail> {
+    match pools.list_at(path) {
+        Some(list) => are_trees(rt, alloc, list, wanted),
+        None => Err(Fail::from("no list")),
+    }
+}
 
 /// The order and the repeats are kept.
 #[test]
@@ -257,13 +353,23 @@ fn entries_as_written(rt: HostRuntime) -> Result<(), Fail> {
     assert_eq!(rt; pools.integers(), [3, -1, 3].as_slice());
     are_texts(&rt, pools.strings(), &["b", "a", "b"], "strings");
     are_texts(&rt, pools.names(), &["", "é"], "names");
-    are_trees(&rt, rt.alloc(), pools.any(), &[r#"{"q":[1]}"#, "null"])
+    are_trees(&rt, rt.alloc(), pools.any(), &[r#"{"q":[1]}"#, "null"])?;
+    at_path(&rt, rt.alloc(), &pools, "/b", &["2", r#""x""#, "2"])?;
+    at_path(&rt, rt.alloc(), &pools, "/a", &[])?;
+    assert!(rt; pools.list_at("/c").is_none(), "a list for no path");
+    Ok(())
 }
 
 #[test]
 fn no_entries(rt: HostRuntime) -> Result<(), Fail> {
     let found = counts(rt.alloc(), &Pools::new(rt.alloc()))?;
-    is_text(&rt, found.as_str(), "0 0 0 0", "the entries", "empty pools");
+    is_text(
+        &rt,
+        found.as_str(),
+        "0 0 0 0 0",
+        "the entries",
+        "empty pools",
+    );
     let code = said(rt.alloc(), &PFault::NoMemory)?;
     is_text(&rt, code.as_str(), "P3", "the code", "no memory");
     Ok(())

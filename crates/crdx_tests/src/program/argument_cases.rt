@@ -245,9 +245,9 @@ static HELP: [(&str, &str, &str); 22] = [
 ];
 
 // What a run can answer, and the codes that it can print: each begins a line of the help.
-static ANSWERS: [&str; 18] = [
-    "0", "1", "2", "3", "4", "5", "J1", "J3", "J4", "S1", "S2", "S3", "S4", "P1", "P2", "L1", "X1",
-    "X2",
+static ANSWERS: [&str; 19] = [
+    "0", "1", "2", "3", "4", "5", "J1", "J3", "J4", "S1", "S2", "S3", "S4", "P1", "P2", "P5", "L1",
+    "X1", "X2",
 ];
 
 // The rules and the faults that a run can print: each begins a line of the help.

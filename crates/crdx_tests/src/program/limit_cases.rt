@@ -2,10 +2,7 @@
 use crate::support::documents::{
     MAP_LIST, REPEATED, SET, SPEC, TEN_LINES, TWO_TEXTS, ZERO_AND_ONE,
 };
-use crate::support::fakes::{FailingSink, FakeInputs};
-use crate::support::harness::{definition, is_answer, run_on};
-use std::alloc::{AllocError, Global};
-use std::process::Abort;
+use crate::support::harness::try_samples;
 use std::test::Fail;
 
 const THIRTY_ONE: &str =
@@ -99,23 +96,12 @@ static ROWS: [(&str, &str, &str, &str, &str, &str); 8] = [
     ),
 ];
 
-fn try_row(
-    rt: &impl Abort,
-    alloc: Global,
-    row: &(&str, &str, &str, &str, &str, &str),
-) -> Result<(), AllocError> {
-    let (name, command, schema, pools, out, err) = *row;
-    let crd = definition(alloc, schema)?;
-    let inputs = FakeInputs::new(alloc, crd.as_str(), pools);
-    let output = run_on(alloc, command, inputs, FailingSink::endless(alloc))?;
-    is_answer(rt, &output, out, err, 0, name);
-    Ok(())
-}
-
 #[test]
 fn limits(rt: HostRuntime) -> Result<(), Fail> {
     for row in &ROWS {
-        try_row(&rt, rt.alloc(), row)?;
+        let (name, command, schema, pools, out, err) = *row;
+        let row = (name, command, schema, pools, out, err, 0);
+        try_samples(&rt, rt.alloc(), &row)?;
     }
     Ok(())
 }

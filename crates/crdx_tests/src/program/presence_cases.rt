@@ -1,9 +1,6 @@
 //! Junctors that ask which fields an object has: where they may stand, what objects meet them, and what is listed.
 use crate::support::documents::ONE_OF_TWO;
-use crate::support::fakes::{FailingSink, FakeInputs};
-use crate::support::harness::{all_fields, all_judged, definition, is_answer, run_on, try_object};
-use std::alloc::{AllocError, Global};
-use std::process::Abort;
+use crate::support::harness::{all_fields, all_judged, try_object, try_samples};
 use std::test::Fail;
 
 // A name, the schema of a field, and standard output of `check`.
@@ -534,23 +531,12 @@ fn objects(rt: HostRuntime) -> Result<(), Fail> {
     Ok(())
 }
 
-fn try_samples(
-    rt: &impl Abort,
-    alloc: Global,
-    row: &(&str, &str, &str, &str, &str),
-) -> Result<(), AllocError> {
-    let (name, schema, pools, command, out) = *row;
-    let crd = definition(alloc, schema)?;
-    let inputs = FakeInputs::new(alloc, crd.as_str(), pools);
-    let output = run_on(alloc, command, inputs, FailingSink::endless(alloc))?;
-    is_answer(rt, &output, out, "crdx: end\n", 0, name);
-    Ok(())
-}
-
 #[test]
 fn samples(rt: HostRuntime) -> Result<(), Fail> {
     for row in &SAMPLES {
-        try_samples(&rt, rt.alloc(), row)?;
+        let (name, schema, pools, command, out) = *row;
+        let row = (name, command, schema, pools, out, "crdx: end\n", 0);
+        try_samples(&rt, rt.alloc(), &row)?;
     }
     Ok(())
 }

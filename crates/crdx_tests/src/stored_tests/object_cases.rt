@@ -7,8 +7,7 @@ use std::alloc::{AllocError, Global};
 use std::process::Abort;
 use std::test::Fail;
 use stored::{
-    Fault, accept, becomes_one_tree, complete, everywhere_by_steps, faults, is_stored, prune,
-    valid, violations,
+    Fault, accept, becomes_one_tree, complete, faults, is_stored, prune, valid, violations,
 };
 
 // A name, the schema of a field `x`, and values of the field: those that are valid there, and those that are not.
@@ -321,7 +320,6 @@ fn try_lists(
 
 #[test]
 fn values(rt: HostRuntime) -> Result<(), Fail> {
-    everywhere_by_steps();
     becomes_one_tree();
     for row in &VALUES {
         try_values(&rt, rt.alloc(), row, false)?;

@@ -11,6 +11,7 @@ use crate::support::reference::{
     plain_slots,
 };
 use enumerate::page;
+use explain::{Step, path_below};
 use jtree::{Text, Tree};
 use plan::{Meter, Plan, PlanNode, Pools, Sort};
 use schema::{Fields, Node, Sort as NodeSort};
@@ -54,6 +55,7 @@ fn try_leaf(
     plan: &Plan<u64>,
     number: PlanNode,
     node: &Node,
+    path: &str,
     pools: &Pools,
     meter: &mut Meter,
     name: &str,
@@ -61,7 +63,7 @@ fn try_leaf(
     requires { number < length (sites_of plan.now.root) }
 {
     if let Sort::Leaf = plan.sort(number) {
-        let parts = plain_parts(alloc, node, pools, u64::MAX)?;
+        let parts = plain_parts(alloc, node, path, pools, u64::MAX)?;
         are_candidates(rt, plan, number, &parts, meter, name);
     } else {
         holds(rt, false, "a leaf", name);
@@ -221,6 +223,7 @@ fn try_nodes(
     plan: &Plan<u64>,
     number: PlanNode,
     node: &Node,
+    path: &str,
     parts: &[Tree],
     pools: &Pools,
     meter: &mut Meter,
@@ -231,13 +234,14 @@ fn try_nodes(
     is_size(rt, alloc, plan.sizes(number), parts, name)?;
     match &node.sort {
         NodeSort::Scalar(_) | NodeSort::Open => try_leaf(
-            rt, alloc, plan, number, node, pools, meter, name,
+            rt, alloc, plan, number, node, path, pools, meter, name,
         ),
         NodeSort::Object(_) | NodeSort::Map(_) => try_row(
-            rt, alloc, plan, number, node, pools, meter, name,
+            rt, alloc, plan, number, node, path, pools, meter, name,
         ),
         NodeSort::List(list) => {
             try_more(rt, alloc, plan, number, parts, name)?;
+            let below = path_below(alloc, path, Step::Item)?;
             let has_items = match parts.last() {
                 Some(part) => part.nodes() > 1,
                 None => false,
@@ -248,6 +252,7 @@ fn try_nodes(
                 plan,
                 number,
                 node_below(&list.item),
+                &below,
                 has_items,
                 pools,
                 meter,
@@ -264,6 +269,7 @@ fn try_items(
     plan: &Plan<u64>,
     number: PlanNode,
     item: &Node,
+    path: &str,
     has_items: bool,
     pools: &Pools,
     meter: &mut Meter,
@@ -276,8 +282,10 @@ fn try_items(
     let Some(below) = found else {
         return Ok(());
     };
-    let parts = plain_parts(alloc, item, pools, u64::from(plan.limit()))?;
-    try_nodes(rt, alloc, plan, below, item, &parts, pools, meter, name)
+    let parts = plain_parts(alloc, item, path, pools, u64::from(plan.limit()))?;
+    try_nodes(
+        rt, alloc, plan, below, item, path, &parts, pools, meter, name,
+    )
 }
 
 /// What a plan says of the slots of an object or a map: of each of an object, and of the first of a map.
@@ -288,13 +296,14 @@ fn try_row(
     plan: &Plan<u64>,
     number: PlanNode,
     node: &Node,
+    path: &str,
     pools: &Pools,
     meter: &mut Meter,
     name: &str,
 ) -> Result<(), Fail>
     requires { number < length (sites_of plan.now.root) }
 {
-    let slots = plain_slots(alloc, node, pools, u64::from(plan.limit()))?;
+    let slots = plain_slots(alloc, node, path, pools, u64::from(plan.limit()))?;
     match &node.sort {
         NodeSort::Object(object) => {
             let ending = Ending {
@@ -308,6 +317,7 @@ fn try_row(
                 plan,
                 number,
                 &object.fields,
+                path,
                 &slots,
                 pools,
                 meter,
@@ -320,6 +330,7 @@ fn try_row(
                 junctors: None,
             };
             all_rests(rt, alloc, plan, number, ending, &slots, meter, name)?;
+            let below = path_below(alloc, path, Step::Value)?;
             try_slot(
                 rt,
                 alloc,
@@ -327,6 +338,7 @@ fn try_row(
                 number,
                 0,
                 node_below(&map.value),
+                &below,
                 slots.first(),
                 pools,
                 meter,
@@ -344,6 +356,7 @@ fn try_fields(
     plan: &Plan<u64>,
     number: PlanNode,
     fields: &Fields,
+    path: &str,
     slots: &[Choice],
     pools: &Pools,
     meter: &mut Meter,
@@ -352,6 +365,7 @@ fn try_fields(
     requires { number < length (sites_of plan.now.root) }
 {
     for (place, field) in fields.fields.iter().enumerate() {
+        let below = path_below(alloc, path, Step::Field(field.name.as_str()))?;
         try_slot(
             rt,
             alloc,
@@ -359,6 +373,7 @@ fn try_fields(
             number,
             place,
             &field.node,
+            &below,
             slots.get(place),
             pools,
             meter,
@@ -376,6 +391,7 @@ fn try_slot(
     number: PlanNode,
     place: usize,
     node: &Node,
+    path: &str,
     slot: Option<&Choice>,
     pools: &Pools,
     meter: &mut Meter,
@@ -392,6 +408,7 @@ fn try_slot(
             plan,
             below,
             node,
+            path,
             &slot.values,
             pools,
             meter,
@@ -451,7 +468,7 @@ fn try_given(
     name: &str,
 ) -> Result<(), Fail> {
     let root = schema.root();
-    let samples = plain_parts(alloc, root, pools, u64::from(plan.limit()))?;
+    let samples = plain_parts(alloc, root, "", pools, u64::from(plan.limit()))?;
     try_samples(rt, alloc, plan, &samples, meter, name)?;
     try_nodes(
         rt,
@@ -459,6 +476,7 @@ fn try_given(
         plan,
         plan.root(),
         root,
+        "",
         &samples,
         pools,
         meter,

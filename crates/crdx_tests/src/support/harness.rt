@@ -125,6 +125,20 @@ pub fn definition(alloc: Global, schema: &str) -> Result<String, AllocError> {
     Ok(document)
 }
 
+/// A run of `sample`: a name, a command line, a schema with its pools, standard output, standard error and the status.
+pub fn try_samples(
+    rt: &impl Abort,
+    alloc: Global,
+    row: &(&str, &str, &str, &str, &str, &str, u8),
+) -> Result<(), AllocError> {
+    let (name, command, schema, pools, out, err, status) = *row;
+    let crd = definition(alloc, schema)?;
+    let inputs = FakeInputs::new(alloc, crd.as_str(), pools);
+    let output = run_on(alloc, command, inputs, FailingSink::endless(alloc))?;
+    is_answer(rt, &output, out, err, status, name);
+    Ok(())
+}
+
 /// The accepted schema of a definition with this schema.
 pub fn schema_of(alloc: Global, schema: &str) -> Result<Schema, Fail> {
     let crd = crd_of(alloc, schema)??;

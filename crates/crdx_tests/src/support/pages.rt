@@ -64,7 +64,7 @@ pub fn listed(alloc: Global, given: (&str, &str, u32)) -> Result<Vec<Tree>, Fail
     let (schema, pools, limit) = given;
     let pools = pools_of(alloc, pools)?;
     let schema = schema_of(alloc, schema)?;
-    Ok(plain_parts(alloc, schema.root(), &pools, u64::from(limit))?)
+    Ok(plain_parts(alloc, schema.root(), "", &pools, u64::from(limit))?)
 }
 
 /// The lines of all samples, by the plain reference.

@@ -4,21 +4,23 @@ ghost use Rattle.std.specs.Prelude.{◌≡◌, IsTrue, IfOk};
 ghost use Rattle.jtree.specs.Data.{IsNameBefore};
 ghost use Rattle.schema.specs.Nodes.View.{node_of};
 
+use explain::{Step, path_below};
 use jtree::{Items, Member, Members, Text, Tree};
 use plan::Pools;
 use schema::{Below, Bounds, Branches, Fields, Node, ScalarKind, ScalarNode, Sort, Validations};
 use std::alloc::{AllocError, Global};
 use stored::is_stored;
 
-/// The parts of a node over pools of at most `limit` nodes, in the tree order, each once.
+/// The parts of a node with this path over pools of at most `limit` nodes, in the tree order, each once.
 pub fn plain_parts(
     alloc: Global,
     node: &Node,
+    path: &str,
     pools: &Pools,
     limit: u64,
 ) -> Result<Vec<Tree>, AllocError> {
     let mut parts = Vec::new(alloc);
-    for value in values_at(alloc, node, pools, limit)? {
+    for value in values_at(alloc, node, path, pools, limit)? {
         if is_stored(node, &value) {
             parts.push(value)?;
         }
@@ -33,10 +35,11 @@ pub fn plain_parts(
 fn values_at(
     alloc: Global,
     node: &Node,
+    path: &str,
     pools: &Pools,
     limit: u64,
 ) -> Result<Vec<Tree>, AllocError> {
-    let mut values = values_of(alloc, &node.sort, pools, limit.saturating_sub(1))?;
+    let mut values = values_of(alloc, &node.sort, path, pools, limit.saturating_sub(1))?;
     if node.nullable {
         values.push(Tree::Null)?;
     }
@@ -48,22 +51,27 @@ fn values_at(
 fn values_of(
     alloc: Global,
     sort: &Sort,
+    path: &str,
     pools: &Pools,
     room: u64,
 ) -> Result<Vec<Tree>, AllocError> {
     match sort {
-        Sort::Scalar(scalar) => scalars(alloc, scalar, pools),
-        Sort::Open => copies(alloc, pools.any()),
+        Sort::Scalar(scalar) => match pools.list_at(path) {
+            Some(list) => copies(alloc, list),
+            None => scalars(alloc, scalar, pools),
+        },
+        Sort::Open => copies(alloc, pools.list_at(path).unwrap_or(pools.any())),
         Sort::Object(object) => {
-            let choices = field_choices(alloc, &object.fields, pools, room)?;
+            let choices = field_choices(alloc, &object.fields, path, pools, room)?;
             objects(alloc, &choices, room)
         }
         Sort::Map(map) => {
-            let choices = name_choices(alloc, node_below(&map.value), pools, room)?;
+            let choices = name_choices(alloc, node_below(&map.value), path, pools, room)?;
             objects(alloc, &choices, room)
         }
         Sort::List(list) => {
-            let items = values_at(alloc, node_below(&list.item), pools, room)?;
+            let below = path_below(alloc, path, Step::Item)?;
+            let items = values_at(alloc, node_below(&list.item), &below, pools, room)?;
             lists(alloc, &items, room)
         }
     }
@@ -99,12 +107,13 @@ pub struct Choice {
 pub fn plain_slots(
     alloc: Global,
     node: &Node,
+    path: &str,
     pools: &Pools,
     limit: u64,
 ) -> Result<Vec<Choice>, AllocError> {
     match &node.sort {
-        Sort::Object(object) => field_slots(alloc, &object.fields, pools, limit),
-        Sort::Map(map) => name_slots(alloc, node_below(&map.value), pools, limit),
+        Sort::Object(object) => field_slots(alloc, &object.fields, path, pools, limit),
+        Sort::Map(map) => name_slots(alloc, node_below(&map.value), path, pools, limit),
         Sort::Scalar(_) | Sort::Open | Sort::List(_) => Ok(Vec::new(alloc)),
     }
 }
@@ -113,12 +122,14 @@ pub fn plain_slots(
 fn field_slots(
     alloc: Global,
     fields: &Fields,
+    path: &str,
     pools: &Pools,
     limit: u64,
 ) -> Result<Vec<Choice>, AllocError> {
     let mut slots = Vec::new(alloc);
     for field in &fields.fields {
-        let values = plain_parts(alloc, &field.node, pools, limit)?;
+        let below = path_below(alloc, path, Step::Field(field.name.as_str()))?;
+        let values = plain_parts(alloc, &field.node, &below, pools, limit)?;
         let name = field.name.copy(alloc)?;
         let must = field.required || field.default.is_some();
         slots.push(Choice { name, must, values })?;
@@ -129,12 +140,14 @@ fn field_slots(
 fn name_slots(
     alloc: Global,
     node: &Node,
+    path: &str,
     pools: &Pools,
     limit: u64,
 ) -> Result<Vec<Choice>, AllocError> {
+    let below = path_below(alloc, path, Step::Value)?;
     let mut slots = Vec::new(alloc);
     for name in names_of(alloc, pools)? {
-        let values = plain_parts(alloc, node, pools, limit)?;
+        let values = plain_parts(alloc, node, &below, pools, limit)?;
         let must = false;
         slots.push(Choice { name, must, values })?;
     }
@@ -351,12 +364,14 @@ fn push_strings(alloc: Global, values: &mut Vec<Tree>, pools: &Pools) -> Result<
 fn field_choices(
     alloc: Global,
     fields: &Fields,
+    path: &str,
     pools: &Pools,
     room: u64,
 ) -> Result<Vec<Choice>, AllocError> {
     let mut choices = Vec::new(alloc);
     for field in &fields.fields {
-        let values = values_at(alloc, &field.node, pools, room)?;
+        let below = path_below(alloc, path, Step::Field(field.name.as_str()))?;
+        let values = values_at(alloc, &field.node, &below, pools, room)?;
         let name = field.name.copy(alloc)?;
         let must = false;
         choices.push(Choice { name, must, values })?;
@@ -368,12 +383,14 @@ fn field_choices(
 fn name_choices(
     alloc: Global,
     node: &Node,
+    path: &str,
     pools: &Pools,
     room: u64,
 ) -> Result<Vec<Choice>, AllocError> {
+    let below = path_below(alloc, path, Step::Value)?;
     let mut choices = Vec::new(alloc);
     for name in names_of(alloc, pools)? {
-        let values = values_at(alloc, node, pools, room)?;
+        let values = values_at(alloc, node, &below, pools, room)?;
         let must = false;
         choices.push(Choice { name, must, values })?;
     }

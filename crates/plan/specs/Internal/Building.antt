@@ -31,10 +31,10 @@ abbrev mutual
   AreFieldsSound (field k N required default fs) = IsSound N × AreFieldsSound fs
 
 -- a node and all below it; the node is the last
-pub record IsBuilt {Z : Type 0} (holds : Z → ℕ → Type 0) (limit : ℕ) (v : Values) (old new : List (Entry Z)) (N : Node) (keys : List (List ℕ)) (n : ℕ) : Type 0 where
-  pub count : length new ≡ length old + length (sites_from N keys)
+pub record IsBuilt {Z : Type 0} (holds : Z → ℕ → Type 0) (limit : ℕ) (P : Pools) (v : Values) (old new : List (Entry Z)) (path : List ℕ) (N : Node) (keys : List (List ℕ)) (n : ℕ) : Type 0 where
+  pub count : length new ≡ length old + length (sites_from path N keys)
   pub last : n + 1 ≡ length new
-  pub right : (P : Pools) (sites : List Site) → AreValues P v → IsSound N → Stand sites (length old) (sites_from N keys)
+  pub right : (sites : List Site) → AreValues P v → IsSound N → Stand sites (length old) (sites_from path N keys)
       → AreRight holds limit P v sites old → AreRight holds limit P v sites new
 
 -- the slot of a field
@@ -45,10 +45,10 @@ pub record IsFieldSlot (keys named : List (List ℕ)) (name : List ℕ) (require
   pub bit : s.bit ≡ bit_of name named
 
 -- fields and all below them
-pub record AreBuilt {Z : Type 0} (holds : Z → ℕ → Type 0) (limit : ℕ) (v : Values) (old new : List (Entry Z)) (fs : Fields) (keys named : List (List ℕ)) (slots : List SlotEntry) : Type 0 where
-  pub count : length new ≡ length old + length (sites_of_fields fs)
+pub record AreBuilt {Z : Type 0} (holds : Z → ℕ → Type 0) (limit : ℕ) (P : Pools) (v : Values) (old new : List (Entry Z)) (path : List ℕ) (fs : Fields) (keys named : List (List ℕ)) (slots : List SlotEntry) : Type 0 where
+  pub count : length new ≡ length old + length (sites_of_fields path fs)
   pub below : All (λ (s : SlotEntry). s.node < length new) slots
   pub bits : All (λ (s : SlotEntry). IsClosed (2 ^ length named) s.bit) slots
-  pub right : (P : Pools) (sites : List Site) → AreValues P v → AreFieldsSound fs → Stand sites (length old) (sites_of_fields fs)
+  pub right : (sites : List Site) → AreValues P v → AreFieldsSound fs → Stand sites (length old) (sites_of_fields path fs)
       → AreRight holds limit P v sites old → AreRight holds limit P v sites new
-  pub slots_are : (names : List (List ℕ)) (sites : List Site) (i : ℕ) → Stand sites (length old) (sites_of_fields fs) → length new ≤ i → AreSlots names sites i slots (field_slots keys named fs)
+  pub slots_are : (names : List (List ℕ)) (sites : List Site) (i : ℕ) → Stand sites (length old) (sites_of_fields path fs) → length new ≤ i → AreSlots names sites i slots (field_slots path keys named fs)

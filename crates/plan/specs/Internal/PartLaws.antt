@@ -29,6 +29,6 @@ pub record IsItemsPart (P : Pools) (s M : Site) (v : Data) : Type 0 where
   pub within : IsWithin (bounds_of s) (fault.items_count items)
 
 pub record PartLaws : Type 0 where
-  pub leaf : (P : Pools) (s : Site) (v : Data) → sort_of s ≡ Leaf → IsPart P s v ↔ (IsTree v × IsStored s.node v × (is_over_here P s.node v ≡ true))
+  pub leaf : (P : Pools) (s : Site) (v : Data) → sort_of s ≡ Leaf → IsPart P s v ↔ (IsTree v × IsStored s.node v × (is_over_here P s.path s.node v ≡ true))
   pub row : (P : Pools) (s : Site) (v : Data) → IsNode s.node → sort_of s ≡ Row → IsPart P s v ↔ (IsNullPart s v ⊎ IsObjectPart P s v)
   pub list : (P : Pools) (s M : Site) (v : Data) → item_site s ≡ Some M → IsPart P s v ↔ (IsNullPart s v ⊎ IsItemsPart P s M v)

@@ -1,42 +1,52 @@
--- The pools document: an object with any of the lists `integers`, `strings`, `names` and `any` (this project's own).
+-- The pools document: an object with any of the lists `integers`, `strings`, `names` and `any`, and of `paths`, an object of lists
+-- (this project's own).
 use Rattle.std.specs.Prelude.{◌≡◌, ℕ, ℤ, List, [], ◌∷◌, Bool, true, false, Option, Some, None, if◌then◌else◌, filter_map, codes}
 use Rattle.std.specs.Str.{bytes_eq}
-use Rattle.jtree.specs.Data.{Data, integer, text, list, object, Items, no_items, item, Members}
+use Rattle.jtree.specs.Data.{Data, integer, text, list, object, Items, Members, no_members}
 use Rattle.jtree.specs.Kind.{is_integer, is_text, is_list, is_object}
 use Rattle.jtree.specs.Path.{name, index, Path, item_at, member_at, under}
-use Rattle.plan.specs.Pools.Pools.{Pools}
+use Rattle.plan.specs.Pools.Pools.{Pools, items_list}
 
--- what the entries of a pool have to be, by its name: no other name is one of a pool
-abbrev pub entry_test : List ℕ → Option (Data → Bool)
-entry_test k =
-    if bytes_eq k (codes "integers") then Some is_integer else
-    if bytes_eq k (codes "strings") then Some is_text else
-    if bytes_eq k (codes "names") then Some is_text else
-    if bytes_eq k (codes "any") then Some (λ d. true) else None
+-- what a member has to be: a list of entries that pass a test, or an object of lists; no pool has another name
+pub data PoolForm : Type 0 where
+  entries : (Data → Bool) → PoolForm
+  lists : PoolForm
+  unknown : PoolForm
 
--- where a member breaks the form, counted from the member: at itself where its name is no pool's or it is no list, and at each
--- entry of another kind
-pub data BreaksPool : Option (Data → Bool) → Data → Path → Type 0 where
-  other_name : (d : Data) → BreaksPool None d []
-  no_list : (test : Data → Bool) (d : Data) → is_list d ≡ false → BreaksPool (Some test) d []
-  other_entry : (test : Data → Bool) (ds : Items) (i : ℕ) (v : Data) → item_at i ds ≡ Some v → test v ≡ false → BreaksPool (Some test) (list ds) (index i ∷ [])
+-- by its name
+abbrev pub pool_form : List ℕ → PoolForm
+pool_form k =
+    if bytes_eq k (codes "integers") then entries is_integer else
+    if bytes_eq k (codes "strings") then entries is_text else
+    if bytes_eq k (codes "names") then entries is_text else
+    if bytes_eq k (codes "any") then entries (λ d. true) else
+    if bytes_eq k (codes "paths") then lists else unknown
+
+-- where a member breaks the form, counted from the member: at itself where its name is no pool's or it is no list, or no object of
+-- lists, and at each entry of another kind
+pub data BreaksPool : PoolForm → Data → Path → Type 0 where
+  other_name : (d : Data) → BreaksPool unknown d []
+  no_list : (test : Data → Bool) (d : Data) → is_list d ≡ false → BreaksPool (entries test) d []
+  other_entry : (test : Data → Bool) (ds : Items) (i : ℕ) (v : Data) → item_at i ds ≡ Some v → test v ≡ false → BreaksPool (entries test) (list ds) (index i ∷ [])
+  no_lists : (d : Data) → is_object d ≡ false → BreaksPool lists d []
+  no_list_at : (ms : Members) (k : List ℕ) (v : Data) → member_at k ms ≡ Some v → is_list v ≡ false → BreaksPool lists (object ms) (name k ∷ [])
 
 -- where a document breaks the form: at itself where it is no object, and where its members do
 pub data BreaksForm : Data → Path → Type 0 where
   no_object : (d : Data) → is_object d ≡ false → BreaksForm d []
-  in_member : (ms : Members) (k : List ℕ) (v : Data) (path : Path) → member_at k ms ≡ Some v → BreaksPool (entry_test k) v path → BreaksForm (object ms) (name k ∷ path)
+  in_member : (ms : Members) (k : List ℕ) (v : Data) (path : Path) → member_at k ms ≡ Some v → BreaksPool (pool_form k) v path → BreaksForm (object ms) (name k ∷ path)
 
 abbrev pub HasForm : Data → Type 0
 HasForm d = (path : Path) → BreaksForm d path → ⊥
 
-abbrev pub trees_of : Items → List Data
-trees_of no_items = []
-trees_of (item d ds) = d ∷ trees_of ds
-
 -- a missing member is an empty pool
 abbrev pub entries_of : Option Data → List Data
-entries_of (Some (list ds)) = trees_of ds
+entries_of (Some (list ds)) = items_list ds
 entries_of _ = []
+
+abbrev pub members_of : Option Data → Members
+members_of (Some (object ms)) = ms
+members_of _ = no_members
 
 abbrev pub integer_of : Data → Option ℤ
 integer_of (integer z) = Some z
@@ -53,4 +63,5 @@ pools_of d = record {
   strings = filter_map text_of (entries_of (under d (codes "strings")));
   names = filter_map text_of (entries_of (under d (codes "names")));
   any = entries_of (under d (codes "any"));
+  paths = members_of (under d (codes "paths"));
 }

@@ -1,19 +1,38 @@
 -- Pools: the values that samples may hold, repeats among them (this project's own).
-use Rattle.std.specs.Prelude.{◌≤◌, ℕ, ℤ, List, length}
-use Rattle.jtree.specs.Data.{Data}
+use Rattle.std.specs.Prelude.{◌≡◌, ◌≤◌, ℕ, ℤ, List, [], ◌∷◌, length, Option, Some, None, option_and_then}
+use Rattle.jtree.specs.Data.{Data, list, Items, no_items, item, Members}
+use Rattle.jtree.specs.Path.{member_at}
+use Rattle.stored.specs.Objects.Fault.{members_count}
 
 pub record Pools : Type 0 where
   pub integers : List ℤ
   pub strings : List (List ℕ)
   pub names : List (List ℕ)
   pub any : List Data
+  -- lists of values, each under the text of the path of a field
+  pub paths : Members
 
--- the most integers, strings or trees of any kind
+abbrev pub items_list : Items → List Data
+items_list no_items = []
+items_list (item d ds) = d ∷ items_list ds
+
+abbrev pub entries_in : Data → Option (List Data)
+entries_in (list ds) = Some (items_list ds)
+entries_in _ = None
+
+-- the values at the path of a text, where the pools have a list for it
+abbrev pub list_at : List ℕ → Pools → Option (List Data)
+list_at text P = option_and_then entries_in (member_at text P.paths)
+
+-- the most integers, strings, trees of any kind, or values at a path
 abbrev pub most_entries : ℕ
 most_entries = 64
 
 abbrev pub most_names : ℕ
 most_names = 32
+
+abbrev pub most_paths : ℕ
+most_paths = 64
 
 -- entries count as written, each repeat
 pub record AreSmall (P : Pools) : Type 0 where
@@ -21,3 +40,5 @@ pub record AreSmall (P : Pools) : Type 0 where
   pub strings : length P.strings ≤ most_entries
   pub names : length P.names ≤ most_names
   pub any : length P.any ≤ most_entries
+  pub paths : members_count P.paths ≤ most_paths
+  pub at_paths : (text : List ℕ) (ds : List Data) → list_at text P ≡ Some ds → length ds ≤ most_entries

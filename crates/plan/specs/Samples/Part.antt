@@ -8,11 +8,11 @@ use Rattle.plan.specs.Pools.Pools.{Pools}
 use Rattle.plan.specs.Samples.Site.{Site, root_site}
 use Rattle.plan.specs.Samples.Over.{IsOver}
 
--- a tree that is stored at the site's node and over the pools
+-- a tree that is stored at the site's node, and over the pools at its path
 pub record IsPart (P : Pools) (s : Site) (v : Data) : Type 0 where
   pub tree : IsTree v
   pub stored : IsStored s.node v
-  pub over : IsOver P s.node v
+  pub over : IsOver P s.path s.node v
 
 -- a part of the root with at most as many nodes as the limit
 pub record IsSample (root : Node) (P : Pools) (limit : ℕ) (v : Data) : Type 0 where

@@ -5,14 +5,15 @@ use Rattle.schema.specs.Nodes.Node.{Node, node, Sort, object, list, open_, Field
 use Rattle.schema.specs.Nodes.Node as nodes
 use Rattle.schema.specs.declared.node.ListType.{ListType}
 use Rattle.schema.specs.declared.node.ListType.TheVariants.{Map}
+use Rattle.explain.specs.Paths.FieldPath as step
 use Rattle.plan.specs.Pools.Pools.{Pools}
 use Rattle.plan.specs.Samples.Names.{in_order}
 use Rattle.plan.specs.Samples.Presence.{named, bit_of}
-pub use Rattle.plan.specs.Samples.Site.{Site, plain, root_site}
+pub use Rattle.plan.specs.Samples.Site.{Site, plain, root_site, below}
 
 -- what stands for a site where there is none
 abbrev pub no_site : Site
-no_site = plain (node false None open_)
+no_site = plain [] (node false None open_)
 
 -- the names that tell the items of a list apart
 abbrev pub item_keys : ListType → List (List ℕ) → List (List ℕ)
@@ -20,31 +21,31 @@ item_keys Map keys = keys
 item_keys _ keys = []
 
 -- the site of the items of a list
-abbrev pub item_site_at : Node → Option Site
-item_site_at (node nullable description (list N type keys bounds)) = Some (record { node = N; keys = item_keys type keys })
-item_site_at _ = None
+abbrev pub item_site_at : List ℕ → Node → Option Site
+item_site_at path (node nullable description (list N type keys bounds)) = Some (record { node = N; keys = item_keys type keys; path = below path step.item })
+item_site_at path _ = None
 
 abbrev pub item_site : Site → Option Site
-item_site s = item_site_at s.node
+item_site s = item_site_at s.path s.node
 
 -- a site and all sites below it, those below a site before it
 abbrev mutual
-  pub sites_from : Node → List (List ℕ) → List Site
-  sites_from (node nullable description sort) keys = sites_below sort ++ record { node = node nullable description sort; keys = keys } ∷ []
+  pub sites_from : List ℕ → Node → List (List ℕ) → List Site
+  sites_from path (node nullable description sort) keys = sites_below path sort ++ record { node = node nullable description sort; keys = keys; path = path } ∷ []
 
-  pub sites_below : Sort → List Site
-  sites_below (object fs preserves type bounds cs) = sites_of_fields fs
-  sites_below (nodes.map N type bounds) = sites_from N []
-  sites_below (list N type keys bounds) = sites_from N (item_keys type keys)
-  sites_below _ = []
+  pub sites_below : List ℕ → Sort → List Site
+  sites_below path (object fs preserves type bounds cs) = sites_of_fields path fs
+  sites_below path (nodes.map N type bounds) = sites_from (below path step.value) N []
+  sites_below path (list N type keys bounds) = sites_from (below path step.item) N (item_keys type keys)
+  sites_below path _ = []
 
-  pub sites_of_fields : Fields → List Site
-  sites_of_fields no_fields = []
-  sites_of_fields (field k N required default fs) = sites_from N [] ++ sites_of_fields fs
+  pub sites_of_fields : List ℕ → Fields → List Site
+  sites_of_fields path no_fields = []
+  sites_of_fields path (field k N required default fs) = sites_from (below path (step.field k)) N [] ++ sites_of_fields path fs
 
 -- all sites of a schema
 abbrev pub sites_of : Node → List Site
-sites_of root = sites_from root []
+sites_of root = sites_from [] root []
 
 -- the site of a number: a node of a plan is a number, and stands for this site
 abbrev pub site_at : List Site → ℕ → Site
@@ -66,19 +67,19 @@ abbrev pub no_slot : Slot
 no_slot = record { name = []; site = no_site; must = false; key = false; bit = None }
 
 -- something must stand under a field that is required or has a default
-abbrev pub field_slots : List (List ℕ) → List (List ℕ) → Fields → List Slot
-field_slots keys names no_fields = []
-field_slots keys names (field k N required default fs) =
-    record { name = k; site = plain N; must = required || is_some default; key = is_among k keys; bit = bit_of k names } ∷ field_slots keys names fs
+abbrev pub field_slots : List ℕ → List (List ℕ) → List (List ℕ) → Fields → List Slot
+field_slots path keys names no_fields = []
+field_slots path keys names (field k N required default fs) =
+    record { name = k; site = plain (below path (step.field k)) N; must = required || is_some default; key = is_among k keys; bit = bit_of k names } ∷ field_slots path keys names fs
 
-abbrev pub value_slot : Node → List ℕ → Slot
-value_slot N k = record { name = k; site = plain N; must = false; key = false; bit = None }
+abbrev pub value_slot : List ℕ → Node → List ℕ → Slot
+value_slot path N k = record { name = k; site = plain (below path step.value) N; must = false; key = false; bit = None }
 
 -- the declared names of an object, and the names of the pools at a map
-abbrev pub slots_at : Pools → Node → List (List ℕ) → List Slot
-slots_at P (node nullable description (object fs preserves type bounds cs)) keys = field_slots keys (named cs) fs
-slots_at P (node nullable description (nodes.map N type bounds)) keys = map (value_slot N) (in_order P.names)
-slots_at P _ keys = []
+abbrev pub slots_at : Pools → List ℕ → Node → List (List ℕ) → List Slot
+slots_at P path (node nullable description (object fs preserves type bounds cs)) keys = field_slots path keys (named cs) fs
+slots_at P path (node nullable description (nodes.map N type bounds)) keys = map (value_slot path N) (in_order P.names)
+slots_at P path _ keys = []
 
 abbrev pub slots : Pools → Site → List Slot
-slots P s = slots_at P s.node s.keys
+slots P s = slots_at P s.path s.node s.keys

@@ -1,6 +1,6 @@
 -- Which node of a schema stands for a part of an object. Where none does the part is free: under a name that is not declared,
 -- below an open node, and where a value is not of its node's kind (apiextensions.k8s.io/v1, structural schemas).
-use Rattle.std.specs.Prelude.{◌≡◌, [], ◌∷◌, Bool, Option, Some, None, option_map, option_and_then}
+use Rattle.std.specs.Prelude.{[], ◌∷◌, Bool, Option, Some, None, option_map, option_and_then}
 use Rattle.jtree.specs.Data.{Data, Items, Members}
 use Rattle.jtree.specs.Data as tree
 use Rattle.jtree.specs.Path.{Step, name, index, Path, part_by}
@@ -61,7 +61,3 @@ part_by_path lead q (s ∷ path) = option_and_then (λ r. part_by_path lead r pa
 -- in the object as it is
 abbrev pub leads : Leading
 leads N v s = option_map (part_of (node_by (pair N v) s)) (part_by v s)
-
--- something holds of each part for which a node stands, and of that node
-abbrev pub Everywhere : (Node → Data → Type 0) → Node → Data → Type 0
-Everywhere Holds N v = (path : Path) (M : Node) (w : Data) → part_by_path leads (at N v) path ≡ Some (at M w) → Holds M w

@@ -3,7 +3,7 @@ use Rattle.jtree.specs.View.{data_of}
 use Rattle.schema.specs.Nodes.View.{node_of}
 use Rattle.explain.specs.Fields.View.{field_of}
 use Rattle.explain.specs.Internal.ListedByLevel.{progress, noted, told_as, below}
-use Rattle.explain.specs.Internal.StepView.{step_of}
+use Rattle.explain.specs.Paths.StepView.{step_of}
 use Rattle.explain.proofs.WalkLemmas.{left}
 use Rattle.explain.proofs.walk.+list.Goals as goal
 

@@ -4,7 +4,8 @@ use Rattle.schema.specs.Nodes.Node.{object, map as map_sort}
 use Rattle.plan.proofs.BuildingLemmas.{field_built, no_fields_built, row_built, list_built, last_site, three_ok}
 use Rattle.schema.specs.Nodes.View.{validations_of}
 use Rattle.plan.specs.Samples.Presence.{no_validations}
-use Rattle.plan.specs.Samples.Sites.{field_slots}
+use Rattle.explain.specs.Paths.FieldPath.{value}
+use Rattle.plan.specs.Samples.Sites.{below, field_slots}
 use Rattle.plan.specs.Internal.Arena.{AreSlots}
 use Rattle.plan.proofs.NameLemmas.{few_named}
 use Rattle.plan.proofs.SeenLemmas.{closed_of, map_met, object_met}
@@ -22,7 +23,7 @@ build_fields-loop-field-preserved g t c =
       values = c.in_ok-slot.ensures.values ∙ inv.values;
       limit = c.in_ok-slot.ensures.limit ∙ inv.limit;
       built = rw (c.in_ok-push.ensures.items, take_more items i field c.loop-field-test.true, ← c.field-item.is)
-          (field_built holds c.args.arena.now.limit c.args.arena.now.values c.args.arena.now.entries.items c.loop-field.arena.entries.items c.build_field.new.arena.entries.items (take i items) field c.args.keys.now c.args.named.now c.loop-field.slots.items c.in_ok-slot.slot inv.built built c.in_ok-slot.ensures.slot c.in_ok-slot.ensures.bit);
+          (field_built holds c.args.arena.now.limit c.args.pools.now c.args.arena.now.values c.args.arena.now.entries.items c.loop-field.arena.entries.items c.build_field.new.arena.entries.items c.args.path.now (take i items) field c.args.keys.now c.args.named.now c.loop-field.slots.items c.in_ok-slot.slot inv.built built c.in_ok-slot.ensures.slot c.in_ok-slot.ensures.bit);
     }
 
 pub build_object-returns-clause-built : goal.build_object-returns-clause-built
@@ -36,11 +37,11 @@ build_object-returns-clause-built g t c =
     let ends = c.in_ok-ends.ends.items in
     let added = rw c.deref-3.ensures.value at c.add_row.ensures in
     three_ok c.add_row.result _ _ _ _ added.number added.count (rw (c.in_ok-slots.ensures.limit, c.in_ok-slots.ensures.values) at added.right)
-    (λ n number count right d. row_built g.Z.SizeSet.holds c.args.arena.now.limit v c.args.arena.now.entries.items mid c.add_row.new.arena.entries.items c.args.nullable d (object o.fields o.preserves o.map_type o.bounds cs) c.args.keys.now o.bounds cs ends c.in_ok-slots.slots.items n
+    (λ n number count right d. row_built g.Z.SizeSet.holds c.args.arena.now.limit c.args.pools.now v c.args.arena.now.entries.items mid c.add_row.new.arena.entries.items c.args.path.now c.args.nullable d (object o.fields o.preserves o.map_type o.bounds cs) c.args.keys.now o.bounds cs ends c.in_ok-slots.slots.items n
     c.reveal_invariant.ensures refl refl
     (λ sound. object_met cs names ends (c.in_ok-named.ensures.names (few_named o.fields cs sound)) (rw c.deref-2.ensures.value at c.in_ok-ends.ensures.whole) (rw c.deref-2.ensures.value at c.in_ok-ends.ensures.each))
     (number ∙ b.count) count b.right
-    (λ P sites values sound stand. subst (λ ns. AreSlots v.names.items sites n c.in_ok-slots.slots.items (field_slots c.args.keys.now ns o.fields)) (c.in_ok-named.ensures.names (few_named o.fields cs sound)) (b.slots_are v.names.items sites n stand (omega arith))) right)
+    (λ sites values sound stand. subst (λ ns. AreSlots v.names.items sites n c.in_ok-slots.slots.items (field_slots c.args.path.now c.args.keys.now ns o.fields)) (c.in_ok-named.ensures.names (few_named o.fields cs sound)) (b.slots_are v.names.items sites n stand (omega arith))) right)
 
 pub build_map-returns-clause-built : goal.build_map-returns-clause-built
 build_map-returns-clause-built g t c =
@@ -49,21 +50,21 @@ build_map-returns-clause-built g t c =
     let old = c.args.arena.now.entries.items in
     let mid = c.build.new.arena.entries.items in
     let p = c.in_ok-value.value in
-    let b = rw c.node_below.ensures at c.in_ok-value.ensures.built in
+    let b = rw (c.node_below.ensures, c.deref.ensures, c.in_ok-below.ensures) at c.in_ok-value.ensures.built in
     let names = rw c.in_ok-value.ensures.values at c.len.ensures in
     let added = c.add_row.ensures in
     three_ok c.add_row.result _ _ _ _ added.number added.count (rw (c.in_ok-value.ensures.limit, c.in_ok-value.ensures.values) at added.right)
-    (λ n number count right d. row_built g.Z.SizeSet.holds c.args.arena.now.limit v old mid c.add_row.new.arena.entries.items c.args.nullable d (map_sort m.value m.map_type m.bounds) c.args.keys.now m.bounds no_validations _ c.in_ok-slots.slots.items n
+    (λ n number count right d. row_built g.Z.SizeSet.holds c.args.arena.now.limit c.args.pools.now v old mid c.add_row.new.arena.entries.items c.args.path.now c.args.nullable d (map_sort m.value m.map_type m.bounds) c.args.keys.now m.bounds no_validations _ c.in_ok-slots.slots.items n
     c.reveal_invariant.ensures refl refl (λ sound. map_met) (number ∙ b.count) count b.right
-    (λ P sites values sound stand. rw (← values.names) (c.in_ok-slots.ensures.slots v.names.items sites n m.value (omega (arith, names)) (omega (arith, b.last, number)) (last_site sites (length old) p m.value [] (omega (arith, b.last, b.count)) stand))) right)
+    (λ sites values sound stand. rw (← values.names) (c.in_ok-slots.ensures.slots v.names.items sites n c.args.path.now m.value (omega (arith, names)) (omega (arith, b.last, number)) (last_site sites (length old) p (below c.args.path.now value) m.value [] (omega (arith, b.last, b.count)) stand))) right)
 
 pub build_list-returns-clause-built : goal.build_list-returns-clause-built
 build_list-returns-clause-built g t c =
     let l = c.args.list.now in
-    let b = rw (c.node_below.ensures, c.item_keys.ensures) at c.in_ok-item.ensures.built in
+    let b = rw (c.node_below.ensures, c.item_keys.ensures, c.deref.ensures, c.in_ok-below.ensures) at c.in_ok-item.ensures.built in
     let added = c.add_list.ensures in
     three_ok c.add_list.result _ _ _ _ added.number added.count (rw (c.in_ok-item.ensures.limit, c.in_ok-item.ensures.values) at added.right)
-    (λ n number count right d. list_built g.Z.SizeSet.holds c.args.arena.now.limit c.args.arena.now.values c.args.arena.now.entries.items c.build.new.arena.entries.items c.add_list.new.arena.entries.items c.args.nullable d l.item l.list_type l.keys.items l.bounds c.args.keys.now
+    (λ n number count right d. list_built g.Z.SizeSet.holds c.args.arena.now.limit c.args.pools.now c.args.arena.now.values c.args.arena.now.entries.items c.build.new.arena.entries.items c.add_list.new.arena.entries.items c.args.path.now c.args.nullable d l.item l.list_type l.keys.items l.bounds c.args.keys.now
     c.in_ok-item.item n c.reveal_invariant.ensures b number count right)
 
 pub build_field-returns-clause-slot : goal.build_field-returns-clause-slot
@@ -72,7 +73,7 @@ build_field-returns-clause-slot g t c = record { name_is = λ names. c.in_ok-cop
 pub build_fields-loop-field-init : goal.build_fields-loop-field-init
 build_fields-loop-field-init g t c =
     let a = c.args.arena.now in
-    record { values = refl; limit = refl; built = rw c.new-slots.ensures.items (no_fields_built g.Z.SizeSet.holds a.limit a.values a.entries.items c.args.keys.now c.args.named.now) }
+    record { values = refl; limit = refl; built = rw c.new-slots.ensures.items (no_fields_built g.Z.SizeSet.holds a.limit c.args.pools.now a.values a.entries.items c.args.path.now c.args.keys.now c.args.named.now) }
 
 pub build_map-add_row-requires-clause-below : goal.build_map-add_row-requires-clause-below
 build_map-add_row-requires-clause-below g t c = λ k d l. let h = c.in_ok-slots.ensures.below k d l in omega (arith, c.in_ok-value.ensures.built.last)
@@ -81,4 +82,4 @@ pub build_list-add_list-requires-clause-item : goal.build_list-add_list-requires
 build_list-add_list-requires-clause-item g t c = omega (arith, c.in_ok-item.ensures.built.last)
 
 pub build_field-returns-clause-bit : goal.build_field-returns-clause-bit
-build_field-returns-clause-bit g t c = closed_of _ _ c.requires.few c.bit_of.ensures.below
+build_field-returns-clause-bit g t c = closed_of _ _ (search rules) c.bit_of.ensures.below

@@ -7,5 +7,5 @@ abbrev pub invariant-build_fields-loop-field : goal.invariant-build_fields-loop-
 invariant-build_fields-loop-field g l = record {
   values : l.arena.values ≡ l.fn.arena.values;
   limit : l.arena.limit ≡ l.fn.arena.limit;
-  built : AreBuilt g.Z.SizeSet.holds l.fn.arena.limit l.fn.arena.values l.fn.arena.entries.items l.arena.entries.items (fields_of (take l.field-index l.field-items)) l.keys l.named l.slots.items;
+  built : AreBuilt g.Z.SizeSet.holds l.fn.arena.limit l.pools l.fn.arena.values l.fn.arena.entries.items l.arena.entries.items l.path (fields_of (take l.field-index l.field-items)) l.keys l.named l.slots.items;
 }

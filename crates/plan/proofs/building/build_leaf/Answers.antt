@@ -7,6 +7,6 @@ use Rattle.plan.proofs.building.build_leaf.Goals as goal
 pub returns-clause-built : goal.returns-clause-built
 returns-clause-built g c = λ keys.
     let N = node_of c.args.node.now in
-    let s : Site = record { node = N; keys = keys } in
-    leaf_built g.Z.SizeSet.holds c.args.arena.now.limit c.args.arena.now.values c.args.arena.now.entries.items c.add.new.self.entries.items N keys c.in_ok-leaf.leaf c.leaf_sizes-sizes.result c.in_ok-node.node
-    c.requires.leaf c.in_ok-node.ensures.added c.in_ok-node.ensures.number c.in_ok-node.ensures.count (λ P values. c.in_ok-leaf.ensures P s values refl c.requires.leaf) (λ P values. c.leaf_sizes-sizes.ensures P s (c.in_ok-leaf.ensures P s values refl c.requires.leaf))
+    let s : Site = record { node = N; keys = keys; path = c.args.path.now } in
+    leaf_built g.Z.SizeSet.holds c.args.arena.now.limit c.args.pools.now c.args.arena.now.values c.args.arena.now.entries.items c.add.new.self.entries.items c.args.path.now N keys c.in_ok-leaf.leaf c.leaf_sizes-sizes.result c.in_ok-node.node
+    c.requires.leaf c.in_ok-node.ensures.added c.in_ok-node.ensures.number c.in_ok-node.ensures.count (λ values. c.in_ok-leaf.ensures s values refl refl c.requires.leaf) (λ values. c.leaf_sizes-sizes.ensures c.args.pools.now s (c.in_ok-leaf.ensures s values refl refl c.requires.leaf))

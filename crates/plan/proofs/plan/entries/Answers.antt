@@ -13,6 +13,6 @@ returns-clause-made g c =
     let v = c.in_ok-new.field-0 in
     let es = c.build.new.arena.entries.items in
     let sound = (schema_sound (c.items_told_apart.ensures, c.junctors_name_fields.ensures) c.args.schema.now c.root.ensures.schema).1 in
-    let built : IsBuilt holds c.args.limit v [] es c.args.schema.now [] c.in_ok-root.root = rw (c.new-2.ensures.items, c.root.ensures.node) at c.in_ok-root.ensures.built in
+    let built : IsBuilt holds c.args.limit c.args.pools.now v [] es [] c.args.schema.now [] c.in_ok-root.root = rw (c.new-2.ensures.items, c.root.ensures.node) at c.in_ok-root.ensures.built in
     rw c.in_ok-root.ensures.values
     (plan_made holds g.Z.SizeSet.BITS c.args.schema.now c.args.pools.now c.args.limit v es c.in_ok-root.root (omega (arith, c.BITS.ensures, c.if-limit-BITS.false)) (omega arith) c.in_ok-new.ensures sound built)

@@ -1,7 +1,7 @@
 use Rattle.std.proofs.Common.{◌≡◌, drop}
 use Rattle.jtree.specs.View.{members_of}
-use Rattle.plan.specs.Internal.PoolBreak.{members_break}
+use Rattle.plan.specs.Internal.PoolBreak.{member_break, members_break}
 use Rattle.plan.proofs.pool_form.members_break.Given as goal
 
 abbrev pub invariant-loop-member : goal.invariant-loop-member
-invariant-loop-member l = members_break (members_of (drop l.member-index l.member-items)) ≡ members_break (members_of l.member-items)
+invariant-loop-member l = members_break member_break (members_of (drop l.member-index l.member-items)) ≡ members_break member_break (members_of l.member-items)

@@ -3,7 +3,7 @@ use Rattle.std.proofs.lemmas.Result.{IfOk-weaker, IfErr-weaker}
 use Rattle.crdx.specs.Internal.Cause.{IsPoolsCause}
 use Rattle.crdx.specs.Program.RunResult.{no_samples}
 use Rattle.crdx.specs.declared.arguments.request.Request.TheVariants.{Sample}
-use Rattle.crdx.proofs.RunLemmas.{input_of_schema, pools_input, pools_before, after_input}
+use Rattle.crdx.proofs.RunLemmas.{input_of_schema, requested_root, pools_input, pools_before, sampling_input}
 use Rattle.crdx.proofs.running.sampling.sample_inputs.Goals as goal
 
 pub returns-in-Err-clause-cause : goal.returns-in-Err-clause-cause
@@ -34,16 +34,18 @@ returns-in-Ok-pools_of-clause-requested g c =
       unbroken = unbroken;
       root = nodes;
       pools = pools;
+      paths = is.1;
       limit = refl;
-      resumed = is.1;
-      envelope = is.2;
+      resumed = is.2;
+      envelope = is.3;
     })) c.inputs_of.ensures.ok
 
 pub returns-in-Ok-pools_of-clause-cause : goal.returns-in-Ok-pools_of-clause-cause
 returns-in-Ok-pools_of-clause-cause g c =
-    let (raw, asked, unbroken, nodes) = c.in-Ok.ensures.accepted in
     let has = g.I.Inputs.has c.args.inputs.now in
     let arguments = c.args.arguments.now in
+    let accepted = c.in-Ok.accepted in
     let pools = pools_before has (g.I.Inputs.has c.accepted_schema.new.inputs) arguments.pools c.in-Ok-pools_of.pools c.in-Ok.ensures.stays c.in-Ok-pools_of.ensures.ok in
-    IfErr-weaker c.inputs_of.result _ _ (λ cause. after_input has (g.I.Inputs.failures c.args.inputs.now) (g.I.Inputs.failures c.pools_of.new.inputs) arguments arguments.after cause refl
-    (raw, record { asked = (c.in-Ok.accepted.group, (c.in-Ok.accepted.kind, asked)); unbroken = unbroken }) c.in-Ok-pools_of.pools pools) c.inputs_of.ensures.cause
+    let root = requested_root has arguments.crd.now arguments.version.now accepted.group accepted.kind accepted.schema c.in-Ok.ensures.accepted in
+    IfErr-weaker c.inputs_of.result _ _ (λ cause. sampling_input has (g.I.Inputs.failures c.args.inputs.now) (g.I.Inputs.failures c.pools_of.new.inputs) arguments accepted.schema c.in-Ok-pools_of.pools
+    (record { root = root; pools = pools }) arguments.after cause refl) c.inputs_of.ensures.cause

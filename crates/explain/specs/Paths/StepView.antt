@@ -1,4 +1,4 @@
--- For private contracts: what a step of the code stands for.
+-- What a step of the code stands for.
 use Rattle.explain.specs.Paths.FieldPath.{FieldStep, field, item, value}
 use Rattle.explain.specs.declared.path_text.Step.{Step}
 use Rattle.explain.specs.declared.path_text.Step.TheVariants as step
