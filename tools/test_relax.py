@@ -409,9 +409,9 @@ ROOTS = [
     ("what a root may not have", {"type": "object", "nullable": True, "default": {}, "minProperties": 3, "maxProperties": 9,
         "additionalProperties": True, "required": ["kind", "spec", "what"], "anyOf": [{"required": ["kind"]}],
         "oneOf": [{"required": ["spec"]}, {"required": ["status"]}], "x-kubernetes-validations": [],
-        "properties": {"spec": {"type": "string"}, "status": {"type": "string"}}},
+        "properties": {"kind": {"type": "string"}, "spec": {"type": "string"}, "status": {"type": "string"}}},
      {"type": "object", "required": ["kind", "spec"], "oneOf": [{"required": ["spec"]}, {"required": ["status"]}],
-        "properties": {"spec": {"type": "string"}, "status": {"type": "string"}}, **OPEN},
+        "properties": {"kind": {"type": "string"}, "spec": {"type": "string"}, "status": {"type": "string"}}, **OPEN},
      ['"" "additionalProperties": dropped', '"" "anyOf": dropped', '"" "default": dropped', '"" "maxProperties": dropped',
       '"" "minProperties": dropped', '"" "nullable": dropped', '"" "required": without "what"', '"" "x-kubernetes-preserve-unknown-fields": set to true',
       '"" "x-kubernetes-validations": dropped']),
@@ -754,6 +754,20 @@ class Structural(unittest.TestCase):
         for name, schema in [("fields", {"type": "object", "properties": groups}), *(root[:2] for root in ROOTS)]:
             with self.subTest(name):
                 self.assertEqual(self.check(json.dumps(definition(schema))), (0, "structural\n"))
+
+    def test_samples_without_status(self):
+        """With `status` out of the schema, the samples are those that had none."""
+        folder = ROOT / "examples" / "certificate"
+        document = json.loads((folder / "relaxed.json").read_text(encoding="utf-8"))
+        del schema_of(document)["properties"]["status"]
+        lines = (folder / "samples-of-8-nodes.txt").read_text(encoding="utf-8").splitlines(keepends=True)
+        with tempfile.TemporaryDirectory() as temporary:
+            file = Path(temporary) / "no-status.json"
+            file.write_text(json.dumps(document), encoding="utf-8")
+            got = program("sample", file, "v1", "--pools", folder / "pools.json", "--limit", "8", "--name", "sample")
+        envelope = '{"apiVersion":"certs.example.org/v1","kind":"Certificate","metadata":{"name":"sample"},'
+        wanted = [envelope + line[1:] for line in lines if '"status"' not in line]
+        self.assertEqual(got, (0, "".join(wanted)))
 
     def test_drawn(self):
         """Schemas drawn at random break no rule but that on bad defaults, which crdx asks only where no other is broken."""
