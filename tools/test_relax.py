@@ -601,7 +601,7 @@ class Streams(unittest.TestCase):
 
     def test_a_reader_that_goes_away_is_not_told_of(self):
         self.assertEqual(self.shell('"$1" | head -n 1; echo "${PIPESTATUS[0]}"', self.long), (0, "{\n4\n", ""))
-        self.assertEqual(self.shell('"$1" --help | true; echo "${PIPESTATUS[0]}"')[1:][1], "")
+        self.assertEqual(self.shell('"$1" --help | true'), (0, "", ""))
 
     def test_a_full_device(self):
         self.assertEqual(self.shell('"$1" >/dev/full', self.long), (4, "", "crdx-relax: write failed\n"))
