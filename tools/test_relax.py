@@ -387,6 +387,11 @@ FIELDS = [
         "type": "object", "properties": {"k": {"type": "string"}}}},
      {"type": "array", "x-kubernetes-list-type": "atomic", "items": {"type": "object", "properties": {"k": {"type": "string"}}}},
      [("", "x-kubernetes-list-map-keys", "dropped"), ("", "x-kubernetes-list-type", '"map" becomes "atomic"')], [[{}, {"k": "a"}]]),
+    ("a key twice", {"type": "array", "x-kubernetes-list-type": "map", "x-kubernetes-list-map-keys": ["k", "k"], "items": {
+        "type": "object", "required": ["k"], "properties": {"k": {"type": "string"}}}},
+     {"type": "array", "x-kubernetes-list-type": "atomic", "items": {
+        "type": "object", "required": ["k"], "properties": {"k": {"type": "string"}}}},
+     [("", "x-kubernetes-list-map-keys", "dropped"), ("", "x-kubernetes-list-type", '"map" becomes "atomic"')], [[{"k": "a"}]]),
     ("items that may be null", {"type": "array", "x-kubernetes-list-type": "map", "x-kubernetes-list-map-keys": ["k"], "items": {
         "type": "object", "nullable": True, "required": ["k"], "properties": {"k": {"type": "string"}}}},
      {"type": "array", "x-kubernetes-list-type": "atomic", "items": {
