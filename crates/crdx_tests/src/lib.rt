@@ -8,6 +8,7 @@
 //! | `schema_tests/limit_cases` | schemas at each limit and past it |
 //! | `schema_tests/marker_cases` | the markers of lists and maps (V10 to V13) |
 //! | `schema_tests/profile_cases` | junctors and the profile (V16, V17) |
+//! | `schema_tests/reason_cases` | the reasons of violations, a row for each |
 //! | `schema_tests/node_cases` | the nodes of each sort |
 //! | `stored_tests/default_cases` | defaults that are misplaced or bad (V15, V14) |
 //! | `stored_tests/object_cases` | objects that are valid or not, pruned, completed |

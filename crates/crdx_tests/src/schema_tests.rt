@@ -3,3 +3,4 @@ mod marker_cases;
 mod node_cases;
 mod profile_cases;
 mod reading_cases;
+mod reason_cases;

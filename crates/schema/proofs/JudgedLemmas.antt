@@ -4,7 +4,7 @@ use Rattle.std.specs.Prelude.{◌↔◌, All, IsTrue, map, string_bytes}
 use Rattle.std.specs.Cmp.{nat_cmp_is}
 use Rattle.std.specs.Ordering.{nat_cmp}
 use Rattle.std.proofs.lemmas.Cmp.{tied_itself}
-use Rattle.std.proofs.lemmas.List.{append_assoc, append-nil, map-append, take_more}
+use Rattle.std.proofs.lemmas.List.{append-nil, map-append, take_more}
 use Rattle.std.proofs.lemmas.Grind.{flat_map-append}
 use Rattle.std.specs.declared.cmp.Ordering.TheVariants.{Less}
 use Rattle.jtree.specs.Data.{Data, object, Members, AreMembers}
@@ -13,9 +13,10 @@ use Rattle.schema.specs.Document.Places.{Place, place_path, place_pointer, IsPla
 use Rattle.schema.specs.Internal.PlaceView.{place_of, subschema_of}
 use Rattle.schema.specs.Internal.Events.{Event, entered, too_long, IsIn, Ascend, subschemas_of, schema_events}
 use Rattle.schema.specs.Rules.Broken.{Broken, metadata_keyword, metadata_type, metadata_field}
-use Rattle.schema.specs.Rules.Breaks.{Break, number, break_cmp, Told, told, told_of, AreViolations}
+use Rattle.schema.specs.Rules.Breaks.{Break, number, break_cmp, Told, told, told_of, AreBreaks, AreViolations}
+use Rattle.schema.specs.Rules.Explained.{OneByOne}
 use Rattle.schema.specs.Internal.Subschemas.{IsSubschema, AreSubschemas}
-use Rattle.schema.specs.Internal.Judged.{judged, pair, pairs_at, pairs_of, AreBroken, none, broken, kept, AreFound}
+use Rattle.schema.specs.Internal.Judged.{judged, pair, pairs_at, pairs_of, AddsBreaks, IsTold}
 use Rattle.schema.specs.declared.listing.Subschema.{Subschema}
 use Rattle.schema.specs.declared.violation.Rule.{Rule}
 use Rattle.schema.specs.declared.violation.Rule.TheVariants.{V01, V02, V03, V04, V05, V06, V07, V08, V09, V10, V11, V12, V13, V15, V16, V17}
@@ -23,26 +24,7 @@ use Rattle.schema.specs.declared.violation.Violation.{Violation}
 use Rattle.jtree.specs.Internal.Rising.{Among, Rising, contains, each_of, all_pairs, among_left, among_right, among_parts, rising_join}
 use Rattle.schema.proofs.LimitLemmas.{path_total}
 use Rattle.schema.proofs.EventLemmas.{schema_events_are}
-
--- ---- what is found
-
-broken-append : (raw : Data) (ps qs bs cs : List Break) → AreBroken raw ps bs → AreBroken raw qs cs → AreBroken raw (ps ++ qs) (bs ++ cs)
-broken-append raw ps qs bs cs (none r) h = h
-broken-append raw ps qs bs cs (broken r b rest more is f) h = broken r b (rest ++ qs) (more ++ cs) is (broken-append r rest qs more cs f h)
-broken-append raw ps qs bs cs (kept r b rest more not f) h = kept r b (rest ++ qs) (more ++ cs) not (broken-append r rest qs more cs f h)
-
-pub found_none : {Known : Data → Type 0} (old : List Violation) → AreFound Known [] old old
-found_none old = record { found = []; told_as = sym (append-nil (map told old)); are = λ raw known. none raw }
-
-found_join : {Known Needed : Data → Type 0} (ps qs : List Break) (old mid new : List Violation) → ((raw : Data) → Known raw → Needed raw)
-    → AreFound Known ps old mid → AreFound Needed qs mid new → AreFound Known (ps ++ qs) old new
-found_join ps qs old mid new enough f g = record {
-  found = f.found ++ g.found;
-  told_as =
-      g.told_as ∙ ap (λ ts. ts ++ map told_of g.found) f.told_as ∙ append_assoc (map told old) (map told_of f.found) (map told_of g.found)
-      ∙ ap (λ ts. map told old ++ ts) (sym (map-append told_of f.found g.found));
-  are = λ raw known. broken-append raw ps qs f.found g.found (f.are raw known) (g.are raw (enough raw known));
-}
+use Rattle.schema.proofs.TakenLemmas.{same_each, same_all, same_rising, taken_split, adds_join, adds_one, adds_nothing}
 
 -- ---- one more rule, and one more place
 
@@ -50,79 +32,49 @@ more_pairs : (p : Place) (rules : List Rule) (i : ℕ) (d : Rule) → i < length
     → pairs_at p (take (i + 1) rules) ≡ pairs_at p (take i rules) ++ (pair p (get_or rules i d) ∷ [])
 more_pairs p rules i d within = ap (pairs_at p) (take_more rules i d within) ∙ map-append (pair p) (take i rules) (get_or rules i d ∷ [])
 
-pub found_rule : (v : Subschema) (rules : List Rule) (i : ℕ) (d : Rule) (old mid : List Violation) (w : Violation) → i < length rules
-    → w.rule ≡ get_or rules i d → string_bytes w.pointer ≡ place_pointer (place_of v.place.items)
-    → ((raw : Data) → IsSubschema raw v → IsTrue true ↔ Broken raw (place_of v.place.items) (get_or rules i d))
-    → AreFound (λ raw. IsSubschema raw v) (pairs_at (place_of v.place.items) (take i rules)) old mid
-    → AreFound (λ raw. IsSubschema raw v) (pairs_at (place_of v.place.items) (take (i + 1) rules)) old (mid ++ (w ∷ []))
-found_rule v rules i d old mid w within rule_is pointer_is is f =
-    let p = place_of v.place.items in
-    let r = get_or rules i d in
+-- a violation with the pointer of the place tells the break there
+pub is_told : (p : Place) (r : Rule) (w : Violation) → w.rule ≡ r → string_bytes w.pointer ≡ place_pointer p → told w ≡ told_of (pair p r)
+is_told p r w rule_is pointer_is =
     let as_told : List ℕ → Rule → Told = λ bytes rule. record { pointer = bytes; rule = rule } in
-    let tells : told w ≡ told_of (pair p r) = ap (λ bytes. as_told bytes w.rule) pointer_is ∙ ap (as_told (place_pointer p)) rule_is in
-    let one : AreFound (λ raw. IsSubschema raw v) (pair p r ∷ []) mid (mid ++ (w ∷ [])) = record {
-      found = pair p r ∷ [];
-      told_as = map-append told mid (w ∷ []) ∙ ap (λ t. map told mid ++ (t ∷ [])) tells;
-      are = λ raw known. broken raw (pair p r) [] [] ((is raw known).0 refl) (none raw);
-    } in
-    subst (λ ps. AreFound (λ raw. IsSubschema raw v) ps old (mid ++ (w ∷ []))) (sym (more_pairs p rules i d within))
-    (found_join (pairs_at p (take i rules)) (pair p r ∷ []) old mid (mid ++ (w ∷ [])) (λ raw known. known) f one)
+    ap (λ bytes. as_told bytes w.rule) pointer_is ∙ ap (as_told (place_pointer p)) rule_is
 
-pub kept_rule : (v : Subschema) (rules : List Rule) (i : ℕ) (d : Rule) (old mid : List Violation) → i < length rules
-    → ((raw : Data) → IsSubschema raw v → IsTrue false ↔ Broken raw (place_of v.place.items) (get_or rules i d))
-    → AreFound (λ raw. IsSubschema raw v) (pairs_at (place_of v.place.items) (take i rules)) old mid
-    → AreFound (λ raw. IsSubschema raw v) (pairs_at (place_of v.place.items) (take (i + 1) rules)) old mid
-kept_rule v rules i d old mid within is f =
+pub found_rule : {Y : Type 0} (T : Data → Break → Y → Type 0) (v : Subschema) (rules : List Rule) (i : ℕ) (d : Rule) (old mid : List Y) (y : Y) → i < length rules
+    → ((raw : Data) → IsSubschema raw v → T raw (pair (place_of v.place.items) (get_or rules i d)) y)
+    → ((raw : Data) → IsSubschema raw v → IsTrue true ↔ Broken raw (place_of v.place.items) (get_or rules i d))
+    → AddsBreaks T (λ raw. IsSubschema raw v) (pairs_at (place_of v.place.items) (take i rules)) old mid
+    → AddsBreaks T (λ raw. IsSubschema raw v) (pairs_at (place_of v.place.items) (take (i + 1) rules)) old (mid ++ (y ∷ []))
+found_rule T v rules i d old mid y within tells is f =
     let p = place_of v.place.items in
-    let r = get_or rules i d in
-    let one : AreFound (λ raw. IsSubschema raw v) (pair p r ∷ []) mid mid = record {
-      found = [];
-      told_as = sym (append-nil (map told mid));
-      are = λ raw known. kept raw (pair p r) [] [] (λ h. let no : false ≡ true = (is raw known).1 h in cc) (none raw);
-    } in
-    subst (λ ps. AreFound (λ raw. IsSubschema raw v) ps old mid) (sym (more_pairs p rules i d within))
-    (found_join (pairs_at p (take i rules)) (pair p r ∷ []) old mid mid (λ raw known. known) f one)
+    let b = pair p (get_or rules i d) in
+    subst (λ ps. AddsBreaks T (λ raw. IsSubschema raw v) ps old (mid ++ (y ∷ []))) (sym (more_pairs p rules i d within))
+    (adds_join (pairs_at p (take i rules)) (b ∷ []) old mid (mid ++ (y ∷ [])) (λ raw known. known) f
+    (adds_one b y mid (λ raw known. ((is raw known).0 refl, tells raw known))))
 
-pub found_subschema : (subschemas : List Subschema) (i : ℕ) (v : Subschema) (mid new : List Violation) → i < length subschemas → v ≡ get_or subschemas i v
-    → AreFound (λ raw. IsSubschema raw v) (pairs_at (place_of v.place.items) judged) mid new
-    → AreFound (λ raw. All (IsSubschema raw) subschemas) (pairs_of (take i subschemas)) [] mid
-    → AreFound (λ raw. All (IsSubschema raw) subschemas) (pairs_of (take (i + 1) subschemas)) [] new
-found_subschema subschemas i v mid new within at here f =
+pub kept_rule : {Y : Type 0} (T : Data → Break → Y → Type 0) (v : Subschema) (rules : List Rule) (i : ℕ) (d : Rule) (old mid : List Y) → i < length rules
+    → ((raw : Data) → IsSubschema raw v → IsTrue false ↔ Broken raw (place_of v.place.items) (get_or rules i d))
+    → AddsBreaks T (λ raw. IsSubschema raw v) (pairs_at (place_of v.place.items) (take i rules)) old mid
+    → AddsBreaks T (λ raw. IsSubschema raw v) (pairs_at (place_of v.place.items) (take (i + 1) rules)) old mid
+kept_rule T v rules i d old mid within is f =
+    let p = place_of v.place.items in
+    let b = pair p (get_or rules i d) in
+    subst (λ ps. AddsBreaks T (λ raw. IsSubschema raw v) ps old mid) (sym (more_pairs p rules i d within))
+    (adds_join (pairs_at p (take i rules)) (b ∷ []) old mid mid (λ raw known. known) f
+    (adds_nothing b mid (λ raw known h. let never : false ≡ true = (is raw known).1 h in cc)))
+
+pub found_subschema : {Y : Type 0} (T : Data → Break → Y → Type 0) (subschemas : List Subschema) (i : ℕ) (v : Subschema) (mid new : List Y) → i < length subschemas
+    → v ≡ get_or subschemas i v → AddsBreaks T (λ raw. IsSubschema raw v) (pairs_at (place_of v.place.items) judged) mid new
+    → AddsBreaks T (λ raw. All (IsSubschema raw) subschemas) (pairs_of (take i subschemas)) [] mid
+    → AddsBreaks T (λ raw. All (IsSubschema raw) subschemas) (pairs_of (take (i + 1) subschemas)) [] new
+found_subschema T subschemas i v mid new within at here f =
     let pairs = λ (w : Subschema). pairs_at (place_of w.place.items) judged in
     let more : take (i + 1) subschemas ≡ take i subschemas ++ (v ∷ []) = take_more subschemas i v within ∙ ap (λ w. take i subschemas ++ (w ∷ [])) (sym at) in
     let split : pairs_of (take (i + 1) subschemas) ≡ pairs_of (take i subschemas) ++ pairs v =
     ap pairs_of more ∙ flat_map-append pairs (take i subschemas) (v ∷ []) ∙ ap (λ ps. pairs_of (take i subschemas) ++ ps) (append-nil (pairs v)) in
-    subst (λ ps. AreFound (λ raw. All (IsSubschema raw) subschemas) ps [] new) (sym split)
-    (found_join (pairs_of (take i subschemas)) (pairs v) [] mid new (λ raw all. subst (IsSubschema raw) (sym at) (all i v within)) f here)
-
--- ---- broken pairs
-
-broken_each : (raw : Data) (ps bs : List Break) (b : Break) → AreBroken raw ps bs → Among bs b → Broken raw b.place b.rule
-broken_each raw ps bs b (none r) a = elim a [ ]
-broken_each raw ps bs b (broken r c rest more is f) (inl e) = subst (λ x. Broken r x.place x.rule) e is
-broken_each raw ps bs b (broken r c rest more is f) (inr a) = broken_each r rest more b f a
-broken_each raw ps bs b (kept r c rest more not f) a = broken_each r rest more b f a
-
-broken_all : (raw : Data) (ps bs : List Break) (b : Break) → AreBroken raw ps bs → Among ps b → Broken raw b.place b.rule → Among bs b
-broken_all raw ps bs b (none r) a h = elim a [ ]
-broken_all raw ps bs b (broken r c rest more is f) (inl e) h = inl e
-broken_all raw ps bs b (broken r c rest more is f) (inr a) h = inr (broken_all r rest more b f a h)
-broken_all raw ps bs b (kept r c rest more not f) (inl e) h = absurd (not (subst (λ x. Broken r x.place x.rule) (sym e) h))
-broken_all raw ps bs b (kept r c rest more not f) (inr a) h = broken_all r rest more b f a h
-
-broken_from : (raw : Data) (ps bs : List Break) (b : Break) → AreBroken raw ps bs → Among bs b → Among ps b
-broken_from raw ps bs b (none r) a = a
-broken_from raw ps bs b (broken r c rest more is f) (inl e) = inl e
-broken_from raw ps bs b (broken r c rest more is f) (inr a) = inr (broken_from r rest more b f a)
-broken_from raw ps bs b (kept r c rest more not f) a = inr (broken_from r rest more b f a)
+    subst (λ ps. AddsBreaks T (λ raw. All (IsSubschema raw) subschemas) ps [] new) (sym split)
+    (adds_join (pairs_of (take i subschemas)) (pairs v) [] mid new (λ raw all. subst (IsSubschema raw) (sym at) (all i v within)) f here)
 
 abbrev IsLess : Break → Break → Type 0
 IsLess b c = break_cmp b c ≡ Less
-
-broken_rising : (raw : Data) (ps bs : List Break) → AreBroken raw ps bs → Rising IsLess ps → Rising IsLess bs
-broken_rising raw ps bs (none r) h = tt
-broken_rising raw ps bs (broken r c rest more is f) h = (λ b a. h.0 b (broken_from r rest more b f a), broken_rising r rest more f h.1)
-broken_rising raw ps bs (kept r c rest more not f) h = broken_rising r rest more f h.1
 
 -- ---- each rule that is broken is judged, at a place
 
@@ -290,20 +242,35 @@ place_entered ms subschemas o are p at =
 subschemas_earlier : (ms : Members) (subschemas : List Subschema) → AreMembers ms → AreSubschemas ms subschemas → Rising Earlier subschemas
 subschemas_earlier ms subschemas o are = subschemas_rising subschemas (subst Ascend (sym are.whole) (subschemas_ascend (schema_events [] ms) (schema_events_are ms o).ascending))
 
-pub violations_of : (ms : Members) (subschemas : List Subschema) (violations : List Violation) → AreMembers ms → AreSubschemas ms subschemas
-    → AreFound (λ raw. All (IsSubschema raw) subschemas) (pairs_of subschemas) [] violations → AreViolations (Broken (object ms)) violations
-violations_of ms subschemas violations o are f =
+-- what is told of the pairs are the breaks, one by one
+pub breaks_told : {Y : Type 0} (T : Data → Break → Y → Type 0) (ms : Members) (subschemas : List Subschema) (ys : List Y) → AreMembers ms → AreSubschemas ms subschemas
+    → AddsBreaks T (λ raw. All (IsSubschema raw) subschemas) (pairs_of subschemas) [] ys
+    → (breaks : List Break) × AreBreaks (Broken (object ms)) breaks × OneByOne (T (object ms)) breaks ys
+breaks_told T ms subschemas ys o are f =
     let raw = object ms in
-    let broken = f.are raw are.each in
-    let each = λ (b : Break) (a : Among f.found b). broken_each raw (pairs_of subschemas) f.found b broken a in (
-      f.found,
+    let P = λ (b : Break). Broken raw b.place b.rule in
+    let split = taken_split P (T raw) (pairs_of subschemas) f.more (f.are raw are.each) in
+    let breaks = split.0 in (
+      breaks,
       record {
-        each = each_of (λ b. Broken raw b.place b.rule) f.found each;
+        each = each_of P breaks (λ b a. (same_each P (pairs_of subschemas) breaks b split.1 a).1);
         all = λ p r h.
             let v = place_entered ms subschemas o are p (at_place raw p r h) in
             let here : Among (pairs_of subschemas) (pair p r) = subst (λ q. Among (pairs_of subschemas) (pair q r)) v.2 (among_all subschemas v.0 r v.1 (is_judged raw p r h)) in
-            contains f.found (pair p r) (broken_all raw (pairs_of subschemas) f.found (pair p r) broken here h);
-        ascending = all_pairs IsLess f.found (broken_rising raw (pairs_of subschemas) f.found broken (all_rising subschemas (subschemas_earlier ms subschemas o are)));
+            contains breaks (pair p r) (same_all P (pairs_of subschemas) breaks (pair p r) split.1 here h);
+        ascending = all_pairs IsLess breaks (same_rising P IsLess (pairs_of subschemas) breaks split.1 (all_rising subschemas (subschemas_earlier ms subschemas o are)));
       },
-      f.told_as,
+      subst (OneByOne (T raw) breaks) (sym f.grown) split.2,
     )
+
+told_one_by_one : (raw : Data) (breaks : List Break) (violations : List Violation) → OneByOne (IsTold raw) breaks violations → map told violations ≡ map told_of breaks
+told_one_by_one raw [] [] h = refl
+told_one_by_one raw (b ∷ breaks) (v ∷ violations) h = ap (λ t. t ∷ map told violations) h.0 ∙ ap (λ ts. told_of b ∷ ts) (told_one_by_one raw breaks violations h.1)
+told_one_by_one raw [] (v ∷ violations) h = absurd h
+told_one_by_one raw (b ∷ breaks) [] h = absurd h
+
+pub violations_of : (ms : Members) (subschemas : List Subschema) (violations : List Violation) → AreMembers ms → AreSubschemas ms subschemas
+    → AddsBreaks IsTold (λ raw. All (IsSubschema raw) subschemas) (pairs_of subschemas) [] violations → AreViolations (Broken (object ms)) violations
+violations_of ms subschemas violations o are f =
+    let b = breaks_told IsTold ms subschemas violations o are f in
+    (b.0, b.1, told_one_by_one (object ms) b.0 violations b.2)

@@ -22,3 +22,10 @@ pub mod ByPlaceLemmas
 pub mod ItemLemmas
 pub mod NamedLemmas
 pub mod JunctorLemmas
+pub mod ReasonWords
+pub mod KeyReasons
+pub mod ProfileReasons
+pub mod BranchReasons
+pub mod ReasonLaw
+pub mod TakenLemmas
+pub mod FindingLemmas

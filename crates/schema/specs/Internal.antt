@@ -8,9 +8,12 @@ pub mod Subschemas
 pub mod Contexts
 pub mod KindView
 pub mod RuleParts
+pub mod ReasonParts
 pub mod Named
 pub mod NamedView
+pub mod Taken
 pub mod Judged
+pub mod Findings
 pub mod NodeOf
 pub mod Building
 pub mod NodeCode

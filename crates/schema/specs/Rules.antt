@@ -6,3 +6,5 @@ pub mod Profile
 pub mod Junctors
 pub mod Broken
 pub mod Breaks
+pub mod Reasons
+pub mod Explained

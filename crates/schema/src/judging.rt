@@ -5,7 +5,7 @@ ghost use Rattle.schema.specs.Internal.PlaceView.{place_of};
 ghost use Rattle.schema.specs.Internal.Subschemas.{IsSubschema, AreSubschemas};
 ghost use Rattle.schema.specs.Rules.Broken.{Broken};
 ghost use Rattle.schema.specs.Rules.Breaks.{AreViolations};
-ghost use Rattle.schema.specs.Internal.Judged.{judged, pairs_at, AreFound};
+ghost use Rattle.schema.specs.Internal.Judged.{judged, pairs_at, AddsBreaks, IsTold};
 ghost use Rattle.schema.specs.declared.fault.SFault.TheVariants.{NoMemory};
 
 use crate::fault::SFault;
@@ -43,20 +43,16 @@ fn breaks_of(alloc: Global, subschemas: &[Subschema<'_>]) -> Result<Vec<Violatio
 {
     let mut violations = Vec::new(alloc);
     for subschema in subschemas {
-        judge(alloc, subschema, &mut violations)?;
+        judge(alloc, subschema, &judged_rules(), &mut violations)?;
     }
     Ok(violations)
 }
 
-/// Adds the breaks of a place.
-fn judge(
-    alloc: Global,
-    subschema: &Subschema<'_>,
-    violations: &mut Vec<Violation>,
-) -> Result<(), AllocError>
-    ensures { OnOk result (AreFound (λ raw. IsSubschema raw subschema.now) (pairs_at (place_of subschema.now.place.items) judged) violations.old.items violations.new.items) }
+/// The rules that are judged, in order.
+pub(crate) fn judged_rules() -> [Rule; 16]
+    ensures { result ≡ judged }
 {
-    let rules = [
+    [
         Rule::V01,
         Rule::V02,
         Rule::V03,
@@ -73,18 +69,17 @@ fn judge(
         Rule::V15,
         Rule::V16,
         Rule::V17,
-    ];
-    judge_by(alloc, subschema, &rules, violations)
+    ]
 }
 
 /// Adds the breaks of these rules at a place.
-fn judge_by(
+fn judge(
     alloc: Global,
     subschema: &Subschema<'_>,
     rules: &[Rule],
     violations: &mut Vec<Violation>,
 ) -> Result<(), AllocError>
-    ensures { OnOk result (AreFound (λ raw. IsSubschema raw subschema.now) (pairs_at (place_of subschema.now.place.items) rules.now) violations.old.items violations.new.items) }
+    ensures { OnOk result (AddsBreaks IsTold (λ raw. IsSubschema raw subschema.now) (pairs_at (place_of subschema.now.place.items) rules.now) violations.old.items violations.new.items) }
 {
     for rule in rules {
         if is_broken(subschema, *rule) {

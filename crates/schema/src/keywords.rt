@@ -94,13 +94,13 @@ fn is_metadata_keyword(keyword: &str) -> bool
     is_one_of(keyword, &["type", "description", "properties"])
 }
 
-fn is_branch_keyword(keyword: &str) -> bool
+pub(crate) fn is_branch_keyword(keyword: &str) -> bool
     ensures { result ≡ is_branch_keyword_of keyword.now }
 {
     (is_keyword_of_scalars(keyword) || is_junctor_keyword(keyword)) || is_judged_elsewhere(keyword)
 }
 
-fn is_presence_keyword(keyword: &str) -> bool
+pub(crate) fn is_presence_keyword(keyword: &str) -> bool
     ensures { result ≡ is_presence_keyword_of keyword.now }
 {
     (keyword == "required" || is_junctor_keyword(keyword)) || is_judged_elsewhere(keyword)
@@ -113,14 +113,14 @@ fn is_judged_elsewhere(keyword: &str) -> bool
     keyword == "type" || (is_outside_keyword(keyword) || is_unsupported_keyword(keyword))
 }
 
-fn is_common_keyword(keyword: &str) -> bool
+pub(crate) fn is_common_keyword(keyword: &str) -> bool
     ensures { result ≡ is_common_keyword_of keyword.now }
 {
     is_keyword_of_all(keyword) || (is_junctor_keyword(keyword) || is_unsupported_keyword(keyword))
 }
 
 /// Whether a keyword is one of a kind alone.
-fn is_own_keyword(keyword: &str, kind: Kind) -> bool
+pub(crate) fn is_own_keyword(keyword: &str, kind: Kind) -> bool
     ensures { result ≡ is_among keyword.now (own_keywords (kind_view kind)) }
 {
     match kind {
@@ -155,13 +155,13 @@ fn is_keyword_of_all(keyword: &str) -> bool
     )
 }
 
-fn is_junctor_keyword(keyword: &str) -> bool
+pub(crate) fn is_junctor_keyword(keyword: &str) -> bool
     ensures { result ≡ is_among keyword.now junctor_keywords }
 {
     is_one_of(keyword, &["allOf", "anyOf", "oneOf", "not"])
 }
 
-fn is_outside_keyword(keyword: &str) -> bool
+pub(crate) fn is_outside_keyword(keyword: &str) -> bool
     ensures { result ≡ is_among keyword.now outside_keywords }
 {
     is_one_of(
@@ -170,7 +170,7 @@ fn is_outside_keyword(keyword: &str) -> bool
     )
 }
 
-fn is_unsupported_keyword(keyword: &str) -> bool
+pub(crate) fn is_unsupported_keyword(keyword: &str) -> bool
     ensures { result ≡ is_among keyword.now unsupported_keywords }
 {
     is_one_of(

@@ -140,7 +140,7 @@ pub(crate) fn lacks_type(schema: &Members) -> bool
 }
 
 /// Whether `type` is absent or empty.
-fn is_untyped(schema: &Members) -> bool
+pub(crate) fn is_untyped(schema: &Members) -> bool
     ensures { result ≡ is_untyped_of (under (object schema.now) (codes "type")) }
 {
     match schema.get("type") {

@@ -2,7 +2,9 @@
 #![tactic(auto)]
 
 mod by_place;
+mod by_reasons;
 mod definition;
+mod explaining;
 mod fault;
 mod forms;
 mod judging;
@@ -15,6 +17,8 @@ mod node;
 mod places;
 mod raw;
 mod reading;
+mod reason;
+mod reasons;
 mod refused;
 mod rules;
 mod shaped;
@@ -25,7 +29,9 @@ mod versions;
 mod violation;
 
 pub use by_place::nodes_are_unique;
+pub use by_reasons::broken_for_a_reason;
 pub use definition::{Crd, read_crd};
+pub use explaining::explained;
 pub use fault::SFault;
 pub use judging::breaks;
 pub use junctor_fields::junctors_name_fields;
@@ -35,6 +41,7 @@ pub use node::{
     Node, ObjectNode, ScalarKind, ScalarNode, Sort, Validations,
 };
 pub use raw::RawSchema;
+pub use reason::{Explained, Finding, Reason};
 pub use refused::Refused;
 pub use shaped::Shape;
 pub use shaping::shape;

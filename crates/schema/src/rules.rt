@@ -10,9 +10,9 @@ ghost use Rattle.schema.specs.Document.Texts.{is_among};
 ghost use Rattle.schema.specs.Internal.RuleParts.{IsOtherName, IsOtherField, IsUnspecified, HasOutsideKeyword, Restricts};
 ghost use Rattle.schema.specs.Internal.Subschemas.{IsSubschema};
 
-mod junctors;
-mod lists;
-mod profile;
+pub(crate) mod junctors;
+pub(crate) mod lists;
+pub(crate) mod profile;
 
 use crate::keywords::{Keywords, has, has_false, has_keyword, has_other_text, has_true};
 use crate::kinds::lacks_type;
@@ -103,7 +103,7 @@ pub(crate) fn is_inside(place: &[Step<'_>]) -> bool
     false
 }
 
-fn is_root(place: &[Step<'_>]) -> bool
+pub(crate) fn is_root(place: &[Step<'_>]) -> bool
     ensures { result ≡ is_root_of (place_of place.now) }
 {
     match place {

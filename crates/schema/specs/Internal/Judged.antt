@@ -1,8 +1,9 @@
--- For private contracts: pairs of a place and a rule, which of them are broken, and that these are told.
-use Rattle.std.specs.Prelude.{◌≡◌, List, [], ◌∷◌, ◌++◌, map, flat_map}
+-- For private contracts: pairs of a place and a rule, and that those which are broken are told.
+use Rattle.std.specs.Prelude.{◌≡◌, List, [], ◌∷◌, map, flat_map}
 use Rattle.jtree.specs.Data.{Data}
 use Rattle.schema.specs.Document.Places.{Place}
 use Rattle.schema.specs.Internal.PlaceView.{place_of}
+use Rattle.schema.specs.Internal.Taken.{Adds}
 use Rattle.schema.specs.Rules.Broken.{Broken}
 use Rattle.schema.specs.Rules.Breaks.{Break, told, told_of}
 use Rattle.schema.specs.declared.listing.Subschema.{Subschema}
@@ -23,14 +24,9 @@ pairs_at p rules = map (pair p) rules
 abbrev pub pairs_of : List Subschema → List Break
 pairs_of subschemas = flat_map (λ v. pairs_at (place_of v.place.items) judged) subschemas
 
--- the pairs that are broken, in their order
-pub data AreBroken : Data → List Break → List Break → Type 0 where
-  none : (raw : Data) → AreBroken raw [] []
-  broken : (raw : Data) (b : Break) (pairs breaks : List Break) → Broken raw b.place b.rule → AreBroken raw pairs breaks → AreBroken raw (b ∷ pairs) (b ∷ breaks)
-  kept : (raw : Data) (b : Break) (pairs breaks : List Break) → (Broken raw b.place b.rule → ⊥) → AreBroken raw pairs breaks → AreBroken raw (b ∷ pairs) breaks
+-- behind the old elements the new ones tell which pairs are broken, in any schema of which this is known
+abbrev pub AddsBreaks : {Y : Type 0} → (Data → Break → Y → Type 0) → (Data → Type 0) → List Break → List Y → List Y → Type 0
+AddsBreaks Tells Known pairs old new = Adds Known (λ raw b. Broken raw b.place b.rule) Tells pairs old new
 
--- behind the old violations the new ones tell which pairs are broken, in any schema of which this is known
-pub record AreFound (Known : Data → Type 0) (pairs : List Break) (old new : List Violation) : Type 0 where
-  pub found : List Break
-  pub told_as : map told new ≡ map told old ++ map told_of found
-  pub are : (raw : Data) → Known raw → AreBroken raw pairs found
+abbrev pub IsTold : Data → Break → Violation → Type 0
+IsTold raw b v = told v ≡ told_of b

@@ -42,7 +42,7 @@ fn has_bad_junctor(place: &[Step<'_>], outer: Option<&Members>, schema: &Members
 }
 
 /// Whether all steps of the place are into branches.
-fn is_in_root(place: &[Step<'_>]) -> bool
+pub(crate) fn is_in_root(place: &[Step<'_>]) -> bool
     ensures { result ≡ is_root_of (core (place_of place.now)) }
 {
     for step in place {
@@ -83,7 +83,7 @@ fn is_bad_presence(root: bool, outer: &Members, schema: &Members) -> bool
     has_keyword(schema, Keywords::BesidePresence) || requires_no_field(root, outer, schema)
 }
 
-fn requires_no_field(root: bool, outer: &Members, schema: &Members) -> bool
+pub(crate) fn requires_no_field(root: bool, outer: &Members, schema: &Members) -> bool
     ensures { result ≡ any_item (is_no_field_of root (members_under (object outer.now) (codes "properties"))) (items_under (object schema.now) (codes "required")) }
 {
     match schema.get("required") {
@@ -116,7 +116,7 @@ fn is_no_field(root: bool, outer: &Members, name: &Tree) -> bool
     }
 }
 
-fn has_too_many_names(place: &[Step<'_>], schema: &Members) -> bool
+pub(crate) fn has_too_many_names(place: &[Step<'_>], schema: &Members) -> bool
     ensures { IsTrue result ↔ HasTooManyNames (place_of place.now) (object schema.now) }
 {
     !is_inside(place) && (declares_fields(schema) && names_too_many(schema))

@@ -50,7 +50,7 @@ pub(crate) fn bad_map_type(schema: &Members) -> bool
         && (!is_object(schema) || has_other_text(schema, "x-kubernetes-map-type", &types))
 }
 
-fn is_of_list_type(schema: &Members, name: &str) -> bool
+pub(crate) fn is_of_list_type(schema: &Members, name: &str) -> bool
     ensures { result ≡ is_of_list_type_named name.now (object schema.now) }
 {
     has_text_among(schema, "x-kubernetes-list-type", &[name])
@@ -67,7 +67,7 @@ fn is_plain_scalar(schema: Option<&Members>) -> bool
 }
 
 /// The keys of a map list, as written.
-fn keys_of(schema: &Members) -> &[Tree]
+pub(crate) fn keys_of(schema: &Members) -> &[Tree]
     ensures { items_of result.now ≡ items_under (object schema.now) (codes "x-kubernetes-list-map-keys") }
 {
     match schema.get("x-kubernetes-list-map-keys") {
@@ -114,7 +114,7 @@ fn is_key(items: &Members, name: &str) -> bool
 }
 
 /// The schema of a property.
-fn property_of<'a>(schema: &'a Members, name: &str) -> Option<&'a Members>
+pub(crate) fn property_of<'a>(schema: &'a Members, name: &str) -> Option<&'a Members>
     ensures { option_map (λ m. object m.now) result ≡ schema_by (object schema.now) (property name.now) }
 {
     object_under(object_under(schema, "properties")?, name)

@@ -62,14 +62,14 @@ fn has_foreign_keyword(schema: &Members) -> bool
 }
 
 /// Whether a list has no `items`.
-fn lacks_items(schema: &Members) -> bool
+pub(crate) fn lacks_items(schema: &Members) -> bool
     ensures { result ≡ lacks_items_of (object schema.now) }
 {
     is_list(schema) && object_under(schema, "items").is_none()
 }
 
 /// Whether a required name is no property; at the root the names of the envelope are let through.
-fn requires_undeclared(root: bool, schema: &Members) -> bool
+pub(crate) fn requires_undeclared(root: bool, schema: &Members) -> bool
     ensures { result ≡ requires_undeclared_of root (object schema.now) }
 {
     match schema.get("required") {
@@ -136,7 +136,7 @@ pub(crate) fn are_bad_choices(schema: &Members, kind: Option<ScalarKind>) -> boo
 }
 
 /// Whether one of these values is not accepted.
-fn lists_other(kind: Option<ScalarKind>, values: &[Tree]) -> bool
+pub(crate) fn lists_other(kind: Option<ScalarKind>, values: &[Tree]) -> bool
     ensures { result ≡ any_item (λ d. not (is_accepted kind d)) (items_of values.now) }
 {
     for value in values {

@@ -1,0 +1,195 @@
+-- The rules on keys of map lists and on items of sets are broken exactly where one of their reasons holds.
+use Rattle.std.proofs.Common.{◌≡◌, ◌⊎◌, ℕ, List, [], ◌∷◌, true, false, Option, Some, None, refl, subst, inl, inr, arith}
+use Rattle.std.specs.Prelude.{◌↔◌, ◌||◌, ◌&&◌, not, codes}
+use Rattle.std.specs.Option.{is_some}
+use Rattle.std.specs.Str.{bytes_eq}
+use Rattle.std.proofs.lemmas.Bool.{or_cases, or_parts, or_left, or_right, and_parts, and_from, and_cases, and_left, and_right, not-true, not-false, not_from_true}
+use Rattle.jtree.specs.Data.{Data}
+use Rattle.jtree.specs.Path.{under}
+use Rattle.jtree.specs.Internal.Lookups.{bool_cases, option_cases, same_name}
+use Rattle.schema.specs.Document.Texts.{is_among}
+use Rattle.schema.specs.Document.Places.{property, items, schema_by}
+use Rattle.schema.specs.Rules.Keywords.{flag, has, items_under, texts_under, is_empty}
+use Rattle.schema.specs.Rules.Kinds.{kind_of, is_scalar_kind, is_list_kind, is_object_kind}
+use Rattle.schema.specs.Rules.Lists.{is_of_list_type, is_plain_scalar, has_bad_set_items, is_key, are_keys, have_keys, has_bad_keys}
+use Rattle.schema.specs.Rules.Reasons.{is_set_reason, is_items_reason, is_item_reason, is_key_reason, is_keys_reason, is_map_list_reason, is_other_list_reason, any_text, has_repeated, list_type, map_keys, passes}
+use Rattle.schema.specs.declared.reason.Reason.{Reason}
+use Rattle.schema.specs.declared.reason.Reason.TheVariants.{KeysOfOtherList, NoKeys, NoItems, ItemsNotObjects, ItemsNotScalars, NullableItems, RepeatedKey, UndeclaredKey, KeyNotScalar, NullableKey, OptionalKey}
+use Rattle.schema.proofs.ReasonWords.{Found, either_true, text_there, some_there, items_there}
+
+-- ---- sets
+
+listed : (t : List ℕ) (s : Data) → is_of_list_type t s ≡ true → has s list_type ≡ true
+listed t s h = text_there (t ∷ []) (under s list_type) h
+
+set_told : (s : Data) (o : Option Data) → schema_by s items ≡ o → is_list_kind (kind_of s) ≡ true → is_of_list_type (codes "set") s ≡ true → not (is_plain_scalar o) ≡ true → Found is_set_reason s
+set_told s None by is_list set bad = (list_type, NoItems, listed (codes "set") s set, rw (is_list, set, by) refl)
+set_told s (Some t) by is_list set bad = elim (bool_cases (is_scalar_kind (kind_of t))) [
+  | inl is ↦ (codes "items", NullableItems, items_there s t by, rw (is_list, set, by) (grind arith))
+  | inr other ↦ (codes "items", ItemsNotScalars, items_there s t by, rw (is_list, set, by, other) refl)
+]
+
+no_plain : (c : Reason) (k : List ℕ) (s : Data) → is_items_reason c k s ≡ true → not (is_plain_scalar (schema_by s items)) ≡ true
+no_plain NoItems k s h = elim (option_cases (schema_by s items)) [
+  | inl none ↦ rw none refl
+  | inr some ↦ let is : not (is_some (schema_by s items)) ≡ true = (and_parts (bytes_eq k list_type) _ h).1 in absurd (let never : false ≡ true = rw some.1 at is in cc)
+]
+no_plain ItemsNotScalars k s h = elim (option_cases (schema_by s items)) [
+  | inl none ↦ rw none refl
+  | inr some ↦
+      let there : passes (is_item_reason ItemsNotScalars) (schema_by s items) ≡ true = (and_parts (bytes_eq k (codes "items")) _ h).1 in
+      let is : is_item_reason ItemsNotScalars some.0 ≡ true = rw some.1 at there in
+      rw some.1 (grind arith)
+]
+no_plain NullableItems k s h = elim (option_cases (schema_by s items)) [
+  | inl none ↦ rw none refl
+  | inr some ↦
+      let there : passes (is_item_reason NullableItems) (schema_by s items) ≡ true = (and_parts (bytes_eq k (codes "items")) _ h).1 in
+      let is : is_item_reason NullableItems some.0 ≡ true = rw some.1 at there in
+      rw some.1 (grind arith)
+]
+no_plain _ k s h = absurd (cc)
+
+pub set_reasons : (s : Data) → has_bad_set_items s ≡ true ↔ Found is_set_reason s
+set_reasons s = (
+  λ h.
+      let a = and_parts _ _ h in
+      let b = and_parts _ _ a.1 in
+      set_told s (schema_by s items) refl a.0 b.0 b.1,
+  λ f.
+      let a = and_parts _ _ f.3 in
+      let b = and_parts _ _ a.1 in
+      and_from _ _ a.0 (and_from _ _ b.0 (no_plain f.1 f.0 s b.1)),
+)
+
+-- ---- keys
+
+one_bad : (t : Data) (k : List ℕ) (o : Option Data) → schema_by t (property k) ≡ o → is_key t k ≡ false → (c : Reason) × (is_key_reason c t k ≡ true)
+one_bad t k None by bad = (UndeclaredKey, rw by refl)
+one_bad t k (Some d) by bad = elim (bool_cases (is_scalar_kind (kind_of d))) [
+  | inr other ↦ (KeyNotScalar, rw (by, other) refl)
+  | inl is ↦ elim (bool_cases (flag d (codes "nullable"))) [
+    | inl nullable ↦ (NullableKey, rw (by, nullable) refl)
+    | inr never ↦
+        let left : (is_among k (texts_under t (codes "required")) || has d (codes "default")) ≡ false = rw (by, is, never) at bad in
+        let parts = or_parts (is_among k (texts_under t (codes "required"))) (has d (codes "default")) left in
+        (OptionalKey, rw (by, parts.0, parts.1) refl)
+  ]
+]
+
+keys_bad : (t : Data) (ks : List (List ℕ)) → are_keys t ks ≡ false → (has_repeated ks ≡ true) ⊎ ((c : Reason) × (any_text (is_key_reason c t) ks ≡ true))
+keys_bad t [] bad = absurd (cc)
+keys_bad t (k ∷ ks) bad = elim (and_cases (is_key t k) (not (is_among k ks) && are_keys t ks) bad) [
+  | inl here ↦ let one = one_bad t k _ refl here in inr (one.0, or_left (is_key_reason one.0 t k) _ one.1)
+  | inr rest ↦ elim (and_cases (not (is_among k ks)) (are_keys t ks) rest) [
+    | inl twice ↦ inl (or_left (is_among k ks) (has_repeated ks) (not-false (is_among k ks) twice))
+    | inr later ↦ elim (keys_bad t ks later) [
+      | inl repeated ↦ inl (or_right (is_among k ks) _ repeated)
+      | inr some ↦ inr (some.0, or_right (is_key_reason some.0 t k) _ some.1)
+    ]
+  ]
+]
+
+never_any : (ks : List (List ℕ)) → any_text (λ k. false) ks ≡ true → ⊥
+never_any [] h = cc
+never_any (k ∷ ks) h = never_any ks h
+
+key_told : (c : Reason) (s t : Data) → schema_by s items ≡ Some t → any_text (is_key_reason c t) (texts_under s map_keys) ≡ true → is_map_list_reason c map_keys s ≡ true
+key_told UndeclaredKey s t by h = rw by h
+key_told KeyNotScalar s t by h = rw by h
+key_told NullableKey s t by h = rw by h
+key_told OptionalKey s t by h = rw by h
+key_told _ s t by h = absurd (never_any (texts_under s map_keys) h)
+
+keys_told : (s : Data) (o : Option Data) → schema_by s items ≡ o → is_of_list_type (codes "map") s ≡ true → is_list_kind (kind_of s) ≡ true
+    → not (have_keys o (items_under s map_keys)) ≡ true → Found is_keys_reason s
+keys_told s None by is_map is_list bad = (list_type, NoItems, listed (codes "map") s is_map, rw (is_map, is_list, by) refl)
+keys_told s (Some t) by is_map is_list bad = elim (bool_cases (is_object_kind (kind_of t))) [
+  | inr other ↦ (codes "items", ItemsNotObjects, items_there s t by, rw (is_map, is_list, by, other) refl)
+  | inl is ↦ elim (bool_cases (flag t (codes "nullable"))) [
+    | inl nullable ↦ (codes "items", NullableItems, items_there s t by, rw (is_map, is_list, by, nullable) refl)
+    | inr never ↦ elim (bool_cases (is_empty (items_under s map_keys))) [
+      | inl none ↦ (list_type, NoKeys, listed (codes "map") s is_map, rw (is_map, is_list, none) refl)
+      | inr some ↦
+          let left : not (are_keys t (texts_under s map_keys)) ≡ true = rw (is, never, some) at bad in
+          elim (keys_bad t (texts_under s map_keys) (not-true _ left)) [
+            | inl repeated ↦ (map_keys, RepeatedKey, some_there _ some, rw (is_map, is_list, repeated) refl)
+            | inr key ↦ (map_keys, key.0, some_there _ some, rw (is_map, is_list) (key_told key.0 s t by key.1))
+          ]
+    ]
+  ]
+]
+
+-- ---- and back
+
+key_no : (c : Reason) (t : Data) (k : List ℕ) (o : Option Data) → schema_by t (property k) ≡ o → is_key_reason c t k ≡ true → is_key t k ≡ false
+key_no UndeclaredKey t k None by h = rw by refl
+key_no UndeclaredKey t k (Some d) by h = absurd (let never : false ≡ true = rw by at h in cc)
+key_no KeyNotScalar t k None by h = rw by refl
+key_no KeyNotScalar t k (Some d) by h = let other : not (is_scalar_kind (kind_of d)) ≡ true = rw by at h in rw (by, not-true _ other) refl
+key_no NullableKey t k None by h = rw by refl
+key_no NullableKey t k (Some d) by h =
+    let nullable : flag d (codes "nullable") ≡ true = rw by at h in
+    rw (by, nullable) (and_left _ _ (and_right (is_scalar_kind (kind_of d)) _ refl))
+key_no OptionalKey t k None by h = rw by refl
+key_no OptionalKey t k (Some d) by h =
+    let parts : (not (is_among k (texts_under t (codes "required"))) && not (has d (codes "default"))) ≡ true = rw by at h in
+    let never = and_parts _ _ parts in
+    rw (by, not-true (is_among k (texts_under t (codes "required"))) never.0, not-true (has d (codes "default")) never.1) (and_right _ _ refl)
+key_no _ t k o by h = absurd (cc)
+
+any_no : (c : Reason) (t : Data) (ks : List (List ℕ)) → any_text (is_key_reason c t) ks ≡ true → are_keys t ks ≡ false
+any_no c t [] h = absurd (cc)
+any_no c t (k ∷ ks) h = elim (or_cases (is_key_reason c t k) (any_text (is_key_reason c t) ks) h) [
+  | inl here ↦ and_left _ _ (key_no c t k _ refl here)
+  | inr later ↦ and_right (is_key t k) _ (and_right (not (is_among k ks)) _ (any_no c t ks later))
+]
+
+repeated_no : (t : Data) (ks : List (List ℕ)) → has_repeated ks ≡ true → are_keys t ks ≡ false
+repeated_no t [] h = absurd (cc)
+repeated_no t (k ∷ ks) h = elim (or_cases (is_among k ks) (has_repeated ks) h) [
+  | inl here ↦ and_right (is_key t k) _ (and_left (not (is_among k ks)) _ (not_from_true (is_among k ks) here))
+  | inr later ↦ and_right (is_key t k) _ (and_right (not (is_among k ks)) _ (repeated_no t ks later))
+]
+
+keys_no : (s t : Data) → are_keys t (texts_under s map_keys) ≡ false → have_keys (Some t) (items_under s map_keys) ≡ false
+keys_no s t bad = and_right (is_object_kind (kind_of t)) _ (and_right (not (flag t (codes "nullable"))) _ (and_right (not (is_empty (items_under s map_keys))) _ bad))
+
+have_no : (c : Reason) (k : List ℕ) (s : Data) (o : Option Data) → schema_by s items ≡ o → is_map_list_reason c k s ≡ true → have_keys o (items_under s map_keys) ≡ false
+have_no c k s None by h = refl
+have_no NoKeys k s (Some t) by h =
+    let none : is_empty (items_under s map_keys) ≡ true = (and_parts _ _ h).1 in
+    and_right (is_object_kind (kind_of t)) _ (and_right (not (flag t (codes "nullable"))) _ (and_left (not (is_empty (items_under s map_keys))) _ (not_from_true _ none)))
+have_no NoItems k s (Some t) by h = let there : not (is_some (schema_by s items)) ≡ true = (and_parts (bytes_eq k list_type) _ h).1 in absurd (let never : false ≡ true = rw by at there in cc)
+have_no ItemsNotObjects k s (Some t) by h =
+    let there : passes (is_item_reason ItemsNotObjects) (schema_by s items) ≡ true = (and_parts (bytes_eq k (codes "items")) _ h).1 in
+    let other : not (is_object_kind (kind_of t)) ≡ true = rw by at there in
+    and_left (is_object_kind (kind_of t)) _ (not-true _ other)
+have_no NullableItems k s (Some t) by h =
+    let there : passes (is_item_reason NullableItems) (schema_by s items) ≡ true = (and_parts (bytes_eq k (codes "items")) _ h).1 in
+    let nullable : flag t (codes "nullable") ≡ true = rw by at there in
+    and_right (is_object_kind (kind_of t)) _ (and_left (not (flag t (codes "nullable"))) _ (not_from_true _ nullable))
+have_no RepeatedKey k s (Some t) by h = keys_no s t (repeated_no t (texts_under s map_keys) (and_parts _ _ h).1)
+have_no c k s (Some t) by h =
+    let there : passes (λ u. any_text (is_key_reason c u) (texts_under s map_keys)) (schema_by s items) ≡ true = (and_parts (bytes_eq k map_keys) _ h).1 in
+    let some : any_text (is_key_reason c t) (texts_under s map_keys) ≡ true = rw by at there in
+    keys_no s t (any_no c t (texts_under s map_keys) some)
+
+other_list : (c : Reason) (k : List ℕ) → is_other_list_reason c k ≡ true → k ≡ map_keys
+other_list KeysOfOtherList k h = same_name k map_keys h
+other_list _ k h = absurd (cc)
+
+pub keys_reasons : (s : Data) → has_bad_keys s ≡ true ↔ Found is_keys_reason s
+keys_reasons s = (
+  λ h. elim (either_true (is_of_list_type (codes "map") s) _ _ h) [
+    | inl is ↦ let a = and_parts _ _ is.1 in keys_told s (schema_by s items) refl is.0 a.0 a.1
+    | inr other ↦ (map_keys, KeysOfOtherList, other.1, rw other.0 refl)
+  ],
+  λ f. elim (either_true (is_of_list_type (codes "map") s) _ _ f.3) [
+    | inl is ↦
+        let a = and_parts (is_list_kind (kind_of s)) (is_map_list_reason f.1 f.0 s) is.1 in
+        let bad : have_keys (schema_by s items) (items_under s map_keys) ≡ false = have_no f.1 f.0 s (schema_by s items) refl a.1 in
+        rw (is.0, a.0, bad) refl
+    | inr other ↦ rw other.0 (subst (λ k. has s k ≡ true) (other_list f.1 f.0 other.1) f.2)
+  ],
+)

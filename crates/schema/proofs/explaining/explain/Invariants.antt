@@ -1,0 +1,10 @@
+use Rattle.std.proofs.Common.{take}
+use Rattle.schema.specs.Internal.PlaceView.{place_of}
+use Rattle.schema.specs.Internal.Subschemas.{IsSubschema}
+use Rattle.schema.specs.Internal.Judged.{pairs_at, AddsBreaks}
+use Rattle.schema.specs.Rules.Explained.{IsExplained}
+use Rattle.schema.proofs.explaining.explain.Given as goal
+
+-- the breaks of the rules so far are found
+abbrev pub invariant-loop-rule : goal.invariant-loop-rule
+invariant-loop-rule l = AddsBreaks IsExplained (λ raw. IsSubschema raw l.subschema) (pairs_at (place_of l.subschema.place.items) (take l.rule-index l.rules)) l.fn.explained.items l.explained.items

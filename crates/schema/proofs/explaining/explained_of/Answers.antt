@@ -1,0 +1,33 @@
+use Rattle.std.proofs.Common.{◌≡◌, [], ◌<◌, length, take, sym, subst, arith}
+use Rattle.std.specs.Prelude.{All}
+use Rattle.std.proofs.lemmas.List.{take_all}
+use Rattle.schema.specs.Internal.PlaceView.{place_of}
+use Rattle.schema.specs.Internal.Subschemas.{IsSubschema}
+use Rattle.schema.specs.Internal.Judged.{judged, pairs_at, pairs_of, AddsBreaks}
+use Rattle.schema.specs.Rules.Explained.{IsExplained}
+use Rattle.schema.proofs.TakenLemmas.{adds_none}
+use Rattle.schema.proofs.JudgedLemmas.{found_subschema, breaks_told}
+use Rattle.schema.proofs.explaining.explained_of.Goals as goal
+
+pub loop-subschema-init : goal.loop-subschema-init
+loop-subschema-init c = subst (λ es. AddsBreaks IsExplained (λ raw. All (IsSubschema raw) c.args.subschemas.now) [] [] es) (sym c.new-explained.ensures.items) (adds_none [])
+
+pub loop-subschema-preserved : goal.loop-subschema-preserved
+loop-subschema-preserved c =
+    let subschemas = c.args.subschemas.now in
+    let i = c.loop-subschema.subschema-index in
+    let v = c.subschema-item.result in
+    let mid = c.loop-subschema.explained.items in
+    let new = c.explain.new.explained.items in
+    let within : i < length subschemas = omega arith in
+    let here : AddsBreaks IsExplained (λ raw. IsSubschema raw v) (pairs_at (place_of v.place.items) judged) mid new =
+    subst (λ rules. AddsBreaks IsExplained (λ raw. IsSubschema raw v) (pairs_at (place_of v.place.items) rules) mid new) c.judged_rules.ensures c.in_ok-explain.ensures in
+    found_subschema IsExplained subschemas i v mid new within c.subschema-item.is here c.loop-subschema.invariant
+
+pub returns : goal.returns
+returns c =
+    let subschemas = c.args.subschemas.now in
+    let explained = c.loop-subschema.explained.items in
+    let all : take c.loop-subschema.subschema-index subschemas ≡ subschemas = take_all c.loop-subschema.subschema-index subschemas (omega arith) in
+    λ ms o are. breaks_told IsExplained ms subschemas explained o are
+    (subst (λ vs. AddsBreaks IsExplained (λ raw. All (IsSubschema raw) subschemas) (pairs_of vs) [] explained) all c.loop-subschema.invariant)

@@ -1,9 +1,0 @@
-use Rattle.std.proofs.Common.{take}
-use Rattle.schema.specs.Internal.PlaceView.{place_of}
-use Rattle.schema.specs.Internal.Subschemas.{IsSubschema}
-use Rattle.schema.specs.Internal.Judged.{pairs_at, AreFound}
-use Rattle.schema.proofs.judging.judge_by.Given as goal
-
--- the breaks of the rules so far are found
-abbrev pub invariant-loop-rule : goal.invariant-loop-rule
-invariant-loop-rule l = AreFound (λ raw. IsSubschema raw l.subschema) (pairs_at (place_of l.subschema.place.items) (take l.rule-index l.rules)) l.fn.violations.items l.violations.items

@@ -1,0 +1,168 @@
+// The reasons of the rules on keys of map lists and on items of sets.
+ghost use Rattle.std.specs.Prelude.{◌≡◌, not, codes, option_map};
+ghost use Rattle.jtree.specs.Data.{object};
+ghost use Rattle.jtree.specs.View.{items_of};
+ghost use Rattle.schema.specs.Document.Places.{schema_by, items as items_step};
+ghost use Rattle.schema.specs.Rules.Keywords.{flag, has as has_of, texts_of, texts_under};
+ghost use Rattle.schema.specs.Rules.Kinds.{kind_of, is_scalar_kind};
+ghost use Rattle.schema.specs.Rules.Reasons.{is_keys_reason as is_keys_reason_of, is_map_list_reason as is_map_list_reason_of, is_other_list_reason as is_other_list_reason_of, is_set_reason as is_set_reason_of, is_items_reason as is_items_reason_of, is_item_reason as is_item_reason_of, is_key_reason as is_key_reason_of, any_text, has_repeated as has_repeated_of, passes, map_keys};
+
+use crate::keywords::{has, has_true, is_empty, is_listed, lists_text, object_under};
+use crate::kinds::{is_list, is_object, is_scalar};
+use crate::reason::Reason;
+use crate::rules::lists::{is_of_list_type, keys_of, property_of};
+use jtree::{Members, Tree};
+
+/// V11: keys of what is no map list, or a map list whose items have not its keys.
+pub(crate) fn is_keys_reason(schema: &Members, keyword: &str, reason: Reason) -> bool
+    ensures { result ≡ is_keys_reason_of reason keyword.now (object schema.now) }
+{
+    if is_of_list_type(schema, "map") {
+        is_list(schema) && is_map_list_reason(schema, keyword, reason)
+    } else {
+        is_other_list_reason(keyword, reason)
+    }
+}
+
+fn is_other_list_reason(keyword: &str, reason: Reason) -> bool
+    ensures { result ≡ is_other_list_reason_of reason keyword.now }
+{
+    match reason {
+        Reason::KeysOfOtherList => keyword == "x-kubernetes-list-map-keys",
+        _ => false,
+    }
+}
+
+fn is_map_list_reason(schema: &Members, keyword: &str, reason: Reason) -> bool
+    ensures { result ≡ is_map_list_reason_of reason keyword.now (object schema.now) }
+{
+    match reason {
+        Reason::NoKeys => keyword == "x-kubernetes-list-type" && is_empty(keys_of(schema)),
+        Reason::NoItems => {
+            keyword == "x-kubernetes-list-type" && object_under(schema, "items").is_none()
+        }
+        Reason::ItemsNotObjects | Reason::NullableItems => {
+            keyword == "items" && has_items(schema, reason)
+        }
+        Reason::RepeatedKey => {
+            keyword == "x-kubernetes-list-map-keys" && has_repeated(keys_of(schema))
+        }
+        _ => keyword == "x-kubernetes-list-map-keys" && any_key(schema, reason),
+    }
+}
+
+/// V12: the items of a set are absent, no scalars, or nullable.
+pub(crate) fn is_set_reason(schema: &Members, keyword: &str, reason: Reason) -> bool
+    ensures { result ≡ is_set_reason_of reason keyword.now (object schema.now) }
+{
+    is_list(schema) && (is_of_list_type(schema, "set") && is_items_reason(schema, keyword, reason))
+}
+
+fn is_items_reason(schema: &Members, keyword: &str, reason: Reason) -> bool
+    ensures { result ≡ is_items_reason_of reason keyword.now (object schema.now) }
+{
+    match reason {
+        Reason::NoItems => {
+            keyword == "x-kubernetes-list-type" && object_under(schema, "items").is_none()
+        }
+        Reason::ItemsNotScalars | Reason::NullableItems => {
+            keyword == "items" && has_items(schema, reason)
+        }
+        _ => false,
+    }
+}
+
+/// Whether the items are there, and are not as they have to be.
+fn has_items(schema: &Members, reason: Reason) -> bool
+    ensures { result ≡ passes (is_item_reason_of reason) (schema_by (object schema.now) items_step) }
+{
+    match object_under(schema, "items") {
+        Some(items) => is_item_reason(items, reason),
+        None => false,
+    }
+}
+
+fn is_item_reason(items: &Members, reason: Reason) -> bool
+    ensures { result ≡ is_item_reason_of reason (object items.now) }
+{
+    match reason {
+        Reason::ItemsNotObjects => !is_object(items),
+        Reason::ItemsNotScalars => !is_scalar(items),
+        Reason::NullableItems => has_true(items, "nullable"),
+        _ => false,
+    }
+}
+
+/// Whether a key is listed twice.
+fn has_repeated(keys: &[Tree]) -> bool
+    ensures { result ≡ has_repeated_of (texts_of (items_of keys.now)) }
+{
+    match keys {
+        [Tree::Text(key), rest @ ..] => is_listed(rest, key.as_str()) || has_repeated(rest),
+        [_, rest @ ..] => has_repeated(rest),
+        [] => false,
+    }
+}
+
+/// Whether the items are there, and some key is not as it has to be.
+fn any_key(schema: &Members, reason: Reason) -> bool
+    ensures { result ≡ passes (λ t. any_text (is_key_reason_of reason t) (texts_under (object schema.now) map_keys)) (schema_by (object schema.now) items_step) }
+{
+    match object_under(schema, "items") {
+        Some(items) => any_listed(items, keys_of(schema), reason),
+        None => false,
+    }
+}
+
+fn any_listed(items: &Members, keys: &[Tree], reason: Reason) -> bool
+    ensures { result ≡ any_text (is_key_reason_of reason (object items.now)) (texts_of (items_of keys.now)) }
+{
+    for key in keys {
+        if let Tree::Text(key) = key {
+            if is_key_reason(items, key.as_str(), reason) {
+                return true;
+            }
+        }
+    }
+    false
+}
+
+fn is_key_reason(items: &Members, key: &str, reason: Reason) -> bool
+    ensures { result ≡ is_key_reason_of reason (object items.now) key.now }
+{
+    let property = property_of(items, key);
+    match reason {
+        Reason::UndeclaredKey => property.is_none(),
+        Reason::KeyNotScalar => is_no_scalar(property),
+        Reason::NullableKey => is_nullable(property),
+        Reason::OptionalKey => !lists_text(items, "required", key) && lacks_default(property),
+        _ => false,
+    }
+}
+
+fn is_no_scalar(schema: Option<&Members>) -> bool
+    ensures { result ≡ passes (λ s. not (is_scalar_kind (kind_of s))) (option_map (λ m. object m.now) schema.entry) }
+{
+    match schema {
+        Some(schema) => !is_scalar(schema),
+        None => false,
+    }
+}
+
+fn is_nullable(schema: Option<&Members>) -> bool
+    ensures { result ≡ passes (λ s. flag s (codes "nullable")) (option_map (λ m. object m.now) schema.entry) }
+{
+    match schema {
+        Some(schema) => has_true(schema, "nullable"),
+        None => false,
+    }
+}
+
+fn lacks_default(schema: Option<&Members>) -> bool
+    ensures { result ≡ passes (λ s. not (has_of s (codes "default"))) (option_map (λ m. object m.now) schema.entry) }
+{
+    match schema {
+        Some(schema) => !has(schema, "default"),
+        None => false,
+    }
+}
