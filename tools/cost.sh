@@ -312,7 +312,10 @@ ratio 'with junctors, past the millionth sample, against past the first (about 1
 words() {
     ./crdx sample "$folder/optional" v1 --pools "$folder/two" --limit "$1" --count 10000
 }
-ratio 'limit 64, against limit 63 (at most 1.5)' "$(best words 64)" "$(best words 63)" 1.5
+at_63=$(best words 63)
+at_64=$(best words 64)
+ratio 'limit 64, against limit 63 (at most 1.5)' "$at_64" "$at_63" 1.5
+ratio 'limit 63, against limit 64 (at most 1.5)' "$at_63" "$at_64" 1.5
 
 # plans of 511 places with junctors at each object, against one without
 for named in 0 2 4; do
