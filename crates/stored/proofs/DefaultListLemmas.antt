@@ -1,6 +1,6 @@
 -- The walk over the nodes finds all defaults, no others, and in path order of their places.
 use Rattle.std.proofs.Common.{◌≡◌, ◌≢◌, arith, ℕ, List, [], ◌∷◌, ◌++◌, true, Option, Some, None, refl, ap, sym, ◌∙◌, subst, inl, inr}
-use Rattle.std.specs.Prelude.{map, option_map, codes, All, Contains}
+use Rattle.std.specs.Prelude.{map, option_map, codes, Contains}
 use Rattle.std.specs.Str.{bytes_eq}
 use Rattle.std.specs.declared.cmp.Ordering.TheVariants.{Less}
 use Rattle.std.proofs.lemmas.Option.{none-some, same_Some}
@@ -14,7 +14,7 @@ use Rattle.jtree.specs.Internal.Rising.{Among, Rising, among_left, among_right, 
 use Rattle.schema.specs.Document.Places.{Step, Place, property, map_value, items, all_of, any_of, one_of, negation, step_path, place_path, place_pointer}
 use Rattle.schema.specs.Nodes.Node.{Node, node, scalar, object, map as map_node, list, open_, Fields, no_fields, field, IsNode, AreOrdered, IsBeforeFields}
 use Rattle.schema.specs.Nodes.ByPlace.{Declared, field_at, node_below, node_at, AreNodesOf}
-use Rattle.schema.specs.Rules.Breaks.{Break, BreaksNone, AreViolations, break_cmp, told, told_of}
+use Rattle.schema.specs.Rules.Breaks.{Break, BreaksNone, AreBreaks, AreViolations, break_cmp, told, told_of}
 use Rattle.schema.specs.Document.ReadFault.{IsSound}
 use Rattle.schema.specs.Nodes.Shape.{IsShapeRefusal}
 use Rattle.schema.specs.declared.refused.Refused.{Refused}
@@ -305,26 +305,21 @@ none_bad raw N sound unbroken nodes only none =
       defaults = good;
     }
 
-none_broken : (raw : Data) (found : List Violation) (breaks : List Break) → All (λ b. Broken raw b.place b.rule) breaks → map told found ≡ map told_of breaks → found ≢ []
-    → BreaksNone raw → ⊥
-none_broken raw [] breaks each is some none = some refl
-none_broken raw (w ∷ found) [] each is some none = cc
-none_broken raw (w ∷ found) (b ∷ breaks) each is some none = none b.place b.rule (each 0 b (omega arith))
-
 -- where one of the sixteen is broken, V14 is not asked
+pub other_breaks : (raw : Data) (b : Break) (breaks : List Break) → AreBreaks (Broken raw) (b ∷ breaks) → AreBreaks (IsBroken raw) (b ∷ breaks)
+other_breaks raw b breaks are = record {
+  each = λ k d within. inl (are.each k d within);
+  all = λ p r broken. elim broken [
+    | inl other ↦ are.all p r other
+    | inr own ↦ absurd (own.1 b.place b.rule (are.each 0 b (omega arith)))
+  ];
+  ascending = are.ascending;
+}
+
 other_violations : (raw : Data) (found : List Violation) → AreViolations (Broken raw) found → found ≢ [] → AreViolations (IsBroken raw) found
-other_violations raw found v some = (
-  v.0,
-  record {
-    each = λ k d within. inl (v.1.each k d within);
-    all = λ p r b. elim b [
-      | inl other ↦ v.1.all p r other
-      | inr own ↦ absurd (none_broken raw found v.0 v.1.each v.2 some own.1)
-    ];
-    ascending = v.1.ascending;
-  },
-  v.2,
-)
+other_violations raw [] v some = absurd (some refl)
+other_violations raw (w ∷ found) ([], are, is) some = cc
+other_violations raw (w ∷ found) (b ∷ breaks, are, is) some = (b ∷ breaks, other_breaks raw b breaks are, is)
 
 pub nothing_broken : (raw : Data) (N : Node) → IsRootOf N raw → AreViolations (IsBroken raw) []
 nothing_broken raw N root = ([], record { each = λ k d within. absurd (omega arith); all = λ p r b. absurd (root.unbroken p r b); ascending = λ i j d lt within. absurd (omega arith) }, refl)

@@ -5,6 +5,7 @@ pub mod PartLemmas
 pub mod ValidLemmas
 pub mod DefaultLemmas
 pub mod DefaultListLemmas
+pub mod ExplainedLemmas
 pub mod FieldLemmas
 pub mod OneTree
 pub mod BecomingLemmas
