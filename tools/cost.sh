@@ -258,7 +258,9 @@ cd "$root"
 
 for schema in "$folder"/schemas/*; do
     measure "check of $(basename "$schema")" "$schema" check "$schema" v1
+    measure "check with reasons of $(basename "$schema")" "$schema" check "$schema" v1 --why
     measure "explain of $(basename "$schema")" "$schema" explain "$schema" v1
+    measure "pools of $(basename "$schema")" "$schema" pools "$schema" v1
 done
 for row in validate:set:160000-integers validate:set:200000-integers-of-10000-values validate:list:500000-digits validate:map-list:10000-items-of-4-keys \
     validate:preserving:500000-digits prune:preserving:500000-digits default:preserving:500000-digits \

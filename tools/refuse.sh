@@ -96,6 +96,12 @@ cat >"$folder/bad-default" <<'LINES'
 V14 "/properties/a" bad default
 V14 "/properties/a/properties/f" bad default
 LINES
+define '{"type":"object","properties":{"a":{"type":"string","multipleOf":2,"pattern":"x"}}}' >"$folder/two-reasons.json"
+cat >"$folder/reasons" <<'LINES'
+V17 "/properties/a" outside the profile
+    "multipleOf": not a keyword of scalars for crdx; crdx-relax drops it
+    "pattern": not a keyword of scalars for crdx; crdx-relax drops it
+LINES
 define '{"type":"object","required":["r"],"properties":{"a":{"type":"object","default":{},"properties":{"f":{"type":"integer","default":7}}},"r":{"type":"string"},"s":{"type":"array","x-kubernetes-list-type":"set","items":{"type":"integer","oneOf":[{"minimum":1},{"maximum":3}]}}}}' >"$folder/crd.json"
 echo '{"kind":"Widget","metadata":{"name":"w"},"s":[0,4,0,2],"z":1}' >"$folder/object.json"
 cat >"$folder/faults" <<'LINES'
@@ -165,12 +171,30 @@ cat >"$folder/owned" <<'LINES'
 ["f:spec","f:tags","v:\"t\""]
 LINES
 echo 'crdx: pools: P5 "/spec/acme/privateKeySecretRef/key"' >"$folder/bad-path"
+printf '{"any":["a",{}],"integers":[-1,0,1,2,65534,65535,65536],"names":["a","b"],"strings":["a","%s"]}\n' "$(printf 'a%.0s' {1..64})" >"$folder/issuer-pools"
+cat >"$folder/read-twice" <<'LINES'
+error: CRD and OBJECT cannot both be the standard input
+
+Usage: crdx <COMMAND>
+
+For more information, try '--help'.
+LINES
 widget=examples/widget
 
 row 'sample of the widget' lines 0 $widget/samples-of-4-nodes.txt "$folder/end" \
     sample $widget/crd.json v1 --pools $widget/pools.json --limit 4
 row 'sample past another, with a name' lines 0 examples/issuer/named-samples.txt "$folder/more" \
     sample examples/issuer/crd.json v1 --pools examples/issuer/pools.json --limit 6 --count 2 --name web --after '{"spec":{"ca":{"secretName":"web"}}}'
+row 'check with reasons' nothing 1 "$folder/reasons" /dev/null \
+    check --why "$folder/two-reasons.json" v1
+row 'check of a bad default, with reasons' nothing 1 "$folder/bad-default" /dev/null \
+    check --why "$folder/bad-default.json" v1
+row 'pools of the issuer' nothing 0 "$folder/issuer-pools" /dev/null \
+    pools examples/issuer/crd.json v1
+row 'the standard input for two inputs' nothing 2 /dev/null "$folder/read-twice" \
+    validate - v1
+input=$widget/pools.json row 'sample over pools of the standard input' lines 0 $widget/samples-of-4-nodes.txt "$folder/end" \
+    sample $widget/crd.json v1 --pools - --limit 4
 row 'sample of chosen values' lines 0 examples/issuer/samples-of-chosen-values.txt "$folder/end" \
     sample examples/issuer/crd.json v1 --pools examples/issuer/chosen-values.json --limit 8
 row 'sample with a bad path' nothing 3 /dev/null "$folder/bad-path" sample $widget/crd.json v1 --pools examples/issuer/chosen-values.json

@@ -14,12 +14,12 @@ use Rattle.clap.specs.declared.parser.matches.SubCommand.{SubCommand}
 use Rattle.clap.specs.declared.parser.matches.ArgMatches.TheViews.{out-SubCommand}
 use Rattle.clap.specs.declared.error.Error.{Error}
 use Rattle.clap.specs.declared.error.kind.ErrorKind.{ErrorKind}
-use Rattle.clap.specs.declared.error.kind.ErrorKind.TheVariants.{OutOfMemory}
+use Rattle.clap.specs.declared.error.kind.ErrorKind.TheVariants.{ArgumentConflict, OutOfMemory}
 use Rattle.std.proofs.lemmas.List.Elements.{All-from_recursion}
 use Rattle.clap.proofs.WalkLemmas.{first_value-rows}
-use Rattle.crdx.specs.Program.CommandLine.{crdx_app, entered, faults, value_of, decimal_value, command_names, IsCommand, IsHelp, IsRequestOf, IsUsageErrorOrMemory, Asks}
+use Rattle.crdx.specs.Program.CommandLine.{crdx_app, entered, faults, value_of, decimal_value, command_names, ReadsInputTwice, IsCommand, IsHelp, IsRequestOf, IsUsageErrorOrMemory, Asks}
 use Rattle.crdx.specs.declared.arguments.request.Request.{Request}
-use Rattle.crdx.specs.declared.arguments.request.Request.TheVariants.{Check, Explain, Object, Sample, Help, UsageError, NoMemory}
+use Rattle.crdx.specs.declared.arguments.request.Request.TheVariants.{Check, Explain, Object, SuggestPools, Sample, Help, UsageError, NoMemory}
 
 -- the command that was met has this name and these rows
 pub met_as : {Z : Type 0} (s : Option (Box SubCommand Z)) (name : Text) (rows : List Row) → option_map (λ b. (out-SubCommand (box_value b)).name.now) s ≡ Some name
@@ -29,7 +29,8 @@ met_as (Some b) name rows named listed = cc
 
 -- no command was met
 pub none_met : {Z : Type 0} (s : Option (Box SubCommand Z)) (o : Request) → option_map (λ b. (out-SubCommand (box_value b)).name.now) s ≡ None → IsUsageErrorOrMemory o → IsCommand (subcommand_rows s) o
-none_met None (UsageError text) none is = All-from_recursion (λ name. (rows : List Row) → ◌≢◌ {A = Option (Text × List Row)} None (Some (name, rows))) command_names (λ rows e. cc, (λ rows e. cc, (λ rows e. cc, (λ rows e. cc, (λ rows e. cc, (λ rows e. cc, (λ rows e. cc, tt)))))))
+none_met None (UsageError text) none is = inl (All-from_recursion (λ name. (rows : List Row) → ◌≢◌ {A = Option (Text × List Row)} None (Some (name, rows))) command_names
+    (λ rows e. cc, (λ rows e. cc, (λ rows e. cc, (λ rows e. cc, (λ rows e. cc, (λ rows e. cc, (λ rows e. cc, (λ rows e. cc, tt)))))))))
 none_met None NoMemory none is = tt
 none_met None _ none is = absurd is
 none_met (Some b) o none is = cc
@@ -39,6 +40,19 @@ pub value_text : (f : Found) (id : Text) (v : Option (Bor Text)) (word other : B
     → word.now ≡ value_of id (rows_of f)
 value_text f id None word other given is none = ap (λ w. w.now) is ∙ (none ∙ ap (λ o. unwrap_or o []) (given ∙ first_value-rows f id))
 value_text f id (Some w) word other given is none = ap (λ w. w.now) is ∙ ap (λ o. unwrap_or o []) (given ∙ first_value-rows f id)
+
+-- a command that reads the standard input twice is refused
+pub refused_twice : (named : Option (Text × List Row)) (o : Request) → ReadsInputTwice named → IsUsageErrorOrMemory o → IsCommand named o
+refused_twice named (UsageError text) twice is = inr twice
+refused_twice named NoMemory twice is = tt
+refused_twice named _ twice is = absurd is
+
+pub no_help_of_conflict : (o : Request) → IsRequestOf ArgumentConflict o → IsUsageErrorOrMemory o
+no_help_of_conflict (Help text) (inl help) = cc
+no_help_of_conflict (Help text) (inr version) = cc
+no_help_of_conflict (UsageError text) is = tt
+no_help_of_conflict NoMemory is = tt
+no_help_of_conflict _ is = absurd is
 
 -- the number of an option, from what `get_one` reads
 pub number_read : {E : Type 0} (gives : List ℕ → Result ℕ E → Type 0) → ((bs : List ℕ) (r : Result ℕ E) → gives bs r → ParsesUnsigned 32 10 bs r) → (t : Text) (n : Option ℕ) → ReadsOne gives t n
@@ -65,6 +79,7 @@ pub asks_command : (arguments : List Text) (named : Option (Text × List Row)) (
 asks_command arguments named (Check w) same none is = (none, subst (λ n. IsCommand n (Check w)) same is)
 asks_command arguments named (Explain w) same none is = (none, subst (λ n. IsCommand n (Explain w)) same is)
 asks_command arguments named (Object w) same none is = (none, subst (λ n. IsCommand n (Object w)) same is)
+asks_command arguments named (SuggestPools w) same none is = (none, subst (λ n. IsCommand n (SuggestPools w)) same is)
 asks_command arguments named (Sample w) same none is = (none, subst (λ n. IsCommand n (Sample w)) same is)
 asks_command arguments named (Help text) same none is = absurd is
 asks_command arguments named (UsageError text) same none is = inr (none, subst (λ n. IsCommand n (UsageError text)) same is)
@@ -78,6 +93,7 @@ pub asks_refused : (arguments : List Text) (e : Error) (o : Request) → HasKind
 asks_refused arguments e (Check w) has is = absurd is
 asks_refused arguments e (Explain w) has is = absurd is
 asks_refused arguments e (Object w) has is = absurd is
+asks_refused arguments e (SuggestPools w) has is = absurd is
 asks_refused arguments e (Sample w) has is = absurd is
 asks_refused arguments e (Help text) (inl memory) is = absurd (no_help (kind_of e) memory is)
 asks_refused arguments e (Help text) (inr among) is = (kind_of e, among, is)

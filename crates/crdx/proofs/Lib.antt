@@ -5,6 +5,7 @@ pub mod WalkLemmas
 pub mod ObjectLemmas
 pub mod LineLemmas
 pub mod RunLemmas
+pub mod CheckLemmas
 pub mod CommandLineLemmas
 pub mod NameLemmas
 pub mod EnvelopeLemmas

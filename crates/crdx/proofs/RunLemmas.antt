@@ -1,5 +1,5 @@
 -- How the causes of a run and its status go together with what is asked of the documents at hand.
-use Rattle.std.proofs.Common.{◌≡◌, ◌≢◌, ◌⊎◌, ℕ, List, [], ◌∷◌, Option, Some, None, Bor, Ok, Err, refl, ap, subst, inl, inr, take, map, string_bytes, IsSomeAnd, Bool, true, codes, ◌∙◌, arith}
+use Rattle.std.proofs.Common.{◌≡◌, ◌≢◌, ◌⊎◌, ℕ, List, [], ◌∷◌, Option, Some, None, Bor, Ok, Err, refl, subst, inl, inr, take, map, string_bytes, IsSomeAnd, Bool, true, arith}
 use Rattle.std.specs.Prelude.{IfSome, IfOk, IfErr, OnOk, OnErr, Result, ◌≤◌, ◌<◌}
 use Rattle.std.specs.Io.KnownBytes.{Appends, Keeps}
 use Rattle.jtree.specs.Data.{Data}
@@ -14,7 +14,7 @@ use Rattle.schema.specs.Document.ReadFault.{IsReadFault}
 use Rattle.schema.specs.declared.fault.SFault.{SFault}
 use Rattle.schema.specs.declared.fault.SFault.TheVariants as s
 use Rattle.schema.specs.declared.violation.Violation.{Violation}
-use Rattle.crdx.specs.Program.RunResult.{Effects, WritesNothing, IsRunResult, answered, refused, unread_input, unwritten, no_memory, IsInputRefused, IsAnswer, structural, violations, fields, object, samples, no_sample, told_lines, HasBreaks, IsCutByMemory, IsCutByWrite}
+use Rattle.crdx.specs.Program.RunResult.{Effects, WritesNothing, IsRunResult, answered, refused, unread_input, unwritten, no_memory, IsInputRefused, IsAnswer, fields, object, samples, no_sample, HasBreaks, IsCutByMemory, IsCutByWrite}
 use Rattle.crdx.specs.Output.Line.{lines}
 use Rattle.crdx.specs.Output.PartialOutput.{IsPartialOutput}
 use Rattle.crdx.specs.Output.Walk.{WritesPage}
@@ -36,12 +36,11 @@ use Rattle.crdx.specs.declared.running.causes.PlaceCode.TheVariants as code
 use Rattle.crdx.specs.declared.running.causes.Cause.{Cause}
 use Rattle.crdx.specs.declared.running.causes.Cause.TheVariants.{Unread, Document, Crd, Pools as PoolsCause, Place, Violations, NoField, NotStored, NotASample, Write, NoMemory}
 use Rattle.crdx.specs.declared.running.answer.Answer.{Answer}
-use Rattle.crdx.specs.declared.arguments.request.CheckArguments.{CheckArguments}
 use Rattle.crdx.specs.declared.arguments.request.ExplainArguments.{ExplainArguments}
 use Rattle.crdx.specs.declared.arguments.request.ObjectArguments.{ObjectArguments}
 use Rattle.crdx.specs.declared.arguments.request.SampleArguments.{SampleArguments}
 use Rattle.crdx.specs.declared.arguments.request.Request.{Request}
-use Rattle.crdx.specs.declared.arguments.request.Request.TheVariants.{Check, Explain, Object, Sample}
+use Rattle.crdx.specs.declared.arguments.request.Request.TheVariants.{Explain, Object, Sample}
 use Rattle.crdx.specs.declared.walk.walking.Walked.{Walked}
 use Rattle.crdx.specs.declared.walk.fault.WFault.{WFault}
 use Rattle.crdx.specs.declared.walk.fault.WFault.TheVariants as w
@@ -50,8 +49,8 @@ use Rattle.std.proofs.lemmas.Bool.Decides.{nat_tests}
 use Rattle.crdx.proofs.PageLemmas.{PagesAgree}
 use Rattle.crdx.proofs.WalkLemmas.{Appends-nothing}
 
-module _ (has : Documents) (unread read : ℕ) (crd version : List ℕ) where
-  pub cause_of_fault : (d : Data) (fault : SFault) → has (Some crd) (Ok d) → IsReadFault d version fault → IsReadCause has unread read crd version (cause_of_reading fault)
+module _ (has : Documents) (unread read : ℕ) (crd : Option (List ℕ)) (version : List ℕ) where
+  pub cause_of_fault : (d : Data) (fault : SFault) → has crd (Ok d) → IsReadFault d version fault → IsReadCause has unread read crd version (cause_of_reading fault)
   cause_of_fault d s.NotACrd at is = (d, at, λ e. cc, is)
   cause_of_fault d s.NoSuchVersion at is = (d, at, λ e. cc, is)
   cause_of_fault d (s.KeywordForm p) at is = (d, at, λ e. cc, is)
@@ -88,7 +87,7 @@ pub refused_schema : (raw : Data) (r : Refused) → IsRefusal raw r → IsBroken
 refused_schema raw (refusal.Violations vs) is = is
 refused_schema raw refusal.NoMemory is = tt
 
-module _ (has : Documents) (unread read : ℕ) (crd version : List ℕ) (request : Request) (no : (breaks : List Break) → HasBreaks has crd version breaks → IsAnswer has request 1 []) where
+module _ (has : Documents) (unread read : ℕ) (crd : Option (List ℕ)) (version : List ℕ) (request : Request) (no : (breaks : List Break) → HasBreaks has crd version breaks → IsAnswer has request 1 []) where
   input_of_broken : (raw : Data) (cause : Cause) → IsRequestedSchema has crd version raw → IsBrokenCause raw cause → IsInputCause has unread read request cause
   input_of_broken raw (Violations vs) asked why = let found = broken has unread read crd version raw vs.items asked why.0 why.1 in no found.0 found.2
   input_of_broken raw NoMemory asked why = tt
@@ -100,18 +99,18 @@ module _ (has : Documents) (unread read : ℕ) (crd version : List ℕ) (request
   input_of_schema cause refuse (inr why) = input_of_broken why.0 cause why.1 why.2
 
 -- the root of the schema that was read
-pub requested_root : (has : Documents) (crd version group kind : List ℕ) (N : Node) → ((raw : Data) × IsRequestedCrd has crd version group kind raw × IsUnbroken (IsBroken raw) × AreNodesOf true N raw)
+pub requested_root : (has : Documents) (crd : Option (List ℕ)) (version group kind : List ℕ) (N : Node) → ((raw : Data) × IsRequestedCrd has crd version group kind raw × IsUnbroken (IsBroken raw) × AreNodesOf true N raw)
     → IsRequestedRoot has crd version N
 requested_root has crd version group kind N (raw, asked, unbroken, nodes) = (raw, record { asked = (group, (kind, asked)); unbroken = unbroken }, nodes)
 
 -- why the fields of the schema that is asked for are not printed
-pub field_input : (has : Documents) (unread read : ℕ) (arguments : ExplainArguments) (N : Node) (cause : Cause) → IsRequestedRoot has arguments.crd.now arguments.version.now N
+pub field_input : (has : Documents) (unread read : ℕ) (arguments : ExplainArguments) (N : Node) (cause : Cause) → IsRequestedRoot has (file_name arguments.crd) arguments.version.now N
     → IsFieldCause N arguments.path cause → IsInputCause has unread read (Explain arguments) cause
 field_input has unread read arguments N (NoField fault) asked why = fields arguments N 1 [] asked why
 field_input has unread read arguments N NoMemory asked why = tt
 field_input has unread read arguments N _ asked why = absurd why
 
-module _ (has later : Documents) (unread read : ℕ) (arguments : ObjectArguments) (N : Node) (among : AreAmong later has) (root : IsRequestedRoot has arguments.crd.now arguments.version.now N) where
+module _ (has later : Documents) (unread read : ℕ) (arguments : ObjectArguments) (N : Node) (among : AreAmong later has) (root : IsRequestedRoot has (file_name arguments.crd) arguments.version.now N) where
   -- the object is read of documents that were at hand before, where the schema breaks no rule
   input_of_object : (cause : Cause) → IsUnreadCause later unread read input.Object (file_name arguments.object) cause → IsInputCause has unread read (Object arguments) cause
   input_of_object (Unread i) why = why.1
@@ -129,7 +128,7 @@ module _ (has later : Documents) (unread read : ℕ) (arguments : ObjectArgument
   object_input cause (inl why) = input_of_object cause why
   object_input cause (inr (document, at, why)) = input_of_document document cause at why
 
-pub cause_of_pools_fault : (has : Documents) (unread read : ℕ) (name : Bor (List ℕ)) (d : Data) (fault : PFault) → has (Some name.now) (Ok d) → IsPoolsFault d fault
+pub cause_of_pools_fault : (has : Documents) (unread read : ℕ) (name : Option (Bor (List ℕ))) (d : Data) (fault : PFault) → has (file_name name) (Ok d) → IsPoolsFault d fault
     → IsPoolsCause has unread read (Some name) (cause_of_pools fault)
 cause_of_pools_fault has unread read name d (Form p) at is = (d, at, λ e. cc, is)
 cause_of_pools_fault has unread read name d p.TooLarge at is = (d, at, λ e. cc, is)
@@ -137,27 +136,27 @@ cause_of_pools_fault has unread read name d p.NoMemory at is = tt
 cause_of_pools_fault has unread read name d p.BadLimit at is = absurd is
 cause_of_pools_fault has unread read name d (p.BadPath text) at is = absurd is
 
-among_some : (first second : Documents) (name : Option (Bor (List ℕ))) (r : Bor (List ℕ) → Type 0) (q : Bor (List ℕ) → Type 0) → ((n : Bor (List ℕ)) → r n → q n) → IsSomeAnd name r → IsSomeAnd name q
+among_some : (first second : Documents) (name : Option (Option (Bor (List ℕ)))) (r q : Option (Bor (List ℕ)) → Type 0) → ((n : Option (Bor (List ℕ))) → r n → q n) → IsSomeAnd name r → IsSomeAnd name q
 among_some first second None r q f is = is
 among_some first second (Some n) r q f is = f n is
 
 -- the pools are read of documents that were at hand before, where the schema is accepted
-pub pools_input : (has later : Documents) (unread read : ℕ) (arguments : SampleArguments) (cause : Cause) → AreAmong later has → HasAcceptedSchema has arguments.crd.now arguments.version.now
+pub pools_input : (has later : Documents) (unread read : ℕ) (arguments : SampleArguments) (cause : Cause) → AreAmong later has → HasAcceptedSchema has (file_name arguments.crd) arguments.version.now
     → IsPoolsCause later unread read arguments.pools cause → IsInputCause has unread read (Sample arguments) cause
 pools_input has later unread read arguments (Unread i) among accepted why = why.1
 pools_input has later unread read arguments (Document i fault) among accepted why =
-    inr (inl (accepted, inl (fault, why.1, among_some later has arguments.pools _ _ (λ n is. among (Some n.now) (Err fault) is) why.2)))
+    inr (inl (accepted, inl (fault, why.1, among_some later has arguments.pools _ _ (λ n is. among (file_name n) (Err fault) is) why.2)))
 pools_input has later unread read arguments (PoolsCause fault) among accepted why =
-    inr (inl (accepted, inr (fault, among_some later has arguments.pools _ _ (λ n is. (is.0, among (Some n.now) (Ok is.0) is.1, is.2, is.3)) why)))
+    inr (inl (accepted, inr (fault, among_some later has arguments.pools _ _ (λ n is. (is.0, among (file_name n) (Ok is.0) is.1, is.2, is.3)) why)))
 pools_input has later unread read arguments (Place input.Pools code.Form p) among accepted why =
-    inr (inl (accepted, inr (Form p, among_some later has arguments.pools _ _ (λ n is. (is.0, among (Some n.now) (Ok is.0) is.1, is.2, is.3)) why)))
+    inr (inl (accepted, inr (Form p, among_some later has arguments.pools _ _ (λ n is. (is.0, among (file_name n) (Ok is.0) is.1, is.2, is.3)) why)))
 pools_input has later unread read arguments NoMemory among accepted why = tt
 pools_input has later unread read arguments _ among accepted why = absurd why
 
 -- pools of documents that were at hand before
-pub pools_before : (has later : Documents) (name : Option (Bor (List ℕ))) (P : Pools) → AreAmong later has → ArePools later name P → ArePools has name P
+pub pools_before : (has later : Documents) (name : Option (Option (Bor (List ℕ)))) (P : Pools) → AreAmong later has → ArePools later name P → ArePools has name P
 pools_before has later None P among is = is
-pools_before has later (Some n) P among is = (is.0, among (Some n.now) (Ok is.0) is.1, is.2, is.3, is.4)
+pools_before has later (Some n) P among is = (is.0, among (file_name n) (Ok is.0) is.1, is.2, is.3, is.4)
 
 -- why there is no plan, as the cause that its fault becomes; the limit is one that sets of sizes have room for
 pub cause_of_plan_fault : (N : Node) (P : Pools) (limit bits : ℕ) (fault : PFault) → 1 ≤ limit → limit < bits → IsPlanFault N P limit bits fault → IsPlanCause N P (cause_of_pools fault)
@@ -289,17 +288,3 @@ module _ (run : Effects) (arguments : SampleArguments) where
 
 pub failed_once : (before now : ℕ) → now ≡ one_more before → HasFailed before now
 failed_once before now is = grind (arith, nat_tests)
-
--- what is said of the violations of the schema that is asked for
-pub verdict_answers : (has : Documents) (arguments : CheckArguments) (raw : Data) (vs : List Violation) (a : Answer)
-    → IsRequestedSchema has arguments.crd.now arguments.version.now raw → AreViolations (IsBroken raw) vs
-    → (vs ≡ [] → (a.status ≡ 0) × (string_bytes a.text ≡ codes "structural\n"))
-    → (vs ≢ [] → (a.status ≡ 1) × (string_bytes a.text ≡ told_lines (map told vs)))
-    → IsAnswer has (Check arguments) a.status (string_bytes a.text)
-verdict_answers has arguments raw [] a asked are none some =
-    let is = none refl in
-    rw (is.0, is.1) (structural arguments (raw, record { asked = asked; unbroken = none_broken (IsBroken raw) are }))
-verdict_answers has arguments raw (v ∷ vs) a asked are none some =
-    let is = some (λ e. cc) in
-    let found = broken has 0 0 arguments.crd.now arguments.version.now raw (v ∷ vs) asked are (λ e. cc) in
-    rw (is.0, is.1 ∙ ap told_lines found.1) (violations arguments found.0 found.2)

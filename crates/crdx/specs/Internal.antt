@@ -6,3 +6,4 @@ pub mod PartialLines
 pub mod Progress
 pub mod Cause
 pub mod ExitStatus
+pub mod CheckText

@@ -3,6 +3,7 @@ pub mod CommandLine
 pub mod Documents
 pub mod InputFault
 pub mod Phrases
+pub mod ViolationLines
 pub mod Envelope
 pub mod TextList
 pub mod ObjectAnswer

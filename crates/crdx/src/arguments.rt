@@ -6,5 +6,6 @@ mod request;
 
 pub use parsing::{MOST_COUNT, MOST_LIMIT, parse_arguments};
 pub use request::{
-    CheckArguments, ExplainArguments, ObjectArguments, ObjectCommand, Request, SampleArguments,
+    CheckArguments, ExplainArguments, ObjectArguments, ObjectCommand, PoolsArguments, Request,
+    SampleArguments,
 };

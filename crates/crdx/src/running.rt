@@ -13,6 +13,7 @@ mod explaining;
 mod objects;
 mod reporting;
 mod sampling;
+mod suggesting;
 
 use crate::arguments::{Request, parse_arguments};
 use crate::inputs::Inputs;
@@ -23,6 +24,7 @@ use crate::running::explaining::explain;
 use crate::running::objects::judge_object;
 use crate::running::reporting::{finish, finish_samples, give, report};
 use crate::running::sampling::sample;
+use crate::running::suggesting::suggest_pools;
 use crate::sink::{Sink, put_all};
 use std::alloc::Global;
 
@@ -52,6 +54,12 @@ pub fn run<I: Inputs, W: Sink, E: Sink>(
         Request::Object(arguments) => finish(
             alloc,
             &judge_object(alloc, &arguments, inputs),
+            out,
+            err,
+        ),
+        Request::SuggestPools(arguments) => finish(
+            alloc,
+            &suggest_pools(alloc, &arguments, inputs),
             out,
             err,
         ),

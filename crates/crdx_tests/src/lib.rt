@@ -16,12 +16,14 @@
 //! | `plan_tests/pools_cases` | documents of pools |
 //! | `plan_tests/size_set_cases` | sets of sizes |
 //! | `plan_tests/plan_cases` | plans: their nodes, sizes and what is handed out |
+//! | `suggest_tests/document_cases` | the pools document that is suggested for a schema |
 //! | `enumerate_tests/page_cases` | pages, walks and enumerations, with their steps |
 //! | `enumerate_tests/reference_cases` | the plain reference, and walks, against lists made by hand |
 //! | `enumerate_tests/small_plan_cases` | 1,362 small plans, 402 of them with a list for a path, and their pages against the plain reference |
 //! | `enumerate_tests/wide_cases` | plans over words of 128 bits |
 //! | `program/argument_cases` | the arguments, mistakes in them, and help |
 //! | `program/check_cases`, `validate_cases`, `prune_cases`, `sample_cases` | what each command prints |
+//! | `program/why_cases` | the reasons that `check --why` prints |
 //! | `program/limit_cases` | `sample` with limits up to 127 |
 //! | `program/path_cases`, `bad_path_cases` | `sample` with values listed for the paths of fields, and paths that are refused |
 //! | `program/presence_cases` | junctors that ask which fields an object has: judged, validated and listed |
@@ -49,5 +51,7 @@ mod program;
 mod schema_tests;
 #[cfg(test)]
 mod stored_tests;
+#[cfg(test)]
+mod suggest_tests;
 #[cfg(test)]
 mod support;

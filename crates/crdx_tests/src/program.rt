@@ -15,3 +15,4 @@ mod refusal_cases;
 mod resume_cases;
 mod sample_cases;
 mod validate_cases;
+mod why_cases;

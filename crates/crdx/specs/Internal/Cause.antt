@@ -1,5 +1,5 @@
 -- Why a run has no answer, said of the documents at hand; the counts are those of the reads that failed, before and now.
-use Rattle.std.specs.Prelude.{◌≡◌, ◌≢◌, ◌⊎◌, ℕ, List, [], Bool, Option, Some, IfSome, IsSomeAnd, Ok, Err, string_bytes}
+use Rattle.std.specs.Prelude.{◌≡◌, ◌≢◌, ◌⊎◌, ℕ, List, [], Bool, Option, IfSome, IsSomeAnd, Ok, Err, string_bytes}
 use Rattle.std.specs.Borrow.{Bor}
 use Rattle.std.specs.Io.KnownBytes.{Keeps}
 use Rattle.jtree.specs.Data.{Data}
@@ -47,9 +47,9 @@ IsBrokenCause raw NoMemory = Unit {0}
 IsBrokenCause raw _ = ⊥
 
 -- why no schema is read
-abbrev pub IsReadCause : Documents → ℕ → ℕ → List ℕ → List ℕ → Cause → Type 0
+abbrev pub IsReadCause : Documents → ℕ → ℕ → Option (List ℕ) → List ℕ → Cause → Type 0
 IsReadCause has before now crd version (Unread i) = (i ≡ input.Crd) × HasFailed before now
-IsReadCause has before now crd version (Document i fault) = (i ≡ input.Crd) × IsOfBytes fault × has (Some crd) (Err fault)
+IsReadCause has before now crd version (Document i fault) = (i ≡ input.Crd) × IsOfBytes fault × has crd (Err fault)
 IsReadCause has before now crd version (Crd fault) = HasReadFault has crd version fault
 IsReadCause has before now crd version (Place input.Crd code.KeywordForm p) = HasReadFault has crd version (s.KeywordForm p)
 IsReadCause has before now crd version (Place input.Crd code.TooLarge p) = HasReadFault has crd version (s.TooLarge p)
@@ -57,14 +57,14 @@ IsReadCause has before now crd version NoMemory = Unit {0}
 IsReadCause has before now crd version _ = ⊥
 
 -- why there is no schema that is taken
-abbrev pub IsSchemaCause : Documents → ℕ → ℕ → List ℕ → List ℕ → Cause → Type 0
+abbrev pub IsSchemaCause : Documents → ℕ → ℕ → Option (List ℕ) → List ℕ → Cause → Type 0
 IsSchemaCause has before now crd version cause =
     IsReadCause has before now crd version cause ⊎ ((raw : Data) × IsRequestedSchema has crd version raw × IsBrokenCause raw cause)
 
 -- why there are no pools
-abbrev pub IsPoolsCause : Documents → ℕ → ℕ → Option (Bor (List ℕ)) → Cause → Type 0
+abbrev pub IsPoolsCause : Documents → ℕ → ℕ → Option (Option (Bor (List ℕ))) → Cause → Type 0
 IsPoolsCause has before now pools (Unread i) = (i ≡ input.Pools) × HasFailed before now
-IsPoolsCause has before now pools (Document i fault) = (i ≡ input.Pools) × IsOfBytes fault × IsSomeAnd pools (λ name. has (Some name.now) (Err fault))
+IsPoolsCause has before now pools (Document i fault) = (i ≡ input.Pools) × IsOfBytes fault × IsSomeAnd pools (λ name. has (file_name name) (Err fault))
 IsPoolsCause has before now pools (Pools fault) = HasPoolsFault has pools fault
 IsPoolsCause has before now pools (Place input.Pools code.Form p) = HasPoolsFault has pools (Form p)
 IsPoolsCause has before now pools NoMemory = Unit {0}

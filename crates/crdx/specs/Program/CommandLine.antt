@@ -1,21 +1,25 @@
 -- The command line as `clap` reads it, and what its arguments ask for (this project's own).
-use Rattle.std.specs.Prelude.{◌≡◌, ◌≢◌, ◌⊎◌, ◌≤◌, ℕ, List, [], ◌∷◌, All, true, Option, Some, pos, option_map, unwrap_or, codes}
+use Rattle.std.specs.Prelude.{◌≡◌, ◌≢◌, ◌⊎◌, ◌≤◌, ℕ, List, [], ◌∷◌, All, Bool, true, false, Option, Some, None, pos, if◌then◌else◌, option_map, option_and_then, unwrap_or, codes}
+use Rattle.std.specs.Str.{bytes_eq}
 use Rattle.std.specs.Str.Parse.{IsNumeral, digits_value, without_leading_plus}
 use Rattle.clap.specs.Walk.{Row, Rule, Text, first_of, one_of}
 use Rattle.clap.specs.Simple.{App, new_app, new_rule, with_rule, with_subcommand, on_top, subcommand_of}
 use Rattle.clap.specs.Faults.{fault_of}
 use Rattle.clap.specs.Kinds.{Kinds, IsAmong}
+use Rattle.clap.specs.declared.builder.action.ArgAction.TheVariants.{SetTrue}
 use Rattle.clap.specs.declared.builder.value_parser.ValueParser.TheVariants.{Signed}
 use Rattle.clap.specs.declared.error.kind.ErrorKind.{ErrorKind}
 use Rattle.clap.specs.declared.error.kind.ErrorKind.TheVariants.{DisplayHelp, DisplayVersion, OutOfMemory}
+use Rattle.crdx.specs.Program.Documents.{file_name}
 use Rattle.crdx.specs.declared.arguments.request.CheckArguments.{CheckArguments}
 use Rattle.crdx.specs.declared.arguments.request.ExplainArguments.{ExplainArguments}
 use Rattle.crdx.specs.declared.arguments.request.ObjectArguments.{ObjectArguments}
 use Rattle.crdx.specs.declared.arguments.request.ObjectCommand.{ObjectCommand}
 use Rattle.crdx.specs.declared.arguments.request.ObjectCommand.TheVariants.{Validate, Prune, Default, Leaves}
+use Rattle.crdx.specs.declared.arguments.request.PoolsArguments.{PoolsArguments}
 use Rattle.crdx.specs.declared.arguments.request.SampleArguments.{SampleArguments}
 use Rattle.crdx.specs.declared.arguments.request.Request.{Request}
-use Rattle.crdx.specs.declared.arguments.request.Request.TheVariants.{Check, Explain, Object, Sample, Help, UsageError, NoMemory}
+use Rattle.crdx.specs.declared.arguments.request.Request.TheVariants.{Check, Explain, Object, SuggestPools, Sample, Help, UsageError, NoMemory}
 
 -- a word that has to be there
 abbrev pub required_rule : Text → Rule
@@ -29,9 +33,16 @@ option_rule id = record (new_rule id) { long = Some id; value_names = 1 }
 abbrev pub number_rule : Text → ℕ → Text → Rule
 number_rule id most usual = record (option_rule id) { parser = Some (Signed (pos 1) (pos most)); defaults = usual ∷ [] }
 
--- a command that is told a definition and a version
+-- an option without a value
+abbrev pub flag_rule : Text → Rule
+flag_rule id = record (new_rule id) { long = Some id; action = Some SetTrue }
+
+-- a command that takes a definition and a version
 abbrev pub crd_app : Text → App
 crd_app name = with_rule (with_rule (new_app name) (required_rule (codes "CRD"))) (required_rule (codes "VERSION"))
+
+abbrev pub check_app : App
+check_app = with_rule (crd_app (codes "check")) (flag_rule (codes "why"))
 
 abbrev pub explain_app : App
 explain_app = with_rule (crd_app (codes "explain")) (new_rule (codes "PATH"))
@@ -47,9 +58,9 @@ abbrev pub top_app : App
 top_app = on_top (λ s. record s { has_version = true; subcommand_required = true }) (new_app (codes "crdx"))
 
 abbrev pub crdx_app : App
-crdx_app = with_subcommand (with_subcommand (with_subcommand (with_subcommand (with_subcommand (with_subcommand (with_subcommand top_app
-    (crd_app (codes "check")).top) explain_app.top) (object_app (codes "validate")).top) (object_app (codes "prune")).top) (object_app (codes "default")).top)
-    (object_app (codes "leaves")).top) sample_app.top
+crdx_app = with_subcommand (with_subcommand (with_subcommand (with_subcommand (with_subcommand (with_subcommand (with_subcommand (with_subcommand top_app
+    check_app.top) explain_app.top) (object_app (codes "validate")).top) (object_app (codes "prune")).top) (object_app (codes "default")).top)
+    (object_app (codes "leaves")).top) (crd_app (codes "pools")).top) sample_app.top
 
 -- what `clap` refuses of the arguments after the program's name, and the command that they name with what stands for each of its arguments
 unfoldable pub faults : List Text → Kinds
@@ -69,20 +80,46 @@ decimal_value t = digits_value 10 (without_leading_plus t)
 abbrev pub IsNumberOf : Text → ℕ → List Row → ℕ → Type 0
 IsNumberOf id most rows n = (t : Text) → one_of id rows ≡ Some t → IsNumeral 10 (without_leading_plus t) → 1 ≤ decimal_value t → decimal_value t ≤ most → n ≡ decimal_value t
 
+-- whether an option without a value is there
+abbrev pub IsFlagOf : Text → List Row → Bool → Type 0
+IsFlagOf id rows b = (one_of id rows ≡ None → b ≡ false) × (one_of id rows ≡ Some (codes "false") → b ≡ false) × (one_of id rows ≡ Some (codes "true") → b ≡ true)
+
+-- the input that a word names: none for `-`, which is the standard input, and else a file
+abbrev pub input_of : Text → Option Text
+input_of word = if bytes_eq word (codes "-") then None else Some word
+
+abbrev pub crd_input : List Row → Option Text
+crd_input rows = input_of (value_of (codes "CRD") rows)
+
+-- without a word it is the standard input
+abbrev pub object_input : List Row → Option Text
+object_input rows = option_and_then input_of (first_of (codes "OBJECT") rows)
+
+abbrev pub pools_input : List Row → Option (Option Text)
+pools_input rows = option_map input_of (first_of (codes "pools") rows)
+
+-- the definition and the other input are both the standard input
+abbrev pub IsReadTwice : List Row → Option (Option Text) → Type 0
+IsReadTwice rows other = (crd_input rows ≡ None) × (other ≡ Some None)
+
 abbrev pub AreCheckArguments : List Row → CheckArguments → Type 0
-AreCheckArguments rows arguments = (arguments.crd.now ≡ value_of (codes "CRD") rows) × (arguments.version.now ≡ value_of (codes "VERSION") rows)
+AreCheckArguments rows arguments = (file_name arguments.crd ≡ crd_input rows) × (arguments.version.now ≡ value_of (codes "VERSION") rows)
+    × IsFlagOf (codes "why") rows arguments.why
 
 abbrev pub AreExplainArguments : List Row → ExplainArguments → Type 0
-AreExplainArguments rows arguments = (arguments.crd.now ≡ value_of (codes "CRD") rows) × (arguments.version.now ≡ value_of (codes "VERSION") rows)
+AreExplainArguments rows arguments = (file_name arguments.crd ≡ crd_input rows) × (arguments.version.now ≡ value_of (codes "VERSION") rows)
     × (option_map (λ s. s.now) arguments.path ≡ first_of (codes "PATH") rows)
 
 abbrev pub AreObjectArguments : ObjectCommand → List Row → ObjectArguments → Type 0
-AreObjectArguments command rows arguments = (arguments.command ≡ command) × (arguments.crd.now ≡ value_of (codes "CRD") rows) × (arguments.version.now ≡ value_of (codes "VERSION") rows)
-    × (option_map (λ s. s.now) arguments.object ≡ first_of (codes "OBJECT") rows)
+AreObjectArguments command rows arguments = (arguments.command ≡ command) × (file_name arguments.crd ≡ crd_input rows) × (arguments.version.now ≡ value_of (codes "VERSION") rows)
+    × (file_name arguments.object ≡ object_input rows)
+
+abbrev pub ArePoolsArguments : List Row → PoolsArguments → Type 0
+ArePoolsArguments rows arguments = (file_name arguments.crd ≡ crd_input rows) × (arguments.version.now ≡ value_of (codes "VERSION") rows)
 
 abbrev pub AreSampleArguments : List Row → SampleArguments → Type 0
-AreSampleArguments rows arguments = (arguments.crd.now ≡ value_of (codes "CRD") rows) × (arguments.version.now ≡ value_of (codes "VERSION") rows)
-    × (option_map (λ s. s.now) arguments.pools ≡ first_of (codes "pools") rows)
+AreSampleArguments rows arguments = (file_name arguments.crd ≡ crd_input rows) × (arguments.version.now ≡ value_of (codes "VERSION") rows)
+    × (option_map file_name arguments.pools ≡ pools_input rows)
     × (option_map (λ s. s.now) arguments.after ≡ first_of (codes "after") rows) × (option_map (λ s. s.now) arguments.name ≡ first_of (codes "name") rows)
     × IsNumberOf (codes "limit") 127 rows arguments.limit × IsNumberOf (codes "count") 10000 rows arguments.count
 
@@ -93,16 +130,23 @@ object_command_name Default = codes "default"
 object_command_name Leaves = codes "leaves"
 
 abbrev pub command_names : List Text
-command_names = codes "check" ∷ codes "explain" ∷ codes "validate" ∷ codes "prune" ∷ codes "default" ∷ codes "leaves" ∷ codes "sample" ∷ []
+command_names = codes "check" ∷ codes "explain" ∷ codes "validate" ∷ codes "prune" ∷ codes "default" ∷ codes "leaves" ∷ codes "pools" ∷ codes "sample" ∷ []
+
+-- the command that was named reads the standard input for two of its inputs
+abbrev pub ReadsInputTwice : Option (Text × List Row) → Type 0
+ReadsInputTwice named = (rows : List Row) × (((command : ObjectCommand) × (named ≡ Some (object_command_name command, rows)) × IsReadTwice rows (Some (object_input rows)))
+    ⊎ ((named ≡ Some (codes "sample", rows)) × IsReadTwice rows (pools_input rows)))
 
 -- what a command that was named asks for
 abbrev pub IsCommand : Option (Text × List Row) → Request → Type 0
 IsCommand named (Check arguments) = (rows : List Row) × (named ≡ Some (codes "check", rows)) × AreCheckArguments rows arguments
 IsCommand named (Explain arguments) = (rows : List Row) × (named ≡ Some (codes "explain", rows)) × AreExplainArguments rows arguments
 IsCommand named (Object arguments) = (rows : List Row) × (named ≡ Some (object_command_name arguments.command, rows)) × AreObjectArguments arguments.command rows arguments
-IsCommand named (Sample arguments) = (rows : List Row) × (named ≡ Some (codes "sample", rows)) × AreSampleArguments rows arguments
+    × (IsReadTwice rows (Some (object_input rows)) → ⊥)
+IsCommand named (SuggestPools arguments) = (rows : List Row) × (named ≡ Some (codes "pools", rows)) × ArePoolsArguments rows arguments
+IsCommand named (Sample arguments) = (rows : List Row) × (named ≡ Some (codes "sample", rows)) × AreSampleArguments rows arguments × (IsReadTwice rows (pools_input rows) → ⊥)
 IsCommand named (Help text) = ⊥
-IsCommand named (UsageError text) = All (λ name. (rows : List Row) → named ≢ Some (name, rows)) command_names
+IsCommand named (UsageError text) = All (λ name. (rows : List Row) → named ≢ Some (name, rows)) command_names ⊎ ReadsInputTwice named
 IsCommand named NoMemory = Unit {0}
 
 abbrev pub IsHelp : ErrorKind → Type 0
@@ -120,11 +164,13 @@ IsUsageErrorOrMemory (UsageError text) = Unit {0}
 IsUsageErrorOrMemory NoMemory = Unit {0}
 IsUsageErrorOrMemory _ = ⊥
 
--- what the arguments ask for; running out of memory says nothing of them
+-- what the arguments ask for: a command, or help; or they are refused, by `clap` or since the command names the standard input
+-- twice. Running out of memory says nothing of them.
 abbrev pub Asks : List Text → Request → Type 0
 Asks arguments (Check w) = (faults arguments ≡ []) × IsCommand (entered arguments) (Check w)
 Asks arguments (Explain w) = (faults arguments ≡ []) × IsCommand (entered arguments) (Explain w)
 Asks arguments (Object w) = (faults arguments ≡ []) × IsCommand (entered arguments) (Object w)
+Asks arguments (SuggestPools w) = (faults arguments ≡ []) × IsCommand (entered arguments) (SuggestPools w)
 Asks arguments (Sample w) = (faults arguments ≡ []) × IsCommand (entered arguments) (Sample w)
 Asks arguments (Help text) = (k : ErrorKind) × IsAmong k (faults arguments) × IsHelp k
 Asks arguments (UsageError text) = ((k : ErrorKind) × IsAmong k (faults arguments) × (IsHelp k → ⊥)) ⊎ ((faults arguments ≡ []) × IsCommand (entered arguments) (UsageError text))

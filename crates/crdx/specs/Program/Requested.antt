@@ -28,52 +28,52 @@ use Rattle.crdx.specs.declared.arguments.request.ObjectArguments.{ObjectArgument
 use Rattle.crdx.specs.declared.arguments.request.SampleArguments.{SampleArguments}
 use Rattle.crdx.specs.declared.walk.line.Envelope.{Envelope}
 
--- the group, the kind and the schema of this version of the CustomResourceDefinition of this name
-pub record IsRequestedCrd (has : Documents) (crd version group kind : List ℕ) (raw : Data) : Type 0 where
+-- the group, the kind and the schema of this version of the CustomResourceDefinition that stands under this name
+pub record IsRequestedCrd (has : Documents) (crd : Option (List ℕ)) (version group kind : List ℕ) (raw : Data) : Type 0 where
   pub document : Data
-  pub at_hand : has (Some crd) (Ok document)
+  pub at_hand : has crd (Ok document)
   pub read : IsRead document version group kind raw
   pub sound : IsSound raw
 
-abbrev pub IsRequestedSchema : Documents → List ℕ → List ℕ → Data → Type 0
+abbrev pub IsRequestedSchema : Documents → Option (List ℕ) → List ℕ → Data → Type 0
 IsRequestedSchema has crd version raw = (group : List ℕ) × ((kind : List ℕ) × IsRequestedCrd has crd version group kind raw)
 
 -- it is structural: no rule is broken
-pub record IsAcceptedSchema (has : Documents) (crd version : List ℕ) (raw : Data) : Type 0 where
+pub record IsAcceptedSchema (has : Documents) (crd : Option (List ℕ)) (version : List ℕ) (raw : Data) : Type 0 where
   pub asked : IsRequestedSchema has crd version raw
   pub unbroken : IsUnbroken (IsBroken raw)
 
-abbrev pub HasAcceptedSchema : Documents → List ℕ → List ℕ → Type 0
+abbrev pub HasAcceptedSchema : Documents → Option (List ℕ) → List ℕ → Type 0
 HasAcceptedSchema has crd version = (raw : Data) × IsAcceptedSchema has crd version raw
 
 -- its root
-abbrev pub IsRequestedRoot : Documents → List ℕ → List ℕ → Node → Type 0
+abbrev pub IsRequestedRoot : Documents → Option (List ℕ) → List ℕ → Node → Type 0
 IsRequestedRoot has crd version N = (raw : Data) × IsAcceptedSchema has crd version raw × AreNodesOf true N raw
 
 -- a fault of the document of this name, read for this version
-abbrev pub HasReadFault : Documents → List ℕ → List ℕ → SFault → Type 0
-HasReadFault has crd version fault = (document : Data) × has (Some crd) (Ok document) × (fault ≢ s.NoMemory) × IsReadFault document version fault
+abbrev pub HasReadFault : Documents → Option (List ℕ) → List ℕ → SFault → Type 0
+HasReadFault has crd version fault = (document : Data) × has crd (Ok document) × (fault ≢ s.NoMemory) × IsReadFault document version fault
 
 -- there is no document of this name, or it has a fault
-abbrev pub IsCrdRefused : Documents → List ℕ → List ℕ → Type 0
-IsCrdRefused has crd version = ((fault : JFault) × IsOfBytes fault × has (Some crd) (Err fault)) ⊎ ((fault : SFault) × HasReadFault has crd version fault)
+abbrev pub IsCrdRefused : Documents → Option (List ℕ) → List ℕ → Type 0
+IsCrdRefused has crd version = ((fault : JFault) × IsOfBytes fault × has crd (Err fault)) ⊎ ((fault : SFault) × HasReadFault has crd version fault)
 
--- the pools of the document of this name, and empty ones without a name
-abbrev pub ArePools : Documents → Option (Bor (List ℕ)) → Pools → Type 0
+-- the pools of the document that is named, and empty ones where none is
+abbrev pub ArePools : Documents → Option (Option (Bor (List ℕ))) → Pools → Type 0
 ArePools has None P = P ≡ record { integers = []; strings = []; names = []; any = []; paths = no_members }
-ArePools has (Some name) P = (document : Data) × has (Some name.now) (Ok document) × HasForm document × (P ≡ pools_of document) × AreSmall P
+ArePools has (Some name) P = (document : Data) × has (file_name name) (Ok document) × HasForm document × (P ≡ pools_of document) × AreSmall P
 
--- a fault of the document of this name as pools
-abbrev pub HasPoolsFault : Documents → Option (Bor (List ℕ)) → PFault → Type 0
-HasPoolsFault has pools fault = IsSomeAnd pools (λ name. (document : Data) × has (Some name.now) (Ok document) × (fault ≢ p.NoMemory) × IsPoolsFault document fault)
+-- a fault of the document that is named as pools
+abbrev pub HasPoolsFault : Documents → Option (Option (Bor (List ℕ))) → PFault → Type 0
+HasPoolsFault has pools fault = IsSomeAnd pools (λ name. (document : Data) × has (file_name name) (Ok document) × (fault ≢ p.NoMemory) × IsPoolsFault document fault)
 
--- there is no document of this name, or it has a fault as pools
-abbrev pub ArePoolsRefused : Documents → Option (Bor (List ℕ)) → Type 0
-ArePoolsRefused has pools = ((fault : JFault) × IsOfBytes fault × IsSomeAnd pools (λ name. has (Some name.now) (Err fault))) ⊎ ((fault : PFault) × HasPoolsFault has pools fault)
+-- there is no document where one is named, or it has a fault as pools
+abbrev pub ArePoolsRefused : Documents → Option (Option (Bor (List ℕ))) → Type 0
+ArePoolsRefused has pools = ((fault : JFault) × IsOfBytes fault × IsSomeAnd pools (λ name. has (file_name name) (Err fault))) ⊎ ((fault : PFault) × HasPoolsFault has pools fault)
 
 -- the root of the schema that the arguments of `sample` ask for, and the pools whose paths are judged by it
 pub record AreRootAndPools (has : Documents) (arguments : SampleArguments) (N : Node) (P : Pools) : Type 0 where
-  pub root : IsRequestedRoot has arguments.crd.now arguments.version.now N
+  pub root : IsRequestedRoot has (file_name arguments.crd) arguments.version.now N
   pub pools : ArePools has arguments.pools P
 
 -- the tree to go on from: the body of what the text is read as, and nothing without a text
@@ -95,7 +95,7 @@ pub record IsRequested (has : Documents) (arguments : SampleArguments) (q : Ques
   pub group : List ℕ
   pub kind : List ℕ
   pub raw : Data
-  pub asked : IsRequestedCrd has arguments.crd.now arguments.version.now group kind raw
+  pub asked : IsRequestedCrd has (file_name arguments.crd) arguments.version.now group kind raw
   pub unbroken : IsUnbroken (IsBroken raw)
   pub root : AreNodesOf true q.root raw
   pub pools : ArePools has arguments.pools q.pools
@@ -106,7 +106,7 @@ pub record IsRequested (has : Documents) (arguments : SampleArguments) (q : Ques
 
 -- the document whose body is asked about, and the node of that
 pub record IsRequestedObject (has : Documents) (arguments : ObjectArguments) (N : Node) (document : Data) : Type 0 where
-  pub root : IsRequestedRoot has arguments.crd.now arguments.version.now N
+  pub root : IsRequestedRoot has (file_name arguments.crd) arguments.version.now N
   pub at_hand : has (file_name arguments.object) (Ok document)
 
 -- there is no document of this name

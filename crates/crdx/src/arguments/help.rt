@@ -15,11 +15,15 @@ apiextensions.k8s.io/v1, and looks at the schema of one of its versions.
 structural. `crdx explain` lists its fields. `crdx validate` says what is wrong
 with an object. `crdx prune` and `crdx default` print what the API server makes
 of it. `crdx leaves` lists the parts of it that can have owners. `crdx sample`
-lists small objects, each once and in order.";
+lists small objects, each once and in order, over the values of a pools
+document, and `crdx pools` prints one to start with.
+
+In place of the name of a file, `-` is the standard input, for one input of a
+command; `./-` is the file of that name.";
 
 /// What stands at the end of `crdx --help`.
 pub(super) const PROGRAM_END: &str = r#"Examples, at the top of the repository:
-  ./crdx check examples/workflow/crd.json v1
+  ./crdx check --why examples/workflow/crd.json v1
   ./crdx validate examples/issuer/crd.json v1 examples/issuer/faulty.json
   ./crdx default examples/issuer/crd.json v1 examples/issuer/object.json
   ./crdx sample examples/widget/crd.json v1 \
@@ -66,7 +70,9 @@ Rules that a schema can break, where allOf, anyOf, oneOf and not are junctors:
        four fields it has.
   V17  The schema is outside the profile of crdx: a keyword that does not go
        with the type, a type that crdx does not know, a list without items, a
-       required name that is no property, or the like.
+       required name that is no property, or the like. Most often it is
+       pattern; `crdx check --why` names the keyword, and crdx-relax makes a
+       wider schema without it.
 
 Faults that an object can have:
   F01  kind: the value is not of the type.
@@ -86,15 +92,25 @@ Faults that an object can have:
   F14  junctor: allOf, anyOf, oneOf or not fails.
 
 Codes of an input that is refused:
-  J1   A number is not an integer of 64 bits.
-  J3   The document is not UTF-8 or not JSON, or nests deeper than 127.
+  J1   A number is not an integer of 64 bits. Most often it is a fraction, in a
+       bound or a default: `grep -n '[0-9]\.[0-9]' FILE` shows where. crdx-relax
+       takes it away.
+  J3   The document is not UTF-8 or not JSON, or nests deeper than 127. Most
+       often it is YAML: `head -n 1 FILE` shows no brace, and `kubectl get -o
+       json` or `yq -o json` prints JSON. Or it begins with a byte order mark:
+       `head -c 3 FILE | od -tx1` shows ef bb bf, and `tail -c +4 FILE` prints
+       what is after it.
   J4   The document has more than 1,048,576 bytes.
   S1   The file is no CustomResourceDefinition of apiextensions.k8s.io/v1, or
-       the version has no schema.
-  S2   There is no version of that name.
+       the version has no schema. Most often it is a List, and
+       `jq .kind FILE` prints "List": `jq '.items[0]' FILE` is its first item.
+  S2   There is no version of that name. Those of the file are what
+       `jq '.spec.versions[].name' FILE` prints.
   S3   The value of a keyword has the wrong form.
   S4   A limit is passed: 512 places in the schema, 24 steps to a place, 32
-       properties, 32 names in required, 4 map keys, 64 values in an enum.
+       properties, 32 names in required, 4 map keys, 64 values in an enum. Most
+       often an object has more properties: those that
+       `jq '.. | .properties? | select(length > 32) | keys' FILE` prints.
   P1   The pools have the wrong form: they are an object with any of integers,
        strings, names and any, each a list, of integers of 64 bits, of texts,
        of texts, and of any values, and of paths, an object of such lists of
@@ -126,11 +142,18 @@ rule, a JSON pointer to the place, and what is wrong there, such as
     V04 "/properties/metadata/properties/labels" metadata restricted
 
 Of a schema that breaks none it prints `structural`. Whether defaults are good
-is judged where no other rule is broken."#;
+is judged where no other rule is broken. With --why each reason has a line below
+that of its rule: the keyword, what is wrong with it, and what can be done, such
+as
+
+    V17 "/properties/spec/properties/name" outside the profile
+        "pattern": not a keyword of scalars for crdx; crdx-relax drops it
+
+V03, V05, V11, V12, V16 and V17 have reasons; the other rules say it all."#;
 
 pub(super) const CHECK_END: &str = "Examples, at the top of the repository:
   ./crdx check examples/widget/crd.json v1
-  ./crdx check examples/workflow/crd.json v1
+  ./crdx check --why examples/workflow/crd.json v1
 
 `crdx --help` explains the rules, the codes of inputs that are refused, and the
 exit status.";
@@ -244,6 +267,26 @@ pub(super) const LEAVES_END: &str = "Example, at the top of the repository:
 `crdx --help` explains L1, the codes of inputs that are refused, and the exit
 status.";
 
+pub(super) const POOLS: &str = "Prints a pools document to start with";
+
+pub(super) const POOLS_LONG: &str =
+    r#"Prints a pools document to start with, for `crdx sample`, as one line of JSON.
+
+Its integers are 0 and 1, and each minimum and maximum of the schema with the
+integers beside it. Its strings are texts of so many letters: one, and as many
+as each minLength and maxLength up to 64 says. Its names are two, and there are
+a text and {} for places that the schema leaves open. A list ends after 64.
+
+Then change it: put in the values that tell your controller's cases apart, and
+take out those that do not."#;
+
+pub(super) const POOLS_END: &str = "Example, at the top of the repository:
+  ./crdx pools examples/issuer/crd.json v1 > pools.json
+  ./crdx sample examples/issuer/crd.json v1 --pools pools.json
+
+`crdx --help` explains the rules, the codes of inputs that are refused, and the
+exit status.";
+
 pub(super) const SAMPLE: &str = "Lists sample objects of a schema, one on each line";
 
 pub(super) const SAMPLE_LONG: &str = r#"Lists sample objects of a schema, one on each line, as JSON.
@@ -263,7 +306,12 @@ of an `enum`, and of true and false.
 
 Samples with fewer nodes come first. None comes twice, and none is passed over.
 Standard error says `crdx: end` where no sample is left, else `crdx: more`. The
-last line, given back by --after, goes on from there."#;
+last line, given back by --after, goes on from there.
+
+`crdx: end` alone is the whole answer where there is no sample: where a required
+field has no value in the pools that is valid, such as a text without --pools,
+or where the least object has more nodes than the limit. `crdx pools` prints
+values to start with."#;
 
 pub(super) const SAMPLE_END: &str = r#"Examples, at the top of the repository:
   ./crdx sample examples/widget/crd.json v1 \
@@ -276,17 +324,24 @@ The first lists ten objects, from {} to {"spec":{"a":1,"b":true}}.
 `crdx --help` explains the rules, the codes of inputs that are refused, and the
 exit status."#;
 
-pub(super) const CRD: &str = "A JSON file with a CustomResourceDefinition";
+pub(super) const CRD: &str = "A JSON file with a CustomResourceDefinition; - is standard input";
 
 pub(super) const CRD_VERSION: &str = "The name of one of its versions, such as v1";
 
 pub(super) const PATH: &str = "The path of a field; without it all fields are listed";
 
-pub(super) const OBJECT: &str = "A JSON file with the object; without it standard input is read";
+pub(super) const OBJECT: &str = "A JSON file with the object; - or nothing is standard input";
 
-pub(super) const POOLS: &str = "A JSON file with the values that samples may have";
+pub(super) const WHY: &str = "Prints the reasons below each line";
 
-pub(super) const POOLS_LONG: &str = r#"A JSON file with the values that samples may have, such as
+pub(super) const WHY_LONG: &str = "Prints below the line of a rule each reason: the keyword, what is
+wrong with it, and what can be done.";
+
+pub(super) const POOLS_OPTION: &str = "A JSON file with the values that samples may have";
+
+pub(super) const POOLS_OPTION_LONG: &str =
+    r#"A JSON file with the values that samples may have; - is standard
+input. It is such as
 {"integers":[0,1],"strings":["x"],"names":["k"],"any":[{}]}: at
 most 64 integers and 64 strings, 32 names of members of maps, and 64
 values where the schema leaves the value open. Each may be left out,

@@ -1,19 +1,22 @@
 // Reads the arguments by `clap`.
-ghost use Rattle.std.specs.Prelude.{◌≡◌, ◌≤◌, false, Some, map, IfOk, string_bytes, codes};
+ghost use Rattle.std.specs.Prelude.{◌≡◌, ◌≤◌, false, Some, map, option_map, IfOk, string_bytes, codes};
 ghost use Rattle.clap.specs.Words.{found_of};
 ghost use Rattle.clap.specs.Kinds.{FailsBy};
 ghost use Rattle.clap.specs.Values.{kind_of};
 ghost use Rattle.clap.specs.Walk.{Rule, rule_of, rows_of};
 ghost use Rattle.clap.specs.Simple.{App, app_of, new_rule, subcommand_rows_of, with_rule, with_subcommand};
 ghost use Rattle.clap.specs.declared.builder.command.Command.TheViews.{out-Command};
-ghost use Rattle.crdx.specs.Program.CommandLine.{required_rule, option_rule, number_rule, top_app, crd_app, explain_app, object_app, sample_app, crdx_app, faults, entered, IsCommand, AreCheckArguments, AreExplainArguments, AreObjectArguments, AreSampleArguments, Asks, IsRequestOf, IsUsageErrorOrMemory, IsNumberOf};
+ghost use Rattle.clap.specs.declared.error.kind.ErrorKind.TheVariants.{ArgumentConflict};
+ghost use Rattle.crdx.specs.Program.Documents.{file_name};
+ghost use Rattle.crdx.specs.Program.CommandLine.{required_rule, option_rule, flag_rule, number_rule, top_app, crd_app, check_app, explain_app, object_app, sample_app, crdx_app, faults, entered, input_of, crd_input, object_input, pools_input, object_command_name, IsCommand, AreCheckArguments, AreExplainArguments, AreObjectArguments, ArePoolsArguments, AreSampleArguments, Asks, IsRequestOf, IsUsageErrorOrMemory, IsNumberOf};
 
 use crate::arguments::help;
 use crate::arguments::request::{
-    CheckArguments, ExplainArguments, ObjectArguments, ObjectCommand, Request, SampleArguments,
+    CheckArguments, ExplainArguments, ObjectArguments, ObjectCommand, PoolsArguments, Request,
+    SampleArguments,
 };
 use clap::error::ErrorKind;
-use clap::{Arg, ArgMatches, Command, Error};
+use clap::{Arg, ArgAction, ArgMatches, Command, Error};
 use std::alloc::{AllocError, Global};
 
 /// The greatest node limit that may be asked for.
@@ -51,13 +54,57 @@ fn request_of_named<'a>(alloc: Global, name: &str, found: &ArgMatches<'a>) -> Re
     match name {
         "check" => Request::Check(check_arguments(found)),
         "explain" => Request::Explain(explain_arguments(found)),
-        "validate" => Request::Object(object_arguments(ObjectCommand::Validate, found)),
-        "prune" => Request::Object(object_arguments(ObjectCommand::Prune, found)),
-        "default" => Request::Object(object_arguments(ObjectCommand::Default, found)),
-        "leaves" => Request::Object(object_arguments(ObjectCommand::Leaves, found)),
-        "sample" => Request::Sample(sample_arguments(found)),
+        "validate" => object_request(alloc, ObjectCommand::Validate, found),
+        "prune" => object_request(alloc, ObjectCommand::Prune, found),
+        "default" => object_request(alloc, ObjectCommand::Default, found),
+        "leaves" => object_request(alloc, ObjectCommand::Leaves, found),
+        "pools" => Request::SuggestPools(pools_arguments(found)),
+        "sample" => sample_request(alloc, found),
         _ => usage_error(alloc, "error: no such command\n"),
     }
+}
+
+/// The request of a command on an object, which may read the standard input for one of its two inputs.
+fn object_request<'a>(alloc: Global, command: ObjectCommand, found: &ArgMatches<'a>) -> Request<'a>
+    ensures { IsCommand (Some (object_command_name command, rows_of (found_of found.now))) result }
+{
+    let arguments = object_arguments(command, found);
+    match (arguments.crd, arguments.object) {
+        (None, None) => read_twice(alloc, "CRD and OBJECT cannot both be the standard input"),
+        _ => Request::Object(arguments),
+    }
+}
+
+/// The request of `sample`, which may read the standard input for one of its two inputs.
+fn sample_request<'a>(alloc: Global, found: &ArgMatches<'a>) -> Request<'a>
+    ensures { IsCommand (Some (codes "sample", rows_of (found_of found.now))) result }
+{
+    let arguments = sample_arguments(found);
+    match (arguments.crd, arguments.pools) {
+        (None, Some(None)) => read_twice(
+            alloc,
+            "CRD and --pools cannot both be the standard input",
+        ),
+        _ => Request::Sample(arguments),
+    }
+}
+
+/// The refusal of a command that would read the standard input for two inputs.
+fn read_twice<'a>(alloc: Global, message: &str) -> Request<'a>
+    ensures { IsUsageErrorOrMemory result }
+{
+    match conflict(alloc, message) {
+        Ok(error) => request_of(alloc, &error),
+        Err(_) => Request::NoMemory,
+    }
+}
+
+/// An error of the command line, in the form in which `clap` prints its own.
+fn conflict(alloc: Global, message: &str) -> Result<Error, AllocError>
+    ensures { IfOk result (λ e. kind_of e ≡ ArgumentConflict) }
+{
+    let mut command = crdx_command(alloc)?;
+    command.error(ErrorKind::ArgumentConflict, message)
 }
 
 fn matches_of<'a>(alloc: Global, arguments: &'a [String]) -> Result<ArgMatches<'a>, Error>
@@ -72,14 +119,7 @@ fn crdx_command<'a>(alloc: Global) -> Result<Command<'a>, AllocError>
     ensures { IfOk result (λ c. app_of c ≡ crdx_app) }
 {
     let command = top_command(alloc);
-    let check = crd_command(
-        alloc,
-        "check",
-        help::CHECK,
-        help::CHECK_LONG,
-        help::CHECK_END,
-    );
-    let command = add_command(command, check);
+    let command = add_command(command, check_command(alloc));
     let command = add_command(command, explain_command(alloc));
     let validate = object_command(
         alloc,
@@ -113,6 +153,14 @@ fn crdx_command<'a>(alloc: Global) -> Result<Command<'a>, AllocError>
         help::LEAVES_END,
     );
     let command = add_command(command, leaves);
+    let pools = crd_command(
+        alloc,
+        "pools",
+        help::POOLS,
+        help::POOLS_LONG,
+        help::POOLS_END,
+    );
+    let command = add_command(command, pools);
     add_command(command, sample_command(alloc))
 }
 
@@ -154,7 +202,7 @@ fn add_command<'a>(
     }
 }
 
-/// The command of this name, with the arguments that `check` takes, and each other command too.
+/// The command of this name, with the arguments that each command takes.
 fn crd_command<'a>(
     alloc: Global,
     name: &'a str,
@@ -205,6 +253,32 @@ fn version_argument<'a>(alloc: Global) -> Arg<'a>
     Arg::new(alloc, "VERSION")
         .required(true)
         .help(help::CRD_VERSION)
+}
+
+/// The arguments that `check` takes.
+fn check_command<'a>(alloc: Global) -> Result<Command<'a>, AllocError>
+    ensures app { IfOk result (λ c. app_of c ≡ check_app) }
+    ensures local { IfOk result (λ c. (out-Command c).has_globals ≡ false) }
+{
+    let command = crd_command(
+        alloc,
+        "check",
+        help::CHECK,
+        help::CHECK_LONG,
+        help::CHECK_END,
+    );
+    add_argument(command, why_option(alloc))
+}
+
+fn why_option<'a>(alloc: Global) -> Arg<'a>
+    ensures rule { rule_of result ≡ flag_rule (codes "why") }
+    ensures local { result.global ≡ false }
+{
+    Arg::new(alloc, "why")
+        .long("why")
+        .action(ArgAction::SetTrue)
+        .help(help::WHY)
+        .long_help(help::WHY_LONG)
 }
 
 /// The arguments that `explain` takes.
@@ -277,8 +351,8 @@ fn pools_option<'a>(alloc: Global) -> Arg<'a>
     Arg::new(alloc, "pools")
         .long("pools")
         .value_name("FILE")
-        .help(help::POOLS)
-        .long_help(help::POOLS_LONG)
+        .help(help::POOLS_OPTION)
+        .long_help(help::POOLS_OPTION_LONG)
 }
 
 fn limit_option<'a>(alloc: Global) -> Arg<'a>
@@ -332,8 +406,9 @@ fn check_arguments<'a>(matches: &ArgMatches<'a>) -> CheckArguments<'a>
     ensures { AreCheckArguments (rows_of (found_of matches.now)) result }
 {
     CheckArguments {
-        crd: matches.get_str("CRD").unwrap_or(""),
+        crd: crd_of(matches),
         version: matches.get_str("VERSION").unwrap_or(""),
+        why: matches.get_flag("why"),
     }
 }
 
@@ -341,7 +416,7 @@ fn explain_arguments<'a>(matches: &ArgMatches<'a>) -> ExplainArguments<'a>
     ensures { AreExplainArguments (rows_of (found_of matches.now)) result }
 {
     ExplainArguments {
-        crd: matches.get_str("CRD").unwrap_or(""),
+        crd: crd_of(matches),
         version: matches.get_str("VERSION").unwrap_or(""),
         path: matches.get_str("PATH"),
     }
@@ -352,9 +427,18 @@ fn object_arguments<'a>(command: ObjectCommand, matches: &ArgMatches<'a>) -> Obj
 {
     ObjectArguments {
         command,
-        crd: matches.get_str("CRD").unwrap_or(""),
+        crd: crd_of(matches),
         version: matches.get_str("VERSION").unwrap_or(""),
-        object: matches.get_str("OBJECT"),
+        object: object_of(matches),
+    }
+}
+
+fn pools_arguments<'a>(matches: &ArgMatches<'a>) -> PoolsArguments<'a>
+    ensures { ArePoolsArguments (rows_of (found_of matches.now)) result }
+{
+    PoolsArguments {
+        crd: crd_of(matches),
+        version: matches.get_str("VERSION").unwrap_or(""),
     }
 }
 
@@ -362,14 +446,45 @@ fn sample_arguments<'a>(matches: &ArgMatches<'a>) -> SampleArguments<'a>
     ensures { AreSampleArguments (rows_of (found_of matches.now)) result }
 {
     SampleArguments {
-        crd: matches.get_str("CRD").unwrap_or(""),
+        crd: crd_of(matches),
         version: matches.get_str("VERSION").unwrap_or(""),
-        pools: matches.get_str("pools"),
+        pools: pools_of(matches),
         after: matches.get_str("after"),
         name: matches.get_str("name"),
         limit: number_of(matches, "limit", USUAL_LIMIT, MOST_LIMIT),
         count: number_of(matches, "count", USUAL_COUNT, MOST_COUNT),
     }
+}
+
+fn crd_of<'a>(matches: &ArgMatches<'a>) -> Option<&'a str>
+    ensures { file_name result ≡ crd_input (rows_of (found_of matches.now)) }
+{
+    input_named(matches.get_str("CRD").unwrap_or(""))
+}
+
+fn object_of<'a>(matches: &ArgMatches<'a>) -> Option<&'a str>
+    ensures { file_name result ≡ object_input (rows_of (found_of matches.now)) }
+{
+    match matches.get_str("OBJECT") {
+        Some(word) => input_named(word),
+        None => None,
+    }
+}
+
+fn pools_of<'a>(matches: &ArgMatches<'a>) -> Option<Option<&'a str>>
+    ensures { option_map file_name result ≡ pools_input (rows_of (found_of matches.now)) }
+{
+    match matches.get_str("pools") {
+        Some(word) => Some(input_named(word)),
+        None => None,
+    }
+}
+
+/// The input that a word names: the standard input for `-`, and else a file.
+fn input_named(word: &str) -> Option<&str>
+    ensures { file_name result ≡ input_of word.now }
+{
+    if word == "-" { None } else { Some(word) }
 }
 
 /// The number of an option, which the parse has seen to be 1 to `last`.

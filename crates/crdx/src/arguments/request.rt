@@ -4,12 +4,12 @@ ghost use Rattle.std.specs.Prelude.{◌≤◌};
 /// The arguments of `sample`.
 #[derive(Drop)]
 pub struct SampleArguments<'a> {
-    /// The file of the CustomResourceDefinition.
-    pub crd: &'a str,
+    /// The file of the CustomResourceDefinition; `None` for the standard input.
+    pub crd: Option<&'a str>,
     /// The version whose schema is asked for.
     pub version: &'a str,
-    /// The file of the pools, where one is named.
-    pub pools: Option<&'a str>,
+    /// The pools, where they are named: their file, or `None` for the standard input.
+    pub pools: Option<Option<&'a str>>,
     /// The JSON of the sample to go on from, where there is one; its envelope is not judged.
     pub after: Option<&'a str>,
     /// The name in the envelope that samples are printed with, where there is one.
@@ -27,17 +27,19 @@ pub struct SampleArguments<'a> {
 /// The arguments of `check`.
 #[derive(Drop)]
 pub struct CheckArguments<'a> {
-    /// The file of the CustomResourceDefinition.
-    pub crd: &'a str,
+    /// The file of the CustomResourceDefinition; `None` for the standard input.
+    pub crd: Option<&'a str>,
     /// The version whose schema is asked for.
     pub version: &'a str,
+    /// Whether the reasons of each violation are asked for.
+    pub why: bool,
 }
 
 /// The arguments of `explain`.
 #[derive(Drop)]
 pub struct ExplainArguments<'a> {
-    /// The file of the CustomResourceDefinition.
-    pub crd: &'a str,
+    /// The file of the CustomResourceDefinition; `None` for the standard input.
+    pub crd: Option<&'a str>,
     /// The version whose schema is asked for.
     pub version: &'a str,
     /// The path of the field that is asked for; without one all fields are.
@@ -61,12 +63,21 @@ pub enum ObjectCommand {
 #[derive(Drop)]
 pub struct ObjectArguments<'a> {
     pub command: ObjectCommand,
-    /// The file of the CustomResourceDefinition.
-    pub crd: &'a str,
+    /// The file of the CustomResourceDefinition; `None` for the standard input.
+    pub crd: Option<&'a str>,
     /// The version whose schema is asked for.
     pub version: &'a str,
-    /// The file of the object; without one it is read from standard input.
+    /// The file of the object; `None` for the standard input.
     pub object: Option<&'a str>,
+}
+
+/// The arguments of `pools`.
+#[derive(Drop)]
+pub struct PoolsArguments<'a> {
+    /// The file of the CustomResourceDefinition; `None` for the standard input.
+    pub crd: Option<&'a str>,
+    /// The version whose schema is asked for.
+    pub version: &'a str,
 }
 
 /// What the arguments ask for.
@@ -78,6 +89,8 @@ pub enum Request<'a> {
     Explain(ExplainArguments<'a>),
     /// To say what becomes of an object.
     Object(ObjectArguments<'a>),
+    /// To make a pools document to start with.
+    SuggestPools(PoolsArguments<'a>),
     /// To list samples.
     Sample(SampleArguments<'a>),
     /// To print this text of help or of the version on standard output, with status 0.

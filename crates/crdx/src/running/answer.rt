@@ -1,9 +1,10 @@
 // A whole answer.
-ghost use Rattle.std.specs.Prelude.{◌≡◌, IfOk, map, string_bytes};
+ghost use Rattle.std.specs.Prelude.{◌≡◌, None, IfOk, map, string_bytes};
 ghost use Rattle.jtree.specs.Data as tree;
 ghost use Rattle.jtree.specs.Text.{compact};
 ghost use Rattle.jtree.specs.View.{data_of};
 ghost use Rattle.jtree.specs.declared.value.Tree.TheVariants.{Text as text_tree};
+ghost use Rattle.crdx.specs.Output.Line.{line};
 ghost use Rattle.crdx.specs.Program.TextList.{text_list};
 
 use jtree::{Items, Text, Tree};
@@ -57,4 +58,13 @@ pub(crate) fn json_tree(alloc: Global, tree: &Tree) -> Result<String, AllocError
     ensures { IfOk result (λ s. string_bytes s ≡ compact (data_of tree.now)) }
 {
     tree.to_text(alloc).map_err(|_| AllocError)
+}
+
+/// A tree as a line of JSON.
+pub(crate) fn json_line(alloc: Global, tree: &Tree) -> Result<String, AllocError>
+    ensures { IfOk result (λ s. string_bytes s ≡ line None (data_of tree.now)) }
+{
+    let mut text = json_tree(alloc, tree)?;
+    text.push_str("\n")?;
+    Ok(text)
 }

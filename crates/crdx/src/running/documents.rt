@@ -28,15 +28,15 @@ pub(crate) struct Accepted {
     pub schema: Schema,
 }
 
-/// The schema of a version of the CustomResourceDefinition of this name, where it breaks no rule.
+/// The schema of a version of the CustomResourceDefinition that stands under this name, where it breaks no rule.
 pub(crate) fn accepted_schema<I: Inputs>(
     alloc: Global,
-    crd: &str,
+    crd: Option<&str>,
     version: &str,
     inputs: &mut I,
 ) -> Result<Accepted, Cause>
-    ensures accepted { IfOk result (λ a. (raw : Data) × IsRequestedCrd (I.has inputs.old) crd.now version.now a.group a.kind raw × IsUnbroken (IsBroken raw) × AreNodesOf true a.schema raw) }
-    ensures cause { IfErr result (IsSchemaCause (I.has inputs.old) (I.failures inputs.old) (I.failures inputs.new) crd.now version.now) }
+    ensures accepted { IfOk result (λ a. (raw : Data) × IsRequestedCrd (I.has inputs.old) (file_name crd.entry) version.now a.group a.kind raw × IsUnbroken (IsBroken raw) × AreNodesOf true a.schema raw) }
+    ensures cause { IfErr result (IsSchemaCause (I.has inputs.old) (I.failures inputs.old) (I.failures inputs.new) (file_name crd.entry) version.now) }
     ensures stays { AreAmong (I.has inputs.new) (I.has inputs.old) }
     ensures unfailed { OnOk result (I.failures inputs.new ≡ I.failures inputs.old) }
 {
@@ -49,38 +49,38 @@ pub(crate) fn accepted_schema<I: Inputs>(
     })
 }
 
-/// What is read of the CustomResourceDefinition of this name.
+/// What is read of the CustomResourceDefinition that stands under this name.
 pub(crate) fn crd_of<I: Inputs>(
     alloc: Global,
-    crd: &str,
+    crd: Option<&str>,
     version: &str,
     inputs: &mut I,
 ) -> Result<Crd, Cause>
-    ensures ok { IfOk result (λ c. IsRequestedCrd (I.has inputs.old) crd.now version.now c.group c.kind c.raw) }
-    ensures cause { IfErr result (IsReadCause (I.has inputs.old) (I.failures inputs.old) (I.failures inputs.new) crd.now version.now) }
+    ensures ok { IfOk result (λ c. IsRequestedCrd (I.has inputs.old) (file_name crd.entry) version.now c.group c.kind c.raw) }
+    ensures cause { IfErr result (IsReadCause (I.has inputs.old) (I.failures inputs.old) (I.failures inputs.new) (file_name crd.entry) version.now) }
     ensures stays { AreAmong (I.has inputs.new) (I.has inputs.old) }
     ensures unfailed { OnOk result (I.failures inputs.new ≡ I.failures inputs.old) }
 {
-    let document = document(inputs, Input::Crd, Some(crd))?;
+    let document = document(inputs, Input::Crd, crd)?;
     Ok(read_crd(alloc, &document, version)?)
 }
 
-/// The pools of the document of this name, and empty pools where there is no name.
+/// The pools of the document that is named, and empty pools where none is.
 pub(crate) fn pools_of<I: Inputs>(
     alloc: Global,
-    name: Option<&str>,
+    name: Option<Option<&str>>,
     inputs: &mut I,
 ) -> Result<Pools, Cause>
     ensures ok { IfOk result (λ pools. ArePools (I.has inputs.old) name.entry pools) }
     ensures cause { IfErr result (IsPoolsCause (I.has inputs.old) (I.failures inputs.old) (I.failures inputs.new) name.entry) }
 {
     match name {
-        Some(name) => Ok(Pools::read(alloc, &document(inputs, Input::Pools, Some(name))?)?),
+        Some(name) => Ok(Pools::read(alloc, &document(inputs, Input::Pools, name)?)?),
         None => Ok(Pools::new(alloc)),
     }
 }
 
-/// The document of this name, or that of the standard input where there is no name.
+/// The document of the file of this name, or of the standard input where there is no name.
 pub(crate) fn document<I: Inputs>(
     inputs: &mut I,
     input: Input,

@@ -19,7 +19,7 @@ use crate::arguments::{ObjectArguments, ObjectCommand};
 use crate::envelope::{Parts, join, split};
 use crate::inputs::Inputs;
 use crate::phrases::fault_phrase;
-use crate::running::answer::{Answer, json_text, json_texts, json_tree};
+use crate::running::answer::{Answer, json_line, json_text, json_texts};
 use crate::running::causes::{Cause, Input};
 use crate::running::documents::{accepted_schema, document};
 use jtree::Tree;
@@ -128,17 +128,8 @@ fn print(alloc: Global, mut body: Tree, envelope: Parts) -> Result<Answer, Cause
     join(&mut body, envelope)?;
     Ok(Answer {
         status: 0,
-        text: line_of(alloc, &body)?,
+        text: json_line(alloc, &body)?,
     })
-}
-
-/// A tree as a line of JSON.
-fn line_of(alloc: Global, tree: &Tree) -> Result<String, AllocError>
-    ensures { IfOk result (λ s. string_bytes s ≡ line None (data_of tree.now)) }
-{
-    let mut text = json_tree(alloc, tree)?;
-    text.push_str("\n")?;
-    Ok(text)
 }
 
 /// A line for each fault: its number, the path of the place as a JSON text, and what is wrong there.

@@ -5,22 +5,72 @@ use crate::support::harness::{
     Output, holds, holds_of, is_number, is_said, is_text, run_on, words_of,
 };
 use crdx::arguments::{
-    CheckArguments, ExplainArguments, ObjectArguments, ObjectCommand, Request, SampleArguments,
-    parse_arguments,
+    CheckArguments, ExplainArguments, ObjectArguments, ObjectCommand, PoolsArguments, Request,
+    SampleArguments, parse_arguments,
 };
 use std::alloc::{AllocError, Global};
 use std::process::Abort;
 use std::test::Fail;
 
-// A name, a command line, and what it asks for: the file, the version, and the object, or the pools, the sample to go on from, the
-// name, the limit and the count.
-static REQUESTS: [(&str, &str, &str); 12] = [
+// A name, a command line, and what it asks for: the definition, the version, and the object, or the pools, the sample to go on
+// from, the name, the limit and the count. What is read of the standard input is (input), and - is nothing.
+static REQUESTS: [(&str, &str, &str); 22] = [
     (
         "a sample",
         "crdx sample c.json v1",
         "sample c.json v1 - - - 8 100",
     ),
-    ("a check", "crdx check c.json v1", "check c.json v1"),
+    (
+        "a check",
+        "crdx check c.json v1",
+        "check c.json v1 without reasons",
+    ),
+    (
+        "a check with reasons",
+        "crdx check c.json v1 --why",
+        "check c.json v1 with reasons",
+    ),
+    (
+        "a check with reasons, which come first",
+        "crdx check --why c.json v1",
+        "check c.json v1 with reasons",
+    ),
+    (
+        "a check of the standard input",
+        "crdx check - v1",
+        "check (input) v1 without reasons",
+    ),
+    (
+        "a check of a file with the name -",
+        "crdx check ./- v1",
+        "check ./- v1 without reasons",
+    ),
+    ("pools", "crdx pools c.json v1", "pools c.json v1"),
+    (
+        "pools of the standard input",
+        "crdx pools - v1",
+        "pools (input) v1",
+    ),
+    (
+        "a version with the name -",
+        "crdx explain - -",
+        "explain (input) - -",
+    ),
+    (
+        "the standard input by its name",
+        "crdx validate c.json v1 -",
+        "validate c.json v1 (input)",
+    ),
+    (
+        "pools of a sample on the standard input",
+        "crdx sample c.json v1 --pools -",
+        "sample c.json v1 (input) - - 8 100",
+    ),
+    (
+        "an object in a file, of a definition on the standard input",
+        "crdx leaves - v1 o.json",
+        "leaves (input) v1 o.json",
+    ),
     (
         "faults of an object in a file",
         "crdx validate c.json v1 o.json",
@@ -29,7 +79,7 @@ static REQUESTS: [(&str, &str, &str); 12] = [
     (
         "what is pruned of the standard input",
         "crdx prune c.json v1",
-        "prune c.json v1 -",
+        "prune c.json v1 (input)",
     ),
     (
         "the defaults of an object",
@@ -64,7 +114,7 @@ static REQUESTS: [(&str, &str, &str); 12] = [
     (
         "the greatest limit and count",
         "crdx sample --limit 127 --count=10000 - v1beta1",
-        "sample - v1beta1 - - - 127 10000",
+        "sample (input) v1beta1 - - - 127 10000",
     ),
     (
         "a sample to go on from, and a name",
@@ -76,7 +126,7 @@ static REQUESTS: [(&str, &str, &str); 12] = [
 const MISSING: &str = "error: the following required arguments were not provided:\n";
 
 // A name, a command line, and the first line of standard error. The status is 2.
-static MISTAKES: [(&str, &str, &str); 19] = [
+static MISTAKES: [(&str, &str, &str); 26] = [
     (
         "no command",
         "crdx",
@@ -86,6 +136,37 @@ static MISTAKES: [(&str, &str, &str); 19] = [
         "another command",
         "crdx list",
         "error: unrecognized subcommand 'list'\n",
+    ),
+    (
+        "the standard input for a definition, and for an object without a name",
+        "crdx validate - v1",
+        "error: CRD and OBJECT cannot both be the standard input\n",
+    ),
+    (
+        "the standard input for a definition and an object",
+        "crdx leaves - v1 -",
+        "error: CRD and OBJECT cannot both be the standard input\n",
+    ),
+    (
+        "the standard input for a definition and pools",
+        "crdx sample - v1 --pools -",
+        "error: CRD and --pools cannot both be the standard input\n",
+    ),
+    (
+        "a value of an option without values",
+        "crdx check crd.json v1 --why=V17",
+        "error: unexpected value 'V17' for '--why' found; no more were expected\n",
+    ),
+    (
+        "reasons of another command",
+        "crdx explain crd.json v1 --why",
+        "error: unexpected argument '--why' found\n",
+    ),
+    ("pools of no version", "crdx pools crd.json", MISSING),
+    (
+        "pools with a limit",
+        "crdx pools crd.json v1 --limit 4",
+        "error: unexpected argument '--limit' found\n",
     ),
     ("a sample of nothing", "crdx sample", MISSING),
     ("a sample of no version", "crdx sample crd.json", MISSING),
@@ -151,7 +232,7 @@ static MISTAKES: [(&str, &str, &str); 19] = [
 ];
 
 // A name, a command line, and a line of the help, or the version. The status is 0.
-static HELP: [(&str, &str, &str); 22] = [
+static HELP: [(&str, &str, &str); 24] = [
     ("an option", "crdx --help", "Usage: crdx <COMMAND>\n"),
     ("a command", "crdx help", "Usage: crdx <COMMAND>\n"),
     (
@@ -172,7 +253,7 @@ static HELP: [(&str, &str, &str); 22] = [
     (
         "a short option",
         "crdx check -h",
-        "Usage: crdx check <CRD> <VERSION>\n",
+        "Usage: crdx check [OPTIONS] <CRD> <VERSION>\n",
     ),
     (
         "an option of another command",
@@ -198,7 +279,7 @@ static HELP: [(&str, &str, &str); 22] = [
     (
         "an option of a check",
         "crdx check --help",
-        "Usage: crdx check <CRD> <VERSION>\n",
+        "Usage: crdx check [OPTIONS] <CRD> <VERSION>\n",
     ),
     (
         "a short option of a validation",
@@ -240,6 +321,16 @@ static HELP: [(&str, &str, &str); 22] = [
         "crdx explain -h",
         "Usage: crdx explain <CRD> <VERSION> [PATH]\n",
     ),
+    (
+        "an option of pools",
+        "crdx pools --help",
+        "Usage: crdx pools <CRD> <VERSION>\n",
+    ),
+    (
+        "a short option of pools",
+        "crdx pools -h",
+        "Usage: crdx pools <CRD> <VERSION>\n",
+    ),
     ("the version", "crdx --version", "crdx 0.1.0\n"),
     ("the version, for short", "bin/crdx_cli -V", "crdx 0.1.0\n"),
 ];
@@ -257,6 +348,11 @@ static NUMBERS: [&str; 31] = [
     "F10", "F11", "F12", "F13", "F14",
 ];
 
+/// The name of a file, or what stands for the standard input.
+fn input_text(name: Option<&str>) -> &str {
+    name.unwrap_or("(input)")
+}
+
 fn said(alloc: Global, request: &Request<'_>) -> Result<String, AllocError> {
     match request {
         Request::Sample(
@@ -270,15 +366,26 @@ fn said(alloc: Global, request: &Request<'_>) -> Result<String, AllocError> {
                 count,
             },
         ) => {
-            let pools = pools.unwrap_or("-");
+            let crd = input_text(*crd);
+            let pools = match pools {
+                Some(pools) => input_text(*pools),
+                None => "-",
+            };
             let after = after.unwrap_or("-");
             let name = name.unwrap_or("-");
             format!(in alloc; "sample {crd} {version} {pools} {after} {name} {limit} {count}")
         }
-        Request::Check(CheckArguments { crd, version }) => {
-            format!(in alloc; "check {crd} {version}")
+        Request::Check(CheckArguments { crd, version, why }) => {
+            let crd = input_text(*crd);
+            let reasons = if *why { "with" } else { "without" };
+            format!(in alloc; "check {crd} {version} {reasons} reasons")
+        }
+        Request::SuggestPools(PoolsArguments { crd, version }) => {
+            let crd = input_text(*crd);
+            format!(in alloc; "pools {crd} {version}")
         }
         Request::Explain(ExplainArguments { crd, version, path }) => {
+            let crd = input_text(*crd);
             let path = path.unwrap_or("-");
             format!(in alloc; "explain {crd} {version} {path}")
         }
@@ -296,7 +403,8 @@ fn said(alloc: Global, request: &Request<'_>) -> Result<String, AllocError> {
                 ObjectCommand::Default => "default",
                 ObjectCommand::Leaves => "leaves",
             };
-            let object = object.unwrap_or("-");
+            let crd = input_text(*crd);
+            let object = input_text(*object);
             format!(in alloc; "{command} {crd} {version} {object}")
         }
         _ => String::from_str(alloc, "another request"),

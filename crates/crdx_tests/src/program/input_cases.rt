@@ -79,7 +79,7 @@ fn files(rt: HostRuntime) -> Result<(), Fail> {
 }
 
 // A name, a command line, a definition, and how often the definition, the pools, the object and any other input are read.
-static READS: [(&str, &str, &str, u64, u64, u64, u64); 9] = [
+static READS: [(&str, &str, &str, u64, u64, u64, u64); 14] = [
     ("a check", "crdx check crd.json v1", WIDGET, 1, 0, 0, 0),
     (
         "a sample without pools",
@@ -135,6 +135,51 @@ static READS: [(&str, &str, &str, u64, u64, u64, u64); 9] = [
         0,
         0,
     ),
+    (
+        "a definition on the standard input",
+        "crdx check - v1",
+        WIDGET,
+        0,
+        0,
+        0,
+        1,
+    ),
+    (
+        "pools on the standard input",
+        "crdx sample crd.json v1 --pools -",
+        WIDGET,
+        1,
+        0,
+        0,
+        1,
+    ),
+    (
+        "an object that is named as the standard input",
+        "crdx prune crd.json v1 -",
+        WIDGET,
+        1,
+        0,
+        0,
+        1,
+    ),
+    (
+        "a file with the name -",
+        "crdx pools ./- v1",
+        WIDGET,
+        0,
+        0,
+        0,
+        1,
+    ),
+    (
+        "the standard input for two inputs",
+        "crdx validate - v1",
+        WIDGET,
+        0,
+        0,
+        0,
+        0,
+    ),
     ("help", "crdx --help", WIDGET, 0, 0, 0, 0),
     ("no command", "crdx", WIDGET, 0, 0, 0, 0),
 ];
@@ -162,6 +207,78 @@ fn try_reads(
 fn reads(rt: HostRuntime) -> Result<(), Fail> {
     for row in &READS {
         try_reads(&rt, rt.alloc(), row)?;
+    }
+    Ok(())
+}
+
+// A name, a command line, the standard input, standard output, standard error and the status.
+static STANDARD_INPUTS: [(&str, &str, &str, &str, &str, u8); 6] = [
+    (
+        "a definition",
+        "crdx check - v1",
+        WIDGET,
+        "structural\n",
+        "",
+        0,
+    ),
+    (
+        "pools",
+        "crdx sample crd.json v1 --limit 2 --pools -",
+        ZERO_AND_ONE,
+        "{}\n{\"spec\":{}}\n",
+        "crdx: end\n",
+        0,
+    ),
+    (
+        "an object",
+        "crdx prune crd.json v1 -",
+        r#"{"other":1}"#,
+        "{}\n",
+        "",
+        0,
+    ),
+    (
+        "a definition that is no JSON",
+        "crdx explain - v1",
+        "spec: {}",
+        "",
+        "crdx: crd: J3\n",
+        3,
+    ),
+    (
+        "pools that are no JSON",
+        "crdx sample crd.json v1 --pools -",
+        "integers: []",
+        "",
+        "crdx: pools: J3\n",
+        3,
+    ),
+    (
+        "a file with the name -",
+        "crdx check ./- v1",
+        WIDGET,
+        "",
+        "crdx: crd: read failed\n",
+        4,
+    ),
+];
+
+fn try_standard_input(
+    rt: &impl Abort,
+    alloc: Global,
+    row: &(&str, &str, &str, &str, &str, u8),
+) -> Result<(), AllocError> {
+    let (name, line, input, out, err, status) = *row;
+    let inputs = FakeInputs::new(alloc, WIDGET, input);
+    let output = run_on(alloc, line, inputs, FailingSink::endless(alloc))?;
+    is_answer(rt, &output, out, err, status, name);
+    Ok(())
+}
+
+#[test]
+fn standard_inputs(rt: HostRuntime) -> Result<(), Fail> {
+    for row in &STANDARD_INPUTS {
+        try_standard_input(&rt, rt.alloc(), row)?;
     }
     Ok(())
 }

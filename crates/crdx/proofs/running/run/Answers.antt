@@ -1,7 +1,7 @@
 use Rattle.std.proofs.Common.{◌≡◌, [], refl, inl, inr}
 use Rattle.std.proofs.KnownBytes.{Keeps-refl, Appends-nil}
 use Rattle.crdx.specs.Program.RunResult.{answered, help, usage_error}
-use Rattle.crdx.specs.declared.arguments.request.Request.TheVariants.{Check, Explain, Object, Sample, Help, UsageError, NoMemory}
+use Rattle.crdx.specs.declared.arguments.request.Request.TheVariants.{Check, Explain, Object, SuggestPools, Sample, Help, UsageError, NoMemory}
 use Rattle.crdx.proofs.RunLemmas.{result_of_finished, result_of_given, result_of_sample, result_of_nothing}
 use Rattle.crdx.proofs.running.run.Goals as goal
 
@@ -30,6 +30,15 @@ returns-in-Object g c =
       c.in-Object.ensures,
       result_of_finished _ request c.judge_object.result c.finish-in-Object.result c.judge_object.ensures.answer c.judge_object.ensures.cause (λ status text is n out. (status, text, is, n, out))
           c.finish-in-Object.ensures.given c.finish-in-Object.ensures.said c.finish-in-Object.ensures.kept c.finish-in-Object.ensures.unfailed,
+    )
+
+pub returns-in-SuggestPools : goal.returns-in-SuggestPools
+returns-in-SuggestPools g c =
+    let request = SuggestPools c.in-SuggestPools.arguments in (
+      request,
+      c.in-SuggestPools.ensures,
+      result_of_finished _ request c.suggest_pools.result c.finish-in-SuggestPools.result c.suggest_pools.ensures.answer c.suggest_pools.ensures.cause (λ status text is n out. (status, text, is, n, out))
+          c.finish-in-SuggestPools.ensures.given c.finish-in-SuggestPools.ensures.said c.finish-in-SuggestPools.ensures.kept c.finish-in-SuggestPools.ensures.unfailed,
     )
 
 pub returns-in-Sample : goal.returns-in-Sample

@@ -1,11 +1,14 @@
-use Rattle.std.proofs.Common.{refl, codes}
+use Rattle.std.proofs.Common.{◌∙◌, refl, codes}
 use Rattle.clap.specs.Matches.{found_of}
+use Rattle.clap.proofs.WalkLemmas.{one_text-rows}
 use Rattle.crdx.proofs.CommandLineLemmas.{value_text}
 use Rattle.crdx.proofs.arguments.parsing.check_arguments.Goals as goal
 
 pub returns : goal.returns
 returns c =
-    let f = found_of c.args.matches.now in (
-      value_text f (codes "CRD") c.get_str.result c.unwrap_or.result _ c.get_str.ensures c.unwrap_or.ensures refl,
-      value_text f (codes "VERSION") c.get_str-2.result c.unwrap_or-2.result _ c.get_str-2.ensures c.unwrap_or-2.ensures refl,
+    let f = found_of c.args.matches.now in
+    let same = one_text-rows f (codes "why") in (
+      c.crd_of.ensures,
+      value_text f (codes "VERSION") c.get_str.result c.unwrap_or.result _ c.get_str.ensures c.unwrap_or.ensures refl,
+      (λ is. c.get_flag.ensures.none (same ∙ is), λ is. c.get_flag.ensures.other (same ∙ is), λ is. c.get_flag.ensures.value (same ∙ is)),
     )

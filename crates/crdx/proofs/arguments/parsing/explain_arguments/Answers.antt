@@ -7,7 +7,7 @@ use Rattle.crdx.proofs.arguments.parsing.explain_arguments.Goals as goal
 pub returns : goal.returns
 returns c =
     let f = found_of c.args.matches.now in (
-      value_text f (codes "CRD") c.get_str.result c.unwrap_or.result _ c.get_str.ensures c.unwrap_or.ensures refl,
-      value_text f (codes "VERSION") c.get_str-2.result c.unwrap_or-2.result _ c.get_str-2.ensures c.unwrap_or-2.ensures refl,
-      c.get_str-3.ensures ∙ first_value-rows f (codes "PATH"),
+      c.crd_of.ensures,
+      value_text f (codes "VERSION") c.get_str.result c.unwrap_or.result _ c.get_str.ensures c.unwrap_or.ensures refl,
+      c.get_str-2.ensures ∙ first_value-rows f (codes "PATH"),
     )

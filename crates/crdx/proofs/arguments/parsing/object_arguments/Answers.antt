@@ -1,14 +1,12 @@
-use Rattle.std.proofs.Common.{◌∙◌, refl, codes}
+use Rattle.std.proofs.Common.{refl, codes}
 use Rattle.clap.specs.Matches.{found_of}
-use Rattle.clap.proofs.WalkLemmas.{first_value-rows}
 use Rattle.crdx.proofs.CommandLineLemmas.{value_text}
 use Rattle.crdx.proofs.arguments.parsing.object_arguments.Goals as goal
 
 pub returns : goal.returns
-returns c =
-    let f = found_of c.args.matches.now in (
-      refl,
-      value_text f (codes "CRD") c.get_str.result c.unwrap_or.result _ c.get_str.ensures c.unwrap_or.ensures refl,
-      value_text f (codes "VERSION") c.get_str-2.result c.unwrap_or-2.result _ c.get_str-2.ensures c.unwrap_or-2.ensures refl,
-      c.get_str-3.ensures ∙ first_value-rows f (codes "OBJECT"),
-    )
+returns c = (
+  refl,
+  c.crd_of.ensures,
+  value_text (found_of c.args.matches.now) (codes "VERSION") c.get_str.result c.unwrap_or.result _ c.get_str.ensures c.unwrap_or.ensures refl,
+  c.object_of.ensures,
+)

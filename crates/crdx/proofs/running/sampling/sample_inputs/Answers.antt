@@ -1,5 +1,6 @@
 use Rattle.std.proofs.Common.{refl, inl, subst}
 use Rattle.std.proofs.lemmas.Result.{IfOk-weaker, IfErr-weaker}
+use Rattle.crdx.specs.Program.Documents.{file_name}
 use Rattle.crdx.specs.Internal.Cause.{IsPoolsCause}
 use Rattle.crdx.specs.Program.RunResult.{no_samples}
 use Rattle.crdx.specs.declared.arguments.request.Request.TheVariants.{Sample}
@@ -9,7 +10,7 @@ use Rattle.crdx.proofs.running.sampling.sample_inputs.Goals as goal
 pub returns-in-Err-clause-cause : goal.returns-in-Err-clause-cause
 returns-in-Err-clause-cause g c =
     let arguments = c.args.arguments.now in
-    input_of_schema (g.I.Inputs.has c.args.inputs.now) (g.I.Inputs.failures c.args.inputs.now) (g.I.Inputs.failures c.accepted_schema.new.inputs) arguments.crd.now arguments.version.now (Sample arguments)
+    input_of_schema (g.I.Inputs.has c.args.inputs.now) (g.I.Inputs.failures c.args.inputs.now) (g.I.Inputs.failures c.accepted_schema.new.inputs) (file_name arguments.crd) arguments.version.now (Sample arguments)
     (no_samples arguments) c.in-Err.cause (λ r. inl r) c.in-Err.ensures.cause
 
 pub returns-in-Err-pools_of-clause-cause : goal.returns-in-Err-pools_of-clause-cause
@@ -46,6 +47,6 @@ returns-in-Ok-pools_of-clause-cause g c =
     let arguments = c.args.arguments.now in
     let accepted = c.in-Ok.accepted in
     let pools = pools_before has (g.I.Inputs.has c.accepted_schema.new.inputs) arguments.pools c.in-Ok-pools_of.pools c.in-Ok.ensures.stays c.in-Ok-pools_of.ensures.ok in
-    let root = requested_root has arguments.crd.now arguments.version.now accepted.group accepted.kind accepted.schema c.in-Ok.ensures.accepted in
+    let root = requested_root has (file_name arguments.crd) arguments.version.now accepted.group accepted.kind accepted.schema c.in-Ok.ensures.accepted in
     IfErr-weaker c.inputs_of.result _ _ (λ cause. sampling_input has (g.I.Inputs.failures c.args.inputs.now) (g.I.Inputs.failures c.pools_of.new.inputs) arguments accepted.schema c.in-Ok-pools_of.pools
     (record { root = root; pools = pools }) arguments.after cause refl) c.inputs_of.ensures.cause

@@ -1,0 +1,3 @@
+-- What the contracts of this crate say, in words of its subject.
+pub mod Suggested
+pub mod Internal

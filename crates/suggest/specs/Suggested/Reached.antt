@@ -1,0 +1,36 @@
+-- Which scalars the suggested values reach: each without `enum` and junctors that takes a truth value, an integer or a text that is not
+-- too long has a candidate of that kind (this project's own).
+use Rattle.std.specs.Prelude.{◌≡◌, ◌≤◌, None, length, chars}
+use Rattle.jtree.specs.Data.{Data, boolean, integer, text}
+use Rattle.jtree.specs.Order.{kind}
+use Rattle.schema.specs.Nodes.Node.{Validations, validations, no_branches, Node, node, scalar}
+use Rattle.explain.specs.Paths.FieldPath.{FieldPath}
+use Rattle.explain.specs.Paths.PathText.{path_text}
+use Rattle.plan.specs.Pools.Pools.{most_entries}
+use Rattle.plan.specs.Pools.Document.{pools_of}
+use Rattle.plan.specs.Samples.Part.{IsPart}
+use Rattle.plan.specs.Samples.Site.{plain}
+use Rattle.suggest.specs.Suggested.Values.{longest, all_integers, all_lengths}
+use Rattle.suggest.specs.Suggested.Document.{suggested_document}
+
+-- bounds and lengths are all that is asked
+abbrev pub HasBoundsAlone : Validations → Type 0
+HasBoundsAlone (validations t all any one negated) = (t.choices ≡ None) × (all ≡ no_branches) × (any ≡ no_branches) × (one ≡ no_branches) × (negated ≡ no_branches)
+
+-- a scalar of which no more is asked
+abbrev pub IsBounded : Node → Type 0
+IsBounded (node nullable description (scalar kind cs)) = HasBoundsAlone cs
+IsBounded _ = ⊥
+
+-- a truth value, an integer where no integers were cut, or a text of at most 64 characters where no texts were
+abbrev pub IsWithinReach : Node → Data → Type 0
+IsWithinReach root (boolean b) = Unit {0}
+IsWithinReach root (integer z) = length (all_integers root) ≤ most_entries
+IsWithinReach root (text s) = (length (chars s) ≤ longest) × (length (all_lengths root) ≤ most_entries)
+IsWithinReach root _ = ⊥
+
+-- the suggested values have a candidate for the node at the path, of the kind of v
+pub record HasCandidateLike (root : Node) (p : FieldPath) (N : Node) (v : Data) : Type 0 where
+  pub candidate : Data
+  pub alike : kind candidate ≡ kind v
+  pub part : IsPart (pools_of (suggested_document root)) (plain (path_text p) N) candidate

@@ -1,0 +1,19 @@
+// The suggested values reach the scalars of a schema.
+ghost use Rattle.std.specs.Prelude.{◌≡◌, Some};
+ghost use Rattle.jtree.specs.Data.{Data, IsTree};
+ghost use Rattle.schema.specs.Nodes.Node.{Node};
+ghost use Rattle.schema.specs.Nodes.ByPlace.{node_at};
+ghost use Rattle.stored.specs.Objects.Becomes.{IsStored};
+ghost use Rattle.explain.specs.Paths.FieldPath.{FieldPath, place_of};
+ghost use Rattle.suggest.specs.Suggested.Reached.{IsBounded, IsWithinReach, HasCandidateLike};
+
+use stored::stored_by_parts;
+
+/// A law, and nothing that runs: where a scalar without `enum` and junctors takes some truth value, some integer, or some text of at
+/// most 64 characters, a value of that kind is a candidate for its node over the suggested pools. Of integers and of texts this is
+/// said where the suggested document leaves none of them out for want of room.
+pub fn suggested_values_reach_scalars()
+    ensures { (root : Node) (p : FieldPath) (N : Node) (v : Data) → node_at root (place_of p) ≡ Some N → IsBounded N → IsTree v → IsStored N v → IsWithinReach root v → HasCandidateLike root p N v }
+{
+    stored_by_parts();
+}
