@@ -1,6 +1,6 @@
 //! Why rules with several conditions are broken: each reason, by the keyword that it is about.
 use crate::support::harness::{crd_of, is_said};
-use schema::{Explained, broken_for_a_reason, explained};
+use schema::{Explained, broken_for_a_reason};
 use std::alloc::{AllocError, Global};
 use std::test::Fail;
 
@@ -281,15 +281,26 @@ fn push_lines(alloc: Global, lines: &mut String, explained: &Explained) -> Resul
     Ok(())
 }
 
-fn said(alloc: Global, schema: &str) -> Result<String, Fail> {
-    let crd = crd_of(alloc, schema)??;
-    let all = explained(alloc, &crd.raw)?;
-    drop(crd);
+fn lines_of(alloc: Global, all: &[Explained]) -> Result<String, AllocError> {
     let mut lines = String::new(alloc);
-    for explained in &all {
+    for explained in all {
         push_lines(alloc, &mut lines, explained)?;
     }
     Ok(lines)
+}
+
+fn said(alloc: Global, schema: &str) -> Result<String, Fail> {
+    let crd = crd_of(alloc, schema)??;
+    let all = schema::explained(alloc, &crd.raw)?;
+    drop(crd);
+    Ok(lines_of(alloc, all.as_slice())?)
+}
+
+fn said_with_defaults(alloc: Global, schema: &str) -> Result<String, Fail> {
+    let crd = crd_of(alloc, schema)??;
+    let all = stored::explained(alloc, &crd.raw)?;
+    drop(crd);
+    Ok(lines_of(alloc, all.as_slice())?)
 }
 
 #[test]
@@ -297,6 +308,33 @@ fn reasons(rt: HostRuntime) -> Result<(), Fail> {
     broken_for_a_reason();
     for (name, schema, wanted) in &REASONS {
         is_said(&rt, said(rt.alloc(), schema), wanted, "the reasons", name)?;
+    }
+    Ok(())
+}
+
+// As in `REASONS`, of defaults that are not valid.
+static DEFAULTS: [(&str, &str, &str); 2] = [
+    (
+        "a default of another type",
+        r#"{"type":"object","properties":{"x":{"type":"integer","default":"y"}}}"#,
+        r#"V14 "/properties/x"
+"#,
+    ),
+    (
+        "a default of another type, and a pattern",
+        r#"{"type":"object","properties":{"x":{"type":"integer","default":"y"},"y":{"type":"string","pattern":"a"}}}"#,
+        r#"V17 "/properties/y" pattern NotOfScalars
+"#,
+    ),
+];
+
+#[test]
+fn reasons_beside_defaults(rt: HostRuntime) -> Result<(), Fail> {
+    for rows in [REASONS.as_slice(), DEFAULTS.as_slice()] {
+        for (name, schema, wanted) in rows {
+            let said = said_with_defaults(rt.alloc(), schema);
+            is_said(&rt, said, wanted, "the reasons", name)?;
+        }
     }
     Ok(())
 }
