@@ -2,7 +2,7 @@
 //!
 //! | File | What is tested |
 //! |---|---|
-//! | `jtree_tests/tree_cases` | trees: read and written, their order, pointers, what stands under a name |
+//! | `jtree_tests/tree_cases` | trees: read and written, their order, pointers, what stands under a name, the last node |
 //! | `jtree_tests/source_cases` | documents in pieces, sources that fail, and readers that are interrupted |
 //! | `schema_tests/reading_cases` | definitions that are read or refused, and the form of each keyword |
 //! | `schema_tests/limit_cases` | schemas at each limit and past it |

@@ -1,4 +1,5 @@
 pub mod Escapes
+pub mod LastText
 pub mod OrderSteps
 pub mod OrderWords
 pub mod Reading

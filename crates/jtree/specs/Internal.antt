@@ -5,3 +5,5 @@ pub mod Rising
 pub mod OrderLaws
 pub mod Code
 pub mod Measures
+pub mod LastText
+pub mod Overwriting

@@ -8,6 +8,7 @@ pub mod Order
 pub mod PathOrder
 pub mod Before
 pub mod Text
+pub mod Last
 pub mod Failures
 pub mod Reads
 pub mod Pointer

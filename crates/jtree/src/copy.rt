@@ -1,4 +1,5 @@
-ghost use Rattle.std.specs.Prelude.{◌≡◌, IfOk, IfErr};
+ghost use Rattle.std.specs.Prelude.{◌≡◌, IfOk, IfErr, OnOk, OnErr};
+ghost use Rattle.jtree.specs.View.{data_of};
 ghost use Rattle.jtree.specs.declared.fault.JFault.TheVariants.{NoMemory};
 
 use crate::fault::JFault;
@@ -28,6 +29,19 @@ impl Text {
     {
         Text::from_str(alloc, self.as_str())
     }
+
+    /// Makes it this text, in the room that it has where that is enough. `AllocError` where an allocation fails, and it is
+    /// then as it was.
+    pub fn set(&mut self, text: &str) -> Result<(), AllocError>
+        ensures ok { OnOk result (self.new ≡ text.now) }
+        ensures err { OnErr result (self.new ≡ self.old) }
+    {
+        self.text
+            .reserve(text.len().saturating_sub(self.text.len()))?;
+        self.text.clear();
+        self.text.push_str(text).unwrap();
+        Ok(())
+    }
 }
 
 impl Tree {
@@ -37,6 +51,20 @@ impl Tree {
         ensures err { IfErr result (λ e. e ≡ NoMemory) }
     {
         Ok(copy_tree(self, alloc)?)
+    }
+
+    /// Makes it equal to `value`. Where both are texts, the room of the text is used again; else a copy takes its place.
+    /// `AllocError` where an allocation fails, and it is then as it was.
+    pub fn set(&mut self, alloc: Global, value: &Tree) -> Result<(), AllocError>
+        ensures ok { OnOk result (data_of self.new ≡ data_of value.now) }
+        ensures err { OnErr result (data_of self.new ≡ data_of self.old) }
+    {
+        match (&mut *self, value) {
+            (Tree::Int(number), Tree::Int(value)) => *number = *value,
+            (Tree::Text(text), Tree::Text(value)) => text.set(value.as_str())?,
+            _ => *self = copy_tree(value, alloc)?,
+        }
+        Ok(())
     }
 }
 

@@ -3,6 +3,7 @@
 
 mod copy;
 mod fault;
+mod last;
 mod nodes;
 mod order;
 mod parts;

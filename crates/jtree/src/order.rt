@@ -97,7 +97,12 @@ impl Ord for Tree {
     /// the kind. Lists are decided at the first index where they differ, and one that ends there comes first. Objects are
     /// decided at the least name, by bytes, where they differ, and one without that name comes first.
     fn cmp(&self, other: &Tree) -> Ordering {
-        compare(self, other).order
+        match (self, other) {
+            (Tree::Bool(a), Tree::Bool(b)) => a.cmp(b),
+            (Tree::Int(a), Tree::Int(b)) => a.cmp(b),
+            (Tree::Text(a), Tree::Text(b)) => a.cmp(b),
+            _ => compare(self, other).order,
+        }
     }
 }
 

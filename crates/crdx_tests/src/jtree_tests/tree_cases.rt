@@ -1,5 +1,5 @@
 //! Trees: reading and writing, their order, pointers and what stands under a name.
-use crate::support::harness::{holds, is_number, is_said, is_text};
+use crate::support::harness::{holds, is_number, is_said, is_text, is_tree};
 use crate::support::texts::nested;
 use jtree::{Text, Tree, order_in_words, order_is_total, push_index, push_name, texts_tell_apart};
 use serde_json::Value;
@@ -144,10 +144,20 @@ fn copied_text(alloc: Global, text: &str) -> Result<Text, Fail> {
     Ok(text.copy(alloc)?)
 }
 
+fn text_set_to(alloc: Global, text: &str) -> Result<Text, Fail> {
+    let mut set = Text::from_str(alloc, "abc")?;
+    set.set(text)?;
+    Ok(set)
+}
+
 #[test]
 fn copies_of_texts(rt: HostRuntime) -> Result<(), Fail> {
     let text = copied_text(rt.alloc(), "abc")?;
     is_text(&rt, text.as_str(), "abc", "the text", "a copy");
+    for wanted in ["", "de", "a text with more bytes"] {
+        let text = text_set_to(rt.alloc(), wanted)?;
+        is_text(&rt, text.as_str(), wanted, "the text", "one that was set");
+    }
     Ok(())
 }
 
@@ -383,6 +393,107 @@ fn try_document(
 fn parts(rt: HostRuntime) -> Result<(), Fail> {
     for row in &PARTS {
         try_document(&rt, rt.alloc(), row)?;
+    }
+    Ok(())
+}
+
+// A document, its last node, another node, the document with that one in its place, and whether it has as many bytes.
+static LAST_NODES: [(&str, &str, &str, &str, bool); 14] = [
+    ("-5", "-5", "27", "27", true),
+    ("[]", "[]", "{}", "{}", true),
+    ("{}", "{}", "[]", "[]", true),
+    ("[1,[2,3]]", "3", "9", "[1,[2,9]]", true),
+    ("[1,[2,10]]", "10", "9", "[1,[2,9]]", false),
+    ("[[true]]", "true", "null", "[[null]]", true),
+    ("[[true]]", "true", "false", "[[false]]", false),
+    (
+        r#"{"a":{"b":7},"c":{"d":[8,[]]}}"#,
+        "[]",
+        "12",
+        r#"{"a":{"b":7},"c":{"d":[8,12]}}"#,
+        true,
+    ),
+    (
+        r#"{"z":[{"y":-9223372036854775808}]}"#,
+        "-9223372036854775808",
+        "-9223372036854775807",
+        r#"{"z":[{"y":-9223372036854775807}]}"#,
+        true,
+    ),
+    (
+        r#"[{"k":"a\"b"}]"#,
+        r#""a\"b""#,
+        r#""a\nb""#,
+        r#"[{"k":"a\nb"}]"#,
+        true,
+    ),
+    (
+        r#"[{"k":"a\"b"}]"#,
+        r#""a\"b""#,
+        r#""a/b""#,
+        r#"[{"k":"a/b"}]"#,
+        false,
+    ),
+    (
+        r#"["\u0001"]"#,
+        r#""\u0001""#,
+        r#""abcdef""#,
+        r#"["abcdef"]"#,
+        true,
+    ),
+    (r#"["ab"]"#, r#""ab""#, r#""abcd""#, r#"["abcd"]"#, false),
+    (r#"[7,"abc"]"#, r#""abc""#, "[1,2]", "[7,[1,2]]", true),
+];
+
+fn try_overwriting(
+    rt: &impl Abort,
+    alloc: Global,
+    tree: &Tree,
+    node: &Tree,
+    row: &(&str, &str, &str, &str, bool),
+) -> Result<(), Fail> {
+    let (document, _, _, other, same) = *row;
+    let mut text = Vec::from_slice(alloc, b"> ")?;
+    text.extend_from_slice(other.as_bytes())?;
+    let mut scratch = Vec::from_slice(alloc, b"scratch")?;
+    let done = tree.overwrite_last(node, &mut text, &mut scratch)?;
+    holds(rt, done == same, "whether it has as many bytes", document);
+    let text = String::from_utf8(text)?;
+    let wanted = if same { document } else { other };
+    holds(
+        rt,
+        text.as_str().strip_prefix("> ") == Some(wanted),
+        "the text",
+        document,
+    );
+    Ok(())
+}
+
+fn try_last_node(
+    rt: &impl Abort,
+    alloc: Global,
+    row: &(&str, &str, &str, &str, bool),
+) -> Result<(), Fail> {
+    let (document, last, other, _, _) = *row;
+    let tree = Tree::from_bytes(alloc, document.as_bytes())?;
+    is_tree(rt, alloc, tree.last(), last, "the last node", document)?;
+    let mut node = Tree::from_bytes(alloc, other.as_bytes())?;
+    try_overwriting(rt, alloc, &tree, &node, row)?;
+    node.set(alloc, tree.last())?;
+    is_tree(
+        rt,
+        alloc,
+        &node,
+        last,
+        "a node set to the last one",
+        document,
+    )
+}
+
+#[test]
+fn last_nodes(rt: HostRuntime) -> Result<(), Fail> {
+    for row in &LAST_NODES {
+        try_last_node(&rt, rt.alloc(), row)?;
     }
     Ok(())
 }

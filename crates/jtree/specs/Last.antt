@@ -1,0 +1,38 @@
+-- The last node of a tree, reached by going down by the last item or member while there is one (this project's own).
+use Rattle.jtree.specs.Data.{Data, list, object, Items, no_items, item, Members, no_members, member}
+
+-- a scalar, an empty list and an empty object have no part, and are their own last node
+abbrev mutual
+  pub last_of : Data → Data
+  last_of (list ds) = last_of_items ds
+  last_of (object ms) = last_of_members ms
+  last_of d = d
+
+  pub last_of_items : Items → Data
+  last_of_items no_items = list no_items
+  last_of_items (item d no_items) = last_of d
+  last_of_items (item d ds) = last_of_items ds
+
+  pub last_of_members : Members → Data
+  last_of_members no_members = object no_members
+  last_of_members (member k d no_members) = last_of d
+  last_of_members (member k d ms) = last_of_members ms
+
+-- the tree with another one in place of its last node
+abbrev mutual
+  pub with_last : Data → Data → Data
+  with_last (list no_items) v = v
+  with_last (list ds) v = list (items_with_last ds v)
+  with_last (object no_members) v = v
+  with_last (object ms) v = object (members_with_last ms v)
+  with_last d v = v
+
+  pub items_with_last : Items → Data → Items
+  items_with_last no_items v = no_items
+  items_with_last (item d no_items) v = item (with_last d v) no_items
+  items_with_last (item d ds) v = item d (items_with_last ds v)
+
+  pub members_with_last : Members → Data → Members
+  members_with_last no_members v = no_members
+  members_with_last (member k d no_members) v = member k (with_last d v) no_members
+  members_with_last (member k d ms) v = member k d (members_with_last ms v)
