@@ -1,6 +1,7 @@
 #!/usr/bin/env bash
 # What judging large schemas and objects costs, the time and the peak memory of a run for each; and what listing samples costs, as
-# ratios of times of this run.
+# ratios of times of this run, and against the plain program tools/plain.rs in time, instructions and lines. Fails where a figure is
+# above its limit, once all is measured. Needs rustc and valgrind for the plain program, and skips what it cannot measure without them.
 set -euo pipefail
 cd "$(dirname "$0")/.."
 root=$PWD
@@ -113,11 +114,11 @@ field_of() {
     between '{"type":"object","properties":{"x":' '}}' | define
 }
 
-# so many optional integers
+# so many optional integers, `a` and so on
 optional() {
     awk -v count="$1" 'BEGIN {
         printf "{\"type\":\"object\",\"properties\":{"
-        for (i = 0; i < count; i++) printf "%s\"f%d\":{\"type\":\"integer\"}", i ? "," : "", i
+        for (i = 0; i < count; i++) printf "%s\"%c\":{\"type\":\"integer\"}", i ? "," : "", 97 + i
         printf "}}"
     }'
 }
@@ -192,13 +193,16 @@ listed_pools() {
     }'
 }
 
-# best WORD..: the least time of seven runs of these words, in microseconds
+# best WORD..: the least time of a run of these words, in microseconds, of all that begin within two seconds. What they write is thrown
+# away: to write a file anew can take longer than the run.
 best() {
-    local least=0 began took i
-    for ((i = 0; i < 7; i++)); do
-        began=${EPOCHREALTIME/[.,]/}
-        "$@" >"$folder/said" 2>"$folder/told"
-        took=$((${EPOCHREALTIME/[.,]/} - began))
+    local now=${EPOCHREALTIME/[.,]/} least=0 began end took
+    end=$((now + 2000000))
+    while [ "$now" -lt "$end" ]; do
+        began=$now
+        "$@" >/dev/null 2>&1
+        now=${EPOCHREALTIME/[.,]/}
+        took=$((now - began))
         [ "$least" -ne 0 ] && [ "$least" -le "$took" ] || least=$took
     done
     echo "$least"
@@ -209,18 +213,67 @@ stop() {
     exit 1
 }
 
-# ratio NAME TIME TIME [MOST]: the first time over the second; fails where it is above MOST
-ratio() {
-    awk -v name="$1" -v one="$2" -v other="$3" -v most="${4-}" 'BEGIN {
-        printf "%s: %.2f (%.1f ms against %.1f ms)\n", name, one / other, one / 1000, other / 1000
+failures=0
+
+# above NAME: takes note that a figure is above its limit
+above() {
+    echo "cost.sh: $1: above the limit" >&2
+    failures=$((failures + 1))
+}
+
+# compare NAME UNIT SCALE ONE OTHER [MOST]: ONE over OTHER, and both over SCALE; whether the first is MOST at most
+compare() {
+    awk -v name="$1" -v unit="$2" -v scale="$3" -v one="$4" -v other="$5" -v most="${6-}" 'BEGIN {
+        printf "%s: %.2f (%.1f %s against %.1f %s)\n", name, one / other, one / scale, unit, other / scale, unit
         exit most != "" && one > most * other
-    }' || stop "$1: more than $4"
+    }' || above "$1"
+}
+
+# ratio NAME TIME TIME [MOST]: the first time over the second, in microseconds
+ratio() {
+    compare "$1" ms 1000 "${@:2}"
+}
+
+# instructions WORD..: how many instructions a run of these words takes
+instructions() {
+    valgrind --tool=callgrind --callgrind-out-file="$folder/callgrind" "$@" >"$folder/said" 2>"$folder/told" || stop "valgrind could not run $*"
+    awk '/^totals:/ { print $2 }' "$folder/callgrind"
 }
 
 # peak WORD..: the peak memory of a run of these words, in KiB
 peak() {
     /usr/bin/time -f '%M' -o "$folder/cost" "$@" >"$folder/said" 2>"$folder/told"
     tail -n 1 "$folder/cost"
+}
+
+# has COMMAND LOSS: whether this command is on the path; where it is not, says what is not measured
+has() {
+    command -v "$1" >/dev/null || {
+        echo "cost.sh: $1 is not on the path, so not measured: $2" >&2
+        return 1
+    }
+}
+
+# against_plain SHAPE WORD..: 10,000 samples, as `crdx sample` lists them with these words, against the plain program's lines of this
+# shape: the same bytes, and what both cost. The program is run without ./crdx, which takes longer than it.
+against_plain() {
+    local shape=$1 crdx plain one other
+    shift
+    crdx=(crates/crdx_cli/out/crdx_cli sample "$@" --count 10000)
+    plain=("$folder/plain" "$shape" 10000)
+    "${crdx[@]}" >"$folder/lines" 2>"$folder/told" || stop "$shape: $(tail -n 1 "$folder/told")"
+    "${plain[@]}" >"$folder/plain-lines"
+    cmp "$folder/lines" "$folder/plain-lines" >&2 || stop "$shape: other lines than tools/plain.rs writes"
+    one=$(best "${crdx[@]}")
+    other=$(best "${plain[@]}")
+    ratio "$shape, against a plain program (at most 3)" "$one" "$other" 3
+    one=$(peak "${crdx[@]}")
+    echo "$shape, peak memory (below 4096 KiB): $one KiB"
+    [ "$one" -lt 4096 ] || above "$shape, peak memory"
+    has valgrind "instructions of $shape" || return 0
+    one=$(instructions "${crdx[@]}")
+    other=$(instructions "${plain[@]}")
+    compare "$shape, instructions for each sample, against a plain program (at most 10)" instructions 10000 "$one" "$other" 10
 }
 
 # measure NAME FILE WORD..: what a run of these words costs, with the size of the document that is large
@@ -329,3 +382,15 @@ named_plan() {
 without=$(best named_plan 0)
 ratio 'a plan with two named fields at each object, against none (at most 2)' "$(best named_plan 2)" "$without" 2
 ratio 'a plan with four named fields at each object, against none (at most 5)' "$(best named_plan 4)" "$without" 5
+
+# three shapes, against a plain program for these alone
+echo '{"type":"object","properties":{"m":{"type":"array","x-kubernetes-list-type":"map","x-kubernetes-list-map-keys":["host","port"],"items":{"type":"object","required":["host","port"],"properties":{"host":{"type":"string"},"port":{"type":"integer"}}}}}}' | define >"$folder/keys"
+echo '{"strings":["a","b","c","d"],"integers":[0,1,2,3]}' >"$folder/four"
+if has rustc 'what samples cost against a plain program'; then
+    rustc --edition 2021 -O -o "$folder/plain" tools/plain.rs || stop 'tools/plain.rs does not compile'
+    against_plain optional "$folder/optional" v1 --pools "$folder/two" --limit 8
+    against_plain keys "$folder/keys" v1 --pools "$folder/four" --limit 14
+    against_plain fifteen "$folder/fifteen" v1 --limit 63
+fi
+
+[ "$failures" -eq 0 ] || stop "figures above their limits: $failures"
