@@ -1,24 +1,24 @@
 -- What one page after the other says of a walk.
-use Rattle.std.specs.Prelude.{Contains, IfSome, IsSomeAnd, option_map}
-use Rattle.std.proofs.Common.{◌≡◌, ◌⊎◌, ℕ, ◌+◌, ◌<◌, ◌≤◌, List, [], ◌∷◌, ◌++◌, length, take, Bool, false, Option, Some, None, refl, sym, ap, ◌∙◌, subst, inl, inr, arith, length-append, append_assoc}
+use Rattle.std.specs.Prelude.{IfSome, IsSomeAnd, option_map}
+use Rattle.std.proofs.Common.{◌≡◌, ◌⊎◌, ℕ, ◌+◌, ◌-◌, if◌then◌else◌, ◌<◌, ◌≤◌, List, [], ◌∷◌, ◌++◌, length, take, Bool, true, false, Option, Some, None, refl, sym, ap, ◌∙◌, subst, inl, inr, arith, length-append, append_assoc}
 use Rattle.std.specs.Io.KnownBytes.{Appends, Keeps}
 use Rattle.std.proofs.KnownBytes.{Appends-trans, Appends-kept, Appends-nil}
-use Rattle.std.proofs.lemmas.List.Elements.{All-contains}
 use Rattle.std.proofs.Math.Seq.{take-append_seam}
 use Rattle.jtree.specs.Data.{Data}
 use Rattle.jtree.specs.View.{data_of}
 use Rattle.jtree.specs.declared.value.Tree.{Tree}
-use Rattle.enumerate.specs.View.{resume_point}
 use Rattle.std.specs.Borrow.{Bor}
 use Rattle.std.specs.Option.{option_copied}
-use Rattle.jtree.specs.Internal.Rising.{contains, among_right}
+use Rattle.enumerate.specs.View.{resume_point}
+use Rattle.enumerate.specs.Live.{Enumeration, IsStarted, IsNextSample, place_after}
+use Rattle.jtree.specs.Internal.Rising.{contained}
 use Rattle.plan.specs.Samples.Question.{Question}
-use Rattle.enumerate.specs.Page.{IsPage, IsPastSample, IsSampleOf}
+use Rattle.enumerate.specs.Page.{IsPage, IsSampleOf}
 use Rattle.crdx.specs.Output.Line.{lines}
 use Rattle.crdx.specs.Output.Walk.{WritesPage}
 use Rattle.crdx.specs.Output.PartialOutput.{IsCutBetweenLines, IsCutWithinLine, IsPartialOutput}
 use Rattle.crdx.specs.Internal.PartialLines.{ArePartialLines}
-use Rattle.crdx.specs.Internal.Progress.{IsLast, AddsPage, IsPartialPage, IsSoFar}
+use Rattle.crdx.specs.Internal.Progress.{AddsBlock, IsPartialBlock, IsSoFar}
 use Rattle.crdx.specs.declared.walk.line.Envelope.{Envelope}
 use Rattle.crdx.specs.declared.walk.fault.WFault.{WFault}
 use Rattle.crdx.specs.declared.walk.fault.WFault.TheVariants.{NotASample, NoMemory, Write}
@@ -71,101 +71,128 @@ partial_output_of_pages law q after total e old new items us end p lt out r =
       fewer = longer law q after (length items) total items us end p r lt;
     }
 
--- the page past the last item, joined on
-pub page_onto : (q : Question) (after : Option Data) (k : ℕ) (items more : List Data) (last : Option Data) (end : Bool) → IsPage q after (length items) items false → 0 < length items → IsLast items last
-    → IsPage q last k more end → IsPage q after (length items + k) (items ++ more) end
-page_onto q after k items more None end p some is r = absurd (omega (arith, some, ap length is))
-page_onto q after k items more (Some l) end p some (front, is) r =
-    subst (λ us. IsPage q after (length us + k) (us ++ more) end) (sym is)
-    (page_behind q after (length items) k front l more false end (subst (λ us. IsPage q after (length items) us false) is p) r)
+-- ---- the page past the last item, joined on
 
--- the last of joined items is the last of those that were joined on
-pub last_onto : (items more : List Data) (last : Option Data) → 0 < length more → IsLast more last → IsLast (items ++ more) last
-last_onto items more None some is = absurd (omega (arith, some, ap length is))
-last_onto items more (Some l) some (front, is) = (items ++ front, ap (λ us. items ++ us) is ∙ sym (append_assoc items front (l ∷ [])))
+-- some items have a last one, or there are none
+last_or_none : (items : List Data) → (items ≡ []) ⊎ ((front : List Data) × (l : Data) × (items ≡ front ++ l ∷ []))
+last_or_none [] = inl refl
+last_or_none (v ∷ items) = elim (last_or_none items) [
+  | inl none ↦ inr ([], v, ap (λ us. v ∷ us) none)
+  | inr (front, l, is) ↦ inr (v ∷ front, l, ap (λ us. v ∷ us) is)
+]
+
+after_last : (after : Option Data) (front : List Data) (l : Data) → place_after after (front ++ l ∷ []) ≡ Some l
+after_last after [] l = refl
+after_last after (v ∷ front) l = after_last (Some v) front l
+
+place_onto : (after : Option Data) (items more : List Data) → place_after after (items ++ more) ≡ place_after (place_after after items) more
+place_onto after [] more = refl
+place_onto after (v ∷ items) more = place_onto (Some v) items more
+
+page_onto : (q : Question) (after : Option Data) (k : ℕ) (items more : List Data) (end : Bool) → IsPage q after (length items) items false → IsPage q (place_after after items) k more end → IsPage q after (length items + k) (items ++ more) end
+page_onto q after k items more end p r = elim (last_or_none items) [
+  | inl none ↦
+      let first = subst (λ us. IsPage q (place_after after us) k more end) none r in
+      subst (λ us. IsPage q after (length us + k) (us ++ more) end) (sym none) (subst (λ n. IsPage q after n more end) (omega arith) first)
+  | inr (front, l, is) ↦
+      let place = ap (place_after after) is ∙ after_last after front l in
+      subst (λ us. IsPage q after (length us + k) (us ++ more) end) (sym is)
+      (page_behind q after (length items) k front l more false end (subst (λ us. IsPage q after (length items) us false) is p) (subst (λ o. IsPage q o k more end) place r))
+]
+
+-- where there is a sample past the place, none of them is a page without an end
+nothing_listed : (q : Question) (after : Option Data) (v : Data) → IsNextSample q after (Some v) → IsPage q after 0 [] false
+nothing_listed q after v h = record {
+  samples = λ k d lt. absurd (omega (arith, lt));
+  ascending = λ i j d lt within. absurd (omega (arith, lt, within));
+  short = omega arith;
+  rest = λ u p. inr (λ k d lt. absurd (omega (arith, lt)));
+  exact_end = (λ t. cc, λ all. absurd (contained [] v (all v h.is)));
+  full = λ f. refl;
+}
+
+-- and where there is none, a page with one
+pub nothing_left : (q : Question) (after : Option Data) (total : ℕ) → IsNextSample q after None → IsPage q after total [] true
+nothing_left q after total h = record {
+  samples = λ k d lt. absurd (omega (arith, lt));
+  ascending = λ i j d lt within. absurd (omega (arith, lt, within));
+  short = omega arith;
+  rest = λ u p. absurd (h u p);
+  exact_end = (λ t v p. absurd (h v p), λ all. refl);
+  full = λ f. cc;
+}
+
+-- an enumeration that was started stands at the next sample past the place
+started_next : (q : Question) (after : Option Data) (live : Enumeration) → IsStarted q after (Some live) → IsNextSample q after live.at
+started_next q after live s = subst (IsNextSample q after) (sym s.1.1.0) s.1.1.1
 
 -- bytes that stay as they were grow by nothing
 pub Appends-nothing : (old new : Option (List ℕ)) → Keeps old new → Appends old new []
 Appends-nothing old new keeps = Appends-kept old old new [] (Appends-nil old) keeps
 
 module _ (q : Question) (after : Option Data) (total : ℕ) (e : Option Envelope) where
-  pub begun : (count lines_now : ℕ) (end : Bool) (last : Option Data) (old new : Option (List ℕ)) → 1 ≤ count → count ≤ total → AddsPage q after count e 0 lines_now end last old new
-      → IsSoFar q after total e lines_now end last old new
-  begun count lines_now end last old new some le a = record {
-    items = a.items;
-    page = page_counted q after count a.items end a.page;
-    counted = omega (arith, a.counted);
-    short = omega (arith, a.page.short, le);
-    going_on = λ f. (omega (arith, a.page.full f, some), a.is_last);
-    written = a.written;
+  pub begun : (live : Enumeration) (out : Option (List ℕ)) → IsStarted q after (Some live) → IsSoFar q after total e 0 false live.at out out
+  begun live out s = record {
+    items = [];
+    page = nothing_listed q after s.1.0 s.1.1.1;
+    counted = refl;
+    short = omega arith;
+    next = started_next q after live s;
+    written = Appends-nil out;
   }
 
-  pub gone_on : (k lines_then lines_now : ℕ) (last l : Option Data) (goes end : Bool) (old mid new : Option (List ℕ)) → goes ≡ false → 1 ≤ k → lines_then + k ≤ total → IsSoFar q after total e lines_then goes last old mid
-      → AddsPage q last k e lines_then lines_now end l mid new → IsSoFar q after total e lines_now end l old new
-  gone_on k lines_then lines_now last l goes end old mid new not_yet some le s a =
-      let going = s.going_on not_yet in
-      let whole = page_onto q after k s.items a.items last end (subst (IsPage q after (length s.items) s.items) not_yet s.page) going.0 going.1 a.page in
+  pub gone_on : (k lines_then lines_now : ℕ) (at next : Option Data) (goes end : Bool) (old mid new : Option (List ℕ)) → goes ≡ false → lines_then + k ≤ total → IsSoFar q after total e lines_then goes at old mid
+      → ((place : Option Data) → IsNextSample q place at → AddsBlock q place k e lines_then lines_now end next mid new) → IsSoFar q after total e lines_now end next old new
+  gone_on k lines_then lines_now at next goes end old mid new not_yet le s adds =
+      let a = adds (place_after after s.items) s.next in
+      let whole = page_onto q after k s.items a.items end (subst (IsPage q after (length s.items) s.items) not_yet s.page) a.page in
       record {
         items = s.items ++ a.items;
         page = page_counted q after (length s.items + k) (s.items ++ a.items) end whole;
         counted = omega (arith, a.counted, s.counted, length-append s.items a.items);
         short = omega (arith, whole.short, s.counted, le);
-        going_on = λ f. (omega (arith, a.page.full f, some, length-append s.items a.items), last_onto s.items a.items l (omega (arith, a.page.full f, some)) a.is_last);
+        next = subst (λ o. IsNextSample q o next) (sym (place_onto after s.items a.items)) a.next;
         written = subst (Appends old new) (sym (lines-append e s.items a.items)) (Appends-trans old mid new (lines e s.items) (lines e a.items) s.written a.written);
       }
 
-  pub all_written : (lines_now : ℕ) (end : Bool) (last : Option Data) (old new : Option (List ℕ)) → (end ≡ false → total ≤ lines_now) → IsSoFar q after total e lines_now end last old new
+  -- a block leaves less to do
+  pub less_left : (k lines_then lines_now : ℕ) (at next : Option Data) (goes end : Bool) (old mid new : Option (List ℕ)) → goes ≡ false → 1 ≤ k → lines_then < total → IsSoFar q after total e lines_then goes at old mid
+      → ((place : Option Data) → IsNextSample q place at → AddsBlock q place k e lines_then lines_now end next mid new)
+      → (if end then 0 else 1) + (total - lines_now) < (if goes then 0 else 1) + (total - lines_then)
+  less_left k lines_then lines_now at next true end old mid new not_yet some lt s adds = cc
+  less_left k lines_then lines_now at next false true old mid new not_yet some lt s adds = let a = adds (place_after after s.items) s.next in omega (arith, a.counted, lt)
+  less_left k lines_then lines_now at next false false old mid new not_yet some lt s adds = let a = adds (place_after after s.items) s.next in omega (arith, a.counted, a.page.full refl, some, lt)
+
+  pub all_written : (lines_now : ℕ) (end : Bool) (at : Option Data) (old new : Option (List ℕ)) → (end ≡ false → total ≤ lines_now) → IsSoFar q after total e lines_now end at old new
       → WritesPage q after total e lines_now end old new
-  all_written lines_now end last old new full s = record {
+  all_written lines_now end at old new full s = record {
     items = s.items;
     page = page_of_total q after (length s.items) total s.items end s.page s.short (λ f. omega (arith, full f, s.short, s.counted));
     counted = s.counted;
     written = s.written;
   }
 
-  -- the first page was not written whole
-  pub cut_first : PagesAgree → (count : ℕ) (old new : Option (List ℕ)) (unfailed failed : ℕ) (fault : WFault) → count ≤ total → IsPartialPage q after count e 0 old new unfailed failed fault
-      → IsPartialOutput q after total e old new unfailed failed fault
-  cut_first law count old new unfailed failed fault le (inl (inl is, keeps, same)) = rw is (same, inl (refl, keeps))
-  cut_first law count old new unfailed failed fault le (inl (inr (is, none), keeps, same)) = rw is (none, keeps, same)
-  cut_first law count old new unfailed failed fault le (inr (sample, (items, end, page, part))) =
-      partial_output_of_lines law q after total e old old new unfailed failed [] items count 0 end fault sample refl page le (Appends-nil old) part
-
-  -- the last sample that is out is a sample
-  last_is_sample : (items : List Data) (last : Option Data) (count : ℕ) (end : Bool) → IsPage q after count items end → 0 < length items → IsLast items last → IsSomeAnd last (λ a. IsSampleOf q a → ⊥) → ⊥
-  last_is_sample items None count end p some is none = none
-  last_is_sample items (Some l) count end p some (front, is) none =
-      none (All-contains (IsPastSample q after) items l p.samples (subst (λ us. Contains us l) (sym is) (contains (front ++ l ∷ []) l (among_right front (l ∷ []) l (inl refl))))).sample
-
-  -- a later page was not written whole
-  pub cut_later : PagesAgree → (k lines_then : ℕ) (last : Option Data) (goes : Bool) (old mid new : Option (List ℕ)) (unfailed failed : ℕ) (fault : WFault)
+  -- a block was not written whole
+  pub cut_block : PagesAgree → (k lines_then : ℕ) (at : Option Data) (goes : Bool) (old mid new : Option (List ℕ)) (unfailed failed : ℕ) (fault : WFault)
       → IfSome after (IsSampleOf q) → goes ≡ false → 1 ≤ k → lines_then + k ≤ total
-      → IsSoFar q after total e lines_then goes last old mid → IsPartialPage q last k e lines_then mid new unfailed failed fault → IsPartialOutput q after total e old new unfailed failed fault
-  cut_later law k lines_then last goes old mid new unfailed failed fault sample not_yet some le s (inl (inl is, keeps, same)) =
-      let page = subst (IsPage q after (length s.items) s.items) not_yet s.page in
-      let out = Appends-kept old mid new (lines e s.items) s.written keeps in
-      rw (is, s.counted) (same, inr (sample, λ us d r. partial_output_of_pages law q after total e old new s.items us d page (omega (arith, s.counted, some, le)) out r))
-  cut_later law k lines_then last goes old mid new unfailed failed fault sample not_yet some le s (inl (inr (is, none), keeps, same)) =
-      let going = s.going_on not_yet in
-      absurd (last_is_sample s.items last (length s.items) goes s.page going.0 going.1 none)
-  cut_later law k lines_then last goes old mid new unfailed failed fault sample not_yet some le s (inr (last_sample, (items, end, page, part))) =
-      let going = s.going_on not_yet in
-      partial_output_of_lines law q after total e old mid new unfailed failed s.items items (length s.items + k) lines_then end fault sample s.counted
-      (page_onto q after k s.items items last end (subst (IsPage q after (length s.items) s.items) not_yet s.page) going.0 going.1 page) (omega (arith, s.counted, le)) s.written part
-
--- a tree that is lent, as the place to go on from
-pub resumed : (r : Option (Bor Tree)) → resume_point r ≡ option_map data_of (option_copied r)
-resumed None = refl
-resumed (Some t) = refl
+      → IsSoFar q after total e lines_then goes at old mid → ((place : Option Data) → IsNextSample q place at → IsPartialBlock q place k e lines_then mid new unfailed failed fault)
+      → IsPartialOutput q after total e old new unfailed failed fault
+  cut_block law k lines_then at goes old mid new unfailed failed fault sample not_yet some le s part = elim (part (place_after after s.items) s.next) [
+    | inl (is, keeps, same) ↦
+        let page = subst (IsPage q after (length s.items) s.items) not_yet s.page in
+        let out = Appends-kept old mid new (lines e s.items) s.written keeps in
+        rw (is, s.counted) (same, inr (sample, λ us d r. partial_output_of_pages law q after total e old new s.items us d page (omega (arith, s.counted, some, le)) out r))
+    | inr (items, end, page, stopped) ↦
+        partial_output_of_lines law q after total e old mid new unfailed failed s.items items (length s.items + k) lines_then end fault sample s.counted
+        (page_onto q after k s.items items end (subst (IsPage q after (length s.items) s.items) not_yet s.page) page) (omega (arith, s.counted, le)) s.written stopped
+  ]
 
 -- what is a sample is not none
 pub sample_or_none : (q : Question) (after : Option Data) → IfSome after (IsSampleOf q) → IsSomeAnd after (λ a. IsSampleOf q a → ⊥) → ⊥
 sample_or_none q None sample none = none
 sample_or_none q (Some a) sample none = none sample
 
--- where the tree to go on from is no sample, the first page was not begun
-pub refused_first : (q : Question) (after : Option Data) (count : ℕ) (e : Option Envelope) (old new : Option (List ℕ)) (unfailed failed : ℕ) (fault : WFault) → IsPartialPage q after count e 0 old new unfailed failed fault
-    → IsSomeAnd after (λ a. IsSampleOf q a → ⊥) → ((fault ≡ NotASample) ⊎ (fault ≡ NoMemory 0)) × Keeps old new
-refused_first q after count e old new unfailed failed fault (inl (inl is, keeps, same)) none = (inr is, keeps)
-refused_first q after count e old new unfailed failed fault (inl (inr (is, no_sample), keeps, same)) none = (inl is, keeps)
-refused_first q after count e old new unfailed failed fault (inr (sample, items)) none = absurd (sample_or_none q after sample none)
+-- a tree that is lent, as the place to go on from
+pub resumed : (r : Option (Bor Tree)) → resume_point r ≡ option_map data_of (option_copied r)
+resumed None = refl
+resumed (Some t) = refl

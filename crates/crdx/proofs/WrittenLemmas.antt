@@ -1,49 +1,20 @@
 -- Lines in blocks, and what is out of them where a sink stops.
-use Rattle.std.proofs.Common.{◌≡◌, ℕ, zero, suc, ◌+◌, ◌-◌, ◌<◌, ◌≤◌, List, [], ◌∷◌, ◌++◌, length, take, drop, get_or, Option, Some, None, refl, sym, ap, ◌∙◌, subst, inl, inr, arith, length-append, drop-cons, length-take, length-drop, add-one, Ok, append_assoc, append-nil}
-use Rattle.std.specs.Prelude.{slice_get, option_map, IsSome}
-use Rattle.std.specs.Option.{option_to_list}
-use Rattle.std.specs.List.{slice_range}
+use Rattle.std.proofs.Common.{◌≡◌, ℕ, zero, suc, ◌+◌, ◌-◌, ◌<◌, ◌≤◌, List, [], ◌∷◌, ◌++◌, length, take, drop, get_or, Option, Some, refl, sym, ap, ◌∙◌, subst, inl, inr, arith, length-append, drop-cons, length-take, length-drop, add-one, Ok, append_assoc, append-nil}
+use Rattle.std.specs.Prelude.{slice_get}
 use Rattle.std.specs.Io.KnownBytes.{Appends}
 use Rattle.std.proofs.KnownBytes.{Appends-trans}
 use Rattle.std.proofs.Math.Seq.{take-append-add, take-add}
 use Rattle.std.proofs.lemmas.Bool.{cases_lt}
 use Rattle.std.proofs.lemmas.Bool.Decides.{nat_tests}
 use Rattle.std.proofs.lemmas.Grind.{flat_map-append}
-use Rattle.std.proofs.lemmas.List.{take_more, take_all, take-append-drop, map-append, take_rest, take-append-le, get_or_append_left, get_or-append-add}
-use Rattle.std.proofs.lemmas.List.Folds.{drop_split}
+use Rattle.std.proofs.lemmas.List.{take_more, take_all, take-append-drop, take_rest, take-append-le, get_or_append_left, get_or-append-add}
 use Rattle.std.proofs.lemmas.Option.{slice_get_cases, slice_get-get_or, get_or_from_slice_get}
 use Rattle.jtree.specs.Data.{Data}
-use Rattle.jtree.specs.View.{data_of}
-use Rattle.jtree.specs.declared.value.Tree.{Tree}
-use Rattle.enumerate.specs.View.{trees_of}
 use Rattle.crdx.specs.Output.Line.{line, lines}
 use Rattle.crdx.specs.Output.Sink.{failures_after}
 use Rattle.crdx.specs.Output.PartialOutput.{IsCutWithinLine}
-use Rattle.crdx.specs.Internal.Progress.{IsLast}
-use Rattle.crdx.specs.Internal.Block.{HasEnds, IsCountOfEnds}
+use Rattle.crdx.specs.Internal.Block.{HasEnds, Holds, TakesLines, IsCountOfEnds}
 use Rattle.crdx.specs.declared.walk.line.Envelope.{Envelope}
-
-pub length_trees : (ts : List Tree) → length (trees_of ts) ≡ length ts
-length_trees [] = refl
-length_trees (t ∷ ts) = ap suc (length_trees ts)
-
--- one tree more
-pub trees_more : (ts : List Tree) (i : ℕ) (t : Tree) → i < length ts → t ≡ get_or ts i t → trees_of (take (i + 1) ts) ≡ trees_of (take i ts) ++ data_of t ∷ []
-trees_more ts i t within is =
-    ap trees_of (take_more ts i t within ∙ ap (λ u. take i ts ++ u ∷ []) (sym is)) ∙ map-append (λ t. data_of t) (take i ts) (t ∷ [])
-
--- the last tree that is taken off, if there is one
-pub popped : (all rest : List Tree) (last : Option Tree) → all ≡ rest ++ option_to_list last → (0 < length all → IsSome last) → IsLast (trees_of all) (option_map data_of last)
-popped all rest (Some t) is some = (trees_of rest, ap trees_of is ∙ map-append (λ t. data_of t) rest (t ∷ []))
-popped [] rest None is some = refl
-popped (t ∷ all) rest None is some = let e = some (omega arith) in cc
-
--- the trees before a block, in it and behind it
-pub trees_in_blocks : (ts : List Tree) (at end : ℕ) → at ≤ end → trees_of ts ≡ trees_of (take at ts) ++ (trees_of (slice_range ts at end) ++ trees_of (drop end ts))
-trees_in_blocks ts at end le =
-    let parts : ts ≡ take at ts ++ (slice_range ts at end ++ drop end ts) = sym (take-append-drop at ts) ∙ ap (λ us. take at ts ++ us) (drop_split ts at end le) in
-    ap trees_of parts ∙ (map-append (λ t. data_of t) (take at ts) (slice_range ts at end ++ drop end ts)
-    ∙ ap (λ us. trees_of (take at ts) ++ us) (map-append (λ t. data_of t) (slice_range ts at end) (drop end ts)))
 
 below : (items : List Data) (n : ℕ) (next : Data) → slice_get items n ≡ Some next → n < length items
 below items n next is = elim (slice_get_cases items n).1 [ inl found ↦ found.1 | inr past ↦ let none = past.1 in cc ]
@@ -115,6 +86,20 @@ module _ (e : Option Envelope) where
             absurd (omega (arith, full, lt))
       ]
 
+  -- the lines of one item more
+  pub takes_more : (e_then e_now : Option Envelope) (items : List Data) (v : Data) (bytes ends mid_bytes mid_ends new_bytes new_ends : List ℕ) (n : ℕ) → e_now ≡ e_then
+      → TakesLines e e_then items bytes ends mid_bytes mid_ends → new_bytes ≡ mid_bytes ++ line e_then v → new_ends ≡ mid_ends ++ n ∷ [] → n ≡ length new_bytes
+      → TakesLines e e_now (items ++ v ∷ []) bytes ends new_bytes new_ends
+  takes_more e_then e_now items v bytes ends mid_bytes mid_ends new_bytes new_ends n stays t more ended is = record {
+    same = stays ∙ t.same;
+    holds = λ before h.
+        let held = t.holds before h in
+        let joined = append_assoc before items (v ∷ []) in
+        let written : new_bytes ≡ lines e ((before ++ items) ++ v ∷ []) = more ∙ (ap (λ l. l ++ line e_then v) held.written ∙ (ap (λ f. lines e (before ++ items) ++ line f v) t.same ∙ sym (lines_more (before ++ items) v))) in
+        let there = ends_more (before ++ items) v mid_ends n held.ended (is ∙ ap (λ l. length l) written) in
+        subst (λ us. Holds e us new_bytes new_ends) joined (record { written = written; ended = subst (HasEnds e ((before ++ items) ++ v ∷ [])) (sym ended) there });
+  }
+
   -- lines in front of some more, of which the first ones are taken
   pub lines_front : (front items rest : List Data) (n : ℕ) → n ≤ length items → lines e (take (length front + n) (front ++ (items ++ rest))) ≡ lines e front ++ lines e (take n items)
   lines_front front items rest n le =
@@ -138,26 +123,6 @@ module _ (e : Option Envelope) where
         beginning = c.beginning;
         out = subst (Appends old new) text (Appends-trans old mid new (lines e front) (lines e (take n items) ++ c.part) before c.out);
       }
-
-  pub lines_through : (ts : List Tree) (at end : ℕ) → at ≤ end → lines e (trees_of (take end ts)) ≡ lines e (trees_of (take at ts)) ++ lines e (trees_of (slice_range ts at end))
-  lines_through ts at end le =
-      let sum : end ≡ at + (end - at) = omega arith in
-      let parts : take end ts ≡ take at ts ++ slice_range ts at end = ap (λ n. take n ts) sum ∙ take-add at (end - at) ts in
-      ap (λ us. lines e (trees_of us)) parts ∙ (ap (lines e) (map-append (λ t. data_of t) (take at ts) (slice_range ts at end))
-      ∙ lines-append (trees_of (take at ts)) (trees_of (slice_range ts at end)))
-
-  -- a block of trees was taken in part
-  pub cut_in_block : (ts : List Tree) (at end taken n : ℕ) (bytes ends : List ℕ) (old mid new : Option (List ℕ)) → at ≤ end → end ≤ length ts
-      → bytes ≡ lines e (trees_of (slice_range ts at end)) → HasEnds e (trees_of (slice_range ts at end)) ends → IsCountOfEnds ends taken n → taken < length bytes
-      → Appends old mid (lines e (trees_of (take at ts))) → Appends mid new (take taken bytes) → IsCutWithinLine e (trees_of ts) (at + n) old new
-  cut_in_block ts at end taken n bytes ends old mid new le within is has count lt before after =
-      let block = trees_of (slice_range ts at end) in
-      let front = trees_of (take at ts) in
-      let place : at ≡ length front = omega (arith, le, within, length_trees (take at ts), length-take at ts) in
-      let low : taken < length (lines e block) = subst (λ l. taken < length l) is lt in
-      let part : Appends mid new (take taken (lines e block)) = subst (λ l. Appends mid new (take taken l)) is after in
-      let there = cut_within front block (trees_of (drop end ts)) n old mid new before (cut_lines block ends taken n mid new has count low part) in
-      subst (λ us. IsCutWithinLine e us (at + n) old new) (sym (trees_in_blocks ts at end le)) (subst (λ k. IsCutWithinLine e (front ++ (block ++ trees_of (drop end ts))) (k + n) old new) (sym place) there)
 
 -- a sink that took something has not failed
 pub took_some : (E : Type 0) (old new n : ℕ) (bytes : List ℕ) → (n ≡ 0 → ⊥) → new ≡ failures_after {E = E} old (Ok n) bytes → new ≡ old

@@ -1,3 +1,4 @@
+mod lending_cases;
 mod page_cases;
 mod reference_cases;
 mod small_plan_cases;

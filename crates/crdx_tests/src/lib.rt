@@ -17,6 +17,7 @@
 //! | `plan_tests/size_set_cases` | sets of sizes |
 //! | `plan_tests/plan_cases` | plans: their nodes, sizes and what is handed out |
 //! | `suggest_tests/document_cases` | the pools document that is suggested for a schema |
+//! | `enumerate_tests/lending_cases` | samples lent to a taker, page by page |
 //! | `enumerate_tests/page_cases` | pages, walks and enumerations, with their steps |
 //! | `enumerate_tests/reference_cases` | the plain reference, and walks, against lists made by hand |
 //! | `enumerate_tests/small_plan_cases` | 1,362 small plans, 402 of them with a list for a path, and their pages against the plain reference |

@@ -1,6 +1,6 @@
 -- A question has one page past a place with a count; and what stands past its last sample at a larger limit.
-use Rattle.std.proofs.Common.{◌≡◌, ◌⊎◌, ◌↔◌, ℕ, ◌-◌, ◌<◌, ◌≤◌, List, [], ◌∷◌, length, Bool, Option, Some, refl, sym, ◌∙◌, subst, inl, inr, arith}
-use Rattle.std.specs.Prelude.{Contains}
+use Rattle.std.proofs.Common.{◌≡◌, ◌⊎◌, ◌↔◌, ℕ, ◌-◌, ◌<◌, ◌≤◌, List, [], ◌∷◌, ◌++◌, length, Bool, Option, Some, refl, sym, ap, ◌∙◌, subst, inl, inr, arith, length-append, append-nil}
+use Rattle.std.specs.Prelude.{All, Contains}
 use Rattle.std.proofs.lemmas.Bool.{cases_lt}
 use Rattle.std.proofs.lemmas.List.Elements.{All-contains}
 use Rattle.jtree.specs.Data.{Data}
@@ -12,6 +12,8 @@ use Rattle.plan.specs.Samples.Question.{Question}
 use Rattle.enumerate.specs.Limit.{at_limit, IsLastSample}
 use Rattle.enumerate.specs.Page.{Precedes, IsPastSample, IsSampleOf, IsPage}
 use Rattle.enumerate.proofs.LeastLemmas.{by_nodes, tree_order, tree_turned, not_itself}
+use Rattle.enumerate.specs.Live.{IsNextSample, LendsPart}
+use Rattle.enumerate.proofs.PageLemmas.{IsListed, IsSoFar, IsLent, one_listed}
 
 -- the first ones of what meets C, in order, `count` of them or all
 record IsFront (C : Data → Type 0) (count : ℕ) (xs : List Data) : Type 0 where
@@ -61,31 +63,59 @@ first_after C count x y ys c f = elim (f.rest x c) [
   | inr all ↦ inr (all y (inl refl))
 ]
 
-same_first : (C : Data → Type 0) (count : ℕ) (x y : Data) (xs ys : List Data) → IsFront C count (x ∷ xs) → IsFront C count (y ∷ ys) → x ≡ y
-same_first C count x y xs ys f g = elim (first_after C count x y ys (f.each x (inl refl)) g) [
+same_first : (C : Data → Type 0) (m n : ℕ) (x y : Data) (xs ys : List Data) → IsFront C m (x ∷ xs) → IsFront C n (y ∷ ys) → x ≡ y
+same_first C m n x y xs ys f g = elim (first_after C n x y ys (f.each x (inl refl)) g) [
   | inl same ↦ sym same
-  | inr before ↦ elim (first_after C count y x xs (g.each y (inl refl)) f) [
+  | inr before ↦ elim (first_after C m y x xs (g.each y (inl refl)) f) [
     | inl same ↦ same
     | inr after ↦ absurd (tree_turned x y after before)
   ]
 ]
 
--- where one front is empty, there is nothing for the other
-none_left : (C : Data → Type 0) (count : ℕ) (y : Data) (ys : List Data) → IsFront C count [] → IsFront C count (y ∷ ys) → ⊥
-none_left C count y ys f g = elim f.full [
-  | inl all ↦ all y (g.each y (inl refl))
-  | inr none ↦ omega (arith, none, g.short)
+-- where a front with no less room is empty, there is nothing for the other
+none_left : (C : Data → Type 0) (m n : ℕ) (x : Data) (xs : List Data) → m ≤ n → IsFront C m (x ∷ xs) → IsFront C n [] → ⊥
+none_left C m n x xs le f g = elim g.full [
+  | inl all ↦ all x (f.each x (inl refl))
+  | inr none ↦ omega (arith, none, le, f.short)
 ]
 
+-- a front begins as each one with less room does
+front_begins : (C : Data → Type 0) (m n : ℕ) (xs ys : List Data) → m ≤ n → IsFront C m xs → IsFront C n ys → (zs : List Data) × (ys ≡ xs ++ zs)
+front_begins C m n [] ys le f g = (ys, refl)
+front_begins C m n (x ∷ xs) [] le f g = absurd (none_left C m n x xs le f g)
+front_begins C m n (x ∷ xs) (y ∷ ys) le f g =
+    let same = same_first C m n x y xs ys f g in
+    let back : IsFront C n (x ∷ ys) = subst (λ t. IsFront C n (t ∷ ys)) (sym same) g in
+    let rest = front_begins (λ v. C v × Precedes x v) (m - 1) (n - 1) xs ys (omega (arith, le)) (front_tail C m x xs f) (front_tail C n x ys back) in
+    (rest.0, λ i. sym same i ∷ rest.1 i)
+
+nothing_joined : (xs ys zs : List Data) → ys ≡ xs ++ zs → length zs ≡ 0 → xs ≡ ys
+nothing_joined xs ys [] there none = sym (there ∙ append-nil xs)
+nothing_joined xs ys (z ∷ zs) there none = absurd (omega (arith, none))
+
 same_front : (C : Data → Type 0) (count : ℕ) (xs ys : List Data) → IsFront C count xs → IsFront C count ys → xs ≡ ys
-same_front C count [] [] f g = refl
-same_front C count [] (y ∷ ys) f g = absurd (none_left C count y ys f g)
-same_front C count (x ∷ xs) [] f g = absurd (none_left C count x xs g f)
-same_front C count (x ∷ xs) (y ∷ ys) f g =
-    let same = same_first C count x y xs ys f g in
-    let back : IsFront C count (x ∷ ys) = subst (λ t. IsFront C count (t ∷ ys)) (sym same) g in
-    let tails = same_front (λ v. C v × Precedes x v) (count - 1) xs ys (front_tail C count x xs f) (front_tail C count x ys back) in
-    λ i. same i ∷ tails i
+same_front C count xs ys f g =
+    let (zs, there) = front_begins C count count xs ys (omega arith) f g in
+    let (us, here) = front_begins C count count ys xs (omega arith) g f in
+    nothing_joined xs ys zs there (omega (arith, ap length there, ap length here, length-append xs zs, length-append ys us))
+
+-- what was listed so far is a beginning of each page with as much room
+listed_begins : (q : Question) (after : Option Data) (count : ℕ) (items whole : List Data) (end : Bool) → IsListed q after count items → IsPage q after count whole end → (rest : List Data) × (whole ≡ items ++ rest)
+listed_begins q after count items whole end s p =
+    front_begins (IsPastSample q after) (length items) count items whole s.short front (page_front q after count whole end p)
+  where
+    listed : (v : Data) → Contains items v ⊎ All (λ u. Precedes u v) items → Among items v ⊎ ((u : Data) → Among items u → Precedes u v)
+    listed v (inl found) = inl (contained items v found)
+    listed v (inr all) = inr (λ u a. All-contains (λ w. Precedes w v) items u all (contains items u a))
+
+    front : IsFront (IsPastSample q after) (length items) items
+    front = record {
+      each = λ v a. All-contains (IsPastSample q after) items v s.samples (contains items v a);
+      ascending = rising Precedes items s.ascending;
+      short = omega arith;
+      rest = λ v c. listed v (s.rest v c);
+      full = inr refl;
+    }
 
 pub same_items : (q : Question) (after : Option Data) (count : ℕ) (xs ys : List Data) (d e : Bool) → IsPage q after count xs d → IsPage q after count ys e → xs ≡ ys
 same_items q after count xs ys d e p r = same_front (IsPastSample q after) count xs ys (page_front q after count xs d p) (page_front q after count ys e r)
@@ -100,6 +130,26 @@ same_end q after count xs ys d e p r =
         | inr g ↦ f ∙ sym g
       ]
     ]
+
+-- what was lent is a beginning of the page
+pub lends_part : (q : Question) (first at : Option Data) (count lent : ℕ) (old new : List Data → Type 0) → ((ds : List Data) → old ds → new ds) → IsLent q first count lent old at
+    → (after : Option Data) → IsNextSample q after first → LendsPart q after count new
+lends_part q first at count lent old new keeps l after h = record {
+  items = l.items;
+  taken = keeps l.items l.taken;
+  part = λ whole end p. listed_begins q after count l.items whole end (l.page after h).listed p;
+}
+
+-- and so it is with the sample at which the enumeration stood, from which it did not move on
+pub lends_part_with : (q : Question) (first at : Option Data) (count lent : ℕ) (old new : List Data → Type 0) (v : Data) → at ≡ Some v → ((ds : List Data) → old ds → new (ds ++ v ∷ [])) → lent < count
+    → IsLent q first count lent old at → (after : Option Data) → IsNextSample q after first → LendsPart q after count new
+lends_part_with q first at count lent old new v there takes room l after h =
+    let s = subst (IsSoFar q after count l.items) there (l.page after h) in
+    record {
+      items = l.items ++ v ∷ [];
+      taken = takes l.items l.taken;
+      part = λ whole end p. listed_begins q after count (l.items ++ v ∷ []) whole end (one_listed q after count l.items v s (omega (arith, room, l.counted))) p;
+    }
 
 -- ---- larger limits
 

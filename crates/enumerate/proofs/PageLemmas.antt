@@ -1,20 +1,18 @@
 -- A page, built of one sample after the other.
-use Rattle.std.proofs.Common.{◌≡◌, ◌⊎◌, ◌<◌, ◌≤◌, ◌+◌, ◌*◌, ℕ, List, [], ◌∷◌, ◌++◌, length, Bool, true, false, Option, Some, None, refl, sym, ap, ◌∙◌, subst, inl, inr, arith, length-append}
+use Rattle.std.proofs.Common.{◌≡◌, ◌⊎◌, ◌<◌, ◌≤◌, ◌+◌, ◌*◌, ℕ, List, [], ◌∷◌, ◌++◌, length, Bool, true, false, Option, Some, None, refl, sym, ◌∙◌, subst, inl, inr, arith, length-append}
 use Rattle.std.specs.Prelude.{All, AllPairs, Contains}
 use Rattle.std.proofs.lemmas.List.Elements.{All-push, All-weaker, All-contains, Contains-append_left, Contains-push}
 use Rattle.std.proofs.lemmas.List.Quantifiers.{all_pairs_push}
-use Rattle.std.proofs.lemmas.List.{map-append}
 use Rattle.jtree.specs.Data.{Data}
 use Rattle.jtree.specs.Internal.Lookups.{ordering_cases}
 use Rattle.jtree.specs.Internal.OrderLaws.{tree_total, tree_same}
 use Rattle.jtree.specs.Order.{tree_cmp}
-use Rattle.jtree.specs.View.{data_of}
-use Rattle.jtree.specs.declared.value.Tree.{Tree}
+use Rattle.plan.specs.Samples.Candidates.{IsWidth}
 use Rattle.plan.specs.Samples.Question.{Question}
+use Rattle.plan.specs.Samples.Steps.{delay}
 use Rattle.enumerate.specs.Least.{IsLeast}
-use Rattle.enumerate.specs.Live.{Enumeration, IsNextSample, IsStarted, IsAdvanced}
+use Rattle.enumerate.specs.Live.{Enumeration, IsNextSample, IsStarted, IsAdvanced, place_after, LendsPage}
 use Rattle.enumerate.specs.Page.{Precedes, IsPast, IsPastSample, IsPage}
-use Rattle.enumerate.specs.View.{trees_of}
 use Rattle.enumerate.proofs.LeastLemmas.{tree_order, not_itself}
 
 -- a sample past the place, and behind all items
@@ -27,12 +25,16 @@ abbrev pub IsNextBehind : Question → Option Data → List Data → Option Data
 IsNextBehind q after items (Some v) = IsLeast tree_cmp (IsBehind q after items) v
 IsNextBehind q after items None = (v : Data) → IsBehind q after items v → ⊥
 
--- the items of a page so far, and the sample that comes next
-pub record IsSoFar (q : Question) (after : Option Data) (count : ℕ) (items : List Data) (at : Option Data) : Type 0 where
+-- the first items of a page
+pub record IsListed (q : Question) (after : Option Data) (count : ℕ) (items : List Data) : Type 0 where
   pub samples : All (IsPastSample q after) items
   pub ascending : AllPairs Precedes items
   pub short : length items ≤ count
   pub rest : (v : Data) → IsPastSample q after v → Contains items v ⊎ All (λ u. Precedes u v) items
+
+-- they, and the sample that comes next
+pub record IsSoFar (q : Question) (after : Option Data) (count : ℕ) (items : List Data) (at : Option Data) : Type 0 where
+  pub listed : IsListed q after count items
   pub next : IsNextBehind q after items at
 
 abbrev no_items : List Data
@@ -47,10 +49,12 @@ first_next q after None h = λ v b. h v b.past
 
 pub none_so_far : (q : Question) (after : Option Data) (count : ℕ) (at : Option Data) → IsNextSample q after at → IsSoFar q after count [] at
 none_so_far q after count at h = record {
-  samples = none_in (IsPastSample q after);
-  ascending = λ i j d lt within. absurd (omega (arith, lt, within));
-  short = omega arith;
-  rest = λ v p. inr (none_in (λ u. Precedes u v));
+  listed = record {
+    samples = none_in (IsPastSample q after);
+    ascending = λ i j d lt within. absurd (omega (arith, lt, within));
+    short = omega arith;
+    rest = λ v p. inr (none_in (λ u. Precedes u v));
+  };
   next = first_next q after at h;
 }
 
@@ -88,53 +92,104 @@ module _ (q : Question) (after : Option Data) (count : ℕ) (items : List Data) 
   next_behind None h = λ v b. h v (past_next v b)
 
   -- the next one is one more item
-  pub one_more : (at : Option Data) → length items < count → IsNextSample q (Some w) at → IsSoFar q after count (items ++ w ∷ []) at
-  one_more at room h = record {
-    samples = All-push (IsPastSample q after) items w s.samples s.next.is.past;
-    ascending = all_pairs_push Precedes items w s.ascending s.next.is.behind;
+  pub one_listed : length items < count → IsListed q after count (items ++ w ∷ [])
+  one_listed room = record {
+    samples = All-push (IsPastSample q after) items w s.listed.samples s.next.is.past;
+    ascending = all_pairs_push Precedes items w s.listed.ascending s.next.is.behind;
     short = omega (arith, room, length-append items (w ∷ []));
-    rest = λ v p. elim (s.rest v p) [
+    rest = λ v p. elim (s.listed.rest v p) [
       | inl listed ↦ inl (Contains-append_left items (w ∷ []) v listed)
       | inr behind ↦ elim (from_next v (record { past = p; behind = behind })) [
         | inl same ↦ inl (subst (Contains (items ++ w ∷ [])) same (Contains-push items w))
         | inr later ↦ inr (all_before v later)
       ]
     ];
-    next = next_behind at h;
   }
+
+  pub one_more : (at : Option Data) → length items < count → IsNextSample q (Some w) at → IsSoFar q after count (items ++ w ∷ []) at
+  one_more at room h = record { listed = one_listed room; next = next_behind at h }
 
   -- where there is a next one, a full page has no end
   pub full_page : count ≤ length items → IsPage q after count items false
   full_page full = record {
-    samples = s.samples;
-    ascending = s.ascending;
-    short = s.short;
-    rest = s.rest;
+    samples = s.listed.samples;
+    ascending = s.listed.ascending;
+    short = s.listed.short;
+    rest = s.listed.rest;
     exact_end = (λ t. cc, λ all. absurd (let at = all w s.next.is.past in let before = All-contains (λ u. Precedes u w) items w s.next.is.behind at in not_itself tree_cmp tree_order w w refl before));
-    full = λ f. omega (arith, full, s.short);
+    full = λ f. omega (arith, full, s.listed.short);
   }
 
 pub last_page : (q : Question) (after : Option Data) (count : ℕ) (items : List Data) → IsSoFar q after count items None → IsPage q after count items true
 last_page q after count items s = record {
-  samples = s.samples;
-  ascending = s.ascending;
-  short = s.short;
-  rest = s.rest;
-  exact_end = (λ t v p. elim (s.rest v p) [ inl listed ↦ listed | inr behind ↦ absurd (s.next v (record { past = p; behind = behind })) ], λ all. refl);
+  samples = s.listed.samples;
+  ascending = s.listed.ascending;
+  short = s.listed.short;
+  rest = s.listed.rest;
+  exact_end = (λ t v p. elim (s.listed.rest v p) [ inl listed ↦ listed | inr behind ↦ absurd (s.next v (record { past = p; behind = behind })) ], λ all. refl);
   full = λ f. cc;
 }
 
--- the tree at which the enumeration stood is one more item, and it moved on
-pub push_sample : (q : Question) (after : Option Data) (count : ℕ) (old new : List Tree) (t : Tree) (live next : Enumeration) (more : Bool) → live.question ≡ q → live.at ≡ Some (data_of t) → new ≡ old ++ t ∷ [] → length (trees_of old) < count
-    → IsAdvanced live next more → IsSoFar q after count (trees_of old) live.at → IsSoFar q after count (trees_of new) next.at
-push_sample q after count old new t live next more question at pushed room moved s =
-    let later : IsNextSample live.question (Some (data_of t)) next.at = subst (λ o. IsNextSample live.question o next.at) (sym moved.stood ∙ at) moved.next in
-    let whole : trees_of old ++ data_of t ∷ [] ≡ trees_of new = sym (ap trees_of pushed ∙ map-append (λ u. data_of u) old (t ∷ [])) in
-    subst (λ ds. IsSoFar q after count ds next.at) whole
-    (one_more q after count (trees_of old) (data_of t) (subst (IsSoFar q after count (trees_of old)) at s) next.at room (subst (λ r. IsNextSample r (Some (data_of t)) next.at) question later))
+-- ---- what is lent of a page
 
--- one more item, and at most d steps more
-pub push_steps : (old new : List Tree) (t : Tree) (start before now d : ℕ) → new ≡ old ++ t ∷ [] → before ≤ start + length old * d → now ≤ before + d → now ≤ start + length new * d
-push_steps old new t start before now d pushed taken more =
-    let longer : length new * d ≡ (length old + 1) * d = ap (λ n. n * d) (ap length pushed ∙ length-append old (t ∷ [])) in
-    omega (arith, longer, taken, more)
+-- So many samples were lent and taken, from the one on at which the enumeration stood first; it stands at the next one now.
+pub record IsLent (q : Question) (first : Option Data) (count lent : ℕ) (has_taken : List Data → Type 0) (at : Option Data) : Type 0 where
+  pub items : List Data
+  pub taken : has_taken items
+  pub counted : length items ≡ lent
+  pub page : (after : Option Data) → IsNextSample q after first → IsSoFar q after count items at
+  pub next : (after : Option Data) → IsNextSample q after first → IsNextSample q (place_after after items) at
+
+pub lent_nothing : (q : Question) (first : Option Data) (count : ℕ) (has_taken : List Data → Type 0) → has_taken [] → IsLent q first count 0 has_taken first
+lent_nothing q first count has_taken none = record {
+  items = [];
+  taken = none;
+  counted = refl;
+  page = λ after h. none_so_far q after count first h;
+  next = λ after h. h;
+}
+
+after_more : (after : Option Data) (items : List Data) (v : Data) → place_after after (items ++ v ∷ []) ≡ Some v
+after_more after [] v = refl
+after_more after (u ∷ items) v = after_more (Some u) items v
+
+module _ (q : Question) (first : Option Data) (count lent : ℕ) where
+  -- the sample at which the enumeration stood is one more, and it moved on
+  pub lent_more : (old new : List Data → Type 0) (v : Data) (live next : Enumeration) (more : Bool) → live.question ≡ q → live.at ≡ Some v → ((ds : List Data) → old ds → new (ds ++ v ∷ [])) → lent < count
+      → IsAdvanced live next more → IsLent q first count lent old live.at → IsLent q first count (lent + 1) new next.at
+  lent_more old new v live next more question at takes room moved l =
+      let stepped : IsNextSample live.question (Some v) next.at = subst (λ o. IsNextSample live.question o next.at) (sym moved.stood ∙ at) moved.next in
+      let later : IsNextSample q (Some v) next.at = subst (λ r. IsNextSample r (Some v) next.at) question stepped in
+      record {
+        items = l.items ++ v ∷ [];
+        taken = takes l.items l.taken;
+        counted = omega (arith, l.counted, length-append l.items (v ∷ []));
+        page = λ after h. one_more q after count l.items v (subst (IsSoFar q after count l.items) at (l.page after h)) next.at (omega (arith, room, l.counted)) later;
+        next = λ after h. subst (λ o. IsNextSample q o next.at) (sym (after_more after l.items v)) later;
+      }
+
+  module _ (has_taken : List Data → Type 0) (steps_before steps_now : ℕ) (costs : (w : ℕ) → IsWidth q.pools q.root w → steps_now ≤ steps_before + lent * delay q.limit w) where
+    within : (items : List Data) → length items ≡ lent → (w : ℕ) → IsWidth q.pools q.root w → steps_now ≤ steps_before + length items * delay q.limit w
+    within items counted w wide = subst (λ n. steps_now ≤ steps_before + n * delay q.limit w) (sym counted) (costs w wide)
+
+    -- the page is full, and there is a next sample
+    pub lends_full : (at : Option Data) (v : Data) → at ≡ Some v → lent ≡ count → IsLent q first count lent has_taken at → (after : Option Data) → IsNextSample q after first
+        → LendsPage q after count false has_taken at steps_before steps_now
+    lends_full at v there full l after h = record {
+      items = l.items;
+      taken = l.taken;
+      page = full_page q after count l.items v (subst (IsSoFar q after count l.items) there (l.page after h)) (omega (arith, full, l.counted));
+      next = l.next after h;
+      steps = within l.items l.counted;
+    }
+
+    -- there is none
+    pub lends_last : (at : Option Data) → at ≡ None → IsLent q first count lent has_taken at → (after : Option Data) → IsNextSample q after first
+        → LendsPage q after count true has_taken at steps_before steps_now
+    lends_last at none l after h = record {
+      items = l.items;
+      taken = l.taken;
+      page = last_page q after count l.items (subst (IsSoFar q after count l.items) none (l.page after h));
+      next = l.next after h;
+      steps = within l.items l.counted;
+    }

@@ -1,14 +1,14 @@
 -- What the steps of filling a row make of its slots.
 use Rattle.std.specs.Prelude.{◌≡◌, ◌≢◌, ◌↔◌, ℕ, zero, suc, ◌+◌, ◌-◌, ◌≤◌, ◌<◌, List, true, false, Option, Some, None, IfSome, filter, drop, All, AllPairs, Contains}
-use Rattle.std.proofs.Common.{refl, ap, sym, ◌∙◌, subst, arith, [], ◌∷◌, length, append-nil}
+use Rattle.std.proofs.Common.{refl, ap, sym, ◌∙◌, subst, inl, inr, arith, [], ◌∷◌, length, append-nil}
 use Rattle.std.proofs.Math.ListN.{drop_of_length-le}
 use Rattle.std.proofs.Math.Seq.{drop-cons}
 use Rattle.std.proofs.lemmas.List.{length-map, length-drop, append_assoc}
 use Rattle.std.proofs.lemmas.Option.{slice_get_within, get_or_from_slice_get}
 use Rattle.std.specs.declared.cmp.Ordering.TheVariants.{Less}
-use Rattle.jtree.specs.Data.{Data, member}
+use Rattle.jtree.specs.Data.{Data, no_members, member}
 use Rattle.jtree.specs.Data as tree
-use Rattle.jtree.specs.Nodes.{node_count, most_nodes}
+use Rattle.jtree.specs.Nodes.{node_count, members_count, most_nodes}
 use Rattle.jtree.specs.Order.{tree_cmp}
 use Rattle.jtree.specs.View.{data_of, members_of}
 use Rattle.jtree.specs.declared.value.Member.{Member}
@@ -27,12 +27,14 @@ use Rattle.plan.specs.declared.sort.Sort.TheVariants as sort
 use Rattle.enumerate.specs.declared.moved.Step.{Step}
 use Rattle.enumerate.specs.declared.moved.Step.TheVariants.{Moved, Last}
 use Rattle.plan.specs.declared.plan.Slot as handed
-use Rattle.enumerate.specs.Least.{IsLeast}
+use Rattle.enumerate.specs.Least.{IsLeast, IsNext}
 use Rattle.enumerate.specs.Internal.Nodes.{site, IsPartOf}
 use Rattle.enumerate.specs.Internal.Candidates.{agreeing, IsFreeKey}
-use Rattle.enumerate.specs.Internal.Rows.{fill_cmp, slots_from, slot_in, ending_at, IsSlotOf, IsGrown, used_keys, IsUnused, IsRest, AreUsed, IsOpen, AddsFirst, still_used, IsValue, FitsSlot, Grows}
-use Rattle.enumerate.proofs.LeastLemmas.{least_same}
-use Rattle.enumerate.proofs.RowLemmas.{still_used_other, keys_first, still_used_key, used_out, used_behind, free_out, key_here, keys_behind, no_key, unused_first, left_out_first, grown_first}
+use Rattle.enumerate.specs.Internal.Rows.{option_cmp, fill_cmp, slots_from, slot_in, ending_at, IsSlotOf, IsGrown, used_keys, IsUnused, IsRest, AreUsed, IsOpen, AddsFirst, still_used, IsValue, FitsSlot, Grows}
+use Rattle.enumerate.proofs.LeastLemmas.{least_same, then_less, option_order}
+use Rattle.enumerate.proofs.ListLemmas.{some_nodes}
+use Rattle.enumerate.proofs.RowOrder.{filled_count_nodes}
+use Rattle.enumerate.proofs.RowLemmas.{still_used_other, keys_first, still_used_key, used_out, used_behind, free_out, key_here, keys_behind, no_key, unused_first, some_rest, left_out_first, grown_first}
 
 -- ---- the slot at a place
 
@@ -192,6 +194,51 @@ open_behind P end s ss x m used n j v known sum fits value = record {
   rest = subst (CanFill P ss end (filled s.bit x)) (let split = fits.1.1.1 in omega (arith, split, sum)) fits.1.1.0;
   free = value.free;
 }
+
+-- ---- where no nodes are left
+
+-- slots without nodes are all empty
+same_nothing : (P : Pools) (ss : List Slot) (gs hs : List (Option Data)) → AreFillings P ss gs → AreFillings P ss hs → filled_nodes gs ≡ 0 → filled_nodes hs ≡ 0 → gs ≡ hs
+same_nothing P [] [] [] a b m n = refl
+same_nothing P [] [] (h ∷ hs) a b m n = absurd b
+same_nothing P [] (g ∷ gs) hs a b m n = absurd a
+same_nothing P (s ∷ ss) [] hs a b m n = absurd a
+same_nothing P (s ∷ ss) (g ∷ gs) [] a b m n = absurd b
+same_nothing P (s ∷ ss) (Some v ∷ gs) (h ∷ hs) a b m n = absurd (omega (arith, m, some_nodes v))
+same_nothing P (s ∷ ss) (None ∷ gs) (Some v ∷ hs) a b m n = absurd (omega (arith, n, some_nodes v))
+same_nothing P (s ∷ ss) (None ∷ gs) (None ∷ hs) a b m n = ap (λ us. None ∷ us) (same_nothing P ss gs hs a.1 b.1 m n)
+
+fill_own : (gs : List (Option Data)) → fill_cmp gs gs ≡ Less → ⊥
+fill_own [] h = cc
+fill_own (g ∷ gs) h = elim (then_less (option_cmp g g) (fill_cmp gs gs) h) [
+  | inl less ↦ let own = option_order.own g in cc
+  | inr (equal, less) ↦ fill_own gs less
+]
+
+no_other : (P : Pools) (end : Ending) (ss : List Slot) (x : Before) (used : List Data) (gs us : List (Option Data)) → AreFillings P ss gs → filled_nodes gs ≡ 0 → IsRest P ss end x 0 used us → gs ≡ us
+no_other P end ss x used gs us are none h = same_nothing P ss gs us are h.are none h.nodes_are
+
+pub nothing_after : (P : Pools) (end : Ending) (ss : List Slot) (x : Before) (used : List Data) (gs : List (Option Data)) → AreFillings P ss gs → filled_nodes gs ≡ 0 → IsNext fill_cmp (IsRest P ss end x (filled_nodes gs) used) gs None
+nothing_after P end ss x used gs are none = λ us h less.
+    fill_own gs (subst (λ v. fill_cmp gs v ≡ Less) (sym (no_other P end ss x used gs us are none (subst (λ m. IsRest P ss end x m used us) none h))) less)
+
+no_members_in : (P : Pools) (ss : List Slot) (gs : List (Option Data)) → AreFillings P ss gs → filled_nodes gs ≡ 0 → members_in ss gs ≡ no_members
+no_members_in P ss gs are none = empty (members_in ss gs) (filled_count_nodes P ss gs are ∙ none)
+  where
+    empty : (ms : tree.Members) → members_count ms ≡ 0 → ms ≡ no_members
+    empty no_members h = refl
+    empty (member k d ms) h = absurd (omega (arith, h, some_nodes d))
+
+pub adds_nothing : (P : Pools) (end : Ending) (ss : List Slot) (x : Before) (used : List Data) (old : List Member) → AreKeySlots P ss → IsOpen P ss end x 0 used → AddsFirst P ss end x 0 used old old
+adds_nothing P end ss x used old keys h =
+    let r = some_rest P ss end x 0 used keys h.rest h.free in
+    record {
+      added = [];
+      is = sym (append-nil old);
+      fillings = r.0;
+      are = sym (no_members_in P ss r.0 r.1.are r.1.nodes_are);
+      least = record { is = r.1; least = λ us i less. fill_own r.0 (subst (λ v. fill_cmp v r.0 ≡ Less) (sym (no_other P end ss x used r.0 us r.1.are r.1.nodes_are i)) less) };
+    }
 
 -- ---- at a place of a row
 

@@ -1,5 +1,5 @@
 -- An enumeration that stands at a sample, and what its calls answer (this project's own).
-use Rattle.std.specs.Prelude.{◌≡◌, ℕ, ◌+◌, ◌≤◌, refl, Option, Some, None, Bool, is_some}
+use Rattle.std.specs.Prelude.{◌≡◌, ℕ, ◌+◌, ◌*◌, ◌≤◌, ◌++◌, ◌∷◌, [], refl, List, length, Option, Some, None, Bool, is_some}
 use Rattle.std.specs.Coded.{Coded, code_by, coded×, coded_option}
 use Rattle.jtree.specs.Data.{Data}
 use Rattle.jtree.specs.Internal.Code.{data_coded}
@@ -8,7 +8,7 @@ use Rattle.plan.specs.Samples.Candidates.{IsWidth}
 use Rattle.plan.specs.Samples.Question.{Question, question_coded}
 use Rattle.plan.specs.Samples.Steps.{delay}
 use Rattle.enumerate.specs.Least.{IsLeast}
-use Rattle.enumerate.specs.Page.{IsPastSample}
+use Rattle.enumerate.specs.Page.{IsPage, IsPastSample}
 
 -- the question of the plan, and the sample at which the enumeration stands; None once it has ended
 pub record Enumeration : Type 0 where
@@ -39,3 +39,23 @@ pub record IsAdvanced (old new : Enumeration) (more : Bool) : Type 0 where
 -- at most as many steps as it takes to a sample, in a plan of this width
 abbrev pub IsWithinDelay : Question → ℕ → ℕ → Type 0
 IsWithinDelay q before after = (width : ℕ) → IsWidth q.pools q.root width → after ≤ before + delay q.limit width
+
+-- the place past which what comes after these items stands: the last of them, or the place before them where there is none
+abbrev pub place_after : Option Data → List Data → Option Data
+place_after before [] = before
+place_after before (v ∷ vs) = place_after (Some v) vs
+
+-- The samples of a page past a place were lent and taken, in at most as many steps as it takes to each of them; the enumeration stands at
+-- the next one past them.
+pub record LendsPage (q : Question) (after : Option Data) (count : ℕ) (end : Bool) (has_taken : List Data → Type 0) (at : Option Data) (steps_before steps_now : ℕ) : Type 0 where
+  pub items : List Data
+  pub taken : has_taken items
+  pub page : IsPage q after count items end
+  pub next : IsNextSample q (place_after after items) at
+  pub steps : (width : ℕ) → IsWidth q.pools q.root width → steps_now ≤ steps_before + length items * delay q.limit width
+
+-- The first samples of a page past a place were lent and taken.
+pub record LendsPart (q : Question) (after : Option Data) (count : ℕ) (has_taken : List Data → Type 0) : Type 0 where
+  pub items : List Data
+  pub taken : has_taken items
+  pub part : (whole : List Data) (end : Bool) → IsPage q after count whole end → (rest : List Data) × (whole ≡ items ++ rest)

@@ -106,6 +106,9 @@ pub(crate) fn first_slots<Z: SizeSet>(
     ensures steps { CostsSlots plan.now node place meter.old meter.new room }
 {
     plan.sound_parts();
+    if room == 0 {
+        return Ok(());
+    }
     let Some(slot) = plan.slot(node, place, meter) else {
         return Ok(());
     };

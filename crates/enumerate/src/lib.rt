@@ -16,9 +16,11 @@ mod paging;
 mod root;
 mod splitting;
 mod taken;
+mod taking;
 
 pub use fault::EFault;
 pub use law::pages_agree;
 pub use listed::Page;
 pub use live::Live;
 pub use paging::page;
+pub use taking::Taker;

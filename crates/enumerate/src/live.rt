@@ -3,6 +3,7 @@ use crate::copying::copy_of;
 use crate::fault::EFault;
 use crate::membership::is_part;
 use crate::root::{first_from, next_sample};
+use crate::taking::Taker;
 use jtree::Tree;
 use plan::{Meter, Plan, SizeSet};
 use std::alloc::{AllocError, Global};
@@ -42,11 +43,13 @@ impl<'p, Z: SizeSet> Model for Live<'p, Z> {
 }
 
 impl<'p, Z: SizeSet> Live<'p, Z> {
-    ghost use Rattle.std.specs.Prelude.{◌≡◌, ◌≢◌, Some, None, IfOk, IfErr, OnOk, MatchOption, option_map};
+    ghost use Rattle.std.specs.Prelude.{◌≡◌, ◌≢◌, ◌≤◌, List, length, Option, Some, None, Err, IfSome, IsSomeAnd, IfOk, IfErr, OnOk, MatchOption, option_map};
     ghost use Rattle.std.specs.Option.{option_copied};
+    ghost use Rattle.jtree.specs.Data.{Data};
     ghost use Rattle.jtree.specs.View.{data_of};
     ghost use Rattle.enumerate.specs.Page.{IsSampleOf};
-    ghost use Rattle.enumerate.specs.Live.{IsStarted, IsAdvanced, IsWithinDelay};
+    ghost use Rattle.enumerate.specs.View.{resume_point};
+    ghost use Rattle.enumerate.specs.Live.{IsStarted, IsAdvanced, IsNextSample, IsWithinDelay, LendsPage, LendsPart};
     ghost use Rattle.enumerate.specs.declared.fault.EFault.TheVariants.{NotASample, NoMemory, Ended};
 
     /// At the first sample; `None` exactly where there is none.
@@ -101,6 +104,28 @@ impl<'p, Z: SizeSet> Live<'p, Z> {
         }
     }
 
+    /// At the first sample past `after`, which is a sample itself, or at the first one of all; `None` exactly where there is none.
+    ///
+    /// `NotASample` exactly where `after` is no sample, and `NoMemory` where an allocation fails. It takes at most
+    /// 4 * (limit + 1) * (width + 1) steps, whatever it answers.
+    pub fn past(
+        alloc: Global,
+        plan: &'p Plan<Z>,
+        after: Option<&Tree>,
+        meter: &mut Meter,
+    ) -> Result<Option<Live<'p, Z>>, EFault>
+        ensures ok { IfOk result (λ live. IsStarted plan.now (resume_point after.entry) live) }
+        ensures sample { OnOk result (IfSome (resume_point after.entry) (IsSampleOf plan.now)) }
+        ensures not_a_sample { result ≡ Err NotASample → IsSomeAnd (resume_point after.entry) (λ a. ¬ IsSampleOf plan.now a) }
+        ensures never_ended { IfErr result (λ e. e ≢ Ended) }
+        ensures steps { IsWithinDelay plan.now meter.old meter.new }
+    {
+        match after {
+            Some(tree) => Live::after(alloc, plan, tree, meter),
+            None => Live::first(alloc, plan, meter),
+        }
+    }
+
     /// Moves to the next sample, and answers whether there is one. Where there is none, the enumeration has ended.
     ///
     /// `Ended` exactly where it had ended before, and `NoMemory` where an allocation fails; it has ended then. It takes at most
@@ -117,6 +142,46 @@ impl<'p, Z: SizeSet> Live<'p, Z> {
         };
         self.tree = next_sample(self.alloc, self.plan, tree, meter)?;
         Ok(self.tree.is_some())
+    }
+
+    /// Lends the taker the sample at which the enumeration stands and those after it, `count` of them, or fewer where no more are
+    /// left, and moves to the next one past them. It answers whether no further sample is left.
+    ///
+    /// `NoMemory` where an allocation fails; the enumeration has ended then, and what was taken is a beginning of the page. Where it
+    /// answers, it takes at most 4 * (limit + 1) * (width + 1) steps for each sample that was lent.
+    pub fn lend_page<T: Taker>(
+        &mut self,
+        count: u32,
+        taker: &mut T,
+        meter: &mut Meter,
+    ) -> Result<bool, EFault>
+        ensures same { self.new.question ≡ self.old.question }
+        ensures page { IfOk result (λ end. (after : Option Data) → IsNextSample self.old.question after self.old.at
+            → LendsPage self.old.question after count end (T.has_taken taker.old taker.new) self.new.at meter.old meter.new) }
+        ensures part { IfErr result (λ _. (after : Option Data) → IsNextSample self.old.question after self.old.at
+            → LendsPart self.old.question after count (T.has_taken taker.old taker.new)) }
+        ensures taken { (items : List Data) × T.has_taken taker.old taker.new items × (length items ≤ count) }
+        ensures err { IfErr result (λ e. e ≡ NoMemory) }
+        ensures nowhere { IfErr result (λ _. self.new.at ≡ None) }
+    {
+        let mut lent = 0;
+        'samples: while let Some(tree) = self.tree() {
+            if lent == count {
+                return Ok(false);
+            }
+            match taker.take(tree) {
+                Ok(()) => {}
+                Err(_) => {
+                    self.tree = None;
+                    return Err(EFault::NoMemory);
+                }
+            }
+            match self.advance(meter) {
+                Ok(_) => lent += 1,
+                Err(fault) => return Err(fault),
+            }
+        }
+        Ok(true)
     }
 
     /// The sample; `None` once the enumeration has ended.

@@ -161,6 +161,9 @@ fn advance_slots<Z: SizeSet>(
 {
     plan.sound_parts();
     plan.limit();
+    if members.len() == before.count() {
+        return Ok(Step::Last(0));
+    }
     let Some(slot) = plan.slot(node, place, meter) else {
         return Ok(Step::Last(0));
     };

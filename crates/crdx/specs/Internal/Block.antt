@@ -1,5 +1,6 @@
 -- Where the lines of a block end.
-use Rattle.std.specs.Prelude.{◌≡◌, ◌+◌, ◌<◌, ◌≤◌, ℕ, List, length, take, Option, slice_index}
+use Rattle.std.proofs.Common.{refl, sym, subst, append-nil}
+use Rattle.std.specs.Prelude.{◌≡◌, ◌+◌, ◌<◌, ◌≤◌, ◌++◌, [], ℕ, List, length, take, Option, slice_index}
 use Rattle.jtree.specs.Data.{Data}
 use Rattle.crdx.specs.Output.Line.{lines}
 use Rattle.crdx.specs.declared.walk.line.Envelope.{Envelope}
@@ -14,3 +15,16 @@ pub record IsCountOfEnds (ends : List ℕ) (taken n : ℕ) : Type 0 where
   pub within : n ≤ length ends
   pub whole : (k : ℕ) → k < n → slice_index ends k ≤ taken
   pub next : n < length ends → taken < slice_index ends n
+
+-- the lines of the items, and where they end
+pub record Holds (e : Option Envelope) (items : List Data) (bytes ends : List ℕ) : Type 0 where
+  pub written : bytes ≡ lines e items
+  pub ended : HasEnds e items ends
+
+-- With the lines of these items, a block with these bytes and ends has become one with those; the envelope stays.
+pub record TakesLines (e e_now : Option Envelope) (items : List Data) (bytes ends bytes_now ends_now : List ℕ) : Type 0 where
+  pub same : e_now ≡ e
+  pub holds : (before : List Data) → Holds e before bytes ends → Holds e (before ++ items) bytes_now ends_now
+
+pub takes_none : (e : Option Envelope) (bytes ends : List ℕ) → TakesLines e e [] bytes ends bytes ends
+takes_none e bytes ends = record { same = refl; holds = λ before h. subst (λ us. Holds e us bytes ends) (sym (append-nil before)) h }

@@ -22,7 +22,7 @@ use jtree::{Text, Tree};
 use plan::{Plan, Pools, SizeSet};
 use std::alloc::{AllocError, Global};
 
-/// The most samples that are held at a time.
+/// The most lines that are held at a time.
 const PAGE: u32 = 64;
 
 /// The node limits below this have plans over words of 64 bits.

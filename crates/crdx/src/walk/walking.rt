@@ -1,27 +1,26 @@
-ghost use Rattle.std.specs.Prelude.{◌≡◌, ◌⊎◌, ◌≤◌, ◌+◌, Err, IfOk, IfErr, OnOk, IfSome, IsSomeAnd, length, option_map};
-ghost use Rattle.std.specs.Io.KnownBytes.{Appends, Keeps};
-ghost use Rattle.jtree.specs.View.{data_of};
+ghost use Rattle.std.specs.Prelude.{◌≡◌, ◌⊎◌, ◌≤◌, ◌+◌, Err, IfOk, IfErr, OnOk, Option, IfSome, IsSomeAnd};
+ghost use Rattle.std.specs.Io.KnownBytes.{Keeps};
+ghost use Rattle.jtree.specs.Data.{Data};
 ghost use Rattle.enumerate.specs.Page.{IsSampleOf};
-ghost use Rattle.enumerate.specs.View.{resume_point, trees_of};
+ghost use Rattle.enumerate.specs.Live.{IsNextSample};
+ghost use Rattle.enumerate.specs.View.{resume_point};
 ghost use Rattle.std.specs.Option.{option_copied};
-ghost use Rattle.crdx.specs.Output.Line.{lines};
 ghost use Rattle.crdx.specs.Output.PartialOutput.{IsPartialOutput, CanGoOn};
 ghost use Rattle.crdx.specs.Output.Walk.{WritesPage};
-ghost use Rattle.crdx.specs.Internal.PartialLines.{ArePartialLines};
-ghost use Rattle.crdx.specs.Internal.Progress.{AddsPage, IsPartialPage};
+ghost use Rattle.crdx.specs.Internal.Progress.{AddsBlock, IsPartialBlock};
 ghost use Rattle.crdx.specs.declared.walk.fault.WFault.TheVariants.{NotASample, NoMemory};
 
 use crate::sink::{Sink, put_all};
-use crate::walk::blocks::{block_of, whole_lines};
+use crate::walk::blocks::{Block, whole_lines};
 use crate::walk::fault::WFault;
 use crate::walk::line::Envelope;
-use enumerate::{EFault, pages_agree};
+use enumerate::{EFault, Live, pages_agree};
 use jtree::Tree;
 use plan::{Meter, Plan, SizeSet};
 use std::alloc::Global;
 
 /// The most lines that one call of the sink is handed.
-const BLOCK_LINES: usize = 64;
+const BLOCK_LINES: u32 = 64;
 
 /// What a walk wrote.
 #[derive(Clone, Copy, Debug, PartialEq, Eq, Drop)]
@@ -39,12 +38,10 @@ struct Progress {
     lines: u32,
     /// Whether no further sample is left.
     end: bool,
-    /// The last sample of the page that was written last.
-    last: Option<Tree>,
 }
 
 /// Writes the first `total` samples past `after`, or from the first sample on, in the tree order: for each its compact
-/// JSON, in the envelope where there is one, and a newline. At most `page` samples are held at a time, which makes no
+/// JSON, in the envelope where there is one, and a newline. The lines of at most `page` samples are held at a time, which makes no
 /// difference to what is written. The sink is handed many lines at a time, and is not flushed. The caller keeps `page` and
 /// `total` from 1 to 10,000.
 ///
@@ -74,31 +71,26 @@ pub fn walk<Z: SizeSet, W: Sink>(
     ensures unfailed { OnOk result (W.failures out.new ≡ W.failures out.old) }
 {
     pages_agree();
-    let mut so_far = match write_page(
-        alloc,
-        plan,
-        after,
-        page.min(total),
-        envelope,
-        0,
-        meter,
-        out,
-    ) {
-        Ok(so_far) => so_far,
-        Err(fault) => return Err(fault),
+    let live = match Live::past(alloc, plan, after, meter) {
+        Ok(live) => live,
+        Err(EFault::NotASample) => return Err(WFault::NotASample),
+        Err(_) => return Err(WFault::NoMemory(0)),
+    };
+    let Some(mut live) = live else {
+        return Ok(Walked {
+            lines: 0,
+            end: true,
+        });
+    };
+    let mut block = Block::new(alloc, envelope);
+    let most = page.min(BLOCK_LINES);
+    let mut so_far = Progress {
+        lines: 0,
+        end: false,
     };
     'pages: while !so_far.end && so_far.lines < total {
-        let count = page.min(total - so_far.lines);
-        so_far = match write_page(
-            alloc,
-            plan,
-            so_far.last.as_ref(),
-            count,
-            envelope,
-            so_far.lines,
-            meter,
-            out,
-        ) {
+        let count = most.min(total - so_far.lines);
+        so_far = match write_block(&mut live, count, so_far.lines, &mut block, meter, out) {
             Ok(so_far) => so_far,
             Err(fault) => return Err(fault),
         };
@@ -109,68 +101,37 @@ pub fn walk<Z: SizeSet, W: Sink>(
     })
 }
 
-/// Writes the first `count` samples past `place`, after `before` lines that are out.
-fn write_page<Z: SizeSet, W: Sink>(
-    alloc: Global,
-    plan: &Plan<Z>,
-    place: Option<&Tree>,
+/// Writes the samples from the one on at which the enumeration stands, `count` at most, after `before` lines that are out.
+fn write_block<Z: SizeSet, W: Sink>(
+    live: &mut Live<'_, Z>,
     count: u32,
-    envelope: Option<&Envelope>,
     before: u32,
+    block: &mut Block<'_>,
     meter: &mut Meter,
     out: &mut W,
 ) -> Result<Progress, WFault>
-    requires least { 1 ≤ count }
-    requires most { before + count ≤ 10000 }
-    ensures page { IfOk result (λ p. AddsPage plan.now (resume_point place.entry) count (option_copied envelope.entry) before p.lines p.end (option_map data_of p.last) (W.taken out.old) (W.taken out.new)) }
-    ensures sample { OnOk result (IfSome (resume_point place.entry) (IsSampleOf plan.now)) }
+    requires { before + count ≤ 10000 }
+    ensures same { live.new.question ≡ live.old.question }
+    ensures envelope { option_copied block.new.envelope ≡ option_copied block.old.envelope }
+    ensures block { IfOk result (λ p. (place : Option Data) → IsNextSample live.old.question place live.old.at
+        → AddsBlock live.old.question place count (option_copied block.old.envelope) before p.lines p.end live.new.at (W.taken out.old) (W.taken out.new)) }
     ensures unfailed { OnOk result (W.failures out.new ≡ W.failures out.old) }
-    ensures err { IfErr result (IsPartialPage plan.now (resume_point place.entry) count (option_copied envelope.entry) before (W.taken out.old) (W.taken out.new) (W.failures out.old) (W.failures out.new)) }
+    ensures err { IfErr result (λ e. (place : Option Data) → IsNextSample live.old.question place live.old.at
+        → IsPartialBlock live.old.question place count (option_copied block.old.envelope) before (W.taken out.old) (W.taken out.new) (W.failures out.old) (W.failures out.new) e) }
 {
-    let mut page = match enumerate::page(alloc, plan, place, count, meter) {
-        Ok(page) => page,
-        Err(EFault::NotASample) => return Err(WFault::NotASample),
+    block.clear();
+    let end = match live.lend_page(count, block, meter) {
+        Ok(end) => end,
         Err(_) => return Err(WFault::NoMemory(before as u64)),
     };
-    let lines = before + page.items.len() as u32;
-    match write_lines(alloc, page.items.as_slice(), envelope, before, out) {
-        Ok(()) => {}
-        Err(fault) => return Err(fault),
-    }
-    Ok(Progress {
-        lines,
-        end: page.end,
-        last: page.items.pop(),
-    })
-}
-
-/// Puts out the lines of the trees after `before` lines that are out, a block at a time.
-fn write_lines<W: Sink>(
-    alloc: Global,
-    trees: &[Tree],
-    envelope: Option<&Envelope>,
-    before: u32,
-    out: &mut W,
-) -> Result<(), WFault>
-    requires { length trees.now ≤ 10000 }
-    ensures ok { OnOk result (Appends (W.taken out.old) (W.taken out.new) (lines (option_copied envelope.entry) (trees_of trees.now))) }
-    ensures unfailed { OnOk result (W.failures out.new ≡ W.failures out.old) }
-    ensures err { IfErr result (ArePartialLines (option_copied envelope.entry) (trees_of trees.now) before (W.taken out.old) (W.taken out.new) (W.failures out.old) (W.failures out.new)) }
-{
-    let mut at = 0;
-    'pieces: while at < trees.len() {
-        let end = trees.len().min(at.saturating_add(BLOCK_LINES));
-        let block = match block_of(alloc, &trees[at..end], envelope) {
-            Ok(block) => block,
-            Err(_) => return Err(WFault::NoMemory(before as u64 + at as u64)),
-        };
-        match put_all(out, block.bytes.as_slice()) {
-            Ok(()) => at = end,
-            Err(taken) => {
-                let whole = at + whole_lines(block.ends.as_slice(), taken);
-                return Err(WFault::Write(before as u64 + whole as u64));
-            }
+    match put_all(out, block.bytes.as_slice()) {
+        Ok(()) => Ok(Progress {
+            lines: before + block.ends.len() as u32,
+            end,
+        }),
+        Err(taken) => {
+            let whole = whole_lines(block.ends.as_slice(), taken);
+            Err(WFault::Write(before as u64 + whole as u64))
         }
     }
-    Ok(())
 }

@@ -5,7 +5,7 @@ use Rattle.enumerate.proofs.MembershipLemmas.{lighter, row_lighter, null_part}
 use Rattle.enumerate.proofs.MoveCosts.{part_within, costs_within, costs_both, costs_below, costs_row, costs_slots, costs_both_slots, costs_wider}
 use Rattle.plan.specs.Samples.Sizes.{HasSize}
 use Rattle.enumerate.specs.Internal.Candidates.{IsFreeKey}
-use Rattle.enumerate.proofs.RowSteps.{slot_of, filled_at, none_at, one_fewer, out_open, out_adds, grown_at, key_there, key_value, key_leaf, part_value, behind_open, place_within, keys_at}
+use Rattle.enumerate.proofs.RowSteps.{slot_of, filled_at, none_at, one_fewer, out_open, out_adds, grown_at, key_there, key_value, key_leaf, part_value, behind_open, place_within, keys_at, adds_nothing}
 use Rattle.enumerate.proofs.RowOrder.{in_members, row_least}
 use Rattle.enumerate.proofs.PartRows.{weight_next, null_first, plain_least, plain_open}
 use Rattle.enumerate.proofs.LeastLemmas.{least_same}
@@ -644,3 +644,14 @@ put_member-returns-in_err-push-clause-steps g t c = λ w wide. omega arith
 
 pub put_member-returns-clause-steps : goal.put_member-returns-clause-steps
 put_member-returns-clause-steps g t c = c.first_slots.ensures.steps
+
+pub first_slots-returns-then-room-eq0-clause-ok : goal.first_slots-returns-then-room-eq0-clause-ok
+first_slots-returns-then-room-eq0-clause-ok g t c =
+    let q = c.args.plan.now in
+    let i = c.args.node in
+    let place = c.args.place in
+    let old = c.args.members.now.items in
+    let none : 0 ≡ c.args.room = omega (arith, c.if-room-eq0.true) in
+    let opened : IsOpen q.pools (slots_from q i place) (ending_at q i) c.args.before 0 (rows_of c.args.used.now) = subst (λ m. IsOpen q.pools (slots_from q i place) (ending_at q i) c.args.before m (rows_of c.args.used.now)) (sym none) c.requires.open in
+    subst (λ m. AddsFirst q.pools (slots_from q i place) (ending_at q i) c.args.before m (rows_of c.args.used.now) old old) none
+    (adds_nothing q.pools (ending_at q i) (slots_from q i place) c.args.before (rows_of c.args.used.now) old (keys_at q i place (c.sound_parts.ensures.parts _ (site_among q i c.requires.node))) opened)

@@ -23,7 +23,8 @@ use Rattle.enumerate.proofs.NullMoves.{row_moved}
 use Rattle.enumerate.proofs.PartRows.{weight_next, row_unless_null}
 use Rattle.enumerate.proofs.RowLemmas.{can_fill}
 use Rattle.enumerate.proofs.RowOrder.{in_members, row_next}
-use Rattle.enumerate.proofs.RowSteps.{slot_of, filled_at, one_fewer, no_slots, key_leaf}
+use Rattle.std.proofs.Math.ListN.{drop_of_length-le}
+use Rattle.enumerate.proofs.RowSteps.{slot_of, filled_at, one_fewer, no_slots, nothing_after, key_leaf}
 use Rattle.jtree.specs.View.{data_of, items_of, members_of}
 use Rattle.plan.specs.Samples.Part.{IsPart}
 use Rattle.plan.specs.Samples.Candidates.{sort_of, distinct_of}
@@ -447,7 +448,7 @@ advance_slots-advance_filled-requires g t c κs within =
     let q = c.args.plan.now in
     let s = slot_here g t (goal.at.advance_slots-advance_filled-requires g t c).In-Some in
     let fewer = fewer_here g t (goal.at.advance_slots-advance_filled-requires g t c).In-Some in
-    let begun = subst (λ ms. Begins c.in-Some.slot.name.now (members_of (drop c.args.before.count ms))) c.as_slice.ensures.value (begins_at c.in-Some.slot.name.now c.as_slice.result.now c.count.ensures (c.begins.ensures.0 c.if-begins.true)) in
+    let begun = subst (λ ms. Begins c.in-Some.slot.name.now (members_of (drop c.args.before.count ms))) c.as_slice.ensures.value (begins_at c.in-Some.slot.name.now c.as_slice.result.now c.count-2.ensures (c.begins.ensures.0 c.if-begins.true)) in
     (omega (arith, c.decreases, fewer), (within, (c.requires.node, (c.requires.row, (s, (begun, (c.requires.taken, (c.requires.within, (c.requires.known, (c.requires.stand, c.requires.limit))))))))))
 
 pub advance_slots-returns-then-begins-clause-kept : goal.advance_slots-returns-then-begins-clause-kept
@@ -471,7 +472,7 @@ advance_slots-advance_slots-requires g t c κs within =
     let sound = c.sound_parts.ensures.parts _ (site_among q c.args.node c.requires.node) in
     let s = slot_here g t (goal.at.advance_slots-advance_slots-requires g t c).In-Some in
     let fewer = fewer_here g t (goal.at.advance_slots-advance_slots-requires g t c).In-Some in
-    let out = left_out q c.args.node c.args.place c.in-Some.slot s sound c.args.before (rows_of c.args.used.now) c.args.members.now.items c.as_slice.result.now c.requires.stand.0 c.as_slice.ensures.value (λ h. let yes = c.begins.ensures.1 (begins_at c.in-Some.slot.name.now c.as_slice.result.now (sym c.count.ensures) h) in let no = c.if-begins.false in cc) c.requires.stand.1 in
+    let out = left_out q c.args.node c.args.place c.in-Some.slot s sound c.args.before (rows_of c.args.used.now) c.args.members.now.items c.as_slice.result.now c.requires.stand.0 c.as_slice.ensures.value (λ h. let yes = c.begins.ensures.1 (begins_at c.in-Some.slot.name.now c.as_slice.result.now (sym c.count-2.ensures) h) in let no = c.if-begins.false in cc) c.requires.stand.1 in
     (omega (arith, c.decreases, fewer), (within, (c.requires.node, (c.requires.row, (omega (arith, c.requires.taken), (c.requires.within, (known_out q c.args.node c.args.place sound s.first (rows_of c.args.used.now) out.1.1.0 c.requires.known, ((out.0, out.1.1.1), c.requires.limit))))))))
 
 pub advance_slots-returns-in_err-room-clause-steps : goal.advance_slots-returns-in_err-room-clause-steps
@@ -485,7 +486,7 @@ advance_slots-returns-in_default-2-clause-moved g t c = λ gs st.
     let q = c.args.plan.now in
     let sound = c.sound_parts.ensures.parts _ (site_among q c.args.node c.requires.node) in
     let s = slot_here g t (goal.at.advance_slots-returns-in_default-2-clause-moved g t c).In-Some in
-    let out = left_out q c.args.node c.args.place c.in-Some.slot s sound c.args.before (rows_of c.args.used.now) c.args.members.now.items c.as_slice.result.now gs c.as_slice.ensures.value (λ h. let yes = c.begins.ensures.1 (begins_at c.in-Some.slot.name.now c.as_slice.result.now (sym c.count.ensures) h) in let no = c.if-begins.false in cc) st in
+    let out = left_out q c.args.node c.args.place c.in-Some.slot s sound c.args.before (rows_of c.args.used.now) c.args.members.now.items c.as_slice.result.now gs c.as_slice.ensures.value (λ h. let yes = c.begins.ensures.1 (begins_at c.in-Some.slot.name.now c.as_slice.result.now (sym c.count-2.ensures) h) in let no = c.if-begins.false in cc) st in
     let next = subst (λ m. AreMoved m q.pools (slots_from q c.args.node (c.args.place + 1)) (ending_at q c.args.node) c.args.before (rows_of c.args.used.now) out.0 (drop c.args.before.count c.advance_slots.new.members.items)) c.in_default-2.is (c.in_ok-room.ensures.moved out.0 out.1.1.1) in
     let nodes = stand_nodes q.pools (slots_from q c.args.node (c.args.place + 1)) (ending_at q c.args.node) c.args.before (rows_of c.args.used.now) (drop c.args.before.count c.args.members.now.items) out.0 out.1.1.1 in
     out_next q c.args.node c.args.place sound s.first c.args.before (rows_of c.args.used.now) gs out.0 (drop c.args.before.count c.advance_slots.new.members.items) out.1.0 (omega (arith, nodes, c.requires.limit, c.limit.ensures, c.limit.type_inv)) out.1.1.0 next
@@ -503,7 +504,7 @@ out_here g t c gs st =
     let sound = c.sound_parts.ensures.parts _ (site_among q c.args.node c.requires.node) in
     let s = slot_of q c.args.node c.args.place c.in-Some.slot c.in-Some.ensures.some c.in-Some.ensures.below c.in-Some.ensures.later c.in-Some.ensures.bit c.in-Some.ensures.followed in
     out_ended q c.args.node c.args.place c.in-Some.slot s sound c.in_ok-room.field-0 c.args.before c.in-Last.room (rows_of c.args.used.now) c.args.members.now.items c.as_slice.result.now (drop c.args.before.count c.advance_slots.new.members.items) gs
-    c.as_slice.ensures.value (λ h. let yes = c.begins.ensures.1 (begins_at c.in-Some.slot.name.now c.as_slice.result.now (sym c.count.ensures) h) in let no = c.if-begins.false in cc) (omega (arith, c.requires.limit, c.limit.ensures, c.limit.type_inv)) c.in-Last.is c.in_ok-room.ensures.moved st
+    c.as_slice.ensures.value (λ h. let yes = c.begins.ensures.1 (begins_at c.in-Some.slot.name.now c.as_slice.result.now (sym c.count-2.ensures) h) in let no = c.if-begins.false in cc) (omega (arith, c.requires.limit, c.limit.ensures, c.limit.type_inv)) c.in-Last.is c.in_ok-room.ensures.moved st
 
 pub advance_slots-grow_slots-requires-clause-slot : goal.advance_slots-grow_slots-requires-clause-slot
 advance_slots-grow_slots-requires-clause-slot g t c = slot_here g t (goal.at.advance_slots-grow_slots-requires-clause-slot g t c).In-Some
@@ -528,7 +529,7 @@ advance_slots-grow_slots-requires-clause-open g t c =
 pub advance_slots-returns-clause-kept : goal.advance_slots-returns-clause-kept
 advance_slots-returns-clause-kept g t c =
     let q = c.args.plan.now in
-    let front = (cut_at c.advance_slots.new.members.items c.truncate.new.self.items c.count-2.ensures c.truncate.ensures.items) ∙ c.in_ok-room.ensures.kept in
+    let front = (cut_at c.advance_slots.new.members.items c.truncate.new.self.items c.count-3.ensures c.truncate.ensures.items) ∙ c.in_ok-room.ensures.kept in
     let count : length c.truncate.new.self.items ≡ c.args.before.count = ap (λ (ms : List Member). length ms) front ∙ length-take-le c.args.before.count c.args.members.now.items c.requires.within in
     IfOk-weaker c.grow_slots.result _ _ (λ st h. grown_kept st q.pools (slot_in q c.args.node c.args.place) (slots_from q c.args.node (c.args.place + 1)) (ending_at q c.args.node) c.args.before c.in-Last.room 0 c.args.before.count (rows_of c.args.used.now) c.truncate.new.self.items c.grow_slots.new.members.items h count ∙ front) c.grow_slots.ensures.ok
 
@@ -539,7 +540,7 @@ advance_slots-returns-clause-moved g t c =
     let sound = c.sound_parts.ensures.parts _ (site_among q c.args.node c.requires.node) in
     let s = slot_here g t (goal.at.advance_slots-returns-clause-moved g t c).In-Some in
     let e = out_here g t (goal.at.advance_slots-returns-clause-moved g t c).In-Last gs st in
-    let front = (cut_at c.advance_slots.new.members.items c.truncate.new.self.items c.count-2.ensures c.truncate.ensures.items) ∙ c.in_ok-room.ensures.kept in
+    let front = (cut_at c.advance_slots.new.members.items c.truncate.new.self.items c.count-3.ensures c.truncate.ensures.items) ∙ c.in_ok-room.ensures.kept in
     let count : length c.truncate.new.self.items ≡ c.args.before.count = ap (λ (ms : List Member). length ms) front ∙ length-take-le c.args.before.count c.args.members.now.items c.requires.within in
     out_grown q c.args.node c.args.place sound s.first m c.args.before (rows_of c.args.used.now) gs e.rest c.in-Last.room c.truncate.new.self.items c.grow_slots.new.members.items e.is e.small e.free count e.room_is e.last h) c.grow_slots.ensures.ok
 
@@ -1041,3 +1042,14 @@ advance_items-returns-in-Moved-clause-last g t c = tt
 
 pub advance_list-returns-in-Moved-clause-last : goal.advance_list-returns-in-Moved-clause-last
 advance_list-returns-in-Moved-clause-last g t c = tt
+
+pub advance_slots-returns-then-len-count-clause-moved : goal.advance_slots-returns-then-len-count-clause-moved
+advance_slots-returns-then-len-count-clause-moved g t c = λ gs s.
+    let q = c.args.plan.now in
+    let i = c.args.node in
+    let ss = slots_from q i c.args.place in
+    let used = rows_of c.args.used.now in
+    let members = c.args.members.now.items in
+    let left : drop c.args.before.count members ≡ [] = drop_of_length-le members (omega (arith, c.if-len-count.true, c.len.ensures, c.count.ensures, c.args.members.now.ok.0)) in
+    let none : filled_nodes gs ≡ 0 = sym (stand_nodes q.pools ss (ending_at q i) c.args.before used (drop c.args.before.count members) gs s) ∙ ap (λ ms. members_count (members_of ms)) left in
+    (nothing_after q.pools (ending_at q i) ss c.args.before used gs s.rest.are none, none)

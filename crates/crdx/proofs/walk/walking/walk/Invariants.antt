@@ -1,7 +1,6 @@
-use Rattle.std.proofs.Common.{◌≡◌, ◌-◌, ◌+◌, if◌then◌else◌, option_map}
+use Rattle.std.proofs.Common.{◌≡◌, ◌-◌, ◌+◌, if◌then◌else◌}
 use Rattle.std.specs.Prelude.{IfSome}
 use Rattle.std.specs.Option.{option_copied}
-use Rattle.jtree.specs.View.{data_of}
 use Rattle.enumerate.specs.Page.{IsSampleOf}
 use Rattle.enumerate.specs.View.{resume_point}
 use Rattle.crdx.specs.Internal.Progress.{IsSoFar}
@@ -9,8 +8,10 @@ use Rattle.crdx.proofs.walk.walking.walk.Given as goal
 
 abbrev pub invariant-pages : goal.invariant-pages
 invariant-pages g l = record {
-  so_far : IsSoFar l.plan (resume_point l.after) l.total (option_copied l.envelope) l.so_far.lines l.so_far.end (option_map data_of l.so_far.last) (g.W.Sink.taken l.fn.out) (g.W.Sink.taken l.out);
+  so_far : IsSoFar l.plan (resume_point l.after) l.total (option_copied l.envelope) l.so_far.lines l.so_far.end l.live.at (g.W.Sink.taken l.fn.out) (g.W.Sink.taken l.out);
   sample : IfSome (resume_point l.after) (IsSampleOf l.plan);
+  question : l.live.question ≡ l.plan;
+  envelope : option_copied l.block.envelope ≡ option_copied l.envelope;
   failures : g.W.Sink.failures l.out ≡ g.W.Sink.failures l.fn.out;
 }
 
