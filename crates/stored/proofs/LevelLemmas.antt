@@ -20,6 +20,7 @@ use Rattle.jtree.specs.Internal.Rising.{Among, Rising, among_left, among_right, 
 use Rattle.stored.specs.Objects.Fault.{Test, F12, F13, number, are_alike, has_alike_before}
 use Rattle.stored.specs.Objects.AllFaults.{Failure}
 use Rattle.stored.specs.Internal.FailuresByLevel.{asks, own_tests, here, failing, own, Below, joined, value_parts, item_parts, members_from, first_at, at_field, whole, parts, field_parts, found}
+use Rattle.stored.proofs.AscendingLemmas.{less_from}
 use Rattle.stored.proofs.FieldLemmas.{field_after}
 use Rattle.stored.proofs.JoinedLemmas.{failure, Precedes, lookup, IsStepBefore, AreRising, Stands, stands, rising_joined}
 
@@ -108,13 +109,6 @@ rising_whole repeated N v bs r = rising_join Precedes (own repeated N v) (joined
 
 -- ---- members from a name on
 
-less : (k l : List ℕ) → is_lt (text_cmp k l) ≡ true → text_cmp k l ≡ Less
-less k l e = elim (ordering_cases (text_cmp k l)) [
-  | inl h ↦ h
-  | inr (inl h) ↦ let f = rw h at e in cc
-  | inr (inr h) ↦ let f = rw h at e in cc
-]
-
 -- neither before nor the same
 greater : (k l : List ℕ) → is_lt (text_cmp l k) ≡ false → bytes_eq k l ≡ false → text_cmp k l ≡ Less
 greater k l e f = elim (ordering_cases (text_cmp l k)) [
@@ -133,7 +127,7 @@ ordered_from k (member l d ms) m = elim (bool_cases (is_lt (text_cmp l k))) [
 first_is : (k : List ℕ) (ms : Members) → AreMembers ms → first_at k (members_from k ms) ≡ member_at k ms
 first_is k no_members m = refl
 first_is k (member l d ms) m = elim (bool_cases (is_lt (text_cmp l k))) [
-  | inl e ↦ let other = later_name k l (less l k e) in rw (e, other) (first_is k ms m.2)
+  | inl e ↦ let other = later_name k l (less_from (text_cmp l k) e) in rw (e, other) (first_is k ms m.2)
   | inr e ↦ rw e (elim (bool_cases (bytes_eq k l)) [
     | inl f ↦ rw f refl
     | inr f ↦ rw (f, before_none k ms (IsNameBefore-trans k l ms (greater k l e f) m.1) m.2) refl
@@ -143,7 +137,7 @@ first_is k (member l d ms) m = elim (bool_cases (is_lt (text_cmp l k))) [
 member_after : (k l : List ℕ) (ms : Members) → text_cmp k l ≡ Less → member_at l (members_from k ms) ≡ member_at l ms
 member_after k l no_members kl = refl
 member_after k l (member m d ms) kl = elim (bool_cases (is_lt (text_cmp m k))) [
-  | inl e ↦ let other = later_name l m (nat_list_cmp_total.trans m k l (less m k e) kl) in rw (e, other) (member_after k l ms kl)
+  | inl e ↦ let other = later_name l m (nat_list_cmp_total.trans m k l (less_from (text_cmp m k) e) kl) in rw (e, other) (member_after k l ms kl)
   | inr e ↦ rw e refl
 ]
 

@@ -22,6 +22,7 @@ pub mod JoinedLemmas
 pub mod LevelLemmas
 pub mod FaultLemmas
 pub mod FaultlessLemmas
+pub mod AscendingLemmas
 pub mod RepetitionLemmas
 pub mod FilledTest
 pub mod StoredLemmas

@@ -1,64 +1,35 @@
 -- Items that may not stand in one list have the same key.
-use Rattle.std.specs.Prelude.{◌≡◌, ◌+◌, ◌<◌, ℕ, zero, suc, List, [], ◌∷◌, ◌++◌, length, Bool, true, false, Option, Some, None, option_map, map, ◌&&◌, ◌||◌, cond, not}
-use Rattle.std.proofs.Common.{refl, sym, ap, subst, ◌∙◌, inl, inr, arith, get_or, below_more}
+use Rattle.std.specs.Prelude.{◌≡◌, ◌+◌, ◌<◌, ℕ, zero, suc, List, [], ◌∷◌, ◌++◌, length, Bool, true, false, Option, Some, None, option_map, ◌||◌, cond, not}
+use Rattle.std.proofs.Common.{refl, sym, ap, subst, ◌∙◌, arith, get_or, below_more}
 use Rattle.std.proofs.Math.ListN.{get_or-append}
 use Rattle.std.proofs.Math.Seq.{get_or-append_seam}
 use Rattle.std.proofs.lemmas.List.{length-append}
 use Rattle.std.specs.Borrow.{Bor}
 use Rattle.std.specs.BTreeSet.{BTreeSet, contains}
+use Rattle.std.specs.Cmp.Derive.Mapped.{lex_map}
 use Rattle.std.specs.Cmp.Lexicographic.{slice_cmp}
 use Rattle.std.specs.Ordering.{is_eq}
 use Rattle.std.specs.Option.{option_cmp}
-use Rattle.jtree.specs.Data.{Data, Items, no_items, item, Members}
-use Rattle.jtree.specs.Data as tree
+use Rattle.jtree.specs.Data.{Data, Items, no_items, item}
 use Rattle.jtree.specs.Order.{tree_cmp}
-use Rattle.jtree.specs.Path.{member_at, item_at}
+use Rattle.jtree.specs.Path.{item_at}
 use Rattle.jtree.specs.View.{data_of, items_of}
 use Rattle.jtree.specs.declared.value.Tree.{Tree}
-use Rattle.jtree.specs.Internal.Lookups.{ordering_cases}
 use Rattle.schema.specs.declared.node.ListType.{ListType}
-use Rattle.schema.specs.declared.node.ListType.TheVariants.{Atomic, Set, Map}
-use Rattle.stored.specs.Objects.Tests.{is_same}
-use Rattle.stored.specs.Objects.Fault.{agree, are_alike, any_before, has_alike_before}
-use Rattle.stored.specs.Internal.ItemKeys.{ItemKey, item_key, is_same_key, has_key, passes, CodeKey, key_of, key_cmp, HasKeys, AreSeen}
+use Rattle.stored.specs.Objects.Fault.{are_alike, any_before, has_alike_before}
+use Rattle.stored.specs.Internal.ItemKeys.{ItemKey, item_key, values_cmp, has_key, passes, CodeKey, key_of, key_cmp, HasKeys, AreSeen}
+use Rattle.stored.proofs.AscendingLemmas.{alike_by_key}
 
 -- ---- keys
 
-codes_same : (os ps : List (Option (Bor Tree)))
-    → is_eq (slice_cmp (option_cmp (λ t u. tree_cmp (data_of t.now) (data_of u.now))) os ps) ≡ is_same_key (map (option_map (λ t. data_of t.now)) os) (map (option_map (λ t. data_of t.now)) ps)
-codes_same [] [] = refl
-codes_same [] (p ∷ ps) = refl
-codes_same (o ∷ os) [] = refl
-codes_same (None ∷ os) (None ∷ ps) = codes_same os ps
-codes_same (None ∷ os) (Some u ∷ ps) = refl
-codes_same (Some t ∷ os) (None ∷ ps) = refl
-codes_same (Some t ∷ os) (Some u ∷ ps) = elim (ordering_cases (tree_cmp (data_of t.now) (data_of u.now))) [
-  | inl h ↦ rw h refl
-  | inr (inl h) ↦ rw h (codes_same os ps)
-  | inr (inr h) ↦ rw h refl
-]
+values_same : (o p : Option (Bor Tree)) → option_cmp tree_cmp (option_map (λ t. data_of t.now) o) (option_map (λ t. data_of t.now) p) ≡ option_cmp (λ t u. tree_cmp (data_of t.now) (data_of u.now)) o p
+values_same None None = refl
+values_same None (Some u) = refl
+values_same (Some t) None = refl
+values_same (Some t) (Some u) = refl
 
-pub same_codes : (k l : CodeKey) → is_eq (key_cmp k l) ≡ is_same_key (key_of k) (key_of l)
-same_codes k l = codes_same k.items l.items
-
-agree_by_key : (keys : List (List ℕ)) (ms ns : Members) → agree keys ms ns ≡ is_same_key (map (λ k. member_at k ms) keys) (map (λ k. member_at k ns) keys)
-agree_by_key [] ms ns = refl
-agree_by_key (k ∷ keys) ms ns = rw (agree_by_key keys ms ns) refl
-
-and_true : (b : Bool) → b ≡ (b && true)
-and_true true = refl
-and_true false = refl
-
-no_key : (o : Option ItemKey) → false ≡ passes (has_key None) o
-no_key None = refl
-no_key (Some k) = refl
-
-alike_by_key : (type : ListType) (keys : List (List ℕ)) (v w : Data) → are_alike type keys v w ≡ passes (has_key (item_key type keys v)) (item_key type keys w)
-alike_by_key Set keys v w = and_true (is_same v w)
-alike_by_key Map keys (tree.object ms) (tree.object ns) = agree_by_key keys ms ns
-alike_by_key Map keys (tree.object ms) _ = refl
-alike_by_key Map keys _ w = no_key (item_key Map keys w)
-alike_by_key Atomic keys v w = refl
+codes_same : (k l : CodeKey) → values_cmp (key_of k) (key_of l) ≡ key_cmp k l
+codes_same k l = lex_map (option_map (λ t. data_of t.now)) (option_cmp tree_cmp) k.items l.items ∙ ap (λ R. slice_cmp R k.items l.items) (λ i o p. values_same o p i)
 
 -- ---- items before an index
 
@@ -66,11 +37,6 @@ none_before : (i : ℕ) (ds : Items) → false ≡ any_before (λ d. false) i ds
 none_before i no_items = refl
 none_before zero (item d ds) = refl
 none_before (suc i) (item d ds) = none_before i ds
-
-same_before : (f g : Data → Bool) → ((d : Data) → f d ≡ g d) → (i : ℕ) (ds : Items) → any_before f i ds ≡ any_before g i ds
-same_before f g h i no_items = refl
-same_before f g h zero (item d ds) = refl
-same_before f g h (suc i) (item d ds) = rw (h d, same_before f g h i ds) refl
 
 or_more : (a b c : Bool) → a || (b || c) ≡ (b || (a || c))
 or_more true true c = refl
@@ -95,7 +61,7 @@ passing type keys i ds (Some k) = refl
 pub repeats_by_key : (type : ListType) (keys : List (List ℕ)) (i : ℕ) (ds : Items) (d : Data)
     → passes (λ k. any_before (λ e. has_key (item_key type keys e) k) i ds) (item_key type keys d) ≡ any_before (λ e. are_alike type keys e d) i ds
 repeats_by_key type keys i ds d = passing type keys i ds (item_key type keys d)
-    ∙ same_before (λ e. passes (has_key (item_key type keys e)) (item_key type keys d)) (λ e. are_alike type keys e d) (λ e. sym (alike_by_key type keys e d)) i ds
+    ∙ ap (λ f. any_before f i ds) (λ j e. sym (alike_by_key type keys e d) j)
 
 pub item_of : (xs : List Tree) (i : ℕ) (x : Tree) → i < length xs → x ≡ get_or xs i x → item_at i (items_of xs) ≡ Some (data_of x)
 item_of [] i x within e = absurd (omega arith)
@@ -118,7 +84,7 @@ seen_answer old key o r e own held has = subst (λ p. not r ≡ passes held p) o
 pub seen_added : (old new : BTreeSet CodeKey) (key : CodeKey) (o : Option ItemKey) → ((k : CodeKey) → contains key_cmp new k ≡ cond (is_eq (key_cmp key k)) true (contains key_cmp old k)) → Some (key_of key) ≡ o
     → (held : ItemKey → Bool) → HasKeys old held → HasKeys new (λ k. has_key o k || held k)
 seen_added old new key o updates own held has = subst (λ p. HasKeys new (λ k. has_key p k || held k)) own
-    (λ k. updates k ∙ (ap (λ b. cond b true (contains key_cmp old k)) (same_codes key k) ∙ (ap (cond (is_same_key (key_of key) (key_of k)) true) (has k) ∙ either (is_same_key (key_of key) (key_of k)) (held (key_of k)))))
+    (λ k. updates k ∙ (ap (λ o. cond (is_eq o) true (contains key_cmp old k)) (sym (codes_same key k)) ∙ (ap (cond (is_eq (values_cmp (key_of key) (key_of k))) true) (has k) ∙ either (is_eq (values_cmp (key_of key) (key_of k))) (held (key_of k)))))
 
 any_at_start : (f : Data → Bool) (ds : Items) → false ≡ any_before f zero ds
 any_at_start f no_items = refl

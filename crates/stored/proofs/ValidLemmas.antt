@@ -167,7 +167,7 @@ none_repeats alike (item d ds) zero e h is = refl
 none_repeats alike (item d ds) (suc i) e h is = let both = and_parts _ _ h in
     or_from _ _ (unlike alike d ds i e (not-true _ both.0) is) (none_repeats alike ds i e both.1 is)
 
-no_repeat : (alike : Data → Data → Bool) (ds : Items) (i : ℕ) → are_apart alike ds ≡ true → has_alike_before alike i ds (item_at i ds) ≡ false
+pub no_repeat : (alike : Data → Data → Bool) (ds : Items) (i : ℕ) → are_apart alike ds ≡ true → has_alike_before alike i ds (item_at i ds) ≡ false
 no_repeat alike ds i h = elim (option_cases (item_at i ds)) [
   | inl none ↦ rw none refl
   | inr e ↦ rw e.1 (none_repeats alike ds i e.0 h e.1)

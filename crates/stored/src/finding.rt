@@ -21,7 +21,7 @@ use std::alloc::{AllocError, Global};
 
 /// All faults of an object at a node, as it is (OpenAPI 3.0, Schema Object; apiextensions.k8s.io/v1, nullable and merge
 /// markers): each pair of a path and a number once, in path order and then by number. An error where an allocation fails.
-/// Work is linear in the object and the nodes, but for the items of a set or a map list, which are sorted.
+/// Work is linear in the object and the nodes, but for the items of a set or a map list that do not ascend, which are sorted.
 pub fn faults(alloc: Global, node: &Node, tree: &Tree) -> Result<Vec<Fault>, AllocError>
     ensures { IfOk result (λ found. AreFaults (node_of node.now) (data_of tree.now) found.items) }
 {

@@ -2,6 +2,7 @@
 #![tactic(auto)]
 
 mod accepting;
+mod ascending;
 mod by_parts;
 mod completing;
 mod defaults;

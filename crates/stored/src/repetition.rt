@@ -6,18 +6,31 @@ ghost use Rattle.jtree.specs.View.{data_of};
 ghost use Rattle.stored.specs.Objects.Fault.{are_alike, has_alike_before, items_count as items_count_of};
 ghost use Rattle.stored.specs.Internal.ItemKeys.{ItemKey, item_key, has_key, passes, key_of as view_of_key, HasKeys};
 
+use crate::ascending::are_ordered;
+use crate::validity::items_count;
 use jtree::{Items, Members, Text, Tree};
 use schema::{ListNode, ListType};
 use std::alloc::{AllocError, Global};
 use std::collections::BTreeSet;
 
-/// Of each item of a list whether it may not stand beside one before it. The items are sorted by what tells them apart, in
-/// memory for a key of each.
+/// Of each item of a list whether it may not stand beside one before it. Items that ascend are told apart in one pass; of
+/// others the keys are kept in a sorted set.
 pub(crate) fn repeats(
     alloc: Global,
     list: &ListNode,
     items: &Items,
 ) -> Result<Vec<bool>, AllocError>
+    ensures count { IfOk result (λ v. length v.items ≡ items_count_of items.now) }
+    ensures each { IfOk result (λ v. (i : ℕ) (b : Bool) → i < items_count_of items.now → get_or v.items i b ≡ has_alike_before (are_alike list.now.list_type list.now.keys.items) i items.now (item_at i items.now)) }
+{
+    if are_ordered(list, items) {
+        return vec![in alloc; false; items_count(items)];
+    }
+    repeats_by_keys(alloc, list, items)
+}
+
+/// The same where the items may stand in any order.
+fn repeats_by_keys(alloc: Global, list: &ListNode, items: &Items) -> Result<Vec<bool>, AllocError>
     ensures count { IfOk result (λ v. length v.items ≡ items_count_of items.now) }
     ensures each { IfOk result (λ v. (i : ℕ) (b : Bool) → i < items_count_of items.now → get_or v.items i b ≡ has_alike_before (are_alike list.now.list_type list.now.keys.items) i items.now (item_at i items.now)) }
 {

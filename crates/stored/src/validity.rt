@@ -10,13 +10,14 @@ ghost use Rattle.stored.specs.Objects.Fault.{agree as agree_of, agree_at as agre
 ghost use Rattle.stored.specs.Objects.StoredByParts.{are_apart as are_apart_of};
 ghost use Rattle.stored.specs.Internal.ValidByLevel.{true_if_any, is_valid as is_valid_of, is_within as is_within_of, has_required as has_required_of, are_fields_valid as are_fields_valid_of, are_values_valid as are_values_valid_of, are_items_valid as are_items_valid_of};
 
+use crate::ascending::are_ordered;
 use crate::tests::{accepts_scalar, holds, is_above, is_below, meets_junctors};
 use jtree::{Items, Member, Members, Text, Tree};
 use schema::{Bounds, Fields, ListNode, ListType, Node, Sort};
 
 /// Whether an object is valid at a node: no part of it has a fault (OpenAPI 3.0, Schema Object; apiextensions.k8s.io/v1,
 /// nullable and merge markers). It is judged as it is, and not completed first. It takes no memory. Work is linear in the
-/// object, but for the items of a set or a map list, which are compared in pairs.
+/// object, but for the items of a set or a map list that do not ascend, which are compared in pairs.
 pub fn valid(node: &Node, tree: &Tree) -> bool
     ensures { Decides result (IsValid (node_of node.now) (data_of tree.now)) }
 {
@@ -135,6 +136,13 @@ fn are_items_valid(node: &Node, items: &Items) -> bool
 
 /// Whether no two items may not stand in one list.
 fn are_apart(list: &ListNode, items: &Items) -> bool
+    ensures { result ≡ are_apart_of (are_alike_of list.now.list_type list.now.keys.items) items.now }
+{
+    are_ordered(list, items) || are_apart_in_pairs(list, items)
+}
+
+/// The same where the items may stand in any order.
+fn are_apart_in_pairs(list: &ListNode, items: &Items) -> bool
     ensures { result ≡ are_apart_of (are_alike_of list.now.list_type list.now.keys.items) items.now }
 {
     let mut rest = items.items.as_slice();

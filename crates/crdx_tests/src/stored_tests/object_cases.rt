@@ -69,8 +69,8 @@ static VALUES: [(&str, &str, &str, &str); 17] = [
     (
         "a set",
         r#"{"type":"array","items":{"type":"integer"},"x-kubernetes-list-type":"set"}"#,
-        "[[1,2],[]]",
-        r#"[[1,1],[2,1,2],["1"],[null],{},null]"#,
+        "[[1,2,3],[3,2,1],[]]",
+        r#"[[1,1],[1,2,2],[2,1,2],["1"],[null],{},null]"#,
     ),
     (
         "a set of integers and texts",
@@ -87,8 +87,8 @@ static VALUES: [(&str, &str, &str, &str); 17] = [
     (
         "a map list",
         r#"{"type":"array","x-kubernetes-list-type":"map","x-kubernetes-list-map-keys":["host","port"],"items":{"type":"object","required":["host","port"],"properties":{"host":{"type":"string"},"port":{"type":"integer"}}}}"#,
-        r#"[[{"host":"x","port":0},{"host":"x","port":1}],[]]"#,
-        r#"[[{"host":"x","port":0},{"host":"x","port":0}],[{"host":"x"}],[{"host":"x","port":0},{"host":"y"},1]]"#,
+        r#"[[{"host":"x","port":0},{"host":"x","port":1}],[{"host":"y","port":0},{"host":"x","port":0}],[]]"#,
+        r#"[[{"host":"x","port":0},{"host":"x","port":0}],[{"host":"y","port":0},{"host":"x","port":0},{"host":"y","port":0}],[{"host":"x"}],[{"host":"x","port":0},{"host":"y"},1]]"#,
     ),
     (
         "keys that are absent on both sides",
@@ -151,7 +151,7 @@ static STORED: [(&str, &str, &str, &str); 5] = [
 ];
 
 // A name, a schema, an object, its pruned form, its completed form, and its faults: a number and a pointer a line.
-static OBJECTS: [(&str, &str, &str, &str, &str, &str); 11] = [
+static OBJECTS: [(&str, &str, &str, &str, &str, &str); 12] = [
     (
         "a default below an object without one",
         r#"{"type":"object","properties":{"spec":{"type":"object","properties":{"f":{"type":"integer","default":7}}},"a":{"type":"integer","default":1}}}"#,
@@ -207,6 +207,14 @@ static OBJECTS: [(&str, &str, &str, &str, &str, &str); 11] = [
         r#"{"s":[8,null,8,null,"x",8]}"#,
         r#"{"s":[8,null,8,null,"x",8]}"#,
         "8 /s\n9 /s\n5 /s/0\n14 /s/0\n2 /s/1\n5 /s/2\n13 /s/2\n14 /s/2\n2 /s/3\n13 /s/3\n1 /s/4\n5 /s/5\n13 /s/5\n14 /s/5\n",
+    ),
+    (
+        "items that ascend, and items in any order",
+        r#"{"type":"object","properties":{"ascending":{"type":"array","x-kubernetes-list-type":"map","x-kubernetes-list-map-keys":["k","l"],"items":{"type":"object","required":["k","l"],"properties":{"k":{"type":"string"},"l":{"type":"integer"}}}},"descending":{"type":"array","x-kubernetes-list-type":"set","items":{"type":"integer"}},"far":{"type":"array","x-kubernetes-list-type":"set","items":{"type":"integer"}},"keyless":{"type":"array","x-kubernetes-list-type":"map","x-kubernetes-list-map-keys":["k","l"],"items":{"type":"object","required":["k","l"],"properties":{"k":{"type":"string"},"l":{"type":"integer"}}}},"near":{"type":"array","x-kubernetes-list-type":"set","items":{"type":"integer"}},"pairs":{"type":"array","x-kubernetes-list-type":"map","x-kubernetes-list-map-keys":["k","l"],"items":{"type":"object","required":["k","l"],"properties":{"k":{"type":"string"},"l":{"type":"integer"}}}}}}"#,
+        r#"{"ascending":[{"k":"a","l":1},{"k":"a","l":2},{"k":"b","l":1}],"descending":[3,2,1],"far":[2,1,2,3,1,2],"keyless":[{"k":"a","l":1},1,1,null,{"k":"b","l":1},{"k":"a","l":1}],"near":[1,2,2,3],"pairs":[{"k":"b","l":1},{"k":"a","l":2},{"k":"a","l":1},{"k":"a","l":2}]}"#,
+        r#"{"ascending":[{"k":"a","l":1},{"k":"a","l":2},{"k":"b","l":1}],"descending":[3,2,1],"far":[2,1,2,3,1,2],"keyless":[{"k":"a","l":1},1,1,null,{"k":"b","l":1},{"k":"a","l":1}],"near":[1,2,2,3],"pairs":[{"k":"b","l":1},{"k":"a","l":2},{"k":"a","l":1},{"k":"a","l":2}]}"#,
+        r#"{"ascending":[{"k":"a","l":1},{"k":"a","l":2},{"k":"b","l":1}],"descending":[3,2,1],"far":[2,1,2,3,1,2],"keyless":[{"k":"a","l":1},1,1,null,{"k":"b","l":1},{"k":"a","l":1}],"near":[1,2,2,3],"pairs":[{"k":"b","l":1},{"k":"a","l":2},{"k":"a","l":1},{"k":"a","l":2}]}"#,
+        "13 /far/2\n13 /far/4\n13 /far/5\n1 /keyless/1\n1 /keyless/2\n2 /keyless/3\n13 /keyless/5\n13 /near/2\n13 /pairs/3\n",
     ),
     (
         "names between fields, and names with a slash and a tilde",

@@ -1,21 +1,22 @@
--- For private contracts: what tells the items of a list apart, so that those that repeat another are found in a set of keys.
+-- For private contracts: what tells the items of a list apart, and the order by it, in which items that ascend are apart.
 use Rattle.std.specs.Prelude.{◌≡◌, ◌<◌, ℕ, List, [], ◌∷◌, Bool, true, false, Option, Some, None, option_map, map, length, ◌&&◌}
 use Rattle.std.proofs.Common.{get_or}
 use Rattle.std.specs.Borrow.{Bor}
 use Rattle.std.specs.BTreeSet.{BTreeSet, contains}
 use Rattle.std.specs.Cmp.Lexicographic.{slice_cmp}
 use Rattle.std.specs.Option.{option_cmp}
+use Rattle.std.specs.Ordering.{is_eq, is_lt}
 use Rattle.std.specs.Global.{Vec}
 use Rattle.std.specs.declared.cmp.Ordering.{Ordering}
-use Rattle.jtree.specs.Data.{Data, Items, Members}
+use Rattle.jtree.specs.Data.{Data, Items, no_items, item}
 use Rattle.jtree.specs.Data as tree
 use Rattle.jtree.specs.Order.{tree_cmp}
 use Rattle.jtree.specs.Path.{member_at, item_at}
 use Rattle.jtree.specs.View.{data_of}
 use Rattle.jtree.specs.declared.value.Tree.{Tree}
 use Rattle.schema.specs.declared.node.ListType.{ListType}
-use Rattle.schema.specs.declared.node.ListType.TheVariants.{Set, Map}
-use Rattle.stored.specs.Objects.Fault.{agree_at, are_alike, any_before, has_alike_before}
+use Rattle.schema.specs.declared.node.ListType.TheVariants.{Atomic, Set, Map}
+use Rattle.stored.specs.Objects.Fault.{are_alike, any_before, has_alike_before}
 
 -- in a set the item itself, in a map list the values of an object under the keys
 abbrev pub ItemKey : Type 0
@@ -26,19 +27,38 @@ item_key Set keys v = Some (Some v ∷ [])
 item_key Map keys (tree.object ms) = Some (map (λ k. member_at k ms) keys)
 item_key _ _ _ = None
 
-abbrev pub is_same_key : ItemKey → ItemKey → Bool
-is_same_key [] [] = true
-is_same_key (o ∷ os) (p ∷ ps) = agree_at o p && is_same_key os ps
-is_same_key _ _ = false
+-- the values one after the other, one that is absent before all others
+abbrev pub values_cmp : ItemKey → ItemKey → Ordering
+values_cmp k l = slice_cmp (option_cmp tree_cmp) k l
+
+-- an item without a key comes first
+abbrev pub item_cmp : ListType → List (List ℕ) → Data → Data → Ordering
+item_cmp type keys v w = option_cmp values_cmp (item_key type keys v) (item_key type keys w)
 
 abbrev pub has_key : Option ItemKey → ItemKey → Bool
 has_key None k = false
-has_key (Some l) k = is_same_key l k
+has_key (Some l) k = is_eq (values_cmp l k)
 
 -- the key of an item, if it has one, passes a test
 abbrev pub passes : (ItemKey → Bool) → Option ItemKey → Bool
 passes test None = false
 passes test (Some k) = test k
+
+-- ---- items that ascend
+
+abbrev pub is_before_first : (Data → Data → Ordering) → Data → Items → Bool
+is_before_first cmp d no_items = true
+is_before_first cmp d (item e es) = is_lt (cmp d e)
+
+-- each item comes before the next one
+abbrev pub ascend : (Data → Data → Ordering) → Items → Bool
+ascend cmp no_items = true
+ascend cmp (item d ds) = is_before_first cmp d ds && ascend cmp ds
+
+-- one pass shows that no item repeats another
+abbrev pub are_ordered : ListType → List (List ℕ) → Items → Bool
+are_ordered Atomic keys ds = true
+are_ordered type keys ds = ascend (item_cmp type keys) ds
 
 -- ---- in the code
 

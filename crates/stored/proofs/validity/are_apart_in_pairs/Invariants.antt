@@ -2,7 +2,7 @@ use Rattle.std.proofs.Common.{◌≡◌, length}
 use Rattle.jtree.specs.View.{items_of}
 use Rattle.stored.specs.Objects.Fault.{are_alike}
 use Rattle.stored.specs.Objects.StoredByParts.{are_apart}
-use Rattle.stored.proofs.validity.are_apart.Given as goal
+use Rattle.stored.proofs.validity.are_apart_in_pairs.Given as goal
 
 -- all items are apart exactly where those that are left are
 abbrev pub invariant-loop-rest : goal.invariant-loop-rest

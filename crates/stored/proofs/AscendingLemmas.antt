@@ -1,0 +1,99 @@
+-- Items that are alike tie in the order of what tells items apart, so items that ascend are apart.
+use Rattle.std.specs.Prelude.{◌≡◌, ℕ, List, [], ◌∷◌, map, true, false, Option, Some, None, not, ◌&&◌}
+use Rattle.std.proofs.Common.{refl, sym, ap, ◌∙◌}
+use Rattle.std.specs.Cmp.{IsTotalOrder, on_total}
+use Rattle.std.specs.Cmp.Lexicographic.{lists_total, options_total}
+use Rattle.std.specs.Option.{option_cmp}
+use Rattle.std.specs.Ordering.{is_eq, is_lt, ordering_then}
+use Rattle.std.specs.declared.cmp.Ordering.{Ordering}
+use Rattle.std.specs.declared.cmp.Ordering.TheVariants.{Less, Equal, Greater}
+use Rattle.std.proofs.Math.Bool.{and-true}
+use Rattle.std.proofs.lemmas.Bool.{and_parts, and_from, or_from}
+use Rattle.jtree.specs.Data.{Data, Items, no_items, item, Members}
+use Rattle.jtree.specs.Data as tree
+use Rattle.jtree.specs.Order.{tree_cmp}
+use Rattle.jtree.specs.Path.{member_at}
+use Rattle.jtree.specs.Internal.OrderLaws.{tree_total}
+use Rattle.schema.specs.Rules.Keywords.{any_item}
+use Rattle.schema.specs.declared.node.ListType.{ListType}
+use Rattle.schema.specs.declared.node.ListType.TheVariants.{Atomic, Set, Map}
+use Rattle.stored.specs.Objects.Tests.{is_same}
+use Rattle.stored.specs.Objects.Fault.{agree_at, agree, are_alike}
+use Rattle.stored.specs.Objects.StoredByParts.{are_apart}
+use Rattle.stored.specs.Internal.ItemKeys.{ItemKey, item_key, values_cmp, item_cmp, has_key, passes, is_before_first, ascend, are_ordered}
+
+-- ---- items that are alike
+
+item_total : (type : ListType) (keys : List (List ℕ)) → IsTotalOrder (item_cmp type keys)
+item_total type keys = on_total (item_key type keys) (options_total (lists_total (options_total tree_total)))
+
+both_equal : (a b : Ordering) → (is_eq a && is_eq b) ≡ is_eq (ordering_then a b)
+both_equal Less b = refl
+both_equal Equal b = refl
+both_equal Greater b = refl
+
+values_agree : (o p : Option Data) (b : Ordering) → (agree_at o p && is_eq b) ≡ is_eq (ordering_then (option_cmp tree_cmp o p) b)
+values_agree None None b = refl
+values_agree None (Some w) b = refl
+values_agree (Some v) None b = refl
+values_agree (Some v) (Some w) b = both_equal (tree_cmp v w) b
+
+agree_by_key : (keys : List (List ℕ)) (ms ns : Members) → agree keys ms ns ≡ is_eq (values_cmp (map (λ k. member_at k ms) keys) (map (λ k. member_at k ns) keys))
+agree_by_key [] ms ns = refl
+agree_by_key (k ∷ keys) ms ns = ap (λ b. agree_at (member_at k ms) (member_at k ns) && b) (agree_by_key keys ms ns)
+    ∙ values_agree (member_at k ms) (member_at k ns) (values_cmp (map (λ k. member_at k ms) keys) (map (λ k. member_at k ns) keys))
+
+no_key : (o : Option ItemKey) → false ≡ passes (has_key None) o
+no_key None = refl
+no_key (Some k) = refl
+
+-- two items are alike where they have the same key
+pub alike_by_key : (type : ListType) (keys : List (List ℕ)) (v w : Data) → are_alike type keys v w ≡ passes (has_key (item_key type keys v)) (item_key type keys w)
+alike_by_key Set keys v w = sym (and-true (is_same v w)) ∙ both_equal (tree_cmp v w) Equal
+alike_by_key Map keys (tree.object ms) (tree.object ns) = agree_by_key keys ms ns
+alike_by_key Map keys (tree.object ms) _ = refl
+alike_by_key Map keys _ w = no_key (item_key Map keys w)
+alike_by_key Atomic keys v w = refl
+
+less_other : (o p : Option ItemKey) → option_cmp values_cmp o p ≡ Less → passes (has_key o) p ≡ false
+less_other None p h = sym (no_key p)
+less_other (Some k) None h = refl
+less_other (Some k) (Some l) h = ap is_eq h
+
+less_unlike : (type : ListType) (keys : List (List ℕ)) (v w : Data) → item_cmp type keys v w ≡ Less → are_alike type keys v w ≡ false
+less_unlike type keys v w h = alike_by_key type keys v w ∙ less_other (item_key type keys v) (item_key type keys w) h
+
+-- ---- items that ascend
+
+pub less_from : (o : Ordering) → is_lt o ≡ true → o ≡ Less
+less_from Less h = refl
+less_from Equal h = cc
+less_from Greater h = cc
+
+before_next : (type : ListType) (keys : List (List ℕ)) (d e : Data) (es : Items) → item_cmp type keys d e ≡ Less → is_before_first (item_cmp type keys) e es ≡ true → is_before_first (item_cmp type keys) d es ≡ true
+before_next type keys d e no_items before h = refl
+before_next type keys d e (item f fs) before h = ap is_lt ((item_total type keys).trans d e f before (less_from (item_cmp type keys e f) h))
+
+before_all : (type : ListType) (keys : List (List ℕ)) (d : Data) (ds : Items) → is_before_first (item_cmp type keys) d ds ≡ true → ascend (item_cmp type keys) ds ≡ true → any_item (are_alike type keys d) ds ≡ false
+before_all type keys d no_items before h = refl
+before_all type keys d (item e es) before h =
+    let both = and_parts _ _ h in
+    let less = less_from (item_cmp type keys d e) before in
+    or_from _ _ (less_unlike type keys d e less) (before_all type keys d es (before_next type keys d e es less both.0) both.1)
+
+ascend_apart : (type : ListType) (keys : List (List ℕ)) (ds : Items) → ascend (item_cmp type keys) ds ≡ true → are_apart (are_alike type keys) ds ≡ true
+ascend_apart type keys no_items h = refl
+ascend_apart type keys (item d ds) h = let both = and_parts _ _ h in and_from _ _ (ap not (before_all type keys d ds both.0 both.1)) (ascend_apart type keys ds both.1)
+
+none_alike : (keys : List (List ℕ)) (d : Data) (ds : Items) → any_item (are_alike Atomic keys d) ds ≡ false
+none_alike keys d no_items = refl
+none_alike keys d (item e es) = none_alike keys d es
+
+all_apart : (keys : List (List ℕ)) (ds : Items) → are_apart (are_alike Atomic keys) ds ≡ true
+all_apart keys no_items = refl
+all_apart keys (item d ds) = and_from _ _ (ap not (none_alike keys d ds)) (all_apart keys ds)
+
+pub ordered_apart : (type : ListType) (keys : List (List ℕ)) (ds : Items) → are_ordered type keys ds ≡ true → are_apart (are_alike type keys) ds ≡ true
+ordered_apart Atomic keys ds h = all_apart keys ds
+ordered_apart Set keys ds h = ascend_apart Set keys ds h
+ordered_apart Map keys ds h = ascend_apart Map keys ds h

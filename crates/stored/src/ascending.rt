@@ -1,0 +1,76 @@
+//! The order of the items of a list by what tells them apart.
+ghost use Rattle.std.specs.Prelude.{◌≡◌, map};
+ghost use Rattle.std.specs.Cmp.Lexicographic.{slice_cmp};
+ghost use Rattle.std.specs.Option.{option_cmp};
+ghost use Rattle.jtree.specs.Order.{tree_cmp};
+ghost use Rattle.jtree.specs.Path.{member_at};
+ghost use Rattle.jtree.specs.View.{data_of, items_of};
+ghost use Rattle.stored.specs.Internal.ItemKeys.{item_cmp, is_before_first as is_before_first_of, ascend as ascend_of, are_ordered as are_ordered_of};
+
+use jtree::{Items, Members, Text, Tree};
+use schema::{ListNode, ListType};
+use std::cmp::Ordering;
+
+/// Whether one pass, without memory, shows that no item repeats another. It does where the items of a set or a map list ascend;
+/// in an atomic list no item ever repeats another.
+pub(crate) fn are_ordered(list: &ListNode, items: &Items) -> bool
+    ensures { result ≡ are_ordered_of list.now.list_type list.now.keys.items items.now }
+{
+    match list.list_type {
+        ListType::Atomic => true,
+        ListType::Set | ListType::Map => ascend(list, items),
+    }
+}
+
+/// Whether each item comes before the next one.
+fn ascend(list: &ListNode, items: &Items) -> bool
+    ensures { result ≡ ascend_of (item_cmp list.now.list_type list.now.keys.items) items.now }
+{
+    let mut rest = items.items.as_slice();
+    while let [item, later @ ..] = rest {
+        if !is_before_first(list, item, later) {
+            return false;
+        }
+        rest = later;
+    }
+    true
+}
+
+/// Whether an item comes before the first of those that follow, if there is one.
+fn is_before_first(list: &ListNode, item: &Tree, later: &[Tree]) -> bool
+    ensures { result ≡ is_before_first_of (item_cmp list.now.list_type list.now.keys.items) (data_of item.now) (items_of later.now) }
+{
+    match later.first() {
+        Some(next) => compare_items(list, item, next).is_lt(),
+        None => true,
+    }
+}
+
+/// Two items in the order of what tells them apart: in a set the items themselves, in a map list the values under the keys,
+/// after all items that are no objects.
+fn compare_items(list: &ListNode, item: &Tree, other: &Tree) -> Ordering
+    ensures { result ≡ item_cmp list.now.list_type list.now.keys.items (data_of item.now) (data_of other.now) }
+{
+    match (list.list_type, item, other) {
+        (ListType::Set, _, _) => item.cmp(other),
+        (ListType::Map, Tree::Object(members), Tree::Object(others)) => {
+            compare_values(&list.keys, members, others)
+        }
+        (ListType::Map, Tree::Object(_), _) => Ordering::Greater,
+        (ListType::Map, _, Tree::Object(_)) => Ordering::Less,
+        _ => Ordering::Equal,
+    }
+}
+
+/// The values of two objects under the keys, one key after the other, where an absent value comes first.
+fn compare_values(keys: &[Text], members: &Members, others: &Members) -> Ordering
+    ensures { result ≡ slice_cmp (option_cmp tree_cmp) (map (λ k. member_at k members.now) keys.now) (map (λ k. member_at k others.now) keys.now) }
+{
+    for key in keys {
+        let order = members.get(key.as_str()).cmp(&others.get(key.as_str()));
+        if order.is_ne() {
+            return order;
+        }
+    }
+    Ordering::Equal
+}
