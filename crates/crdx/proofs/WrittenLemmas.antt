@@ -1,16 +1,19 @@
 -- Lines in blocks, and what is out of them where a sink stops.
-use Rattle.std.proofs.Common.{◌≡◌, ℕ, zero, suc, ◌+◌, ◌-◌, ◌<◌, ◌≤◌, List, [], ◌∷◌, ◌++◌, length, take, drop, get_or, Option, Some, refl, sym, ap, ◌∙◌, subst, inl, inr, arith, length-append, drop-cons, length-take, length-drop, add-one, Ok, append_assoc, append-nil}
-use Rattle.std.specs.Prelude.{slice_get}
+use Rattle.std.proofs.Common.{◌≡◌, ℕ, zero, suc, ◌+◌, ◌-◌, ◌<◌, ◌≤◌, Bool, true, false, List, [], ◌∷◌, ◌++◌, length, take, drop, get_or, Option, Some, None, refl, sym, ap, ◌∙◌, subst, inl, inr, arith, length-append, drop-cons, length-take, length-drop, add-one, Ok, append_assoc, append-nil}
+use Rattle.std.specs.Prelude.{slice_get, is_some}
 use Rattle.std.specs.Io.KnownBytes.{Appends}
 use Rattle.std.proofs.KnownBytes.{Appends-trans}
 use Rattle.std.proofs.Math.Seq.{take-append-add, take-add}
 use Rattle.std.proofs.lemmas.Bool.{cases_lt}
 use Rattle.std.proofs.lemmas.Bool.Decides.{nat_tests}
 use Rattle.std.proofs.lemmas.Grind.{flat_map-append}
-use Rattle.std.proofs.lemmas.List.{take_more, take_all, take-append-drop, take_rest, take-append-le, get_or_append_left, get_or-append-add}
+use Rattle.std.proofs.lemmas.List.{same_from_push, take_more, take_all, take-append-drop, take_rest, take-append-le, get_or_append_left, get_or-append-add}
 use Rattle.std.proofs.lemmas.Option.{slice_get_cases, slice_get-get_or, get_or_from_slice_get}
 use Rattle.jtree.specs.Data.{Data}
-use Rattle.crdx.specs.Output.Line.{line, lines}
+use Rattle.crdx.specs.Output.Line.{newline, line, lines}
+use Rattle.jtree.specs.Text.{compact}
+use Rattle.std.specs.Borrow.{Bor}
+use Rattle.std.specs.Option.{option_copied}
 use Rattle.crdx.specs.Output.Sink.{failures_after}
 use Rattle.crdx.specs.Output.PartialOutput.{IsCutWithinLine}
 use Rattle.crdx.specs.Internal.Block.{HasEnds, Holds, TakesLines, IsCountOfEnds}
@@ -87,17 +90,29 @@ module _ (e : Option Envelope) where
       ]
 
   -- the lines of one item more
-  pub takes_more : (e_then e_now : Option Envelope) (items : List Data) (v : Data) (bytes ends mid_bytes mid_ends new_bytes new_ends : List ℕ) (n : ℕ) → e_now ≡ e_then
-      → TakesLines e e_then items bytes ends mid_bytes mid_ends → new_bytes ≡ mid_bytes ++ line e_then v → new_ends ≡ mid_ends ++ n ∷ [] → n ≡ length new_bytes
-      → TakesLines e e_now (items ++ v ∷ []) bytes ends new_bytes new_ends
-  takes_more e_then e_now items v bytes ends mid_bytes mid_ends new_bytes new_ends n stays t more ended is = record {
+  pub takes_more : (e_then e_now : Option Envelope) (items : List Data) (v : Data) (bytes ends mid_bytes mid_ends new_bytes new_ends : List ℕ) (n : ℕ) (known_then known : Bool) (line_then l : List ℕ) → e_now ≡ e_then
+      → TakesLines e e_then items bytes ends mid_bytes mid_ends known_then line_then → l ≡ line e_then v → new_bytes ≡ mid_bytes ++ l → new_ends ≡ mid_ends ++ n ∷ [] → n ≡ length new_bytes
+      → TakesLines e e_now (items ++ v ∷ []) bytes ends new_bytes new_ends known l
+  takes_more e_then e_now items v bytes ends mid_bytes mid_ends new_bytes new_ends n known_then known line_then l stays t is_line more ended is =
+      let mine : l ≡ line e v = is_line ∙ ap (λ f. line f v) t.same in
+      record {
+        same = stays ∙ t.same;
+        holds = λ before h.
+            let held = t.holds before h in
+            let joined = append_assoc before items (v ∷ []) in
+            let written : new_bytes ≡ lines e ((before ++ items) ++ v ∷ []) = more ∙ (ap (λ m. m ++ l) held.written ∙ (ap (λ m. lines e (before ++ items) ++ m) mine ∙ sym (lines_more (before ++ items) v))) in
+            let there = ends_more (before ++ items) v mid_ends n held.ended (is ∙ ap (λ m. length m) written) in
+            subst (λ us. Holds e us new_bytes new_ends) joined (record { written = written; ended = subst (HasEnds e ((before ++ items) ++ v ∷ [])) (sym ended) there });
+        last = λ yes front u same. mine ∙ ap (line e) (same_from_push items front v u same).1;
+      }
+
+  -- nothing more, where the last line is not known
+  pub takes_same : (e_then e_now : Option Envelope) (items : List Data) (bytes ends mid_bytes mid_ends new_bytes new_ends : List ℕ) (known_then known : Bool) (line_then l : List ℕ) → e_now ≡ e_then → new_bytes ≡ mid_bytes → new_ends ≡ mid_ends → known ≡ false
+      → TakesLines e e_then items bytes ends mid_bytes mid_ends known_then line_then → TakesLines e e_now items bytes ends new_bytes new_ends known l
+  takes_same e_then e_now items bytes ends mid_bytes mid_ends new_bytes new_ends known_then known line_then l stays same_bytes same_ends unknown t = record {
     same = stays ∙ t.same;
-    holds = λ before h.
-        let held = t.holds before h in
-        let joined = append_assoc before items (v ∷ []) in
-        let written : new_bytes ≡ lines e ((before ++ items) ++ v ∷ []) = more ∙ (ap (λ l. l ++ line e_then v) held.written ∙ (ap (λ f. lines e (before ++ items) ++ line f v) t.same ∙ sym (lines_more (before ++ items) v))) in
-        let there = ends_more (before ++ items) v mid_ends n held.ended (is ∙ ap (λ l. length l) written) in
-        subst (λ us. Holds e us new_bytes new_ends) joined (record { written = written; ended = subst (HasEnds e ((before ++ items) ++ v ∷ [])) (sym ended) there });
+    holds = λ before h. subst (λ m. Holds e (before ++ items) m new_ends) (sym same_bytes) (subst (Holds e (before ++ items) mid_bytes) (sym same_ends) (t.holds before h));
+    last = λ yes. absurd (let no : true ≡ false = sym yes ∙ unknown in cc);
   }
 
   -- lines in front of some more, of which the first ones are taken
@@ -136,3 +151,16 @@ module _ (bytes : List ℕ) (at n : ℕ) where
   put_more old mid new before after =
       subst (Appends old new) (sym (take-add at n bytes)) (Appends-trans old mid new (take at bytes) (take n (drop at bytes)) before
       (subst (λ l. Appends mid new (take n l)) (take_rest bytes at) after))
+
+-- ---- a line that is overwritten
+
+pub none_copied : {X : Type 0} (o : Option (Bor X)) → is_some o ≡ false → option_copied o ≡ None
+none_copied None none = refl
+none_copied (Some x) none = cc
+
+-- without an envelope: what stands before the newline is overwritten, and the newline is put back
+pub overwritten : (e : Option Envelope) (v w : Data) (old text new_text new : List ℕ) (x : ℕ) → e ≡ None → old ≡ line e w → old ≡ text ++ x ∷ [] → ((front : List ℕ) → text ≡ front ++ compact w → new_text ≡ front ++ compact v) → new ≡ new_text ++ newline ∷ []
+    → new ≡ line e v
+overwritten e v w old text new_text new x plain is popped overwrites pushed =
+    let before : text ≡ compact w = (same_from_push text (compact w) x newline (sym popped ∙ (is ∙ ap (λ f. line f w) plain))).0 in
+    pushed ∙ (ap (λ t. t ++ newline ∷ []) (overwrites [] before) ∙ ap (λ f. line f v) (sym plain))

@@ -92,6 +92,23 @@ module _ (q : Question) (i : ℕ) where
         let k = index_of count.candidates count.are u c in
         none count.candidates count.are k.0 u (omega (arith, k.1, count.count_is)) k.2 c
 
+    -- none before a place is past the candidate that stands there
+    pub none_past : (place : ℕ) (v : Data) → IsCandidateAt q.pools (site q i) place (Some v) → ((u : Data) → C u → tree_cmp v u ≡ Less) → NoneBefore (place + 1)
+    none_past place v handed past vs are j u below at c =
+        let same : handed.candidates ≡ vs = candidates_same handed.candidates vs handed.are are in
+        let here : slice_get vs place ≡ Some v = ap (λ xs. slice_get xs place) (sym same) ∙ sym handed.is in
+        elim (cases_lt j place) [
+          | inl lt ↦
+              let pair = are.ascending j place u lt (slice_get_within vs place v here) in
+              let first = get_or_from_slice_get vs j u u at in
+              let later = get_or_from_slice_get vs place v u here in
+              tree_order.turned v u (past u c) (subst (λ x. tree_cmp u x ≡ Less) later (subst (λ x. tree_cmp x (get_or vs place u) ≡ Less) first pair))
+          | inr ge ↦
+              let there : j ≡ place = omega arith in
+              let both : Some u ≡ Some v = sym at ∙ (ap (slice_get vs) there ∙ here) in
+              not_itself tree_cmp tree_order v u (cc) (past u c)
+        ]
+
     pub least_at : (place : ℕ) (v : Data) → IsCandidateAt q.pools (site q i) place (Some v) → NoneBefore place → C v → IsLeast tree_cmp C v
     least_at place v handed none c = record {
       is = c;

@@ -23,3 +23,5 @@ pub mod RootLemmas
 pub mod PageLemmas
 pub mod PageLaws
 pub mod LiveLemmas
+pub mod FollowingLemmas
+pub mod StandingLemmas

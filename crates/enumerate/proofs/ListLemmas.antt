@@ -23,6 +23,7 @@ use Rattle.plan.specs.Samples.NoDeadEnd.{NoDeadEnd, items_then}
 use Rattle.plan.specs.Samples.Question.{Question}
 use Rattle.enumerate.specs.Least.{IsLeast, IsNext}
 use Rattle.enumerate.specs.Internal.Nodes.{HasSizeAt, site, IsNodeOf, IsSplit}
+use Rattle.enumerate.specs.Internal.Following.{ItemsContinue, GrownItemsContinue}
 use Rattle.enumerate.specs.Internal.Lists.{AreItems, AreFirst, CanFollow, IsFreshItem, AddsItems, FitsItem, GrowsItems, AreGrown}
 use Rattle.enumerate.specs.declared.moved.Step.{Step}
 use Rattle.enumerate.specs.declared.moved.Step.TheVariants.{Moved, Last}
@@ -354,6 +355,13 @@ module _ (q : Question) (i c : ℕ) (rule : RuleOfParts q.pools q.limit (site q 
   pub adds_grown : (step : Step) (m : ℕ) (old new : List Tree) → 1 ≤ m → m ≤ most_nodes → CanFollow q i c m (items_of old) → AreGrown step q i c m 0 old new → AddsItems q i m old new
   adds_grown Moved m old new some top h g = adds_item m old new some top h g
   adds_grown (Last n) m old new some top h g =
+      let ds = some_items q i c rule ends h.first.item (items_of old) m h.within h.first h.more in
+      absurd (fits_first m old some h ds.0 ds.1 g.1)
+
+  -- some item fits, so that items were put there
+  pub grown_items_continue : (step : Step) (m : ℕ) (old new : List Tree) (cs : List Data) → 1 ≤ m → m ≤ most_nodes → CanFollow q i c m (items_of old) → AreGrown step q i c m 0 old new → GrownItemsContinue step q i c (items_of new) cs → ItemsContinue q i c (items_of new) cs
+  grown_items_continue Moved m old new cs some top h g continue = continue
+  grown_items_continue (Last n) m old new cs some top h g continue =
       let ds = some_items q i c rule ends h.first.item (items_of old) m h.within h.first h.more in
       absurd (fits_first m old some h ds.0 ds.1 g.1)
 

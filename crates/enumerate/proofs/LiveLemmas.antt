@@ -1,28 +1,25 @@
 -- What an enumeration that moved stands at, and how many steps it took.
-use Rattle.std.proofs.Common.{◌≡◌, ◌*◌, ℕ, Bool, Option, Some, None, refl, sym, ap, ◌∙◌, subst, arith}
-use Rattle.std.specs.Prelude.{is_some}
+use Rattle.std.proofs.Common.{◌≡◌, ◌*◌, ℕ, Bool, Option, Some, sym, ap, ◌∙◌, subst}
+use Rattle.std.specs.Prelude.{is_some, option_map}
+use Rattle.jtree.specs.Data.{Data}
 use Rattle.jtree.specs.View.{data_of}
-use Rattle.jtree.specs.declared.value.Tree.{Tree}
 use Rattle.plan.specs.Samples.Question.{Question}
 use Rattle.enumerate.specs.Live.{Enumeration, IsNextSample, IsAdvanced, IsWithinDelay}
-use Rattle.enumerate.specs.View.{tree_of}
+use Rattle.enumerate.specs.declared.standing.Standing.{Standing}
 use Rattle.enumerate.specs.Internal.Nodes.{Costs}
+use Rattle.enumerate.proofs.StandingLemmas.{step_within}
 
-still_there : (tree : Option Tree) → is_some tree ≡ is_some (tree_of tree)
-still_there None = refl
-still_there (Some t) = refl
+abbrev pub enumeration : Question → Option Standing → Enumeration
+enumeration q standing = record { question = q; at = option_map (λ (s : Standing). data_of s.tree) standing }
 
-abbrev pub standing : Question → Option Tree → Enumeration
-standing q tree = record { question = q; at = tree_of tree }
+module _ (old : Enumeration) (q : Question) (standing : Option Standing) (is : enumeration q standing ≡ old) where
+  pub advanced : (s : Standing) (next : Option Data) (more : Bool) → standing ≡ Some s → IsNextSample q (Some (data_of s.tree)) next → more ≡ is_some next → IsAdvanced old (record { question = q; at = next }) more
+  advanced s next more stood moved there = record {
+    last = data_of s.tree;
+    stood = sym (ap (λ e. e.at) is) ∙ ap (option_map (λ (s : Standing). data_of s.tree)) stood;
+    next = subst (λ (e : Enumeration). IsNextSample e.question (Some (data_of s.tree)) next) is moved;
+    more_is = there;
+  }
 
-pub advanced : (old : Enumeration) (q : Question) (tree next : Option Tree) (t : Tree) (more : Bool) → standing q tree ≡ old → tree ≡ Some t
-    → IsNextSample q (Some (data_of t)) (tree_of next) → more ≡ is_some next → IsAdvanced old (standing q next) more
-advanced old q tree next t more is stood moved there = record {
-  last = data_of t;
-  stood = sym (ap (λ e. e.at) is) ∙ ap tree_of stood;
-  next = subst (λ e. IsNextSample e.question (Some (data_of t)) (tree_of next)) is moved;
-  more_is = there ∙ still_there next;
-}
-
-pub within_delay : (old : Enumeration) (q : Question) (tree : Option Tree) (before after : ℕ) → standing q tree ≡ old → Costs q before after (2 * q.limit) → IsWithinDelay old.question before after
-within_delay old q tree before after is costs = subst (λ e. IsWithinDelay e.question before after) is (λ w wide. omega (arith, costs w wide))
+  pub within_delay : (before after : ℕ) → Costs q before after (2 * q.limit) → IsWithinDelay old.question before after
+  within_delay before after costs = subst (λ (e : Enumeration). IsWithinDelay e.question before after) is (step_within q before after costs)

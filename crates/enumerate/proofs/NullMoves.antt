@@ -45,11 +45,14 @@ module _ (q : Question) (i : ℕ) (rule : RuleOfParts q.pools q.limit (site q i)
   row_past n u p other = row_unless_null q i rule is_row n u p (λ is nullable. other is)
 
   -- the next row is the next part, where the old one is not null
-  pub row_moved : (old : Data) (m : Moved) → IsMoved (IsRow q i (node_count old - 1) []) old m → IsMoved (IsPartOf q i (node_count old)) old m
-  row_moved old (To t) h = record {
-    is = (row_plain q i rule is_row (node_count old) (data_of t) (some_nodes old) h.is.0, h.is.1);
+  pub row_next_part : (old new : Data) → IsNext tree_cmp (IsRow q i (node_count old - 1) []) old (Some new) → IsNext tree_cmp (IsPartOf q i (node_count old)) old (Some new)
+  row_next_part old new h = record {
+    is = (row_plain q i rule is_row (node_count old) new (some_nodes old) h.is.0, h.is.1);
     least = λ u p less. h.least u (row_past (node_count old) u p.0 (never_null old u p.0.nodes_are p.1), p.1) less;
   }
+
+  pub row_moved : (old : Data) (m : Moved) → IsMoved (IsRow q i (node_count old - 1) []) old m → IsMoved (IsPartOf q i (node_count old)) old m
+  row_moved old (To t) h = row_next_part old (data_of t) h
   row_moved old (Last n) h = ((λ u p less. h.0 u (row_past (node_count old) u p (never_null old u p.nodes_are less)) less), h.1)
 
   empty_is : (u : Data) → IsRow q i 0 [] u → u ≡ object no_members

@@ -13,7 +13,7 @@ use Rattle.enumerate.specs.Limit.{at_limit, IsLastSample}
 use Rattle.enumerate.specs.Page.{Precedes, IsPastSample, IsSampleOf, IsPage}
 use Rattle.enumerate.proofs.LeastLemmas.{by_nodes, tree_order, tree_turned, not_itself}
 use Rattle.enumerate.specs.Live.{IsNextSample, LendsPart}
-use Rattle.enumerate.proofs.PageLemmas.{IsListed, IsSoFar, IsLent, one_listed}
+use Rattle.enumerate.proofs.PageLemmas.{IsListed, IsLent, one_listed}
 
 -- the first ones of what meets C, in order, `count` of them or all
 record IsFront (C : Data → Type 0) (count : ℕ) (xs : List Data) : Type 0 where
@@ -141,15 +141,13 @@ lends_part q first at count lent old new keeps l after h = record {
 }
 
 -- and so it is with the sample at which the enumeration stood, from which it did not move on
-pub lends_part_with : (q : Question) (first at : Option Data) (count lent : ℕ) (old new : List Data → Type 0) (v : Data) → at ≡ Some v → ((ds : List Data) → old ds → new (ds ++ v ∷ [])) → lent < count
-    → IsLent q first count lent old at → (after : Option Data) → IsNextSample q after first → LendsPart q after count new
-lends_part_with q first at count lent old new v there takes room l after h =
-    let s = subst (IsSoFar q after count l.items) there (l.page after h) in
-    record {
-      items = l.items ++ v ∷ [];
-      taken = takes l.items l.taken;
-      part = λ whole end p. listed_begins q after count (l.items ++ v ∷ []) whole end (one_listed q after count l.items v s (omega (arith, room, l.counted))) p;
-    }
+pub lends_part_with : (q : Question) (first : Option Data) (count lent : ℕ) (old new : List Data → Type 0) (v : Data) → ((ds : List Data) → old ds → new (ds ++ v ∷ [])) → lent < count → IsLent q first count lent old (Some v)
+    → (after : Option Data) → IsNextSample q after first → LendsPart q after count new
+lends_part_with q first count lent old new v takes room l after h = record {
+  items = l.items ++ v ∷ [];
+  taken = takes l.items l.taken;
+  part = λ whole end p. listed_begins q after count (l.items ++ v ∷ []) whole end (one_listed q after count l.items v (l.page after h) (omega (arith, room, l.counted))) p;
+}
 
 -- ---- larger limits
 

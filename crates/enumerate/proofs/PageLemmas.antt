@@ -1,5 +1,5 @@
 -- A page, built of one sample after the other.
-use Rattle.std.proofs.Common.{◌≡◌, ◌⊎◌, ◌<◌, ◌≤◌, ◌+◌, ◌*◌, ℕ, List, [], ◌∷◌, ◌++◌, length, Bool, true, false, Option, Some, None, refl, sym, ◌∙◌, subst, inl, inr, arith, length-append}
+use Rattle.std.proofs.Common.{◌≡◌, ◌⊎◌, ◌<◌, ◌≤◌, ◌+◌, ◌*◌, ℕ, List, [], ◌∷◌, ◌++◌, length, true, false, Option, Some, None, refl, sym, ◌∙◌, subst, inl, inr, arith, length-append}
 use Rattle.std.specs.Prelude.{All, AllPairs, Contains}
 use Rattle.std.proofs.lemmas.List.Elements.{All-push, All-weaker, All-contains, Contains-append_left, Contains-push}
 use Rattle.std.proofs.lemmas.List.Quantifiers.{all_pairs_push}
@@ -11,7 +11,7 @@ use Rattle.plan.specs.Samples.Candidates.{IsWidth}
 use Rattle.plan.specs.Samples.Question.{Question}
 use Rattle.plan.specs.Samples.Steps.{delay}
 use Rattle.enumerate.specs.Least.{IsLeast}
-use Rattle.enumerate.specs.Live.{Enumeration, IsNextSample, IsStarted, IsAdvanced, place_after, LendsPage}
+use Rattle.enumerate.specs.Live.{Enumeration, IsNextSample, IsStarted, place_after, LendsPage}
 use Rattle.enumerate.specs.Page.{Precedes, IsPast, IsPastSample, IsPage}
 use Rattle.enumerate.proofs.LeastLemmas.{tree_order, not_itself}
 
@@ -62,7 +62,7 @@ none_so_far q after count at h = record {
 pub started_next : (q : Question) (after : Option Data) (live : Enumeration) → IsStarted q after (Some live) → IsNextSample live.question after live.at
 started_next q after live start = subst (IsNextSample live.question after) (sym start.1.1.0) (subst (λ r. IsNextSample r after (Some start.1.0)) (sym start.0) start.1.1.1)
 
-goes_past : (after : Option Data) (u v : Data) → IsPast after u → Precedes u v → IsPast after v
+pub goes_past : (after : Option Data) (u v : Data) → IsPast after u → Precedes u v → IsPast after v
 goes_past None u v p h = tt
 goes_past (Some a) u v p h = tree_total.trans a u v p h
 
@@ -155,41 +155,35 @@ after_more after (u ∷ items) v = after_more (Some u) items v
 
 module _ (q : Question) (first : Option Data) (count lent : ℕ) where
   -- the sample at which the enumeration stood is one more, and it moved on
-  pub lent_more : (old new : List Data → Type 0) (v : Data) (live next : Enumeration) (more : Bool) → live.question ≡ q → live.at ≡ Some v → ((ds : List Data) → old ds → new (ds ++ v ∷ [])) → lent < count
-      → IsAdvanced live next more → IsLent q first count lent old live.at → IsLent q first count (lent + 1) new next.at
-  lent_more old new v live next more question at takes room moved l =
-      let stepped : IsNextSample live.question (Some v) next.at = subst (λ o. IsNextSample live.question o next.at) (sym moved.stood ∙ at) moved.next in
-      let later : IsNextSample q (Some v) next.at = subst (λ r. IsNextSample r (Some v) next.at) question stepped in
-      record {
-        items = l.items ++ v ∷ [];
-        taken = takes l.items l.taken;
-        counted = omega (arith, l.counted, length-append l.items (v ∷ []));
-        page = λ after h. one_more q after count l.items v (subst (IsSoFar q after count l.items) at (l.page after h)) next.at (omega (arith, room, l.counted)) later;
-        next = λ after h. subst (λ o. IsNextSample q o next.at) (sym (after_more after l.items v)) later;
-      }
+  pub lent_more : (old new : List Data → Type 0) (v : Data) (at : Option Data) → ((ds : List Data) → old ds → new (ds ++ v ∷ [])) → lent < count → IsNextSample q (Some v) at → IsLent q first count lent old (Some v) → IsLent q first count (lent + 1) new at
+  lent_more old new v at takes room later l = record {
+    items = l.items ++ v ∷ [];
+    taken = takes l.items l.taken;
+    counted = omega (arith, l.counted, length-append l.items (v ∷ []));
+    page = λ after h. one_more q after count l.items v (l.page after h) at (omega (arith, room, l.counted)) later;
+    next = λ after h. subst (λ o. IsNextSample q o at) (sym (after_more after l.items v)) later;
+  }
 
   module _ (has_taken : List Data → Type 0) (steps_before steps_now : ℕ) (costs : (w : ℕ) → IsWidth q.pools q.root w → steps_now ≤ steps_before + lent * delay q.limit w) where
     within : (items : List Data) → length items ≡ lent → (w : ℕ) → IsWidth q.pools q.root w → steps_now ≤ steps_before + length items * delay q.limit w
     within items counted w wide = subst (λ n. steps_now ≤ steps_before + n * delay q.limit w) (sym counted) (costs w wide)
 
     -- the page is full, and there is a next sample
-    pub lends_full : (at : Option Data) (v : Data) → at ≡ Some v → lent ≡ count → IsLent q first count lent has_taken at → (after : Option Data) → IsNextSample q after first
-        → LendsPage q after count false has_taken at steps_before steps_now
-    lends_full at v there full l after h = record {
+    pub lends_full : (v : Data) → lent ≡ count → IsLent q first count lent has_taken (Some v) → (after : Option Data) → IsNextSample q after first → LendsPage q after count false has_taken (Some v) steps_before steps_now
+    lends_full v full l after h = record {
       items = l.items;
       taken = l.taken;
-      page = full_page q after count l.items v (subst (IsSoFar q after count l.items) there (l.page after h)) (omega (arith, full, l.counted));
+      page = full_page q after count l.items v (l.page after h) (omega (arith, full, l.counted));
       next = l.next after h;
       steps = within l.items l.counted;
     }
 
     -- there is none
-    pub lends_last : (at : Option Data) → at ≡ None → IsLent q first count lent has_taken at → (after : Option Data) → IsNextSample q after first
-        → LendsPage q after count true has_taken at steps_before steps_now
-    lends_last at none l after h = record {
+    pub lends_last : IsLent q first count lent has_taken None → (after : Option Data) → IsNextSample q after first → LendsPage q after count true has_taken None steps_before steps_now
+    lends_last l after h = record {
       items = l.items;
       taken = l.taken;
-      page = last_page q after count l.items (subst (IsSoFar q after count l.items) none (l.page after h));
+      page = last_page q after count l.items (l.page after h);
       next = l.next after h;
       steps = within l.items l.counted;
     }

@@ -21,7 +21,7 @@ use Rattle.enumerate.specs.declared.moved.Step.TheVariants.{Moved, Last}
 use Rattle.enumerate.proofs.RowLemmas.{rest_out, next_behind_out, grown_after_out, none_after_out_slot, next_behind_in, next_value, grown_after_in, none_after_in}
 use Rattle.enumerate.proofs.RowOrder.{before_in}
 
-never_begins : (k : List ℕ) (ms : Members) → IsNameBefore k ms → Begins k ms → ⊥
+pub never_begins : (k : List ℕ) (ms : Members) → IsNameBefore k ms → Begins k ms → ⊥
 never_begins k no_members before b = b
 never_begins k (member l d ms) before b = not_itself k l (sym b) before
 

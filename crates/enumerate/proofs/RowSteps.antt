@@ -222,22 +222,32 @@ pub nothing_after : (P : Pools) (end : Ending) (ss : List Slot) (x : Before) (us
 nothing_after P end ss x used gs are none = λ us h less.
     fill_own gs (subst (λ v. fill_cmp gs v ≡ Less) (sym (no_other P end ss x used gs us are none (subst (λ m. IsRest P ss end x m used us) none h))) less)
 
-no_members_in : (P : Pools) (ss : List Slot) (gs : List (Option Data)) → AreFillings P ss gs → filled_nodes gs ≡ 0 → members_in ss gs ≡ no_members
+pub no_members_in : (P : Pools) (ss : List Slot) (gs : List (Option Data)) → AreFillings P ss gs → filled_nodes gs ≡ 0 → members_in ss gs ≡ no_members
 no_members_in P ss gs are none = empty (members_in ss gs) (filled_count_nodes P ss gs are ∙ none)
   where
     empty : (ms : tree.Members) → members_count ms ≡ 0 → ms ≡ no_members
     empty no_members h = refl
     empty (member k d ms) h = absurd (omega (arith, h, some_nodes d))
 
+-- where a row may end so, with some key unused, empty slots are the first ones
+pub least_nothing : (P : Pools) (end : Ending) (ss : List Slot) (x : Before) (used : List Data) (gs : List (Option Data)) → AreKeySlots P ss → AreFillings P ss gs → filled_nodes gs ≡ 0 → CanFill P ss end x 0 → HasFree P (filter is_key ss) (used_keys ss used) []
+    → IsLeast fill_cmp (IsRest P ss end x 0 used) gs
+least_nothing P end ss x used gs keys are none can free =
+    let r = some_rest P ss end x 0 used keys can free in
+    record {
+      is = subst (IsRest P ss end x 0 used) (sym (no_other P end ss x used gs r.0 are none r.1)) r.1;
+      least = λ us i less. fill_own gs (subst (λ v. fill_cmp v gs ≡ Less) (sym (no_other P end ss x used gs us are none i)) less);
+    }
+
 pub adds_nothing : (P : Pools) (end : Ending) (ss : List Slot) (x : Before) (used : List Data) (old : List Member) → AreKeySlots P ss → IsOpen P ss end x 0 used → AddsFirst P ss end x 0 used old old
 adds_nothing P end ss x used old keys h =
-    let r = some_rest P ss end x 0 used keys h.rest h.free in
+    let gs = h.rest.fillings in
     record {
       added = [];
       is = sym (append-nil old);
-      fillings = r.0;
-      are = sym (no_members_in P ss r.0 r.1.are r.1.nodes_are);
-      least = record { is = r.1; least = λ us i less. fill_own r.0 (subst (λ v. fill_cmp v r.0 ≡ Less) (sym (no_other P end ss x used r.0 us r.1.are r.1.nodes_are i)) less) };
+      fillings = gs;
+      are = sym (no_members_in P ss gs h.rest.are h.rest.nodes_are);
+      least = least_nothing P end ss x used gs keys h.rest.are h.rest.nodes_are h.rest h.free;
     }
 
 -- ---- at a place of a row

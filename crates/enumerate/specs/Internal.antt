@@ -3,7 +3,9 @@ pub mod Nodes
 pub mod Candidates
 pub mod Rows
 pub mod Lists
+pub mod Standing
 pub mod Steps
 pub mod Moves
 pub mod Membership
 pub mod Roots
+pub mod Following

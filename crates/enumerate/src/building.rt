@@ -1,9 +1,10 @@
 //! The first part of a node of so many nodes.
-ghost use Rattle.std.specs.Prelude.{◌≡◌, ◌≢◌, ◌+◌, ◌-◌, ◌*◌, ◌≤◌, ◌<◌, ◌++◌, ◌∷◌, [], ℕ, List, true, false, length, filter, IfOk, OnOk, IfSome, IfNone, None, Some, Contains};
+ghost use Rattle.std.specs.Prelude.{◌≡◌, ◌≢◌, ◌+◌, ◌-◌, ◌*◌, ◌≤◌, ◌<◌, ◌++◌, ◌∷◌, [], ℕ, List, true, false, length, filter, IfOk, OnOk, IfSome, IfNone, None, Some, Contains, drop};
 ghost use Rattle.jtree.specs.Data.{Data};
 ghost use Rattle.jtree.specs.Nodes.{node_count, items_count};
 ghost use Rattle.jtree.specs.Order.{tree_cmp};
 ghost use Rattle.jtree.specs.View.{data_of, items_of};
+ghost use Rattle.plan.specs.Samples.Part.{IsPart};
 ghost use Rattle.plan.specs.Samples.Candidates.{sort_of};
 ghost use Rattle.plan.specs.Samples.NoDeadEnd.{is_key, HasFree};
 ghost use Rattle.plan.specs.Samples.Sizes.{nothing, filled, HasMore};
@@ -14,6 +15,7 @@ ghost use Rattle.enumerate.specs.Internal.Nodes.{site, IsNodeOf, IsPartOf, HasSi
 ghost use Rattle.enumerate.specs.Internal.Candidates.{rows_of};
 ghost use Rattle.enumerate.specs.Internal.Steps.{KeepsMeter};
 ghost use Rattle.enumerate.specs.Internal.Rows.{slots_from, slot_in, ending_at, used_keys, IsSlotOf, AreUsed, IsOpen, AddsFirst, IsRow, still_used, IsValue, IsGrown, CostsSlots};
+ghost use Rattle.enumerate.specs.Internal.Following.{Continue, MembersContinue, GrownContinue, ItemsContinue, GrownItemsContinue};
 ghost use Rattle.enumerate.specs.Internal.Lists.{AreFirst, CanFollow, IsFreshItem, AddsItems, AreGrown};
 
 use crate::before::Before;
@@ -27,37 +29,43 @@ use std::alloc::{AllocError, Global};
 
 /// The first part of a size that the node has.
 #[cycle(first)]
-pub(crate) fn first<Z: SizeSet>(
+pub(crate) fn first<'p, Z: SizeSet>(
     alloc: Global,
-    plan: &Plan<Z>,
+    plan: &'p Plan<Z>,
     node: PlanNode,
     size: u32,
+    following: &mut Vec<&'p Tree>,
     meter: &mut Meter,
 ) -> Result<Tree, AllocError>
     requires node { IsNodeOf plan.now node }
     requires size { HasSizeAt plan.now node size }
     requires limit { size ≤ plan.now.limit }
     ensures ok { IfOk result (λ v. IsLeast tree_cmp (IsPartOf plan.now node size) (data_of v)) }
+    ensures following { IfOk result (λ v. Continue (IsPartOf plan.now node size) (data_of v) (rows_of following.new.items)) }
     ensures steps { Costs plan.now meter.old meter.new size }
 {
     plan.no_dead_end();
     plan.sound_parts();
     match plan.sort(node) {
-        Sort::Leaf => first_unused(alloc, plan, node, size, &[], meter),
-        _ if size == 1 && plan.null_ok(node) => Ok(Tree::Null),
-        Sort::Row => first_row(alloc, plan, node, size, &[], meter),
-        Sort::List => first_list(alloc, plan, node, size, meter),
+        Sort::Leaf => first_unused(alloc, plan, node, size, &[], following, meter),
+        _ if size == 1 && plan.null_ok(node) => {
+            following.clear();
+            Ok(Tree::Null)
+        }
+        Sort::Row => first_row(alloc, plan, node, size, &[], following, meter),
+        Sort::List => first_list(alloc, plan, node, size, following, meter),
     }
 }
 
 /// The first object of a size that has not the same under all keys as a used one.
 #[cycle(first)]
-pub(crate) fn first_row<Z: SizeSet>(
+pub(crate) fn first_row<'p, Z: SizeSet>(
     alloc: Global,
-    plan: &Plan<Z>,
+    plan: &'p Plan<Z>,
     node: PlanNode,
     size: u32,
     used: &[&Tree],
+    following: &mut Vec<&'p Tree>,
     meter: &mut Meter,
 ) -> Result<Tree, AllocError>
     requires node { IsNodeOf plan.now node }
@@ -66,10 +74,15 @@ pub(crate) fn first_row<Z: SizeSet>(
     requires limit { size ≤ plan.now.limit }
     requires open { IsOpen plan.now.pools (slots_from plan.now node 0) (ending_at plan.now node) nothing (size - 1) (rows_of used.now) }
     ensures ok { IfOk result (λ v. IsLeast tree_cmp (IsRow plan.now node (size - 1) (rows_of used.now)) (data_of v)) }
+    ensures following { IfOk result (λ v. Continue (IsRow plan.now node (size - 1) (rows_of used.now)) (data_of v) (rows_of following.new.items)) }
     ensures steps { Costs plan.now meter.old meter.new size }
 {
     plan.sound_parts();
+    following.clear();
     let mut members = Vec::new(alloc);
+    if size == 1 {
+        return Ok(Tree::Object(Members { members }));
+    }
     first_slots(
         alloc,
         plan,
@@ -79,6 +92,7 @@ pub(crate) fn first_row<Z: SizeSet>(
         size - 1,
         used,
         &mut members,
+        following,
         meter,
     )?;
     Ok(Tree::Object(Members { members }))
@@ -86,29 +100,29 @@ pub(crate) fn first_row<Z: SizeSet>(
 
 /// Appends the first members of `room` nodes that stand in the slots from `place` on, where `before` stands before it.
 #[cycle(first)]
-pub(crate) fn first_slots<Z: SizeSet>(
+pub(crate) fn first_slots<'p, Z: SizeSet>(
     alloc: Global,
-    plan: &Plan<Z>,
+    plan: &'p Plan<Z>,
     node: PlanNode,
     place: u64,
     before: Before,
     room: u32,
     used: &[&Tree],
     members: &mut Vec<Member>,
+    following: &mut Vec<&'p Tree>,
     meter: &mut Meter,
 ) -> Result<(), AllocError>
     requires node { IsNodeOf plan.now node }
     requires row { sort_of (site plan.now node) ≡ sort.Row }
     requires taken { before.count ≤ place }
+    requires some { 1 ≤ room }
     requires limit { before.count + room < plan.now.limit }
     requires open { IsOpen plan.now.pools (slots_from plan.now node place) (ending_at plan.now node) before room (rows_of used.now) }
     ensures ok { OnOk result (AddsFirst plan.now.pools (slots_from plan.now node place) (ending_at plan.now node) before room (rows_of used.now) members.old.items members.new.items) }
+    ensures following { OnOk result (MembersContinue plan.now.pools (slots_from plan.now node place) (rows_of used.now) (drop (length members.old.items) members.new.items) (rows_of following.new.items)) }
     ensures steps { CostsSlots plan.now node place meter.old meter.new room }
 {
     plan.sound_parts();
-    if room == 0 {
-        return Ok(());
-    }
     let Some(slot) = plan.slot(node, place, meter) else {
         return Ok(());
     };
@@ -122,11 +136,12 @@ pub(crate) fn first_slots<Z: SizeSet>(
             room,
             used,
             members,
+            following,
             meter,
         );
     }
     grow_slots(
-        alloc, plan, node, &slot, place, before, room, 0, used, members, meter,
+        alloc, plan, node, &slot, place, before, room, 0, used, members, following, meter,
     )?;
     Ok(())
 }
@@ -134,9 +149,9 @@ pub(crate) fn first_slots<Z: SizeSet>(
 /// Appends the first part of the slot at `place` of a size from `from` on, and the first members behind it; or nothing, where there
 /// is no such size.
 #[cycle(first)]
-pub(crate) fn grow_slots<Z: SizeSet>(
+pub(crate) fn grow_slots<'p, Z: SizeSet>(
     alloc: Global,
-    plan: &Plan<Z>,
+    plan: &'p Plan<Z>,
     node: PlanNode,
     slot: &Slot<'_>,
     place: u64,
@@ -145,6 +160,7 @@ pub(crate) fn grow_slots<Z: SizeSet>(
     from: u32,
     used: &[&Tree],
     members: &mut Vec<Member>,
+    following: &mut Vec<&'p Tree>,
     meter: &mut Meter,
 ) -> Result<Step, AllocError>
     requires node { IsNodeOf plan.now node }
@@ -154,6 +170,7 @@ pub(crate) fn grow_slots<Z: SizeSet>(
     requires limit { before.count + room < plan.now.limit }
     requires open { IsOpen plan.now.pools (slots_from plan.now node place) (ending_at plan.now node) before room (rows_of used.now) }
     ensures ok { IfOk result (λ step. IsGrown step plan.now.pools (slot_in plan.now node place) (slots_from plan.now node (place + 1)) (ending_at plan.now node) before room from (rows_of used.now) members.old.items members.new.items) }
+    ensures following { IfOk result (λ step. GrownContinue step plan.now.pools (slots_from plan.now node place) (rows_of used.now) (drop (length members.old.items) members.new.items) (rows_of following.new.items)) }
     ensures steps { CostsSlots plan.now node (place + 1) meter.old meter.new room }
     ensures last { IfOk result (λ step. KeepsMeter step meter.old meter.new) }
 {
@@ -164,7 +181,7 @@ pub(crate) fn grow_slots<Z: SizeSet>(
     let Some(size) = least_split(sizes, rest, room, from) else {
         return Ok(Step::Last(room));
     };
-    let tree = first_value(alloc, plan, node, slot, place, size, used, meter)?;
+    let tree = first_value(alloc, plan, node, slot, place, size, used, following, meter)?;
     let name = Text::from_str(alloc, slot.name)?;
     put_member(
         alloc,
@@ -177,6 +194,7 @@ pub(crate) fn grow_slots<Z: SizeSet>(
         used,
         Member { name, tree },
         members,
+        following,
         meter,
     )?;
     Ok(Step::Moved)
@@ -184,14 +202,15 @@ pub(crate) fn grow_slots<Z: SizeSet>(
 
 /// The first part of a size for a slot; for a key, the first one that leaves some tuple of keys unused.
 #[cycle(first)]
-fn first_value<Z: SizeSet>(
+fn first_value<'p, Z: SizeSet>(
     alloc: Global,
-    plan: &Plan<Z>,
+    plan: &'p Plan<Z>,
     node: PlanNode,
     slot: &Slot<'_>,
     place: u64,
     size: u32,
     used: &[&Tree],
+    following: &mut Vec<&'p Tree>,
     meter: &mut Meter,
 ) -> Result<Tree, AllocError>
     requires node { IsNodeOf plan.now node }
@@ -201,20 +220,21 @@ fn first_value<Z: SizeSet>(
     requires known { AreUsed plan.now.pools (slots_from plan.now node place) (rows_of used.now) }
     requires free { HasFree plan.now.pools (filter is_key (slots_from plan.now node place)) (used_keys (slots_from plan.now node place) (rows_of used.now)) [] }
     ensures ok { IfOk result (λ v. IsLeast tree_cmp (IsValue plan.now.pools (slot_in plan.now node place) (slots_from plan.now node (place + 1)) (rows_of used.now) size) (data_of v)) }
+    ensures following { IfOk result (λ v. Continue (IsValue plan.now.pools (slot_in plan.now node place) (slots_from plan.now node (place + 1)) (rows_of used.now) size) (data_of v) (rows_of following.new.items)) }
     ensures steps { Costs plan.now meter.old meter.new size }
 {
     plan.sound_parts();
     if slot.key {
-        return first_key(alloc, plan, slot, size, used, meter);
+        return first_key(alloc, plan, slot, size, used, following, meter);
     }
-    first(alloc, plan, slot.node, size, meter)
+    first(alloc, plan, slot.node, size, following, meter)
 }
 
 /// Appends a member, and the first members of `room` nodes behind it.
 #[cycle(first)]
-pub(crate) fn put_member<Z: SizeSet>(
+pub(crate) fn put_member<'p, Z: SizeSet>(
     alloc: Global,
-    plan: &Plan<Z>,
+    plan: &'p Plan<Z>,
     node: PlanNode,
     slot: &Slot<'_>,
     place: u64,
@@ -223,6 +243,7 @@ pub(crate) fn put_member<Z: SizeSet>(
     used: &[&Tree],
     member: Member,
     members: &mut Vec<Member>,
+    following: &mut Vec<&'p Tree>,
     meter: &mut Meter,
 ) -> Result<(), AllocError>
     requires node { IsNodeOf plan.now node }
@@ -230,12 +251,21 @@ pub(crate) fn put_member<Z: SizeSet>(
     requires slot { IsSlotOf plan.now node place slot.now }
     requires taken { before.count ≤ place }
     requires limit { before.count + 1 + room < plan.now.limit }
+    requires name { member.name ≡ (slot_in plan.now node place).name }
+    requires part { IsPart plan.now.pools (slot_in plan.now node place).site (data_of member.tree) }
+    requires following { Continue (IsValue plan.now.pools (slot_in plan.now node place) (slots_from plan.now node (place + 1)) (rows_of used.now) (node_count (data_of member.tree))) (data_of member.tree) (rows_of following.old.items) }
     requires open { IsOpen plan.now.pools (slots_from plan.now node (place + 1)) (ending_at plan.now node) (filled (slot_in plan.now node place).bit before) room (still_used (slot_in plan.now node place) (data_of member.tree) (rows_of used.now)) }
     ensures ok { OnOk result (AddsFirst plan.now.pools (slots_from plan.now node (place + 1)) (ending_at plan.now node) (filled (slot_in plan.now node place).bit before) room (still_used (slot_in plan.now node place) (data_of member.tree) (rows_of used.now))
         (members.old.items ++ member ∷ []) members.new.items) }
+    ensures following { OnOk result (MembersContinue plan.now.pools (slots_from plan.now node place) (rows_of used.now) (drop (length members.old.items) members.new.items) (rows_of following.new.items)) }
     ensures steps { CostsSlots plan.now node (place + 1) meter.old meter.new room }
 {
+    plan.sound_parts();
     plan.limit();
+    if room == 0 {
+        members.push(member)?;
+        return Ok(());
+    }
     let same = still_used(alloc, slot, &member.tree, used)?;
     members.push(member)?;
     first_slots(
@@ -247,17 +277,19 @@ pub(crate) fn put_member<Z: SizeSet>(
         room,
         same.as_slice(),
         members,
+        following,
         meter,
     )
 }
 
 /// The first list of a size.
 #[cycle(first)]
-fn first_list<Z: SizeSet>(
+fn first_list<'p, Z: SizeSet>(
     alloc: Global,
-    plan: &Plan<Z>,
+    plan: &'p Plan<Z>,
     node: PlanNode,
     size: u32,
+    following: &mut Vec<&'p Tree>,
     meter: &mut Meter,
 ) -> Result<Tree, AllocError>
     requires node { IsNodeOf plan.now node }
@@ -266,53 +298,69 @@ fn first_list<Z: SizeSet>(
     requires size { HasSizeAt plan.now node size }
     requires limit { size ≤ plan.now.limit }
     ensures ok { IfOk result (λ v. IsLeast tree_cmp (IsPartOf plan.now node size) (data_of v)) }
+    ensures following { IfOk result (λ v. Continue (IsPartOf plan.now node size) (data_of v) (rows_of following.new.items)) }
     ensures steps { Costs plan.now meter.old meter.new size }
 {
     plan.no_dead_end();
+    plan.limit();
+    following.clear();
     let mut items = Vec::new(alloc);
     if size > 1 {
         let Some(child) = plan.item(node, 0, meter) else {
             unreachable!()
         };
-        first_items(alloc, plan, node, child, size - 1, &mut items, meter)?;
+        first_items(
+            alloc,
+            plan,
+            node,
+            child,
+            size - 1,
+            &mut items,
+            following,
+            meter,
+        )?;
     }
     Ok(Tree::List(Items { items }))
 }
 
 /// Appends the first items of `room` nodes behind those that are there.
 #[cycle(first)]
-pub(crate) fn first_items<Z: SizeSet>(
+pub(crate) fn first_items<'p, Z: SizeSet>(
     alloc: Global,
-    plan: &Plan<Z>,
+    plan: &'p Plan<Z>,
     node: PlanNode,
     child: PlanNode,
     room: u32,
     items: &mut Vec<Tree>,
+    following: &mut Vec<&'p Tree>,
     meter: &mut Meter,
 ) -> Result<(), AllocError>
     requires node { IsNodeOf plan.now node }
     requires child { child < node }
     requires follow { CanFollow plan.now node child room (items_of items.old.items) }
+    requires following { ItemsContinue plan.now node child (items_of items.old.items) (rows_of following.old.items) }
     ensures ok { OnOk result (AddsItems plan.now node room items.old.items items.new.items) }
+    ensures following { OnOk result (ItemsContinue plan.now node child (items_of items.new.items) (rows_of following.new.items)) }
     ensures steps { Costs plan.now meter.old meter.new room }
 {
     plan.no_dead_end();
     if room > 0 {
-        grow_items(alloc, plan, node, child, room, 0, items, meter)?;
+        grow_items(alloc, plan, node, child, room, 0, items, following, meter)?;
     }
     Ok(())
 }
 
 /// Appends the first item of a size from `from` on, and the first items behind it; or nothing, where there is no such size.
 #[cycle(first)]
-pub(crate) fn grow_items<Z: SizeSet>(
+pub(crate) fn grow_items<'p, Z: SizeSet>(
     alloc: Global,
-    plan: &Plan<Z>,
+    plan: &'p Plan<Z>,
     node: PlanNode,
     child: PlanNode,
     room: u32,
     from: u32,
     items: &mut Vec<Tree>,
+    following: &mut Vec<&'p Tree>,
     meter: &mut Meter,
 ) -> Result<Step, AllocError>
     requires node { IsNodeOf plan.now node }
@@ -320,6 +368,7 @@ pub(crate) fn grow_items<Z: SizeSet>(
     requires first { AreFirst plan.now node child (items_of items.old.items) }
     requires within { 1 + items_count (items_of items.old.items) + room ≤ plan.now.limit }
     ensures ok { IfOk result (λ step. AreGrown step plan.now node child room from items.old.items items.new.items) }
+    ensures following { IfOk result (λ step. GrownItemsContinue step plan.now node child (items_of items.new.items) (rows_of following.new.items)) }
     ensures steps { Costs plan.now meter.old meter.new room }
     ensures last { IfOk result (λ step. KeepsMeter step meter.old meter.new) }
 {
@@ -328,21 +377,40 @@ pub(crate) fn grow_items<Z: SizeSet>(
     let Some(size) = least_split(plan.sizes(child), more, room, from) else {
         return Ok(Step::Last(room));
     };
-    let item = first_item(alloc, plan, node, child, size, items.as_slice(), meter)?;
+    let item = first_item(
+        alloc,
+        plan,
+        node,
+        child,
+        size,
+        items.as_slice(),
+        following,
+        meter,
+    )?;
     items.push(item)?;
-    first_items(alloc, plan, node, child, room - size, items, meter)?;
+    first_items(
+        alloc,
+        plan,
+        node,
+        child,
+        room - size,
+        items,
+        following,
+        meter,
+    )?;
     Ok(Step::Moved)
 }
 
 /// The first part of a size that an item behind the others can be.
 #[cycle(first)]
-fn first_item<Z: SizeSet>(
+fn first_item<'p, Z: SizeSet>(
     alloc: Global,
-    plan: &Plan<Z>,
+    plan: &'p Plan<Z>,
     node: PlanNode,
     child: PlanNode,
     size: u32,
     items: &[Tree],
+    following: &mut Vec<&'p Tree>,
     meter: &mut Meter,
 ) -> Result<Tree, AllocError>
     requires node { IsNodeOf plan.now node }
@@ -352,17 +420,18 @@ fn first_item<Z: SizeSet>(
     requires limit { size ≤ plan.now.limit }
     requires fresh { (m : ℕ) × HasMore plan.now.pools plan.now.limit (site plan.now node) (length items.now + 1) m }
     ensures ok { IfOk result (λ v. IsLeast tree_cmp (IsFreshItem plan.now node child size (items_of items.now)) (data_of v)) }
+    ensures following { IfOk result (λ v. Continue (IsFreshItem plan.now node child size (items_of items.now)) (data_of v) (rows_of following.new.items)) }
     ensures steps { Costs plan.now meter.old meter.new size }
 {
     plan.no_dead_end();
     plan.sound_parts();
     plan.limit();
     match plan.distinct(node) {
-        Distinct::Free => first(alloc, plan, child, size, meter),
-        Distinct::Whole => first_unused(alloc, plan, child, size, items, meter),
+        Distinct::Free => first(alloc, plan, child, size, following, meter),
+        Distinct::Whole => first_unused(alloc, plan, child, size, items, following, meter),
         Distinct::Keys => {
             let used = references(alloc, items)?;
-            first_row(alloc, plan, child, size, used.as_slice(), meter)
+            first_row(alloc, plan, child, size, used.as_slice(), following, meter)
         }
     }
 }

@@ -15,6 +15,7 @@ mod moving;
 mod paging;
 mod root;
 mod splitting;
+mod standing;
 mod taken;
 mod taking;
 

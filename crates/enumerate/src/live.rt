@@ -3,6 +3,7 @@ use crate::copying::copy_of;
 use crate::fault::EFault;
 use crate::membership::is_part;
 use crate::root::{first_from, next_sample};
+use crate::standing::Standing;
 use crate::taking::Taker;
 use jtree::Tree;
 use plan::{Meter, Plan, SizeSet};
@@ -13,7 +14,7 @@ use std::marker::Model;
 pub struct Live<'p, Z: SizeSet> {
     alloc: Global,
     plan: &'p Plan<Z>,
-    tree: Option<Tree>,
+    standing: Option<Standing<'p>>,
 }
 
 impl<Z: SizeSet> Drop for Live<'_, Z> {
@@ -21,7 +22,7 @@ impl<Z: SizeSet> Drop for Live<'_, Z> {
         let Live {
             alloc: _,
             plan: _,
-            tree: _,
+            standing: _,
         } = self;
     }
 }
@@ -33,13 +34,13 @@ impl<'p, Z: SizeSet> Model for Live<'p, Z> {
 
     ghost coded = { enumeration_coded };
 
-    ghost use Rattle.std.specs.Prelude.{IfSome};
-    ghost use Rattle.enumerate.specs.View.{tree_of};
-    ghost use Rattle.enumerate.specs.Page.{IsSampleOf};
+    ghost use Rattle.std.specs.Prelude.{IfSome, option_map};
+    ghost use Rattle.jtree.specs.View.{data_of};
+    ghost use Rattle.enumerate.specs.Internal.Standing.{IsStanding};
 
-    ghost view = { λ l. record { question = l.plan.now; at = tree_of l.tree } };
+    ghost view = { λ l. record { question = l.plan.now; at = option_map (λ s. data_of s.tree) l.standing } };
 
-    ghost invariant = { λ l. IfSome (tree_of l.tree) (IsSampleOf l.plan.now) };
+    ghost invariant = { λ l. IfSome l.standing (IsStanding l.plan.now) };
 }
 
 impl<'p, Z: SizeSet> Live<'p, Z> {
@@ -64,11 +65,12 @@ impl<'p, Z: SizeSet> Live<'p, Z> {
         ensures err { IfErr result (λ e. e ≡ NoMemory) }
         ensures steps { IsWithinDelay plan.now meter.old meter.new }
     {
-        match first_from(alloc, plan, 0, meter)? {
+        let mut following = Vec::new(alloc);
+        match first_from(alloc, plan, 0, &mut following, meter)? {
             Some(tree) => Ok(Some(Live {
                 alloc,
                 plan,
-                tree: Some(tree),
+                standing: Some(Standing::at(plan, tree, following)),
             })),
             None => Ok(None),
         }
@@ -94,11 +96,12 @@ impl<'p, Z: SizeSet> Live<'p, Z> {
             return Err(EFault::NotASample);
         }
         let copy = copy_of(alloc, tree)?;
-        match next_sample(alloc, plan, copy, meter)? {
+        let mut following = Vec::new(alloc);
+        match next_sample(alloc, plan, copy, &mut following, meter)? {
             Some(next) => Ok(Some(Live {
                 alloc,
                 plan,
-                tree: Some(next),
+                standing: Some(Standing::at(plan, next, following)),
             })),
             None => Ok(None),
         }
@@ -137,11 +140,20 @@ impl<'p, Z: SizeSet> Live<'p, Z> {
         ensures nowhere { IfErr result (λ _. self.new.at ≡ None) }
         ensures steps { IsWithinDelay self.old.question meter.old meter.new }
     {
-        let Some(tree) = self.tree.take() else {
+        let Some(standing) = &mut self.standing else {
             return Err(EFault::Ended);
         };
-        self.tree = next_sample(self.alloc, self.plan, tree, meter)?;
-        Ok(self.tree.is_some())
+        match standing.step(self.alloc, self.plan, meter) {
+            Ok(true) => Ok(true),
+            Ok(false) => {
+                self.standing = None;
+                Ok(false)
+            }
+            Err(_) => {
+                self.standing = None;
+                Err(EFault::NoMemory)
+            }
+        }
     }
 
     /// Lends the taker the sample at which the enumeration stands and those after it, `count` of them, or fewer where no more are
@@ -164,31 +176,30 @@ impl<'p, Z: SizeSet> Live<'p, Z> {
         ensures err { IfErr result (λ e. e ≡ NoMemory) }
         ensures nowhere { IfErr result (λ _. self.new.at ≡ None) }
     {
-        let mut lent = 0;
-        'samples: while let Some(tree) = self.tree() {
-            if lent == count {
-                return Ok(false);
+        let Some(standing) = &mut self.standing else {
+            return Ok(true);
+        };
+        match standing.lend(self.alloc, self.plan, count, taker, meter) {
+            Ok(false) => Ok(false),
+            Ok(true) => {
+                self.standing = None;
+                Ok(true)
             }
-            match taker.take(tree) {
-                Ok(()) => {}
-                Err(_) => {
-                    self.tree = None;
-                    return Err(EFault::NoMemory);
-                }
-            }
-            match self.advance(meter) {
-                Ok(_) => lent += 1,
-                Err(fault) => return Err(fault),
+            Err(_) => {
+                self.standing = None;
+                Err(EFault::NoMemory)
             }
         }
-        Ok(true)
     }
 
     /// The sample; `None` once the enumeration has ended.
     pub fn tree(&self) -> Option<&Tree>
         ensures { option_map data_of (option_copied result) ≡ self.now.at }
     {
-        self.tree.as_ref()
+        match &self.standing {
+            Some(standing) => Some(&standing.tree),
+            None => None,
+        }
     }
 }
 

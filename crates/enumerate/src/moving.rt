@@ -11,6 +11,7 @@ ghost use Rattle.enumerate.specs.Internal.Nodes.{site, IsNodeOf, IsPartOf, Costs
 ghost use Rattle.enumerate.specs.Internal.Candidates.{rows_of};
 ghost use Rattle.enumerate.specs.Internal.Rows.{slots_from, slot_in, ending_at, IsSlotOf, AreUsed, IsRow, IsValue};
 ghost use Rattle.enumerate.specs.Internal.Lists.{AreFirst, IsFreshItem};
+ghost use Rattle.enumerate.specs.Internal.Following.{ContinueMoved, GrownContinue, GrownItemsContinue};
 ghost use Rattle.enumerate.specs.Internal.Steps.{CostsLast, CostsLastStep, CostsLastSlots, CostsTwice};
 ghost use Rattle.enumerate.specs.Internal.Moves.{IsMoved, StandIn, Begins, AreMoved, AreItemsMoved};
 
@@ -26,27 +27,32 @@ use std::alloc::{AllocError, Global};
 
 /// The next part of as many nodes, made out of the part.
 #[cycle(advance)]
-pub(crate) fn advance<Z: SizeSet>(
+pub(crate) fn advance<'p, Z: SizeSet>(
     alloc: Global,
-    plan: &Plan<Z>,
+    plan: &'p Plan<Z>,
     node: PlanNode,
     tree: Tree,
+    following: &mut Vec<&'p Tree>,
     meter: &mut Meter,
 ) -> Result<Moved, AllocError>
     requires node { IsNodeOf plan.now node }
     requires part { IsPart plan.now.pools (site plan.now node) (data_of tree) }
     requires limit { node_count (data_of tree) ≤ plan.now.limit }
     ensures ok { IfOk result (λ moved. IsMoved (IsPartOf plan.now node (node_count (data_of tree))) (data_of tree) moved) }
+    ensures following { IfOk result (λ moved. ContinueMoved (IsPartOf plan.now node (node_count (data_of tree))) moved (rows_of following.new.items)) }
     ensures steps { Costs plan.now meter.old meter.new (2 * node_count (data_of tree)) }
     ensures last { IfOk result (λ moved. CostsLast moved plan.now meter.old meter.new (node_count (data_of tree))) }
 {
     plan.no_dead_end();
     plan.limit();
     match plan.sort(node) {
-        Sort::Leaf => next_unused(alloc, plan, node, &tree, &[], meter),
-        _ if is_null(&tree) => Ok(past_null(alloc, plan, node)),
-        Sort::Row => advance_row(alloc, plan, node, tree, &[], meter),
-        Sort::List => advance_list(alloc, plan, node, tree, meter),
+        Sort::Leaf => next_unused(alloc, plan, node, &tree, &[], following, meter),
+        _ if is_null(&tree) => {
+            following.clear();
+            Ok(past_null(alloc, plan, node))
+        }
+        Sort::Row => advance_row(alloc, plan, node, tree, &[], following, meter),
+        Sort::List => advance_list(alloc, plan, node, tree, following, meter),
     }
 }
 
@@ -95,12 +101,13 @@ fn into_items(tree: Tree) -> Option<Vec<Tree>>
 
 /// The next object of as many nodes that has not the same under all keys as a used one.
 #[cycle(advance)]
-fn advance_row<Z: SizeSet>(
+fn advance_row<'p, Z: SizeSet>(
     alloc: Global,
-    plan: &Plan<Z>,
+    plan: &'p Plan<Z>,
     node: PlanNode,
     tree: Tree,
     used: &[&Tree],
+    following: &mut Vec<&'p Tree>,
     meter: &mut Meter,
 ) -> Result<Moved, AllocError>
     requires node { IsNodeOf plan.now node }
@@ -109,6 +116,7 @@ fn advance_row<Z: SizeSet>(
     requires row { IsRow plan.now node (node_count (data_of tree) - 1) (rows_of used.now) (data_of tree) }
     requires limit { node_count (data_of tree) ≤ plan.now.limit }
     ensures ok { IfOk result (λ moved. IsMoved (IsRow plan.now node (node_count (data_of tree) - 1) (rows_of used.now)) (data_of tree) moved) }
+    ensures following { IfOk result (λ moved. ContinueMoved (IsRow plan.now node (node_count (data_of tree) - 1) (rows_of used.now)) moved (rows_of following.new.items)) }
     ensures steps { Costs plan.now meter.old meter.new (2 * node_count (data_of tree)) }
     ensures last { IfOk result (λ moved. CostsLast moved plan.now meter.old meter.new (node_count (data_of tree))) }
 {
@@ -118,7 +126,17 @@ fn advance_row<Z: SizeSet>(
         unreachable!()
     };
     let nothing = Before::nothing();
-    match advance_slots(alloc, plan, node, 0, nothing, used, &mut members, meter)? {
+    match advance_slots(
+        alloc,
+        plan,
+        node,
+        0,
+        nothing,
+        used,
+        &mut members,
+        following,
+        meter,
+    )? {
         Step::Moved => Ok(Moved::To(Tree::Object(Members { members }))),
         Step::Last(room) => Ok(Moved::Last(room + 1)),
     }
@@ -136,14 +154,15 @@ fn begins(members: &[Member], place: usize, name: &str) -> bool
 
 /// Moves the members that stand in the slots from `place` on to the next ones of as many nodes, where `before` stands before it.
 #[cycle(advance)]
-fn advance_slots<Z: SizeSet>(
+fn advance_slots<'p, Z: SizeSet>(
     alloc: Global,
-    plan: &Plan<Z>,
+    plan: &'p Plan<Z>,
     node: PlanNode,
     place: u64,
     before: Before,
     used: &[&Tree],
     members: &mut Vec<Member>,
+    following: &mut Vec<&'p Tree>,
     meter: &mut Meter,
 ) -> Result<Step, AllocError>
     requires node { IsNodeOf plan.now node }
@@ -156,6 +175,7 @@ fn advance_slots<Z: SizeSet>(
     ensures kept { IfOk result (λ _. take before.count members.new.items ≡ take before.count members.old.items) }
     ensures moved { IfOk result (λ step. (gs : List (Option Data)) → StandIn plan.now.pools (slots_from plan.now node place) (ending_at plan.now node) before (rows_of used.now) (drop before.count members.old.items) gs
         → AreMoved step plan.now.pools (slots_from plan.now node place) (ending_at plan.now node) before (rows_of used.now) gs (drop before.count members.new.items)) }
+    ensures following { IfOk result (λ step. GrownContinue step plan.now.pools (slots_from plan.now node place) (rows_of used.now) (drop before.count members.new.items) (rows_of following.new.items)) }
     ensures steps { CostsTwice plan.now node place meter.old meter.new (members_count (members_of (drop before.count members.old.items))) }
     ensures last { IfOk result (λ step. CostsLastSlots step plan.now node place meter.old meter.new (members_count (members_of (drop before.count members.old.items)))) }
 {
@@ -169,7 +189,7 @@ fn advance_slots<Z: SizeSet>(
     };
     if begins(members.as_slice(), before.count(), slot.name) {
         return advance_filled(
-            alloc, plan, node, &slot, place, before, used, members, meter,
+            alloc, plan, node, &slot, place, before, used, members, following, meter,
         );
     }
     let Step::Last(room) = advance_slots(
@@ -180,6 +200,7 @@ fn advance_slots<Z: SizeSet>(
         before,
         used,
         members,
+        following,
         meter,
     )?
     else {
@@ -187,21 +208,22 @@ fn advance_slots<Z: SizeSet>(
     };
     members.truncate(before.count());
     grow_slots(
-        alloc, plan, node, &slot, place, before, room, 0, used, members, meter,
+        alloc, plan, node, &slot, place, before, room, 0, used, members, following, meter,
     )
 }
 
 /// The same where the slot at `place` is filled.
 #[cycle(advance)]
-fn advance_filled<Z: SizeSet>(
+fn advance_filled<'p, Z: SizeSet>(
     alloc: Global,
-    plan: &Plan<Z>,
+    plan: &'p Plan<Z>,
     node: PlanNode,
     slot: &Slot<'_>,
     place: u64,
     before: Before,
     used: &[&Tree],
     members: &mut Vec<Member>,
+    following: &mut Vec<&'p Tree>,
     meter: &mut Meter,
 ) -> Result<Step, AllocError>
     requires node { IsNodeOf plan.now node }
@@ -216,6 +238,7 @@ fn advance_filled<Z: SizeSet>(
     ensures kept { IfOk result (λ _. take before.count members.new.items ≡ take before.count members.old.items) }
     ensures moved { IfOk result (λ step. (gs : List (Option Data)) → StandIn plan.now.pools (slots_from plan.now node place) (ending_at plan.now node) before (rows_of used.now) (drop before.count members.old.items) gs
         → AreMoved step plan.now.pools (slots_from plan.now node place) (ending_at plan.now node) before (rows_of used.now) gs (drop before.count members.new.items)) }
+    ensures following { IfOk result (λ step. GrownContinue step plan.now.pools (slots_from plan.now node place) (rows_of used.now) (drop before.count members.new.items) (rows_of following.new.items)) }
     ensures steps { CostsTwice plan.now node (place + 1) meter.old meter.new (members_count (members_of (drop before.count members.old.items))) }
     ensures last { IfOk result (λ step. CostsLastSlots step plan.now node (place + 1) meter.old meter.new (members_count (members_of (drop before.count members.old.items)))) }
 {
@@ -230,6 +253,7 @@ fn advance_filled<Z: SizeSet>(
         before.fill(slot),
         same.as_slice(),
         members,
+        following,
         meter,
     )?
     else {
@@ -239,7 +263,7 @@ fn advance_filled<Z: SizeSet>(
     let Some(Member { name, tree }) = members.pop() else {
         unreachable!()
     };
-    match advance_value(alloc, plan, node, slot, place, tree, used, meter)? {
+    match advance_value(alloc, plan, node, slot, place, tree, used, following, meter)? {
         Moved::To(tree) => {
             put_member(
                 alloc,
@@ -252,6 +276,7 @@ fn advance_filled<Z: SizeSet>(
                 used,
                 Member { name, tree },
                 members,
+                following,
                 meter,
             )?;
             Ok(Step::Moved)
@@ -267,6 +292,7 @@ fn advance_filled<Z: SizeSet>(
             size + 1,
             used,
             members,
+            following,
             meter,
         ),
     }
@@ -274,14 +300,15 @@ fn advance_filled<Z: SizeSet>(
 
 /// The next part of as many nodes for a slot; for a key, the next one that leaves some tuple of keys unused.
 #[cycle(advance)]
-fn advance_value<Z: SizeSet>(
+fn advance_value<'p, Z: SizeSet>(
     alloc: Global,
-    plan: &Plan<Z>,
+    plan: &'p Plan<Z>,
     node: PlanNode,
     slot: &Slot<'_>,
     place: u64,
     tree: Tree,
     used: &[&Tree],
+    following: &mut Vec<&'p Tree>,
     meter: &mut Meter,
 ) -> Result<Moved, AllocError>
     requires node { IsNodeOf plan.now node }
@@ -290,24 +317,26 @@ fn advance_value<Z: SizeSet>(
     requires value { IsValue plan.now.pools (slot_in plan.now node place) (slots_from plan.now node (place + 1)) (rows_of used.now) (node_count (data_of tree)) (data_of tree) }
     requires limit { node_count (data_of tree) ≤ plan.now.limit }
     ensures ok { IfOk result (λ moved. IsMoved (IsValue plan.now.pools (slot_in plan.now node place) (slots_from plan.now node (place + 1)) (rows_of used.now) (node_count (data_of tree))) (data_of tree) moved) }
+    ensures following { IfOk result (λ moved. ContinueMoved (IsValue plan.now.pools (slot_in plan.now node place) (slots_from plan.now node (place + 1)) (rows_of used.now) (node_count (data_of tree))) moved (rows_of following.new.items)) }
     ensures steps { Costs plan.now meter.old meter.new (2 * node_count (data_of tree)) }
     ensures last { IfOk result (λ moved. CostsLast moved plan.now meter.old meter.new (node_count (data_of tree))) }
 {
     plan.sound_parts();
     plan.limit();
     if slot.key {
-        return next_key(alloc, plan, slot, &tree, used, meter);
+        return next_key(alloc, plan, slot, &tree, used, following, meter);
     }
-    advance(alloc, plan, slot.node, tree, meter)
+    advance(alloc, plan, slot.node, tree, following, meter)
 }
 
 /// The next list of as many nodes.
 #[cycle(advance)]
-fn advance_list<Z: SizeSet>(
+fn advance_list<'p, Z: SizeSet>(
     alloc: Global,
-    plan: &Plan<Z>,
+    plan: &'p Plan<Z>,
     node: PlanNode,
     tree: Tree,
+    following: &mut Vec<&'p Tree>,
     meter: &mut Meter,
 ) -> Result<Moved, AllocError>
     requires node { IsNodeOf plan.now node }
@@ -316,6 +345,7 @@ fn advance_list<Z: SizeSet>(
     requires no_null { data_of tree ≢ null_data }
     requires limit { node_count (data_of tree) ≤ plan.now.limit }
     ensures ok { IfOk result (λ moved. IsMoved (IsPartOf plan.now node (node_count (data_of tree))) (data_of tree) moved) }
+    ensures following { IfOk result (λ moved. ContinueMoved (IsPartOf plan.now node (node_count (data_of tree))) moved (rows_of following.new.items)) }
     ensures steps { Costs plan.now meter.old meter.new (2 * node_count (data_of tree)) }
     ensures last { IfOk result (λ moved. CostsLast moved plan.now meter.old meter.new (node_count (data_of tree))) }
 {
@@ -330,7 +360,7 @@ fn advance_list<Z: SizeSet>(
     let Some(child) = plan.item(node, 0, meter) else {
         unreachable!()
     };
-    match advance_items(alloc, plan, node, child, &mut items, meter)? {
+    match advance_items(alloc, plan, node, child, &mut items, following, meter)? {
         Step::Moved => Ok(Moved::To(Tree::List(Items { items }))),
         Step::Last(room) => Ok(Moved::Last(room + 1)),
     }
@@ -338,12 +368,13 @@ fn advance_list<Z: SizeSet>(
 
 /// Moves items to the next ones of as many nodes.
 #[cycle(advance)]
-fn advance_items<Z: SizeSet>(
+fn advance_items<'p, Z: SizeSet>(
     alloc: Global,
-    plan: &Plan<Z>,
+    plan: &'p Plan<Z>,
     node: PlanNode,
     child: PlanNode,
     items: &mut Vec<Tree>,
+    following: &mut Vec<&'p Tree>,
     meter: &mut Meter,
 ) -> Result<Step, AllocError>
     requires node { IsNodeOf plan.now node }
@@ -352,6 +383,7 @@ fn advance_items<Z: SizeSet>(
     requires part { IsPart plan.now.pools (site plan.now node) (list_data (items_of items.old.items)) }
     requires limit { items_count (items_of items.old.items) < plan.now.limit }
     ensures moved { IfOk result (λ step. AreItemsMoved step plan.now node (items_of items.old.items) (items_of items.new.items)) }
+    ensures following { IfOk result (λ step. GrownItemsContinue step plan.now node child (items_of items.new.items) (rows_of following.new.items)) }
     ensures steps { Costs plan.now meter.old meter.new (2 * items_count (items_of items.old.items)) }
     ensures last { IfOk result (λ step. CostsLastStep step plan.now meter.old meter.new (items_count (items_of items.old.items))) }
 {
@@ -359,10 +391,19 @@ fn advance_items<Z: SizeSet>(
     plan.limit();
     let mut room = 0;
     while let Some(item) = items.pop() {
-        match advance_item(alloc, plan, node, child, item, items.as_slice(), meter)? {
+        match advance_item(
+            alloc,
+            plan,
+            node,
+            child,
+            item,
+            items.as_slice(),
+            following,
+            meter,
+        )? {
             Moved::To(next) => {
                 items.push(next)?;
-                first_items(alloc, plan, node, child, room, items, meter)?;
+                first_items(alloc, plan, node, child, room, items, following, meter)?;
                 return Ok(Step::Moved);
             }
             Moved::Last(size) => {
@@ -375,6 +416,7 @@ fn advance_items<Z: SizeSet>(
                     room,
                     size + 1,
                     items,
+                    following,
                     meter,
                 )? {
                     return Ok(Step::Moved);
@@ -387,13 +429,14 @@ fn advance_items<Z: SizeSet>(
 
 /// The next part of as many nodes that an item can be, behind the others.
 #[cycle(advance)]
-fn advance_item<Z: SizeSet>(
+fn advance_item<'p, Z: SizeSet>(
     alloc: Global,
-    plan: &Plan<Z>,
+    plan: &'p Plan<Z>,
     node: PlanNode,
     child: PlanNode,
     item: Tree,
     items: &[Tree],
+    following: &mut Vec<&'p Tree>,
     meter: &mut Meter,
 ) -> Result<Moved, AllocError>
     requires node { IsNodeOf plan.now node }
@@ -402,6 +445,7 @@ fn advance_item<Z: SizeSet>(
     requires item { IsFreshItem plan.now node child (node_count (data_of item)) (items_of items.now) (data_of item) }
     requires within { items_count (items_of items.now) + node_count (data_of item) < plan.now.limit }
     ensures ok { IfOk result (λ moved. IsMoved (IsFreshItem plan.now node child (node_count (data_of item)) (items_of items.now)) (data_of item) moved) }
+    ensures following { IfOk result (λ moved. ContinueMoved (IsFreshItem plan.now node child (node_count (data_of item)) (items_of items.now)) moved (rows_of following.new.items)) }
     ensures steps { Costs plan.now meter.old meter.new (2 * node_count (data_of item)) }
     ensures last { IfOk result (λ moved. CostsLast moved plan.now meter.old meter.new (node_count (data_of item))) }
 {
@@ -409,11 +453,11 @@ fn advance_item<Z: SizeSet>(
     plan.sound_parts();
     plan.limit();
     match plan.distinct(node) {
-        Distinct::Free => advance(alloc, plan, child, item, meter),
-        Distinct::Whole => next_unused(alloc, plan, child, &item, items, meter),
+        Distinct::Free => advance(alloc, plan, child, item, following, meter),
+        Distinct::Whole => next_unused(alloc, plan, child, &item, items, following, meter),
         Distinct::Keys => {
             let used = references(alloc, items)?;
-            advance_row(alloc, plan, child, item, used.as_slice(), meter)
+            advance_row(alloc, plan, child, item, used.as_slice(), following, meter)
         }
     }
 }

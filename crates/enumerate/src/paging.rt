@@ -66,7 +66,7 @@ impl Taker for Copies {
 
     ghost none_taken = { λ now. sym (append-nil (trees_of now.items.items)) };
 
-    fn take(&mut self, sample: &Tree) -> Result<(), AllocError> {
+    fn take(&mut self, sample: &Tree, _replaced: Option<&Tree>) -> Result<(), AllocError> {
         self.items.push(copy_of(self.alloc, sample)?)?;
         Ok(())
     }

@@ -75,6 +75,8 @@ pub(crate) fn is_free(taken: &Taken<'_>, tree: &Tree) -> bool
 {
     match taken {
         Taken::Items(items) => !items.contains(tree),
+        // No more rows agree than there are.
+        Taken::Key(key) if (key.rows.len() as u64) < key.later => true,
         Taken::Key(key) => (count_agreeing(key.name, tree, key.rows) as u64) < key.later,
     }
 }

@@ -10,6 +10,7 @@ use Rattle.jtree.specs.declared.value.Tree.{Tree}
 use Rattle.jtree.specs.declared.value.Member.{Member}
 use Rattle.jtree.specs.Text.{items_json, members_json, compact}
 use Rattle.jtree.specs.Last.{last_of, last_of_items, last_of_members, with_last, items_with_last, members_with_last}
+use Rattle.jtree.proofs.LastNode.{with_own_last}
 use Rattle.jtree.specs.Internal.LastText.{last_item, last_member, last_part, text_before, items_before, members_before, text_after, items_after, members_after}
 
 regroup_last : (c p v a : List ℕ) (b : ℕ) → c ++ ((p ++ (v ++ a)) ++ b ∷ []) ≡ (c ++ p) ++ (v ++ (a ++ b ∷ []))
@@ -58,25 +59,6 @@ mutual
   members_text_with_last later (member k d (member l e ms)) some v =
       ap (λ s. comma_if later ++ (quoted k ++ 58 ∷ (compact d ++ s))) (members_text_with_last true (member l e ms) tt v)
       ∙ regroup_member (comma_if later) (quoted k) (compact d) (members_before true (member l e ms)) (compact v ++ members_after (member l e ms))
-
--- a tree is itself with its own last node
-mutual
-  with_own_last : (d : Data) → with_last d (last_of d) ≡ d
-  with_own_last (list no_items) = refl
-  with_own_last (list (item d ds)) = ap list (items_with_own_last (item d ds))
-  with_own_last (object no_members) = refl
-  with_own_last (object (member k d ms)) = ap object (members_with_own_last (member k d ms))
-  with_own_last _ = refl
-
-  items_with_own_last : (ds : Items) → items_with_last ds (last_of_items ds) ≡ ds
-  items_with_own_last no_items = refl
-  items_with_own_last (item d no_items) = ap (λ e. item e no_items) (with_own_last d)
-  items_with_own_last (item d (item e es)) = ap (item d) (items_with_own_last (item e es))
-
-  members_with_own_last : (ms : Members) → members_with_last ms (last_of_members ms) ≡ ms
-  members_with_own_last no_members = refl
-  members_with_own_last (member k d no_members) = ap (λ e. member k e no_members) (with_own_last d)
-  members_with_own_last (member k d (member l e ms)) = ap (member k d) (members_with_own_last (member l e ms))
 
 pub text_by_last : (d : Data) → compact d ≡ text_before d ++ (compact (last_of d) ++ text_after d)
 text_by_last d = ap compact (sym (with_own_last d)) ∙ text_with_last d (last_of d)

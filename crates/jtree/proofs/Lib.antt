@@ -1,4 +1,5 @@
 pub mod Escapes
+pub mod LastNode
 pub mod LastText
 pub mod OrderSteps
 pub mod OrderWords

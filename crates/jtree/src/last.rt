@@ -1,14 +1,16 @@
 // The last node of a tree, and its text at the end of a text that is already there.
-ghost use Rattle.std.specs.Prelude.{◌≡◌, ◌++◌, ◌↔◌, ℕ, List, length, true, false, IsTrue, IfOk, OnErr, option_map};
+ghost use Rattle.std.specs.Prelude.{◌≡◌, ◌+◌, ◌++◌, ◌↔◌, ℕ, List, length, true, false, IsTrue, IfOk, OnOk, OnErr, option_map};
+ghost use Rattle.jtree.specs.Data.{Data, IsTree};
+ghost use Rattle.jtree.specs.Nodes.{node_count};
 ghost use Rattle.jtree.specs.Text.{compact};
-ghost use Rattle.jtree.specs.Last.{last_of, with_last};
-ghost use Rattle.jtree.specs.View.{data_of};
+ghost use Rattle.jtree.specs.Last.{last_of, with_last, items_with_last, members_with_last};
+ghost use Rattle.jtree.specs.View.{data_of, items_of, members_of};
 ghost use Rattle.jtree.specs.Internal.LastText.{last_part, text_after};
 ghost use Rattle.jtree.specs.Internal.Overwriting.{count, Overwrites};
 
-use crate::value::Tree;
+use crate::value::{Member, Tree};
 use itoa::Buffer;
-use std::alloc::AllocError;
+use std::alloc::{AllocError, Global};
 use std::mem;
 
 impl Tree {
@@ -18,6 +20,16 @@ impl Tree {
         ensures { data_of result.now ≡ last_of (data_of self.now) }
     {
         find_last(self).node
+    }
+
+    /// Puts a tree in the place of the last node, in the room of a text where both are texts. `AllocError` where an
+    /// allocation fails, and the tree is then as it was.
+    pub fn set_last(&mut self, alloc: Global, value: &Tree) -> Result<(), AllocError>
+        ensures ok { OnOk result (data_of self.new ≡ with_last (data_of self.old) (data_of value.now)) }
+        ensures err { OnErr result (data_of self.new ≡ data_of self.old) }
+    {
+        value.reveal_invariant();
+        set_last_node(self, alloc, value)
     }
 
     /// Overwrites the text of the last node in place. `text` has to end with the compact text of this tree with `before` in
@@ -45,6 +57,53 @@ impl Tree {
     {
         let last = find_last(self);
         overwrite_node(text, last.after, before, last.node, scratch)
+    }
+}
+
+/// A law, and nothing that runs: a node of count 1 in the place of the last node is itself the last node, the last node in
+/// its own place changes nothing, and a tree there adds its count to that of the others.
+pub fn last_node_is_replaced()
+    ensures again { (d v w : Data) → node_count v ≡ 1 → with_last (with_last d v) w ≡ with_last d w }
+    ensures own { (d : Data) → with_last d (last_of d) ≡ d }
+    ensures count { (d v : Data) → node_count (with_last d v) + 1 ≡ node_count d + node_count v }
+{}
+
+#[cycle(set_last)]
+fn set_last_node(tree: &mut Tree, alloc: Global, value: &Tree) -> Result<(), AllocError>
+    requires { IsTree (data_of value.now) }
+    ensures ok { OnOk result (data_of tree.new ≡ with_last (data_of tree.old) (data_of value.now)) }
+    ensures err { OnErr result (data_of tree.new ≡ data_of tree.old) }
+{
+    match tree {
+        Tree::List(list) if !list.items.is_empty() => set_last_item(&mut list.items, alloc, value),
+        Tree::Object(object) if !object.members.is_empty() => {
+            set_last_member(&mut object.members, alloc, value)
+        }
+        _ => tree.set(alloc, value),
+    }
+}
+
+#[cycle(set_last)]
+fn set_last_item(items: &mut Vec<Tree>, alloc: Global, value: &Tree) -> Result<(), AllocError>
+    requires { IsTree (data_of value.now) }
+    ensures ok { OnOk result (items_of items.new.items ≡ items_with_last (items_of items.old.items) (data_of value.now)) }
+    ensures err { OnErr result (items_of items.new.items ≡ items_of items.old.items) }
+{
+    match items.last_mut() {
+        Some(item) => set_last_node(item, alloc, value),
+        None => Ok(()),
+    }
+}
+
+#[cycle(set_last)]
+fn set_last_member(members: &mut Vec<Member>, alloc: Global, value: &Tree) -> Result<(), AllocError>
+    requires { IsTree (data_of value.now) }
+    ensures ok { OnOk result (members_of members.new.items ≡ members_with_last (members_of members.old.items) (data_of value.now)) }
+    ensures err { OnErr result (members_of members.new.items ≡ members_of members.old.items) }
+{
+    match members.last_mut() {
+        Some(member) => set_last_node(&mut member.tree, alloc, value),
+        None => Ok(()),
     }
 }
 

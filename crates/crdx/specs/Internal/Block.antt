@@ -1,8 +1,8 @@
 -- Where the lines of a block end.
 use Rattle.std.proofs.Common.{refl, sym, subst, append-nil}
-use Rattle.std.specs.Prelude.{◌≡◌, ◌+◌, ◌<◌, ◌≤◌, ◌++◌, [], ℕ, List, length, take, Option, slice_index}
+use Rattle.std.specs.Prelude.{◌≡◌, ◌+◌, ◌<◌, ◌≤◌, ◌++◌, ◌∷◌, [], Bool, true, ℕ, List, length, take, Option, slice_index}
 use Rattle.jtree.specs.Data.{Data}
-use Rattle.crdx.specs.Output.Line.{lines}
+use Rattle.crdx.specs.Output.Line.{line, lines}
 use Rattle.crdx.specs.declared.walk.line.Envelope.{Envelope}
 
 -- the line of each item ends there
@@ -21,10 +21,23 @@ pub record Holds (e : Option Envelope) (items : List Data) (bytes ends : List �
   pub written : bytes ≡ lines e items
   pub ended : HasEnds e items ends
 
+-- where it is known, this is the line of the last item
+abbrev pub IsLastLine : Option Envelope → List Data → Bool → List ℕ → Type 0
+IsLastLine e items known l = known ≡ true → (front : List Data) (v : Data) → items ≡ front ++ v ∷ [] → l ≡ line e v
+
 -- With the lines of these items, a block with these bytes and ends has become one with those; the envelope stays.
-pub record TakesLines (e e_now : Option Envelope) (items : List Data) (bytes ends bytes_now ends_now : List ℕ) : Type 0 where
+pub record TakesLines (e e_now : Option Envelope) (items : List Data) (bytes ends bytes_now ends_now : List ℕ) (known : Bool) (l : List ℕ) : Type 0 where
   pub same : e_now ≡ e
   pub holds : (before : List Data) → Holds e before bytes ends → Holds e (before ++ items) bytes_now ends_now
+  pub last : IsLastLine e items known l
 
-pub takes_none : (e : Option Envelope) (bytes ends : List ℕ) → TakesLines e e [] bytes ends bytes ends
-takes_none e bytes ends = record { same = refl; holds = λ before h. subst (λ us. Holds e us bytes ends) (sym (append-nil before)) h }
+nothing_last : (front : List Data) (v : Data) → [] ≡ front ++ v ∷ [] → ⊥
+nothing_last [] v is = cc
+nothing_last (u ∷ front) v is = cc
+
+pub takes_none : (e : Option Envelope) (bytes ends : List ℕ) (known : Bool) (l : List ℕ) → TakesLines e e [] bytes ends bytes ends known l
+takes_none e bytes ends known l = record {
+  same = refl;
+  holds = λ before h. subst (λ us. Holds e us bytes ends) (sym (append-nil before)) h;
+  last = λ is front v none. absurd (nothing_last front v none);
+}

@@ -1,6 +1,7 @@
 //! Samples that are lent to a taker, page by page.
 ghost use Rattle.std.proofs.Common.{sym, append-nil};
-ghost use Rattle.std.specs.Prelude.{◌≡◌, ◌++◌};
+ghost use Rattle.std.specs.Prelude.{◌≡◌, ◌++◌, IfOk};
+ghost use Rattle.jtree.specs.View.{data_of};
 ghost use Rattle.enumerate.specs.View.{trees_of};
 
 use crate::support::documents::{SPEC, ZERO_AND_ONE};
@@ -12,7 +13,7 @@ use std::alloc::{AllocError, Global};
 use std::process::Abort;
 use std::test::Fail;
 
-/// Copies of samples, with room for so many.
+/// Copies of samples, with room for so many. What was replaced makes the sample before.
 #[derive(Drop)]
 struct Copies {
     alloc: Global,
@@ -25,16 +26,35 @@ impl Taker for Copies {
 
     ghost none_taken = { λ now. sym (append-nil (trees_of now.trees.items)) };
 
-    fn take(&mut self, sample: &Tree) -> Result<(), AllocError> {
+    fn take(&mut self, sample: &Tree, replaced: Option<&Tree>) -> Result<(), AllocError> {
         if self.trees.len() >= self.room {
             return Err(AllocError);
         }
-        let copy = match sample.copy(self.alloc) {
-            Ok(copy) => copy,
-            Err(_) => return Err(AllocError),
-        };
-        self.trees.push(copy)?;
+        if let Some(replaced) = replaced {
+            let mut before = copied(self.alloc, sample)?;
+            before.set_last(self.alloc, replaced)?;
+            if !is_last(&before, self.trees.as_slice()) {
+                return Err(AllocError);
+            }
+        }
+        self.trees.push(copied(self.alloc, sample)?)?;
         Ok(())
+    }
+}
+
+fn copied(alloc: Global, tree: &Tree) -> Result<Tree, AllocError>
+    ensures { IfOk result (λ copy. data_of copy ≡ data_of tree.now) }
+{
+    match tree.copy(alloc) {
+        Ok(copy) => Ok(copy),
+        Err(_) => Err(AllocError),
+    }
+}
+
+fn is_last(tree: &Tree, trees: &[Tree]) -> bool {
+    match trees.last() {
+        Some(last) => *last == *tree,
+        None => false,
     }
 }
 

@@ -1,7 +1,10 @@
 //! Trees: reading and writing, their order, pointers and what stands under a name.
 use crate::support::harness::{holds, is_number, is_said, is_text, is_tree};
 use crate::support::texts::nested;
-use jtree::{Text, Tree, order_in_words, order_is_total, push_index, push_name, texts_tell_apart};
+use jtree::{
+    Text, Tree, last_node_is_replaced, order_in_words, order_is_total, push_index, push_name,
+    texts_tell_apart,
+};
 use serde_json::Value;
 use std::alloc::Global;
 use std::process::Abort;
@@ -309,6 +312,7 @@ fn order(rt: HostRuntime) -> Result<(), Fail> {
     order_is_total();
     order_in_words();
     texts_tell_apart();
+    last_node_is_replaced();
     for (earlier, later) in &ORDERED {
         is_before(&rt, rt.alloc(), earlier, later)?;
     }
@@ -398,7 +402,7 @@ fn parts(rt: HostRuntime) -> Result<(), Fail> {
 }
 
 // A document, its last node, another node, the document with that one in its place, and whether it has as many bytes.
-static LAST_NODES: [(&str, &str, &str, &str, bool); 14] = [
+static LAST_NODES: [(&str, &str, &str, &str, bool); 16] = [
     ("-5", "-5", "27", "27", true),
     ("[]", "[]", "{}", "{}", true),
     ("{}", "{}", "[]", "[]", true),
@@ -443,6 +447,20 @@ static LAST_NODES: [(&str, &str, &str, &str, bool); 14] = [
     ),
     (r#"["ab"]"#, r#""ab""#, r#""abcd""#, r#"["abcd"]"#, false),
     (r#"[7,"abc"]"#, r#""abc""#, "[1,2]", "[7,[1,2]]", true),
+    (
+        r#"{"b":1,"c":[]}"#,
+        "[]",
+        r#"{"x":[2,3]}"#,
+        r#"{"b":1,"c":{"x":[2,3]}}"#,
+        false,
+    ),
+    (
+        r#"[5,{"a":[1,{"b":{}}]}]"#,
+        "{}",
+        "-8",
+        r#"[5,{"a":[1,{"b":-8}]}]"#,
+        true,
+    ),
 ];
 
 fn try_overwriting(
@@ -474,12 +492,22 @@ fn try_last_node(
     alloc: Global,
     row: &(&str, &str, &str, &str, bool),
 ) -> Result<(), Fail> {
-    let (document, last, other, _, _) = *row;
-    let tree = Tree::from_bytes(alloc, document.as_bytes())?;
+    let (document, last, other, changed, _) = *row;
+    let mut tree = Tree::from_bytes(alloc, document.as_bytes())?;
     is_tree(rt, alloc, tree.last(), last, "the last node", document)?;
     let mut node = Tree::from_bytes(alloc, other.as_bytes())?;
     try_overwriting(rt, alloc, &tree, &node, row)?;
-    node.set(alloc, tree.last())?;
+    tree.set_last(alloc, &node)?;
+    is_tree(
+        rt,
+        alloc,
+        &tree,
+        changed,
+        "the tree with the other node",
+        document,
+    )?;
+    let before = Tree::from_bytes(alloc, last.as_bytes())?;
+    node.set(alloc, &before)?;
     is_tree(
         rt,
         alloc,

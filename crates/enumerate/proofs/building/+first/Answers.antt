@@ -1,4 +1,16 @@
 use Rattle.std.proofs.lemmas.Result.{IfOk-weaker, on_ok_weaker}
+use Rattle.std.proofs.lemmas.List.{drop_at}
+use Rattle.std.proofs.Common.{◌∷◌, List, drop, false, filter, inl}
+use Rattle.plan.specs.Samples.NoDeadEnd.{is_key, HasFree}
+use Rattle.enumerate.specs.Internal.Following.{Continue, MembersContinue}
+use Rattle.enumerate.specs.Internal.Rows.{AreUsed, IsValue, used_keys}
+use Rattle.jtree.specs.declared.value.Member.{Member}
+use Rattle.plan.specs.Samples.Keys.{HasSoundParts}
+use Rattle.plan.specs.Samples.Question.{Question}
+use Rattle.enumerate.proofs.FollowingLemmas.{continue_same, part_continues, if_both, on_both, item_continues, continue_here, continue_in, continue_out, grown_continues, list_continues, no_room, put_behind, row_continues}
+use Rattle.enumerate.proofs.KeyItems.{fresh_row, row_fresh}
+use Rattle.enumerate.proofs.RowLemmas.{free_out}
+use Rattle.enumerate.proofs.RowSteps.{no_slots, part_is_value, key_is_value}
 use Rattle.plan.specs.Samples.Sites.{sites_of}
 use Rattle.enumerate.proofs.KeyItems.{item_open, item_least}
 use Rattle.enumerate.proofs.MembershipLemmas.{lighter, row_lighter, null_part}
@@ -27,7 +39,7 @@ use Rattle.enumerate.specs.View.{trees_of}
 use Rattle.enumerate.specs.Internal.Candidates.{IsUnusedPart}
 use Rattle.enumerate.specs.Internal.Lists.{FitsItem}
 use Rattle.enumerate.proofs.LeastLemmas.{least_same}
-use Rattle.enumerate.proofs.ListLemmas.{some_nodes, some_size, few_items, counted, split_same, fits_same, least_from_same, empty_from_same, adds_none, adds_grown, follow_item, site_among}
+use Rattle.enumerate.proofs.ListLemmas.{grown_items_continue, some_nodes, some_size, few_items, counted, split_same, fits_same, least_from_same, empty_from_same, adds_none, adds_grown, follow_item, site_among}
 use Rattle.enumerate.proofs.WholeListLemmas.{list_longer, list_follow, list_first, list_alone, part_fresh, unused_fresh}
 use Rattle.enumerate.proofs.building.+first.Goals.{first_list-then-size-gt1+in-Some+in_ok-first_items, first_list-else-size-gt1}
 use Rattle.enumerate.proofs.SetItemLemmas.{set_free}
@@ -106,7 +118,9 @@ grow_items-first_items-requires g t c κs within =
     let some : 1 ≤ c.in-Some.size = omega (arith, some_nodes (data_of c.in_ok-item.item), first.is.part.nodes_are) in
     let few : c.in-Some.size ≤ c.args.room = omega (arith, fit.1.1.1) in
     let follow = follow_item q c.args.node c.args.child c.args.room c.in-Some.size old c.push.new.self.items c.in_ok-item.item c.requires.first c.requires.within fit first.is c.in_ok-push.ensures.items in
-    (omega (arith, c.decreases, some, few), (within, (c.requires.node, (c.requires.child, follow))))
+    let cs = rows_of c.first_item.new.following.items in
+    let continue = subst (λ l. Continue (IsFreshItem q c.args.node c.args.child c.in-Some.size (items_of l)) (data_of c.in_ok-item.item) cs) c.as_slice.ensures.value c.in_ok-item.ensures.following in
+    (omega (arith, c.decreases, some, few), (within, (c.requires.node, (c.requires.child, (follow, item_continues q c.args.node c.args.child c.in-Some.size old c.push.new.self.items c.in_ok-item.item cs c.in_ok-push.ensures.items first.is.part.nodes_are continue)))))
 
 pub grow_items-returns-clause-ok : goal.grow_items-returns-clause-ok
 grow_items-returns-clause-ok g t c =
@@ -136,7 +150,7 @@ first_list-first_items-requires g t c κs within =
     let q = c.args.plan.now in
     let there = site_among q c.args.node c.requires.node in
     let follow = list_follow q c.args.node c.in-Some.child c.args.size (c.no_dead_end.ensures.parts _ there) c.requires.list c.in-Some.ensures.some (omega (arith, c.if-size-gt1.true)) c.requires.limit c.requires.no_null c.requires.size in
-    (omega (arith, c.decreases, c.requires.limit), (within, (c.requires.node, (c.in-Some.ensures.below, subst (λ l. CanFollow q c.args.node c.in-Some.child (c.args.size - 1) (items_of l)) (sym c.new-items.ensures.items) follow))))
+    (omega (arith, c.decreases, c.requires.limit), (within, (c.requires.node, (c.in-Some.ensures.below, (subst (λ l. CanFollow q c.args.node c.in-Some.child (c.args.size - 1) (items_of l)) (sym c.new-items.ensures.items) follow, inl (ap rows_of c.clear.ensures.items))))))
 
 pub first_list-returns-in_err-first_items-clause-steps : goal.first_list-returns-in_err-first_items-clause-steps
 first_list-returns-in_err-first_items-clause-steps g t c = costs_below c.args.plan.now c.args.meter.now c.item.new.meter c.first_items.new.meter (c.args.size - 1) c.args.size c.item.ensures.step (omega (arith, c.if-size-gt1.true)) c.first_items.ensures.steps
@@ -232,7 +246,7 @@ first_slots-first_slots-requires g t c κs within =
     let can = ((c.rest.ensures c.args.room).0 (c.has.ensures.0 c.if-has.true)).1 in
     let fewer = fewer_here g t (goal.at.first_slots-first_slots-requires g t c).In-Some in (
       omega (arith, c.decreases, fewer),
-      (within, (c.requires.node, (c.requires.row, (omega (arith, c.requires.taken), (c.requires.limit, out_open q c.args.node c.args.place sound s.first c.args.before c.args.room (rows_of c.args.used.now) free can c.requires.open))))),
+      (within, (c.requires.node, (c.requires.row, (omega (arith, c.requires.taken), (c.requires.some, (c.requires.limit, out_open q c.args.node c.args.place sound s.first c.args.before c.args.room (rows_of c.args.used.now) free can c.requires.open)))))),
     )
 
 pub first_slots-returns-then-has-clause-ok : goal.first_slots-returns-then-has-clause-ok
@@ -364,7 +378,16 @@ grow_slots-put_member-requires g t c κs within =
                 c.requires.taken,
                 (
                   omega (arith, c.requires.limit, some, few),
-                  behind_open q c.args.node c.args.place sound c.requires.slot.first c.args.before c.args.room (rows_of c.args.used.now) c.in-Some.size (data_of c.in_ok-tree.tree) c.requires.open.known fits value,
+                  (
+                    c.in_ok-name.ensures ∙ c.requires.slot.name,
+                    (
+                      value.part,
+                      (
+                        subst (λ n. Continue (IsValue q.pools (slot_in q c.args.node c.args.place) (slots_from q c.args.node (c.args.place + 1)) (rows_of c.args.used.now) n) (data_of c.in_ok-tree.tree) (rows_of c.first_value.new.following.items)) (sym value.nodes_are) c.in_ok-tree.ensures.following,
+                        behind_open q c.args.node c.args.place sound c.requires.slot.first c.args.before c.args.room (rows_of c.args.used.now) c.in-Some.size (data_of c.in_ok-tree.tree) c.requires.open.known fits value,
+                      ),
+                    ),
+                  ),
                 ),
               ),
             ),
@@ -419,9 +442,12 @@ put_member-first_slots-requires g t c κs within =
             (
               omega (arith, c.requires.taken, count),
               (
-                omega (arith, c.requires.limit, count),
-                subst (λ x. IsOpen q.pools (slots_from q c.args.node (c.args.place + 1)) (ending_at q c.args.node) x c.args.room (rows_of c.as_slice.result.now)) (sym (filled_at q c.args.node c.args.place c.args.slot.now c.args.before c.fill.result c.requires.slot c.fill.ensures))
-                    (subst (IsOpen q.pools (slots_from q c.args.node (c.args.place + 1)) (ending_at q c.args.node) (filled (slot_in q c.args.node c.args.place).bit c.args.before) c.args.room) (sym same) c.requires.open),
+                omega (arith, c.if-room-eq0.false),
+                (
+                  omega (arith, c.requires.limit, count),
+                  subst (λ x. IsOpen q.pools (slots_from q c.args.node (c.args.place + 1)) (ending_at q c.args.node) x c.args.room (rows_of c.as_slice.result.now)) (sym (filled_at q c.args.node c.args.place c.args.slot.now c.args.before c.fill.result c.requires.slot c.fill.ensures))
+                      (subst (IsOpen q.pools (slots_from q c.args.node (c.args.place + 1)) (ending_at q c.args.node) (filled (slot_in q c.args.node c.args.place).bit c.args.before) c.args.room) (sym same) c.requires.open),
+                ),
               ),
             ),
           ),
@@ -435,19 +461,81 @@ put_member-returns-clause-ok g t c =
     let same = ap rows_of c.as_slice.ensures.value ∙ c.in_ok-same.ensures ∙ (λ i. agreeing_if (c.requires.slot.key i) (c.requires.slot.name i) (data_of c.args.member.tree) (rows_of c.args.used.now)) in
     on_ok_weaker c.first_slots.result (λ a.
     subst (λ l. AddsFirst q.pools (slots_from q c.args.node (c.args.place + 1)) (ending_at q c.args.node) (filled (slot_in q c.args.node c.args.place).bit c.args.before) c.args.room (still_used (slot_in q c.args.node c.args.place) (data_of c.args.member.tree) (rows_of c.args.used.now)) l c.first_slots.new.members.items)
-    c.in_ok-push.ensures.items
-    (subst (λ u. AddsFirst q.pools (slots_from q c.args.node (c.args.place + 1)) (ending_at q c.args.node) (filled (slot_in q c.args.node c.args.place).bit c.args.before) c.args.room u c.push.new.self.items c.first_slots.new.members.items) same
-    (subst (λ x. AddsFirst q.pools (slots_from q c.args.node (c.args.place + 1)) (ending_at q c.args.node) x c.args.room (rows_of c.as_slice.result.now) c.push.new.self.items c.first_slots.new.members.items) (filled_at q c.args.node c.args.place c.args.slot.now c.args.before c.fill.result c.requires.slot c.fill.ensures) a))) c.first_slots.ensures.ok
+    c.in_ok-push-2.ensures.items
+    (subst (λ u. AddsFirst q.pools (slots_from q c.args.node (c.args.place + 1)) (ending_at q c.args.node) (filled (slot_in q c.args.node c.args.place).bit c.args.before) c.args.room u c.push-2.new.self.items c.first_slots.new.members.items) same
+    (subst (λ x. AddsFirst q.pools (slots_from q c.args.node (c.args.place + 1)) (ending_at q c.args.node) x c.args.room (rows_of c.as_slice.result.now) c.push-2.new.self.items c.first_slots.new.members.items) (filled_at q c.args.node c.args.place c.args.slot.now c.args.before c.fill.result c.requires.slot c.fill.ensures) a))) c.first_slots.ensures.ok
+
+pub put_member-returns-then-room-eq0-clause-ok : goal.put_member-returns-then-room-eq0-clause-ok
+put_member-returns-then-room-eq0-clause-ok g t c =
+    let q = c.args.plan.now in
+    let i = c.args.node in
+    let ss = slots_from q i (c.args.place + 1) in
+    let x = filled (slot_in q i c.args.place).bit c.args.before in
+    let used = still_used (slot_in q i c.args.place) (data_of c.args.member.tree) (rows_of c.args.used.now) in
+    let none : c.args.room ≡ 0 = omega (arith, c.if-room-eq0.true) in
+    let keys = keys_at q i (c.args.place + 1) (c.sound_parts.ensures.parts _ (site_among q i c.requires.node)) in
+    let adds = adds_nothing q.pools (ending_at q i) ss x used c.push.new.self.items keys (subst (λ m. IsOpen q.pools ss (ending_at q i) x m used) none c.requires.open) in
+    subst (λ old. AddsFirst q.pools ss (ending_at q i) x c.args.room used old c.push.new.self.items) c.in_ok-push.ensures.items (subst (λ m. AddsFirst q.pools ss (ending_at q i) x m used c.push.new.self.items c.push.new.self.items) (sym none) adds)
+
+pub put_member-returns-then-room-eq0-clause-following : goal.put_member-returns-then-room-eq0-clause-following
+put_member-returns-then-room-eq0-clause-following g t c =
+    let q = c.args.plan.now in
+    let i = c.args.node in
+    let old = c.args.members.now.items in
+    let x = filled (slot_in q i c.args.place).bit c.args.before in
+    let none : c.args.room ≡ 0 = omega (arith, c.if-room-eq0.true) in
+    let can = subst (λ m. CanFill q.pools (slots_from q i (c.args.place + 1)) (ending_at q i) x m) none c.requires.open.rest in
+    let put : drop (length old) c.push.new.self.items ≡ c.args.member ∷ [] = ap (drop (length old)) c.in_ok-push.ensures.items ∙ drop_at old (c.args.member ∷ []) (length old) refl in
+    subst (λ ms. MembersContinue q.pools (slots_from q i c.args.place) (rows_of c.args.used.now) ms (rows_of c.args.following.now.items)) (sym put)
+    (continue_here q i c.args.place c.requires.slot.first x (rows_of c.args.used.now) c.args.member (rows_of c.args.following.now.items) c.requires.name c.requires.part can c.requires.following)
+
+pub put_member-returns-clause-following : goal.put_member-returns-clause-following
+put_member-returns-clause-following g t c =
+    let q = c.args.plan.now in
+    let i = c.args.node in
+    let place = c.args.place in
+    let used = rows_of c.args.used.now in
+    let one = c.args.member in
+    let old = c.args.members.now.items in
+    let pushed = c.push-2.new.self.items in
+    let new = c.first_slots.new.members.items in
+    let cs = rows_of c.first_slots.new.following.items in
+    let same = ap rows_of c.as_slice.ensures.value ∙ c.in_ok-same.ensures ∙ (λ k. agreeing_if (c.requires.slot.key k) (c.requires.slot.name k) (data_of one.tree) used) in
+    on_both c.first_slots.result (λ a h.
+    let put = put_behind old pushed new a.added one c.in_ok-push-2.ensures.items a.is in
+    let behind = subst (λ us. MembersContinue q.pools (slots_from q i (place + 1)) us (drop (length pushed) new) cs) same h in
+    subst (λ ms. MembersContinue q.pools (slots_from q i place) used ms cs) (sym put) (continue_in q i place c.requires.slot.first used one (drop (length pushed) new) cs c.requires.name c.requires.part behind)) c.first_slots.ensures.ok c.first_slots.ensures.following
 
 pub first_row-first_slots-requires : goal.first_row-first_slots-requires
 first_row-first_slots-requires g t c κs within =
     let q = c.args.plan.now in
     let count = ap (λ (x : Before). x.count) c.nothing.ensures in
     let can = subst (λ x. IsOpen q.pools (slots_from q c.args.node 0) (ending_at q c.args.node) x (c.args.size - 1) (rows_of c.args.used.now)) (sym c.nothing.ensures) c.requires.open in
-    (omega (arith, c.decreases), (within, (c.requires.node, (c.requires.row, (omega (arith, count), (omega (arith, c.requires.some, c.requires.limit, count), can))))))
+    (omega (arith, c.decreases), (within, (c.requires.node, (c.requires.row, (omega (arith, count), (omega (arith, c.requires.some, c.if-size-eq1.false), (omega (arith, c.requires.some, c.requires.limit, count), can)))))))
+
+-- without nodes the first row is empty
+empty_adds : (q : Question) (i m : ℕ) (used : List Data) (members : List Member) → HasSoundParts q.pools (site q i) → members ≡ [] → m ≡ 0 → IsOpen q.pools (slots_from q i 0) (ending_at q i) nothing m used → AddsFirst q.pools (slots_from q i 0) (ending_at q i) nothing m used [] members
+empty_adds q i m used members sound empty none can =
+    let ss = slots_from q i 0 in
+    let adds = adds_nothing q.pools (ending_at q i) ss nothing used [] (keys_at q i 0 sound) (subst (λ k. IsOpen q.pools ss (ending_at q i) nothing k used) none can) in
+    subst (λ new. AddsFirst q.pools ss (ending_at q i) nothing m used [] new) (sym empty) (subst (λ k. AddsFirst q.pools ss (ending_at q i) nothing k used [] []) (sym none) adds)
 
 pub first_row-invariant_of-result : goal.first_row-invariant_of-result
 first_row-invariant_of-result g t c =
+    let q = c.args.plan.now in
+    let sound = c.sound_parts.ensures.parts _ (site_among q c.args.node c.requires.node) in
+    let adds = empty_adds q c.args.node (c.args.size - 1) (rows_of c.args.used.now) c.new-members.result.items sound c.new-members.ensures.items (omega (arith, c.if-size-eq1.true)) c.requires.open in
+    subst AreMembers (sym (ap members_of adds.is ∙ adds.are)) (in_members q.pools (slots_from q c.args.node 0) adds.fillings sound.order adds.least.is.are)
+
+pub first_row-returns-then-size-eq1-clause-ok : goal.first_row-returns-then-size-eq1-clause-ok
+first_row-returns-then-size-eq1-clause-ok g t c =
+    let q = c.args.plan.now in
+    let sound = c.sound_parts.ensures.parts _ (site_among q c.args.node c.requires.node) in
+    let adds = empty_adds q c.args.node (c.args.size - 1) (rows_of c.args.used.now) c.new-members.result.items sound c.new-members.ensures.items (omega (arith, c.if-size-eq1.true)) c.requires.open in
+    subst (λ ms. IsLeast tree_cmp (IsRow q c.args.node (c.args.size - 1) (rows_of c.args.used.now)) (object_data ms)) (sym (ap members_of adds.is ∙ adds.are)) (row_least q c.args.node (c.args.size - 1) (rows_of c.args.used.now) adds.fillings sound.order adds.least)
+
+pub first_row-invariant_of-result-2 : goal.first_row-invariant_of-result-2
+first_row-invariant_of-result-2 g t c =
     let q = c.args.plan.now in
     let sound = c.sound_parts.ensures.parts _ (site_among q c.args.node c.requires.node) in
     let adds = subst (λ old. AddsFirst q.pools (slots_from q c.args.node 0) (ending_at q c.args.node) nothing (c.args.size - 1) (rows_of c.args.used.now) old c.first_slots.new.members.items) c.new-members.ensures.items
@@ -461,6 +549,21 @@ first_row-returns-clause-ok g t c =
     let adds = subst (λ old. AddsFirst q.pools (slots_from q c.args.node 0) (ending_at q c.args.node) nothing (c.args.size - 1) (rows_of c.args.used.now) old c.first_slots.new.members.items) c.new-members.ensures.items
     (subst (λ x. AddsFirst q.pools (slots_from q c.args.node 0) (ending_at q c.args.node) x (c.args.size - 1) (rows_of c.args.used.now) c.new-members.result.items c.first_slots.new.members.items) c.nothing.ensures c.in_ok-first_slots.ensures.ok) in
     subst (λ ms. IsLeast tree_cmp (IsRow q c.args.node (c.args.size - 1) (rows_of c.args.used.now)) (object_data ms)) (sym (ap members_of adds.is ∙ adds.are)) (row_least q c.args.node (c.args.size - 1) (rows_of c.args.used.now) adds.fillings sound.order adds.least)
+
+pub first_row-returns-clause-following : goal.first_row-returns-clause-following
+first_row-returns-clause-following g t c =
+    let q = c.args.plan.now in
+    let i = c.args.node in
+    let n = c.args.size - 1 in
+    let used = rows_of c.args.used.now in
+    let ss = slots_from q i 0 in
+    let sound = c.sound_parts.ensures.parts _ (site_among q i c.requires.node) in
+    let new = c.first_slots.new.members.items in
+    let cs = rows_of c.first_slots.new.following.items in
+    let adds = subst (λ old. AddsFirst q.pools ss (ending_at q i) nothing n used old new) c.new-members.ensures.items
+    (subst (λ x. AddsFirst q.pools ss (ending_at q i) x n used c.new-members.result.items new) c.nothing.ensures c.in_ok-first_slots.ensures.ok) in
+    let continue = subst (λ old. MembersContinue q.pools ss used (drop (length old) new) cs) c.new-members.ensures.items c.in_ok-first_slots.ensures.following in
+    row_continues q i n used sound.order (keys_at q i 0 sound) new adds.fillings cs (ap members_of adds.is ∙ adds.are) (omega (arith, c.ranges.size.fits)) adds.least.is continue
 
 pub first_row-returns-clause-steps : goal.first_row-returns-clause-steps
 first_row-returns-clause-steps g t c = costs_row c.args.plan.now c.args.node c.args.meter.now c.first_slots.new.meter (c.args.size - 1) c.args.size c.requires.node c.requires.row (omega (arith, c.requires.some)) c.first_slots.ensures.steps
@@ -531,6 +634,7 @@ first-returns-in_default g t c =
         is = record { part = (null_part q c.args.node (c.no_dead_end.ensures.parts _ there) null (λ leaf. let no = c.in_default.not-Leaf in no (c.sort.ensures ∙ leaf)) (omega (arith, one, c.requires.limit)) refl).1 (sym c.null_ok.ensures ∙ c.if-null_ok.true); nodes_are = sym one };
         least = λ u p. null_first u (p.nodes_are ∙ one);
       };
+      following = subst (λ l. Continue (IsPartOf q c.args.node c.args.size) null (rows_of l)) (sym c.clear.ensures.items) tt;
       steps = λ w wide. omega arith;
     }
 
@@ -545,11 +649,12 @@ first-returns-in-Row g t c =
         | first-then-size-eq1+else-null_ok w ↦ λ e. sym w.null_ok.ensures ∙ w.if-null_ok.false
         | first-else-size-eq1 w ↦ λ e. absurd (omega (arith, w.if-size-eq1.false, e))
       ]) h) c.first_row.ensures.ok;
+      following = if_both c.first_row.result _ _ _ (λ v h k. part_continues q c.args.node (c.no_dead_end.ensures.parts _ there) row c.args.size (data_of v) (rows_of c.first_row.new.following.items) some h.is k) c.first_row.ensures.ok c.first_row.ensures.following;
       steps = c.first_row.ensures.steps;
     }
 
 pub first-returns-in-List : goal.first-returns-in-List
-first-returns-in-List g t c = record { ok = c.first_list.ensures.ok; steps = c.first_list.ensures.steps }
+first-returns-in-List g t c = record { ok = c.first_list.ensures.ok; following = c.first_list.ensures.following; steps = c.first_list.ensures.steps }
 
 pub first-returns-in-Leaf-clause-ok : goal.first-returns-in-Leaf-clause-ok
 first-returns-in-Leaf-clause-ok g t c = IfOk-weaker c.first_unused.result _ _ (λ v h. least_same tree_cmp (IsUnusedPart c.args.plan.now c.args.node c.args.size []) (IsPartOf c.args.plan.now c.args.node c.args.size) (data_of v) (λ u p. p.0) (λ u p. (p, λ k. contained [] _ k)) h) c.first_unused.ensures.ok
@@ -645,13 +750,129 @@ put_member-returns-in_err-push-clause-steps g t c = λ w wide. omega arith
 pub put_member-returns-clause-steps : goal.put_member-returns-clause-steps
 put_member-returns-clause-steps g t c = c.first_slots.ensures.steps
 
-pub first_slots-returns-then-room-eq0-clause-ok : goal.first_slots-returns-then-room-eq0-clause-ok
-first_slots-returns-then-room-eq0-clause-ok g t c =
+pub first-returns-in-Leaf-clause-following : goal.first-returns-in-Leaf-clause-following
+first-returns-in-Leaf-clause-following g t c =
+    let q = c.args.plan.now in
+    let n = c.args.size in
+    IfOk-weaker c.first_unused.result _ _ (λ v h. continue_same (IsUnusedPart q c.args.node n []) (IsPartOf q c.args.node n) (data_of v) (rows_of c.first_unused.new.following.items) (λ u p. p.0) (λ u p. (p, λ k. contained [] _ k)) h) c.first_unused.ensures.following
+
+pub first_item-returns-in-Free-clause-following : goal.first_item-returns-in-Free-clause-following
+first_item-returns-in-Free-clause-following g t c =
+    let q = c.args.plan.now in
+    let i = c.args.node in
+    let k = c.args.child in
+    let n = c.args.size in
+    let free : distinct_of (site q i) ≡ distinct.Free = sym c.distinct.ensures ∙ c.in-Free.is in
+    IfOk-weaker c.first.result _ _ (λ v h. continue_same (IsPartOf q k n) (IsFreshItem q i k n (items_of c.args.items.now)) (data_of v) (rows_of c.first.new.following.items) (λ u p. part_fresh q i k n (items_of c.args.items.now) u (c.sound_parts.ensures.parts _ (site_among q i c.requires.node)) free p) (λ u f. f.part) h) c.first.ensures.following
+
+pub first_item-returns-in-Whole-clause-following : goal.first_item-returns-in-Whole-clause-following
+first_item-returns-in-Whole-clause-following g t c =
+    let q = c.args.plan.now in
+    let i = c.args.node in
+    let k = c.args.child in
+    let n = c.args.size in
+    let set = (c.sound_parts.ensures.parts _ (site_among q i c.requires.node)).set (site q k) c.requires.first.item (sym c.distinct.ensures ∙ c.in-Whole.is) in
+    IfOk-weaker c.first_unused.result _ _ (λ v h. continue_same (IsUnusedPart q k n (trees_of c.args.items.now)) (IsFreshItem q i k n (items_of c.args.items.now)) (data_of v) (rows_of c.first_unused.new.following.items)
+    (λ u p. (unused_fresh q i k n c.args.items.now u set).0 p) (λ u f. (unused_fresh q i k n c.args.items.now u set).1 f) h) c.first_unused.ensures.following
+
+pub first_item-returns-in_ok-used-in-Keys-clause-following : goal.first_item-returns-in_ok-used-in-Keys-clause-following
+first_item-returns-in_ok-used-in-Keys-clause-following g t c =
+    let q = c.args.plan.now in
+    let i = c.args.node in
+    let k = c.args.child in
+    let n = c.args.size in
+    let here = site_among q i c.requires.node in
+    let there = site_among q k (omega (arith, c.requires.child, c.requires.node)) in
+    let items = (c.sound_parts.ensures.parts _ here).map (site q k) c.requires.first.item (sym c.distinct.ensures ∙ c.in-Keys.is) in
+    let rule = c.no_dead_end.ensures.parts _ there in
+    let sound = c.sound_parts.ensures.parts _ there in
+    let some = some_size c.requires.size in
+    let cs = rows_of c.first_row.new.following.items in
+    IfOk-weaker c.first_row.result _ _ (λ v h. continue_same (IsRow q k (n - 1) (trees_of c.args.items.now)) (IsFreshItem q i k n (items_of c.args.items.now)) (data_of v) cs
+    (λ u r. row_fresh q i k rule sound items c.args.items.now n u some c.requires.first.are r) (λ u f. fresh_row q i k rule sound items c.args.items.now n u c.requires.first.are f)
+    (subst (λ us. Continue (IsRow q k (n - 1) us) (data_of v) cs) (ap rows_of c.as_slice.ensures.value ∙ c.in_ok-used-in-Keys.ensures) h)) c.first_row.ensures.following
+
+pub first_items-returns-in_ok-grow_items-clause-following : goal.first_items-returns-in_ok-grow_items-clause-following
+first_items-returns-in_ok-grow_items-clause-following g t c =
+    let q = c.args.plan.now in
+    let there = site_among q c.args.node c.requires.node in
+    grown_items_continue q c.args.node c.args.child (c.no_dead_end.ensures.parts _ there) (c.no_dead_end.ensures.completed _ there) c.in_ok-grow_items.field-0 c.args.room c.args.items.now.items c.grow_items.new.items.items (rows_of c.grow_items.new.following.items)
+    (omega (arith, c.if-room-gt0.true)) (omega (arith, c.ranges.room.fits)) c.requires.follow c.in_ok-grow_items.ensures.ok c.in_ok-grow_items.ensures.following
+
+pub first_list-returns-clause-following : goal.first_list-returns-clause-following
+first_list-returns-clause-following g t c =
+    let q = c.args.plan.now in
+    let i = c.args.node in
+    let n = c.args.size in
+    let here = site_among q i c.requires.node in
+    let rule = c.no_dead_end.ensures.parts _ here in
+    let ends = c.no_dead_end.ensures.completed _ here in
+    let some = some_size c.requires.size in
+    elim c.if-size-gt1.branch [
+      | first_list-then-size-gt1+in-Some+in_ok-first_items b ↦
+          let first = list_first q i n rule c.requires.list some c.requires.limit c.requires.no_null _ (subst (λ l. AddsItems q i (n - 1) l b.first_items.new.items.items) c.new-items.ensures.items b.in_ok-first_items.ensures.ok) in
+          subst (λ f. Continue (IsPartOf q i n) (list_data (items_of c.if-size-gt1.items.items)) (rows_of f.items)) (sym b.following-is)
+          (subst (λ v. Continue (IsPartOf q i n) (list_data (items_of v.items)) (rows_of b.first_items.new.following.items)) (sym b.items-is)
+          (list_continues q i b.in-Some.child n rule ends b.in-Some.ensures.some c.requires.list (omega (arith, c.limit.ensures, c.limit.type_inv)) (items_of b.first_items.new.items.items) (rows_of b.first_items.new.following.items) first.is c.requires.limit b.in_ok-first_items.ensures.following))
+      | first_list-else-size-gt1 b ↦ subst (λ f. Continue (IsPartOf q i n) (list_data (items_of c.if-size-gt1.items.items)) (rows_of f.items)) (sym b.following-is) (subst (λ l. Continue (IsPartOf q i n) (list_data (items_of c.if-size-gt1.items.items)) (rows_of l)) (sym c.clear.ensures.items) tt)
+    ]
+
+pub first_slots-returns-then-has-clause-following : goal.first_slots-returns-then-has-clause-following
+first_slots-returns-then-has-clause-following g t c =
+    let q = c.args.plan.now in
+    let s = slot_here g t (goal.at.first_slots-returns-then-has-clause-following g t c).In-Some in
+    let free = sym s.must ∙ c.if-not-slot.true in
+    on_ok_weaker c.first_slots.result (λ h. continue_out q c.args.node c.args.place s.first (rows_of c.args.used.now) (drop (length c.args.members.now.items) c.first_slots.new.members.items) (rows_of c.first_slots.new.following.items) free h) c.first_slots.ensures.following
+
+pub first_slots-returns-clause-following : goal.first_slots-returns-clause-following
+first_slots-returns-clause-following g t c =
+    let q = c.args.plan.now in
+    let i = c.args.node in
+    let old = c.args.members.now.items in
+    let new = c.grow_slots.new.members.items in
+    let s = slot_here g t (goal.at.first_slots-returns-clause-following g t c).In-Some in
+    grown_continues q i c.args.place s.first c.in_ok-grow_slots.field-0 c.args.before c.args.room (rows_of c.args.used.now) old new (drop (length old) new) (rows_of c.grow_slots.new.following.items)
+    (λ free can. elim c.else-not-slot.branch [
+      | first_slots-else-not-slot-via-then-not-slot+else-has w ↦ let yes = w.has.ensures.1 ((w.rest.ensures c.args.room).1 (omega (arith, c.requires.limit), can)) in let no = sym yes ∙ w.if-has.false in cc
+      | first_slots-else-not-slot-via-else-not-slot w ↦ let yes = w.if-not-slot.false in let no = sym yes ∙ s.must ∙ free in cc
+    ]) c.requires.open.rest c.in_ok-grow_slots.ensures.ok c.in_ok-grow_slots.ensures.following
+
+pub first_slots-returns-in_default-clause-following : goal.first_slots-returns-in_default-clause-following
+first_slots-returns-in_default-clause-following g t c =
+    let q = c.args.plan.now in
+    let i = c.args.node in
+    let none = no_slots q i c.args.place c.in_default.ensures.none in
+    let empty = no_room q.pools (ending_at q i) c.args.before c.args.room (subst (λ ss. CanFill q.pools ss (ending_at q i) c.args.before c.args.room) none c.requires.open.rest) in
+    absurd (omega (arith, empty, c.requires.some))
+
+pub first_value-returns-then-slot-clause-following : goal.first_value-returns-then-slot-clause-following
+first_value-returns-then-slot-clause-following g t c =
     let q = c.args.plan.now in
     let i = c.args.node in
     let place = c.args.place in
-    let old = c.args.members.now.items in
-    let none : 0 ≡ c.args.room = omega (arith, c.if-room-eq0.true) in
-    let opened : IsOpen q.pools (slots_from q i place) (ending_at q i) c.args.before 0 (rows_of c.args.used.now) = subst (λ m. IsOpen q.pools (slots_from q i place) (ending_at q i) c.args.before m (rows_of c.args.used.now)) (sym none) c.requires.open in
-    subst (λ m. AddsFirst q.pools (slots_from q i place) (ending_at q i) c.args.before m (rows_of c.args.used.now) old old) none
-    (adds_nothing q.pools (ending_at q i) (slots_from q i place) c.args.before (rows_of c.args.used.now) old (keys_at q i place (c.sound_parts.ensures.parts _ (site_among q i c.requires.node))) opened)
+    let s = c.args.slot.now in
+    let here = slot_in q i place in
+    let behind = slots_from q i (place + 1) in
+    let used = rows_of c.args.used.now in
+    let n = c.args.size in
+    let cs = rows_of c.first_key.new.following.items in
+    let known = subst (λ ss. AreUsed q.pools ss used) c.requires.slot.first c.requires.known in
+    let law = λ (u : Data). key_is_value c.sound_parts.ensures.free q s.node here behind used n s.later u c.requires.slot.node (sym c.requires.slot.key ∙ c.if-slot.true) known c.requires.slot.later in
+    IfOk-weaker c.first_key.result _ _ (λ v h. continue_same (IsFreeKey q s.node n here.name used s.later) (IsValue q.pools here behind used n) (data_of v) cs (λ u. (law u).0) (λ u. (law u).1)
+    (subst (λ k. Continue (IsFreeKey q s.node n k used s.later) (data_of v) cs) c.requires.slot.name h)) c.first_key.ensures.following
+
+pub first_value-returns-clause-following : goal.first_value-returns-clause-following
+first_value-returns-clause-following g t c =
+    let q = c.args.plan.now in
+    let i = c.args.node in
+    let place = c.args.place in
+    let s = c.args.slot.now in
+    let here = slot_in q i place in
+    let behind = slots_from q i (place + 1) in
+    let used = rows_of c.args.used.now in
+    let n = c.args.size in
+    let cs = rows_of c.first.new.following.items in
+    let other : here.key ≡ false = sym c.requires.slot.key ∙ c.if-slot.false in
+    let free = free_out q.pools here behind used other (subst (λ ss. HasFree q.pools (filter is_key ss) (used_keys ss used) []) c.requires.slot.first c.requires.free) in
+    let law = λ (u : Data). part_is_value q s.node here behind used n u c.requires.slot.node other free in
+    IfOk-weaker c.first.result _ _ (λ v h. continue_same (IsPartOf q s.node n) (IsValue q.pools here behind used n) (data_of v) cs (λ u. (law u).0) (λ u. (law u).1) h) c.first.ensures.following

@@ -14,6 +14,14 @@ use Rattle.enumerate.specs.Internal.Nodes.{site, IsPartOf, Costs}
 use Rattle.enumerate.specs.Internal.Candidates.{IsUnusedPart, IsFreeKey, rows_of}
 use Rattle.plan.specs.Samples.Sizes.{AreFillings, Before, nothing, filled, CanFill, filled_nodes, HasMore}
 use Rattle.enumerate.specs.Internal.Rows.{fill_cmp, IsRest, IsOpen, IsSlotOf, still_used, slots_from, slot_in, ending_at, AreUsed, IsRow, IsValue}
+use Rattle.jtree.specs.declared.value.Tree.{Tree}
+use Rattle.plan.specs.Samples.NoDeadEnd.{is_key, HasFree}
+use Rattle.std.proofs.Common.{false, filter}
+use Rattle.enumerate.specs.Internal.Following.{Continue, ContinueMoved, MembersContinue, GrownContinue, GrownItemsContinue}
+use Rattle.enumerate.specs.Internal.Rows.{used_keys}
+use Rattle.enumerate.proofs.FollowingLemmas.{if_both, moved_continues_same, none_continues, row_moved_continues, row_continues, continue_in, continue_out, item_continues, list_continues}
+use Rattle.enumerate.proofs.RowLemmas.{still_used_other}
+use Rattle.enumerate.proofs.RowSteps.{keys_at, part_is_value, key_is_value}
 use Rattle.enumerate.proofs.ListLemmas.{some_nodes, site_among, few_items, counted}
 use Rattle.enumerate.proofs.MoveLemmas.{moved_same, item_moved}
 use Rattle.enumerate.proofs.MoveCosts.{costs_within, costs_twice, costs_row, twice_row, costs_wider, twice_wider, last_wider, twice_out, twice_behind, twice_value, twice_put, costs_value, twice_grown, costs_last, last_kept, twice_at, last_at}
@@ -85,6 +93,7 @@ advance-returns-in_default g t c =
     let null = c.is_null.ensures.0 c.if-is_null.true in
     record {
       ok = subst (λ v. IsMoved (IsPartOf q c.args.node (node_count v)) v c.past_null.result) (sym null) c.past_null.ensures;
+      following = none_continues (IsPartOf q c.args.node (node_count (data_of c.args.tree))) c.past_null.result (rows_of c.clear.new.self.items) (ap rows_of c.clear.ensures.items);
       steps = λ w wide. omega arith;
       last = costs_last c.past_null.result q c.args.meter.now c.args.meter.now (node_count (data_of c.args.tree)) (λ w wide. omega arith);
     }
@@ -96,12 +105,13 @@ advance-returns-in-Row g t c =
     let row = sym c.in-Row.ensures in
     record {
       ok = IfOk-weaker c.advance_row.result _ _ (λ m h. row_moved q c.args.node (c.no_dead_end.ensures.parts _ there) row (data_of c.args.tree) m h) c.advance_row.ensures.ok;
+      following = if_both c.advance_row.result _ _ _ (λ m h k. row_moved_continues q c.args.node (c.no_dead_end.ensures.parts _ there) row (node_count (data_of c.args.tree)) (data_of c.args.tree) m (rows_of c.advance_row.new.following.items) (some_nodes (data_of c.args.tree)) h k) c.advance_row.ensures.ok c.advance_row.ensures.following;
       steps = c.advance_row.ensures.steps;
       last = c.advance_row.ensures.last;
     }
 
 pub advance-returns-in-List : goal.advance-returns-in-List
-advance-returns-in-List g t c = record { ok = c.advance_list.ensures.ok; steps = c.advance_list.ensures.steps; last = c.advance_list.ensures.last }
+advance-returns-in-List g t c = record { ok = c.advance_list.ensures.ok; following = c.advance_list.ensures.following; steps = c.advance_list.ensures.steps; last = c.advance_list.ensures.last }
 
 pub advance-returns-in-Leaf-clause-ok : goal.advance-returns-in-Leaf-clause-ok
 advance-returns-in-Leaf-clause-ok g t c =
@@ -1053,3 +1063,210 @@ advance_slots-returns-then-len-count-clause-moved g t c = λ gs s.
     let left : drop c.args.before.count members ≡ [] = drop_of_length-le members (omega (arith, c.if-len-count.true, c.len.ensures, c.count.ensures, c.args.members.now.ok.0)) in
     let none : filled_nodes gs ≡ 0 = sym (stand_nodes q.pools ss (ending_at q i) c.args.before used (drop c.args.before.count members) gs s) ∙ ap (λ ms. members_count (members_of ms)) left in
     (nothing_after q.pools (ending_at q i) ss c.args.before used gs s.rest.are none, none)
+
+-- ---- what continues the last node
+
+pub advance-returns-in-Leaf-clause-following : goal.advance-returns-in-Leaf-clause-following
+advance-returns-in-Leaf-clause-following g t c =
+    let q = c.args.plan.now in
+    let n = node_count (data_of c.args.tree) in
+    IfOk-weaker c.next_unused.result _ _ (λ m h. moved_continues_same (IsUnusedPart q c.args.node n []) (IsPartOf q c.args.node n) m (rows_of c.next_unused.new.following.items) (λ u p. p.0) (λ u p. (p, λ k. contained [] _ k)) h) c.next_unused.ensures.following
+
+pub advance_filled-returns-in_default-clause-following : goal.advance_filled-returns-in_default-clause-following
+advance_filled-returns-in_default-clause-following g t c =
+    let q = c.args.plan.now in
+    let i = c.args.node in
+    let place = c.args.place in
+    let used = rows_of c.args.used.now in
+    let one = c.index.result.now in
+    let sound = c.sound_parts.ensures.parts _ (site_among q i c.requires.node) in
+    let here = member_here c.args.slot.now.name.now c.args.before.count c.args.members.now.items one c.requires.filled (at_count c.args.members.now.items one c.count.ensures c.index.ensures) in
+    let mid = c.advance_slots.new.members.items in
+    let cs = rows_of c.advance_slots.new.following.items in
+    let at = filled_at q i place c.args.slot.now c.args.before c.fill.result c.requires.slot c.fill.ensures in
+    let more : c.fill.result.count ≡ c.args.before.count + 1 = ap (λ (x : Before). x.count) c.fill.ensures in
+    let same = same_used q i place c.args.slot.now c.requires.slot sound (rows_of c.as_slice.result.now) used (data_of one.tree) (ap rows_of c.as_slice.ensures.value ∙ c.in_ok-same.ensures) in
+    let f = filled_in q i place c.args.slot.now c.requires.slot sound c.args.before used c.args.members.now.items one c.requires.stand.0 (omega (arith, c.requires.limit, c.limit.ensures, c.limit.type_inv)) here c.requires.filled c.requires.stand.1 in
+    let behind = subst (λ st. GrownContinue st q.pools (slots_from q i (place + 1)) (rows_of c.as_slice.result.now) (drop c.fill.result.count mid) cs) c.in_default.is c.in_ok-room.ensures.following in
+    let there = subst (λ n. MembersContinue q.pools (slots_from q i (place + 1)) (still_used (slot_in q i place) (data_of one.tree) used) (drop n mid) cs) more (subst (λ us. MembersContinue q.pools (slots_from q i (place + 1)) us (drop c.fill.result.count mid) cs) same behind) in
+    let kept = kept_one c.args.before.count mid c.args.members.now.items one (kept_at c.advance_slots.new.members.items c.args.members.now.items at c.in_ok-room.ensures.kept) here in
+    subst (λ ms. MembersContinue q.pools (slots_from q i place) used ms cs) (sym kept.1) (continue_in q i place c.requires.slot.first used one (drop (c.args.before.count + 1) mid) cs f.1.name f.1.value.part there)
+
+pub advance_filled-put_member-requires-clause-name : goal.advance_filled-put_member-requires-clause-name
+advance_filled-put_member-requires-clause-name g t c =
+    let e = ended_here g t (goal.at.advance_filled-put_member-requires-clause-name g t c).In-Some c.requires.stand.0 c.requires.stand.1 in
+    e.stood.name
+
+pub advance_filled-put_member-requires-clause-part : goal.advance_filled-put_member-requires-clause-part
+advance_filled-put_member-requires-clause-part g t c =
+    let q = c.args.plan.now in
+    let next = subst (λ m. IsMoved (IsValue q.pools (slot_in q c.args.node c.args.place) (slots_from q c.args.node (c.args.place + 1)) (rows_of c.args.used.now) (node_count (data_of c.in-Some.field-0.tree))) (data_of c.in-Some.field-0.tree) m) c.in-To.is c.in_ok-tree.ensures.ok in
+    next.is.0.part
+
+pub advance_filled-put_member-requires-clause-following : goal.advance_filled-put_member-requires-clause-following
+advance_filled-put_member-requires-clause-following g t c =
+    let q = c.args.plan.now in
+    let C = λ (n : ℕ). IsValue q.pools (slot_in q c.args.node c.args.place) (slots_from q c.args.node (c.args.place + 1)) (rows_of c.args.used.now) n in
+    let old = data_of c.in-Some.field-0.tree in
+    let cs = rows_of c.advance_value.new.following.items in
+    let next = subst (λ m. IsMoved (C (node_count old)) old m) c.in-To.is c.in_ok-tree.ensures.ok in
+    let continue = subst (λ m. ContinueMoved (C (node_count old)) m cs) c.in-To.is c.in_ok-tree.ensures.following in
+    subst (λ n. Continue (C n) (data_of c.in-To.tree) cs) (sym next.is.0.nodes_are) continue
+
+pub advance_filled-returns-in-To-clause-following : goal.advance_filled-returns-in-To-clause-following
+advance_filled-returns-in-To-clause-following g t c =
+    let q = c.args.plan.now in
+    let cut = cut_here g t (goal.at.advance_filled-returns-in-To-clause-following g t c).In-Some in
+    subst (λ n. MembersContinue q.pools (slots_from q c.args.node c.args.place) (rows_of c.args.used.now) (drop n c.put_member.new.members.items) (rows_of c.put_member.new.following.items)) cut.count c.in_ok-put_member-in-To.ensures.following
+
+pub advance_filled-returns-clause-following : goal.advance_filled-returns-clause-following
+advance_filled-returns-clause-following g t c =
+    let q = c.args.plan.now in
+    let cut = cut_here g t (goal.at.advance_filled-returns-clause-following g t c).In-Some in
+    IfOk-weaker c.grow_slots.result _ _ (λ st h. subst (λ n. GrownContinue st q.pools (slots_from q c.args.node c.args.place) (rows_of c.args.used.now) (drop n c.grow_slots.new.members.items) (rows_of c.grow_slots.new.following.items)) cut.count h) c.grow_slots.ensures.following
+
+pub advance_row-returns-in-Moved-clause-following : goal.advance_row-returns-in-Moved-clause-following
+advance_row-returns-in-Moved-clause-following g t c =
+    let q = c.args.plan.now in
+    let i = c.args.node in
+    let n = node_count (data_of c.args.tree) - 1 in
+    let used = rows_of c.args.used.now in
+    let ss = slots_from q i 0 in
+    let sound = c.sound_parts.ensures.parts _ (site_among q i c.requires.node) in
+    let r = c.requires.row in
+    let stand = row_here g t (goal.at.advance_row-returns-in-Moved-clause-following g t c).In-Some in
+    let new = c.advance_slots.new.members.items in
+    let cs = rows_of c.advance_slots.new.following.items in
+    let next = subst (λ st. AreMoved st q.pools ss (ending_at q i) nothing used r.fillings new) c.in-Moved.is (moved_at c.in_ok-advance_slots.field-0 q.pools ss (ending_at q i) used c.in-Some.members.items new c.nothing-nothing.ensures c.in_ok-advance_slots.ensures.moved r.fillings stand) in
+    let continue = subst (λ st. GrownContinue st q.pools ss used new cs) c.in-Moved.is (subst (λ (x : Before). GrownContinue c.in_ok-advance_slots.field-0 q.pools ss used (drop x.count new) cs) c.nothing-nothing.ensures c.in_ok-advance_slots.ensures.following) in
+    let rest = subst (λ m. IsRest q.pools ss (ending_at q i) nothing m used next.fillings) r.rest.nodes_are next.next.is.0 in
+    row_continues q i n used sound.order (keys_at q i 0 sound) new next.fillings cs next.are (omega (arith, c.requires.limit, c.limit.ensures, c.limit.type_inv)) rest continue
+
+pub advance_slots-returns-then-begins-clause-following : goal.advance_slots-returns-then-begins-clause-following
+advance_slots-returns-then-begins-clause-following g t c = c.advance_filled.ensures.following
+
+pub advance_slots-returns-in_default-2-clause-following : goal.advance_slots-returns-in_default-2-clause-following
+advance_slots-returns-in_default-2-clause-following g t c =
+    let q = c.args.plan.now in
+    let i = c.args.node in
+    let used = rows_of c.args.used.now in
+    let sound = c.sound_parts.ensures.parts _ (site_among q i c.requires.node) in
+    let s = slot_here g t (goal.at.advance_slots-returns-in_default-2-clause-following g t c).In-Some in
+    let new = drop c.args.before.count c.advance_slots.new.members.items in
+    let cs = rows_of c.advance_slots.new.following.items in
+    let out = left_out q i c.args.place c.in-Some.slot s sound c.args.before used c.args.members.now.items c.as_slice.result.now c.requires.stand.0 c.as_slice.ensures.value (λ h. let yes = c.begins.ensures.1 (begins_at c.in-Some.slot.name.now c.as_slice.result.now (sym c.count-2.ensures) h) in let no = c.if-begins.false in cc) c.requires.stand.1 in
+    continue_out q i c.args.place s.first used new cs out.1.1.0 (subst (λ st. GrownContinue st q.pools (slots_from q i (c.args.place + 1)) used new cs) c.in_default-2.is c.in_ok-room.ensures.following)
+
+pub advance_slots-returns-clause-following : goal.advance_slots-returns-clause-following
+advance_slots-returns-clause-following g t c =
+    let q = c.args.plan.now in
+    let front = (cut_at c.advance_slots.new.members.items c.truncate.new.self.items c.count-3.ensures c.truncate.ensures.items) ∙ c.in_ok-room.ensures.kept in
+    let count : length c.truncate.new.self.items ≡ c.args.before.count = ap (λ (ms : List Member). length ms) front ∙ length-take-le c.args.before.count c.args.members.now.items c.requires.within in
+    IfOk-weaker c.grow_slots.result _ _ (λ st h. subst (λ n. GrownContinue st q.pools (slots_from q c.args.node c.args.place) (rows_of c.args.used.now) (drop n c.grow_slots.new.members.items) (rows_of c.grow_slots.new.following.items)) count h) c.grow_slots.ensures.following
+
+pub advance_value-returns-then-slot-clause-following : goal.advance_value-returns-then-slot-clause-following
+advance_value-returns-then-slot-clause-following g t c =
+    let q = c.args.plan.now in
+    let i = c.args.node in
+    let place = c.args.place in
+    let s = c.args.slot.now in
+    let here = slot_in q i place in
+    let behind = slots_from q i (place + 1) in
+    let used = rows_of c.args.used.now in
+    let n = node_count (data_of c.args.tree) in
+    let cs = rows_of c.next_key.new.following.items in
+    let known = subst (λ ss. AreUsed q.pools ss used) c.requires.slot.first c.requires.known in
+    let law = λ (u : Data). key_is_value c.sound_parts.ensures.free q s.node here behind used n s.later u c.requires.slot.node (sym c.requires.slot.key ∙ c.if-slot.true) known c.requires.slot.later in
+    IfOk-weaker c.next_key.result _ _ (λ m h. moved_continues_same (IsFreeKey q s.node n here.name used s.later) (IsValue q.pools here behind used n) m cs (λ u. (law u).0) (λ u. (law u).1)
+    (subst (λ k. ContinueMoved (IsFreeKey q s.node n k used s.later) m cs) c.requires.slot.name h)) c.next_key.ensures.following
+
+pub advance_value-returns-clause-following : goal.advance_value-returns-clause-following
+advance_value-returns-clause-following g t c =
+    let q = c.args.plan.now in
+    let i = c.args.node in
+    let place = c.args.place in
+    let s = c.args.slot.now in
+    let here = slot_in q i place in
+    let behind = slots_from q i (place + 1) in
+    let used = rows_of c.args.used.now in
+    let v = data_of c.args.tree in
+    let n = node_count v in
+    let cs = rows_of c.advance.new.following.items in
+    let other : here.key ≡ false = sym c.requires.slot.key ∙ c.if-slot.false in
+    let free = subst (λ us. HasFree q.pools (filter is_key behind) (used_keys behind us) []) (still_used_other here behind other v used) c.requires.value.free in
+    let law = λ (u : Data). part_is_value q s.node here behind used n u c.requires.slot.node other free in
+    IfOk-weaker c.advance.result _ _ (λ m h. moved_continues_same (IsPartOf q s.node n) (IsValue q.pools here behind used n) m cs (λ u. (law u).0) (λ u. (law u).1) h) c.advance.ensures.following
+
+pub advance_list-returns-in-Moved-clause-following : goal.advance_list-returns-in-Moved-clause-following
+advance_list-returns-in-Moved-clause-following g t c =
+    let q = c.args.plan.now in
+    let i = c.args.node in
+    let there = site_among q i c.requires.node in
+    let rule = c.no_dead_end.ensures.parts _ there in
+    let ends = c.no_dead_end.ensures.completed _ there in
+    let v = data_of c.args.tree in
+    let old = items_of c.in-Some.items.items in
+    let is : v ≡ list_data old = c.in-Some.ensures.some in
+    let count : node_count v ≡ 1 + items_count old = ap node_count is in
+    let within : 1 + items_count old ≤ q.limit = omega (arith, count, c.requires.limit) in
+    let new = items_of c.advance_items.new.items.items in
+    let cs = rows_of c.advance_items.new.following.items in
+    let next = subst (λ d. IsNext tree_cmp (IsPartOf q i (node_count d)) d (Some (list_data new))) (sym is) (list_moved q i rule c.requires.sort old within new (subst (λ s. AreItemsMoved s q i old new) c.in-Moved.is c.in_ok-advance_items.ensures.moved)) in
+    list_continues q i c.in-Some-item.child (node_count v) rule ends c.in-Some-item.ensures.some c.requires.sort (omega (arith, c.limit.ensures, c.limit.type_inv)) new cs next.is.0 c.requires.limit
+    (subst (λ s. GrownItemsContinue s q i c.in-Some-item.child new cs) c.in-Moved.is c.in_ok-advance_items.ensures.following)
+
+pub advance_items-first_items-requires-clause-following : goal.advance_items-first_items-requires-clause-following
+advance_items-first_items-requires-clause-following g t c =
+    let q = c.args.plan.now in
+    let i = c.args.node in
+    let k = c.args.child in
+    let front = c.pop.new.self.items in
+    let one = data_of c.in-Some.item in
+    let cs = rows_of c.advance_item.new.following.items in
+    let C = λ (l : List Tree). IsFreshItem q i k (node_count one) (items_of l) in
+    let next = subst (λ l. IsMoved (C l) one (moved.To c.in-To.next)) c.as_slice.ensures.value (subst (λ m. IsMoved (C c.as_slice.result.now) one m) c.in-To.is c.in_ok-next.ensures.ok) in
+    let continue = subst (λ l. ContinueMoved (C l) (moved.To c.in-To.next) cs) c.as_slice.ensures.value (subst (λ m. ContinueMoved (C c.as_slice.result.now) m cs) c.in-To.is c.in_ok-next.ensures.following) in
+    item_continues q i k (node_count one) front c.push.new.self.items c.in-To.next cs c.in_ok-push-in-To.ensures.items next.is.0.part.nodes_are continue
+
+pub advance_items-returns-in-Moved-clause-following : goal.advance_items-returns-in-Moved-clause-following
+advance_items-returns-in-Moved-clause-following g t c =
+    let q = c.args.plan.now in
+    subst (λ s. GrownItemsContinue s q c.args.node c.args.child (items_of c.grow_items.new.items.items) (rows_of c.grow_items.new.following.items)) c.in-Moved.is c.in_ok-grow_items-in-Last.ensures.following
+
+pub advance_item-returns-in-Free-clause-following : goal.advance_item-returns-in-Free-clause-following
+advance_item-returns-in-Free-clause-following g t c =
+    let q = c.args.plan.now in
+    let i = c.args.node in
+    let k = c.args.child in
+    let n = node_count (data_of c.args.item) in
+    let free : distinct_of (site q i) ≡ distinct.Free = sym c.distinct.ensures ∙ c.in-Free.is in
+    IfOk-weaker c.advance.result _ _ (λ m h. moved_continues_same (IsPartOf q k n) (IsFreshItem q i k n (items_of c.args.items.now)) m (rows_of c.advance.new.following.items) (λ u p. part_fresh q i k n (items_of c.args.items.now) u (c.sound_parts.ensures.parts _ (site_among q i c.requires.node)) free p) (λ u f. f.part) h) c.advance.ensures.following
+
+pub advance_item-returns-in-Whole-clause-following : goal.advance_item-returns-in-Whole-clause-following
+advance_item-returns-in-Whole-clause-following g t c =
+    let q = c.args.plan.now in
+    let i = c.args.node in
+    let k = c.args.child in
+    let n = node_count (data_of c.args.item) in
+    let set = (c.sound_parts.ensures.parts _ (site_among q i c.requires.node)).set (site q k) c.requires.first.item (sym c.distinct.ensures ∙ c.in-Whole.is) in
+    IfOk-weaker c.next_unused.result _ _ (λ m h. moved_continues_same (IsUnusedPart q k n (trees_of c.args.items.now)) (IsFreshItem q i k n (items_of c.args.items.now)) m (rows_of c.next_unused.new.following.items)
+    (λ u p. (unused_fresh q i k n c.args.items.now u set).0 p) (λ u f. (unused_fresh q i k n c.args.items.now u set).1 f) h) c.next_unused.ensures.following
+
+pub advance_item-returns-in_ok-used-in-Keys-clause-following : goal.advance_item-returns-in_ok-used-in-Keys-clause-following
+advance_item-returns-in_ok-used-in-Keys-clause-following g t c =
+    let q = c.args.plan.now in
+    let i = c.args.node in
+    let k = c.args.child in
+    let n = node_count (data_of c.args.item) in
+    let here = site_among q i c.requires.node in
+    let node : k < length (sites_of q.root) = omega (arith, c.requires.child, c.requires.node) in
+    let there = site_among q k node in
+    let items = (c.sound_parts.ensures.parts _ here).map (site q k) c.requires.first.item (sym c.distinct.ensures ∙ c.in-Keys.is) in
+    let rule = c.no_dead_end.ensures.parts _ there in
+    let sound = c.sound_parts.ensures.parts _ there in
+    let same = ap rows_of c.as_slice.ensures.value ∙ c.in_ok-used-in-Keys.ensures in
+    let some = some_nodes (data_of c.args.item) in
+    let cs = rows_of c.advance_row.new.following.items in
+    IfOk-weaker c.advance_row.result _ _ (λ m h. moved_continues_same (IsRow q k (n - 1) (trees_of c.args.items.now)) (IsFreshItem q i k n (items_of c.args.items.now)) m cs
+    (λ u r. row_fresh q i k rule sound items c.args.items.now n u some c.requires.first.are r) (λ u f. fresh_row q i k rule sound items c.args.items.now n u c.requires.first.are f)
+    (subst (λ us. ContinueMoved (IsRow q k (n - 1) us) m cs) same h)) c.advance_row.ensures.following

@@ -1,9 +1,12 @@
-use Rattle.std.proofs.Common.{◌+◌, subst, sym, arith}
+use Rattle.std.proofs.Common.{◌+◌, ◌<◌, subst, sym, arith}
 use Rattle.std.proofs.lemmas.Result.{IfOk-weaker}
 use Rattle.jtree.specs.Nodes.{node_count}
 use Rattle.jtree.specs.View.{data_of}
 use Rattle.enumerate.specs.View.{tree_of}
+use Rattle.enumerate.specs.Internal.Candidates.{rows_of}
+use Rattle.enumerate.specs.Internal.Following.{Continue, ContinueMoved}
 use Rattle.enumerate.specs.Internal.Moves.{IsMoved}
+use Rattle.enumerate.proofs.StandingLemmas.{continue_sample}
 use Rattle.enumerate.specs.Internal.Nodes.{IsPartOf}
 use Rattle.enumerate.specs.Internal.Roots.{IsFirstFrom}
 use Rattle.enumerate.specs.Internal.Steps.{CostsLast}
@@ -47,3 +50,16 @@ returns-else-size-limit-clause-ok g c =
     let old = data_of c.args.tree in
     let last = subst (IsMoved (IsPartOf c.args.plan.now c.root-root.result (node_count old)) old) c.in-Last.is c.in_ok-next.ensures.ok in
     next_none c.args.plan.now c.root-root.result c.root-root.ensures.site (omega (arith, c.limit-limit.type_inv, c.limit-limit.ensures)) old c.requires.sample last.0 (omega (arith, last.1, c.if-size-limit.false, c.limit-limit.ensures))
+
+pub returns-in-To-clause-following : goal.returns-in-To-clause-following
+returns-in-To-clause-following g c =
+    let q = c.args.plan.now in
+    let i = c.root-root.result in
+    let small : q.limit < 4294967296 = omega (arith, c.limit-limit.type_inv, c.limit-limit.ensures) in
+    let old = data_of c.args.tree in
+    let new = data_of c.in-To.next in
+    let cs = rows_of c.advance.new.following.items in
+    let moved = subst (IsMoved (IsPartOf q i (node_count old)) old) c.in-To.is c.in_ok-next.ensures.ok in
+    let next = next_same_size q i c.root-root.ensures.site small old new c.requires.sample moved in
+    let continue = subst (λ m. ContinueMoved (IsPartOf q i (node_count old)) m cs) c.in-To.is c.in_ok-next.ensures.following in
+    continue_sample q i c.root-root.ensures.site small c.last_node_is_replaced.ensures.count new cs next.is.sample (subst (λ n. Continue (IsPartOf q i n) new cs) (sym moved.is.0.nodes_are) continue)

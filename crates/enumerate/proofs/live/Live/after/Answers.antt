@@ -16,5 +16,5 @@ returns-in_err-next-clause-steps g c = λ w wide. omega (arith, c.is_sample.ensu
 pub returns-in-Some-clause-steps : goal.returns-in-Some-clause-steps
 returns-in-Some-clause-steps g c = λ w wide. omega (arith, c.is_sample.ensures.steps w wide, c.next_sample.ensures.steps w wide)
 
-pub returns-in-None-clause-steps : goal.returns-in-None-clause-steps
-returns-in-None-clause-steps g c = λ w wide. omega (arith, c.is_sample.ensures.steps w wide, c.next_sample.ensures.steps w wide)
+pub returns-clause-steps : goal.returns-clause-steps
+returns-clause-steps g c = λ w wide. omega (arith, c.is_sample.ensures.steps w wide, c.next_sample.ensures.steps w wide)

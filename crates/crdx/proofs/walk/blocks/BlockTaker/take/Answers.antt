@@ -1,4 +1,4 @@
-use Rattle.std.proofs.Common.{◌≡◌, ◌∙◌, ◌++◌, ◌∷◌, [], ap, refl, arith}
+use Rattle.std.proofs.Common.{◌≡◌, ◌∙◌, ◌++◌, ◌∷◌, [], ap, arith, true}
 use Rattle.std.specs.Option.{option_copied}
 use Rattle.jtree.specs.View.{data_of}
 use Rattle.crdx.specs.Output.Line.{line}
@@ -7,9 +7,12 @@ use Rattle.crdx.proofs.walk.blocks.BlockTaker.take.Goals as goal
 
 pub returns-clause-ok : goal.returns-clause-ok
 returns-clause-ok c = λ first items t.
-    let e = option_copied c.args.self.now.envelope in
+    let old = c.args.self.now in
+    let mid = c.write_line.new.self in
     let v = data_of c.args.sample.now in
-    let text : c.as_slice.result.now ≡ line e v = c.as_slice.ensures.value ∙ (c.in_ok-self.ensures ∙ ap (λ bs. bs ++ line e v) c.clear.ensures.items) in
-    takes_more (option_copied first.envelope) e e items v first.bytes.items first.ends.items c.args.self.now.bytes.items c.args.self.now.ends.items c.extend_from_slice.new.self.items c.push_reserved.new.self.items c.len.result refl t
-    (c.in_ok-extend_from_slice.ensures.items ∙ ap (λ bs. c.args.self.now.bytes.items ++ bs) text)
-    (c.push_reserved.ensures.items ∙ ap (λ es. es ++ c.len.result ∷ []) c.reserve.ensures.items) (omega (arith, c.len.ensures, c.extend_from_slice.new.self.ok))
+    let same = c.write_line.ensures.same in
+    let text : mid.line.items ≡ line (option_copied old.envelope) v = c.in_ok-write_line.ensures.line ∙ ap (λ f. line f v) same.0 in
+    takes_more (option_copied first.envelope) (option_copied old.envelope) (option_copied mid.envelope) items v first.bytes.items first.ends.items old.bytes.items old.ends.items c.extend_from_slice.new.self.items c.push_reserved.new.self.items c.len.result old.known true old.line.items mid.line.items
+    same.0 t text
+    (c.in_ok-extend_from_slice.ensures.items ∙ (ap (λ b. b.items ++ c.as_slice.result.now) same.1 ∙ ap (λ bs. old.bytes.items ++ bs) c.as_slice.ensures.value))
+    (c.push_reserved.ensures.items ∙ (ap (λ b. b.items ++ c.len.result ∷ []) same.2 ∙ ap (λ es. es ++ c.len.result ∷ []) c.reserve.ensures.items)) (omega (arith, c.len.ensures, c.extend_from_slice.new.self.ok))

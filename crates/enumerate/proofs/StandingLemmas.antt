@@ -1,0 +1,76 @@
+-- A sample at which an enumeration stands, and the next ones in the place of its last node.
+use Rattle.std.proofs.Common.{◌≡◌, ◌<◌, ◌+◌, ◌*◌, ℕ, List, [], ◌∷◌, ◌++◌, true, Option, Some, None, sym, ap, ◌∙◌, subst, arith, length, drop, map, get_or}
+use Rattle.std.proofs.lemmas.List.{drop-map, drop_more}
+use Rattle.std.specs.Borrow.{Bor}
+use Rattle.std.specs.Prelude.{IfSome, OnErr, Result, Ok, Err}
+use Rattle.jtree.specs.Data.{Data}
+use Rattle.jtree.specs.Last.{with_last}
+use Rattle.jtree.specs.Nodes.{node_count}
+use Rattle.jtree.specs.View.{data_of}
+use Rattle.jtree.specs.declared.value.Tree.{Tree}
+use Rattle.plan.specs.Samples.Question.{Question}
+use Rattle.plan.specs.Samples.Sites.{root_site}
+use Rattle.enumerate.specs.Live.{IsNextSample, IsWithinDelay}
+use Rattle.enumerate.specs.Page.{IsSampleOf}
+use Rattle.enumerate.specs.Internal.Candidates.{rows_of}
+use Rattle.enumerate.specs.Internal.Following.{Follow, Continue}
+use Rattle.enumerate.specs.Internal.Nodes.{site, IsPartOf, Costs}
+use Rattle.enumerate.specs.Internal.Standing.{FollowSample, ContinueSample, IsStep, Replaces}
+use Rattle.enumerate.specs.declared.standing.Standing.{Standing}
+use Rattle.enumerate.proofs.RootLemmas.{next_same_size}
+
+module _ (q : Question) (i : ℕ) (root : site q i ≡ root_site q.root) (small : q.limit < 4294967296) (counts : (d v : Data) → node_count (with_last d v) + 1 ≡ node_count d + node_count v) where
+  -- where values make the next parts of the root, they make the next samples
+  follow_sample : (v : Data) (cs : List Data) → IsSampleOf q v → Follow (IsPartOf q i (node_count v)) v cs → FollowSample q v cs
+  follow_sample v [] s f = tt
+  follow_sample v (c ∷ cs) s f =
+      let w = with_last v c in
+      let next = next_same_size q i root small v w s f.0 in
+      let nodes : node_count w ≡ node_count v = f.0.is.0.nodes_are in
+      (omega (arith, counts v c, nodes), next, follow_sample w cs next.is.sample (subst (λ n. Follow (IsPartOf q i n) w cs) (sym nodes) f.1))
+
+  pub continue_sample : (v : Data) (cs : List Data) → IsSampleOf q v → Continue (IsPartOf q i (node_count v)) v cs → ContinueSample q v cs
+  continue_sample v [] s f = tt
+  continue_sample v (u ∷ cs) s f = (f.0, follow_sample v cs s f.1)
+
+-- the value behind the one that stands there is put in its place
+pub put_sample : (q : Question) (again : (d v w : Data) → node_count v ≡ 1 → with_last (with_last d v) w ≡ with_last d w) (v u c : Data) (cs : List Data) → ContinueSample q v (u ∷ c ∷ cs)
+    → IsNextSample q (Some v) (Some (with_last v c)) × ContinueSample q (with_last v c) (c ∷ cs) × (with_last (with_last v c) u ≡ v)
+put_sample q again v u c cs (stands, (one, next, later)) = (next, (again v c c one, later), again v c u one ∙ stands)
+
+row_at : (xs : List (Bor Tree)) (k : ℕ) (x : Bor Tree) → drop k xs ≡ x ∷ drop (k + 1) xs → drop k (rows_of xs) ≡ data_of x.now ∷ drop (k + 1) (rows_of xs)
+row_at xs k x is = let f = λ (r : Bor Tree). data_of r.now in drop-map f k xs ∙ (ap (λ ys. map f ys) is ∙ ap (λ ys. f x ∷ ys) (sym (drop-map f (k + 1) xs)))
+
+-- the same of two references, one behind the other, as they are read
+pub two_rows : (xs : List (Bor Tree)) (k : ℕ) (x y : Bor Tree) → k + 1 < length xs → x ≡ get_or xs k x → y ≡ get_or xs (k + 1) y
+    → (drop k (rows_of xs) ≡ data_of x.now ∷ data_of y.now ∷ drop (k + 2) (rows_of xs)) × (drop (k + 1) (rows_of xs) ≡ data_of y.now ∷ drop (k + 2) (rows_of xs))
+two_rows xs k x y inside first second =
+    let here = row_at xs k x (drop_more xs k x (omega (arith, inside)) ∙ ap (λ z. z ∷ drop (k + 1) xs) (sym first)) in
+    let next : k + 1 + 1 ≡ k + 2 = omega arith in
+    let behind = subst (λ n. drop (k + 1) (rows_of xs) ≡ data_of y.now ∷ drop n (rows_of xs)) next (row_at xs (k + 1) y (drop_more xs (k + 1) y inside ∙ ap (λ z. z ∷ drop (k + 1 + 1) xs) (sym second))) in
+    (here ∙ ap (λ ys. data_of x.now ∷ ys) behind, behind)
+
+pub where_err : {T E : Type 0} (r : Result T E) (P : Type 0) → P → OnErr r P
+where_err (Ok x) P h = tt
+where_err (Err e) P h = h
+
+-- what was taken last is the sample with this in the place of its last node
+abbrev pub CanReplace : (List Data → Type 0) → Data → Option (Bor Tree) → Type 0
+CanReplace has_taken v None = Unit {0}
+CanReplace has_taken v (Some r) = (items : List Data) × has_taken (items ++ with_last v (data_of r.now) ∷ [])
+
+-- the same, in the words of what a taker asks
+pub needed : {T : Type 0} (has_taken : T → T → List Data → Type 0) (first now : T) (v : Data) (r : Option (Bor Tree)) → CanReplace (has_taken first now) v r → IfSome r (λ r. (first : T) × (items : List Data) × has_taken first now (items ++ with_last v (data_of r.now) ∷ []))
+needed has_taken first now v None h = tt
+needed has_taken first now v (Some r) h = (first, h.0, h.1)
+
+pub can_replace : (q : Question) (old new : Standing) (has_taken : List Data → Type 0) (items : List Data) → IsStep q old new true → has_taken (items ++ data_of old.tree ∷ []) → CanReplace has_taken (data_of new.tree) new.replaced
+can_replace q old new has_taken items (next, standing, replaces) taken = replaced new.replaced replaces
+  where
+    replaced : (r : Option (Bor Tree)) → Replaces r (data_of old.tree) (data_of new.tree) → CanReplace has_taken (data_of new.tree) r
+    replaced None h = tt
+    replaced (Some r) h = (items, subst (λ u. has_taken (items ++ u ∷ [])) (sym h) taken)
+
+-- the delay has room for a step
+pub step_within : (q : Question) (before after : ℕ) → Costs q before after (2 * q.limit) → IsWithinDelay q before after
+step_within q before after costs = λ w wide. omega (arith, costs w wide)

@@ -1,0 +1,94 @@
+-- Values that make the next trees, one after the other, in the place of the last node.
+use Rattle.std.specs.Prelude.{◌≡◌, ◌⊎◌, ℕ, zero, suc, List, [], ◌∷◌, Option, Some, None}
+use Rattle.jtree.specs.Data.{Data, Items, no_items, item}
+use Rattle.jtree.specs.Last.{with_last}
+use Rattle.jtree.specs.Nodes.{node_count}
+use Rattle.jtree.specs.Order.{tree_cmp}
+use Rattle.jtree.specs.View.{data_of, members_of}
+use Rattle.jtree.specs.declared.value.Member.{Member}
+use Rattle.plan.specs.Pools.Pools.{Pools}
+use Rattle.plan.specs.Samples.Sites.{Slot}
+use Rattle.plan.specs.Samples.Sizes.{AreFillings, filled_nodes}
+use Rattle.plan.specs.Samples.RuleOfParts.{members_in}
+use Rattle.plan.specs.Samples.NoDeadEnd.{items_then}
+use Rattle.plan.specs.Samples.Question.{Question}
+use Rattle.enumerate.specs.Internal.Rows.{still_used, IsValue}
+use Rattle.enumerate.specs.Least.{IsLeast, IsNext}
+use Rattle.enumerate.specs.Internal.Lists.{IsFreshItem}
+use Rattle.enumerate.specs.declared.moved.Moved.{Moved}
+use Rattle.enumerate.specs.declared.moved.Moved.TheVariants as moved
+use Rattle.enumerate.specs.declared.moved.Step.{Step}
+use Rattle.enumerate.specs.declared.moved.Step.TheVariants as step
+
+-- the first value makes the next one of those for which C holds past the tree, and the others follow on that
+abbrev pub Follow : (Data → Type 0) → Data → List Data → Type 0
+Follow C v [] = Unit {0}
+Follow C v (c ∷ cs) = IsNext tree_cmp C v (Some (with_last v c)) × Follow C (with_last v c) cs
+
+-- The first value is what stands there, and the others follow on it; or there is none.
+abbrev pub Continue : (Data → Type 0) → Data → List Data → Type 0
+Continue C v [] = Unit {0}
+Continue C v (u ∷ cs) = (with_last v u ≡ v) × Follow C v cs
+
+-- the values are those for which C holds, from one of them on: each is the next one
+abbrev pub InTurn : (Data → Type 0) → Data → List Data → Type 0
+InTurn C v [] = Unit {0}
+InTurn C v (c ∷ cs) = IsNext tree_cmp C v (Some c) × InTurn C c cs
+
+-- some of those for which C holds, from the first one on; none where there are none
+abbrev pub AreChoices : (Data → Type 0) → List Data → Type 0
+AreChoices C [] = (u : Data) → C u → ⊥
+AreChoices C (v ∷ cs) = IsLeast tree_cmp C v × InTurn C v cs
+
+-- where there is a next tree, these values continue it
+abbrev pub ContinueMoved : (Data → Type 0) → Moved → List Data → Type 0
+ContinueMoved C (moved.To t) cs = Continue C (data_of t) cs
+ContinueMoved C (moved.Last n) cs = Unit {0}
+
+-- The last value of a row is this one, in this slot with those behind it; there these used rows have the same under all keys so far.
+abbrev pub EndsAt : List Slot → List Data → List (Option Data) → ℕ → Slot → List Slot → List Data → Data → Type 0
+EndsAt (s ∷ ss) used (Some u ∷ gs) zero here behind rows v = (s ≡ here) × (ss ≡ behind) × (used ≡ rows) × (u ≡ v) × (filled_nodes gs ≡ 0)
+EndsAt (s ∷ ss) used (Some u ∷ gs) (suc place) here behind rows v = EndsAt ss (still_used s u used) gs place here behind rows v
+EndsAt (s ∷ ss) used (None ∷ gs) (suc place) here behind rows v = EndsAt ss used gs place here behind rows v
+EndsAt _ used _ place here behind rows v = ⊥
+
+-- these values continue the last one of the row
+pub record ContinueRow (P : Pools) (ss : List Slot) (used : List Data) (gs : List (Option Data)) (cs : List Data) : Type 0 where
+  pub place : ℕ
+  pub here : Slot
+  pub behind : List Slot
+  pub rows : List Data
+  pub value : Data
+  pub ends : EndsAt ss used gs place here behind rows value
+  pub continue : Continue (IsValue P here behind rows (node_count value)) value cs
+
+-- there are none, or these values continue the last one of the row
+abbrev pub MayContinue : Pools → List Slot → List Data → List (Option Data) → List Data → Type 0
+MayContinue P ss used gs cs = (cs ≡ []) ⊎ ContinueRow P ss used gs cs
+
+-- Members stand in the slots, and these values continue the last one.
+pub record MembersContinue (P : Pools) (ss : List Slot) (used : List Data) (members : List Member) (cs : List Data) : Type 0 where
+  pub fillings : List (Option Data)
+  pub are : members_of members ≡ members_in ss fillings
+  pub fit : AreFillings P ss fillings
+  pub continue : MayContinue P ss used fillings cs
+
+-- the same of members that were moved or put there
+abbrev pub GrownContinue : Step → Pools → List Slot → List Data → List Member → List Data → Type 0
+GrownContinue step.Moved P ss used members cs = MembersContinue P ss used members cs
+GrownContinue (step.Last n) P ss used members cs = Unit {0}
+
+-- the last item, with those before it, and values that continue it
+pub record ContinueItem (q : Question) (i c : ℕ) (items : Items) (cs : List Data) : Type 0 where
+  pub front : Items
+  pub one : Data
+  pub is : items ≡ items_then front (item one no_items)
+  pub continue : Continue (IsFreshItem q i c (node_count one) front) one cs
+
+-- there are none, or these values continue the last item
+abbrev pub ItemsContinue : Question → ℕ → ℕ → Items → List Data → Type 0
+ItemsContinue q i c items cs = (cs ≡ []) ⊎ ContinueItem q i c items cs
+
+abbrev pub GrownItemsContinue : Step → Question → ℕ → ℕ → Items → List Data → Type 0
+GrownItemsContinue step.Moved q i c items cs = ItemsContinue q i c items cs
+GrownItemsContinue (step.Last n) q i c items cs = Unit {0}

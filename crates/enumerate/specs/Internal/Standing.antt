@@ -1,0 +1,43 @@
+-- A sample at which an enumeration stands, and what makes the next ones in the place of its last node.
+use Rattle.std.specs.Prelude.{◌≡◌, ◌≤◌, List, [], ◌∷◌, length, drop, Bool, true, false, Option, Some, None}
+use Rattle.std.specs.Borrow.{Bor}
+use Rattle.jtree.specs.Data.{Data}
+use Rattle.jtree.specs.Last.{with_last}
+use Rattle.jtree.specs.Nodes.{node_count}
+use Rattle.jtree.specs.View.{data_of}
+use Rattle.jtree.specs.declared.value.Tree.{Tree}
+use Rattle.plan.specs.Samples.Question.{Question}
+use Rattle.enumerate.specs.Live.{IsNextSample}
+use Rattle.enumerate.specs.Page.{IsSampleOf}
+use Rattle.enumerate.specs.Internal.Candidates.{rows_of}
+use Rattle.enumerate.specs.declared.standing.Standing.{Standing}
+
+-- the first value, of one node, makes the next sample, and the others follow on that
+abbrev pub FollowSample : Question → Data → List Data → Type 0
+FollowSample q v [] = Unit {0}
+FollowSample q v (c ∷ cs) = (node_count c ≡ 1) × IsNextSample q (Some v) (Some (with_last v c)) × FollowSample q (with_last v c) cs
+
+-- The first value is what stands in the place of the last node, and the others follow on it; or there is none.
+abbrev pub ContinueSample : Question → Data → List Data → Type 0
+ContinueSample q v [] = Unit {0}
+ContinueSample q v (u ∷ cs) = (with_last v u ≡ v) × FollowSample q v cs
+
+pub record IsStanding (q : Question) (s : Standing) : Type 0 where
+  pub sample : IsSampleOf q (data_of s.tree)
+  pub within : s.place ≤ length s.following.items
+  pub continue : ContinueSample q (data_of s.tree) (drop s.place (rows_of s.following.items))
+
+-- with this in the place of its last node the new tree is the old one
+abbrev pub Replaces : Option (Bor Tree) → Data → Data → Type 0
+Replaces None old new = Unit {0}
+Replaces (Some r) old new = with_last new (data_of r.now) ≡ old
+
+-- to the next sample; or there is none
+abbrev pub IsStep : Question → Standing → Standing → Bool → Type 0
+IsStep q old new true = IsNextSample q (Some (data_of old.tree)) (Some (data_of new.tree)) × IsStanding q new × Replaces new.replaced (data_of old.tree) (data_of new.tree)
+IsStep q old new false = IsNextSample q (Some (data_of old.tree)) None
+
+-- the sample at which it stands, where it has not ended
+abbrev pub unless_ended : Bool → Tree → Option Data
+unless_ended true tree = None
+unless_ended false tree = Some (data_of tree)

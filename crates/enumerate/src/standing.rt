@@ -1,0 +1,111 @@
+//! A sample at which an enumeration stands, and what makes the next ones in the place of its last node.
+ghost use Rattle.std.specs.Prelude.{◌≡◌, ◌≤◌, ◌*◌, List, length, Option, Some, false, IfOk, OnErr};
+ghost use Rattle.jtree.specs.Data.{Data};
+ghost use Rattle.jtree.specs.View.{data_of};
+ghost use Rattle.enumerate.specs.Live.{IsNextSample, LendsPage, LendsPart};
+ghost use Rattle.enumerate.specs.Page.{IsSampleOf};
+ghost use Rattle.enumerate.specs.Internal.Nodes.{Costs};
+ghost use Rattle.enumerate.specs.Internal.Candidates.{rows_of};
+ghost use Rattle.enumerate.specs.Internal.Standing.{ContinueSample, IsStanding, IsStep, unless_ended};
+
+use crate::root::next_sample;
+use crate::taking::Taker;
+use jtree::{Tree, last_node_is_replaced};
+use plan::{Meter, Plan, SizeSet};
+use std::alloc::{AllocError, Global};
+use std::mem;
+
+#[derive(Drop)]
+pub(crate) struct Standing<'p> {
+    pub tree: Tree,
+    /// From `place` on the candidate that stands in the place of the last node, and those that make the next samples there.
+    following: Vec<&'p Tree>,
+    place: usize,
+    /// What stood there in the sample before, where the two differ there alone.
+    replaced: Option<&'p Tree>,
+}
+
+impl<'p> Standing<'p> {
+    /// At the sample, with what continues it in the place of its last node.
+    pub(crate) fn at<Z: SizeSet>(
+        plan: &'p Plan<Z>,
+        tree: Tree,
+        following: Vec<&'p Tree>,
+    ) -> Standing<'p>
+        requires sample { IsSampleOf plan.now (data_of tree) }
+        requires following { ContinueSample plan.now (data_of tree) (rows_of following.items) }
+        ensures tree { result.tree ≡ tree }
+        ensures standing { IsStanding plan.now result }
+    {
+        let _ = plan;
+        Standing {
+            tree,
+            following,
+            place: 0,
+            replaced: None,
+        }
+    }
+
+    /// Moves to the next sample, and answers whether there is one.
+    pub(crate) fn step<Z: SizeSet>(
+        &mut self,
+        alloc: Global,
+        plan: &'p Plan<Z>,
+        meter: &mut Meter,
+    ) -> Result<bool, AllocError>
+        requires { IsStanding plan.now self.old }
+        ensures ok { IfOk result (λ more. IsStep plan.now self.old self.new more) }
+        ensures steps { Costs plan.now meter.old meter.new (2 * plan.now.limit) }
+    {
+        last_node_is_replaced();
+        if let Some(next) = self.following.get(self.place + 1) {
+            let next = *next;
+            let stood = self.following[self.place];
+            self.tree.set_last(alloc, next)?;
+            self.replaced = Some(stood);
+            self.place += 1;
+            return Ok(true);
+        }
+        self.place = 0;
+        self.replaced = None;
+        let tree = mem::replace(&mut self.tree, Tree::Null);
+        match next_sample(alloc, plan, tree, &mut self.following, meter)? {
+            Some(next) => {
+                self.tree = next;
+                Ok(true)
+            }
+            None => Ok(false),
+        }
+    }
+
+    /// Lends the taker the sample and those after it, `count` of them, or fewer where no more are left, and moves to the next one
+    /// past them. It answers whether no further sample is left.
+    pub(crate) fn lend<Z: SizeSet, T: Taker>(
+        &mut self,
+        alloc: Global,
+        plan: &'p Plan<Z>,
+        count: u32,
+        taker: &mut T,
+        meter: &mut Meter,
+    ) -> Result<bool, AllocError>
+        requires { IsStanding plan.now self.old }
+        ensures page { IfOk result (λ end. (after : Option Data) → IsNextSample plan.now after (Some (data_of self.old.tree))
+            → LendsPage plan.now after count end (T.has_taken taker.old taker.new) (unless_ended end self.new.tree) meter.old meter.new) }
+        ensures part { OnErr result ((after : Option Data) → IsNextSample plan.now after (Some (data_of self.old.tree))
+            → LendsPart plan.now after count (T.has_taken taker.old taker.new)) }
+        ensures taken { (items : List Data) × T.has_taken taker.old taker.new items × (length items ≤ count) }
+        ensures standing { IfOk result (λ end. end ≡ false → IsStanding plan.now self.new) }
+    {
+        let mut lent = 0;
+        let mut replaced = None;
+        'samples: while lent < count {
+            taker.take(&self.tree, replaced)?;
+            if !self.step(alloc, plan, meter)? {
+                return Ok(true);
+            }
+            replaced = self.replaced;
+            lent += 1;
+        }
+        Ok(false)
+    }
+}
