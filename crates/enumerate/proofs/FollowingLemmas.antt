@@ -416,10 +416,6 @@ pub may_in : (P : Pools) (s : Slot) (ss : List Slot) (used : List Data) (u : Dat
 may_in P s ss used u gs cs (inl none) = inl none
 may_in P s ss used u gs cs (inr r) = inr record { place = suc r.place; here = r.here; behind = r.behind; rows = r.rows; value = r.value; ends = r.ends; continue = r.continue }
 
--- the same of slots and of what stands in them, in other words
-pub may_same : (P : Pools) (used : List Data) (cs : List Data) {ss ts : List Slot} {gs hs : List (Option Data)} → ss ≡ ts → gs ≡ hs → MayContinue P ts used hs cs → MayContinue P ss used gs cs
-may_same P used cs {ss = ss} {ts = ts} {gs = gs} {hs = hs} slots_are are h = subst (λ us. MayContinue P us used gs cs) (sym slots_are) (subst (λ us. MayContinue P ts used us cs) (sym are) h)
-
 pub first_of_rows : (xs : List (Bor Tree)) (x : Bor Tree) → Some x ≡ slice_get xs 0 → rows_of xs ≡ data_of x.now ∷ rows_of (drop 1 xs)
 first_of_rows [] x is = cc
 first_of_rows (y ∷ ys) x is = let same : x ≡ y = cc in ap (λ (r : Bor Tree). data_of r.now ∷ rows_of ys) (sym same)

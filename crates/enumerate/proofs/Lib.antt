@@ -25,3 +25,4 @@ pub mod PageLaws
 pub mod LiveLemmas
 pub mod FollowingLemmas
 pub mod StandingLemmas
+pub mod RowWalks

@@ -1,6 +1,15 @@
 -- What moves cost, step by step.
 use Rattle.std.specs.Prelude.{◌≡◌, ℕ, ◌+◌, ◌-◌, ◌*◌, ◌≤◌, List, drop, length}
-use Rattle.std.proofs.Common.{ap, subst, ◌∙◌, arith}
+use Rattle.std.proofs.Common.{ap, sym, subst, ◌∙◌, arith, []}
+use Rattle.std.specs.Prelude.{Option}
+use Rattle.std.proofs.lemmas.List.{length-drop}
+use Rattle.jtree.specs.Data.{Data}
+use Rattle.plan.specs.Pools.Pools.{Pools}
+use Rattle.plan.specs.Samples.Candidates.{IsWidth}
+use Rattle.plan.specs.Samples.Sites.{Slot}
+use Rattle.plan.specs.Samples.Sizes.{filled_nodes, Ending}
+use Rattle.enumerate.specs.Internal.Moves.{AreMoved}
+use Rattle.enumerate.specs.Internal.Walks.{CostsLastAt}
 use Rattle.std.proofs.Math.Nat.{mul-add, mul-le-mul_left}
 use Rattle.jtree.specs.Nodes.{members_count}
 use Rattle.jtree.specs.View.{members_of}
@@ -11,8 +20,8 @@ use Rattle.plan.specs.Samples.Question.{Question}
 use Rattle.plan.specs.Samples.Steps.{counted}
 use Rattle.plan.specs.declared.sort.Sort.TheVariants as sort
 use Rattle.enumerate.specs.Internal.Nodes.{site, IsNodeOf, Costs}
-use Rattle.enumerate.specs.Internal.Rows.{slots_from, CostsSlots}
-use Rattle.enumerate.specs.Internal.Steps.{KeepsMeter, CostsLast, CostsLastSlots, CostsTwice}
+use Rattle.enumerate.specs.Internal.Rows.{slots_from, IsGrown, CostsSlots}
+use Rattle.enumerate.specs.Internal.Steps.{KeepsMeter, CostsLast, CostsLastStep, CostsLastSlots, CostsTwice}
 use Rattle.enumerate.specs.declared.moved.Moved as answer
 use Rattle.enumerate.specs.declared.moved.Moved.TheVariants as moved
 use Rattle.enumerate.specs.declared.moved.Step.{Step}
@@ -99,20 +108,38 @@ module _ (q : Question) (i place : ℕ) where
     pub twice_behind : CostsTwice q i place old mid n → CostsTwice q i place old mid m
     twice_behind h = λ w wide. omega (arith, split_cost w a n m both, h w wide)
 
-    module _ (new : ℕ) (behind : CostsSlots q i place old mid n) where
-      -- those behind a value have no next one, and the value moves
-      pub twice_value : Costs q mid new (2 * a) → CostsTwice q i place old new m
-      twice_value h = λ w wide. omega (arith, split_cost w a n m both, split_cost w a a (2 * a) (omega arith), behind w wide, h w wide)
+    -- neither those behind a value nor the value have a next one
+    pub costs_value : (new : ℕ) → CostsSlots q i place old mid n → Costs q mid new a → CostsSlots q i place old new m
+    costs_value new behind h = λ w wide. omega (arith, split_cost w a n m both, behind w wide, h w wide)
 
-      pub twice_put : (end room : ℕ) → n ≡ room → Costs q mid new (2 * a) → CostsSlots q i place new end room → CostsTwice q i place old end m
-      twice_put end room same h k = λ w wide. omega (arith, split_cost w a n m both, split_cost w a a (2 * a) (omega arith), ap (λ z. (w + 1) * z) same, behind w wide, h w wide, k w wide)
+-- those behind a member have no next one, and it moves, or grows
+pub twice_member : (q : Question) (i place old mid a n m : ℕ) → m ≡ a + n → (new : ℕ) → CostsSlots q i place old mid n → (room : ℕ) → n ≡ room → CostsSlots q i place mid new (2 * a + room) → CostsTwice q i place old new m
+twice_member q i place old mid a n m both new behind room same h = λ w wide.
+    omega (arith, split_cost w a n m both, split_cost w (2 * a) room (2 * a + room) (omega arith), split_cost w a a (2 * a) (omega arith), ap (λ z. (w + 1) * z) same, behind w wide, h w wide)
 
-      -- neither has it
-      pub costs_value : Costs q mid new a → CostsSlots q i place old new m
-      costs_value h = λ w wide. omega (arith, split_cost w a n m both, behind w wide, h w wide)
+pub last_member : (step : Step) (q : Question) (i place old mid a n m : ℕ) → m ≡ a + n → (new : ℕ) → CostsSlots q i place old mid n → CostsLastStep step q mid new a → CostsLastSlots step q i place old new m
+last_member Moved q i place old mid a n m both new behind h = tt
+last_member (Last r) q i place old mid a n m both new behind h = costs_value q i place old mid a n m both new behind h
 
-      pub twice_grown : (end room : ℕ) → m ≡ room → Costs q mid new a → CostsSlots q i place new end room → CostsTwice q i place old end m
-      twice_grown end room same h k = λ w wide. omega (arith, split_cost w a n m both, ap (λ z. (w + 1) * z) same, behind w wide, h w wide, k w wide)
+pub step_kept : (step : Step) (q : Question) (old mid new n : ℕ) → Costs q old mid n → KeepsMeter step mid new → CostsLastStep step q old new n
+step_kept Moved q old mid new n h k = tt
+step_kept (Last r) q old mid new n h k = λ w wide. omega (arith, h w wide, k)
+
+-- the slots that were walked, and the one that moves
+pub plain_cost : (q : Question) (i old mid new place room n m : ℕ) → 1 ≤ place → place ≤ length (slots_from q i 0) → n + room ≡ m → ((w : ℕ) → IsWidth q.pools q.root w → mid + place ≤ old + length (slots_from q i 0) + (w + 1) * room)
+    → CostsSlots q i (place - 1) mid new (2 * n + room) → CostsTwice q i 0 old new m
+plain_cost q i old mid new place room n m some within both walked h = λ w wide.
+    let fewer = length-drop (place - 1) (slots_from q i 0) in
+    omega (arith, some, within, fewer, split_cost w (2 * n) room (2 * n + room) (omega arith), split_cost w n n (2 * n) (omega arith), split_cost w n room m (omega (arith, both)), walked w wide, h w wide)
+
+-- no next one is found at a place
+pub last_at_place : (step : Step) (q : Question) (P : Pools) (ss : List Slot) (end : Ending) (x : Before) (gs : List (Option Data)) (new : List Member) (room n old mid after : ℕ) → mid ≡ counted old 1 → filled_nodes gs ≡ room + n → AreMoved step P ss end x [] gs new → CostsLastStep step q mid after n → CostsLastAt step q room old after
+last_at_place Moved q P ss end x gs new room n old mid after one nodes h cost = tt
+last_at_place (Last m) q P ss end x gs new room n old mid after one nodes h cost = λ w wide. omega (arith, one, split_cost w room n m (sym h.1 ∙ nodes), cost w wide)
+
+pub last_grown : (step : Step) (q : Question) (P : Pools) (s : Slot) (ss : List Slot) (end : Ending) (x : Before) (room : ℕ) (base new : List Member) (old mid after : ℕ) → mid ≡ counted old 1 → IsGrown step P s ss end x room 0 [] base new → KeepsMeter step mid after → CostsLastAt step q room old after
+last_grown Moved q P s ss end x room base new old mid after one grown kept = tt
+last_grown (Last m) q P s ss end x room base new old mid after one grown kept = λ w wide. omega (arith, one, kept, ap (λ z. (w + 1) * z) grown.2)
 
 -- ---- what stands before it said in other words
 

@@ -21,7 +21,7 @@ use Rattle.enumerate.specs.Internal.Candidates.{IsFreeKey, agreeing_if}
 use Rattle.enumerate.proofs.MemberCuts.{IsCut}
 use Rattle.plan.specs.declared.plan.Slot as handed
 use Rattle.enumerate.specs.Internal.Rows.{fill_cmp, slots_from, slot_in, ending_at, used_keys, IsRest, AreUsed, IsOpen, AddsFirst, still_used, IsValue, IsGrown, IsSlotOf, IsRow}
-use Rattle.enumerate.specs.Internal.Moves.{Begins, StandIn, AreNext, AreMoved, IsMoved}
+use Rattle.enumerate.specs.Internal.Moves.{IsFilled, Begins, StandIn, AreNext, AreMoved, IsMoved}
 use Rattle.enumerate.specs.declared.moved.Moved as answer
 use Rattle.enumerate.specs.declared.moved.Step.{Step}
 use Rattle.enumerate.specs.declared.moved.Step.TheVariants.{Moved, Last}
@@ -55,15 +55,6 @@ none_left P end x m used [] are = ((λ u h less. nothing_past u h.are less), ref
     nothing_past [] are less = cc
     nothing_past (g ∷ gs) are less = are
 none_left P end x m used (g ∷ gs) are = absurd are
-
--- a member stands in the slot, and others in those behind it
-pub record IsFilled (q : Question) (i place : ℕ) (x : Before) (used : List Data) (one : Member) (others : List Member) (gs : List (Option Data)) : Type 0 where
-  pub rest : List (Option Data)
-  pub is : gs ≡ Some (data_of one.tree) ∷ rest
-  pub name : one.name ≡ (slot_in q i place).name
-  pub value : IsValue q.pools (slot_in q i place) (slots_from q i (place + 1)) used (node_count (data_of one.tree)) (data_of one.tree)
-  pub stand : StandIn q.pools (slots_from q i (place + 1)) (ending_at q i) (filled (slot_in q i place).bit x) (still_used (slot_in q i place) (data_of one.tree) used) others rest
-  pub whole : IsRest q.pools (slot_in q i place ∷ slots_from q i (place + 1)) (ending_at q i) x (filled_nodes (Some (data_of one.tree) ∷ rest)) used (Some (data_of one.tree) ∷ rest)
 
 module _ (q : Question) (i place : ℕ) (sound : HasSoundParts q.pools (site q i)) (first : slots_from q i place ≡ slot_in q i place ∷ slots_from q i (place + 1)) where
   abbrev behind : List Slot

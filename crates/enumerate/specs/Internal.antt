@@ -9,3 +9,5 @@ pub mod Moves
 pub mod Membership
 pub mod Roots
 pub mod Following
+pub mod Prefixes
+pub mod Walks

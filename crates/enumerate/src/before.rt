@@ -34,6 +34,16 @@ impl Before {
         Before { taken: 0, seen: 0 }
     }
 
+    /// So many slots are filled, and no named field is among them.
+    pub(crate) fn unnamed(count: u32) -> Before
+        ensures { result ≡ record { count = count; seen = 0 } }
+    {
+        Before {
+            taken: count,
+            seen: 0,
+        }
+    }
+
     /// How many slots are filled.
     pub(crate) fn count(self) -> usize
         ensures { result ≡ self.count }

@@ -1,5 +1,5 @@
 //! The next part of as many nodes.
-ghost use Rattle.std.specs.Prelude.{◌≡◌, ◌≢◌, ◌↔◌, ◌+◌, ◌-◌, ◌*◌, ◌≤◌, ◌<◌, ℕ, List, length, take, drop, IfOk, IfSome, IfNone, Option, None, Some, IsTrue};
+ghost use Rattle.std.specs.Prelude.{◌≡◌, ◌≢◌, ◌↔◌, ◌+◌, ◌-◌, ◌*◌, ◌≤◌, ◌<◌, ◌++◌, ◌∷◌, [], ℕ, List, All, length, take, drop, IfOk, IfSome, IfNone, Option, None, Some, IsTrue};
 ghost use Rattle.jtree.specs.Data.{Data, null as null_data, object as object_data, list as list_data, Items as ItemsData, Members as MembersData};
 ghost use Rattle.jtree.specs.Nodes.{node_count, items_count, members_count};
 ghost use Rattle.jtree.specs.View.{data_of, items_of, members_of};
@@ -9,11 +9,14 @@ ghost use Rattle.plan.specs.Samples.Candidates.{sort_of};
 ghost use Rattle.plan.specs.declared.sort.Sort.TheVariants as sort;
 ghost use Rattle.enumerate.specs.Internal.Nodes.{site, IsNodeOf, IsPartOf, Costs};
 ghost use Rattle.enumerate.specs.Internal.Candidates.{rows_of};
-ghost use Rattle.enumerate.specs.Internal.Rows.{slots_from, slot_in, ending_at, IsSlotOf, AreUsed, IsRow, IsValue};
+ghost use Rattle.enumerate.specs.Internal.Rows.{slots_from, slot_in, ending_at, IsSlotOf, AreUsed, IsOpen, IsRow, IsValue, CostsSlots};
 ghost use Rattle.enumerate.specs.Internal.Lists.{AreFirst, IsFreshItem};
 ghost use Rattle.enumerate.specs.Internal.Following.{ContinueMoved, GrownContinue, GrownItemsContinue};
 ghost use Rattle.enumerate.specs.Internal.Steps.{CostsLast, CostsLastStep, CostsLastSlots, CostsTwice};
-ghost use Rattle.enumerate.specs.Internal.Moves.{IsMoved, StandIn, Begins, AreMoved, AreItemsMoved};
+ghost use Rattle.plan.specs.Samples.Sizes.{nothing, filled, CanFill};
+ghost use Rattle.enumerate.specs.Internal.Moves.{IsMoved, StandIn, Begins, AreMoved, AreLastBehind, AreItemsMoved};
+ghost use Rattle.enumerate.specs.Internal.Prefixes.{EndsIn};
+ghost use Rattle.enumerate.specs.Internal.Walks.{IsWalkedTo, AreWalked, AreLeft, CostsLastAt};
 
 use crate::before::Before;
 use crate::building::{first_items, grow_items, grow_slots, put_member};
@@ -125,21 +128,42 @@ fn advance_row<'p, Z: SizeSet>(
     let Some(mut members) = into_members(tree) else {
         unreachable!()
     };
-    let nothing = Before::nothing();
-    match advance_slots(
-        alloc,
-        plan,
-        node,
-        0,
-        nothing,
-        used,
-        &mut members,
-        following,
-        meter,
-    )? {
+    let step = advance_members(alloc, plan, node, used, &mut members, following, meter)?;
+    match step {
         Step::Moved => Ok(Moved::To(Tree::Object(Members { members }))),
         Step::Last(room) => Ok(Moved::Last(room + 1)),
     }
+}
+
+/// Moves the members of a row to the next ones of as many nodes.
+#[cycle(advance)]
+fn advance_members<'p, Z: SizeSet>(
+    alloc: Global,
+    plan: &'p Plan<Z>,
+    node: PlanNode,
+    used: &[&Tree],
+    members: &mut Vec<Member>,
+    following: &mut Vec<&'p Tree>,
+    meter: &mut Meter,
+) -> Result<Step, AllocError>
+    requires node { IsNodeOf plan.now node }
+    requires row { sort_of (site plan.now node) ≡ sort.Row }
+    requires known { AreUsed plan.now.pools (slots_from plan.now node 0) (rows_of used.now) }
+    requires stand { (gs : List (Option Data)) × StandIn plan.now.pools (slots_from plan.now node 0) (ending_at plan.now node) nothing (rows_of used.now) members.old.items gs }
+    requires limit { members_count (members_of members.old.items) < plan.now.limit }
+    ensures moved { IfOk result (λ step. (gs : List (Option Data)) → StandIn plan.now.pools (slots_from plan.now node 0) (ending_at plan.now node) nothing (rows_of used.now) members.old.items gs
+        → AreMoved step plan.now.pools (slots_from plan.now node 0) (ending_at plan.now node) nothing (rows_of used.now) gs members.new.items) }
+    ensures following { IfOk result (λ step. GrownContinue step plan.now.pools (slots_from plan.now node 0) (rows_of used.now) members.new.items (rows_of following.new.items)) }
+    ensures steps { CostsTwice plan.now node 0 meter.old meter.new (members_count (members_of members.old.items)) }
+    ensures last { IfOk result (λ step. CostsLastSlots step plan.now node 0 meter.old meter.new (members_count (members_of members.old.items))) }
+{
+    if used.is_empty() && !plan.names_fields(node) {
+        return advance_plain(alloc, plan, node, members, following, meter);
+    }
+    let nothing = Before::nothing();
+    advance_slots(
+        alloc, plan, node, 0, nothing, used, members, following, meter,
+    )
 }
 
 /// Whether the member at a place has the name.
@@ -260,9 +284,53 @@ fn advance_filled<'p, Z: SizeSet>(
         return Ok(Step::Moved);
     };
     members.truncate(before.count() + 1);
-    let Some(Member { name, tree }) = members.pop() else {
+    let Some(member) = members.pop() else {
         unreachable!()
     };
+    advance_member(
+        alloc, plan, node, slot, place, before, room, used, member, members, following, meter,
+    )
+}
+
+/// Puts back the next value of the member that was taken off, and then the first members of `room` nodes behind it, where those that
+/// stood there have no next ones; or else a value of more nodes, and the first members behind that.
+#[cycle(advance)]
+fn advance_member<'p, Z: SizeSet>(
+    alloc: Global,
+    plan: &'p Plan<Z>,
+    node: PlanNode,
+    slot: &Slot<'_>,
+    place: u64,
+    before: Before,
+    room: u32,
+    used: &[&Tree],
+    member: Member,
+    members: &mut Vec<Member>,
+    following: &mut Vec<&'p Tree>,
+    meter: &mut Meter,
+) -> Result<Step, AllocError>
+    requires node { IsNodeOf plan.now node }
+    requires row { sort_of (site plan.now node) ≡ sort.Row }
+    requires slot { IsSlotOf plan.now node place slot.now }
+    requires taken { before.count ≤ place }
+    requires front { length members.old.items ≡ before.count }
+    requires known { AreUsed plan.now.pools (slots_from plan.now node place) (rows_of used.now) }
+    requires name { member.name ≡ (slot_in plan.now node place).name }
+    requires value { IsValue plan.now.pools (slot_in plan.now node place) (slots_from plan.now node (place + 1)) (rows_of used.now) (node_count (data_of member.tree)) (data_of member.tree) }
+    requires rest { CanFill plan.now.pools (slots_from plan.now node (place + 1)) (ending_at plan.now node) (filled (slot_in plan.now node place).bit before) room }
+    requires open { IsOpen plan.now.pools (slots_from plan.now node place) (ending_at plan.now node) before (room + node_count (data_of member.tree)) (rows_of used.now) }
+    requires limit { before.count + (room + node_count (data_of member.tree)) < plan.now.limit }
+    ensures kept { IfOk result (λ _. take before.count members.new.items ≡ members.old.items) }
+    ensures moved { IfOk result (λ step. (gs : List (Option Data)) (others : List Member) → AreLastBehind plan.now node place before (rows_of used.now) member others room gs
+        → AreMoved step plan.now.pools (slots_from plan.now node place) (ending_at plan.now node) before (rows_of used.now) gs (drop before.count members.new.items)) }
+    ensures following { IfOk result (λ step. GrownContinue step plan.now.pools (slots_from plan.now node place) (rows_of used.now) (drop before.count members.new.items) (rows_of following.new.items)) }
+    ensures steps { CostsSlots plan.now node (place + 1) meter.old meter.new (2 * node_count (data_of member.tree) + room) }
+    ensures left { IfOk result (λ step. AreLeft step members.old.items members.new.items) }
+    ensures last { IfOk result (λ step. CostsLastStep step plan.now meter.old meter.new (node_count (data_of member.tree))) }
+{
+    plan.sound_parts();
+    plan.limit();
+    let Member { name, tree } = member;
     match advance_value(alloc, plan, node, slot, place, tree, used, following, meter)? {
         Moved::To(tree) => {
             put_member(
@@ -291,6 +359,118 @@ fn advance_filled<'p, Z: SizeSet>(
             room + size,
             size + 1,
             used,
+            members,
+            following,
+            meter,
+        ),
+    }
+}
+
+/// Takes the last member off, where it has the name.
+fn pop_named(members: &mut Vec<Member>, name: &str) -> Option<Member>
+    ensures some { IfSome result (λ one. (members.old.items ≡ members.new.items ++ one ∷ []) × (one.name ≡ name.now)) }
+    ensures none { IfNone result ((members.new.items ≡ members.old.items) × (EndsIn name.now members.old.items → ⊥)) }
+    ensures fewer { length members.new.items ≤ length members.old.items }
+{
+    match members.last() {
+        Some(last) if last.name.as_str() == name => members.pop(),
+        _ => None,
+    }
+}
+
+/// Moves the members of a row to the next ones of as many nodes, where no used row and no named field has to be kept in mind: from
+/// the last slot on, and no further than to the one that moves.
+#[cycle(advance)]
+fn advance_plain<'p, Z: SizeSet>(
+    alloc: Global,
+    plan: &'p Plan<Z>,
+    node: PlanNode,
+    members: &mut Vec<Member>,
+    following: &mut Vec<&'p Tree>,
+    meter: &mut Meter,
+) -> Result<Step, AllocError>
+    requires node { IsNodeOf plan.now node }
+    requires row { sort_of (site plan.now node) ≡ sort.Row }
+    requires plain { All (λ s. s.bit ≡ None) (slots_from plan.now node 0) }
+    requires stand { (gs : List (Option Data)) × StandIn plan.now.pools (slots_from plan.now node 0) (ending_at plan.now node) nothing [] members.old.items gs }
+    requires limit { members_count (members_of members.old.items) < plan.now.limit }
+    ensures moved { IfOk result (λ step. (gs : List (Option Data)) → StandIn plan.now.pools (slots_from plan.now node 0) (ending_at plan.now node) nothing [] members.old.items gs
+        → AreMoved step plan.now.pools (slots_from plan.now node 0) (ending_at plan.now node) nothing [] gs members.new.items) }
+    ensures following { IfOk result (λ step. GrownContinue step plan.now.pools (slots_from plan.now node 0) [] members.new.items (rows_of following.new.items)) }
+    ensures steps { CostsTwice plan.now node 0 meter.old meter.new (members_count (members_of members.old.items)) }
+    ensures last { IfOk result (λ step. CostsLastSlots step plan.now node 0 meter.old meter.new (members_count (members_of members.old.items))) }
+{
+    plan.sound_parts();
+    plan.limit();
+    let mut room = 0;
+    let mut place = plan.slot_count(node);
+    while place > 0 {
+        place -= 1;
+        match advance_at(alloc, plan, node, place, room, members, following, meter)? {
+            Step::Moved => return Ok(Step::Moved),
+            Step::Last(nodes) => room = nodes,
+        }
+    }
+    Ok(Step::Last(room))
+}
+
+/// Moves what stands in the slot at `place`, where the members behind it, of `room` nodes, had no next ones and were taken off. Where
+/// there is no next one either, it is taken off too.
+#[cycle(advance)]
+fn advance_at<'p, Z: SizeSet>(
+    alloc: Global,
+    plan: &'p Plan<Z>,
+    node: PlanNode,
+    place: u64,
+    room: u32,
+    members: &mut Vec<Member>,
+    following: &mut Vec<&'p Tree>,
+    meter: &mut Meter,
+) -> Result<Step, AllocError>
+    requires node { IsNodeOf plan.now node }
+    requires row { sort_of (site plan.now node) ≡ sort.Row }
+    requires plain { All (λ s. s.bit ≡ None) (slots_from plan.now node 0) }
+    requires place { place < length (slots_from plan.now node 0) }
+    requires walked { (gs : List (Option Data)) × IsWalkedTo plan.now node (place + 1) room members.old.items gs }
+    requires limit { members_count (members_of members.old.items) + room < plan.now.limit }
+    ensures moved { IfOk result (λ step. (gs : List (Option Data)) → IsWalkedTo plan.now node (place + 1) room members.old.items gs → AreWalked step plan.now node place members.new.items gs) }
+    ensures following { IfOk result (λ step. GrownContinue step plan.now.pools (slots_from plan.now node 0) [] members.new.items (rows_of following.new.items)) }
+    ensures steps { CostsSlots plan.now node place meter.old meter.new (2 * members_count (members_of members.old.items) + room) }
+    ensures last { IfOk result (λ step. CostsLastAt step plan.now room meter.old meter.new) }
+{
+    plan.sound_parts();
+    plan.limit();
+    let Some(slot) = plan.slot(node, place, meter) else {
+        unreachable!()
+    };
+    let popped = pop_named(members, slot.name);
+    let before = Before::unnamed(members.len() as u32);
+    match popped {
+        Some(member) => advance_member(
+            alloc,
+            plan,
+            node,
+            &slot,
+            place,
+            before,
+            room,
+            &[],
+            member,
+            members,
+            following,
+            meter,
+        ),
+        None if room == 0 => Ok(Step::Last(0)),
+        None => grow_slots(
+            alloc,
+            plan,
+            node,
+            &slot,
+            place,
+            before,
+            room,
+            0,
+            &[],
             members,
             following,
             meter,

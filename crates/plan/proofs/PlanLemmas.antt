@@ -1,13 +1,13 @@
 -- What is known of an entry of a plan.
-use Rattle.std.specs.Prelude.{◌≡◌, ℕ, ◌+◌, ◌-◌, ◌%◌, ◌^◌, ◌≤◌, ◌<◌, ◌⊎◌, zero, suc, ◌∷◌, List, IfNone, Option, slice_get, drop, Contains, length, get_or, Some, None, []}
+use Rattle.std.specs.Prelude.{◌≡◌, ℕ, ◌+◌, ◌-◌, ◌%◌, ◌^◌, ◌≤◌, ◌<◌, ◌⊎◌, ◌↔◌, ◌≢◌, All, false, IsTrue, nat_lt, zero, suc, ◌∷◌, List, IfNone, Option, slice_get, drop, Contains, length, get_or, Some, None, []}
 use Rattle.std.specs.declared.vec.Vec.{Vec}
 use Rattle.std.specs.declared.alloc.Global.{Global}
 use Rattle.std.proofs.Common.{refl, ap, sym, ◌∙◌, subst, inl, inr, arith}
-use Rattle.schema.specs.Nodes.Node.{Node, node, scalar, object, list, open_}
+use Rattle.schema.specs.Nodes.Node.{Node, node, scalar, object, list, open_, Fields, no_fields, field}
 use Rattle.schema.specs.Nodes.Node as nodes
 use Rattle.plan.specs.Pools.Pools.{Pools}
 use Rattle.plan.specs.Samples.Question.{Question}
-use Rattle.plan.specs.Samples.Sites.{Site, no_site, sites_of, item_site, item_site_at, Slot, slots}
+use Rattle.plan.specs.Samples.Sites.{Site, no_site, sites_of, item_site, item_site_at, Slot, slots, slots_at, field_slots, value_slot}
 use Rattle.plan.specs.Samples.Handed.{IsSlotAt}
 use Rattle.plan.specs.declared.plan.Slot.{Slot as PlanSlot}
 use Rattle.plan.specs.declared.arena.SlotEntry.{SlotEntry}
@@ -15,10 +15,13 @@ use Rattle.plan.specs.Sets.{IsEmptyFrom}
 use Rattle.jtree.specs.Data.{Items, no_items, item}
 use Rattle.jtree.specs.Nodes.{items_count}
 use Rattle.std.proofs.lemmas.Option.{same_Some}
-use Rattle.std.proofs.lemmas.Nat.{pow_pos, mod_below}
+use Rattle.std.proofs.lemmas.Nat.{pow_pos, pow_below, mod_below}
+use Rattle.std.proofs.lemmas.Bool.{lt-ltb, ltb-true, ltb-false}
+use Rattle.std.proofs.lemmas.List.Elements.{All-cons, All-map}
 use Rattle.plan.specs.Samples.Candidates.{sort_at, sort_of, distinct_at, distinct_of, HasCount}
-use Rattle.plan.specs.Samples.Sizes.{HasRest, HasMore, items_from, ending_of, IsUpTo}
+use Rattle.plan.specs.Samples.Sizes.{HasRest, HasMore, items_from, ending_at, ending_of, IsUpTo}
 use Rattle.plan.specs.Samples.Presence.{named}
+use Rattle.plan.specs.Samples.Names.{in_order}
 use Rattle.plan.specs.Internal.Tables.{IsTable, HasShape}
 use Rattle.plan.specs.declared.sort.Distinct.TheVariants.{Free}
 use Rattle.plan.specs.declared.sort.Sort.TheVariants.{Leaf as LeafSort, Row as RowSort, List as ListSort}
@@ -84,6 +87,36 @@ table_rest holds limit P names sites i r k place taken seen low table level z ro
     let here : IsTable holds limit (ending_of s) P (drop place (slots P s)) table.items = rw e at (rw (← is) at (row.tables k table (omega (arith, row.whole)))) in
     let set = rw (← is_z) at (table_at holds limit (ending_of s) P (drop place (slots P s)) table.items low level level.items here inside is_level refl taken z long) in
     low_up_to limit P (drop place (slots P s)) (ending_of s) taken seen (holds z) (rw (is_low, shape.whole) at set)
+
+-- names have more than one set exactly where there is a name
+sets_of_names : {X : Type 0} (xs : List X) → (1 < 2 ^ length xs) ↔ (xs ≢ [])
+sets_of_names [] = ((λ l. absurd (omega arith)), λ some. absurd (some refl))
+sets_of_names (x ∷ xs) = ((λ l is. absurd (cc)), λ some. pow_below 0 (length (x ∷ xs)) (omega arith))
+
+-- without named fields no slot has a bit
+fields_free : (path : List ℕ) (keys : List (List ℕ)) (fs : Fields) → All (λ (t : Slot). t.bit ≡ None) (field_slots path keys [] fs)
+fields_free path keys no_fields = λ k d l. absurd (omega arith)
+fields_free path keys (field name N required default fs) = All-cons (λ (t : Slot). t.bit ≡ None) _ (field_slots path keys [] fs) refl (fields_free path keys fs)
+
+slots_free : (P : Pools) (path : List ℕ) (N : Node) (keys : List (List ℕ)) → named (ending_at N).asked ≡ [] → All (λ (t : Slot). t.bit ≡ None) (slots_at P path N keys)
+slots_free P path (node n t (object fs preserves type b cs)) keys none = rw none (fields_free path keys fs)
+slots_free P path (node n t (nodes.map N type b)) keys none = All-map (λ (t : Slot). t.bit ≡ None) (value_slot path N) (in_order P.names) (λ k d l. refl)
+slots_free P path (node n t _) keys none = λ k d l. absurd (omega arith)
+
+none_named : {X : Type 0} (xs : List X) → (1 < 2 ^ length xs → ⊥) → xs ≡ []
+none_named [] few = refl
+none_named (x ∷ xs) few = absurd (few (pow_below 0 (length (x ∷ xs)) (omega arith)))
+
+-- the first table has more levels than one exactly where the junctors of a row name a field
+pub row_named : {Z : Type 0} (holds : Z → ℕ → Type 0) (limit : ℕ) (P : Pools) (names : List (List ℕ)) (sites : List Site) (i n : ℕ) (r : RowEntry Z) (table : Vec (Vec Z Global) Global) → IsRow holds limit P names sites i r → table ≡ get_or r.tables.items 0 table → n ≡ length table.items
+    → (IsTrue (nat_lt 1 n) ↔ (named (ending_of (site_at sites i)).asked ≢ [])) × (nat_lt 1 n ≡ false → All (λ (t : Slot). t.bit ≡ None) (slots P (site_at sites i)))
+row_named holds limit P names sites i n r table row is long =
+    let s = site_at sites i in
+    let ls = named (ending_of s).asked in
+    let shape = table_shape holds limit P names sites i r 0 (length r.slots.items) table row (omega arith) is in
+    let e : n ≡ 2 ^ length ls = long ∙ shape.whole in
+    let named = sets_of_names ls in
+    (((λ more. named.0 (rw e at (ltb-true 1 n more))), λ some. lt-ltb 1 n (rw e (named.1 some))), λ one. let few = ltb-false 1 n one in slots_free P s.path s.node s.keys (none_named ls (λ l. omega arith)))
 
 -- as many items as the limit leave no room for the list
 pub more_ends : (limit : ℕ) (P : Pools) (s : Site) (t m : ℕ) → limit ≤ t → HasMore P limit s t m → ⊥

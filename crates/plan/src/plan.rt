@@ -65,7 +65,7 @@ impl<Z: SizeSet> Model for Plan<Z> {
 }
 
 impl<Z: SizeSet> Plan<Z> {
-    ghost use Rattle.std.specs.Prelude.{◌≡◌, ◌≢◌, ◌≤◌, ◌<◌, ◌⊎◌, ◌↔◌, ℕ, ◌+◌, List, [], length, drop, filter, Contains, All, AllPairs, Some, IfOk, IfErr, OnOk, IfSome, IfNone, option_map};
+    ghost use Rattle.std.specs.Prelude.{◌≡◌, ◌≢◌, ◌≤◌, ◌<◌, ◌⊎◌, ◌↔◌, ℕ, ◌+◌, List, [], false, length, drop, filter, Contains, All, AllPairs, Some, None, IsTrue, IfOk, IfErr, OnOk, IfSome, IfNone, option_map};
     ghost use Rattle.std.specs.Option.{option_copied};
     ghost use Rattle.jtree.specs.View.{data_of};
     ghost use Rattle.plan.specs.Samples.Steps.{counted};
@@ -77,7 +77,8 @@ impl<Z: SizeSet> Plan<Z> {
     ghost use Rattle.plan.specs.Samples.Handed.{IsSlotAt, IsCandidateAt};
     ghost use Rattle.plan.specs.Samples.Sites.{Site, Slot as SiteSlot, sites_of, root_site, item_site, slots as slots_of};
     ghost use Rattle.plan.specs.Samples.Candidates.{sort_of, distinct_of, HasCount, IsWidth};
-    ghost use Rattle.plan.specs.Samples.Sizes.{HasSize, HasRest, HasMore, IsUpTo};
+    ghost use Rattle.plan.specs.Samples.Sizes.{HasSize, HasRest, HasMore, IsUpTo, ending_of};
+    ghost use Rattle.plan.specs.Samples.Presence.{named};
     ghost use Rattle.plan.specs.Samples.Sites.{site_at};
     ghost use Rattle.schema.specs.Nodes.Junctors.{most_named};
     ghost use Rattle.plan.specs.declared.sort.Sort.TheVariants as sort;
@@ -219,6 +220,31 @@ impl<Z: SizeSet> Plan<Z> {
             width = width.max(entry.width());
         }
         width
+    }
+
+    /// The number of slots of a row. The caller asks at a row.
+    pub fn slot_count(&self, node: PlanNode) -> u64
+        requires node { node < length (sites_of self.now.root) }
+        requires row { sort_of (site_at (sites_of self.now.root) node) ≡ sort.Row }
+        ensures { result ≡ length (slots_of self.now.pools (site_at (sites_of self.now.root) node)) }
+    {
+        match &self.arena.entry(node).content {
+            Content::Row(row) => row.slots.len() as u64,
+            Content::Leaf(_) | Content::List(_) => 0,
+        }
+    }
+
+    /// Whether the junctors of an object name some of its fields. The caller asks at a row.
+    pub fn names_fields(&self, node: PlanNode) -> bool
+        requires node { node < length (sites_of self.now.root) }
+        requires row { sort_of (site_at (sites_of self.now.root) node) ≡ sort.Row }
+        ensures names { IsTrue result ↔ (named (ending_of (site_at (sites_of self.now.root) node)).asked ≢ []) }
+        ensures no_bit { result ≡ false → All (λ s. s.bit ≡ None) (slots_of self.now.pools (site_at (sites_of self.now.root) node)) }
+    {
+        match &self.arena.entry(node).content {
+            Content::Row(row) => row.tables[0].len() > 1,
+            Content::Leaf(_) | Content::List(_) => false,
+        }
     }
 
     /// Slot `place` of a row, counted from 0 in the order of names; none past the last. The caller asks at a row. It is one step.

@@ -415,18 +415,21 @@ fn sorts(rt: HostRuntime) -> Result<(), Fail> {
     Ok(())
 }
 
-// A name, a schema with its pools and limit, a node, and the names of its slots, each with whether something must stand
-// there, whether it is a key, its place among the named fields, and how many tuples the keys behind it have.
+// A name, a schema with its pools and limit, a node, whether its junctors name some of its fields, and the names of its slots,
+// each with whether something must stand there, whether it is a key, its place among the named fields, and how many tuples the
+// keys behind it have.
 static SLOTS: [(
     &str,
     (&str, &str, u32),
     At,
+    bool,
     &[(&str, bool, bool, Option<u8>, u64)],
 ); 4] = [
     (
         "an item of a map list with three keys",
         (THREE_KEYS, TWO_TEXTS, 8),
         At::Item,
+        false,
         &[
             ("a", true, true, None, 4),
             ("b", false, false, None, 4),
@@ -438,18 +441,21 @@ static SLOTS: [(
         "a field with a default",
         (DEFAULTED, ZERO_AND_SEVEN, 3),
         At::First,
+        false,
         &[("f", true, false, None, 1)],
     ),
     (
         "a map over names with a repeat",
         (LABELS, NAMES, 4),
         At::First,
+        false,
         &[("j", false, false, None, 1), ("k", false, false, None, 1)],
     ),
     (
         "an object whose junctors name four fields",
         (NAMED_FIELDS, "{}", 8),
         At::First,
+        true,
         &[
             ("a", false, false, Some(0), 1),
             ("a0", false, false, Some(1), 1),
@@ -479,6 +485,16 @@ fn slot_parts<'a>(
     }
 }
 
+// The number of slots of a row, and whether its junctors name some of its fields.
+fn row_parts(plan: &Plan<u64>, node: PlanNode) -> Option<(u64, bool)>
+    requires { node < length (sites_of plan.now.root) }
+{
+    match plan.sort(node) {
+        Sort::Row => Some((plan.slot_count(node), plan.names_fields(node))),
+        Sort::Leaf | Sort::List => None,
+    }
+}
+
 fn try_slots(
     rt: &impl Abort,
     plan: &Plan<u64>,
@@ -487,14 +503,18 @@ fn try_slots(
         &str,
         (&str, &str, u32),
         At,
+        bool,
         &[(&str, bool, bool, Option<u8>, u64)],
     ),
 ) {
-    let (name, _given, at, wanted) = *row;
+    let (name, _given, at, named, wanted) = *row;
     let Some(node) = node_at(plan, at, meter) else {
         holds(rt, false, "a node", name);
         return;
     };
+    let parts = row_parts(plan, node);
+    let has = (place_of(wanted.len()), named);
+    is_value(rt, &parts, &Some(has), "the row", name);
     for (place, slot) in wanted.iter().enumerate() {
         let found = slot_parts(plan, node, place_of(place), meter);
         is_value(rt, &found, &Some(*slot), "a slot", name);
@@ -510,6 +530,7 @@ fn have_slots(
         &str,
         (&str, &str, u32),
         At,
+        bool,
         &[(&str, bool, bool, Option<u8>, u64)],
     ),
 ) -> Result<(), Fail> {

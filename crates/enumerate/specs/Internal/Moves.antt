@@ -1,17 +1,17 @@
 -- What a move from one tree to the next answers.
-use Rattle.std.specs.Prelude.{◌≡◌, ℕ, List, Some, None, Option}
+use Rattle.std.specs.Prelude.{◌≡◌, ◌≤◌, ◌+◌, ℕ, List, ◌∷◌, Some, None, Option}
 use Rattle.jtree.specs.Data.{Data, Items, no_items, Members, no_members, member}
-use Rattle.jtree.specs.Nodes.{node_count, items_count}
+use Rattle.jtree.specs.Nodes.{node_count, items_count, most_nodes}
 use Rattle.jtree.specs.Order.{tree_cmp, items_cmp}
 use Rattle.jtree.specs.View.{data_of, members_of}
 use Rattle.jtree.specs.declared.value.Member.{Member}
 use Rattle.plan.specs.Pools.Pools.{Pools}
 use Rattle.plan.specs.Samples.Sites.{Slot}
-use Rattle.plan.specs.Samples.Sizes.{filled_nodes, Before, Ending}
+use Rattle.plan.specs.Samples.Sizes.{filled_nodes, Before, filled, Ending}
 use Rattle.plan.specs.Samples.RuleOfParts.{members_in}
 use Rattle.plan.specs.Samples.Question.{Question}
 use Rattle.enumerate.specs.Least.{IsNext}
-use Rattle.enumerate.specs.Internal.Rows.{fill_cmp, IsRest}
+use Rattle.enumerate.specs.Internal.Rows.{fill_cmp, IsRest, slots_from, slot_in, ending_at, still_used, IsValue}
 use Rattle.enumerate.specs.Internal.Lists.{AreItems}
 use Rattle.enumerate.specs.declared.moved.Moved.{Moved}
 use Rattle.enumerate.specs.declared.moved.Moved.TheVariants.{To, Last}
@@ -47,3 +47,19 @@ AreMoved (step.Last n) P ss end x used old members = IsNext fill_cmp (IsRest P s
 abbrev pub AreItemsMoved : Step → Question → ℕ → Items → Items → Type 0
 AreItemsMoved step.Moved q i old new = IsNext items_cmp (AreItems q i (items_count old) no_items) old (Some new)
 AreItemsMoved (step.Last n) q i old new = IsNext items_cmp (AreItems q i (items_count old) no_items) old None × (items_count old ≡ n)
+
+-- a member stands in the slot, and others in those behind it
+pub record IsFilled (q : Question) (i place : ℕ) (x : Before) (used : List Data) (one : Member) (others : List Member) (gs : List (Option Data)) : Type 0 where
+  pub rest : List (Option Data)
+  pub is : gs ≡ Some (data_of one.tree) ∷ rest
+  pub name : one.name ≡ (slot_in q i place).name
+  pub value : IsValue q.pools (slot_in q i place) (slots_from q i (place + 1)) used (node_count (data_of one.tree)) (data_of one.tree)
+  pub stand : StandIn q.pools (slots_from q i (place + 1)) (ending_at q i) (filled (slot_in q i place).bit x) (still_used (slot_in q i place) (data_of one.tree) used) others rest
+  pub whole : IsRest q.pools (slot_in q i place ∷ slots_from q i (place + 1)) (ending_at q i) x (filled_nodes (Some (data_of one.tree) ∷ rest)) used (Some (data_of one.tree) ∷ rest)
+
+-- those behind the member, of so many nodes, have no next ones with it
+pub record AreLastBehind (q : Question) (i place : ℕ) (x : Before) (used : List Data) (one : Member) (others : List Member) (room : ℕ) (gs : List (Option Data)) : Type 0 where
+  pub small : filled_nodes gs ≤ most_nodes
+  pub stood : IsFilled q i place x used one others gs
+  pub room_is : filled_nodes stood.rest ≡ room
+  pub last : IsNext fill_cmp (IsRest q.pools (slots_from q i (place + 1)) (ending_at q i) (filled (slot_in q i place).bit x) (filled_nodes stood.rest) (still_used (slot_in q i place) (data_of one.tree) used)) stood.rest None

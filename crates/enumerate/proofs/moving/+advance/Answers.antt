@@ -19,12 +19,26 @@ use Rattle.plan.specs.Samples.NoDeadEnd.{is_key, HasFree}
 use Rattle.std.proofs.Common.{false, filter}
 use Rattle.enumerate.specs.Internal.Following.{Continue, ContinueMoved, MembersContinue, GrownContinue, GrownItemsContinue}
 use Rattle.enumerate.specs.Internal.Rows.{used_keys}
+use Rattle.std.specs.Prelude.{IfOk}
+use Rattle.enumerate.specs.Internal.Moves.{AreNext}
+use Rattle.enumerate.specs.Internal.Walks.{IsWalkedTo, AreWalked, AreLeft}
+use Rattle.std.proofs.Common.{take, All, ◌∷◌, suc}
+use Rattle.plan.specs.Samples.Keys.{HasSoundParts}
+use Rattle.plan.specs.Samples.Question.{Question}
+use Rattle.enumerate.specs.Internal.Moves.{AreLastBehind}
+use Rattle.enumerate.specs.Internal.Prefixes.{members_to, before_at, EndsIn}
+use Rattle.enumerate.specs.Internal.Rows.{IsGrown}
+use Rattle.enumerate.specs.Internal.Walks.{CostsLastAt}
+use Rattle.enumerate.proofs.MoveCosts.{cost_within, plain_cost, last_at_place, last_grown}
+use Rattle.enumerate.proofs.moving.+advance.Goals.{advance_at-In-Some, advance_at-In-None-2}
+use Rattle.enumerate.proofs.RowWalks.{fewer_members, members_pushed, plain_nodes, walked_nothing, IsLeftOut, no_rows, left_grown, walk_begins, walked_step, walked_continue, out_walked, taken_off, before_plain, few_at}
+use Rattle.enumerate.proofs.MoveCosts.{split_cost, costs_slots, twice_member, last_member, step_kept}
 use Rattle.enumerate.proofs.FollowingLemmas.{if_both, moved_continues_same, none_continues, row_moved_continues, row_continues, continue_in, continue_out, item_continues, list_continues}
 use Rattle.enumerate.proofs.RowLemmas.{still_used_other}
 use Rattle.enumerate.proofs.RowSteps.{keys_at, part_is_value, key_is_value}
 use Rattle.enumerate.proofs.ListLemmas.{some_nodes, site_among, few_items, counted}
 use Rattle.enumerate.proofs.MoveLemmas.{moved_same, item_moved}
-use Rattle.enumerate.proofs.MoveCosts.{costs_within, costs_twice, costs_row, twice_row, costs_wider, twice_wider, last_wider, twice_out, twice_behind, twice_value, twice_put, costs_value, twice_grown, costs_last, last_kept, twice_at, last_at}
+use Rattle.enumerate.proofs.MoveCosts.{costs_within, costs_twice, costs_row, twice_row, costs_wider, twice_wider, last_wider, twice_out, twice_behind, costs_last, last_kept, twice_at, last_at}
 use Rattle.enumerate.proofs.MoveSteps.{moved_at, IsEnded, IsOutEnded, row_stands, stand_nodes, none_left, moved_behind, same_used, filled_in, ended, left_out, out_ended, known_behind, known_out, open_here, out_next, out_grown, in_next, in_value, in_grown, key_moved, part_moved}
 use Rattle.enumerate.proofs.MemberCuts.{at_count, begins_at, cut_at, kept_at, IsCut, count_here, begins_within, member_here, count_from, kept_one, cut_off, added_kept, grown_kept}
 use Rattle.enumerate.proofs.NullMoves.{row_moved}
@@ -48,7 +62,7 @@ use Rattle.enumerate.specs.declared.moved.Moved.TheVariants as moved
 use Rattle.enumerate.specs.declared.moved.Step.TheVariants as step
 use Rattle.enumerate.proofs.moving.+advance.Given.{Over}
 use Rattle.enumerate.proofs.moving.+advance.Goals as goal
-use Rattle.enumerate.proofs.moving.+advance.Goals.{advance_filled-In-Some, advance_row-In-Some, advance_row-After-advance_slots, advance_slots-In-Some, advance_slots-In-Last, advance_items-In-Some, advance_items-In-Last, advance_items-After-advance_item, advance_list-After-advance_items}
+use Rattle.enumerate.proofs.moving.+advance.Goals.{advance_filled-In-Some, advance_row-In-Some, advance_row-After-advance_members, advance_row-In-Moved, advance_row-In-Last, advance_member-In-To, advance_member-In-Last, advance_slots-In-Some, advance_slots-In-Last, advance_items-In-Some, advance_items-In-Last, advance_items-After-advance_item, advance_list-After-advance_items}
 use Rattle.plan.specs.declared.sort.Distinct.TheVariants as distinct
 
 pub advance-past_null-requires : goal.advance-past_null-requires
@@ -211,143 +225,215 @@ advance_filled-unreachable-requires g t c =
     omega (arith, count, same, none, c.truncate.new.self.ok.0)
 
 -- what is known of the slot once its member was taken off
-cut_here : (g : Over) (t : ℕ) (c : advance_filled-In-Some g t) → IsCut c.args.before.count c.args.members.now.items c.pop.new.self.items c.index.result.now c.in-Some.field-0
-cut_here g t c = cut_off c.args.slot.now.name.now c.args.before.count c.args.members.now.items c.advance_slots.new.members.items c.truncate.new.self.items c.pop.new.self.items c.index.result.now c.in-Some.field-0 c.requires.filled (at_count c.args.members.now.items c.index.result.now c.count.ensures c.index.ensures) (kept_at c.advance_slots.new.members.items c.args.members.now.items (filled_at c.args.plan.now c.args.node c.args.place c.args.slot.now c.args.before c.fill.result c.requires.slot c.fill.ensures) c.in_ok-room.ensures.kept) (cut_at c.advance_slots.new.members.items c.truncate.new.self.items (ap (λ n. n + 1) c.count-2.ensures) c.truncate.ensures.items) c.in-Some.ensures.items
+cut_here : (g : Over) (t : ℕ) (c : advance_filled-In-Some g t) → IsCut c.args.before.count c.args.members.now.items c.pop.new.self.items c.index.result.now c.in-Some.member
+cut_here g t c = cut_off c.args.slot.now.name.now c.args.before.count c.args.members.now.items c.advance_slots.new.members.items c.truncate.new.self.items c.pop.new.self.items c.index.result.now c.in-Some.member c.requires.filled (at_count c.args.members.now.items c.index.result.now c.count.ensures c.index.ensures) (kept_at c.advance_slots.new.members.items c.args.members.now.items (filled_at c.args.plan.now c.args.node c.args.place c.args.slot.now c.args.before c.fill.result c.requires.slot c.fill.ensures) c.in_ok-room.ensures.kept) (cut_at c.advance_slots.new.members.items c.truncate.new.self.items (ap (λ n. n + 1) c.count-2.ensures) c.truncate.ensures.items) c.in-Some.ensures.items
 
 ended_here : (g : Over) (t : ℕ) (c : advance_filled-In-Some g t) (gs : List (Option Data)) → StandIn c.args.plan.now.pools (slots_from c.args.plan.now c.args.node c.args.place) (ending_at c.args.plan.now c.args.node) c.args.before (rows_of c.args.used.now) (drop c.args.before.count c.args.members.now.items) gs
-    → IsEnded c.args.plan.now c.args.node c.args.place c.args.before c.in-Last.room (rows_of c.args.used.now) c.args.members.now.items c.in-Some.field-0 gs
+    → IsEnded c.args.plan.now c.args.node c.args.place c.args.before c.in-Last.room (rows_of c.args.used.now) c.args.members.now.items c.in-Some.member gs
 ended_here g t c gs s =
     let q = c.args.plan.now in
     let sound = c.sound_parts.ensures.parts _ (site_among q c.args.node c.requires.node) in
-    ended q c.args.node c.args.place c.args.slot.now c.requires.slot sound c.in_ok-room.field-0 c.args.before c.in-Last.room (rows_of c.args.used.now) (rows_of c.as_slice.result.now) c.args.members.now.items c.pop.new.self.items (drop (c.args.before.count + 1) c.advance_slots.new.members.items) c.index.result.now c.in-Some.field-0 gs
+    ended q c.args.node c.args.place c.args.slot.now c.requires.slot sound c.in_ok-room.field-0 c.args.before c.in-Last.room (rows_of c.args.used.now) (rows_of c.as_slice.result.now) c.args.members.now.items c.pop.new.self.items (drop (c.args.before.count + 1) c.advance_slots.new.members.items) c.index.result.now c.in-Some.member gs
     (cut_here g t c) c.requires.filled (omega (arith, c.requires.limit, c.limit.ensures, c.limit.type_inv)) c.in-Last.is (ap rows_of c.as_slice.ensures.value ∙ c.in_ok-same.ensures) (moved_at c.in_ok-room.field-0 q.pools (slots_from q c.args.node (c.args.place + 1)) (ending_at q c.args.node) (rows_of c.as_slice.result.now) c.args.members.now.items c.advance_slots.new.members.items (filled_at c.args.plan.now c.args.node c.args.place c.args.slot.now c.args.before c.fill.result c.requires.slot c.fill.ensures) c.in_ok-room.ensures.moved) s
 
-pub advance_filled-advance_value-requires : goal.advance_filled-advance_value-requires
-advance_filled-advance_value-requires g t c κs within =
+pub advance_filled-advance_member-requires : goal.advance_filled-advance_member-requires
+advance_filled-advance_member-requires g t c κs within =
     let q = c.args.plan.now in
-    let sound = c.sound_parts.ensures.parts _ (site_among q c.args.node c.requires.node) in
-    let cut = cut_here g t (goal.at.advance_filled-advance_value-requires g t c).In-Some in
-    let f = filled_in q c.args.node c.args.place c.args.slot.now c.requires.slot sound c.args.before (rows_of c.args.used.now) c.args.members.now.items c.in-Some.field-0 c.requires.stand.0 (omega (arith, c.requires.limit, c.limit.ensures, c.limit.type_inv)) cut.there c.requires.filled c.requires.stand.1 in
-    (omega (arith, c.decreases), (within, (c.requires.node, (c.requires.slot, (c.requires.known, (f.1.value, omega (arith, cut.nodes_are, c.requires.limit)))))))
-
-pub advance_filled-returns-in_err-tree-clause-steps : goal.advance_filled-returns-in_err-tree-clause-steps
-advance_filled-returns-in_err-tree-clause-steps g t c = twice_value c.args.plan.now c.args.node (c.args.place + 1) c.args.meter.now c.advance_slots.new.meter (node_count (data_of c.in-Some.field-0.tree)) (members_count (members_of (drop (c.args.before.count + 1) c.args.members.now.items))) (members_count (members_of (drop c.args.before.count c.args.members.now.items))) (cut_here g t (goal.at.advance_filled-returns-in_err-tree-clause-steps g t c).In-Some).nodes_are c.advance_value.new.meter (subst (λ st. CostsLastSlots st c.args.plan.now c.args.node (c.args.place + 1) c.args.meter.now c.advance_slots.new.meter (members_count (members_of (drop (c.args.before.count + 1) c.args.members.now.items)))) c.in-Last.is (last_at c.in_ok-room.field-0 c.args.plan.now c.args.node (c.args.place + 1) c.args.meter.now c.advance_slots.new.meter c.args.members.now.items (filled_at c.args.plan.now c.args.node c.args.place c.args.slot.now c.args.before c.fill.result c.requires.slot c.fill.ensures) c.in_ok-room.ensures.last)) c.advance_value.ensures.steps
-
-pub advance_filled-put_member-requires-clause-taken : goal.advance_filled-put_member-requires-clause-taken
-advance_filled-put_member-requires-clause-taken g t c = c.requires.taken
-
-pub advance_filled-put_member-requires-clause-limit : goal.advance_filled-put_member-requires-clause-limit
-advance_filled-put_member-requires-clause-limit g t c =
-    let q = c.args.plan.now in
-    let e = ended_here g t (goal.at.advance_filled-put_member-requires-clause-limit g t c).In-Some c.requires.stand.0 c.requires.stand.1 in
-    omega (arith, e.nodes_are, some_nodes (data_of c.in-Some.field-0.tree), c.requires.limit)
-
-pub advance_filled-put_member-requires-clause-open : goal.advance_filled-put_member-requires-clause-open
-advance_filled-put_member-requires-clause-open g t c =
-    let q = c.args.plan.now in
-    let sound = c.sound_parts.ensures.parts _ (site_among q c.args.node c.requires.node) in
-    let e = ended_here g t (goal.at.advance_filled-put_member-requires-clause-open g t c).In-Some c.requires.stand.0 c.requires.stand.1 in
-    let next = subst (λ m. IsMoved (IsValue q.pools (slot_in q c.args.node c.args.place) (slots_from q c.args.node (c.args.place + 1)) (rows_of c.args.used.now) (node_count (data_of c.in-Some.field-0.tree))) (data_of c.in-Some.field-0.tree) m) c.in-To.is c.in_ok-tree.ensures.ok in
-    record {
-      known = known_behind q c.args.node c.args.place sound c.requires.slot.first (rows_of c.args.used.now) (data_of c.in-To.tree) c.requires.known;
-      rest = subst (λ m. CanFill q.pools (slots_from q c.args.node (c.args.place + 1)) (ending_at q c.args.node) (filled (slot_in q c.args.node c.args.place).bit c.args.before) m) e.room_is (can_fill q.pools (slots_from q c.args.node (c.args.place + 1)) (ending_at q c.args.node) (filled (slot_in q c.args.node c.args.place).bit c.args.before) _ (still_used (slot_in q c.args.node c.args.place) (data_of c.in-Some.field-0.tree) (rows_of c.args.used.now)) e.stood.rest e.stood.stand.rest);
-      free = next.is.0.free;
-    }
-
-pub advance_filled-returns-in_err-put_member-in-To-clause-steps : goal.advance_filled-returns-in_err-put_member-in-To-clause-steps
-advance_filled-returns-in_err-put_member-in-To-clause-steps g t c =
-    let e = ended_here g t (goal.at.advance_filled-returns-in_err-put_member-in-To-clause-steps g t c).In-Some c.requires.stand.0 c.requires.stand.1 in
-    twice_put c.args.plan.now c.args.node (c.args.place + 1) c.args.meter.now c.advance_slots.new.meter (node_count (data_of c.in-Some.field-0.tree)) (members_count (members_of (drop (c.args.before.count + 1) c.args.members.now.items))) (members_count (members_of (drop c.args.before.count c.args.members.now.items))) (cut_here g t (goal.at.advance_filled-returns-in_err-put_member-in-To-clause-steps g t c).In-Some).nodes_are c.advance_value.new.meter (subst (λ st. CostsLastSlots st c.args.plan.now c.args.node (c.args.place + 1) c.args.meter.now c.advance_slots.new.meter (members_count (members_of (drop (c.args.before.count + 1) c.args.members.now.items)))) c.in-Last.is (last_at c.in_ok-room.field-0 c.args.plan.now c.args.node (c.args.place + 1) c.args.meter.now c.advance_slots.new.meter c.args.members.now.items (filled_at c.args.plan.now c.args.node c.args.place c.args.slot.now c.args.before c.fill.result c.requires.slot c.fill.ensures) c.in_ok-room.ensures.last)) c.put_member.new.meter c.in-Last.room e.behind_are c.advance_value.ensures.steps c.put_member.ensures.steps
-
-pub advance_filled-returns-in-To-clause-kept : goal.advance_filled-returns-in-To-clause-kept
-advance_filled-returns-in-To-clause-kept g t c =
-    let q = c.args.plan.now in
-    let cut = cut_here g t (goal.at.advance_filled-returns-in-To-clause-kept g t c).In-Some in
-    added_kept q.pools (slots_from q c.args.node (c.args.place + 1)) (ending_at q c.args.node) (filled (slot_in q c.args.node c.args.place).bit c.args.before) c.in-Last.room c.args.before.count _ c.pop.new.self.items (record { name = c.in-Some.field-0.name; tree = c.in-To.tree }) c.put_member.new.members.items c.in_ok-put_member-in-To.ensures.ok cut.count ∙ cut.front_is
-
-pub advance_filled-returns-in-To-clause-moved : goal.advance_filled-returns-in-To-clause-moved
-advance_filled-returns-in-To-clause-moved g t c = λ gs s.
-    let q = c.args.plan.now in
-    let sound = c.sound_parts.ensures.parts _ (site_among q c.args.node c.requires.node) in
-    let cut = cut_here g t (goal.at.advance_filled-returns-in-To-clause-moved g t c).In-Some in
-    let e = ended_here g t (goal.at.advance_filled-returns-in-To-clause-moved g t c).In-Some gs s in
-    let next = subst (λ m. IsMoved (IsValue q.pools (slot_in q c.args.node c.args.place) (slots_from q c.args.node (c.args.place + 1)) (rows_of c.args.used.now) (node_count (data_of c.in-Some.field-0.tree))) (data_of c.in-Some.field-0.tree) m) c.in-To.is c.in_ok-tree.ensures.ok in
-    in_value q c.args.node c.args.place sound c.requires.slot.first c.args.before (rows_of c.args.used.now) c.in-Some.field-0 (drop (c.args.before.count + 1) c.args.members.now.items) gs e.small e.stood c.in-Last.room (record { name = c.in-Some.field-0.name; tree = c.in-To.tree }) c.pop.new.self.items c.put_member.new.members.items
-    cut.count e.stood.name e.room_is e.last next c.in_ok-put_member-in-To.ensures.ok
-
-pub advance_filled-returns-in-To-clause-steps : goal.advance_filled-returns-in-To-clause-steps
-advance_filled-returns-in-To-clause-steps g t c =
-    let e = ended_here g t (goal.at.advance_filled-returns-in-To-clause-steps g t c).In-Some c.requires.stand.0 c.requires.stand.1 in
-    twice_put c.args.plan.now c.args.node (c.args.place + 1) c.args.meter.now c.advance_slots.new.meter (node_count (data_of c.in-Some.field-0.tree)) (members_count (members_of (drop (c.args.before.count + 1) c.args.members.now.items))) (members_count (members_of (drop c.args.before.count c.args.members.now.items))) (cut_here g t (goal.at.advance_filled-returns-in-To-clause-steps g t c).In-Some).nodes_are c.advance_value.new.meter (subst (λ st. CostsLastSlots st c.args.plan.now c.args.node (c.args.place + 1) c.args.meter.now c.advance_slots.new.meter (members_count (members_of (drop (c.args.before.count + 1) c.args.members.now.items)))) c.in-Last.is (last_at c.in_ok-room.field-0 c.args.plan.now c.args.node (c.args.place + 1) c.args.meter.now c.advance_slots.new.meter c.args.members.now.items (filled_at c.args.plan.now c.args.node c.args.place c.args.slot.now c.args.before c.fill.result c.requires.slot c.fill.ensures) c.in_ok-room.ensures.last)) c.put_member.new.meter c.in-Last.room e.behind_are c.advance_value.ensures.steps c.put_member.ensures.steps
-
-pub advance_filled-returns-in-To-clause-last : goal.advance_filled-returns-in-To-clause-last
-advance_filled-returns-in-To-clause-last g t c = tt
-
-pub advance_filled-overflow_add-room : goal.advance_filled-overflow_add-room
-advance_filled-overflow_add-room g t c =
-    let q = c.args.plan.now in
-    let e = ended_here g t (goal.at.advance_filled-overflow_add-room g t c).In-Some c.requires.stand.0 c.requires.stand.1 in
-    let none = subst (λ m. IsMoved (IsValue q.pools (slot_in q c.args.node c.args.place) (slots_from q c.args.node (c.args.place + 1)) (rows_of c.args.used.now) (node_count (data_of c.in-Some.field-0.tree))) (data_of c.in-Some.field-0.tree) m) c.in-Last-2.is c.in_ok-tree.ensures.ok in
-    let own = none.1 in
-    omega (arith, e.nodes_are, own, c.requires.limit, c.limit.ensures, c.limit.type_inv)
-
-pub advance_filled-overflow_add-size : goal.advance_filled-overflow_add-size
-advance_filled-overflow_add-size g t c =
-    let q = c.args.plan.now in
-    let e = ended_here g t (goal.at.advance_filled-overflow_add-size g t c).In-Some c.requires.stand.0 c.requires.stand.1 in
-    let none = subst (λ m. IsMoved (IsValue q.pools (slot_in q c.args.node c.args.place) (slots_from q c.args.node (c.args.place + 1)) (rows_of c.args.used.now) (node_count (data_of c.in-Some.field-0.tree))) (data_of c.in-Some.field-0.tree) m) c.in-Last-2.is c.in_ok-tree.ensures.ok in
-    let own = none.1 in
-    omega (arith, e.nodes_are, own, c.requires.limit, c.limit.ensures, c.limit.type_inv)
-
-pub advance_filled-grow_slots-requires-clause-taken : goal.advance_filled-grow_slots-requires-clause-taken
-advance_filled-grow_slots-requires-clause-taken g t c = c.requires.taken
-
-pub advance_filled-grow_slots-requires-clause-limit : goal.advance_filled-grow_slots-requires-clause-limit
-advance_filled-grow_slots-requires-clause-limit g t c =
-    let q = c.args.plan.now in
-    let e = ended_here g t (goal.at.advance_filled-grow_slots-requires-clause-limit g t c).In-Some c.requires.stand.0 c.requires.stand.1 in
-    let none = subst (λ m. IsMoved (IsValue q.pools (slot_in q c.args.node c.args.place) (slots_from q c.args.node (c.args.place + 1)) (rows_of c.args.used.now) (node_count (data_of c.in-Some.field-0.tree))) (data_of c.in-Some.field-0.tree) m) c.in-Last-2.is c.in_ok-tree.ensures.ok in
-    let own = none.1 in
-    omega (arith, e.nodes_are, own, c.requires.limit)
-
-pub advance_filled-grow_slots-requires-clause-open : goal.advance_filled-grow_slots-requires-clause-open
-advance_filled-grow_slots-requires-clause-open g t c =
-    let q = c.args.plan.now in
-    let sound = c.sound_parts.ensures.parts _ (site_among q c.args.node c.requires.node) in
-    let e = ended_here g t (goal.at.advance_filled-grow_slots-requires-clause-open g t c).In-Some c.requires.stand.0 c.requires.stand.1 in
-    let none = subst (λ m. IsMoved (IsValue q.pools (slot_in q c.args.node c.args.place) (slots_from q c.args.node (c.args.place + 1)) (rows_of c.args.used.now) (node_count (data_of c.in-Some.field-0.tree))) (data_of c.in-Some.field-0.tree) m) c.in-Last-2.is c.in_ok-tree.ensures.ok in
-    let own = none.1 in
-    let whole : filled_nodes c.requires.stand.0 ≡ c.in-Last.room + c.in-Last-2.size = ap filled_nodes e.stood.is ∙ omega (arith, e.room_is, own) in
-    subst (λ m. IsOpen q.pools (slots_from q c.args.node c.args.place) (ending_at q c.args.node) c.args.before m (rows_of c.args.used.now)) whole
-    (open_here q c.args.node c.args.place sound c.requires.slot.first c.args.before (rows_of c.args.used.now) (drop c.args.before.count c.args.members.now.items) c.requires.stand.0 c.requires.known c.requires.stand.1)
+    let i = c.args.node in
+    let place = c.args.place in
+    let x = c.args.before in
+    let used = rows_of c.args.used.now in
+    let one = c.in-Some.member in
+    let members = c.args.members.now.items in
+    let gs = c.requires.stand.0 in
+    let sound = c.sound_parts.ensures.parts _ (site_among q i c.requires.node) in
+    let cut = cut_here g t (goal.at.advance_filled-advance_member-requires g t c).In-Some in
+    let f = filled_in q i place c.args.slot.now c.requires.slot sound x used members one gs (omega (arith, c.requires.limit, c.limit.ensures, c.limit.type_inv)) cut.there c.requires.filled c.requires.stand.1 in
+    let e = ended_here g t (goal.at.advance_filled-advance_member-requires g t c).In-Some gs c.requires.stand.1 in
+    let behind = slots_from q i (place + 1) in
+    let here = slot_in q i place in
+    let rest = subst (λ m. CanFill q.pools behind (ending_at q i) (filled here.bit x) m) e.room_is (can_fill q.pools behind (ending_at q i) (filled here.bit x) _ (still_used here (data_of one.tree) used) e.stood.rest e.stood.stand.rest) in
+    let whole : filled_nodes gs ≡ c.in-Last.room + node_count (data_of one.tree) = ap filled_nodes e.stood.is ∙ omega (arith, e.room_is) in
+    let can = subst (λ m. IsOpen q.pools (slots_from q i place) (ending_at q i) x m used) whole (open_here q i place sound c.requires.slot.first x used (drop x.count members) gs c.requires.known c.requires.stand.1) in (
+      omega (arith, c.decreases),
+      (
+        within,
+        (
+          c.requires.node,
+          (
+            c.requires.row,
+            (
+              c.requires.slot,
+              (c.requires.taken, (cut.count, (c.requires.known, (e.stood.name, (f.1.value, (rest, (can, omega (arith, e.nodes_are, c.requires.limit)))))))),
+            ),
+          ),
+        ),
+      ),
+    )
 
 pub advance_filled-returns-clause-kept : goal.advance_filled-returns-clause-kept
 advance_filled-returns-clause-kept g t c =
-    let q = c.args.plan.now in
     let cut = cut_here g t (goal.at.advance_filled-returns-clause-kept g t c).In-Some in
-    IfOk-weaker c.grow_slots.result _ _ (λ st h. grown_kept st q.pools (slot_in q c.args.node c.args.place) (slots_from q c.args.node (c.args.place + 1)) (ending_at q c.args.node) c.args.before (c.in-Last.room + c.in-Last-2.size) (c.in-Last-2.size + 1) c.args.before.count (rows_of c.args.used.now) c.pop.new.self.items c.grow_slots.new.members.items h cut.count ∙ cut.front_is) c.grow_slots.ensures.ok
+    IfOk-weaker c.advance_member.result _ _ (λ st h. h ∙ cut.front_is) c.advance_member.ensures.kept
 
 pub advance_filled-returns-clause-moved : goal.advance_filled-returns-clause-moved
 advance_filled-returns-clause-moved g t c =
-    IfOk-weaker c.grow_slots.result _ _ (λ st h gs s.
-    let q = c.args.plan.now in
-    let sound = c.sound_parts.ensures.parts _ (site_among q c.args.node c.requires.node) in
-    let cut = cut_here g t (goal.at.advance_filled-returns-clause-moved g t c).In-Some in
+    IfOk-weaker c.advance_member.result _ _ (λ st h gs s.
     let e = ended_here g t (goal.at.advance_filled-returns-clause-moved g t c).In-Some gs s in
-    let none = subst (λ m. IsMoved (IsValue q.pools (slot_in q c.args.node c.args.place) (slots_from q c.args.node (c.args.place + 1)) (rows_of c.args.used.now) (node_count (data_of c.in-Some.field-0.tree))) (data_of c.in-Some.field-0.tree) m) c.in-Last-2.is c.in_ok-tree.ensures.ok in
-    in_grown q c.args.node c.args.place sound c.requires.slot.first c.args.before (rows_of c.args.used.now) c.in-Some.field-0 (drop (c.args.before.count + 1) c.args.members.now.items) gs e.small e.stood st c.in-Last.room c.in-Last-2.size c.pop.new.self.items c.grow_slots.new.members.items
-    cut.count e.room_is none.1 e.last none.0 h) c.grow_slots.ensures.ok
+    h gs (drop (c.args.before.count + 1) c.args.members.now.items) (record { small = e.small; stood = e.stood; room_is = e.room_is; last = e.last })) c.advance_member.ensures.moved
+
+pub advance_filled-returns-clause-following : goal.advance_filled-returns-clause-following
+advance_filled-returns-clause-following g t c = c.advance_member.ensures.following
 
 pub advance_filled-returns-clause-steps : goal.advance_filled-returns-clause-steps
 advance_filled-returns-clause-steps g t c =
     let q = c.args.plan.now in
+    let n = node_count (data_of c.in-Some.member.tree) in
+    let rest = members_count (members_of (drop (c.args.before.count + 1) c.args.members.now.items)) in
     let e = ended_here g t (goal.at.advance_filled-returns-clause-steps g t c).In-Some c.requires.stand.0 c.requires.stand.1 in
-    let none = subst (λ m. IsMoved (IsValue q.pools (slot_in q c.args.node c.args.place) (slots_from q c.args.node (c.args.place + 1)) (rows_of c.args.used.now) (node_count (data_of c.in-Some.field-0.tree))) (data_of c.in-Some.field-0.tree) m) c.in-Last-2.is c.in_ok-tree.ensures.ok in
-    twice_grown c.args.plan.now c.args.node (c.args.place + 1) c.args.meter.now c.advance_slots.new.meter (node_count (data_of c.in-Some.field-0.tree)) (members_count (members_of (drop (c.args.before.count + 1) c.args.members.now.items))) (members_count (members_of (drop c.args.before.count c.args.members.now.items))) (cut_here g t (goal.at.advance_filled-returns-clause-steps g t c).In-Some).nodes_are c.advance_value.new.meter (subst (λ st. CostsLastSlots st c.args.plan.now c.args.node (c.args.place + 1) c.args.meter.now c.advance_slots.new.meter (members_count (members_of (drop (c.args.before.count + 1) c.args.members.now.items)))) c.in-Last.is (last_at c.in_ok-room.field-0 c.args.plan.now c.args.node (c.args.place + 1) c.args.meter.now c.advance_slots.new.meter c.args.members.now.items (filled_at c.args.plan.now c.args.node c.args.place c.args.slot.now c.args.before c.fill.result c.requires.slot c.fill.ensures) c.in_ok-room.ensures.last)) c.grow_slots.new.meter (c.in-Last.room + c.in-Last-2.size) (omega (arith, e.nodes_are, none.1)) (subst (λ m. CostsLast m c.args.plan.now c.advance_slots.new.meter c.advance_value.new.meter (node_count (data_of c.in-Some.field-0.tree))) c.in-Last-2.is c.in_ok-tree.ensures.last) c.grow_slots.ensures.steps
+    let cut = cut_here g t (goal.at.advance_filled-returns-clause-steps g t c).In-Some in
+    let last = subst (λ st. CostsLastSlots st q c.args.node (c.args.place + 1) c.args.meter.now c.advance_slots.new.meter rest) c.in-Last.is (last_at c.in_ok-room.field-0 q c.args.node (c.args.place + 1) c.args.meter.now c.advance_slots.new.meter c.args.members.now.items (filled_at q c.args.node c.args.place c.args.slot.now c.args.before c.fill.result c.requires.slot c.fill.ensures) c.in_ok-room.ensures.last) in
+    twice_member q c.args.node (c.args.place + 1) c.args.meter.now c.advance_slots.new.meter n rest (members_count (members_of (drop c.args.before.count c.args.members.now.items))) cut.nodes_are c.advance_member.new.meter last c.in-Last.room e.behind_are c.advance_member.ensures.steps
 
 pub advance_filled-returns-clause-last : goal.advance_filled-returns-clause-last
 advance_filled-returns-clause-last g t c =
-    IfOk-weaker c.grow_slots.result _ _ (λ st k. last_kept st c.args.plan.now c.args.node (c.args.place + 1) c.args.meter.now c.advance_value.new.meter c.grow_slots.new.meter (members_count (members_of (drop c.args.before.count c.args.members.now.items))) (costs_value c.args.plan.now c.args.node (c.args.place + 1) c.args.meter.now c.advance_slots.new.meter (node_count (data_of c.in-Some.field-0.tree)) (members_count (members_of (drop (c.args.before.count + 1) c.args.members.now.items))) (members_count (members_of (drop c.args.before.count c.args.members.now.items))) (cut_here g t (goal.at.advance_filled-returns-clause-last g t c).In-Some).nodes_are c.advance_value.new.meter (subst (λ st. CostsLastSlots st c.args.plan.now c.args.node (c.args.place + 1) c.args.meter.now c.advance_slots.new.meter (members_count (members_of (drop (c.args.before.count + 1) c.args.members.now.items)))) c.in-Last.is (last_at c.in_ok-room.field-0 c.args.plan.now c.args.node (c.args.place + 1) c.args.meter.now c.advance_slots.new.meter c.args.members.now.items (filled_at c.args.plan.now c.args.node c.args.place c.args.slot.now c.args.before c.fill.result c.requires.slot c.fill.ensures) c.in_ok-room.ensures.last)) (subst (λ m. CostsLast m c.args.plan.now c.advance_slots.new.meter c.advance_value.new.meter (node_count (data_of c.in-Some.field-0.tree))) c.in-Last-2.is c.in_ok-tree.ensures.last)) k) c.grow_slots.ensures.last
+    let q = c.args.plan.now in
+    let n = node_count (data_of c.in-Some.member.tree) in
+    let rest = members_count (members_of (drop (c.args.before.count + 1) c.args.members.now.items)) in
+    let cut = cut_here g t (goal.at.advance_filled-returns-clause-last g t c).In-Some in
+    let last = subst (λ st. CostsLastSlots st q c.args.node (c.args.place + 1) c.args.meter.now c.advance_slots.new.meter rest) c.in-Last.is (last_at c.in_ok-room.field-0 q c.args.node (c.args.place + 1) c.args.meter.now c.advance_slots.new.meter c.args.members.now.items (filled_at q c.args.node c.args.place c.args.slot.now c.args.before c.fill.result c.requires.slot c.fill.ensures) c.in_ok-room.ensures.last) in
+    IfOk-weaker c.advance_member.result _ _ (λ st h. last_member st q c.args.node (c.args.place + 1) c.args.meter.now c.advance_slots.new.meter n rest (members_count (members_of (drop c.args.before.count c.args.members.now.items))) cut.nodes_are c.advance_member.new.meter last h) c.advance_member.ensures.last
+
+-- ---- a member that was taken off
+
+pub advance_member-advance_value-requires : goal.advance_member-advance_value-requires
+advance_member-advance_value-requires g t c κs within = (omega (arith, c.decreases), (within, (c.requires.node, (c.requires.slot, (c.requires.known, (c.requires.value, omega (arith, c.requires.limit)))))))
+
+-- the next value
+next_value_here : (g : Over) (t : ℕ) (c : advance_member-In-To g t) → IsNext tree_cmp (IsValue c.args.plan.now.pools (slot_in c.args.plan.now c.args.node c.args.place) (slots_from c.args.plan.now c.args.node (c.args.place + 1)) (rows_of c.args.used.now) (node_count (data_of c.args.member.tree))) (data_of c.args.member.tree) (Some (data_of c.in-To.tree))
+next_value_here g t c =
+    let q = c.args.plan.now in
+    subst (λ m. IsMoved (IsValue q.pools (slot_in q c.args.node c.args.place) (slots_from q c.args.node (c.args.place + 1)) (rows_of c.args.used.now) (node_count (data_of c.args.member.tree))) (data_of c.args.member.tree) m) c.in-To.is c.in_ok-tree.ensures.ok
+
+-- or there is none
+no_value_here : (g : Over) (t : ℕ) (c : advance_member-In-Last g t) → IsNext tree_cmp (IsValue c.args.plan.now.pools (slot_in c.args.plan.now c.args.node c.args.place) (slots_from c.args.plan.now c.args.node (c.args.place + 1)) (rows_of c.args.used.now) (node_count (data_of c.args.member.tree))) (data_of c.args.member.tree) None × (node_count (data_of c.args.member.tree) ≡ c.in-Last.size)
+no_value_here g t c =
+    let q = c.args.plan.now in
+    subst (λ m. IsMoved (IsValue q.pools (slot_in q c.args.node c.args.place) (slots_from q c.args.node (c.args.place + 1)) (rows_of c.args.used.now) (node_count (data_of c.args.member.tree))) (data_of c.args.member.tree) m) c.in-Last.is c.in_ok-tree.ensures.ok
+
+pub advance_member-returns-in_err-tree-clause-steps : goal.advance_member-returns-in_err-tree-clause-steps
+advance_member-returns-in_err-tree-clause-steps g t c = costs_slots c.args.plan.now c.args.node (c.args.place + 1) c.args.meter.now c.advance_value.new.meter (2 * node_count (data_of c.args.member.tree)) (2 * node_count (data_of c.args.member.tree) + c.args.room) (omega arith) c.advance_value.ensures.steps
+
+pub advance_member-put_member-requires-clause-limit : goal.advance_member-put_member-requires-clause-limit
+advance_member-put_member-requires-clause-limit g t c = omega (arith, some_nodes (data_of c.args.member.tree), c.requires.limit)
+
+pub advance_member-put_member-requires-clause-part : goal.advance_member-put_member-requires-clause-part
+advance_member-put_member-requires-clause-part g t c = (next_value_here g t (goal.at.advance_member-put_member-requires-clause-part g t c).In-To).is.0.part
+
+pub advance_member-put_member-requires-clause-following : goal.advance_member-put_member-requires-clause-following
+advance_member-put_member-requires-clause-following g t c =
+    let q = c.args.plan.now in
+    let C = λ (n : ℕ). IsValue q.pools (slot_in q c.args.node c.args.place) (slots_from q c.args.node (c.args.place + 1)) (rows_of c.args.used.now) n in
+    let old = data_of c.args.member.tree in
+    let cs = rows_of c.advance_value.new.following.items in
+    let next = next_value_here g t (goal.at.advance_member-put_member-requires-clause-following g t c).In-To in
+    let continue = subst (λ m. ContinueMoved (C (node_count old)) m cs) c.in-To.is c.in_ok-tree.ensures.following in
+    subst (λ n. Continue (C n) (data_of c.in-To.tree) cs) (sym next.is.0.nodes_are) continue
+
+pub advance_member-put_member-requires-clause-open : goal.advance_member-put_member-requires-clause-open
+advance_member-put_member-requires-clause-open g t c =
+    let q = c.args.plan.now in
+    let sound = c.sound_parts.ensures.parts _ (site_among q c.args.node c.requires.node) in
+    record {
+      known = known_behind q c.args.node c.args.place sound c.requires.slot.first (rows_of c.args.used.now) (data_of c.in-To.tree) c.requires.known;
+      rest = c.requires.rest;
+      free = (next_value_here g t (goal.at.advance_member-put_member-requires-clause-open g t c).In-To).is.0.free;
+    }
+
+pub advance_member-returns-in_err-put_member-in-To-clause-steps : goal.advance_member-returns-in_err-put_member-in-To-clause-steps
+advance_member-returns-in_err-put_member-in-To-clause-steps g t c = let n = 2 * node_count (data_of c.args.member.tree) in λ w wide. omega (arith, split_cost w n c.args.room (n + c.args.room) (omega arith), c.advance_value.ensures.steps w wide, c.put_member.ensures.steps w wide)
+
+pub advance_member-returns-in_ok-put_member-in-To-clause-kept : goal.advance_member-returns-in_ok-put_member-in-To-clause-kept
+advance_member-returns-in_ok-put_member-in-To-clause-kept g t c =
+    let q = c.args.plan.now in
+    added_kept q.pools (slots_from q c.args.node (c.args.place + 1)) (ending_at q c.args.node) (filled (slot_in q c.args.node c.args.place).bit c.args.before) c.args.room c.args.before.count _ c.args.members.now.items (record { name = c.args.member.name; tree = c.in-To.tree }) c.put_member.new.members.items c.in_ok-put_member-in-To.ensures.ok c.requires.front
+
+pub advance_member-returns-in_ok-put_member-in-To-clause-moved : goal.advance_member-returns-in_ok-put_member-in-To-clause-moved
+advance_member-returns-in_ok-put_member-in-To-clause-moved g t c = λ gs others e.
+    let q = c.args.plan.now in
+    let sound = c.sound_parts.ensures.parts _ (site_among q c.args.node c.requires.node) in
+    let next = next_value_here g t (goal.at.advance_member-returns-in_ok-put_member-in-To-clause-moved g t c).In-To in
+    in_value q c.args.node c.args.place sound c.requires.slot.first c.args.before (rows_of c.args.used.now) c.args.member others gs e.small e.stood c.args.room (record { name = c.args.member.name; tree = c.in-To.tree }) c.args.members.now.items c.put_member.new.members.items
+    c.requires.front c.requires.name e.room_is e.last next c.in_ok-put_member-in-To.ensures.ok
+
+pub advance_member-returns-in_ok-put_member-in-To-clause-following : goal.advance_member-returns-in_ok-put_member-in-To-clause-following
+advance_member-returns-in_ok-put_member-in-To-clause-following g t c =
+    let q = c.args.plan.now in
+    subst (λ n. MembersContinue q.pools (slots_from q c.args.node c.args.place) (rows_of c.args.used.now) (drop n c.put_member.new.members.items) (rows_of c.put_member.new.following.items)) c.requires.front c.in_ok-put_member-in-To.ensures.following
+
+pub advance_member-returns-in_ok-put_member-in-To-clause-steps : goal.advance_member-returns-in_ok-put_member-in-To-clause-steps
+advance_member-returns-in_ok-put_member-in-To-clause-steps g t c = let n = 2 * node_count (data_of c.args.member.tree) in λ w wide. omega (arith, split_cost w n c.args.room (n + c.args.room) (omega arith), c.advance_value.ensures.steps w wide, c.put_member.ensures.steps w wide)
+
+pub advance_member-overflow_add-room : goal.advance_member-overflow_add-room
+advance_member-overflow_add-room g t c =
+    let none = no_value_here g t (goal.at.advance_member-overflow_add-room g t c).In-Last in
+    omega (arith, none.1, c.requires.limit, c.limit.ensures, c.limit.type_inv)
+
+pub advance_member-overflow_add-size : goal.advance_member-overflow_add-size
+advance_member-overflow_add-size g t c =
+    let none = no_value_here g t (goal.at.advance_member-overflow_add-size g t c).In-Last in
+    omega (arith, none.1, c.requires.limit, c.limit.ensures, c.limit.type_inv)
+
+pub advance_member-grow_slots-requires-clause-limit : goal.advance_member-grow_slots-requires-clause-limit
+advance_member-grow_slots-requires-clause-limit g t c =
+    let none = no_value_here g t (goal.at.advance_member-grow_slots-requires-clause-limit g t c).In-Last in
+    omega (arith, none.1, c.requires.limit)
+
+pub advance_member-grow_slots-requires-clause-open : goal.advance_member-grow_slots-requires-clause-open
+advance_member-grow_slots-requires-clause-open g t c =
+    let q = c.args.plan.now in
+    let none = no_value_here g t (goal.at.advance_member-grow_slots-requires-clause-open g t c).In-Last in
+    subst (λ n. IsOpen q.pools (slots_from q c.args.node c.args.place) (ending_at q c.args.node) c.args.before (c.args.room + n) (rows_of c.args.used.now)) none.1 c.requires.open
+
+pub advance_member-returns-in-Last-clause-kept : goal.advance_member-returns-in-Last-clause-kept
+advance_member-returns-in-Last-clause-kept g t c =
+    let q = c.args.plan.now in
+    IfOk-weaker c.grow_slots.result _ _ (λ st h. grown_kept st q.pools (slot_in q c.args.node c.args.place) (slots_from q c.args.node (c.args.place + 1)) (ending_at q c.args.node) c.args.before (c.args.room + c.in-Last.size) (c.in-Last.size + 1) c.args.before.count (rows_of c.args.used.now) c.args.members.now.items c.grow_slots.new.members.items h c.requires.front) c.grow_slots.ensures.ok
+
+pub advance_member-returns-in-Last-clause-moved : goal.advance_member-returns-in-Last-clause-moved
+advance_member-returns-in-Last-clause-moved g t c =
+    IfOk-weaker c.grow_slots.result _ _ (λ st h gs others e.
+    let q = c.args.plan.now in
+    let sound = c.sound_parts.ensures.parts _ (site_among q c.args.node c.requires.node) in
+    let none = no_value_here g t (goal.at.advance_member-returns-in-Last-clause-moved g t c).In-Last in
+    in_grown q c.args.node c.args.place sound c.requires.slot.first c.args.before (rows_of c.args.used.now) c.args.member others gs e.small e.stood st c.args.room c.in-Last.size c.args.members.now.items c.grow_slots.new.members.items
+    c.requires.front e.room_is none.1 e.last none.0 h) c.grow_slots.ensures.ok
+
+pub advance_member-returns-in-Last-clause-following : goal.advance_member-returns-in-Last-clause-following
+advance_member-returns-in-Last-clause-following g t c =
+    let q = c.args.plan.now in
+    IfOk-weaker c.grow_slots.result _ _ (λ st h. subst (λ n. GrownContinue st q.pools (slots_from q c.args.node c.args.place) (rows_of c.args.used.now) (drop n c.grow_slots.new.members.items) (rows_of c.grow_slots.new.following.items)) c.requires.front h) c.grow_slots.ensures.following
+
+pub advance_member-returns-in-Last-clause-left : goal.advance_member-returns-in-Last-clause-left
+advance_member-returns-in-Last-clause-left g t c =
+    let q = c.args.plan.now in
+    IfOk-weaker c.grow_slots.result _ _ (λ st h. left_grown st q.pools (slot_in q c.args.node c.args.place) (slots_from q c.args.node (c.args.place + 1)) (ending_at q c.args.node) c.args.before (c.args.room + c.in-Last.size) (c.in-Last.size + 1) (rows_of c.args.used.now) c.args.members.now.items c.grow_slots.new.members.items h) c.grow_slots.ensures.ok
+
+pub advance_member-returns-in-Last-clause-steps : goal.advance_member-returns-in-Last-clause-steps
+advance_member-returns-in-Last-clause-steps g t c =
+    let q = c.args.plan.now in
+    let n = node_count (data_of c.args.member.tree) in
+    let none = no_value_here g t (goal.at.advance_member-returns-in-Last-clause-steps g t c).In-Last in
+    let last = subst (λ m. CostsLast m q c.args.meter.now c.advance_value.new.meter n) c.in-Last.is c.in_ok-tree.ensures.last in
+    let sum : 2 * n + c.args.room ≡ n + (c.args.room + c.in-Last.size) = omega (arith, none.1) in
+    λ w wide. omega (arith, split_cost w n (c.args.room + c.in-Last.size) (2 * n + c.args.room) sum, last w wide, c.grow_slots.ensures.steps w wide)
+
+pub advance_member-returns-in-Last-clause-last : goal.advance_member-returns-in-Last-clause-last
+advance_member-returns-in-Last-clause-last g t c =
+    let q = c.args.plan.now in
+    let n = node_count (data_of c.args.member.tree) in
+    let last = subst (λ m. CostsLast m q c.args.meter.now c.advance_value.new.meter n) c.in-Last.is c.in_ok-tree.ensures.last in
+    IfOk-weaker c.grow_slots.result _ _ (λ st k. step_kept st q c.args.meter.now c.advance_value.new.meter c.grow_slots.new.meter n last k) c.grow_slots.ensures.last
 
 pub advance_row-unreachable-requires : goal.advance_row-unreachable-requires
 advance_row-unreachable-requires g t c =
@@ -358,55 +444,54 @@ advance_row-unreachable-requires g t c =
 row_here : (g : Over) (t : ℕ) (c : advance_row-In-Some g t) → StandIn c.args.plan.now.pools (slots_from c.args.plan.now c.args.node 0) (ending_at c.args.plan.now c.args.node) nothing (rows_of c.args.used.now) c.in-Some.members.items c.requires.row.fillings
 row_here g t c = row_stands c.args.plan.now c.args.node (node_count (data_of c.args.tree) - 1) (rows_of c.args.used.now) (data_of c.args.tree) c.in-Some.members.items c.requires.row c.in-Some.ensures.some
 
-row_cost : (g : Over) (t : ℕ) (c : advance_row-After-advance_slots g t) → Costs c.args.plan.now c.args.meter.now c.advance_slots.new.meter (2 * node_count (data_of c.args.tree))
-row_cost g t c = twice_row c.args.plan.now c.args.node c.args.meter.now c.advance_slots.new.meter (members_count (members_of c.in-Some.members.items)) (node_count (data_of c.args.tree)) c.requires.node c.requires.sort (ap node_count c.in-Some.ensures.some) (twice_at c.args.plan.now c.args.node 0 c.args.meter.now c.advance_slots.new.meter c.in-Some.members.items c.nothing-nothing.ensures c.advance_slots.ensures.steps)
+row_cost : (g : Over) (t : ℕ) (c : advance_row-After-advance_members g t) → Costs c.args.plan.now c.args.meter.now c.advance_members.new.meter (2 * node_count (data_of c.args.tree))
+row_cost g t c = twice_row c.args.plan.now c.args.node c.args.meter.now c.advance_members.new.meter (members_count (members_of c.in-Some.members.items)) (node_count (data_of c.args.tree)) c.requires.node c.requires.sort (ap node_count c.in-Some.ensures.some) c.advance_members.ensures.steps
 
-pub advance_row-advance_slots-requires : goal.advance_row-advance_slots-requires
-advance_row-advance_slots-requires g t c κs within =
+pub advance_row-advance_members-requires : goal.advance_row-advance_members-requires
+advance_row-advance_members-requires g t c κs within =
     let r = c.requires.row in
-    let stand = row_here g t (goal.at.advance_row-advance_slots-requires g t c).In-Some in
+    let stand = row_here g t (goal.at.advance_row-advance_members-requires g t c).In-Some in
     let count : node_count (data_of c.args.tree) ≡ 1 + members_count (members_of c.in-Some.members.items) = ap node_count c.in-Some.ensures.some in
-    let none = ap (λ (x : Before). x.count) c.nothing-nothing.ensures in
-    let all = ap (λ (x : Before). members_count (members_of (drop x.count c.in-Some.members.items))) c.nothing-nothing.ensures in
-    let there = subst (λ (x : Before). StandIn c.args.plan.now.pools (slots_from c.args.plan.now c.args.node 0) (ending_at c.args.plan.now c.args.node) x (rows_of c.args.used.now) (drop x.count c.in-Some.members.items) r.fillings) (sym c.nothing-nothing.ensures) stand in
-    (omega (arith, c.decreases), (within, (c.requires.node, (c.requires.sort, (omega (arith, none), (omega (arith, none), (c.requires.known, ((r.fillings, there), omega (arith, count, c.requires.limit, none, all)))))))))
+    (omega (arith, c.decreases), (within, (c.requires.node, (c.requires.sort, (c.requires.known, ((r.fillings, stand), omega (arith, count, c.requires.limit)))))))
 
-pub advance_row-returns-in_err-advance_slots-clause-steps : goal.advance_row-returns-in_err-advance_slots-clause-steps
-advance_row-returns-in_err-advance_slots-clause-steps g t c = row_cost g t (goal.at.advance_row-returns-in_err-advance_slots-clause-steps g t c).After-advance_slots
+pub advance_row-returns-in_err-step-clause-steps : goal.advance_row-returns-in_err-step-clause-steps
+advance_row-returns-in_err-step-clause-steps g t c = row_cost g t (goal.at.advance_row-returns-in_err-step-clause-steps g t c).After-advance_members
+
+-- the next ones
+row_next_here : (g : Over) (t : ℕ) (c : advance_row-In-Moved g t) → AreNext c.args.plan.now.pools (slots_from c.args.plan.now c.args.node 0) (ending_at c.args.plan.now c.args.node) nothing (rows_of c.args.used.now) c.requires.row.fillings c.advance_members.new.members.items
+row_next_here g t c =
+    let q = c.args.plan.now in
+    let r = c.requires.row in
+    let stand = row_stands q c.args.node (node_count (data_of c.args.tree) - 1) (rows_of c.args.used.now) (data_of c.args.tree) c.in-Some.members.items r c.in-Some.ensures.some in
+    subst (λ st. AreMoved st q.pools (slots_from q c.args.node 0) (ending_at q c.args.node) nothing (rows_of c.args.used.now) r.fillings c.advance_members.new.members.items) c.in-Moved.is (c.in_ok-step.ensures.moved r.fillings stand)
+
+-- or there are none
+row_none_here : (g : Over) (t : ℕ) (c : advance_row-In-Last g t) → IsNext fill_cmp (IsRest c.args.plan.now.pools (slots_from c.args.plan.now c.args.node 0) (ending_at c.args.plan.now c.args.node) nothing (filled_nodes c.requires.row.fillings) (rows_of c.args.used.now)) c.requires.row.fillings None × (filled_nodes c.requires.row.fillings ≡ c.in-Last.room)
+row_none_here g t c =
+    let q = c.args.plan.now in
+    let r = c.requires.row in
+    let stand = row_stands q c.args.node (node_count (data_of c.args.tree) - 1) (rows_of c.args.used.now) (data_of c.args.tree) c.in-Some.members.items r c.in-Some.ensures.some in
+    subst (λ st. AreMoved st q.pools (slots_from q c.args.node 0) (ending_at q c.args.node) nothing (rows_of c.args.used.now) r.fillings c.advance_members.new.members.items) c.in-Last.is (c.in_ok-step.ensures.moved r.fillings stand)
 
 pub advance_row-invariant_of-result : goal.advance_row-invariant_of-result
 advance_row-invariant_of-result g t c =
     let q = c.args.plan.now in
     let sound = c.sound_parts.ensures.parts _ (site_among q c.args.node c.requires.node) in
-    let r = c.requires.row in
-    let stand = row_here g t (goal.at.advance_row-invariant_of-result g t c).In-Some in
-    let next = subst (λ st. AreMoved st q.pools (slots_from q c.args.node 0) (ending_at q c.args.node) nothing (rows_of c.args.used.now) r.fillings c.advance_slots.new.members.items) c.in-Moved.is (moved_at c.in_ok-advance_slots.field-0 q.pools (slots_from q c.args.node 0) (ending_at q c.args.node) (rows_of c.args.used.now) c.in-Some.members.items c.advance_slots.new.members.items c.nothing-nothing.ensures c.in_ok-advance_slots.ensures.moved r.fillings stand) in
+    let next = row_next_here g t (goal.at.advance_row-invariant_of-result g t c).In-Moved in
     subst AreMembers (sym next.are) (in_members q.pools (slots_from q c.args.node 0) next.fillings sound.order next.next.is.0.are)
-
-pub advance_row-overflow_add-result : goal.advance_row-overflow_add-result
-advance_row-overflow_add-result g t c =
-    let q = c.args.plan.now in
-    let r = c.requires.row in
-    let stand = row_here g t (goal.at.advance_row-overflow_add-result g t c).In-Some in
-    let count : node_count (data_of c.args.tree) ≡ 1 + members_count (members_of c.in-Some.members.items) = ap node_count c.in-Some.ensures.some in
-    let none = subst (λ st. AreMoved st q.pools (slots_from q c.args.node 0) (ending_at q c.args.node) nothing (rows_of c.args.used.now) r.fillings c.advance_slots.new.members.items) c.in-Last.is (moved_at c.in_ok-advance_slots.field-0 q.pools (slots_from q c.args.node 0) (ending_at q c.args.node) (rows_of c.args.used.now) c.in-Some.members.items c.advance_slots.new.members.items c.nothing-nothing.ensures c.in_ok-advance_slots.ensures.moved r.fillings stand) in
-    let left = none.1 in
-    let all = stand_nodes q.pools (slots_from q c.args.node 0) (ending_at q c.args.node) nothing (rows_of c.args.used.now) c.in-Some.members.items r.fillings stand in
-    omega (arith, left, all, count, c.requires.limit, c.limit.ensures, c.limit.type_inv)
 
 pub advance_row-returns-in-Moved-clause-ok : goal.advance_row-returns-in-Moved-clause-ok
 advance_row-returns-in-Moved-clause-ok g t c =
     let q = c.args.plan.now in
     let sound = c.sound_parts.ensures.parts _ (site_among q c.args.node c.requires.node) in
     let r = c.requires.row in
-    let nodes = r.rest.nodes_are in
     let stand = row_here g t (goal.at.advance_row-returns-in-Moved-clause-ok g t c).In-Some in
-    let next = subst (λ st. AreMoved st q.pools (slots_from q c.args.node 0) (ending_at q c.args.node) nothing (rows_of c.args.used.now) r.fillings c.advance_slots.new.members.items) c.in-Moved.is (moved_at c.in_ok-advance_slots.field-0 q.pools (slots_from q c.args.node 0) (ending_at q c.args.node) (rows_of c.args.used.now) c.in-Some.members.items c.advance_slots.new.members.items c.nothing-nothing.ensures c.in_ok-advance_slots.ensures.moved r.fillings stand) in
+    let next = row_next_here g t (goal.at.advance_row-returns-in-Moved-clause-ok g t c).In-Moved in
     subst (λ ms. IsNext tree_cmp (IsRow q c.args.node (node_count (data_of c.args.tree) - 1) (rows_of c.args.used.now)) (data_of c.args.tree) (Some (object_data ms))) (sym next.are)
-    (row_next q c.args.node (rows_of c.args.used.now) (data_of c.args.tree) r.fillings (Some next.fillings) sound.order r.is stand.rest nodes next.next)
+    (row_next q c.args.node (rows_of c.args.used.now) (data_of c.args.tree) r.fillings (Some next.fillings) sound.order r.is stand.rest r.rest.nodes_are next.next)
 
 pub advance_row-returns-in-Moved-clause-steps : goal.advance_row-returns-in-Moved-clause-steps
-advance_row-returns-in-Moved-clause-steps g t c = row_cost g t (goal.at.advance_row-returns-in-Moved-clause-steps g t c).After-advance_slots
+advance_row-returns-in-Moved-clause-steps g t c = row_cost g t (goal.at.advance_row-returns-in-Moved-clause-steps g t c).After-advance_members
 
 pub advance_row-returns-in-Moved-clause-last : goal.advance_row-returns-in-Moved-clause-last
 advance_row-returns-in-Moved-clause-last g t c = tt
@@ -418,17 +503,403 @@ advance_row-returns-in-Last-clause-ok g t c =
     let r = c.requires.row in
     let nodes = r.rest.nodes_are in
     let stand = row_here g t (goal.at.advance_row-returns-in-Last-clause-ok g t c).In-Some in
-    let none = subst (λ st. AreMoved st q.pools (slots_from q c.args.node 0) (ending_at q c.args.node) nothing (rows_of c.args.used.now) r.fillings c.advance_slots.new.members.items) c.in-Last.is (moved_at c.in_ok-advance_slots.field-0 q.pools (slots_from q c.args.node 0) (ending_at q c.args.node) (rows_of c.args.used.now) c.in-Some.members.items c.advance_slots.new.members.items c.nothing-nothing.ensures c.in_ok-advance_slots.ensures.moved r.fillings stand) in
+    let none = row_none_here g t (goal.at.advance_row-returns-in-Last-clause-ok g t c).In-Last in
     let left = none.1 in
     (row_next q c.args.node (rows_of c.args.used.now) (data_of c.args.tree) r.fillings None sound.order r.is stand.rest nodes none.0, omega (arith, left, nodes, some_nodes (data_of c.args.tree)))
 
 pub advance_row-returns-in-Last-clause-steps : goal.advance_row-returns-in-Last-clause-steps
-advance_row-returns-in-Last-clause-steps g t c = row_cost g t (goal.at.advance_row-returns-in-Last-clause-steps g t c).After-advance_slots
+advance_row-returns-in-Last-clause-steps g t c = row_cost g t (goal.at.advance_row-returns-in-Last-clause-steps g t c).After-advance_members
 
 pub advance_row-returns-in-Last-clause-last : goal.advance_row-returns-in-Last-clause-last
 advance_row-returns-in-Last-clause-last g t c =
-    costs_row c.args.plan.now c.args.node c.args.meter.now c.advance_slots.new.meter (members_count (members_of c.in-Some.members.items)) (node_count (data_of c.args.tree)) c.requires.node c.requires.sort (ap node_count c.in-Some.ensures.some)
-    (subst (λ st. CostsLastSlots st c.args.plan.now c.args.node 0 c.args.meter.now c.advance_slots.new.meter (members_count (members_of c.in-Some.members.items))) c.in-Last.is (last_at c.in_ok-advance_slots.field-0 c.args.plan.now c.args.node 0 c.args.meter.now c.advance_slots.new.meter c.in-Some.members.items c.nothing-nothing.ensures c.in_ok-advance_slots.ensures.last))
+    costs_row c.args.plan.now c.args.node c.args.meter.now c.advance_members.new.meter (members_count (members_of c.in-Some.members.items)) (node_count (data_of c.args.tree)) c.requires.node c.requires.sort (ap node_count c.in-Some.ensures.some)
+    (subst (λ st. CostsLastSlots st c.args.plan.now c.args.node 0 c.args.meter.now c.advance_members.new.meter (members_count (members_of c.in-Some.members.items))) c.in-Last.is c.in_ok-step.ensures.last)
+
+-- ---- the members of a row
+
+pub advance_members-advance_plain-requires : goal.advance_members-advance_plain-requires
+advance_members-advance_plain-requires g t c κs within =
+    let q = c.args.plan.now in
+    let i = c.args.node in
+    let none = no_rows c.args.used.now c.is_empty.result c.is_empty.ensures c.if-is_empty.true in
+    let plain = c.names_fields.ensures.no_bit c.if-not-names_fields.true in
+    let stand = subst (λ us. StandIn q.pools (slots_from q i 0) (ending_at q i) nothing us c.args.members.now.items c.requires.stand.0) none c.requires.stand.1 in
+    (omega (arith, c.decreases), (within, (c.requires.node, (c.requires.row, (plain, ((c.requires.stand.0, stand), c.requires.limit))))))
+
+pub advance_members-returns-then-not-names_fields-clause-moved : goal.advance_members-returns-then-not-names_fields-clause-moved
+advance_members-returns-then-not-names_fields-clause-moved g t c =
+    let q = c.args.plan.now in
+    let i = c.args.node in
+    let none = no_rows c.args.used.now c.is_empty.result c.is_empty.ensures c.if-is_empty.true in
+    subst (λ us. IfOk c.advance_plain.result (λ st. (gs : List (Option Data)) → StandIn q.pools (slots_from q i 0) (ending_at q i) nothing us c.args.members.now.items gs → AreMoved st q.pools (slots_from q i 0) (ending_at q i) nothing us gs c.advance_plain.new.members.items)) (sym none) c.advance_plain.ensures.moved
+
+pub advance_members-returns-then-not-names_fields-clause-following : goal.advance_members-returns-then-not-names_fields-clause-following
+advance_members-returns-then-not-names_fields-clause-following g t c =
+    let q = c.args.plan.now in
+    let none = no_rows c.args.used.now c.is_empty.result c.is_empty.ensures c.if-is_empty.true in
+    subst (λ us. IfOk c.advance_plain.result (λ st. GrownContinue st q.pools (slots_from q c.args.node 0) us c.advance_plain.new.members.items (rows_of c.advance_plain.new.following.items))) (sym none) c.advance_plain.ensures.following
+
+pub advance_members-advance_slots-requires : goal.advance_members-advance_slots-requires
+advance_members-advance_slots-requires g t c κs within =
+    let q = c.args.plan.now in
+    let i = c.args.node in
+    let gs = c.requires.stand.0 in
+    let none = ap (λ (x : Before). x.count) c.nothing-nothing.ensures in
+    let all = ap (λ (x : Before). members_count (members_of (drop x.count c.args.members.now.items))) c.nothing-nothing.ensures in
+    let there = subst (λ (x : Before). StandIn q.pools (slots_from q i 0) (ending_at q i) x (rows_of c.args.used.now) (drop x.count c.args.members.now.items) gs) (sym c.nothing-nothing.ensures) c.requires.stand.1 in
+    (omega (arith, c.decreases), (within, (c.requires.node, (c.requires.row, (omega (arith, none), (omega (arith, none), (c.requires.known, ((gs, there), omega (arith, c.requires.limit, none, all)))))))))
+
+pub advance_members-returns-clause-moved : goal.advance_members-returns-clause-moved
+advance_members-returns-clause-moved g t c =
+    let q = c.args.plan.now in
+    let i = c.args.node in
+    IfOk-weaker c.advance_slots.result _ _ (λ st h. moved_at st q.pools (slots_from q i 0) (ending_at q i) (rows_of c.args.used.now) c.args.members.now.items c.advance_slots.new.members.items c.nothing-nothing.ensures h) c.advance_slots.ensures.moved
+
+pub advance_members-returns-clause-following : goal.advance_members-returns-clause-following
+advance_members-returns-clause-following g t c =
+    let q = c.args.plan.now in
+    IfOk-weaker c.advance_slots.result _ _ (λ st h. subst (λ (x : Before). GrownContinue st q.pools (slots_from q c.args.node 0) (rows_of c.args.used.now) (drop x.count c.advance_slots.new.members.items) (rows_of c.advance_slots.new.following.items)) c.nothing-nothing.ensures h) c.advance_slots.ensures.following
+
+pub advance_members-returns-clause-steps : goal.advance_members-returns-clause-steps
+advance_members-returns-clause-steps g t c = twice_at c.args.plan.now c.args.node 0 c.args.meter.now c.advance_slots.new.meter c.args.members.now.items c.nothing-nothing.ensures c.advance_slots.ensures.steps
+
+pub advance_members-returns-clause-last : goal.advance_members-returns-clause-last
+advance_members-returns-clause-last g t c =
+    let q = c.args.plan.now in
+    IfOk-weaker c.advance_slots.result _ _ (λ st h. last_at st q c.args.node 0 c.args.meter.now c.advance_slots.new.meter c.args.members.now.items c.nothing-nothing.ensures h) c.advance_slots.ensures.last
+
+-- ---- from the last slot on
+
+pub advance_plain-loop-place-init : goal.advance_plain-loop-place-init
+advance_plain-loop-place-init g t c =
+    let q = c.args.plan.now in
+    let i = c.args.node in
+    let sound = c.sound_parts.ensures.parts _ (site_among q i c.requires.node) in
+    record {
+      within = omega (arith, c.slot_count-place.ensures);
+      walked = λ gs h. walk_begins q i sound c.slot_count-place.result c.args.members.now.items gs c.slot_count-place.ensures (omega (arith, c.requires.limit, c.limit.ensures, c.limit.type_inv)) h;
+      steps = λ w wide. omega (arith, c.slot_count-place.ensures);
+    }
+
+pub advance_plain-advance_at-requires : goal.advance_plain-advance_at-requires
+advance_plain-advance_at-requires g t c κs within =
+    let q = c.args.plan.now in
+    let i = c.args.node in
+    let gs = c.requires.stand.0 in
+    let back : c.loop-place.place ≡ c.loop-place.place - 1 + 1 = omega (arith, c.loop-place-test.true) in
+    let walked = subst (λ n. IsWalkedTo q i n c.loop-place.room c.loop-place.members.items gs) back (c.loop-place.invariant.walked gs c.requires.stand.1) in
+    (omega (arith, c.decreases), (within, (c.requires.node, (c.requires.row, (c.requires.plain, (omega (arith, c.loop-place-test.true, c.loop-place.invariant.within), ((gs, walked), omega (arith, plain_nodes q i c.loop-place.place c.loop-place.room c.args.members.now.items c.loop-place.members.items gs c.requires.stand.1 (c.loop-place.invariant.walked gs c.requires.stand.1), c.requires.limit))))))))
+
+pub advance_plain-returns-in-Moved-clause-moved : goal.advance_plain-returns-in-Moved-clause-moved
+advance_plain-returns-in-Moved-clause-moved g t c = λ gs h.
+    let q = c.args.plan.now in
+    let i = c.args.node in
+    let back : c.loop-place.place ≡ c.loop-place.place - 1 + 1 = omega (arith, c.loop-place-test.true) in
+    let walked = subst (λ n. IsWalkedTo q i n c.loop-place.room c.loop-place.members.items gs) back (c.loop-place.invariant.walked gs h) in
+    subst (λ st. AreWalked st q i (c.loop-place.place - 1) c.advance_at.new.members.items gs) c.in-Moved.is (c.in_ok-advance_at.ensures.moved gs walked)
+
+pub advance_plain-returns-in-Moved-clause-following : goal.advance_plain-returns-in-Moved-clause-following
+advance_plain-returns-in-Moved-clause-following g t c =
+    let q = c.args.plan.now in
+    subst (λ st. GrownContinue st q.pools (slots_from q c.args.node 0) [] c.advance_at.new.members.items (rows_of c.advance_at.new.following.items)) c.in-Moved.is c.in_ok-advance_at.ensures.following
+
+pub advance_plain-returns-in_err-advance_at-clause-steps : goal.advance_plain-returns-in_err-advance_at-clause-steps
+advance_plain-returns-in_err-advance_at-clause-steps g t c =
+    let q = c.args.plan.now in
+    plain_cost q c.args.node c.args.meter.now c.loop-place.meter c.advance_at.new.meter c.loop-place.place c.loop-place.room (members_count (members_of c.loop-place.members.items)) (members_count (members_of c.args.members.now.items)) (omega (arith, c.loop-place-test.true)) c.loop-place.invariant.within
+    (plain_nodes q c.args.node c.loop-place.place c.loop-place.room c.args.members.now.items c.loop-place.members.items c.requires.stand.0 c.requires.stand.1 (c.loop-place.invariant.walked c.requires.stand.0 c.requires.stand.1)) c.loop-place.invariant.steps c.advance_at.ensures.steps
+
+pub advance_plain-returns-in-Moved-clause-steps : goal.advance_plain-returns-in-Moved-clause-steps
+advance_plain-returns-in-Moved-clause-steps g t c =
+    let q = c.args.plan.now in
+    plain_cost q c.args.node c.args.meter.now c.loop-place.meter c.advance_at.new.meter c.loop-place.place c.loop-place.room (members_count (members_of c.loop-place.members.items)) (members_count (members_of c.args.members.now.items)) (omega (arith, c.loop-place-test.true)) c.loop-place.invariant.within
+    (plain_nodes q c.args.node c.loop-place.place c.loop-place.room c.args.members.now.items c.loop-place.members.items c.requires.stand.0 c.requires.stand.1 (c.loop-place.invariant.walked c.requires.stand.0 c.requires.stand.1)) c.loop-place.invariant.steps c.advance_at.ensures.steps
+
+pub advance_plain-loop-place-preserved : goal.advance_plain-loop-place-preserved
+advance_plain-loop-place-preserved g t c =
+    let q = c.args.plan.now in
+    let i = c.args.node in
+    let back : c.loop-place.place ≡ c.loop-place.place - 1 + 1 = omega (arith, c.loop-place-test.true) in
+    let last = subst (λ st. CostsLastAt st q c.loop-place.room c.loop-place.meter c.advance_at.new.meter) c.in-Last.is c.in_ok-advance_at.ensures.last in
+    record {
+      within = omega (arith, c.loop-place.invariant.within);
+      walked = λ gs h.
+          let walked = subst (λ n. IsWalkedTo q i n c.loop-place.room c.loop-place.members.items gs) back (c.loop-place.invariant.walked gs h) in
+          subst (λ st. AreWalked st q i (c.loop-place.place - 1) c.advance_at.new.members.items gs) c.in-Last.is (c.in_ok-advance_at.ensures.moved gs walked);
+      steps = λ w wide. omega (arith, c.loop-place-test.true, last w wide, c.loop-place.invariant.steps w wide);
+    }
+
+pub advance_plain-returns-clause-moved : goal.advance_plain-returns-clause-moved
+advance_plain-returns-clause-moved g t c = λ gs h.
+    let q = c.args.plan.now in
+    let i = c.args.node in
+    let none : c.loop-place.place ≡ 0 = omega (arith, c.loop-place-test.false) in
+    let walked = subst (λ n. IsWalkedTo q i n c.loop-place.room c.loop-place.members.items gs) none (c.loop-place.invariant.walked gs h) in
+    (walked.last, walked.room_is)
+
+pub advance_plain-returns-clause-steps : goal.advance_plain-returns-clause-steps
+advance_plain-returns-clause-steps g t c =
+    let q = c.args.plan.now in
+    let nodes = plain_nodes q c.args.node c.loop-place.place c.loop-place.room c.args.members.now.items c.loop-place.members.items c.requires.stand.0 c.requires.stand.1 (c.loop-place.invariant.walked c.requires.stand.0 c.requires.stand.1) in
+    λ w wide. omega (arith, cost_within w c.loop-place.room (members_count (members_of c.args.members.now.items)) (omega (arith, nodes)), c.loop-place.invariant.steps w wide)
+
+pub advance_plain-returns-clause-last : goal.advance_plain-returns-clause-last
+advance_plain-returns-clause-last g t c =
+    let q = c.args.plan.now in
+    let nodes = plain_nodes q c.args.node c.loop-place.place c.loop-place.room c.args.members.now.items c.loop-place.members.items c.requires.stand.0 c.requires.stand.1 (c.loop-place.invariant.walked c.requires.stand.0 c.requires.stand.1) in
+    λ w wide. omega (arith, cost_within w c.loop-place.room (members_count (members_of c.args.members.now.items)) (omega (arith, nodes)), c.loop-place.invariant.steps w wide)
+
+-- ---- a slot on the way
+
+-- the slot at the place
+at_slot : (g : Over) (t : ℕ) (c : advance_at-In-Some g t) → IsSlotOf c.args.plan.now c.args.node c.args.place c.in-Some.slot
+at_slot g t c = slot_of c.args.plan.now c.args.node c.args.place c.in-Some.slot c.in-Some.ensures.some c.in-Some.ensures.below c.in-Some.ensures.later c.in-Some.ensures.bit c.in-Some.ensures.followed
+
+pub advance_at-unreachable-requires : goal.advance_at-unreachable-requires
+advance_at-unreachable-requires g t c =
+    let q = c.args.plan.now in
+    let none = subst (λ r. IfNone r (length (slots_from q c.args.node 0) ≤ c.args.place)) c.in_default.is c.slot.ensures.none in
+    omega (arith, none, c.requires.place)
+
+pub advance_at-overflow_cast-len : goal.advance_at-overflow_cast-len
+advance_at-overflow_cast-len g t c = omega (arith, c.pop_named-popped.ensures.fewer, fewer_members c.args.members.now.items, c.requires.limit, c.limit.ensures, c.limit.type_inv, c.len.ensures, c.pop_named-popped.new.members.ok.0)
+
+-- what stands before the place
+state_here : (q : Question) (i place : ℕ) (gs : List (Option Data)) (front : List Member) (before : Before) (count : ℕ) → All (λ s. s.bit ≡ None) (slots_from q i 0) → members_of front ≡ members_to place (slots_from q i 0) gs → count ≡ length front → before ≡ record { count = count; seen = 0 } → before ≡ before_at place (slots_from q i 0) gs nothing
+state_here q i place gs front before count plain are few is =
+    let c : count ≡ 0 + length front = omega (arith, few) in
+    is ∙ ap (λ n. record { count = n; seen = 0 }) c ∙ sym (before_plain place (slots_from q i 0) gs nothing front plain are)
+
+pub advance_at-advance_member-requires : goal.advance_at-advance_member-requires
+advance_at-advance_member-requires g t c κs within =
+    let q = c.args.plan.now in
+    let i = c.args.node in
+    let place = c.args.place in
+    let room = c.args.room in
+    let gs = c.requires.walked.0 in
+    let one = c.in-Some-popped.member in
+    let front = c.pop_named-popped.new.members.items in
+    let sound = c.sound_parts.ensures.parts _ (site_among q i c.requires.node) in
+    let s = at_slot g t (goal.at.advance_at-advance_member-requires g t c).In-Some in
+    let popped = c.in-Some-popped.ensures.some in
+    let off = taken_off q i sound place s.first room c.args.members.now.items front one gs c.requires.walked.1 popped.0 (popped.1 ∙ s.name) in
+    let long : c.len.result ≡ length front = omega (arith, c.len.ensures, c.pop_named-popped.new.members.ok.0) in
+    let state = state_here q i place gs front c.unnamed-before.result c.len.result c.requires.plain off.front_is long c.unnamed-before.ensures in
+    let count = ap (λ (x : Before). x.count) c.unnamed-before.ensures in
+    let f = off.ended.stood in
+    let x = before_at place (slots_from q i 0) gs nothing in
+    let here = slot_in q i place in
+    let behind = slots_from q i (place + 1) in
+    let rest = subst (λ (y : Before). CanFill q.pools behind (ending_at q i) (filled here.bit y) room) (sym state) (subst (CanFill q.pools behind (ending_at q i) (filled here.bit x)) off.ended.room_is (can_fill q.pools behind (ending_at q i) (filled here.bit x) _ (still_used here (data_of one.tree) []) f.rest f.stand.rest)) in
+    let can = subst (λ (y : Before). IsOpen q.pools (slots_from q i place) (ending_at q i) y (room + node_count (data_of one.tree)) []) (sym state) off.can in
+    let known : AreUsed q.pools (slots_from q i place) [] = record { few = omega arith; tuples = λ k d lt. absurd (omega (arith, lt)); apart = λ a b d lt inside. absurd (omega (arith, lt, inside)) } in
+    let nodes : members_count (members_of c.args.members.now.items) ≡ members_count (members_of front) + node_count (data_of one.tree) = ap (λ l. members_count (members_of l)) popped.0 ∙ members_pushed front one in (
+      omega (arith, c.decreases),
+      (
+        within,
+        (
+          c.requires.node,
+          (
+            c.requires.row,
+            (
+              s,
+              (
+                omega (arith, count, long, few_at place (slots_from q i 0) gs front off.front_is),
+                (
+                  omega (arith, count, long),
+                  (known, (popped.1 ∙ s.name, (f.value, (rest, (can, omega (arith, count, long, nodes, fewer_members front, c.requires.limit)))))),
+                ),
+              ),
+            ),
+          ),
+        ),
+      ),
+    )
+
+pub advance_at-returns-in-Some-popped-clause-moved : goal.advance_at-returns-in-Some-popped-clause-moved
+advance_at-returns-in-Some-popped-clause-moved g t c =
+    if_both c.advance_member.result _ (λ st. (take c.unnamed-before.result.count c.advance_member.new.members.items ≡ c.pop_named-popped.new.members.items) × AreLeft st c.pop_named-popped.new.members.items c.advance_member.new.members.items) _ (λ st h both gs w.
+    let q = c.args.plan.now in
+    let i = c.args.node in
+    let place = c.args.place in
+    let room = c.args.room in
+    let one = c.in-Some-popped.member in
+    let front = c.pop_named-popped.new.members.items in
+    let new = c.advance_member.new.members.items in
+    let sound = c.sound_parts.ensures.parts _ (site_among q i c.requires.node) in
+    let s = at_slot g t (goal.at.advance_at-returns-in-Some-popped-clause-moved g t c).In-Some in
+    let popped = c.in-Some-popped.ensures.some in
+    let off = taken_off q i sound place s.first room c.args.members.now.items front one gs w popped.0 (popped.1 ∙ s.name) in
+    let long : c.len.result ≡ length front = omega (arith, c.len.ensures, c.pop_named-popped.new.members.ok.0) in
+    let state = state_here q i place gs front c.unnamed-before.result c.len.result c.requires.plain off.front_is long c.unnamed-before.ensures in
+    let count : c.unnamed-before.result.count ≡ length front = ap (λ (x : Before). x.count) c.unnamed-before.ensures ∙ long in
+    let x = before_at place (slots_from q i 0) gs nothing in
+    let ended = subst (λ (y : Before). AreLastBehind q i place y [] one off.behind room (drop place gs)) (sym state) off.ended in
+    let there = h (drop place gs) off.behind ended in
+    let moved = subst (λ (y : Before). AreMoved st q.pools (slots_from q i place) (ending_at q i) y [] (drop place gs) (drop c.unnamed-before.result.count new)) state there in
+    walked_step q i sound place s.first st front new gs (one ∷ off.behind) w.small w.whole off.front_is off.behind_are (subst (λ n. take n new ≡ front) count both.0) both.1
+    (subst (λ n. AreMoved st q.pools (slots_from q i place) (ending_at q i) x [] (drop place gs) (drop n new)) count moved)) c.advance_member.ensures.moved
+    (if_both c.advance_member.result _ _ _ (λ st k l. (k, l)) c.advance_member.ensures.kept c.advance_member.ensures.left)
+
+pub advance_at-returns-in-Some-popped-clause-following : goal.advance_at-returns-in-Some-popped-clause-following
+advance_at-returns-in-Some-popped-clause-following g t c =
+    if_both c.advance_member.result _ _ _ (λ st h kept.
+    let q = c.args.plan.now in
+    let i = c.args.node in
+    let place = c.args.place in
+    let gs = c.requires.walked.0 in
+    let w = c.requires.walked.1 in
+    let one = c.in-Some-popped.member in
+    let front = c.pop_named-popped.new.members.items in
+    let new = c.advance_member.new.members.items in
+    let cs = rows_of c.advance_member.new.following.items in
+    let sound = c.sound_parts.ensures.parts _ (site_among q i c.requires.node) in
+    let s = at_slot g t (goal.at.advance_at-returns-in-Some-popped-clause-following g t c).In-Some in
+    let popped = c.in-Some-popped.ensures.some in
+    let off = taken_off q i sound place s.first c.args.room c.args.members.now.items front one gs w popped.0 (popped.1 ∙ s.name) in
+    let long : c.len.result ≡ length front = omega (arith, c.len.ensures, c.pop_named-popped.new.members.ok.0) in
+    let count : c.unnamed-before.result.count ≡ length front = ap (λ (x : Before). x.count) c.unnamed-before.ensures ∙ long in
+    walked_continue q i sound place s.first st front new gs cs w.whole.are off.front_is (subst (λ n. take n new ≡ front) count kept) (subst (λ n. GrownContinue st q.pools (slots_from q i place) [] (drop n new) cs) count h)) c.advance_member.ensures.following c.advance_member.ensures.kept
+
+pub advance_at-returns-in-Some-popped-clause-steps : goal.advance_at-returns-in-Some-popped-clause-steps
+advance_at-returns-in-Some-popped-clause-steps g t c =
+    let q = c.args.plan.now in
+    let one = c.in-Some-popped.member in
+    let front = c.pop_named-popped.new.members.items in
+    let room = c.args.room in
+    let popped = c.in-Some-popped.ensures.some in
+    let s = at_slot g t (goal.at.advance_at-returns-in-Some-popped-clause-steps g t c).In-Some in
+    let all = members_count (members_of c.args.members.now.items) in
+    let nodes : all ≡ members_count (members_of front) + node_count (data_of one.tree) = ap (λ l. members_count (members_of l)) popped.0 ∙ members_pushed front one in
+    λ w wide. omega (arith, c.slot.ensures.step, one_fewer q c.args.node c.args.place s.first, cost_within w (2 * node_count (data_of one.tree) + room) (2 * all + room) (omega (arith, nodes)), c.advance_member.ensures.steps w wide)
+
+pub advance_at-returns-in-Some-popped-clause-last : goal.advance_at-returns-in-Some-popped-clause-last
+advance_at-returns-in-Some-popped-clause-last g t c =
+    if_both c.advance_member.result _ _ _ (λ st h cost.
+    let q = c.args.plan.now in
+    let i = c.args.node in
+    let place = c.args.place in
+    let room = c.args.room in
+    let gs = c.requires.walked.0 in
+    let one = c.in-Some-popped.member in
+    let front = c.pop_named-popped.new.members.items in
+    let new = c.advance_member.new.members.items in
+    let sound = c.sound_parts.ensures.parts _ (site_among q i c.requires.node) in
+    let s = at_slot g t (goal.at.advance_at-returns-in-Some-popped-clause-last g t c).In-Some in
+    let popped = c.in-Some-popped.ensures.some in
+    let off = taken_off q i sound place s.first room c.args.members.now.items front one gs c.requires.walked.1 popped.0 (popped.1 ∙ s.name) in
+    let long : c.len.result ≡ length front = omega (arith, c.len.ensures, c.pop_named-popped.new.members.ok.0) in
+    let state = state_here q i place gs front c.unnamed-before.result c.len.result c.requires.plain off.front_is long c.unnamed-before.ensures in
+    let ended = subst (λ (y : Before). AreLastBehind q i place y [] one off.behind room (drop place gs)) (sym state) off.ended in
+    let nodes : filled_nodes (drop place gs) ≡ room + node_count (data_of one.tree) = ap filled_nodes off.ended.stood.is ∙ omega (arith, off.ended.room_is) in
+    last_at_place st q q.pools (slots_from q i place) (ending_at q i) c.unnamed-before.result (drop place gs) (drop c.unnamed-before.result.count new) room (node_count (data_of one.tree)) c.args.meter.now c.slot.new.meter c.advance_member.new.meter c.slot.ensures.step nodes (h (drop place gs) off.behind ended) cost) c.advance_member.ensures.moved c.advance_member.ensures.last
+
+pub advance_at-returns-in-None-clause-moved : goal.advance_at-returns-in-None-clause-moved
+advance_at-returns-in-None-clause-moved g t c = λ gs w.
+    let q = c.args.plan.now in
+    let i = c.args.node in
+    let place = c.args.place in
+    let sound = c.sound_parts.ensures.parts _ (site_among q i c.requires.node) in
+    let s = at_slot g t (goal.at.advance_at-returns-in-None-clause-moved g t c).In-Some in
+    let none = c.in-None.ensures.none in
+    let empty : c.args.room ≡ 0 = omega (arith, c.if-room-eq0.true) in
+    let out = out_walked q i sound place s.first 0 c.args.members.now.items gs (subst (λ n. IsWalkedTo q i (place + 1) n c.args.members.now.items gs) empty w) (λ e. none.1 (subst (λ k. EndsIn k c.args.members.now.items) (sym s.name) e)) in
+    subst (λ l. IsWalkedTo q i place 0 l gs) (sym none.0) (walked_nothing q i sound place s.first c.args.members.now.items gs w.small w.whole out)
+
+pub advance_at-grow_slots-requires-clause-slot : goal.advance_at-grow_slots-requires-clause-slot
+advance_at-grow_slots-requires-clause-slot g t c = at_slot g t (goal.at.advance_at-grow_slots-requires-clause-slot g t c).In-Some
+
+-- the slot is left out
+out_at_place : (g : Over) (t : ℕ) (c : advance_at-In-None-2 g t) (s : IsSlotOf c.args.plan.now c.args.node c.args.place c.in-Some.slot) (sound : HasSoundParts c.args.plan.now.pools (site c.args.plan.now c.args.node)) (gs : List (Option Data)) → IsWalkedTo c.args.plan.now c.args.node (c.args.place + 1) c.args.room c.args.members.now.items gs
+    → IsLeftOut c.args.plan.now c.args.node sound c.args.place s.first c.args.room c.args.members.now.items gs
+out_at_place g t c s sound gs w =
+    let q = c.args.plan.now in
+    let none = c.in-None-2.ensures.none in
+    out_walked q c.args.node sound c.args.place s.first c.args.room c.args.members.now.items gs w (λ e. none.1 (subst (λ k. EndsIn k c.args.members.now.items) (sym s.name) e))
+
+pub advance_at-grow_slots-requires-clause-taken : goal.advance_at-grow_slots-requires-clause-taken
+advance_at-grow_slots-requires-clause-taken g t c =
+    let q = c.args.plan.now in
+    let i = c.args.node in
+    let sound = c.sound_parts.ensures.parts _ (site_among q i c.requires.node) in
+    let s = at_slot g t (goal.at.advance_at-grow_slots-requires-clause-taken g t c).In-Some in
+    let out = out_at_place g t (goal.at.advance_at-grow_slots-requires-clause-taken g t c).In-None-2 s sound c.requires.walked.0 c.requires.walked.1 in
+    let count = ap (λ (x : Before). x.count) c.unnamed-before.ensures in
+    omega (arith, count, c.len.ensures, c.pop_named-popped.new.members.ok.0, c.pop_named-popped.ensures.fewer, few_at c.args.place (slots_from q i 0) c.requires.walked.0 c.args.members.now.items out.front)
+
+pub advance_at-grow_slots-requires-clause-limit : goal.advance_at-grow_slots-requires-clause-limit
+advance_at-grow_slots-requires-clause-limit g t c =
+    let count = ap (λ (x : Before). x.count) c.unnamed-before.ensures in
+    omega (arith, count, c.len.ensures, c.pop_named-popped.new.members.ok.0, c.pop_named-popped.ensures.fewer, fewer_members c.args.members.now.items, c.requires.limit)
+
+pub advance_at-grow_slots-requires-clause-open : goal.advance_at-grow_slots-requires-clause-open
+advance_at-grow_slots-requires-clause-open g t c =
+    let q = c.args.plan.now in
+    let i = c.args.node in
+    let place = c.args.place in
+    let gs = c.requires.walked.0 in
+    let sound = c.sound_parts.ensures.parts _ (site_among q i c.requires.node) in
+    let s = at_slot g t (goal.at.advance_at-grow_slots-requires-clause-open g t c).In-Some in
+    let out = out_at_place g t (goal.at.advance_at-grow_slots-requires-clause-open g t c).In-None-2 s sound gs c.requires.walked.1 in
+    let same = c.in-None-2.ensures.none.0 in
+    let long : c.len.result ≡ length c.args.members.now.items = omega (arith, c.len.ensures, c.pop_named-popped.new.members.ok.0, ap (λ (l : List Member). length l) same) in
+    let state = state_here q i place gs c.args.members.now.items c.unnamed-before.result c.len.result c.requires.plain out.front long c.unnamed-before.ensures in
+    subst (λ (y : Before). IsOpen q.pools (slots_from q i place) (ending_at q i) y c.args.room []) (sym state) out.can
+
+pub advance_at-returns-in-None-2-clause-moved : goal.advance_at-returns-in-None-2-clause-moved
+advance_at-returns-in-None-2-clause-moved g t c =
+    IfOk-weaker c.grow_slots.result _ _ (λ st h gs w.
+    let q = c.args.plan.now in
+    let i = c.args.node in
+    let place = c.args.place in
+    let room = c.args.room in
+    let old = c.args.members.now.items in
+    let base = c.pop_named-popped.new.members.items in
+    let new = c.grow_slots.new.members.items in
+    let sound = c.sound_parts.ensures.parts _ (site_among q i c.requires.node) in
+    let s = at_slot g t (goal.at.advance_at-returns-in-None-2-clause-moved g t c).In-Some in
+    let out = out_at_place g t (goal.at.advance_at-returns-in-None-2-clause-moved g t c).In-None-2 s sound gs w in
+    let same = c.in-None-2.ensures.none.0 in
+    let front : members_of base ≡ members_to place (slots_from q i 0) gs = ap members_of same ∙ out.front in
+    let long : c.len.result ≡ length base = omega (arith, c.len.ensures, c.pop_named-popped.new.members.ok.0) in
+    let state = state_here q i place gs base c.unnamed-before.result c.len.result c.requires.plain front long c.unnamed-before.ensures in
+    let x = before_at place (slots_from q i 0) gs nothing in
+    let here = slot_in q i place in
+    let behind = slots_from q i (place + 1) in
+    let count : x.count ≡ length base = sym (ap (λ (y : Before). y.count) state) ∙ ap (λ (y : Before). y.count) c.unnamed-before.ensures ∙ long in
+    let grown = subst (λ (y : Before). IsGrown st q.pools here behind (ending_at q i) y room 0 [] base new) state h in
+    let moved = out_grown q i place sound s.first st x [] (drop place gs) (drop (suc place) gs) room base new out.is out.small out.must (sym count) out.room_is out.last grown in
+    walked_step q i sound place s.first st base new gs out.behind_are.0 w.small w.whole front out.behind_are.1 (grown_kept st q.pools here behind (ending_at q i) x room 0 (length base) [] base new grown refl) (left_grown st q.pools here behind (ending_at q i) x room 0 [] base new grown)
+    (subst (λ n. AreMoved st q.pools (slots_from q i place) (ending_at q i) x [] (drop place gs) (drop n new)) count moved)) c.grow_slots.ensures.ok
+
+pub advance_at-returns-in-None-2-clause-following : goal.advance_at-returns-in-None-2-clause-following
+advance_at-returns-in-None-2-clause-following g t c =
+    if_both c.grow_slots.result _ _ _ (λ st h grown.
+    let q = c.args.plan.now in
+    let i = c.args.node in
+    let place = c.args.place in
+    let gs = c.requires.walked.0 in
+    let w = c.requires.walked.1 in
+    let base = c.pop_named-popped.new.members.items in
+    let new = c.grow_slots.new.members.items in
+    let cs = rows_of c.grow_slots.new.following.items in
+    let sound = c.sound_parts.ensures.parts _ (site_among q i c.requires.node) in
+    let s = at_slot g t (goal.at.advance_at-returns-in-None-2-clause-following g t c).In-Some in
+    let out = out_at_place g t (goal.at.advance_at-returns-in-None-2-clause-following g t c).In-None-2 s sound gs w in
+    let front : members_of base ≡ members_to place (slots_from q i 0) gs = ap members_of c.in-None-2.ensures.none.0 ∙ out.front in
+    walked_continue q i sound place s.first st base new gs cs w.whole.are front (grown_kept st q.pools (slot_in q i place) (slots_from q i (place + 1)) (ending_at q i) c.unnamed-before.result c.args.room 0 (length base) [] base new grown refl) h) c.grow_slots.ensures.following c.grow_slots.ensures.ok
+
+pub advance_at-returns-in-None-2-clause-steps : goal.advance_at-returns-in-None-2-clause-steps
+advance_at-returns-in-None-2-clause-steps g t c =
+    let q = c.args.plan.now in
+    let room = c.args.room in
+    let s = at_slot g t (goal.at.advance_at-returns-in-None-2-clause-steps g t c).In-Some in
+    let all = members_count (members_of c.args.members.now.items) in
+    λ w wide. omega (arith, c.slot.ensures.step, one_fewer q c.args.node c.args.place s.first, cost_within w room (2 * all + room) (omega arith), c.grow_slots.ensures.steps w wide)
+
+pub advance_at-returns-in-None-2-clause-last : goal.advance_at-returns-in-None-2-clause-last
+advance_at-returns-in-None-2-clause-last g t c =
+    if_both c.grow_slots.result _ _ _ (λ st grown kept. last_grown st c.args.plan.now c.args.plan.now.pools (slot_in c.args.plan.now c.args.node c.args.place) (slots_from c.args.plan.now c.args.node (c.args.place + 1)) (ending_at c.args.plan.now c.args.node) c.unnamed-before.result c.args.room c.pop_named-popped.new.members.items c.grow_slots.new.members.items c.args.meter.now c.slot.new.meter c.grow_slots.new.meter c.slot.ensures.step grown kept) c.grow_slots.ensures.ok c.grow_slots.ensures.last
 
 -- the slot at the place, and those behind it
 slot_here : (g : Over) (t : ℕ) (c : advance_slots-In-Some g t) → IsSlotOf c.args.plan.now c.args.node c.args.place c.in-Some.slot
@@ -1092,39 +1563,6 @@ advance_filled-returns-in_default-clause-following g t c =
     let kept = kept_one c.args.before.count mid c.args.members.now.items one (kept_at c.advance_slots.new.members.items c.args.members.now.items at c.in_ok-room.ensures.kept) here in
     subst (λ ms. MembersContinue q.pools (slots_from q i place) used ms cs) (sym kept.1) (continue_in q i place c.requires.slot.first used one (drop (c.args.before.count + 1) mid) cs f.1.name f.1.value.part there)
 
-pub advance_filled-put_member-requires-clause-name : goal.advance_filled-put_member-requires-clause-name
-advance_filled-put_member-requires-clause-name g t c =
-    let e = ended_here g t (goal.at.advance_filled-put_member-requires-clause-name g t c).In-Some c.requires.stand.0 c.requires.stand.1 in
-    e.stood.name
-
-pub advance_filled-put_member-requires-clause-part : goal.advance_filled-put_member-requires-clause-part
-advance_filled-put_member-requires-clause-part g t c =
-    let q = c.args.plan.now in
-    let next = subst (λ m. IsMoved (IsValue q.pools (slot_in q c.args.node c.args.place) (slots_from q c.args.node (c.args.place + 1)) (rows_of c.args.used.now) (node_count (data_of c.in-Some.field-0.tree))) (data_of c.in-Some.field-0.tree) m) c.in-To.is c.in_ok-tree.ensures.ok in
-    next.is.0.part
-
-pub advance_filled-put_member-requires-clause-following : goal.advance_filled-put_member-requires-clause-following
-advance_filled-put_member-requires-clause-following g t c =
-    let q = c.args.plan.now in
-    let C = λ (n : ℕ). IsValue q.pools (slot_in q c.args.node c.args.place) (slots_from q c.args.node (c.args.place + 1)) (rows_of c.args.used.now) n in
-    let old = data_of c.in-Some.field-0.tree in
-    let cs = rows_of c.advance_value.new.following.items in
-    let next = subst (λ m. IsMoved (C (node_count old)) old m) c.in-To.is c.in_ok-tree.ensures.ok in
-    let continue = subst (λ m. ContinueMoved (C (node_count old)) m cs) c.in-To.is c.in_ok-tree.ensures.following in
-    subst (λ n. Continue (C n) (data_of c.in-To.tree) cs) (sym next.is.0.nodes_are) continue
-
-pub advance_filled-returns-in-To-clause-following : goal.advance_filled-returns-in-To-clause-following
-advance_filled-returns-in-To-clause-following g t c =
-    let q = c.args.plan.now in
-    let cut = cut_here g t (goal.at.advance_filled-returns-in-To-clause-following g t c).In-Some in
-    subst (λ n. MembersContinue q.pools (slots_from q c.args.node c.args.place) (rows_of c.args.used.now) (drop n c.put_member.new.members.items) (rows_of c.put_member.new.following.items)) cut.count c.in_ok-put_member-in-To.ensures.following
-
-pub advance_filled-returns-clause-following : goal.advance_filled-returns-clause-following
-advance_filled-returns-clause-following g t c =
-    let q = c.args.plan.now in
-    let cut = cut_here g t (goal.at.advance_filled-returns-clause-following g t c).In-Some in
-    IfOk-weaker c.grow_slots.result _ _ (λ st h. subst (λ n. GrownContinue st q.pools (slots_from q c.args.node c.args.place) (rows_of c.args.used.now) (drop n c.grow_slots.new.members.items) (rows_of c.grow_slots.new.following.items)) cut.count h) c.grow_slots.ensures.following
-
 pub advance_row-returns-in-Moved-clause-following : goal.advance_row-returns-in-Moved-clause-following
 advance_row-returns-in-Moved-clause-following g t c =
     let q = c.args.plan.now in
@@ -1134,11 +1572,10 @@ advance_row-returns-in-Moved-clause-following g t c =
     let ss = slots_from q i 0 in
     let sound = c.sound_parts.ensures.parts _ (site_among q i c.requires.node) in
     let r = c.requires.row in
-    let stand = row_here g t (goal.at.advance_row-returns-in-Moved-clause-following g t c).In-Some in
-    let new = c.advance_slots.new.members.items in
-    let cs = rows_of c.advance_slots.new.following.items in
-    let next = subst (λ st. AreMoved st q.pools ss (ending_at q i) nothing used r.fillings new) c.in-Moved.is (moved_at c.in_ok-advance_slots.field-0 q.pools ss (ending_at q i) used c.in-Some.members.items new c.nothing-nothing.ensures c.in_ok-advance_slots.ensures.moved r.fillings stand) in
-    let continue = subst (λ st. GrownContinue st q.pools ss used new cs) c.in-Moved.is (subst (λ (x : Before). GrownContinue c.in_ok-advance_slots.field-0 q.pools ss used (drop x.count new) cs) c.nothing-nothing.ensures c.in_ok-advance_slots.ensures.following) in
+    let new = c.advance_members.new.members.items in
+    let cs = rows_of c.advance_members.new.following.items in
+    let next = row_next_here g t (goal.at.advance_row-returns-in-Moved-clause-following g t c).In-Moved in
+    let continue = subst (λ st. GrownContinue st q.pools ss used new cs) c.in-Moved.is c.in_ok-step.ensures.following in
     let rest = subst (λ m. IsRest q.pools ss (ending_at q i) nothing m used next.fillings) r.rest.nodes_are next.next.is.0 in
     row_continues q i n used sound.order (keys_at q i 0 sound) new next.fillings cs next.are (omega (arith, c.requires.limit, c.limit.ensures, c.limit.type_inv)) rest continue
 

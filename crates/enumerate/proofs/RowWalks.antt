@@ -1,0 +1,453 @@
+-- Walking a row from the last slot to the first.
+use Rattle.std.specs.Prelude.{◌≡◌, ℕ, zero, suc, ◌+◌, ◌-◌, ◌≤◌, ◌==◌, slice_get, List, Bool, true, false, Option, Some, None, take, drop, length, All}
+use Rattle.std.proofs.Common.{ltb, refl, ap, sym, ◌∙◌, subst, inl, inr, arith, [], ◌∷◌, ◌++◌}
+use Rattle.jtree.specs.Data.{Data, no_members, member}
+use Rattle.std.proofs.Math.ListN.{drop_of_length-le}
+use Rattle.std.proofs.lemmas.List.{take-append-drop}
+use Rattle.std.proofs.lemmas.Bool.{ltb-false}
+use Rattle.jtree.specs.Nodes.{node_count, members_count, most_nodes}
+use Rattle.jtree.specs.View.{data_of, members_of}
+use Rattle.jtree.specs.declared.value.Member.{Member}
+use Rattle.jtree.specs.declared.value.Tree.{Tree}
+use Rattle.std.specs.Borrow.{Bor}
+use Rattle.std.proofs.lemmas.List.{nil_from_length}
+use Rattle.enumerate.proofs.ListWalks.{empty_len}
+use Rattle.jtree.specs.Internal.Lookups.{not_itself}
+use Rattle.jtree.specs.Internal.Rising.{Among, contains}
+use Rattle.plan.specs.Pools.Pools.{Pools}
+use Rattle.plan.specs.Samples.Sites.{Slot}
+use Rattle.plan.specs.Samples.Sizes.{AreFillings, filled_nodes, Before, nothing, filled, Ending}
+use Rattle.plan.specs.Samples.Presence.{with_bit}
+use Rattle.plan.specs.Samples.Question.{Question}
+use Rattle.plan.specs.Samples.RuleOfParts.{members_in}
+use Rattle.plan.specs.Samples.Keys.{AreKeySlots, AreInOrder, HasSoundParts}
+use Rattle.enumerate.specs.Least.{IsNext}
+use Rattle.enumerate.specs.Internal.Rows.{fill_cmp, IsRest, IsGrown, AreUsed, IsOpen, still_used, slots_from, slot_in, ending_at}
+use Rattle.enumerate.specs.Internal.Candidates.{agreeing_if, rows_of}
+use Rattle.enumerate.specs.Internal.Nodes.{site}
+use Rattle.enumerate.specs.Internal.Walks.{IsWalkedTo, AreWalked, AreLeft}
+use Rattle.enumerate.specs.Internal.Moves.{AreNext, AreMoved, AreLastBehind, StandIn}
+use Rattle.enumerate.specs.declared.moved.Step.{Step}
+use Rattle.enumerate.specs.declared.moved.Step.TheVariants as step
+use Rattle.enumerate.specs.Internal.Following.{MembersContinue, GrownContinue}
+use Rattle.enumerate.specs.Internal.Prefixes.{members_to, before_at, used_at, EndsIn}
+use Rattle.enumerate.proofs.FollowingLemmas.{may_out, may_in}
+use Rattle.enumerate.proofs.RowLemmas.{keys_behind, rest_out, goes_in}
+use Rattle.enumerate.proofs.RowMoves.{moved_out, moved_in}
+use Rattle.enumerate.proofs.ListLemmas.{some_nodes}
+use Rattle.enumerate.proofs.RowSteps.{keys_at, nothing_after}
+use Rattle.enumerate.proofs.MoveSteps.{open_here, stand_nodes, filled_here}
+
+-- ---- at a place of slots that are filled
+
+-- the rest stands in the slots from the place on
+pub rest_at : (P : Pools) (end : Ending) (place : ℕ) (ss : List Slot) (gs : List (Option Data)) (x : Before) (used : List Data) → AreKeySlots P ss → filled_nodes gs ≤ most_nodes → IsRest P ss end x (filled_nodes gs) used gs
+    → IsRest P (drop place ss) end (before_at place ss gs x) (filled_nodes (drop place gs)) (used_at place ss gs used) (drop place gs)
+rest_at P end zero ss gs x used keys small h = h
+rest_at P end (suc place) [] [] x used keys small h = h
+rest_at P end (suc place) [] (g ∷ gs) x used keys small h = absurd h.are
+rest_at P end (suc place) (s ∷ ss) [] x used keys small h = absurd h.are
+rest_at P end (suc place) (s ∷ ss) (None ∷ gs) x used keys small h = rest_at P end place ss gs x used (keys_behind P s ss keys) small (rest_out P end s ss x (filled_nodes gs) used keys gs h)
+rest_at P end (suc place) (s ∷ ss) (Some v ∷ gs) x used keys small h =
+    let goes = goes_in P end s ss x (filled_nodes (Some v ∷ gs)) used keys small v gs h in
+    let left : filled_nodes (Some v ∷ gs) - node_count v ≡ filled_nodes gs = omega arith in
+    rest_at P end place ss gs (filled s.bit x) (still_used s v used) (keys_behind P s ss keys) (omega (arith, small)) (subst (λ n. IsRest P ss end (filled s.bit x) n (still_used s v used) gs) left goes.2)
+
+-- ---- what moves at a place moves the row
+
+pub next_from : (P : Pools) (end : Ending) (place : ℕ) (ss : List Slot) (gs : List (Option Data)) (x : Before) (used : List Data) (front new : List Member) → AreKeySlots P ss → filled_nodes gs ≤ most_nodes → IsRest P ss end x (filled_nodes gs) used gs → members_of front ≡ members_to place ss gs
+    → AreNext P (drop place ss) end (before_at place ss gs x) (used_at place ss gs used) (drop place gs) new → AreNext P ss end x used gs (front ++ new)
+next_from P end zero ss gs x used [] new keys small h are next = next
+next_from P end zero ss gs x used (one ∷ front) new keys small h are next = cc
+next_from P end (suc place) [] [] x used [] new keys small h are next = next
+next_from P end (suc place) [] [] x used (one ∷ front) new keys small h are next = cc
+next_from P end (suc place) [] (g ∷ gs) x used front new keys small h are next = absurd h.are
+next_from P end (suc place) (s ∷ ss) [] x used front new keys small h are next = absurd h.are
+next_from P end (suc place) (s ∷ ss) (None ∷ gs) x used front new keys small h are next =
+    moved_out P end s ss x used keys gs (front ++ new) small h.are.0 (next_from P end place ss gs x used front new (keys_behind P s ss keys) small (rest_out P end s ss x (filled_nodes gs) used keys gs h) are next)
+next_from P end (suc place) (s ∷ ss) (Some v ∷ gs) x used [] new keys small h are next = cc
+next_from P end (suc place) (s ∷ ss) (Some v ∷ gs) x used (one ∷ front) new keys small h are next =
+    let name : one.name ≡ s.name = cc in
+    let value : data_of one.tree ≡ v = cc in
+    let others : members_of front ≡ members_to place ss gs = cc in
+    let goes = goes_in P end s ss x (filled_nodes (Some v ∷ gs)) used keys small v gs h in
+    let left : filled_nodes (Some v ∷ gs) - node_count v ≡ filled_nodes gs = omega arith in
+    moved_in P end s ss x used keys v gs h small one (front ++ new) name value
+    (next_from P end place ss gs (filled s.bit x) (still_used s v used) front new (keys_behind P s ss keys) (omega (arith, small)) (subst (λ n. IsRest P ss end (filled s.bit x) n (still_used s v used) gs) left goes.2) others next)
+
+pub continue_from : (P : Pools) (place : ℕ) (ss : List Slot) (gs : List (Option Data)) (used : List Data) (front new : List Member) (cs : List Data) → AreFillings P ss gs → members_of front ≡ members_to place ss gs → MembersContinue P (drop place ss) (used_at place ss gs used) new cs → MembersContinue P ss used (front ++ new) cs
+continue_from P zero ss gs used [] new cs fit are h = h
+continue_from P zero ss gs used (one ∷ front) new cs fit are h = cc
+continue_from P (suc place) [] [] used [] new cs fit are h = h
+continue_from P (suc place) [] [] used (one ∷ front) new cs fit are h = cc
+continue_from P (suc place) [] (g ∷ gs) used front new cs fit are h = absurd fit
+continue_from P (suc place) (s ∷ ss) [] used front new cs fit are h = absurd fit
+continue_from P (suc place) (s ∷ ss) (None ∷ gs) used front new cs fit are h =
+    let m = continue_from P place ss gs used front new cs fit.1 are h in
+    record { fillings = None ∷ m.fillings; are = m.are; fit = (fit.0, m.fit); continue = may_out P s ss used m.fillings cs m.continue }
+continue_from P (suc place) (s ∷ ss) (Some v ∷ gs) used [] new cs fit are h = cc
+continue_from P (suc place) (s ∷ ss) (Some v ∷ gs) used (one ∷ front) new cs fit are h =
+    let name : one.name ≡ s.name = cc in
+    let value : data_of one.tree ≡ v = cc in
+    let others : members_of front ≡ members_to place ss gs = cc in
+    let m = continue_from P place ss gs (still_used s v used) front new cs fit.1 others h in
+    record { fillings = Some v ∷ m.fillings; are = λ k. member (name k) (value k) (m.are k); fit = (fit.0, m.fit); continue = may_in P s ss used v m.fillings cs m.continue }
+
+-- ---- one place less
+
+-- the slot at the place is left out, where the last member before the next one has another name
+pub out_at : (P : Pools) (place : ℕ) (ss behind : List Slot) (here : Slot) (gs : List (Option Data)) (members : List Member) → AreFillings P ss gs → drop place ss ≡ here ∷ behind → members_of members ≡ members_to (suc place) ss gs → (EndsIn here.name members → ⊥)
+    → (drop place gs ≡ None ∷ drop (suc place) gs) × (here.must ≡ false) × (members_of members ≡ members_to place ss gs)
+out_at P zero [] behind here gs members fit first are other = absurd (cc)
+out_at P zero (s ∷ ss) behind here [] members fit first are other = absurd fit
+out_at P zero (s ∷ ss) behind here (None ∷ gs) members fit first are other = let same : s ≡ here = cc in (refl, subst (λ t. t.must ≡ false) same fit.0, are)
+out_at P zero (s ∷ ss) behind here (Some v ∷ gs) [] fit first are other = absurd (cc)
+out_at P zero (s ∷ ss) behind here (Some v ∷ gs) (one ∷ []) fit first are other = let same : s ≡ here = cc in let name : one.name ≡ s.name = cc in absurd (other (name ∙ ap (λ t. t.name) same))
+out_at P zero (s ∷ ss) behind here (Some v ∷ gs) (one ∷ two ∷ members) fit first are other = absurd (cc)
+out_at P (suc place) [] behind here gs members fit first are other = absurd (cc)
+out_at P (suc place) (s ∷ ss) behind here [] members fit first are other = absurd fit
+out_at P (suc place) (s ∷ ss) behind here (None ∷ gs) members fit first are other = out_at P place ss behind here gs members fit.1 first are other
+out_at P (suc place) (s ∷ ss) behind here (Some v ∷ gs) [] fit first are other = absurd (cc)
+out_at P (suc place) (s ∷ ss) behind here (Some v ∷ gs) (one ∷ members) fit first are other =
+    let name : one.name ≡ s.name = cc in
+    let value : data_of one.tree ≡ v = cc in
+    let others : members_of members ≡ members_to (suc place) ss gs = cc in
+    let h = out_at P place ss behind here gs members fit.1 first others (not_after one members here.name other) in
+    (h.0, h.1, λ k. member (name k) (value k) (h.2 k))
+  where
+    not_after : (one : Member) (members : List Member) (k : List ℕ) → (EndsIn k (one ∷ members) → ⊥) → EndsIn k members → ⊥
+    not_after one [] k other e = e
+    not_after one (two ∷ members) k other e = other e
+
+-- a slot among slots
+among_slots : (place : ℕ) (ss behind : List Slot) (here : Slot) → drop place ss ≡ here ∷ behind → Among ss here
+among_slots zero [] behind here first = absurd (cc)
+among_slots zero (s ∷ ss) behind here first = let same : s ≡ here = cc in inl same
+among_slots (suc place) [] behind here first = absurd (cc)
+among_slots (suc place) (s ∷ ss) behind here first = inr (among_slots place ss behind here first)
+
+-- the last member stands in the slot at the place, where it has its name
+pub in_at : (P : Pools) (place : ℕ) (ss behind : List Slot) (here : Slot) (gs : List (Option Data)) (front : List Member) (one : Member) → AreInOrder ss → AreFillings P ss gs → drop place ss ≡ here ∷ behind → members_of (front ++ one ∷ []) ≡ members_to (suc place) ss gs → one.name ≡ here.name
+    → (drop place gs ≡ Some (data_of one.tree) ∷ drop (suc place) gs) × (members_of front ≡ members_to place ss gs)
+in_at P zero [] behind here gs front one order fit first are name = absurd (cc)
+in_at P zero (s ∷ ss) behind here [] front one order fit first are name = absurd fit
+in_at P zero (s ∷ ss) behind here (None ∷ gs) [] one order fit first are name = absurd (cc)
+in_at P zero (s ∷ ss) behind here (None ∷ gs) (a ∷ front) one order fit first are name = absurd (cc)
+in_at P zero (s ∷ ss) behind here (Some v ∷ gs) [] one order fit first are name = let value : data_of one.tree ≡ v = cc in (ap (λ u. Some u ∷ gs) (sym value), refl)
+in_at P zero (s ∷ ss) behind here (Some v ∷ gs) (a ∷ front) one order fit first are name = absurd (none_behind front one (cc))
+  where
+    none_behind : (front : List Member) (one : Member) → members_of (front ++ one ∷ []) ≡ no_members → ⊥
+    none_behind [] one e = cc
+    none_behind (a ∷ front) one e = cc
+in_at P (suc place) [] behind here gs front one order fit first are name = absurd (cc)
+in_at P (suc place) (s ∷ ss) behind here [] front one order fit first are name = absurd fit
+in_at P (suc place) (s ∷ ss) behind here (None ∷ gs) front one order fit first are name = in_at P place ss behind here gs front one order.1 fit.1 first are name
+in_at P (suc place) (s ∷ ss) behind here (Some v ∷ gs) [] one order fit first are name =
+    let same : one.name ≡ s.name = cc in
+    let less = order.0 here (contains ss here (among_slots place ss behind here first)) in
+    absurd (not_itself s.name here.name (sym same ∙ name) less)
+in_at P (suc place) (s ∷ ss) behind here (Some v ∷ gs) (a ∷ front) one order fit first are name =
+    let own : a.name ≡ s.name = cc in
+    let value : data_of a.tree ≡ v = cc in
+    let others : members_of (front ++ one ∷ []) ≡ members_to (suc place) ss gs = cc in
+    let h = in_at P place ss behind here gs front one order.1 fit.1 first others name in
+    (h.0, λ k. member (own k) (value k) (h.1 k))
+
+-- ---- what is carried along
+
+pub before_out : (place : ℕ) (ss : List Slot) (gs : List (Option Data)) (x : Before) → drop place gs ≡ None ∷ drop (suc place) gs → before_at (suc place) ss gs x ≡ before_at place ss gs x
+before_out zero [] gs x e = refl
+before_out zero (s ∷ ss) [] x e = refl
+before_out zero (s ∷ ss) (None ∷ gs) x e = refl
+before_out zero (s ∷ ss) (Some v ∷ gs) x e = absurd (cc)
+before_out (suc place) [] gs x e = refl
+before_out (suc place) (s ∷ ss) [] x e = refl
+before_out (suc place) (s ∷ ss) (None ∷ gs) x e = before_out place ss gs x e
+before_out (suc place) (s ∷ ss) (Some v ∷ gs) x e = before_out place ss gs (filled s.bit x) e
+
+pub before_in : (place : ℕ) (ss behind : List Slot) (here : Slot) (gs : List (Option Data)) (v : Data) (x : Before) → drop place ss ≡ here ∷ behind → drop place gs ≡ Some v ∷ drop (suc place) gs → before_at (suc place) ss gs x ≡ filled here.bit (before_at place ss gs x)
+before_in zero [] behind here gs v x first e = absurd (cc)
+before_in zero (s ∷ ss) behind here [] v x first e = absurd (cc)
+before_in zero (s ∷ ss) behind here (None ∷ gs) v x first e = absurd (cc)
+before_in zero (s ∷ ss) behind here (Some u ∷ gs) v x first e = let same : s ≡ here = cc in ap (λ t. filled t.bit x) same
+before_in (suc place) [] behind here gs v x first e = absurd (cc)
+before_in (suc place) (s ∷ ss) behind here [] v x first e = absurd (cc)
+before_in (suc place) (s ∷ ss) behind here (None ∷ gs) v x first e = before_in place ss behind here gs v x first e
+before_in (suc place) (s ∷ ss) behind here (Some u ∷ gs) v x first e = before_in place ss behind here gs v (filled s.bit x) first e
+
+-- the last member has another name
+not_at : (members : List Member) (n : ℕ) (last : Member) (k : List ℕ) → n + 1 ≡ length members → Some last ≡ slice_get members n → (last.name ≡ k → ⊥) → EndsIn k members → ⊥
+not_at [] n last k count is other ends = ends
+not_at (one ∷ []) zero last k count is other ends = let same : last ≡ one = cc in other (ap (λ m. m.name) same ∙ ends)
+not_at (one ∷ []) (suc n) last k count is other ends = absurd (omega (arith, count))
+not_at (one ∷ two ∷ members) zero last k count is other ends = absurd (omega (arith, count))
+not_at (one ∷ two ∷ members) (suc n) last k count is other ends = not_at (two ∷ members) n last k (omega (arith, count)) is other ends
+
+pub not_last : (members : List Member) (last : Member) (k : List ℕ) → Some last ≡ slice_get members (length members - 1) → (last.name ≡ k → ⊥) → EndsIn k members → ⊥
+not_last [] last k is other ends = ends
+not_last (one ∷ members) last k is other ends = not_at (one ∷ members) (length (one ∷ members) - 1) last k (omega arith) is other ends
+
+pub no_last : (members : List Member) (k : List ℕ) → false ≡ ltb 0 (length members) → EndsIn k members → ⊥
+no_last [] k is ends = ends
+no_last (one ∷ members) k is ends = absurd (omega (arith, ltb-false 0 (length (one ∷ members)) (sym is)))
+
+pub left_grown : (step : Step) (P : Pools) (s : Slot) (ss : List Slot) (end : Ending) (x : Before) (m from : ℕ) (used : List Data) (old new : List Member) → IsGrown step P s ss end x m from used old new → AreLeft step old new
+left_grown step.Moved P s ss end x m from used old new h = tt
+left_grown (step.Last k) P s ss end x m from used old new h = h.0
+
+pub no_rows : (rows : List (Bor Tree)) (empty : Bool) → empty ≡ (length rows == 0) → empty ≡ true → rows_of rows ≡ []
+no_rows rows empty is so = ap rows_of (nil_from_length rows (empty_len (length rows) (sym is ∙ so)))
+
+-- ---- where no used row and no named field has to be kept in mind
+
+pub still_none : (s : Slot) (v : Data) → still_used s v [] ≡ []
+still_none s v = none s.key s.name
+  where
+    none : (key : Bool) (name : List ℕ) → agreeing_if key name v [] ≡ []
+    none true name = refl
+    none false name = refl
+
+pub used_none : (place : ℕ) (ss : List Slot) (gs : List (Option Data)) → used_at place ss gs [] ≡ []
+used_none zero ss gs = refl
+used_none (suc place) [] gs = refl
+used_none (suc place) (s ∷ ss) [] = refl
+used_none (suc place) (s ∷ ss) (None ∷ gs) = used_none place ss gs
+used_none (suc place) (s ∷ ss) (Some v ∷ gs) = subst (λ us. used_at place ss gs us ≡ []) (sym (still_none s v)) (used_none place ss gs)
+
+pub before_plain : (place : ℕ) (ss : List Slot) (gs : List (Option Data)) (x : Before) (front : List Member) → All (λ s. s.bit ≡ None) ss → members_of front ≡ members_to place ss gs → before_at place ss gs x ≡ record { count = x.count + length front; seen = x.seen }
+before_plain zero ss gs x [] plain are = let c : x.count ≡ x.count + 0 = omega arith in ap (λ n. record { count = n; seen = x.seen }) c
+before_plain zero ss gs x (one ∷ front) plain are = absurd (cc)
+before_plain (suc place) [] gs x [] plain are = let c : x.count ≡ x.count + 0 = omega arith in ap (λ n. record { count = n; seen = x.seen }) c
+before_plain (suc place) [] gs x (one ∷ front) plain are = absurd (cc)
+before_plain (suc place) (s ∷ ss) [] x [] plain are = let c : x.count ≡ x.count + 0 = omega arith in ap (λ n. record { count = n; seen = x.seen }) c
+before_plain (suc place) (s ∷ ss) [] x (one ∷ front) plain are = absurd (cc)
+before_plain (suc place) (s ∷ ss) (None ∷ gs) x front plain are = before_plain place ss gs x front (λ k d lt. plain (suc k) d (omega (arith, lt))) are
+before_plain (suc place) (s ∷ ss) (Some v ∷ gs) x [] plain are = absurd (cc)
+before_plain (suc place) (s ∷ ss) (Some v ∷ gs) x (one ∷ front) plain are =
+    let others : members_of front ≡ members_to place ss gs = cc in
+    let none : s.bit ≡ None = plain 0 s (omega arith) in
+    let h = before_plain place ss gs (filled s.bit x) front (λ k d lt. plain (suc k) d (omega (arith, lt))) others in
+    let c : x.count + 1 + length front ≡ x.count + suc (length front) = omega arith in
+    h ∙ ap (λ b. record { count = x.count + 1 + length front; seen = with_bit b x.seen }) none ∙ ap (λ n. record { count = n; seen = x.seen }) c
+
+-- no more members than slots
+pub few_at : (place : ℕ) (ss : List Slot) (gs : List (Option Data)) (front : List Member) → members_of front ≡ members_to place ss gs → length front ≤ place
+few_at place ss gs [] are = omega arith
+few_at zero ss gs (one ∷ front) are = absurd (cc)
+few_at (suc place) [] gs (one ∷ front) are = absurd (cc)
+few_at (suc place) (s ∷ ss) [] (one ∷ front) are = absurd (cc)
+few_at (suc place) (s ∷ ss) (None ∷ gs) (one ∷ front) are = omega (arith, few_at place ss gs (one ∷ front) are)
+few_at (suc place) (s ∷ ss) (Some v ∷ gs) (one ∷ front) are = let others : members_of front ≡ members_to place ss gs = cc in omega (arith, few_at place ss gs front others)
+
+-- all members stand before the end
+pub whole_to : (P : Pools) (ss : List Slot) (gs : List (Option Data)) → AreFillings P ss gs → members_in ss gs ≡ members_to (length ss) ss gs
+whole_to P [] [] are = refl
+whole_to P [] (g ∷ gs) are = absurd are
+whole_to P (s ∷ ss) [] are = absurd are
+whole_to P (s ∷ ss) (None ∷ gs) are = whole_to P ss gs are.1
+whole_to P (s ∷ ss) (Some v ∷ gs) are = ap (λ ms. member s.name v ms) (whole_to P ss gs are.1)
+
+pub none_past : (P : Pools) (ss : List Slot) (gs : List (Option Data)) → AreFillings P ss gs → drop (length ss) gs ≡ []
+none_past P [] [] are = refl
+none_past P [] (g ∷ gs) are = absurd are
+none_past P (s ∷ ss) [] are = absurd are
+none_past P (s ∷ ss) (None ∷ gs) are = none_past P ss gs are.1
+none_past P (s ∷ ss) (Some v ∷ gs) are = none_past P ss gs are.1
+
+-- no more nodes from a place on than in all
+fewer_from : (place : ℕ) (gs : List (Option Data)) → filled_nodes (drop place gs) ≤ filled_nodes gs
+fewer_from zero gs = omega arith
+fewer_from (suc place) [] = omega arith
+fewer_from (suc place) (None ∷ gs) = fewer_from place gs
+fewer_from (suc place) (Some v ∷ gs) = omega (arith, fewer_from place gs)
+
+rest_same : (v : Data) (gs hs : List (Option Data)) → Some v ∷ gs ≡ Some v ∷ hs → gs ≡ hs
+rest_same v gs hs e = cc
+
+pub fewer_members : (members : List Member) → length members ≤ members_count (members_of members)
+fewer_members [] = omega arith
+fewer_members (one ∷ members) = omega (arith, fewer_members members, some_nodes (data_of one.tree))
+
+pub members_pushed : (front : List Member) (one : Member) → members_count (members_of (front ++ one ∷ [])) ≡ members_count (members_of front) + node_count (data_of one.tree)
+members_pushed [] one = omega arith
+members_pushed (a ∷ front) one = omega (arith, members_pushed front one)
+
+-- the nodes before a place, and from it on
+nodes_at : (P : Pools) (place : ℕ) (ss : List Slot) (gs : List (Option Data)) → AreFillings P ss gs → filled_nodes gs ≡ members_count (members_to place ss gs) + filled_nodes (drop place gs)
+nodes_at P zero ss gs are = omega arith
+nodes_at P (suc place) [] [] are = omega arith
+nodes_at P (suc place) [] (g ∷ gs) are = absurd are
+nodes_at P (suc place) (s ∷ ss) [] are = absurd are
+nodes_at P (suc place) (s ∷ ss) (None ∷ gs) are = nodes_at P place ss gs are.1
+nodes_at P (suc place) (s ∷ ss) (Some v ∷ gs) are = omega (arith, nodes_at P place ss gs are.1)
+
+pub walked_nodes : (q : Question) (i place room : ℕ) (members : List Member) (gs : List (Option Data)) → IsWalkedTo q i place room members gs → members_count (members_of members) + room ≡ filled_nodes gs
+walked_nodes q i place room members gs w = let all = nodes_at q.pools place (slots_from q i 0) gs w.whole.are in omega (arith, all, ap members_count w.front, w.room_is)
+
+pub plain_nodes : (q : Question) (i place room : ℕ) (old members : List Member) (gs : List (Option Data)) → StandIn q.pools (slots_from q i 0) (ending_at q i) nothing [] old gs → IsWalkedTo q i place room members gs → members_count (members_of members) + room ≡ members_count (members_of old)
+plain_nodes q i place room old members gs h w = walked_nodes q i place room members gs w ∙ sym (stand_nodes q.pools (slots_from q i 0) (ending_at q i) nothing [] old gs h)
+
+module _ (q : Question) (i : ℕ) (sound : HasSoundParts q.pools (site q i)) where
+  abbrev P : Pools
+  P = q.pools
+
+  abbrev ss : List Slot
+  ss = slots_from q i 0
+
+  abbrev end : Ending
+  end = ending_at q i
+
+  keys : AreKeySlots P ss
+  keys = keys_at q i 0 sound
+
+  -- nothing was taken off
+  pub walk_begins : (n : ℕ) (members : List Member) (gs : List (Option Data)) → n ≡ length ss → members_count (members_of members) ≤ most_nodes → StandIn P ss end nothing [] members gs → IsWalkedTo q i n 0 members gs
+  walk_begins n members gs all few h =
+      let are = h.rest.are in
+      let small : filled_nodes gs ≤ most_nodes = omega (arith, few, stand_nodes P ss end nothing [] members gs h) in
+      let past : drop n gs ≡ [] = ap (λ k. drop k gs) all ∙ none_past P ss gs are in
+      let no_slots : slots_from q i n ≡ [] = drop_of_length-le ss (omega (arith, all)) in
+      let none : filled_nodes (drop n gs) ≡ 0 = ap filled_nodes past in
+      let rest = subst (λ us. IsRest P (slots_from q i n) end (before_at n ss gs nothing) (filled_nodes (drop n gs)) us (drop n gs)) (used_none n ss gs) (rest_at P end n ss gs nothing [] keys small h.rest) in
+      record {
+        small = small;
+        whole = h.rest;
+        front = h.are ∙ whole_to P ss gs are ∙ ap (λ k. members_to k ss gs) (sym all);
+        room_is = none;
+        behind = [];
+        behind_are = sym (ap (λ us. members_in us (drop n gs)) no_slots ∙ ap (members_in []) past);
+        last = nothing_after P end (slots_from q i n) (before_at n ss gs nothing) [] (drop n gs) rest.are none;
+      }
+
+  module _ (place : ℕ) (first : slots_from q i place ≡ slot_in q i place ∷ slots_from q i (place + 1)) where
+    abbrev here : Slot
+    here = slot_in q i place
+
+    next_place : place + 1 ≡ suc place
+    next_place = omega arith
+
+    first_so : drop place ss ≡ here ∷ drop (suc place) ss
+    first_so = subst (λ n. slots_from q i place ≡ here ∷ slots_from q i n) next_place first
+
+    nothing_used : (ts : List Slot) → AreUsed P ts []
+    nothing_used ts = record { few = omega arith; tuples = λ k d lt. absurd (omega (arith, lt)); apart = λ a b d lt inside. absurd (omega (arith, lt, inside)) }
+
+    rest_here : (gs : List (Option Data)) → filled_nodes gs ≤ most_nodes → IsRest P ss end nothing (filled_nodes gs) [] gs → IsRest P (slots_from q i place) end (before_at place ss gs nothing) (filled_nodes (drop place gs)) [] (drop place gs)
+    rest_here gs small whole = subst (λ us. IsRest P (slots_from q i place) end (before_at place ss gs nothing) (filled_nodes (drop place gs)) us (drop place gs)) (used_none place ss gs) (rest_at P end place ss gs nothing [] keys small whole)
+
+    can_here : (room : ℕ) (gs : List (Option Data)) (behind : List Member) → filled_nodes gs ≤ most_nodes → IsRest P ss end nothing (filled_nodes gs) [] gs → filled_nodes (drop place gs) ≡ room → members_of behind ≡ members_in (slots_from q i place) (drop place gs)
+        → IsOpen P (slots_from q i place) end (before_at place ss gs nothing) room []
+    can_here room gs behind small whole nodes are =
+        let x = before_at place ss gs nothing in
+        subst (λ m. IsOpen P (slots_from q i place) end x m []) nodes (open_here q i place sound first x [] behind (drop place gs) (nothing_used (slots_from q i place)) (record { are = are; rest = rest_here gs small whole }))
+
+    few_here : (gs : List (Option Data)) → filled_nodes gs ≤ most_nodes → filled_nodes (drop place gs) ≤ most_nodes
+    few_here gs small = omega (arith, small, fewer_from place gs)
+
+    -- the members are the next ones, or the slots from the place on have none
+    pub walked_step : (step : Step) (base new : List Member) (gs : List (Option Data)) (behind : List Member) → filled_nodes gs ≤ most_nodes → IsRest P ss end nothing (filled_nodes gs) [] gs → members_of base ≡ members_to place ss gs → members_of behind ≡ members_in (slots_from q i place) (drop place gs)
+        → take (length base) new ≡ base → AreLeft step base new → AreMoved step P (slots_from q i place) end (before_at place ss gs nothing) [] (drop place gs) (drop (length base) new) → AreWalked step q i place new gs
+    walked_step step.Moved base new gs behind small whole front are kept left h =
+        let next = subst (λ us. AreNext P (slots_from q i place) end (before_at place ss gs nothing) us (drop place gs) (drop (length base) new)) (sym (used_none place ss gs)) h in
+        let all = next_from P end place ss gs nothing [] base (drop (length base) new) keys small whole front next in
+        subst (AreNext P ss end nothing [] gs) (ap (λ l. l ++ drop (length base) new) (sym kept) ∙ take-append-drop (length base) new) all
+    walked_step (step.Last n) base new gs behind small whole front are kept left h = record {
+      small = small;
+      whole = whole;
+      front = ap members_of left ∙ front;
+      room_is = h.1;
+      behind = behind;
+      behind_are = are;
+      last = h.0;
+    }
+
+    pub walked_continue : (step : Step) (base new : List Member) (gs : List (Option Data)) (cs : List Data) → AreFillings P ss gs → members_of base ≡ members_to place ss gs → take (length base) new ≡ base → GrownContinue step P (slots_from q i place) [] (drop (length base) new) cs → GrownContinue step P ss [] new cs
+    walked_continue step.Moved base new gs cs fit front kept h =
+        let there = subst (λ us. MembersContinue P (slots_from q i place) us (drop (length base) new) cs) (sym (used_none place ss gs)) h in
+        subst (λ l. MembersContinue P ss [] l cs) (ap (λ l. l ++ drop (length base) new) (sym kept) ∙ take-append-drop (length base) new) (continue_from P place ss gs [] base (drop (length base) new) cs fit front there)
+    walked_continue (step.Last n) base new gs cs fit front kept h = tt
+
+    -- the slot is left out
+    pub record IsLeftOut (room : ℕ) (members : List Member) (gs : List (Option Data)) : Type 0 where
+      pub front : members_of members ≡ members_to place ss gs
+      pub is : drop place gs ≡ None ∷ drop (suc place) gs
+      pub must : here.must ≡ false
+      pub small : filled_nodes (drop (suc place) gs) ≤ most_nodes
+      pub room_is : filled_nodes (drop (suc place) gs) ≡ room
+      pub behind_are : (behind : List Member) × (members_of behind ≡ members_in (slots_from q i place) (drop place gs))
+      pub last : IsNext fill_cmp (IsRest P (slots_from q i (place + 1)) end (before_at place ss gs nothing) (filled_nodes (drop (suc place) gs)) []) (drop (suc place) gs) None
+      pub can : IsOpen P (slots_from q i place) end (before_at place ss gs nothing) room []
+
+    pub out_walked : (room : ℕ) (members : List Member) (gs : List (Option Data)) → IsWalkedTo q i (place + 1) room members gs → (EndsIn here.name members → ⊥) → IsLeftOut room members gs
+    out_walked room members gs w other =
+        let Walk = λ (n : ℕ). IsNext fill_cmp (IsRest P (slots_from q i (place + 1)) end (before_at n ss gs nothing) (filled_nodes (drop n gs)) []) (drop n gs) None in
+        let o = out_at P place ss (drop (suc place) ss) here gs members w.whole.are first_so (w.front ∙ ap (λ n. members_to n ss gs) next_place) other in
+        let nodes : filled_nodes (drop (suc place) gs) ≡ room = ap (λ n. filled_nodes (drop n gs)) (sym next_place) ∙ w.room_is in
+        let same = before_out place ss gs nothing o.0 in
+        let behind = w.behind_are ∙ ap (λ n. members_in (slots_from q i (place + 1)) (drop n gs)) next_place in
+        let are : members_of w.behind ≡ members_in (slots_from q i place) (drop place gs) = behind ∙ (sym (ap (λ ts. members_in ts (drop place gs)) first ∙ ap (members_in (here ∷ slots_from q i (place + 1))) o.0)) in
+        let small = few_here gs w.small in
+        let same_nodes : filled_nodes (drop place gs) ≡ room = ap filled_nodes o.0 ∙ nodes in
+        record {
+          front = o.2;
+          is = o.0;
+          must = o.1;
+          small = omega (arith, small, nodes, same_nodes);
+          room_is = nodes;
+          behind_are = (w.behind, are);
+          last = subst (λ x. IsNext fill_cmp (IsRest P (slots_from q i (place + 1)) end x (filled_nodes (drop (suc place) gs)) []) (drop (suc place) gs) None) same (subst Walk next_place w.last);
+          can = can_here room gs w.behind w.small w.whole same_nodes are;
+        }
+
+    -- the last member stands in it, and was taken off
+    pub record IsTakenOff (room : ℕ) (front : List Member) (one : Member) (gs : List (Option Data)) : Type 0 where
+      pub front_is : members_of front ≡ members_to place ss gs
+      pub behind : List Member
+      pub ended : AreLastBehind q i place (before_at place ss gs nothing) [] one behind room (drop place gs)
+      pub behind_are : members_of (one ∷ behind) ≡ members_in (slots_from q i place) (drop place gs)
+      pub can : IsOpen P (slots_from q i place) end (before_at place ss gs nothing) (room + node_count (data_of one.tree)) []
+
+    pub taken_off : (room : ℕ) (members front : List Member) (one : Member) (gs : List (Option Data)) → IsWalkedTo q i (place + 1) room members gs → members ≡ front ++ one ∷ [] → one.name ≡ here.name → IsTakenOff room front one gs
+    taken_off room members front one gs w is name =
+        let v = data_of one.tree in
+        let x = before_at place ss gs nothing in
+        let hs = drop (suc place) gs in
+        let o = in_at P place ss (drop (suc place) ss) here gs front one sound.order w.whole.are first_so (sym (ap members_of is) ∙ w.front ∙ ap (λ n. members_to n ss gs) next_place) name in
+        let nodes : filled_nodes hs ≡ room = ap (λ n. filled_nodes (drop n gs)) (sym next_place) ∙ w.room_is in
+        let behind : members_of w.behind ≡ members_in (slots_from q i (place + 1)) hs = w.behind_are ∙ ap (λ n. members_in (slots_from q i (place + 1)) (drop n gs)) next_place in
+        let are : members_of (one ∷ w.behind) ≡ members_in (slots_from q i place) (drop place gs) =
+        (λ k. member (name k) v (behind k)) ∙ sym (ap (λ ts. members_in ts (drop place gs)) first ∙ ap (members_in (here ∷ slots_from q i (place + 1))) o.0) in
+        let small = few_here gs w.small in
+        let f = filled_here q i place sound first x [] one w.behind (drop place gs) small (record { are = are; rest = rest_here gs w.small w.whole }) name in
+        let rest : f.rest ≡ hs = rest_same v f.rest hs (sym f.is ∙ o.0) in
+        let state = before_in place ss (drop (suc place) ss) here gs v nothing first_so o.0 in
+        let Last = λ (y : Before) (us : List Data) (ts : List (Option Data)). IsNext fill_cmp (IsRest P (slots_from q i (place + 1)) end y (filled_nodes ts) us) ts None in
+        let last = subst (λ n. Last (before_at n ss gs nothing) [] (drop n gs)) next_place w.last in
+        let sum : filled_nodes (drop place gs) ≡ room + node_count v = ap filled_nodes o.0 ∙ omega (arith, nodes) in
+        record {
+          front_is = o.1;
+          behind = w.behind;
+          ended = record {
+            small = small;
+            stood = f;
+            room_is = ap filled_nodes rest ∙ nodes;
+            last = subst (Last (filled here.bit x) (still_used here v [])) (sym rest) (subst (λ us. Last (filled here.bit x) us hs) (sym (still_none here v)) (subst (λ y. Last y [] hs) state last));
+          };
+          behind_are = are;
+          can = can_here (room + node_count v) gs (one ∷ w.behind) w.small w.whole sum are;
+        }
+
+    -- nothing stands from the next place on
+    pub walked_nothing : (members : List Member) (gs : List (Option Data)) → filled_nodes gs ≤ most_nodes → IsRest P ss end nothing (filled_nodes gs) [] gs → IsLeftOut 0 members gs → IsWalkedTo q i place 0 members gs
+    walked_nothing members gs small whole o =
+        let none : filled_nodes (drop place gs) ≡ 0 = ap filled_nodes o.is ∙ o.room_is in
+        let rest = rest_here gs small whole in
+        record {
+          small = small;
+          whole = whole;
+          front = o.front;
+          room_is = none;
+          behind = o.behind_are.0;
+          behind_are = o.behind_are.1;
+          last = nothing_after P end (slots_from q i place) (before_at place ss gs nothing) [] (drop place gs) rest.are none;
+        }
