@@ -1,8 +1,11 @@
 -- The next trees that differ in their last node alone.
-use Rattle.std.specs.Prelude.{◌≡◌, ℕ, zero, suc, ◌+◌, ◌-◌, ◌≤◌, ◌<◌, List, false, Option, Some, None, slice_get, get_or, drop, length, Result, Ok, Err, IfOk, OnOk}
+use Rattle.std.specs.Prelude.{◌≡◌, ℕ, zero, suc, ◌+◌, ◌-◌, ◌≤◌, ◌<◌, List, false, Option, Some, None, slice_get, get_or, drop, length, reverse, Result, Ok, Err, IfOk, OnOk}
 use Rattle.std.specs.Borrow.{Bor}
 use Rattle.std.proofs.Common.{refl, ap, sym, ◌∙◌, subst, inl, inr, arith, [], ◌∷◌, ◌++◌}
-use Rattle.std.proofs.lemmas.List.{append_assoc, drop_at}
+use Rattle.std.proofs.lemmas.Bool.{cases_lt}
+use Rattle.std.proofs.lemmas.List.{append_assoc, drop_at, map-append, reverse-append}
+use Rattle.std.proofs.Math.Nat.{eq-or-lt_of_le}
+use Rattle.enumerate.specs.Page.{IsPast}
 use Rattle.std.proofs.lemmas.Option.{slice_get_within, get_or_from_slice_get}
 use Rattle.jtree.specs.Data as tree
 use Rattle.jtree.specs.Data.{Data, Items, no_items, item, Members, no_members, member, object, list}
@@ -27,7 +30,7 @@ use Rattle.plan.specs.Samples.Keys.{AreKeySlots, AreInOrder}
 use Rattle.plan.specs.Samples.Question.{Question}
 use Rattle.enumerate.specs.Least.{IsLeast, IsNext}
 use Rattle.enumerate.specs.Internal.Following.{Follow, Continue, InTurn, AreChoices, MayContinue, EndsAt, MembersContinue, ItemsContinue, ContinueMoved, GrownContinue}
-use Rattle.enumerate.specs.Internal.Candidates.{IsFree, IsChoice, rows_of}
+use Rattle.enumerate.specs.Internal.Candidates.{IsFree, IsChoice, rows_of, stack_of}
 use Rattle.enumerate.specs.Internal.Moves.{Begins, IsMoved}
 use Rattle.enumerate.specs.declared.moved.Moved.{Moved}
 use Rattle.enumerate.specs.declared.moved.Moved.TheVariants as moved
@@ -38,8 +41,8 @@ use Rattle.enumerate.specs.declared.taken.Taken.{Taken}
 use Rattle.enumerate.specs.Internal.Nodes.{site, IsPartOf}
 use Rattle.enumerate.specs.Internal.Lists.{AreItems, IsFreshItem}
 use Rattle.enumerate.specs.Internal.Rows.{fill_cmp, slots_from, slot_in, ending_at, IsRest, still_used, IsValue, IsRow, IsGrown}
-use Rattle.enumerate.proofs.LeastLemmas.{next_same}
-use Rattle.enumerate.proofs.LeafLemmas.{NoneBefore, candidates_same, none_after, none_at_all, none_past, least_at}
+use Rattle.enumerate.proofs.LeastLemmas.{next_same, tree_order, not_itself}
+use Rattle.enumerate.proofs.LeafLemmas.{NoneBefore, candidates_same, index_of}
 use Rattle.enumerate.proofs.PageLemmas.{goes_past}
 use Rattle.enumerate.proofs.RowMoves.{never_begins}
 use Rattle.enumerate.proofs.ListLemmas.{some_nodes, first_more, some_items, none_behind, then_count, then_nodes, items_pushed}
@@ -234,77 +237,136 @@ with_single (list (item d ds)) c one = absurd (omega (arith, one, some_nodes d))
 with_single (object no_members) c one = refl
 with_single (object (member k d ms)) c one = absurd (omega (arith, one, some_nodes d))
 
--- the last of some values
-abbrev pub last_of : Data → List Data → Data
-last_of v [] = v
-last_of v (c ∷ cs) = last_of c cs
+pub stack_pushed : (xs : List (Bor Tree)) (x : Bor Tree) → stack_of (xs ++ x ∷ []) ≡ data_of x.now ∷ stack_of xs
+stack_pushed xs x = ap reverse (map-append (λ (r : Bor Tree). data_of r.now) xs (x ∷ [])) ∙ reverse-append (rows_of xs) (data_of x.now ∷ [])
 
-turn_more : (C : Data → Type 0) (v : Data) (cs : List Data) (x : Data) → InTurn C v cs → IsNext tree_cmp C (last_of v cs) (Some x) → InTurn C v (cs ++ x ∷ [])
-turn_more C v [] x t next = (next, tt)
-turn_more C v (c ∷ cs) x t next = (t.0, turn_more C c cs x t.1 next)
+module _ (q : Question) (i : ℕ) (C : Data → Type 0) (part : (u : Data) → C u → IsPart q.pools (site q i) u) where
+  -- C holds for none from a place on
+  abbrev pub NoneFrom : ℕ → Type 0
+  NoneFrom place = (vs : List Data) → AreCandidates q.pools (site q i) vs → (j : ℕ) (u : Data) → place ≤ j → slice_get vs j ≡ Some u → C u → ⊥
 
-last_more : (v : Data) (cs : List Data) (x : Data) → last_of v (cs ++ x ∷ []) ≡ x
-last_more v [] x = refl
-last_more v (c ∷ cs) x = last_more c cs x
+  -- it is a candidate from a place on, and C holds for none of these before it
+  abbrev pub IsFirstFrom : Data → ℕ → Type 0
+  IsFirstFrom v place = (vs : List Data) → AreCandidates q.pools (site q i) vs → ((j : ℕ) × (place ≤ j) × (slice_get vs j ≡ Some v)) × ((j : ℕ) (u : Data) → place ≤ j → slice_get vs j ≡ Some u → C u → tree_cmp u v ≡ Less → ⊥)
 
-module _ (q : Question) (i : ℕ) where
-  -- it is a candidate before the place
-  abbrev pub StandsBefore : Data → ℕ → Type 0
-  StandsBefore v place = (vs : List Data) → AreCandidates q.pools (site q i) vs → (j : ℕ) × (j < place) × (slice_get vs j ≡ Some v)
+  -- these are the candidates from a place on for which C holds
+  abbrev pub Chosen : List Data → ℕ → Type 0
+  Chosen [] place = NoneFrom place
+  Chosen (v ∷ cs) place = C v × InTurn C v cs × IsFirstFrom v place
 
-  stands_there : (v : Data) (place : ℕ) → IsCandidateAt q.pools (site q i) place (Some v) → StandsBefore v (place + 1)
-  stands_there v place handed = λ vs are. (place, omega arith, ap (λ xs. slice_get xs place) (candidates_same q i vs handed.candidates are handed.are) ∙ sym handed.is)
+  pub none_chosen : (place : ℕ) → HasCount q.pools (site q i) place → Chosen [] place
+  none_chosen place count = λ vs are j u from at c.
+      let same = ap length (candidates_same q i vs count.candidates are count.are) in
+      absurd (omega (arith, from, slice_get_within vs j u at, same, count.count_is))
 
-  ascends : (u v : Data) (place : ℕ) → StandsBefore u place → IsCandidateAt q.pools (site q i) place (Some v) → tree_cmp u v ≡ Less
-  ascends u v place before handed =
-      let vs = handed.candidates in
-      let j = before vs handed.are in
-      let at : slice_get vs place ≡ Some v = sym handed.is in
-      let pair = handed.are.ascending j.0 place u j.1 (slice_get_within vs place v at) in
-      let first = get_or_from_slice_get vs j.0 u u j.2 in
-      let later = get_or_from_slice_get vs place v u at in
-      subst (λ x. tree_cmp u x ≡ Less) later (subst (λ x. tree_cmp x (get_or vs place u) ≡ Less) first pair)
+  -- the candidate at a place
+  at_place : (place : ℕ) (x : Data) → IsCandidateAt q.pools (site q i) place (Some x) → (vs : List Data) → AreCandidates q.pools (site q i) vs → slice_get vs place ≡ Some x
+  at_place place x handed vs are = ap (λ xs. slice_get xs place) (candidates_same q i vs handed.candidates are handed.are) ∙ sym handed.is
 
-  module _ (C : Data → Type 0) (part : (u : Data) → C u → IsPart q.pools (site q i) u) where
-    abbrev Past : Data → Data → Type 0
-    Past last u = C u × (tree_cmp last u ≡ Less)
+  -- candidates ascend
+  ascends : (vs : List Data) → AreCandidates q.pools (site q i) vs → (j k : ℕ) (u v : Data) → j < k → slice_get vs j ≡ Some u → slice_get vs k ≡ Some v → tree_cmp u v ≡ Less
+  ascends vs are j k u v before at there =
+      let pair = are.ascending j k u before (slice_get_within vs k v there) in
+      let first = get_or_from_slice_get vs j u u at in
+      let later = get_or_from_slice_get vs k v u there in
+      subst (λ x. tree_cmp u x ≡ Less) later (subst (λ x. tree_cmp x (get_or vs k u) ≡ Less) first pair)
 
-    pub past_part : (last u : Data) → Past last u → IsPart q.pools (site q i) u
-    past_part last u h = part u h.0
+  same_at : (vs : List Data) (j k : ℕ) (u v : Data) → j ≡ k → slice_get vs j ≡ Some u → slice_get vs k ≡ Some v → u ≡ v
+  same_at vs j k u v e at there = let both : Some u ≡ Some v = sym at ∙ (ap (slice_get vs) e ∙ there) in cc
 
-    -- these are the candidates before a place for which C holds
-    abbrev pub Chosen : List Data → ℕ → Type 0
-    Chosen [] place = NoneBefore q i C part place
-    Chosen (v ∷ cs) place = IsLeast tree_cmp C v × InTurn C v cs × StandsBefore (last_of v cs) place × NoneBefore q i (Past (last_of v cs)) (past_part (last_of v cs)) place
+  index_here : (vs : List Data) → AreCandidates q.pools (site q i) vs → (u : Data) → C u → (j : ℕ) × (slice_get vs j ≡ Some u)
+  index_here vs are u c = let k = index_of q i C part vs are u c in (k.0, k.2)
 
-    pub none_chosen : Chosen [] 0
-    none_chosen = λ vs are j u before at c. absurd (omega (arith, before))
-
-    -- C holds for the candidate at the place
-    pub chosen_more : (vs : List Data) (x : Data) (place : ℕ) → C x → IsCandidateAt q.pools (site q i) place (Some x) → Chosen vs place → Chosen (vs ++ x ∷ []) (place + 1)
-    chosen_more [] x place c handed none = (least_at q i C part place x handed none c, tt, stands_there x place handed, none_past q i (Past x) (past_part x) place x handed (λ u h. h.1))
-    chosen_more (v ∷ cs) x place c handed (least, turn, before, none) =
-        let last = last_of v cs in
-        let next : IsNext tree_cmp C last (Some x) = least_at q i (Past last) (past_part last) place x handed none (c, ascends last x place before handed) in (
-          least,
-          turn_more C v cs x turn next,
-          subst (λ w. StandsBefore w (place + 1)) (sym (last_more v cs x)) (stands_there x place handed),
-          subst (λ w. NoneBefore q i (Past w) (past_part w) (place + 1)) (sym (last_more v cs x)) (none_past q i (Past x) (past_part x) place x handed (λ u h. h.1)),
-        )
-
-    -- it does not
-    pub chosen_same : (vs : List Data) (place : ℕ) (o : Option Data) → IsCandidateAt q.pools (site q i) place o → ((x : Data) → o ≡ Some x → C x → ⊥) → Chosen vs place → Chosen vs (place + 1)
-    chosen_same [] place o handed other none = none_after q i C part place o handed none other
-    chosen_same (v ∷ cs) place o handed other (least, turn, before, none) = (
-      least,
+  -- C holds for the candidate before the place
+  pub chosen_more : (vs : List Data) (x : Data) (place : ℕ) → C x → IsCandidateAt q.pools (site q i) place (Some x) → Chosen vs (place + 1) → Chosen (x ∷ vs) place
+  chosen_more [] x place c handed none = (
+    c,
+    tt,
+    λ vs are.
+        let here = at_place place x handed vs are in (
+          (place, omega arith, here),
+          (λ j u from at d less. elim (cases_lt place j) [
+            | inl lt ↦ none vs are j u (omega (arith, lt)) at d
+            | inr ge ↦ not_itself tree_cmp tree_order u x (same_at vs j place u x (omega (arith, ge, from)) at here) less
+          ]),
+        ),
+  )
+  chosen_more (v ∷ cs) x place c handed (holds, turn, first) = (
+    c,
+    (
+      record {
+        is = let f = first handed.candidates handed.are in (holds, ascends handed.candidates handed.are place f.0.0 x v (omega (arith, f.0.1)) (sym handed.is) f.0.2);
+        least = λ u d less.
+            let vs = handed.candidates in
+            let here = sym handed.is in
+            let k = index_here vs handed.are u d.0 in
+            elim (cases_lt place k.0) [
+              | inl lt ↦ (first vs handed.are).1 k.0 u (omega (arith, lt)) k.1 d.0 less
+              | inr ge ↦ elim (eq-or-lt_of_le ge) [
+                | inl same ↦ not_itself tree_cmp tree_order x u (same_at vs place k.0 x u (sym same) here k.1) d.1
+                | inr lt ↦ tree_order.turned u x (ascends vs handed.are k.0 place u x lt k.1 here) d.1
+              ]
+            ];
+      },
       turn,
-      (λ vs are. let j = before vs are in (j.0, omega (arith, j.1), j.2)),
-      none_after q i (Past (last_of v cs)) (past_part (last_of v cs)) place o handed none (λ x at h. other x at h.0),
-    )
+    ),
+    λ vs are.
+        let here = at_place place x handed vs are in (
+          (place, omega arith, here),
+          (λ j u from at d less. elim (cases_lt place j) [
+            | inl lt ↦ tree_order.turned u x less (ascends vs are place j x u lt here at)
+            | inr ge ↦ not_itself tree_cmp tree_order u x (same_at vs j place u x (omega (arith, ge, from)) at here) less
+          ]),
+        ),
+  )
 
-    pub all_chosen : (vs : List Data) (place : ℕ) → HasCount q.pools (site q i) place → Chosen vs place → AreChoices C vs
-    all_chosen [] place count none = none_at_all q i C part place count none
-    all_chosen (v ∷ cs) place count (least, turn, before, none) = (least, turn)
+  -- it does not
+  pub chosen_same : (vs : List Data) (x : Data) (place : ℕ) → IsCandidateAt q.pools (site q i) place (Some x) → (C x → ⊥) → Chosen vs (place + 1) → Chosen vs place
+  chosen_same [] x place handed other none = λ vs are j u from at d. elim (cases_lt place j) [
+    | inl lt ↦ none vs are j u (omega (arith, lt)) at d
+    | inr ge ↦ other (subst C (same_at vs j place u x (omega (arith, ge, from)) at (at_place place x handed vs are)) d)
+  ]
+  chosen_same (v ∷ cs) x place handed other (holds, turn, first) = (
+    holds,
+    turn,
+    λ vs are.
+        let f = first vs are in (
+          (f.0.0, omega (arith, f.0.1), f.0.2),
+          (λ j u from at d less. elim (cases_lt place j) [
+            | inl lt ↦ f.1 j u (omega (arith, lt)) at d less
+            | inr ge ↦ other (subst C (same_at vs j place u x (omega (arith, ge, from)) at (at_place place x handed vs are)) d)
+          ]),
+        ),
+  )
+
+  -- it holds for none before
+  pub all_chosen : (vs : List Data) (place : ℕ) → NoneBefore q i C part place → Chosen vs place → (xs : List Data) → AreCandidates q.pools (site q i) xs → AreChoices C vs
+  all_chosen [] place before none xs are = λ u c. let k = index_here xs are u c in elim (cases_lt k.0 place) [
+    | inl lt ↦ before xs are k.0 u lt k.1 c
+    | inr ge ↦ none xs are k.0 u ge k.1 c
+  ]
+  all_chosen (v ∷ cs) place before (holds, turn, first) xs are = (
+    record {
+      is = holds;
+      least = λ u c less. let k = index_here xs are u c in elim (cases_lt k.0 place) [
+        | inl lt ↦ before xs are k.0 u lt k.1 c
+        | inr ge ↦ (first xs are).1 k.0 u ge k.1 c less
+      ];
+    },
+    turn,
+  )
+
+  pub none_at_first : NoneBefore q i C part 0
+  none_at_first = λ vs are j u before at c. absurd (omega (arith, before))
+
+  -- nor for the candidate at a place and those before it, where it is not past, and the others are
+  pub none_to : (after : Option Data) (x : Data) (place : ℕ) → ((u : Data) → C u → IsPast after u) → (IsPast after x → ⊥) → IsCandidateAt q.pools (site q i) place (Some x) → NoneBefore q i C part (place + 1)
+  none_to after x place past other handed = λ vs are j u before at c.
+      let here = at_place place x handed vs are in
+      elim (cases_lt j place) [
+        | inl lt ↦ other (goes_past after u x (past u c) (ascends vs are j place u x lt at here))
+        | inr ge ↦ other (subst (IsPast after) (same_at vs j place u x (omega (arith, ge, before)) at here) (past u c))
+      ]
 
 module _ (q : Question) (i n : ℕ) (after : Option Data) (taken : Taken) (one : n ≡ 1) where
   abbrev pub FreePart : Data → Type 0
@@ -416,9 +478,17 @@ pub may_in : (P : Pools) (s : Slot) (ss : List Slot) (used : List Data) (u : Dat
 may_in P s ss used u gs cs (inl none) = inl none
 may_in P s ss used u gs cs (inr r) = inr record { place = suc r.place; here = r.here; behind = r.behind; rows = r.rows; value = r.value; ends = r.ends; continue = r.continue }
 
-pub first_of_rows : (xs : List (Bor Tree)) (x : Bor Tree) → Some x ≡ slice_get xs 0 → rows_of xs ≡ data_of x.now ∷ rows_of (drop 1 xs)
-first_of_rows [] x is = cc
-first_of_rows (y ∷ ys) x is = let same : x ≡ y = cc in ap (λ (r : Bor Tree). data_of r.now ∷ rows_of ys) (sym same)
+-- what is on top of a stack, and below it
+top_at : (xs : List (Bor Tree)) (n : ℕ) (x : Bor Tree) → n + 1 ≡ length xs → Some x ≡ slice_get xs n → (below : List (Bor Tree)) × (xs ≡ below ++ x ∷ [])
+top_at [] n x count is = absurd (omega (arith, count))
+top_at (y ∷ []) zero x count is = let same : x ≡ y = cc in ([], ap (λ z. z ∷ []) (sym same))
+top_at (y ∷ []) (suc n) x count is = absurd (omega (arith, count))
+top_at (y ∷ z ∷ xs) zero x count is = absurd (omega (arith, count))
+top_at (y ∷ z ∷ xs) (suc n) x count is = let t = top_at (z ∷ xs) n x (omega (arith, count)) is in (y ∷ t.0, ap (λ l. y ∷ l) t.1)
+
+pub on_top : (xs : List (Bor Tree)) (x : Bor Tree) → Some x ≡ slice_get xs (length xs - 1) → (below : List (Bor Tree)) × (stack_of xs ≡ data_of x.now ∷ stack_of below)
+on_top [] x is = cc
+on_top (y ∷ xs) x is = let t = top_at (y ∷ xs) (length (y ∷ xs) - 1) x (omega arith) is in (t.0, ap stack_of t.1 ∙ stack_pushed t.0 x)
 
 -- ---- the members that were put there
 

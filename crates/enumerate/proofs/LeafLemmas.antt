@@ -1,5 +1,5 @@
 -- The candidates of a leaf: that there is one list of them, and the first one in it for which something holds.
-use Rattle.std.proofs.Common.{◌≡◌, ◌<◌, ◌≤◌, ◌+◌, ℕ, List, [], ◌∷◌, length, get_or, Bool, true, Option, Some, Contains, refl, sym, ap, ◌∙◌, subst, inl, inr, arith}
+use Rattle.std.proofs.Common.{◌≡◌, ◌<◌, ◌≤◌, ◌+◌, ℕ, List, [], ◌∷◌, length, Bool, true, Option, Some, None, Contains, refl, sym, ap, ◌∙◌, subst, inl, inr, arith}
 use Rattle.std.specs.Prelude.{slice_get}
 use Rattle.std.specs.List.{list_any}
 use Rattle.std.specs.Ordering.{is_eq}
@@ -7,10 +7,9 @@ use Rattle.std.specs.Cmp.{Equal-is}
 use Rattle.std.specs.declared.cmp.Ordering.TheVariants.{Less, Equal}
 use Rattle.std.proofs.lemmas.Bool.{cases_lt, or_cases}
 use Rattle.std.proofs.Math.Bool.{or-true}
-use Rattle.std.proofs.Math.Nat.{eq-or-lt_of_le}
 use Rattle.std.proofs.lemmas.List.Elements.{Contains-get_or}
 use Rattle.std.proofs.lemmas.Option.{slice_get-get_or, slice_get_within, get_or_from_slice_get}
-use Rattle.jtree.specs.Data.{Data}
+use Rattle.jtree.specs.Data.{Data, null}
 use Rattle.jtree.specs.Order.{tree_cmp}
 use Rattle.jtree.specs.View.{data_of}
 use Rattle.jtree.specs.declared.value.Tree.{Tree}
@@ -22,7 +21,6 @@ use Rattle.plan.specs.Samples.Handed.{IsCandidateAt}
 use Rattle.plan.specs.Samples.Sites.{sites_of}
 use Rattle.plan.specs.Samples.Question.{Question}
 use Rattle.plan.specs.declared.sort.Sort.TheVariants as sort
-use Rattle.enumerate.specs.Least.{IsLeast}
 use Rattle.enumerate.specs.View.{trees_of}
 use Rattle.enumerate.specs.Internal.Nodes.{site, IsNodeOf}
 use Rattle.enumerate.proofs.LeastLemmas.{tree_order, not_itself}
@@ -61,6 +59,14 @@ module _ (q : Question) (i : ℕ) where
       let at : slice_get handed.candidates place ≡ Some v = sym handed.is in
       (handed.are.each v).0 (place, slice_get_within handed.candidates place v at, get_or_from_slice_get handed.candidates place v v at)
 
+  -- before the end there is one
+  pub some_candidate : (place n : ℕ) → HasCount q.pools (site q i) n → place < n → IsCandidateAt q.pools (site q i) place None → ⊥
+  some_candidate place n count inside handed =
+      let same = ap length (candidates_same handed.candidates count.candidates handed.are count.are) in
+      let at = slice_get-get_or handed.candidates place null (omega (arith, inside, same, count.count_is)) in
+      let is = handed.is in
+      cc
+
   -- a leaf has at most as many candidates as the plan is wide
   pub count_within : IsNodeOf q i → sort_of (site q i) ≡ sort.Leaf → (n : ℕ) → HasCount q.pools (site q i) n → (w : ℕ) → IsWidth q.pools q.root w → n ≤ w
   count_within at leaf n count w width =
@@ -82,7 +88,7 @@ module _ (q : Question) (i : ℕ) where
           not_it u (handed.is ∙ (ap (λ xs. slice_get xs place) same ∙ (ap (slice_get vs) here ∙ at))) c
     ]
 
-    index_of : (vs : List Data) → AreCandidates q.pools (site q i) vs → (u : Data) → C u → (j : ℕ) × (j < length vs) × (slice_get vs j ≡ Some u)
+    pub index_of : (vs : List Data) → AreCandidates q.pools (site q i) vs → (u : Data) → C u → (j : ℕ) × (j < length vs) × (slice_get vs j ≡ Some u)
     index_of vs are u c =
         let k = (are.each u).1 (part u c) in
         (k.0, k.1, slice_get-get_or vs k.0 u k.1 ∙ ap Some k.2)
@@ -91,45 +97,6 @@ module _ (q : Question) (i : ℕ) where
     none_at_all place count none u c =
         let k = index_of count.candidates count.are u c in
         none count.candidates count.are k.0 u (omega (arith, k.1, count.count_is)) k.2 c
-
-    -- none before a place is past the candidate that stands there
-    pub none_past : (place : ℕ) (v : Data) → IsCandidateAt q.pools (site q i) place (Some v) → ((u : Data) → C u → tree_cmp v u ≡ Less) → NoneBefore (place + 1)
-    none_past place v handed past vs are j u below at c =
-        let same : handed.candidates ≡ vs = candidates_same handed.candidates vs handed.are are in
-        let here : slice_get vs place ≡ Some v = ap (λ xs. slice_get xs place) (sym same) ∙ sym handed.is in
-        elim (cases_lt j place) [
-          | inl lt ↦
-              let pair = are.ascending j place u lt (slice_get_within vs place v here) in
-              let first = get_or_from_slice_get vs j u u at in
-              let later = get_or_from_slice_get vs place v u here in
-              tree_order.turned v u (past u c) (subst (λ x. tree_cmp u x ≡ Less) later (subst (λ x. tree_cmp x (get_or vs place u) ≡ Less) first pair))
-          | inr ge ↦
-              let there : j ≡ place = omega arith in
-              let both : Some u ≡ Some v = sym at ∙ (ap (slice_get vs) there ∙ here) in
-              not_itself tree_cmp tree_order v u (cc) (past u c)
-        ]
-
-    pub least_at : (place : ℕ) (v : Data) → IsCandidateAt q.pools (site q i) place (Some v) → NoneBefore place → C v → IsLeast tree_cmp C v
-    least_at place v handed none c = record {
-      is = c;
-      least = λ u d less.
-          let vs = handed.candidates in
-          let at : slice_get vs place ≡ Some v = sym handed.is in
-          let k = index_of vs handed.are u d in
-          elim (cases_lt k.0 place) [
-            | inl lt ↦ none vs handed.are k.0 u lt k.2 d
-            | inr ge ↦ elim (eq-or-lt_of_le ge) [
-              | inl same ↦
-                  let both : Some u ≡ Some v = sym k.2 ∙ (ap (slice_get vs) (sym same) ∙ at) in
-                  not_itself tree_cmp tree_order u v (cc) less
-              | inr gt ↦
-                  let pair = handed.are.ascending place k.0 v gt k.1 in
-                  let first = get_or_from_slice_get vs place v v at in
-                  let later = get_or_from_slice_get vs k.0 u v k.2 in
-                  tree_order.turned u v less (subst (λ x. tree_cmp x u ≡ Less) first (subst (λ x. tree_cmp (get_or vs place v) x ≡ Less) later pair))
-            ]
-          ];
-    }
 
 -- ---- whether a tree stands among trees
 

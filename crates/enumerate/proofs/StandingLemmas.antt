@@ -1,6 +1,5 @@
 -- A sample at which an enumeration stands, and the next ones in the place of its last node.
-use Rattle.std.proofs.Common.{◌≡◌, ◌<◌, ◌+◌, ◌*◌, ℕ, List, [], ◌∷◌, ◌++◌, true, Option, Some, None, sym, ap, ◌∙◌, subst, arith, length, drop, map, get_or}
-use Rattle.std.proofs.lemmas.List.{drop-map, drop_more}
+use Rattle.std.proofs.Common.{◌≡◌, ◌<◌, ◌+◌, ◌*◌, ℕ, List, [], ◌∷◌, ◌++◌, true, Option, Some, None, sym, ◌∙◌, subst, arith}
 use Rattle.std.specs.Borrow.{Bor}
 use Rattle.std.specs.Prelude.{IfSome, OnErr, Result, Ok, Err}
 use Rattle.jtree.specs.Data.{Data}
@@ -12,7 +11,6 @@ use Rattle.plan.specs.Samples.Question.{Question}
 use Rattle.plan.specs.Samples.Sites.{root_site}
 use Rattle.enumerate.specs.Live.{IsNextSample, IsWithinDelay}
 use Rattle.enumerate.specs.Page.{IsSampleOf}
-use Rattle.enumerate.specs.Internal.Candidates.{rows_of}
 use Rattle.enumerate.specs.Internal.Following.{Follow, Continue}
 use Rattle.enumerate.specs.Internal.Nodes.{site, IsPartOf, Costs}
 use Rattle.enumerate.specs.Internal.Standing.{FollowSample, ContinueSample, IsStep, Replaces}
@@ -37,18 +35,6 @@ module _ (q : Question) (i : ℕ) (root : site q i ≡ root_site q.root) (small 
 pub put_sample : (q : Question) (again : (d v w : Data) → node_count v ≡ 1 → with_last (with_last d v) w ≡ with_last d w) (v u c : Data) (cs : List Data) → ContinueSample q v (u ∷ c ∷ cs)
     → IsNextSample q (Some v) (Some (with_last v c)) × ContinueSample q (with_last v c) (c ∷ cs) × (with_last (with_last v c) u ≡ v)
 put_sample q again v u c cs (stands, (one, next, later)) = (next, (again v c c one, later), again v c u one ∙ stands)
-
-row_at : (xs : List (Bor Tree)) (k : ℕ) (x : Bor Tree) → drop k xs ≡ x ∷ drop (k + 1) xs → drop k (rows_of xs) ≡ data_of x.now ∷ drop (k + 1) (rows_of xs)
-row_at xs k x is = let f = λ (r : Bor Tree). data_of r.now in drop-map f k xs ∙ (ap (λ ys. map f ys) is ∙ ap (λ ys. f x ∷ ys) (sym (drop-map f (k + 1) xs)))
-
--- the same of two references, one behind the other, as they are read
-pub two_rows : (xs : List (Bor Tree)) (k : ℕ) (x y : Bor Tree) → k + 1 < length xs → x ≡ get_or xs k x → y ≡ get_or xs (k + 1) y
-    → (drop k (rows_of xs) ≡ data_of x.now ∷ data_of y.now ∷ drop (k + 2) (rows_of xs)) × (drop (k + 1) (rows_of xs) ≡ data_of y.now ∷ drop (k + 2) (rows_of xs))
-two_rows xs k x y inside first second =
-    let here = row_at xs k x (drop_more xs k x (omega (arith, inside)) ∙ ap (λ z. z ∷ drop (k + 1) xs) (sym first)) in
-    let next : k + 1 + 1 ≡ k + 2 = omega arith in
-    let behind = subst (λ n. drop (k + 1) (rows_of xs) ≡ data_of y.now ∷ drop n (rows_of xs)) next (row_at xs (k + 1) y (drop_more xs (k + 1) y inside ∙ ap (λ z. z ∷ drop (k + 1 + 1) xs) (sym second))) in
-    (here ∙ ap (λ ys. data_of x.now ∷ ys) behind, behind)
 
 pub where_err : {T E : Type 0} (r : Result T E) (P : Type 0) → P → OnErr r P
 where_err (Ok x) P h = tt

@@ -12,7 +12,7 @@ ghost use Rattle.plan.specs.Samples.RuleOfParts.{admits_null};
 ghost use Rattle.plan.specs.declared.sort.Sort.TheVariants as sort;
 ghost use Rattle.enumerate.specs.Least.{IsLeast};
 ghost use Rattle.enumerate.specs.Internal.Nodes.{site, IsNodeOf, IsPartOf, HasSizeAt, Costs};
-ghost use Rattle.enumerate.specs.Internal.Candidates.{rows_of};
+ghost use Rattle.enumerate.specs.Internal.Candidates.{rows_of, stack_of};
 ghost use Rattle.enumerate.specs.Internal.Steps.{KeepsMeter};
 ghost use Rattle.enumerate.specs.Internal.Rows.{slots_from, slot_in, ending_at, used_keys, IsSlotOf, AreUsed, IsOpen, AddsFirst, IsRow, still_used, IsValue, IsGrown, CostsSlots};
 ghost use Rattle.enumerate.specs.Internal.Following.{Continue, MembersContinue, GrownContinue, ItemsContinue, GrownItemsContinue};
@@ -41,7 +41,7 @@ pub(crate) fn first<'p, Z: SizeSet>(
     requires size { HasSizeAt plan.now node size }
     requires limit { size ≤ plan.now.limit }
     ensures ok { IfOk result (λ v. IsLeast tree_cmp (IsPartOf plan.now node size) (data_of v)) }
-    ensures following { IfOk result (λ v. Continue (IsPartOf plan.now node size) (data_of v) (rows_of following.new.items)) }
+    ensures following { IfOk result (λ v. Continue (IsPartOf plan.now node size) (data_of v) (stack_of following.new.items)) }
     ensures steps { Costs plan.now meter.old meter.new size }
 {
     plan.no_dead_end();
@@ -74,7 +74,7 @@ pub(crate) fn first_row<'p, Z: SizeSet>(
     requires limit { size ≤ plan.now.limit }
     requires open { IsOpen plan.now.pools (slots_from plan.now node 0) (ending_at plan.now node) nothing (size - 1) (rows_of used.now) }
     ensures ok { IfOk result (λ v. IsLeast tree_cmp (IsRow plan.now node (size - 1) (rows_of used.now)) (data_of v)) }
-    ensures following { IfOk result (λ v. Continue (IsRow plan.now node (size - 1) (rows_of used.now)) (data_of v) (rows_of following.new.items)) }
+    ensures following { IfOk result (λ v. Continue (IsRow plan.now node (size - 1) (rows_of used.now)) (data_of v) (stack_of following.new.items)) }
     ensures steps { Costs plan.now meter.old meter.new size }
 {
     plan.sound_parts();
@@ -119,7 +119,7 @@ pub(crate) fn first_slots<'p, Z: SizeSet>(
     requires limit { before.count + room < plan.now.limit }
     requires open { IsOpen plan.now.pools (slots_from plan.now node place) (ending_at plan.now node) before room (rows_of used.now) }
     ensures ok { OnOk result (AddsFirst plan.now.pools (slots_from plan.now node place) (ending_at plan.now node) before room (rows_of used.now) members.old.items members.new.items) }
-    ensures following { OnOk result (MembersContinue plan.now.pools (slots_from plan.now node place) (rows_of used.now) (drop (length members.old.items) members.new.items) (rows_of following.new.items)) }
+    ensures following { OnOk result (MembersContinue plan.now.pools (slots_from plan.now node place) (rows_of used.now) (drop (length members.old.items) members.new.items) (stack_of following.new.items)) }
     ensures steps { CostsSlots plan.now node place meter.old meter.new room }
 {
     plan.sound_parts();
@@ -170,7 +170,7 @@ pub(crate) fn grow_slots<'p, Z: SizeSet>(
     requires limit { before.count + room < plan.now.limit }
     requires open { IsOpen plan.now.pools (slots_from plan.now node place) (ending_at plan.now node) before room (rows_of used.now) }
     ensures ok { IfOk result (λ step. IsGrown step plan.now.pools (slot_in plan.now node place) (slots_from plan.now node (place + 1)) (ending_at plan.now node) before room from (rows_of used.now) members.old.items members.new.items) }
-    ensures following { IfOk result (λ step. GrownContinue step plan.now.pools (slots_from plan.now node place) (rows_of used.now) (drop (length members.old.items) members.new.items) (rows_of following.new.items)) }
+    ensures following { IfOk result (λ step. GrownContinue step plan.now.pools (slots_from plan.now node place) (rows_of used.now) (drop (length members.old.items) members.new.items) (stack_of following.new.items)) }
     ensures steps { CostsSlots plan.now node (place + 1) meter.old meter.new room }
     ensures last { IfOk result (λ step. KeepsMeter step meter.old meter.new) }
 {
@@ -220,7 +220,7 @@ fn first_value<'p, Z: SizeSet>(
     requires known { AreUsed plan.now.pools (slots_from plan.now node place) (rows_of used.now) }
     requires free { HasFree plan.now.pools (filter is_key (slots_from plan.now node place)) (used_keys (slots_from plan.now node place) (rows_of used.now)) [] }
     ensures ok { IfOk result (λ v. IsLeast tree_cmp (IsValue plan.now.pools (slot_in plan.now node place) (slots_from plan.now node (place + 1)) (rows_of used.now) size) (data_of v)) }
-    ensures following { IfOk result (λ v. Continue (IsValue plan.now.pools (slot_in plan.now node place) (slots_from plan.now node (place + 1)) (rows_of used.now) size) (data_of v) (rows_of following.new.items)) }
+    ensures following { IfOk result (λ v. Continue (IsValue plan.now.pools (slot_in plan.now node place) (slots_from plan.now node (place + 1)) (rows_of used.now) size) (data_of v) (stack_of following.new.items)) }
     ensures steps { Costs plan.now meter.old meter.new size }
 {
     plan.sound_parts();
@@ -253,11 +253,11 @@ pub(crate) fn put_member<'p, Z: SizeSet>(
     requires limit { before.count + 1 + room < plan.now.limit }
     requires name { member.name ≡ (slot_in plan.now node place).name }
     requires part { IsPart plan.now.pools (slot_in plan.now node place).site (data_of member.tree) }
-    requires following { Continue (IsValue plan.now.pools (slot_in plan.now node place) (slots_from plan.now node (place + 1)) (rows_of used.now) (node_count (data_of member.tree))) (data_of member.tree) (rows_of following.old.items) }
+    requires following { Continue (IsValue plan.now.pools (slot_in plan.now node place) (slots_from plan.now node (place + 1)) (rows_of used.now) (node_count (data_of member.tree))) (data_of member.tree) (stack_of following.old.items) }
     requires open { IsOpen plan.now.pools (slots_from plan.now node (place + 1)) (ending_at plan.now node) (filled (slot_in plan.now node place).bit before) room (still_used (slot_in plan.now node place) (data_of member.tree) (rows_of used.now)) }
     ensures ok { OnOk result (AddsFirst plan.now.pools (slots_from plan.now node (place + 1)) (ending_at plan.now node) (filled (slot_in plan.now node place).bit before) room (still_used (slot_in plan.now node place) (data_of member.tree) (rows_of used.now))
         (members.old.items ++ member ∷ []) members.new.items) }
-    ensures following { OnOk result (MembersContinue plan.now.pools (slots_from plan.now node place) (rows_of used.now) (drop (length members.old.items) members.new.items) (rows_of following.new.items)) }
+    ensures following { OnOk result (MembersContinue plan.now.pools (slots_from plan.now node place) (rows_of used.now) (drop (length members.old.items) members.new.items) (stack_of following.new.items)) }
     ensures steps { CostsSlots plan.now node (place + 1) meter.old meter.new room }
 {
     plan.sound_parts();
@@ -298,7 +298,7 @@ fn first_list<'p, Z: SizeSet>(
     requires size { HasSizeAt plan.now node size }
     requires limit { size ≤ plan.now.limit }
     ensures ok { IfOk result (λ v. IsLeast tree_cmp (IsPartOf plan.now node size) (data_of v)) }
-    ensures following { IfOk result (λ v. Continue (IsPartOf plan.now node size) (data_of v) (rows_of following.new.items)) }
+    ensures following { IfOk result (λ v. Continue (IsPartOf plan.now node size) (data_of v) (stack_of following.new.items)) }
     ensures steps { Costs plan.now meter.old meter.new size }
 {
     plan.no_dead_end();
@@ -338,9 +338,9 @@ pub(crate) fn first_items<'p, Z: SizeSet>(
     requires node { IsNodeOf plan.now node }
     requires child { child < node }
     requires follow { CanFollow plan.now node child room (items_of items.old.items) }
-    requires following { ItemsContinue plan.now node child (items_of items.old.items) (rows_of following.old.items) }
+    requires following { ItemsContinue plan.now node child (items_of items.old.items) (stack_of following.old.items) }
     ensures ok { OnOk result (AddsItems plan.now node room items.old.items items.new.items) }
-    ensures following { OnOk result (ItemsContinue plan.now node child (items_of items.new.items) (rows_of following.new.items)) }
+    ensures following { OnOk result (ItemsContinue plan.now node child (items_of items.new.items) (stack_of following.new.items)) }
     ensures steps { Costs plan.now meter.old meter.new room }
 {
     plan.no_dead_end();
@@ -368,7 +368,7 @@ pub(crate) fn grow_items<'p, Z: SizeSet>(
     requires first { AreFirst plan.now node child (items_of items.old.items) }
     requires within { 1 + items_count (items_of items.old.items) + room ≤ plan.now.limit }
     ensures ok { IfOk result (λ step. AreGrown step plan.now node child room from items.old.items items.new.items) }
-    ensures following { IfOk result (λ step. GrownItemsContinue step plan.now node child (items_of items.new.items) (rows_of following.new.items)) }
+    ensures following { IfOk result (λ step. GrownItemsContinue step plan.now node child (items_of items.new.items) (stack_of following.new.items)) }
     ensures steps { Costs plan.now meter.old meter.new room }
     ensures last { IfOk result (λ step. KeepsMeter step meter.old meter.new) }
 {
@@ -420,7 +420,7 @@ fn first_item<'p, Z: SizeSet>(
     requires limit { size ≤ plan.now.limit }
     requires fresh { (m : ℕ) × HasMore plan.now.pools plan.now.limit (site plan.now node) (length items.now + 1) m }
     ensures ok { IfOk result (λ v. IsLeast tree_cmp (IsFreshItem plan.now node child size (items_of items.now)) (data_of v)) }
-    ensures following { IfOk result (λ v. Continue (IsFreshItem plan.now node child size (items_of items.now)) (data_of v) (rows_of following.new.items)) }
+    ensures following { IfOk result (λ v. Continue (IsFreshItem plan.now node child size (items_of items.now)) (data_of v) (stack_of following.new.items)) }
     ensures steps { Costs plan.now meter.old meter.new size }
 {
     plan.no_dead_end();

@@ -10,7 +10,7 @@ ghost use Rattle.enumerate.specs.Least.{IsLeast};
 ghost use Rattle.enumerate.specs.Page.{IsPast};
 ghost use Rattle.enumerate.specs.View.{resume_point, trees_of};
 ghost use Rattle.enumerate.specs.Internal.Nodes.{site, IsNodeOf, IsPartOf, Costs};
-ghost use Rattle.enumerate.specs.Internal.Candidates.{rows_of, IsFree, IsUnusedPart, IsFreeKey, IsChoice};
+ghost use Rattle.enumerate.specs.Internal.Candidates.{rows_of, IsFree, IsUnusedPart, IsFreeKey, IsChoice, stack_of};
 ghost use Rattle.enumerate.specs.Internal.Moves.{IsMoved};
 ghost use Rattle.enumerate.specs.Internal.Following.{AreChoices, Continue, ContinueMoved};
 
@@ -31,14 +31,15 @@ fn is_past(after: Option<&Tree>, tree: &Tree) -> bool
     }
 }
 
-/// Whether the tree has the size, comes after the place and is free.
-fn is_choice(size: u32, after: Option<&Tree>, taken: &Taken<'_>, tree: &Tree) -> bool
-    ensures { IsTrue result ↔ ((node_count (data_of tree.now) ≡ size) × IsPast (resume_point after.entry) (data_of tree.now) × IsFree taken.now (data_of tree.now)) }
+/// Whether the tree has the size and is free.
+fn is_choice(size: u32, taken: &Taken<'_>, tree: &Tree) -> bool
+    ensures { IsTrue result ↔ ((node_count (data_of tree.now) ≡ size) × IsFree taken.now (data_of tree.now)) }
 {
-    tree.nodes() == size as u64 && is_past(after, tree) && is_free(taken, tree)
+    tree.nodes() == size as u64 && is_free(taken, tree)
 }
 
-/// Replaces what is in `found` by the free candidates of a size past a place, in order. It looks at each candidate once.
+/// Replaces what is in `found` by the free candidates of a size past a place, the last one first. It looks at those past the place
+/// alone, and at the one before them.
 fn find_choices<'p, Z: SizeSet>(
     plan: &'p Plan<Z>,
     node: PlanNode,
@@ -50,22 +51,28 @@ fn find_choices<'p, Z: SizeSet>(
 ) -> Result<(), AllocError>
     requires node { IsNodeOf plan.now node }
     requires leaf { sort_of (site plan.now node) ≡ sort.Leaf }
-    ensures ok { OnOk result (AreChoices (IsChoice plan.now node size (resume_point after.entry) taken.now) (rows_of found.new.items)) }
+    ensures ok { OnOk result (AreChoices (IsChoice plan.now node size (resume_point after.entry) taken.now) (stack_of found.new.items)) }
     ensures steps { Costs plan.now meter.old meter.new 1 }
 {
     found.clear();
-    for place in 0..plan.count(node) {
-        if let Some(tree) = plan.candidate(node, place, meter) {
-            if is_choice(size, after, taken, tree) {
-                found.push(tree)?;
-            }
+    let mut place = plan.count(node);
+    while place > 0 {
+        place -= 1;
+        let Some(tree) = plan.candidate(node, place, meter) else {
+            return Ok(());
+        };
+        if !is_past(after, tree) {
+            return Ok(());
+        }
+        if is_choice(size, taken, tree) {
+            found.push(tree)?;
         }
     }
     Ok(())
 }
 
-/// The first free candidate of a size past a place. `following` becomes this candidate and those that continue it in its place; it
-/// becomes empty where they have parts.
+/// The first free candidate of a size past a place. `following` becomes those that continue it in its place, the last one first, and
+/// this candidate on top; it becomes empty where they have parts.
 fn first_choice<'p, Z: SizeSet>(
     alloc: Global,
     plan: &'p Plan<Z>,
@@ -80,11 +87,11 @@ fn first_choice<'p, Z: SizeSet>(
     requires leaf { sort_of (site plan.now node) ≡ sort.Leaf }
     ensures some { IfOk result (λ found. IfSome found (λ v. IsLeast tree_cmp (IsChoice plan.now node size (resume_point after.entry) taken.now) (data_of v))) }
     ensures none { IfOk result (λ found. IfNone found ((u : Data) → IsChoice plan.now node size (resume_point after.entry) taken.now u → ⊥)) }
-    ensures following { IfOk result (λ found. IfSome found (λ v. Continue (λ u. IsPartOf plan.now node size u × IsFree taken.now u) (data_of v) (rows_of following.new.items))) }
+    ensures following { IfOk result (λ found. IfSome found (λ v. Continue (λ u. IsPartOf plan.now node size u × IsFree taken.now u) (data_of v) (stack_of following.new.items))) }
     ensures steps { Costs plan.now meter.old meter.new 1 }
 {
     find_choices(plan, node, size, after, taken, following, meter)?;
-    let Some(first) = following.first() else {
+    let Some(first) = following.last() else {
         return Ok(None);
     };
     let copy = copy_of(alloc, *first)?;
@@ -108,7 +115,7 @@ fn first_free<'p, Z: SizeSet>(
     requires leaf { sort_of (site plan.now node) ≡ sort.Leaf }
     requires free { (v : Data) × IsChoice plan.now node size None taken.now v }
     ensures ok { IfOk result (λ v. IsLeast tree_cmp (IsChoice plan.now node size None taken.now) (data_of v)) }
-    ensures following { IfOk result (λ v. Continue (λ u. IsPartOf plan.now node size u × IsFree taken.now u) (data_of v) (rows_of following.new.items)) }
+    ensures following { IfOk result (λ v. Continue (λ u. IsPartOf plan.now node size u × IsFree taken.now u) (data_of v) (stack_of following.new.items)) }
     ensures steps { Costs plan.now meter.old meter.new 1 }
 {
     match first_choice(alloc, plan, node, size, None, taken, following, meter)? {
@@ -131,7 +138,7 @@ fn next_free<'p, Z: SizeSet>(
     requires leaf { sort_of (site plan.now node) ≡ sort.Leaf }
     requires limit { node_count (data_of tree.now) < 4294967296 }
     ensures ok { IfOk result (λ moved. IsMoved (λ v. IsPartOf plan.now node (node_count (data_of tree.now)) v × IsFree taken.now v) (data_of tree.now) moved) }
-    ensures following { IfOk result (λ moved. ContinueMoved (λ v. IsPartOf plan.now node (node_count (data_of tree.now)) v × IsFree taken.now v) moved (rows_of following.new.items)) }
+    ensures following { IfOk result (λ moved. ContinueMoved (λ v. IsPartOf plan.now node (node_count (data_of tree.now)) v × IsFree taken.now v) moved (stack_of following.new.items)) }
     ensures steps { Costs plan.now meter.old meter.new 1 }
 {
     let size = tree.nodes() as u32;
@@ -155,7 +162,7 @@ pub(crate) fn first_unused<'p, Z: SizeSet>(
     requires leaf { sort_of (site plan.now node) ≡ sort.Leaf }
     requires free { (v : Data) × IsUnusedPart plan.now node size (trees_of items.now) v }
     ensures ok { IfOk result (λ v. IsLeast tree_cmp (IsUnusedPart plan.now node size (trees_of items.now)) (data_of v)) }
-    ensures following { IfOk result (λ v. Continue (IsUnusedPart plan.now node size (trees_of items.now)) (data_of v) (rows_of following.new.items)) }
+    ensures following { IfOk result (λ v. Continue (IsUnusedPart plan.now node size (trees_of items.now)) (data_of v) (stack_of following.new.items)) }
     ensures steps { Costs plan.now meter.old meter.new 1 }
 {
     first_free(
@@ -183,7 +190,7 @@ pub(crate) fn next_unused<'p, Z: SizeSet>(
     requires leaf { sort_of (site plan.now node) ≡ sort.Leaf }
     requires limit { node_count (data_of tree.now) < 4294967296 }
     ensures ok { IfOk result (λ moved. IsMoved (IsUnusedPart plan.now node (node_count (data_of tree.now)) (trees_of items.now)) (data_of tree.now) moved) }
-    ensures following { IfOk result (λ moved. ContinueMoved (IsUnusedPart plan.now node (node_count (data_of tree.now)) (trees_of items.now)) moved (rows_of following.new.items)) }
+    ensures following { IfOk result (λ moved. ContinueMoved (IsUnusedPart plan.now node (node_count (data_of tree.now)) (trees_of items.now)) moved (stack_of following.new.items)) }
     ensures steps { Costs plan.now meter.old meter.new 1 }
 {
     next_free(
@@ -211,7 +218,7 @@ pub(crate) fn first_key<'p, Z: SizeSet>(
     requires leaf { sort_of (site plan.now slot.now.node) ≡ sort.Leaf }
     requires free { (v : Data) × IsFreeKey plan.now slot.now.node size slot.now.name.now (rows_of used.now) slot.now.later v }
     ensures ok { IfOk result (λ v. IsLeast tree_cmp (IsFreeKey plan.now slot.now.node size slot.now.name.now (rows_of used.now) slot.now.later) (data_of v)) }
-    ensures following { IfOk result (λ v. Continue (IsFreeKey plan.now slot.now.node size slot.now.name.now (rows_of used.now) slot.now.later) (data_of v) (rows_of following.new.items)) }
+    ensures following { IfOk result (λ v. Continue (IsFreeKey plan.now slot.now.node size slot.now.name.now (rows_of used.now) slot.now.later) (data_of v) (stack_of following.new.items)) }
     ensures steps { Costs plan.now meter.old meter.new 1 }
 {
     let taken = Taken::Key(KeyRows {
@@ -236,7 +243,7 @@ pub(crate) fn next_key<'p, Z: SizeSet>(
     requires leaf { sort_of (site plan.now slot.now.node) ≡ sort.Leaf }
     requires limit { node_count (data_of tree.now) < 4294967296 }
     ensures ok { IfOk result (λ moved. IsMoved (IsFreeKey plan.now slot.now.node (node_count (data_of tree.now)) slot.now.name.now (rows_of used.now) slot.now.later) (data_of tree.now) moved) }
-    ensures following { IfOk result (λ moved. ContinueMoved (IsFreeKey plan.now slot.now.node (node_count (data_of tree.now)) slot.now.name.now (rows_of used.now) slot.now.later) moved (rows_of following.new.items)) }
+    ensures following { IfOk result (λ moved. ContinueMoved (IsFreeKey plan.now slot.now.node (node_count (data_of tree.now)) slot.now.name.now (rows_of used.now) slot.now.later) moved (stack_of following.new.items)) }
     ensures steps { Costs plan.now meter.old meter.new 1 }
 {
     let taken = Taken::Key(KeyRows {

@@ -8,7 +8,7 @@ ghost use Rattle.plan.specs.Samples.Sites.{item_site};
 ghost use Rattle.plan.specs.Samples.Candidates.{sort_of};
 ghost use Rattle.plan.specs.declared.sort.Sort.TheVariants as sort;
 ghost use Rattle.enumerate.specs.Internal.Nodes.{site, IsNodeOf, IsPartOf, Costs};
-ghost use Rattle.enumerate.specs.Internal.Candidates.{rows_of};
+ghost use Rattle.enumerate.specs.Internal.Candidates.{rows_of, stack_of};
 ghost use Rattle.enumerate.specs.Internal.Rows.{slots_from, slot_in, ending_at, IsSlotOf, AreUsed, IsOpen, IsRow, IsValue, CostsSlots};
 ghost use Rattle.enumerate.specs.Internal.Lists.{AreFirst, IsFreshItem};
 ghost use Rattle.enumerate.specs.Internal.Following.{ContinueMoved, GrownContinue, GrownItemsContinue};
@@ -42,7 +42,7 @@ pub(crate) fn advance<'p, Z: SizeSet>(
     requires part { IsPart plan.now.pools (site plan.now node) (data_of tree) }
     requires limit { node_count (data_of tree) ≤ plan.now.limit }
     ensures ok { IfOk result (λ moved. IsMoved (IsPartOf plan.now node (node_count (data_of tree))) (data_of tree) moved) }
-    ensures following { IfOk result (λ moved. ContinueMoved (IsPartOf plan.now node (node_count (data_of tree))) moved (rows_of following.new.items)) }
+    ensures following { IfOk result (λ moved. ContinueMoved (IsPartOf plan.now node (node_count (data_of tree))) moved (stack_of following.new.items)) }
     ensures steps { Costs plan.now meter.old meter.new (2 * node_count (data_of tree)) }
     ensures last { IfOk result (λ moved. CostsLast moved plan.now meter.old meter.new (node_count (data_of tree))) }
 {
@@ -119,7 +119,7 @@ fn advance_row<'p, Z: SizeSet>(
     requires row { IsRow plan.now node (node_count (data_of tree) - 1) (rows_of used.now) (data_of tree) }
     requires limit { node_count (data_of tree) ≤ plan.now.limit }
     ensures ok { IfOk result (λ moved. IsMoved (IsRow plan.now node (node_count (data_of tree) - 1) (rows_of used.now)) (data_of tree) moved) }
-    ensures following { IfOk result (λ moved. ContinueMoved (IsRow plan.now node (node_count (data_of tree) - 1) (rows_of used.now)) moved (rows_of following.new.items)) }
+    ensures following { IfOk result (λ moved. ContinueMoved (IsRow plan.now node (node_count (data_of tree) - 1) (rows_of used.now)) moved (stack_of following.new.items)) }
     ensures steps { Costs plan.now meter.old meter.new (2 * node_count (data_of tree)) }
     ensures last { IfOk result (λ moved. CostsLast moved plan.now meter.old meter.new (node_count (data_of tree))) }
 {
@@ -153,7 +153,7 @@ fn advance_members<'p, Z: SizeSet>(
     requires limit { members_count (members_of members.old.items) < plan.now.limit }
     ensures moved { IfOk result (λ step. (gs : List (Option Data)) → StandIn plan.now.pools (slots_from plan.now node 0) (ending_at plan.now node) nothing (rows_of used.now) members.old.items gs
         → AreMoved step plan.now.pools (slots_from plan.now node 0) (ending_at plan.now node) nothing (rows_of used.now) gs members.new.items) }
-    ensures following { IfOk result (λ step. GrownContinue step plan.now.pools (slots_from plan.now node 0) (rows_of used.now) members.new.items (rows_of following.new.items)) }
+    ensures following { IfOk result (λ step. GrownContinue step plan.now.pools (slots_from plan.now node 0) (rows_of used.now) members.new.items (stack_of following.new.items)) }
     ensures steps { CostsTwice plan.now node 0 meter.old meter.new (members_count (members_of members.old.items)) }
     ensures last { IfOk result (λ step. CostsLastSlots step plan.now node 0 meter.old meter.new (members_count (members_of members.old.items))) }
 {
@@ -199,7 +199,7 @@ fn advance_slots<'p, Z: SizeSet>(
     ensures kept { IfOk result (λ _. take before.count members.new.items ≡ take before.count members.old.items) }
     ensures moved { IfOk result (λ step. (gs : List (Option Data)) → StandIn plan.now.pools (slots_from plan.now node place) (ending_at plan.now node) before (rows_of used.now) (drop before.count members.old.items) gs
         → AreMoved step plan.now.pools (slots_from plan.now node place) (ending_at plan.now node) before (rows_of used.now) gs (drop before.count members.new.items)) }
-    ensures following { IfOk result (λ step. GrownContinue step plan.now.pools (slots_from plan.now node place) (rows_of used.now) (drop before.count members.new.items) (rows_of following.new.items)) }
+    ensures following { IfOk result (λ step. GrownContinue step plan.now.pools (slots_from plan.now node place) (rows_of used.now) (drop before.count members.new.items) (stack_of following.new.items)) }
     ensures steps { CostsTwice plan.now node place meter.old meter.new (members_count (members_of (drop before.count members.old.items))) }
     ensures last { IfOk result (λ step. CostsLastSlots step plan.now node place meter.old meter.new (members_count (members_of (drop before.count members.old.items)))) }
 {
@@ -262,7 +262,7 @@ fn advance_filled<'p, Z: SizeSet>(
     ensures kept { IfOk result (λ _. take before.count members.new.items ≡ take before.count members.old.items) }
     ensures moved { IfOk result (λ step. (gs : List (Option Data)) → StandIn plan.now.pools (slots_from plan.now node place) (ending_at plan.now node) before (rows_of used.now) (drop before.count members.old.items) gs
         → AreMoved step plan.now.pools (slots_from plan.now node place) (ending_at plan.now node) before (rows_of used.now) gs (drop before.count members.new.items)) }
-    ensures following { IfOk result (λ step. GrownContinue step plan.now.pools (slots_from plan.now node place) (rows_of used.now) (drop before.count members.new.items) (rows_of following.new.items)) }
+    ensures following { IfOk result (λ step. GrownContinue step plan.now.pools (slots_from plan.now node place) (rows_of used.now) (drop before.count members.new.items) (stack_of following.new.items)) }
     ensures steps { CostsTwice plan.now node (place + 1) meter.old meter.new (members_count (members_of (drop before.count members.old.items))) }
     ensures last { IfOk result (λ step. CostsLastSlots step plan.now node (place + 1) meter.old meter.new (members_count (members_of (drop before.count members.old.items)))) }
 {
@@ -323,7 +323,7 @@ fn advance_member<'p, Z: SizeSet>(
     ensures kept { IfOk result (λ _. take before.count members.new.items ≡ members.old.items) }
     ensures moved { IfOk result (λ step. (gs : List (Option Data)) (others : List Member) → AreLastBehind plan.now node place before (rows_of used.now) member others room gs
         → AreMoved step plan.now.pools (slots_from plan.now node place) (ending_at plan.now node) before (rows_of used.now) gs (drop before.count members.new.items)) }
-    ensures following { IfOk result (λ step. GrownContinue step plan.now.pools (slots_from plan.now node place) (rows_of used.now) (drop before.count members.new.items) (rows_of following.new.items)) }
+    ensures following { IfOk result (λ step. GrownContinue step plan.now.pools (slots_from plan.now node place) (rows_of used.now) (drop before.count members.new.items) (stack_of following.new.items)) }
     ensures steps { CostsSlots plan.now node (place + 1) meter.old meter.new (2 * node_count (data_of member.tree) + room) }
     ensures left { IfOk result (λ step. AreLeft step members.old.items members.new.items) }
     ensures last { IfOk result (λ step. CostsLastStep step plan.now meter.old meter.new (node_count (data_of member.tree))) }
@@ -396,7 +396,7 @@ fn advance_plain<'p, Z: SizeSet>(
     requires limit { members_count (members_of members.old.items) < plan.now.limit }
     ensures moved { IfOk result (λ step. (gs : List (Option Data)) → StandIn plan.now.pools (slots_from plan.now node 0) (ending_at plan.now node) nothing [] members.old.items gs
         → AreMoved step plan.now.pools (slots_from plan.now node 0) (ending_at plan.now node) nothing [] gs members.new.items) }
-    ensures following { IfOk result (λ step. GrownContinue step plan.now.pools (slots_from plan.now node 0) [] members.new.items (rows_of following.new.items)) }
+    ensures following { IfOk result (λ step. GrownContinue step plan.now.pools (slots_from plan.now node 0) [] members.new.items (stack_of following.new.items)) }
     ensures steps { CostsTwice plan.now node 0 meter.old meter.new (members_count (members_of members.old.items)) }
     ensures last { IfOk result (λ step. CostsLastSlots step plan.now node 0 meter.old meter.new (members_count (members_of members.old.items))) }
 {
@@ -434,7 +434,7 @@ fn advance_at<'p, Z: SizeSet>(
     requires walked { (gs : List (Option Data)) × IsWalkedTo plan.now node (place + 1) room members.old.items gs }
     requires limit { members_count (members_of members.old.items) + room < plan.now.limit }
     ensures moved { IfOk result (λ step. (gs : List (Option Data)) → IsWalkedTo plan.now node (place + 1) room members.old.items gs → AreWalked step plan.now node place members.new.items gs) }
-    ensures following { IfOk result (λ step. GrownContinue step plan.now.pools (slots_from plan.now node 0) [] members.new.items (rows_of following.new.items)) }
+    ensures following { IfOk result (λ step. GrownContinue step plan.now.pools (slots_from plan.now node 0) [] members.new.items (stack_of following.new.items)) }
     ensures steps { CostsSlots plan.now node place meter.old meter.new (2 * members_count (members_of members.old.items) + room) }
     ensures last { IfOk result (λ step. CostsLastAt step plan.now room meter.old meter.new) }
 {
@@ -497,7 +497,7 @@ fn advance_value<'p, Z: SizeSet>(
     requires value { IsValue plan.now.pools (slot_in plan.now node place) (slots_from plan.now node (place + 1)) (rows_of used.now) (node_count (data_of tree)) (data_of tree) }
     requires limit { node_count (data_of tree) ≤ plan.now.limit }
     ensures ok { IfOk result (λ moved. IsMoved (IsValue plan.now.pools (slot_in plan.now node place) (slots_from plan.now node (place + 1)) (rows_of used.now) (node_count (data_of tree))) (data_of tree) moved) }
-    ensures following { IfOk result (λ moved. ContinueMoved (IsValue plan.now.pools (slot_in plan.now node place) (slots_from plan.now node (place + 1)) (rows_of used.now) (node_count (data_of tree))) moved (rows_of following.new.items)) }
+    ensures following { IfOk result (λ moved. ContinueMoved (IsValue plan.now.pools (slot_in plan.now node place) (slots_from plan.now node (place + 1)) (rows_of used.now) (node_count (data_of tree))) moved (stack_of following.new.items)) }
     ensures steps { Costs plan.now meter.old meter.new (2 * node_count (data_of tree)) }
     ensures last { IfOk result (λ moved. CostsLast moved plan.now meter.old meter.new (node_count (data_of tree))) }
 {
@@ -525,7 +525,7 @@ fn advance_list<'p, Z: SizeSet>(
     requires no_null { data_of tree ≢ null_data }
     requires limit { node_count (data_of tree) ≤ plan.now.limit }
     ensures ok { IfOk result (λ moved. IsMoved (IsPartOf plan.now node (node_count (data_of tree))) (data_of tree) moved) }
-    ensures following { IfOk result (λ moved. ContinueMoved (IsPartOf plan.now node (node_count (data_of tree))) moved (rows_of following.new.items)) }
+    ensures following { IfOk result (λ moved. ContinueMoved (IsPartOf plan.now node (node_count (data_of tree))) moved (stack_of following.new.items)) }
     ensures steps { Costs plan.now meter.old meter.new (2 * node_count (data_of tree)) }
     ensures last { IfOk result (λ moved. CostsLast moved plan.now meter.old meter.new (node_count (data_of tree))) }
 {
@@ -563,7 +563,7 @@ fn advance_items<'p, Z: SizeSet>(
     requires part { IsPart plan.now.pools (site plan.now node) (list_data (items_of items.old.items)) }
     requires limit { items_count (items_of items.old.items) < plan.now.limit }
     ensures moved { IfOk result (λ step. AreItemsMoved step plan.now node (items_of items.old.items) (items_of items.new.items)) }
-    ensures following { IfOk result (λ step. GrownItemsContinue step plan.now node child (items_of items.new.items) (rows_of following.new.items)) }
+    ensures following { IfOk result (λ step. GrownItemsContinue step plan.now node child (items_of items.new.items) (stack_of following.new.items)) }
     ensures steps { Costs plan.now meter.old meter.new (2 * items_count (items_of items.old.items)) }
     ensures last { IfOk result (λ step. CostsLastStep step plan.now meter.old meter.new (items_count (items_of items.old.items))) }
 {
@@ -625,7 +625,7 @@ fn advance_item<'p, Z: SizeSet>(
     requires item { IsFreshItem plan.now node child (node_count (data_of item)) (items_of items.now) (data_of item) }
     requires within { items_count (items_of items.now) + node_count (data_of item) < plan.now.limit }
     ensures ok { IfOk result (λ moved. IsMoved (IsFreshItem plan.now node child (node_count (data_of item)) (items_of items.now)) (data_of item) moved) }
-    ensures following { IfOk result (λ moved. ContinueMoved (IsFreshItem plan.now node child (node_count (data_of item)) (items_of items.now)) moved (rows_of following.new.items)) }
+    ensures following { IfOk result (λ moved. ContinueMoved (IsFreshItem plan.now node child (node_count (data_of item)) (items_of items.now)) moved (stack_of following.new.items)) }
     ensures steps { Costs plan.now meter.old meter.new (2 * node_count (data_of item)) }
     ensures last { IfOk result (λ moved. CostsLast moved plan.now meter.old meter.new (node_count (data_of item))) }
 {

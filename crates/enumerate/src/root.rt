@@ -4,7 +4,7 @@ ghost use Rattle.jtree.specs.View.{data_of};
 ghost use Rattle.enumerate.specs.Page.{IsSampleOf};
 ghost use Rattle.enumerate.specs.Live.{IsNextSample};
 ghost use Rattle.enumerate.specs.View.{tree_of};
-ghost use Rattle.enumerate.specs.Internal.Candidates.{rows_of};
+ghost use Rattle.enumerate.specs.Internal.Candidates.{stack_of};
 ghost use Rattle.enumerate.specs.Internal.Nodes.{Costs};
 ghost use Rattle.enumerate.specs.Internal.Roots.{IsFirstFrom};
 ghost use Rattle.enumerate.specs.Internal.Standing.{ContinueSample};
@@ -25,7 +25,7 @@ pub(crate) fn first_from<'p, Z: SizeSet>(
     meter: &mut Meter,
 ) -> Result<Option<Tree>, AllocError>
     ensures ok { IfOk result (λ found. IsFirstFrom plan.now from (tree_of found)) }
-    ensures following { IfOk result (λ found. IfSome (tree_of found) (λ v. ContinueSample plan.now v (rows_of following.new.items))) }
+    ensures following { IfOk result (λ found. IfSome (tree_of found) (λ v. ContinueSample plan.now v (stack_of following.new.items))) }
     ensures steps { Costs plan.now meter.old meter.new plan.now.limit }
 {
     last_node_is_replaced();
@@ -48,7 +48,7 @@ pub(crate) fn next_sample<'p, Z: SizeSet>(
 ) -> Result<Option<Tree>, AllocError>
     requires sample { IsSampleOf plan.now (data_of tree) }
     ensures ok { IfOk result (λ next. IsNextSample plan.now (Some (data_of tree)) (tree_of next)) }
-    ensures following { IfOk result (λ found. IfSome (tree_of found) (λ v. ContinueSample plan.now v (rows_of following.new.items))) }
+    ensures following { IfOk result (λ found. IfSome (tree_of found) (λ v. ContinueSample plan.now v (stack_of following.new.items))) }
     ensures steps { Costs plan.now meter.old meter.new (2 * plan.now.limit) }
 {
     last_node_is_replaced();

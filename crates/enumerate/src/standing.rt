@@ -5,7 +5,7 @@ ghost use Rattle.jtree.specs.View.{data_of};
 ghost use Rattle.enumerate.specs.Live.{IsNextSample, LendsPage, LendsPart};
 ghost use Rattle.enumerate.specs.Page.{IsSampleOf};
 ghost use Rattle.enumerate.specs.Internal.Nodes.{Costs};
-ghost use Rattle.enumerate.specs.Internal.Candidates.{rows_of};
+ghost use Rattle.enumerate.specs.Internal.Candidates.{stack_of};
 ghost use Rattle.enumerate.specs.Internal.Standing.{ContinueSample, IsStanding, IsStep, unless_ended};
 
 use crate::root::next_sample;
@@ -18,9 +18,8 @@ use std::mem;
 #[derive(Drop)]
 pub(crate) struct Standing<'p> {
     pub tree: Tree,
-    /// From `place` on the candidate that stands in the place of the last node, and those that make the next samples there.
+    /// On top the candidate that stands in the place of the last node, and below it those that make the next samples there.
     following: Vec<&'p Tree>,
-    place: usize,
     /// What stood there in the sample before, where the two differ there alone.
     replaced: Option<&'p Tree>,
 }
@@ -33,7 +32,7 @@ impl<'p> Standing<'p> {
         following: Vec<&'p Tree>,
     ) -> Standing<'p>
         requires sample { IsSampleOf plan.now (data_of tree) }
-        requires following { ContinueSample plan.now (data_of tree) (rows_of following.items) }
+        requires following { ContinueSample plan.now (data_of tree) (stack_of following.items) }
         ensures tree { result.tree ≡ tree }
         ensures standing { IsStanding plan.now result }
     {
@@ -41,7 +40,6 @@ impl<'p> Standing<'p> {
         Standing {
             tree,
             following,
-            place: 0,
             replaced: None,
         }
     }
@@ -58,15 +56,13 @@ impl<'p> Standing<'p> {
         ensures steps { Costs plan.now meter.old meter.new (2 * plan.now.limit) }
     {
         last_node_is_replaced();
-        if let Some(next) = self.following.get(self.place + 1) {
-            let next = *next;
-            let stood = self.following[self.place];
-            self.tree.set_last(alloc, next)?;
-            self.replaced = Some(stood);
-            self.place += 1;
-            return Ok(true);
+        if let Some(stood) = self.following.pop() {
+            if let Some(next) = self.following.last() {
+                self.tree.set_last(alloc, *next)?;
+                self.replaced = Some(stood);
+                return Ok(true);
+            }
         }
-        self.place = 0;
         self.replaced = None;
         let tree = mem::replace(&mut self.tree, Tree::Null);
         match next_sample(alloc, plan, tree, &mut self.following, meter)? {

@@ -1,5 +1,5 @@
 -- Which of a leaf's candidates are free, where some values are taken.
-use Rattle.std.specs.Prelude.{◌<◌, ℕ, List, Bool, true, false, map, filter, length, Contains, Option, Some, None}
+use Rattle.std.specs.Prelude.{◌<◌, ℕ, List, Bool, true, false, map, filter, length, reverse, Contains, Option, Some, None}
 use Rattle.std.specs.Borrow.{Bor}
 use Rattle.jtree.specs.Data.{Data}
 use Rattle.jtree.specs.Path.{under}
@@ -15,6 +15,10 @@ use Rattle.enumerate.specs.declared.taken.Taken.TheVariants.{Items, Key}
 
 abbrev pub rows_of : List (Bor Tree) → List Data
 rows_of rs = map (λ r. data_of r.now) rs
+
+-- the trees, the last one first
+abbrev pub stack_of : List (Bor Tree) → List Data
+stack_of rs = reverse (rows_of rs)
 
 abbrev pub is_there : Option Data → Data → Bool
 is_there None v = false

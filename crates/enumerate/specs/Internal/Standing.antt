@@ -1,5 +1,5 @@
 -- A sample at which an enumeration stands, and what makes the next ones in the place of its last node.
-use Rattle.std.specs.Prelude.{◌≡◌, ◌≤◌, List, [], ◌∷◌, length, drop, Bool, true, false, Option, Some, None}
+use Rattle.std.specs.Prelude.{◌≡◌, List, [], ◌∷◌, Bool, true, false, Option, Some, None}
 use Rattle.std.specs.Borrow.{Bor}
 use Rattle.jtree.specs.Data.{Data}
 use Rattle.jtree.specs.Last.{with_last}
@@ -9,7 +9,7 @@ use Rattle.jtree.specs.declared.value.Tree.{Tree}
 use Rattle.plan.specs.Samples.Question.{Question}
 use Rattle.enumerate.specs.Live.{IsNextSample}
 use Rattle.enumerate.specs.Page.{IsSampleOf}
-use Rattle.enumerate.specs.Internal.Candidates.{rows_of}
+use Rattle.enumerate.specs.Internal.Candidates.{stack_of}
 use Rattle.enumerate.specs.declared.standing.Standing.{Standing}
 
 -- the first value, of one node, makes the next sample, and the others follow on that
@@ -24,8 +24,7 @@ ContinueSample q v (u ∷ cs) = (with_last v u ≡ v) × FollowSample q v cs
 
 pub record IsStanding (q : Question) (s : Standing) : Type 0 where
   pub sample : IsSampleOf q (data_of s.tree)
-  pub within : s.place ≤ length s.following.items
-  pub continue : ContinueSample q (data_of s.tree) (drop s.place (rows_of s.following.items))
+  pub continue : ContinueSample q (data_of s.tree) (stack_of s.following.items)
 
 -- with this in the place of its last node the new tree is the old one
 abbrev pub Replaces : Option (Bor Tree) → Data → Data → Type 0

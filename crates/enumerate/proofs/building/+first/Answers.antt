@@ -51,7 +51,7 @@ use Rattle.plan.specs.Samples.Candidates.{sort_of}
 use Rattle.plan.specs.Samples.Sizes.{Before, nothing, filled, HasMore}
 use Rattle.enumerate.specs.Least.{IsLeast}
 use Rattle.enumerate.specs.Internal.Nodes.{site, IsPartOf, Costs}
-use Rattle.enumerate.specs.Internal.Candidates.{rows_of}
+use Rattle.enumerate.specs.Internal.Candidates.{stack_of, rows_of}
 use Rattle.enumerate.specs.Internal.Rows.{slots_from, slot_in, ending_at, IsSlotOf, IsOpen, AddsFirst, IsRow, still_used}
 use Rattle.enumerate.specs.Internal.Lists.{CanFollow, IsFreshItem, AddsItems}
 use Rattle.enumerate.proofs.building.+first.Given.{Over}
@@ -118,7 +118,7 @@ grow_items-first_items-requires g t c κs within =
     let some : 1 ≤ c.in-Some.size = omega (arith, some_nodes (data_of c.in_ok-item.item), first.is.part.nodes_are) in
     let few : c.in-Some.size ≤ c.args.room = omega (arith, fit.1.1.1) in
     let follow = follow_item q c.args.node c.args.child c.args.room c.in-Some.size old c.push.new.self.items c.in_ok-item.item c.requires.first c.requires.within fit first.is c.in_ok-push.ensures.items in
-    let cs = rows_of c.first_item.new.following.items in
+    let cs = stack_of c.first_item.new.following.items in
     let continue = subst (λ l. Continue (IsFreshItem q c.args.node c.args.child c.in-Some.size (items_of l)) (data_of c.in_ok-item.item) cs) c.as_slice.ensures.value c.in_ok-item.ensures.following in
     (omega (arith, c.decreases, some, few), (within, (c.requires.node, (c.requires.child, (follow, item_continues q c.args.node c.args.child c.in-Some.size old c.push.new.self.items c.in_ok-item.item cs c.in_ok-push.ensures.items first.is.part.nodes_are continue)))))
 
@@ -150,7 +150,7 @@ first_list-first_items-requires g t c κs within =
     let q = c.args.plan.now in
     let there = site_among q c.args.node c.requires.node in
     let follow = list_follow q c.args.node c.in-Some.child c.args.size (c.no_dead_end.ensures.parts _ there) c.requires.list c.in-Some.ensures.some (omega (arith, c.if-size-gt1.true)) c.requires.limit c.requires.no_null c.requires.size in
-    (omega (arith, c.decreases, c.requires.limit), (within, (c.requires.node, (c.in-Some.ensures.below, (subst (λ l. CanFollow q c.args.node c.in-Some.child (c.args.size - 1) (items_of l)) (sym c.new-items.ensures.items) follow, inl (ap rows_of c.clear.ensures.items))))))
+    (omega (arith, c.decreases, c.requires.limit), (within, (c.requires.node, (c.in-Some.ensures.below, (subst (λ l. CanFollow q c.args.node c.in-Some.child (c.args.size - 1) (items_of l)) (sym c.new-items.ensures.items) follow, inl (ap stack_of c.clear.ensures.items))))))
 
 pub first_list-returns-in_err-first_items-clause-steps : goal.first_list-returns-in_err-first_items-clause-steps
 first_list-returns-in_err-first_items-clause-steps g t c = costs_below c.args.plan.now c.args.meter.now c.item.new.meter c.first_items.new.meter (c.args.size - 1) c.args.size c.item.ensures.step (omega (arith, c.if-size-gt1.true)) c.first_items.ensures.steps
@@ -383,7 +383,7 @@ grow_slots-put_member-requires g t c κs within =
                     (
                       value.part,
                       (
-                        subst (λ n. Continue (IsValue q.pools (slot_in q c.args.node c.args.place) (slots_from q c.args.node (c.args.place + 1)) (rows_of c.args.used.now) n) (data_of c.in_ok-tree.tree) (rows_of c.first_value.new.following.items)) (sym value.nodes_are) c.in_ok-tree.ensures.following,
+                        subst (λ n. Continue (IsValue q.pools (slot_in q c.args.node c.args.place) (slots_from q c.args.node (c.args.place + 1)) (rows_of c.args.used.now) n) (data_of c.in_ok-tree.tree) (stack_of c.first_value.new.following.items)) (sym value.nodes_are) c.in_ok-tree.ensures.following,
                         behind_open q c.args.node c.args.place sound c.requires.slot.first c.args.before c.args.room (rows_of c.args.used.now) c.in-Some.size (data_of c.in_ok-tree.tree) c.requires.open.known fits value,
                       ),
                     ),
@@ -486,8 +486,8 @@ put_member-returns-then-room-eq0-clause-following g t c =
     let none : c.args.room ≡ 0 = omega (arith, c.if-room-eq0.true) in
     let can = subst (λ m. CanFill q.pools (slots_from q i (c.args.place + 1)) (ending_at q i) x m) none c.requires.open.rest in
     let put : drop (length old) c.push.new.self.items ≡ c.args.member ∷ [] = ap (drop (length old)) c.in_ok-push.ensures.items ∙ drop_at old (c.args.member ∷ []) (length old) refl in
-    subst (λ ms. MembersContinue q.pools (slots_from q i c.args.place) (rows_of c.args.used.now) ms (rows_of c.args.following.now.items)) (sym put)
-    (continue_here q i c.args.place c.requires.slot.first x (rows_of c.args.used.now) c.args.member (rows_of c.args.following.now.items) c.requires.name c.requires.part can c.requires.following)
+    subst (λ ms. MembersContinue q.pools (slots_from q i c.args.place) (rows_of c.args.used.now) ms (stack_of c.args.following.now.items)) (sym put)
+    (continue_here q i c.args.place c.requires.slot.first x (rows_of c.args.used.now) c.args.member (stack_of c.args.following.now.items) c.requires.name c.requires.part can c.requires.following)
 
 pub put_member-returns-clause-following : goal.put_member-returns-clause-following
 put_member-returns-clause-following g t c =
@@ -499,7 +499,7 @@ put_member-returns-clause-following g t c =
     let old = c.args.members.now.items in
     let pushed = c.push-2.new.self.items in
     let new = c.first_slots.new.members.items in
-    let cs = rows_of c.first_slots.new.following.items in
+    let cs = stack_of c.first_slots.new.following.items in
     let same = ap rows_of c.as_slice.ensures.value ∙ c.in_ok-same.ensures ∙ (λ k. agreeing_if (c.requires.slot.key k) (c.requires.slot.name k) (data_of one.tree) used) in
     on_both c.first_slots.result (λ a h.
     let put = put_behind old pushed new a.added one c.in_ok-push-2.ensures.items a.is in
@@ -559,7 +559,7 @@ first_row-returns-clause-following g t c =
     let ss = slots_from q i 0 in
     let sound = c.sound_parts.ensures.parts _ (site_among q i c.requires.node) in
     let new = c.first_slots.new.members.items in
-    let cs = rows_of c.first_slots.new.following.items in
+    let cs = stack_of c.first_slots.new.following.items in
     let adds = subst (λ old. AddsFirst q.pools ss (ending_at q i) nothing n used old new) c.new-members.ensures.items
     (subst (λ x. AddsFirst q.pools ss (ending_at q i) x n used c.new-members.result.items new) c.nothing.ensures c.in_ok-first_slots.ensures.ok) in
     let continue = subst (λ old. MembersContinue q.pools ss used (drop (length old) new) cs) c.new-members.ensures.items c.in_ok-first_slots.ensures.following in
@@ -634,7 +634,7 @@ first-returns-in_default g t c =
         is = record { part = (null_part q c.args.node (c.no_dead_end.ensures.parts _ there) null (λ leaf. let no = c.in_default.not-Leaf in no (c.sort.ensures ∙ leaf)) (omega (arith, one, c.requires.limit)) refl).1 (sym c.null_ok.ensures ∙ c.if-null_ok.true); nodes_are = sym one };
         least = λ u p. null_first u (p.nodes_are ∙ one);
       };
-      following = subst (λ l. Continue (IsPartOf q c.args.node c.args.size) null (rows_of l)) (sym c.clear.ensures.items) tt;
+      following = subst (λ l. Continue (IsPartOf q c.args.node c.args.size) null (stack_of l)) (sym c.clear.ensures.items) tt;
       steps = λ w wide. omega arith;
     }
 
@@ -649,7 +649,7 @@ first-returns-in-Row g t c =
         | first-then-size-eq1+else-null_ok w ↦ λ e. sym w.null_ok.ensures ∙ w.if-null_ok.false
         | first-else-size-eq1 w ↦ λ e. absurd (omega (arith, w.if-size-eq1.false, e))
       ]) h) c.first_row.ensures.ok;
-      following = if_both c.first_row.result _ _ _ (λ v h k. part_continues q c.args.node (c.no_dead_end.ensures.parts _ there) row c.args.size (data_of v) (rows_of c.first_row.new.following.items) some h.is k) c.first_row.ensures.ok c.first_row.ensures.following;
+      following = if_both c.first_row.result _ _ _ (λ v h k. part_continues q c.args.node (c.no_dead_end.ensures.parts _ there) row c.args.size (data_of v) (stack_of c.first_row.new.following.items) some h.is k) c.first_row.ensures.ok c.first_row.ensures.following;
       steps = c.first_row.ensures.steps;
     }
 
@@ -754,7 +754,7 @@ pub first-returns-in-Leaf-clause-following : goal.first-returns-in-Leaf-clause-f
 first-returns-in-Leaf-clause-following g t c =
     let q = c.args.plan.now in
     let n = c.args.size in
-    IfOk-weaker c.first_unused.result _ _ (λ v h. continue_same (IsUnusedPart q c.args.node n []) (IsPartOf q c.args.node n) (data_of v) (rows_of c.first_unused.new.following.items) (λ u p. p.0) (λ u p. (p, λ k. contained [] _ k)) h) c.first_unused.ensures.following
+    IfOk-weaker c.first_unused.result _ _ (λ v h. continue_same (IsUnusedPart q c.args.node n []) (IsPartOf q c.args.node n) (data_of v) (stack_of c.first_unused.new.following.items) (λ u p. p.0) (λ u p. (p, λ k. contained [] _ k)) h) c.first_unused.ensures.following
 
 pub first_item-returns-in-Free-clause-following : goal.first_item-returns-in-Free-clause-following
 first_item-returns-in-Free-clause-following g t c =
@@ -763,7 +763,7 @@ first_item-returns-in-Free-clause-following g t c =
     let k = c.args.child in
     let n = c.args.size in
     let free : distinct_of (site q i) ≡ distinct.Free = sym c.distinct.ensures ∙ c.in-Free.is in
-    IfOk-weaker c.first.result _ _ (λ v h. continue_same (IsPartOf q k n) (IsFreshItem q i k n (items_of c.args.items.now)) (data_of v) (rows_of c.first.new.following.items) (λ u p. part_fresh q i k n (items_of c.args.items.now) u (c.sound_parts.ensures.parts _ (site_among q i c.requires.node)) free p) (λ u f. f.part) h) c.first.ensures.following
+    IfOk-weaker c.first.result _ _ (λ v h. continue_same (IsPartOf q k n) (IsFreshItem q i k n (items_of c.args.items.now)) (data_of v) (stack_of c.first.new.following.items) (λ u p. part_fresh q i k n (items_of c.args.items.now) u (c.sound_parts.ensures.parts _ (site_among q i c.requires.node)) free p) (λ u f. f.part) h) c.first.ensures.following
 
 pub first_item-returns-in-Whole-clause-following : goal.first_item-returns-in-Whole-clause-following
 first_item-returns-in-Whole-clause-following g t c =
@@ -772,7 +772,7 @@ first_item-returns-in-Whole-clause-following g t c =
     let k = c.args.child in
     let n = c.args.size in
     let set = (c.sound_parts.ensures.parts _ (site_among q i c.requires.node)).set (site q k) c.requires.first.item (sym c.distinct.ensures ∙ c.in-Whole.is) in
-    IfOk-weaker c.first_unused.result _ _ (λ v h. continue_same (IsUnusedPart q k n (trees_of c.args.items.now)) (IsFreshItem q i k n (items_of c.args.items.now)) (data_of v) (rows_of c.first_unused.new.following.items)
+    IfOk-weaker c.first_unused.result _ _ (λ v h. continue_same (IsUnusedPart q k n (trees_of c.args.items.now)) (IsFreshItem q i k n (items_of c.args.items.now)) (data_of v) (stack_of c.first_unused.new.following.items)
     (λ u p. (unused_fresh q i k n c.args.items.now u set).0 p) (λ u f. (unused_fresh q i k n c.args.items.now u set).1 f) h) c.first_unused.ensures.following
 
 pub first_item-returns-in_ok-used-in-Keys-clause-following : goal.first_item-returns-in_ok-used-in-Keys-clause-following
@@ -787,7 +787,7 @@ first_item-returns-in_ok-used-in-Keys-clause-following g t c =
     let rule = c.no_dead_end.ensures.parts _ there in
     let sound = c.sound_parts.ensures.parts _ there in
     let some = some_size c.requires.size in
-    let cs = rows_of c.first_row.new.following.items in
+    let cs = stack_of c.first_row.new.following.items in
     IfOk-weaker c.first_row.result _ _ (λ v h. continue_same (IsRow q k (n - 1) (trees_of c.args.items.now)) (IsFreshItem q i k n (items_of c.args.items.now)) (data_of v) cs
     (λ u r. row_fresh q i k rule sound items c.args.items.now n u some c.requires.first.are r) (λ u f. fresh_row q i k rule sound items c.args.items.now n u c.requires.first.are f)
     (subst (λ us. Continue (IsRow q k (n - 1) us) (data_of v) cs) (ap rows_of c.as_slice.ensures.value ∙ c.in_ok-used-in-Keys.ensures) h)) c.first_row.ensures.following
@@ -796,7 +796,7 @@ pub first_items-returns-in_ok-grow_items-clause-following : goal.first_items-ret
 first_items-returns-in_ok-grow_items-clause-following g t c =
     let q = c.args.plan.now in
     let there = site_among q c.args.node c.requires.node in
-    grown_items_continue q c.args.node c.args.child (c.no_dead_end.ensures.parts _ there) (c.no_dead_end.ensures.completed _ there) c.in_ok-grow_items.field-0 c.args.room c.args.items.now.items c.grow_items.new.items.items (rows_of c.grow_items.new.following.items)
+    grown_items_continue q c.args.node c.args.child (c.no_dead_end.ensures.parts _ there) (c.no_dead_end.ensures.completed _ there) c.in_ok-grow_items.field-0 c.args.room c.args.items.now.items c.grow_items.new.items.items (stack_of c.grow_items.new.following.items)
     (omega (arith, c.if-room-gt0.true)) (omega (arith, c.ranges.room.fits)) c.requires.follow c.in_ok-grow_items.ensures.ok c.in_ok-grow_items.ensures.following
 
 pub first_list-returns-clause-following : goal.first_list-returns-clause-following
@@ -811,10 +811,10 @@ first_list-returns-clause-following g t c =
     elim c.if-size-gt1.branch [
       | first_list-then-size-gt1+in-Some+in_ok-first_items b ↦
           let first = list_first q i n rule c.requires.list some c.requires.limit c.requires.no_null _ (subst (λ l. AddsItems q i (n - 1) l b.first_items.new.items.items) c.new-items.ensures.items b.in_ok-first_items.ensures.ok) in
-          subst (λ f. Continue (IsPartOf q i n) (list_data (items_of c.if-size-gt1.items.items)) (rows_of f.items)) (sym b.following-is)
-          (subst (λ v. Continue (IsPartOf q i n) (list_data (items_of v.items)) (rows_of b.first_items.new.following.items)) (sym b.items-is)
-          (list_continues q i b.in-Some.child n rule ends b.in-Some.ensures.some c.requires.list (omega (arith, c.limit.ensures, c.limit.type_inv)) (items_of b.first_items.new.items.items) (rows_of b.first_items.new.following.items) first.is c.requires.limit b.in_ok-first_items.ensures.following))
-      | first_list-else-size-gt1 b ↦ subst (λ f. Continue (IsPartOf q i n) (list_data (items_of c.if-size-gt1.items.items)) (rows_of f.items)) (sym b.following-is) (subst (λ l. Continue (IsPartOf q i n) (list_data (items_of c.if-size-gt1.items.items)) (rows_of l)) (sym c.clear.ensures.items) tt)
+          subst (λ f. Continue (IsPartOf q i n) (list_data (items_of c.if-size-gt1.items.items)) (stack_of f.items)) (sym b.following-is)
+          (subst (λ v. Continue (IsPartOf q i n) (list_data (items_of v.items)) (stack_of b.first_items.new.following.items)) (sym b.items-is)
+          (list_continues q i b.in-Some.child n rule ends b.in-Some.ensures.some c.requires.list (omega (arith, c.limit.ensures, c.limit.type_inv)) (items_of b.first_items.new.items.items) (stack_of b.first_items.new.following.items) first.is c.requires.limit b.in_ok-first_items.ensures.following))
+      | first_list-else-size-gt1 b ↦ subst (λ f. Continue (IsPartOf q i n) (list_data (items_of c.if-size-gt1.items.items)) (stack_of f.items)) (sym b.following-is) (subst (λ l. Continue (IsPartOf q i n) (list_data (items_of c.if-size-gt1.items.items)) (stack_of l)) (sym c.clear.ensures.items) tt)
     ]
 
 pub first_slots-returns-then-has-clause-following : goal.first_slots-returns-then-has-clause-following
@@ -822,7 +822,7 @@ first_slots-returns-then-has-clause-following g t c =
     let q = c.args.plan.now in
     let s = slot_here g t (goal.at.first_slots-returns-then-has-clause-following g t c).In-Some in
     let free = sym s.must ∙ c.if-not-slot.true in
-    on_ok_weaker c.first_slots.result (λ h. continue_out q c.args.node c.args.place s.first (rows_of c.args.used.now) (drop (length c.args.members.now.items) c.first_slots.new.members.items) (rows_of c.first_slots.new.following.items) free h) c.first_slots.ensures.following
+    on_ok_weaker c.first_slots.result (λ h. continue_out q c.args.node c.args.place s.first (rows_of c.args.used.now) (drop (length c.args.members.now.items) c.first_slots.new.members.items) (stack_of c.first_slots.new.following.items) free h) c.first_slots.ensures.following
 
 pub first_slots-returns-clause-following : goal.first_slots-returns-clause-following
 first_slots-returns-clause-following g t c =
@@ -831,7 +831,7 @@ first_slots-returns-clause-following g t c =
     let old = c.args.members.now.items in
     let new = c.grow_slots.new.members.items in
     let s = slot_here g t (goal.at.first_slots-returns-clause-following g t c).In-Some in
-    grown_continues q i c.args.place s.first c.in_ok-grow_slots.field-0 c.args.before c.args.room (rows_of c.args.used.now) old new (drop (length old) new) (rows_of c.grow_slots.new.following.items)
+    grown_continues q i c.args.place s.first c.in_ok-grow_slots.field-0 c.args.before c.args.room (rows_of c.args.used.now) old new (drop (length old) new) (stack_of c.grow_slots.new.following.items)
     (λ free can. elim c.else-not-slot.branch [
       | first_slots-else-not-slot-via-then-not-slot+else-has w ↦ let yes = w.has.ensures.1 ((w.rest.ensures c.args.room).1 (omega (arith, c.requires.limit), can)) in let no = sym yes ∙ w.if-has.false in cc
       | first_slots-else-not-slot-via-else-not-slot w ↦ let yes = w.if-not-slot.false in let no = sym yes ∙ s.must ∙ free in cc
@@ -855,7 +855,7 @@ first_value-returns-then-slot-clause-following g t c =
     let behind = slots_from q i (place + 1) in
     let used = rows_of c.args.used.now in
     let n = c.args.size in
-    let cs = rows_of c.first_key.new.following.items in
+    let cs = stack_of c.first_key.new.following.items in
     let known = subst (λ ss. AreUsed q.pools ss used) c.requires.slot.first c.requires.known in
     let law = λ (u : Data). key_is_value c.sound_parts.ensures.free q s.node here behind used n s.later u c.requires.slot.node (sym c.requires.slot.key ∙ c.if-slot.true) known c.requires.slot.later in
     IfOk-weaker c.first_key.result _ _ (λ v h. continue_same (IsFreeKey q s.node n here.name used s.later) (IsValue q.pools here behind used n) (data_of v) cs (λ u. (law u).0) (λ u. (law u).1)
@@ -871,7 +871,7 @@ first_value-returns-clause-following g t c =
     let behind = slots_from q i (place + 1) in
     let used = rows_of c.args.used.now in
     let n = c.args.size in
-    let cs = rows_of c.first.new.following.items in
+    let cs = stack_of c.first.new.following.items in
     let other : here.key ≡ false = sym c.requires.slot.key ∙ c.if-slot.false in
     let free = free_out q.pools here behind used other (subst (λ ss. HasFree q.pools (filter is_key ss) (used_keys ss used) []) c.requires.slot.first c.requires.free) in
     let law = λ (u : Data). part_is_value q s.node here behind used n u c.requires.slot.node other free in

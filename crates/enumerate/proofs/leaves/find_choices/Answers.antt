@@ -1,77 +1,107 @@
-use Rattle.std.proofs.Common.{◌≡◌, ◌∙◌, ◌+◌, ◌++◌, ◌∷◌, [], sym, ap, subst, arith}
-use Rattle.std.specs.Borrow.{Bor}
+use Rattle.std.proofs.Common.{◌≡◌, ◌∙◌, ◌+◌, ◌-◌, ◌∷◌, ℕ, Option, Some, sym, ap, subst, arith}
 use Rattle.std.specs.Option.{option_copied, option_map}
-use Rattle.std.proofs.lemmas.List.{map-append}
-use Rattle.jtree.specs.Data.{Data}
 use Rattle.jtree.specs.View.{data_of}
 use Rattle.jtree.specs.declared.value.Tree.{Tree}
-use Rattle.plan.specs.Samples.Candidates.{HasCount}
+use Rattle.std.specs.Borrow.{Bor}
+use Rattle.plan.specs.Samples.Question.{Question}
 use Rattle.plan.specs.Samples.Handed.{IsCandidateAt}
 use Rattle.enumerate.specs.View.{resume_point}
 use Rattle.enumerate.specs.Internal.Nodes.{site}
-use Rattle.enumerate.specs.Internal.Candidates.{IsChoice, rows_of}
-use Rattle.enumerate.proofs.FollowingLemmas.{Chosen, none_chosen, chosen_more, chosen_same, all_chosen}
-use Rattle.enumerate.proofs.LeafLemmas.{handed_part, count_within}
+use Rattle.enumerate.specs.Internal.Candidates.{IsChoice, stack_of}
+use Rattle.enumerate.proofs.FollowingLemmas.{Chosen, none_chosen, chosen_more, chosen_same, all_chosen, none_at_first, none_to, stack_pushed}
+use Rattle.enumerate.proofs.LeafLemmas.{handed_part, some_candidate, count_within}
 use Rattle.enumerate.proofs.leaves.find_choices.Goals as goal
-use Rattle.enumerate.proofs.leaves.find_choices.Goals.{in-Some+then-is_choice+in_ok-push, in-Some+else-is_choice, in_default}
 
 pub loop-place-init : goal.loop-place-init
 loop-place-init g c =
     let q = c.args.plan.now in
     let i = c.args.node in
     let C = IsChoice q i c.args.size (resume_point c.args.after) c.args.taken.now in
-    record { chosen = subst (λ l. Chosen q i C (λ u h. h.part.part) (rows_of l) 0) (sym c.clear.ensures.items) (none_chosen q i C (λ u h. h.part.part)); steps = omega arith }
+    let none = none_chosen q i C (λ u h. h.part.part) c.count-place.result c.count-place.ensures in
+    record { chosen = subst (λ l. Chosen q i C (λ u h. h.part.part) (stack_of l) c.count-place.result) (sym c.clear.ensures.items) none; within = omega arith; steps = omega arith }
 
-pub returns-in_err-push-clause-steps : goal.returns-in_err-push-clause-steps
-returns-in_err-push-clause-steps g c w width =
-    let within = count_within c.args.plan.now c.args.node c.requires.node c.requires.leaf c.count-place-end.result c.count-place-end.ensures w width in
-    omega (arith, within, c.loop-place.invariant.steps, c.candidate.ensures.step, c.loop-place-test.true)
+-- the candidate at the place
+handed_here : (q : Question) (i place : ℕ) (o : Option (Bor Tree)) (x : Bor Tree) → o ≡ Some x → IsCandidateAt q.pools (site q i) place (option_map data_of (option_copied o)) → IsCandidateAt q.pools (site q i) place (Some (data_of x.now))
+handed_here q i place o x is at = subst (λ r. IsCandidateAt q.pools (site q i) place (option_map data_of (option_copied r))) is at
 
 pub loop-place-preserved : goal.loop-place-preserved
 loop-place-preserved g c =
     let q = c.args.plan.now in
     let i = c.args.node in
-    let place = c.loop-place.place in
-    let cs = rows_of c.loop-place.found.items in
-    let before = c.loop-place.invariant.chosen in
-    let at = c.candidate.ensures.candidate in
     let C = IsChoice q i c.args.size (resume_point c.args.after) c.args.taken.now in
-    let part = λ (u : Data) (h : C u). h.part.part in
-    let o = option_map data_of (option_copied c.candidate.result) in
+    let place = c.loop-place.place - 1 in
+    let vs = stack_of c.loop-place.found.items in
+    let x = data_of c.in-Some.tree.now in
+    let back : c.loop-place.place ≡ place + 1 = omega (arith, c.loop-place-test.true) in
+    let handed = handed_here q i place c.candidate.result c.in-Some.tree c.in-Some.is c.candidate.ensures.candidate in
     record {
-      chosen = elim c.match-candidate.branch [
-        | in-Some+then-is_choice+in_ok-push w ↦
-            let x = data_of w.in-Some.tree.now in
-            let handed = subst (λ r. IsCandidateAt q.pools (site q i) place (option_map data_of (option_copied r))) w.in-Some.is at in
-            let is = w.is_choice.ensures.0 w.if-is_choice.true in
-            let choice : C x = record { part = record { part = handed_part q i place x handed; nodes_are = is.0 }; past = is.1; free = is.2 } in
-            let more : rows_of c.match-candidate.found.items ≡ cs ++ x ∷ [] = ap (λ f. rows_of f.items) w.found-is ∙ (ap rows_of w.in_ok-push.ensures.items ∙ map-append (λ (r : Bor Tree). data_of r.now) c.loop-place.found.items (w.in-Some.tree ∷ [])) in
-            subst (λ us. Chosen q i C part us (place + 1)) (sym more) (chosen_more q i C part cs x place choice handed before)
-        | in-Some+else-is_choice w ↦
-            subst (λ f. Chosen q i C part (rows_of f.items) (place + 1)) (sym w.found-is)
-            (chosen_same q i C part cs place o at
-            (λ x there h.
-            let both = rw w.in-Some.is at there in
-            let same : x ≡ data_of w.in-Some.tree.now = cc in
-            let here = subst C same h in
-            let yes = w.is_choice.ensures.1 (here.part.nodes_are, here.past, here.free) in
-            let no = w.if-is_choice.false in
-            cc) before)
-        | in_default w ↦
-            subst (λ f. Chosen q i C part (rows_of f.items) (place + 1)) (sym w.found-is) (chosen_same q i C part cs place o at (λ x there h. let both = rw w.in_default.is at there in cc) before)
-      ];
-      steps = omega (arith, c.loop-place.invariant.steps, c.candidate.ensures.step);
+      chosen = chosen_same q i C (λ u h. h.part.part) vs x place handed (λ h. let yes = c.is_choice.ensures.1 (h.part.nodes_are, h.free) in let no = c.if-is_choice.false in cc) (subst (Chosen q i C (λ u h. h.part.part) vs) back c.loop-place.invariant.chosen);
+      within = omega (arith, c.loop-place.invariant.within);
+      steps = omega (arith, c.loop-place.invariant.steps, c.candidate.ensures.step, c.loop-place-test.true);
     }
+
+pub loop-place-preserved-in-Continue-1 : goal.loop-place-preserved-in-Continue-1
+loop-place-preserved-in-Continue-1 g c =
+    let q = c.args.plan.now in
+    let i = c.args.node in
+    let C = IsChoice q i c.args.size (resume_point c.args.after) c.args.taken.now in
+    let place = c.loop-place.place - 1 in
+    let vs = stack_of c.loop-place.found.items in
+    let x = data_of c.in-Some.tree.now in
+    let back : c.loop-place.place ≡ place + 1 = omega (arith, c.loop-place-test.true) in
+    let handed = handed_here q i place c.candidate.result c.in-Some.tree c.in-Some.is c.candidate.ensures.candidate in
+    let is = c.is_choice.ensures.0 c.if-is_choice.true in
+    let past = c.is_past.ensures.0 c.if-not-is_past.false in
+    let choice : C x = record { part = record { part = handed_part q i place x handed; nodes_are = is.0 }; past = past; free = is.1 } in
+    let pushed : stack_of c.push.new.self.items ≡ x ∷ vs = ap stack_of c.in_ok-push.ensures.items ∙ stack_pushed c.loop-place.found.items c.in-Some.tree in
+    record {
+      chosen = subst (λ us. Chosen q i C (λ u h. h.part.part) us place) (sym pushed) (chosen_more q i C (λ u h. h.part.part) vs x place choice handed (subst (Chosen q i C (λ u h. h.part.part) vs) back c.loop-place.invariant.chosen));
+      within = omega (arith, c.loop-place.invariant.within);
+      steps = omega (arith, c.loop-place.invariant.steps, c.candidate.ensures.step, c.loop-place-test.true);
+    }
+
+pub returns-in_default-clause-ok : goal.returns-in_default-clause-ok
+returns-in_default-clause-ok g c =
+    let q = c.args.plan.now in
+    absurd (some_candidate q c.args.node (c.loop-place.place - 1) c.count-place.result c.count-place.ensures (omega (arith, c.loop-place-test.true, c.loop-place.invariant.within)) (subst (λ r. IsCandidateAt q.pools (site q c.args.node) (c.loop-place.place - 1) (option_map data_of (option_copied r))) c.in_default.is c.candidate.ensures.candidate))
+
+pub returns-then-not-is_past-clause-ok : goal.returns-then-not-is_past-clause-ok
+returns-then-not-is_past-clause-ok g c =
+    let q = c.args.plan.now in
+    let i = c.args.node in
+    let after = resume_point c.args.after in
+    let C = IsChoice q i c.args.size after c.args.taken.now in
+    let place = c.loop-place.place - 1 in
+    let x = data_of c.in-Some.tree.now in
+    let back : c.loop-place.place ≡ place + 1 = omega (arith, c.loop-place-test.true) in
+    let handed = handed_here q i place c.candidate.result c.in-Some.tree c.in-Some.is c.candidate.ensures.candidate in
+    let before = none_to q i C (λ u h. h.part.part) after x place (λ u h. h.past) (λ h. let yes = c.is_past.ensures.1 h in let no = c.if-not-is_past.true in cc) handed in
+    all_chosen q i C (λ u h. h.part.part) (stack_of c.loop-place.found.items) (place + 1) before (subst (Chosen q i C (λ u h. h.part.part) (stack_of c.loop-place.found.items)) back c.loop-place.invariant.chosen) handed.candidates handed.are
 
 pub returns-clause-ok : goal.returns-clause-ok
 returns-clause-ok g c =
     let q = c.args.plan.now in
     let i = c.args.node in
-    let all : c.count-place-end.result ≡ c.loop-place.place = omega arith in
-    all_chosen q i (IsChoice q i c.args.size (resume_point c.args.after) c.args.taken.now) (λ u h. h.part.part) (rows_of c.loop-place.found.items) c.loop-place.place
-    (subst (HasCount q.pools (site q i)) all c.count-place-end.ensures) c.loop-place.invariant.chosen
+    let C = IsChoice q i c.args.size (resume_point c.args.after) c.args.taken.now in
+    let none : c.loop-place.place ≡ 0 = omega (arith, c.loop-place-test.false) in
+    all_chosen q i C (λ u h. h.part.part) (stack_of c.loop-place.found.items) 0 (none_at_first q i C (λ u h. h.part.part)) (subst (Chosen q i C (λ u h. h.part.part) (stack_of c.loop-place.found.items)) none c.loop-place.invariant.chosen) c.count-place.ensures.candidates c.count-place.ensures.are
+
+pub returns-in_default-clause-steps : goal.returns-in_default-clause-steps
+returns-in_default-clause-steps g c w width =
+    let within = count_within c.args.plan.now c.args.node c.requires.node c.requires.leaf c.count-place.result c.count-place.ensures w width in
+    omega (arith, within, c.loop-place.invariant.steps, c.candidate.ensures.step, c.loop-place-test.true)
+
+pub returns-then-not-is_past-clause-steps : goal.returns-then-not-is_past-clause-steps
+returns-then-not-is_past-clause-steps g c w width =
+    let within = count_within c.args.plan.now c.args.node c.requires.node c.requires.leaf c.count-place.result c.count-place.ensures w width in
+    omega (arith, within, c.loop-place.invariant.steps, c.candidate.ensures.step, c.loop-place-test.true)
+
+pub returns-in_err-push-clause-steps : goal.returns-in_err-push-clause-steps
+returns-in_err-push-clause-steps g c w width =
+    let within = count_within c.args.plan.now c.args.node c.requires.node c.requires.leaf c.count-place.result c.count-place.ensures w width in
+    omega (arith, within, c.loop-place.invariant.steps, c.candidate.ensures.step, c.loop-place-test.true)
 
 pub returns-clause-steps : goal.returns-clause-steps
 returns-clause-steps g c w width =
-    let within = count_within c.args.plan.now c.args.node c.requires.node c.requires.leaf c.count-place-end.result c.count-place-end.ensures w width in
+    let within = count_within c.args.plan.now c.args.node c.requires.node c.requires.leaf c.count-place.result c.count-place.ensures w width in
     omega (arith, within, c.loop-place.invariant.steps)

@@ -11,7 +11,7 @@ use Rattle.plan.specs.Samples.Candidates.{IsWidth}
 use Rattle.plan.specs.Samples.Sites.{sites_of}
 use Rattle.enumerate.specs.Least.{IsNext}
 use Rattle.enumerate.specs.Internal.Nodes.{site, IsPartOf, Costs}
-use Rattle.enumerate.specs.Internal.Candidates.{IsUnusedPart, IsFreeKey, rows_of}
+use Rattle.enumerate.specs.Internal.Candidates.{stack_of, IsUnusedPart, IsFreeKey, rows_of}
 use Rattle.plan.specs.Samples.Sizes.{AreFillings, Before, nothing, filled, CanFill, filled_nodes, HasMore}
 use Rattle.enumerate.specs.Internal.Rows.{fill_cmp, IsRest, IsOpen, IsSlotOf, still_used, slots_from, slot_in, ending_at, AreUsed, IsRow, IsValue}
 use Rattle.jtree.specs.declared.value.Tree.{Tree}
@@ -107,7 +107,7 @@ advance-returns-in_default g t c =
     let null = c.is_null.ensures.0 c.if-is_null.true in
     record {
       ok = subst (λ v. IsMoved (IsPartOf q c.args.node (node_count v)) v c.past_null.result) (sym null) c.past_null.ensures;
-      following = none_continues (IsPartOf q c.args.node (node_count (data_of c.args.tree))) c.past_null.result (rows_of c.clear.new.self.items) (ap rows_of c.clear.ensures.items);
+      following = none_continues (IsPartOf q c.args.node (node_count (data_of c.args.tree))) c.past_null.result (stack_of c.clear.new.self.items) (ap stack_of c.clear.ensures.items);
       steps = λ w wide. omega arith;
       last = costs_last c.past_null.result q c.args.meter.now c.args.meter.now (node_count (data_of c.args.tree)) (λ w wide. omega arith);
     }
@@ -119,7 +119,7 @@ advance-returns-in-Row g t c =
     let row = sym c.in-Row.ensures in
     record {
       ok = IfOk-weaker c.advance_row.result _ _ (λ m h. row_moved q c.args.node (c.no_dead_end.ensures.parts _ there) row (data_of c.args.tree) m h) c.advance_row.ensures.ok;
-      following = if_both c.advance_row.result _ _ _ (λ m h k. row_moved_continues q c.args.node (c.no_dead_end.ensures.parts _ there) row (node_count (data_of c.args.tree)) (data_of c.args.tree) m (rows_of c.advance_row.new.following.items) (some_nodes (data_of c.args.tree)) h k) c.advance_row.ensures.ok c.advance_row.ensures.following;
+      following = if_both c.advance_row.result _ _ _ (λ m h k. row_moved_continues q c.args.node (c.no_dead_end.ensures.parts _ there) row (node_count (data_of c.args.tree)) (data_of c.args.tree) m (stack_of c.advance_row.new.following.items) (some_nodes (data_of c.args.tree)) h k) c.advance_row.ensures.ok c.advance_row.ensures.following;
       steps = c.advance_row.ensures.steps;
       last = c.advance_row.ensures.last;
     }
@@ -335,7 +335,7 @@ advance_member-put_member-requires-clause-following g t c =
     let q = c.args.plan.now in
     let C = λ (n : ℕ). IsValue q.pools (slot_in q c.args.node c.args.place) (slots_from q c.args.node (c.args.place + 1)) (rows_of c.args.used.now) n in
     let old = data_of c.args.member.tree in
-    let cs = rows_of c.advance_value.new.following.items in
+    let cs = stack_of c.advance_value.new.following.items in
     let next = next_value_here g t (goal.at.advance_member-put_member-requires-clause-following g t c).In-To in
     let continue = subst (λ m. ContinueMoved (C (node_count old)) m cs) c.in-To.is c.in_ok-tree.ensures.following in
     subst (λ n. Continue (C n) (data_of c.in-To.tree) cs) (sym next.is.0.nodes_are) continue
@@ -369,7 +369,7 @@ advance_member-returns-in_ok-put_member-in-To-clause-moved g t c = λ gs others 
 pub advance_member-returns-in_ok-put_member-in-To-clause-following : goal.advance_member-returns-in_ok-put_member-in-To-clause-following
 advance_member-returns-in_ok-put_member-in-To-clause-following g t c =
     let q = c.args.plan.now in
-    subst (λ n. MembersContinue q.pools (slots_from q c.args.node c.args.place) (rows_of c.args.used.now) (drop n c.put_member.new.members.items) (rows_of c.put_member.new.following.items)) c.requires.front c.in_ok-put_member-in-To.ensures.following
+    subst (λ n. MembersContinue q.pools (slots_from q c.args.node c.args.place) (rows_of c.args.used.now) (drop n c.put_member.new.members.items) (stack_of c.put_member.new.following.items)) c.requires.front c.in_ok-put_member-in-To.ensures.following
 
 pub advance_member-returns-in_ok-put_member-in-To-clause-steps : goal.advance_member-returns-in_ok-put_member-in-To-clause-steps
 advance_member-returns-in_ok-put_member-in-To-clause-steps g t c = let n = 2 * node_count (data_of c.args.member.tree) in λ w wide. omega (arith, split_cost w n c.args.room (n + c.args.room) (omega arith), c.advance_value.ensures.steps w wide, c.put_member.ensures.steps w wide)
@@ -412,7 +412,7 @@ advance_member-returns-in-Last-clause-moved g t c =
 pub advance_member-returns-in-Last-clause-following : goal.advance_member-returns-in-Last-clause-following
 advance_member-returns-in-Last-clause-following g t c =
     let q = c.args.plan.now in
-    IfOk-weaker c.grow_slots.result _ _ (λ st h. subst (λ n. GrownContinue st q.pools (slots_from q c.args.node c.args.place) (rows_of c.args.used.now) (drop n c.grow_slots.new.members.items) (rows_of c.grow_slots.new.following.items)) c.requires.front h) c.grow_slots.ensures.following
+    IfOk-weaker c.grow_slots.result _ _ (λ st h. subst (λ n. GrownContinue st q.pools (slots_from q c.args.node c.args.place) (rows_of c.args.used.now) (drop n c.grow_slots.new.members.items) (stack_of c.grow_slots.new.following.items)) c.requires.front h) c.grow_slots.ensures.following
 
 pub advance_member-returns-in-Last-clause-left : goal.advance_member-returns-in-Last-clause-left
 advance_member-returns-in-Last-clause-left g t c =
@@ -537,7 +537,7 @@ pub advance_members-returns-then-not-names_fields-clause-following : goal.advanc
 advance_members-returns-then-not-names_fields-clause-following g t c =
     let q = c.args.plan.now in
     let none = no_rows c.args.used.now c.is_empty.result c.is_empty.ensures c.if-is_empty.true in
-    subst (λ us. IfOk c.advance_plain.result (λ st. GrownContinue st q.pools (slots_from q c.args.node 0) us c.advance_plain.new.members.items (rows_of c.advance_plain.new.following.items))) (sym none) c.advance_plain.ensures.following
+    subst (λ us. IfOk c.advance_plain.result (λ st. GrownContinue st q.pools (slots_from q c.args.node 0) us c.advance_plain.new.members.items (stack_of c.advance_plain.new.following.items))) (sym none) c.advance_plain.ensures.following
 
 pub advance_members-advance_slots-requires : goal.advance_members-advance_slots-requires
 advance_members-advance_slots-requires g t c κs within =
@@ -558,7 +558,7 @@ advance_members-returns-clause-moved g t c =
 pub advance_members-returns-clause-following : goal.advance_members-returns-clause-following
 advance_members-returns-clause-following g t c =
     let q = c.args.plan.now in
-    IfOk-weaker c.advance_slots.result _ _ (λ st h. subst (λ (x : Before). GrownContinue st q.pools (slots_from q c.args.node 0) (rows_of c.args.used.now) (drop x.count c.advance_slots.new.members.items) (rows_of c.advance_slots.new.following.items)) c.nothing-nothing.ensures h) c.advance_slots.ensures.following
+    IfOk-weaker c.advance_slots.result _ _ (λ st h. subst (λ (x : Before). GrownContinue st q.pools (slots_from q c.args.node 0) (rows_of c.args.used.now) (drop x.count c.advance_slots.new.members.items) (stack_of c.advance_slots.new.following.items)) c.nothing-nothing.ensures h) c.advance_slots.ensures.following
 
 pub advance_members-returns-clause-steps : goal.advance_members-returns-clause-steps
 advance_members-returns-clause-steps g t c = twice_at c.args.plan.now c.args.node 0 c.args.meter.now c.advance_slots.new.meter c.args.members.now.items c.nothing-nothing.ensures c.advance_slots.ensures.steps
@@ -601,7 +601,7 @@ advance_plain-returns-in-Moved-clause-moved g t c = λ gs h.
 pub advance_plain-returns-in-Moved-clause-following : goal.advance_plain-returns-in-Moved-clause-following
 advance_plain-returns-in-Moved-clause-following g t c =
     let q = c.args.plan.now in
-    subst (λ st. GrownContinue st q.pools (slots_from q c.args.node 0) [] c.advance_at.new.members.items (rows_of c.advance_at.new.following.items)) c.in-Moved.is c.in_ok-advance_at.ensures.following
+    subst (λ st. GrownContinue st q.pools (slots_from q c.args.node 0) [] c.advance_at.new.members.items (stack_of c.advance_at.new.following.items)) c.in-Moved.is c.in_ok-advance_at.ensures.following
 
 pub advance_plain-returns-in_err-advance_at-clause-steps : goal.advance_plain-returns-in_err-advance_at-clause-steps
 advance_plain-returns-in_err-advance_at-clause-steps g t c =
@@ -752,7 +752,7 @@ advance_at-returns-in-Some-popped-clause-following g t c =
     let one = c.in-Some-popped.member in
     let front = c.pop_named-popped.new.members.items in
     let new = c.advance_member.new.members.items in
-    let cs = rows_of c.advance_member.new.following.items in
+    let cs = stack_of c.advance_member.new.following.items in
     let sound = c.sound_parts.ensures.parts _ (site_among q i c.requires.node) in
     let s = at_slot g t (goal.at.advance_at-returns-in-Some-popped-clause-following g t c).In-Some in
     let popped = c.in-Some-popped.ensures.some in
@@ -882,7 +882,7 @@ advance_at-returns-in-None-2-clause-following g t c =
     let w = c.requires.walked.1 in
     let base = c.pop_named-popped.new.members.items in
     let new = c.grow_slots.new.members.items in
-    let cs = rows_of c.grow_slots.new.following.items in
+    let cs = stack_of c.grow_slots.new.following.items in
     let sound = c.sound_parts.ensures.parts _ (site_among q i c.requires.node) in
     let s = at_slot g t (goal.at.advance_at-returns-in-None-2-clause-following g t c).In-Some in
     let out = out_at_place g t (goal.at.advance_at-returns-in-None-2-clause-following g t c).In-None-2 s sound gs w in
@@ -1541,7 +1541,7 @@ pub advance-returns-in-Leaf-clause-following : goal.advance-returns-in-Leaf-clau
 advance-returns-in-Leaf-clause-following g t c =
     let q = c.args.plan.now in
     let n = node_count (data_of c.args.tree) in
-    IfOk-weaker c.next_unused.result _ _ (λ m h. moved_continues_same (IsUnusedPart q c.args.node n []) (IsPartOf q c.args.node n) m (rows_of c.next_unused.new.following.items) (λ u p. p.0) (λ u p. (p, λ k. contained [] _ k)) h) c.next_unused.ensures.following
+    IfOk-weaker c.next_unused.result _ _ (λ m h. moved_continues_same (IsUnusedPart q c.args.node n []) (IsPartOf q c.args.node n) m (stack_of c.next_unused.new.following.items) (λ u p. p.0) (λ u p. (p, λ k. contained [] _ k)) h) c.next_unused.ensures.following
 
 pub advance_filled-returns-in_default-clause-following : goal.advance_filled-returns-in_default-clause-following
 advance_filled-returns-in_default-clause-following g t c =
@@ -1553,7 +1553,7 @@ advance_filled-returns-in_default-clause-following g t c =
     let sound = c.sound_parts.ensures.parts _ (site_among q i c.requires.node) in
     let here = member_here c.args.slot.now.name.now c.args.before.count c.args.members.now.items one c.requires.filled (at_count c.args.members.now.items one c.count.ensures c.index.ensures) in
     let mid = c.advance_slots.new.members.items in
-    let cs = rows_of c.advance_slots.new.following.items in
+    let cs = stack_of c.advance_slots.new.following.items in
     let at = filled_at q i place c.args.slot.now c.args.before c.fill.result c.requires.slot c.fill.ensures in
     let more : c.fill.result.count ≡ c.args.before.count + 1 = ap (λ (x : Before). x.count) c.fill.ensures in
     let same = same_used q i place c.args.slot.now c.requires.slot sound (rows_of c.as_slice.result.now) used (data_of one.tree) (ap rows_of c.as_slice.ensures.value ∙ c.in_ok-same.ensures) in
@@ -1573,7 +1573,7 @@ advance_row-returns-in-Moved-clause-following g t c =
     let sound = c.sound_parts.ensures.parts _ (site_among q i c.requires.node) in
     let r = c.requires.row in
     let new = c.advance_members.new.members.items in
-    let cs = rows_of c.advance_members.new.following.items in
+    let cs = stack_of c.advance_members.new.following.items in
     let next = row_next_here g t (goal.at.advance_row-returns-in-Moved-clause-following g t c).In-Moved in
     let continue = subst (λ st. GrownContinue st q.pools ss used new cs) c.in-Moved.is c.in_ok-step.ensures.following in
     let rest = subst (λ m. IsRest q.pools ss (ending_at q i) nothing m used next.fillings) r.rest.nodes_are next.next.is.0 in
@@ -1590,7 +1590,7 @@ advance_slots-returns-in_default-2-clause-following g t c =
     let sound = c.sound_parts.ensures.parts _ (site_among q i c.requires.node) in
     let s = slot_here g t (goal.at.advance_slots-returns-in_default-2-clause-following g t c).In-Some in
     let new = drop c.args.before.count c.advance_slots.new.members.items in
-    let cs = rows_of c.advance_slots.new.following.items in
+    let cs = stack_of c.advance_slots.new.following.items in
     let out = left_out q i c.args.place c.in-Some.slot s sound c.args.before used c.args.members.now.items c.as_slice.result.now c.requires.stand.0 c.as_slice.ensures.value (λ h. let yes = c.begins.ensures.1 (begins_at c.in-Some.slot.name.now c.as_slice.result.now (sym c.count-2.ensures) h) in let no = c.if-begins.false in cc) c.requires.stand.1 in
     continue_out q i c.args.place s.first used new cs out.1.1.0 (subst (λ st. GrownContinue st q.pools (slots_from q i (c.args.place + 1)) used new cs) c.in_default-2.is c.in_ok-room.ensures.following)
 
@@ -1599,7 +1599,7 @@ advance_slots-returns-clause-following g t c =
     let q = c.args.plan.now in
     let front = (cut_at c.advance_slots.new.members.items c.truncate.new.self.items c.count-3.ensures c.truncate.ensures.items) ∙ c.in_ok-room.ensures.kept in
     let count : length c.truncate.new.self.items ≡ c.args.before.count = ap (λ (ms : List Member). length ms) front ∙ length-take-le c.args.before.count c.args.members.now.items c.requires.within in
-    IfOk-weaker c.grow_slots.result _ _ (λ st h. subst (λ n. GrownContinue st q.pools (slots_from q c.args.node c.args.place) (rows_of c.args.used.now) (drop n c.grow_slots.new.members.items) (rows_of c.grow_slots.new.following.items)) count h) c.grow_slots.ensures.following
+    IfOk-weaker c.grow_slots.result _ _ (λ st h. subst (λ n. GrownContinue st q.pools (slots_from q c.args.node c.args.place) (rows_of c.args.used.now) (drop n c.grow_slots.new.members.items) (stack_of c.grow_slots.new.following.items)) count h) c.grow_slots.ensures.following
 
 pub advance_value-returns-then-slot-clause-following : goal.advance_value-returns-then-slot-clause-following
 advance_value-returns-then-slot-clause-following g t c =
@@ -1611,7 +1611,7 @@ advance_value-returns-then-slot-clause-following g t c =
     let behind = slots_from q i (place + 1) in
     let used = rows_of c.args.used.now in
     let n = node_count (data_of c.args.tree) in
-    let cs = rows_of c.next_key.new.following.items in
+    let cs = stack_of c.next_key.new.following.items in
     let known = subst (λ ss. AreUsed q.pools ss used) c.requires.slot.first c.requires.known in
     let law = λ (u : Data). key_is_value c.sound_parts.ensures.free q s.node here behind used n s.later u c.requires.slot.node (sym c.requires.slot.key ∙ c.if-slot.true) known c.requires.slot.later in
     IfOk-weaker c.next_key.result _ _ (λ m h. moved_continues_same (IsFreeKey q s.node n here.name used s.later) (IsValue q.pools here behind used n) m cs (λ u. (law u).0) (λ u. (law u).1)
@@ -1628,7 +1628,7 @@ advance_value-returns-clause-following g t c =
     let used = rows_of c.args.used.now in
     let v = data_of c.args.tree in
     let n = node_count v in
-    let cs = rows_of c.advance.new.following.items in
+    let cs = stack_of c.advance.new.following.items in
     let other : here.key ≡ false = sym c.requires.slot.key ∙ c.if-slot.false in
     let free = subst (λ us. HasFree q.pools (filter is_key behind) (used_keys behind us) []) (still_used_other here behind other v used) c.requires.value.free in
     let law = λ (u : Data). part_is_value q s.node here behind used n u c.requires.slot.node other free in
@@ -1647,7 +1647,7 @@ advance_list-returns-in-Moved-clause-following g t c =
     let count : node_count v ≡ 1 + items_count old = ap node_count is in
     let within : 1 + items_count old ≤ q.limit = omega (arith, count, c.requires.limit) in
     let new = items_of c.advance_items.new.items.items in
-    let cs = rows_of c.advance_items.new.following.items in
+    let cs = stack_of c.advance_items.new.following.items in
     let next = subst (λ d. IsNext tree_cmp (IsPartOf q i (node_count d)) d (Some (list_data new))) (sym is) (list_moved q i rule c.requires.sort old within new (subst (λ s. AreItemsMoved s q i old new) c.in-Moved.is c.in_ok-advance_items.ensures.moved)) in
     list_continues q i c.in-Some-item.child (node_count v) rule ends c.in-Some-item.ensures.some c.requires.sort (omega (arith, c.limit.ensures, c.limit.type_inv)) new cs next.is.0 c.requires.limit
     (subst (λ s. GrownItemsContinue s q i c.in-Some-item.child new cs) c.in-Moved.is c.in_ok-advance_items.ensures.following)
@@ -1659,7 +1659,7 @@ advance_items-first_items-requires-clause-following g t c =
     let k = c.args.child in
     let front = c.pop.new.self.items in
     let one = data_of c.in-Some.item in
-    let cs = rows_of c.advance_item.new.following.items in
+    let cs = stack_of c.advance_item.new.following.items in
     let C = λ (l : List Tree). IsFreshItem q i k (node_count one) (items_of l) in
     let next = subst (λ l. IsMoved (C l) one (moved.To c.in-To.next)) c.as_slice.ensures.value (subst (λ m. IsMoved (C c.as_slice.result.now) one m) c.in-To.is c.in_ok-next.ensures.ok) in
     let continue = subst (λ l. ContinueMoved (C l) (moved.To c.in-To.next) cs) c.as_slice.ensures.value (subst (λ m. ContinueMoved (C c.as_slice.result.now) m cs) c.in-To.is c.in_ok-next.ensures.following) in
@@ -1668,7 +1668,7 @@ advance_items-first_items-requires-clause-following g t c =
 pub advance_items-returns-in-Moved-clause-following : goal.advance_items-returns-in-Moved-clause-following
 advance_items-returns-in-Moved-clause-following g t c =
     let q = c.args.plan.now in
-    subst (λ s. GrownItemsContinue s q c.args.node c.args.child (items_of c.grow_items.new.items.items) (rows_of c.grow_items.new.following.items)) c.in-Moved.is c.in_ok-grow_items-in-Last.ensures.following
+    subst (λ s. GrownItemsContinue s q c.args.node c.args.child (items_of c.grow_items.new.items.items) (stack_of c.grow_items.new.following.items)) c.in-Moved.is c.in_ok-grow_items-in-Last.ensures.following
 
 pub advance_item-returns-in-Free-clause-following : goal.advance_item-returns-in-Free-clause-following
 advance_item-returns-in-Free-clause-following g t c =
@@ -1677,7 +1677,7 @@ advance_item-returns-in-Free-clause-following g t c =
     let k = c.args.child in
     let n = node_count (data_of c.args.item) in
     let free : distinct_of (site q i) ≡ distinct.Free = sym c.distinct.ensures ∙ c.in-Free.is in
-    IfOk-weaker c.advance.result _ _ (λ m h. moved_continues_same (IsPartOf q k n) (IsFreshItem q i k n (items_of c.args.items.now)) m (rows_of c.advance.new.following.items) (λ u p. part_fresh q i k n (items_of c.args.items.now) u (c.sound_parts.ensures.parts _ (site_among q i c.requires.node)) free p) (λ u f. f.part) h) c.advance.ensures.following
+    IfOk-weaker c.advance.result _ _ (λ m h. moved_continues_same (IsPartOf q k n) (IsFreshItem q i k n (items_of c.args.items.now)) m (stack_of c.advance.new.following.items) (λ u p. part_fresh q i k n (items_of c.args.items.now) u (c.sound_parts.ensures.parts _ (site_among q i c.requires.node)) free p) (λ u f. f.part) h) c.advance.ensures.following
 
 pub advance_item-returns-in-Whole-clause-following : goal.advance_item-returns-in-Whole-clause-following
 advance_item-returns-in-Whole-clause-following g t c =
@@ -1686,7 +1686,7 @@ advance_item-returns-in-Whole-clause-following g t c =
     let k = c.args.child in
     let n = node_count (data_of c.args.item) in
     let set = (c.sound_parts.ensures.parts _ (site_among q i c.requires.node)).set (site q k) c.requires.first.item (sym c.distinct.ensures ∙ c.in-Whole.is) in
-    IfOk-weaker c.next_unused.result _ _ (λ m h. moved_continues_same (IsUnusedPart q k n (trees_of c.args.items.now)) (IsFreshItem q i k n (items_of c.args.items.now)) m (rows_of c.next_unused.new.following.items)
+    IfOk-weaker c.next_unused.result _ _ (λ m h. moved_continues_same (IsUnusedPart q k n (trees_of c.args.items.now)) (IsFreshItem q i k n (items_of c.args.items.now)) m (stack_of c.next_unused.new.following.items)
     (λ u p. (unused_fresh q i k n c.args.items.now u set).0 p) (λ u f. (unused_fresh q i k n c.args.items.now u set).1 f) h) c.next_unused.ensures.following
 
 pub advance_item-returns-in_ok-used-in-Keys-clause-following : goal.advance_item-returns-in_ok-used-in-Keys-clause-following
@@ -1703,7 +1703,7 @@ advance_item-returns-in_ok-used-in-Keys-clause-following g t c =
     let sound = c.sound_parts.ensures.parts _ there in
     let same = ap rows_of c.as_slice.ensures.value ∙ c.in_ok-used-in-Keys.ensures in
     let some = some_nodes (data_of c.args.item) in
-    let cs = rows_of c.advance_row.new.following.items in
+    let cs = stack_of c.advance_row.new.following.items in
     IfOk-weaker c.advance_row.result _ _ (λ m h. moved_continues_same (IsRow q k (n - 1) (trees_of c.args.items.now)) (IsFreshItem q i k n (items_of c.args.items.now)) m cs
     (λ u r. row_fresh q i k rule sound items c.args.items.now n u some c.requires.first.are r) (λ u f. fresh_row q i k rule sound items c.args.items.now n u c.requires.first.are f)
     (subst (λ us. ContinueMoved (IsRow q k (n - 1) us) m cs) same h)) c.advance_row.ensures.following

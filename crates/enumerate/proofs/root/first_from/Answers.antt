@@ -1,5 +1,5 @@
 use Rattle.std.proofs.Common.{◌<◌, arith, subst, sym}
-use Rattle.enumerate.specs.Internal.Candidates.{rows_of}
+use Rattle.enumerate.specs.Internal.Candidates.{stack_of}
 use Rattle.enumerate.specs.Internal.Following.{Continue}
 use Rattle.enumerate.specs.Internal.Nodes.{IsPartOf}
 use Rattle.enumerate.proofs.StandingLemmas.{continue_sample}
@@ -30,7 +30,7 @@ returns-in_ok-first-in-Some-clause-following g c =
     let i = c.root-root.result in
     let small : q.limit < 4294967296 = omega (arith, c.limit.type_inv, c.limit.ensures) in
     let v = data_of c.in_ok-first-in-Some.field-0 in
-    let cs = rows_of c.first.new.following.items in
+    let cs = stack_of c.first.new.following.items in
     let first = c.in_ok-first-in-Some.ensures.ok in
     let found = found_from q i c.root-root.ensures.site small (g.Z.SizeSet.holds c.sizes.result) c.sizes.ensures c.args.from c.in-Some.size v c.in-Some.ensures first in
     continue_sample q i c.root-root.ensures.site small c.last_node_is_replaced.ensures.count v cs found.is.0 (subst (λ n. Continue (IsPartOf q i n) v cs) (sym first.is.nodes_are) c.in_ok-first-in-Some.ensures.following)

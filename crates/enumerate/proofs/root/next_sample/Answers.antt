@@ -3,7 +3,7 @@ use Rattle.std.proofs.lemmas.Result.{IfOk-weaker}
 use Rattle.jtree.specs.Nodes.{node_count}
 use Rattle.jtree.specs.View.{data_of}
 use Rattle.enumerate.specs.View.{tree_of}
-use Rattle.enumerate.specs.Internal.Candidates.{rows_of}
+use Rattle.enumerate.specs.Internal.Candidates.{stack_of}
 use Rattle.enumerate.specs.Internal.Following.{Continue, ContinueMoved}
 use Rattle.enumerate.specs.Internal.Moves.{IsMoved}
 use Rattle.enumerate.proofs.StandingLemmas.{continue_sample}
@@ -58,7 +58,7 @@ returns-in-To-clause-following g c =
     let small : q.limit < 4294967296 = omega (arith, c.limit-limit.type_inv, c.limit-limit.ensures) in
     let old = data_of c.args.tree in
     let new = data_of c.in-To.next in
-    let cs = rows_of c.advance.new.following.items in
+    let cs = stack_of c.advance.new.following.items in
     let moved = subst (IsMoved (IsPartOf q i (node_count old)) old) c.in-To.is c.in_ok-next.ensures.ok in
     let next = next_same_size q i c.root-root.ensures.site small old new c.requires.sample moved in
     let continue = subst (λ m. ContinueMoved (IsPartOf q i (node_count old)) m cs) c.in-To.is c.in_ok-next.ensures.following in
