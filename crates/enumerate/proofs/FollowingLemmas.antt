@@ -1,5 +1,5 @@
 -- The next trees that differ in their last node alone.
-use Rattle.std.specs.Prelude.{◌≡◌, ℕ, zero, suc, ◌+◌, ◌-◌, ◌≤◌, ◌<◌, List, false, Option, Some, None, slice_get, get_or, drop, length, reverse, Result, Ok, Err, IfOk, OnOk}
+use Rattle.std.specs.Prelude.{◌≡◌, ◌⊎◌, ℕ, zero, suc, ◌+◌, ◌-◌, ◌≤◌, ◌<◌, List, false, Option, Some, None, slice_get, get_or, drop, length, reverse, Result, Ok, Err, IfOk, OnOk}
 use Rattle.std.specs.Borrow.{Bor}
 use Rattle.std.proofs.Common.{refl, ap, sym, ◌∙◌, subst, inl, inr, arith, [], ◌∷◌, ◌++◌}
 use Rattle.std.proofs.lemmas.Bool.{cases_lt}
@@ -368,24 +368,27 @@ module _ (q : Question) (i : ℕ) (C : Data → Type 0) (part : (u : Data) → C
         | inr ge ↦ other (subst (IsPast after) (same_at vs j place u x (omega (arith, ge, before)) at here) (past u c))
       ]
 
-module _ (q : Question) (i n : ℕ) (after : Option Data) (taken : Taken) (one : n ≡ 1) where
-  abbrev pub FreePart : Data → Type 0
+module _ (q : Question) (i n : ℕ) (after : Option Data) (taken : Taken) where
+  abbrev FreePart : Data → Type 0
   FreePart u = IsPartOf q i n u × IsFree taken u
 
-  follow_choices : (v : Data) (cs : List Data) → IsChoice q i n after taken v → InTurn (IsChoice q i n after taken) v cs → Follow FreePart v cs
-  follow_choices v [] c t = tt
-  follow_choices v (w ∷ cs) c t =
+  follow_choices : n ≡ 1 → (v : Data) (cs : List Data) → IsChoice q i n after taken v → InTurn (IsChoice q i n after taken) v cs → Follow FreePart v cs
+  follow_choices one v [] c t = tt
+  follow_choices one v (w ∷ cs) c t =
       let is = t.0.is in
       let next : IsNext tree_cmp FreePart v (Some w) = record {
         is = ((is.0.part, is.0.free), is.1);
         least = λ u h less. t.0.least u (record { part = h.0.0; past = goes_past after v u c.past h.1; free = h.0.1 }, h.1) less;
       } in
       let same = with_single v w (c.part.nodes_are ∙ one) in
-      (subst (λ u. IsNext tree_cmp FreePart v (Some u)) (sym same) next, subst (λ u. Follow FreePart u cs) (sym same) (follow_choices w cs is.0 t.1))
+      (subst (λ u. IsNext tree_cmp FreePart v (Some u)) (sym same) next, subst (λ u. Follow FreePart u cs) (sym same) (follow_choices one w cs is.0 t.1))
 
-  -- choices of one node continue the first of them
-  pub continue_choices : (v : Data) (cs : List Data) → AreChoices (IsChoice q i n after taken) (v ∷ cs) → Continue FreePart v (v ∷ cs)
-  continue_choices v cs h = (with_single v v (h.0.is.part.nodes_are ∙ one), follow_choices v cs h.0.is h.1)
+  -- choices of one node continue the first of them; others are not kept
+  pub kept_choices : (v : Data) (cs all kept : List Data) → all ≡ v ∷ cs → (kept ≡ []) ⊎ ((n ≡ 1) × (kept ≡ all)) → AreChoices (IsChoice q i n after taken) all → Continue FreePart v kept
+  kept_choices v cs all kept is (inl none) h = subst (Continue FreePart v) (sym none) tt
+  kept_choices v cs all kept is (inr (one, same)) h =
+      let first = subst (AreChoices (IsChoice q i n after taken)) is h in
+      subst (Continue FreePart v) (sym (same ∙ is)) (with_single v v (first.0.is.part.nodes_are ∙ one), follow_choices one v cs first.0.is first.1)
 
 pub continue_same : (C D : Data → Type 0) (v : Data) (cs : List Data) → ((u : Data) → C u → D u) → ((u : Data) → D u → C u) → Continue C v cs → Continue D v cs
 continue_same C D v [] there back f = tt

@@ -1,5 +1,5 @@
 //! The candidates of leaves.
-ghost use Rattle.std.specs.Prelude.{◌≡◌, ◌↔◌, ◌+◌, ◌*◌, ◌≤◌, ◌<◌, ℕ, IfOk, OnOk, IfSome, IfNone, IsTrue, Option, None, Some, length};
+ghost use Rattle.std.specs.Prelude.{◌≡◌, ◌↔◌, ◌⊎◌, ◌+◌, ◌*◌, ◌≤◌, ◌<◌, ◌∷◌, [], ℕ, List, IfOk, OnOk, IsTrue, true, false, None, length};
 ghost use Rattle.jtree.specs.Data.{Data};
 ghost use Rattle.jtree.specs.Nodes.{node_count};
 ghost use Rattle.jtree.specs.Order.{tree_cmp};
@@ -14,7 +14,6 @@ ghost use Rattle.enumerate.specs.Internal.Candidates.{rows_of, IsFree, IsUnusedP
 ghost use Rattle.enumerate.specs.Internal.Moves.{IsMoved};
 ghost use Rattle.enumerate.specs.Internal.Following.{AreChoices, Continue, ContinueMoved};
 
-use crate::copying::copy_of;
 use crate::moved::Moved;
 use crate::taken::{KeyRows, Taken, is_free};
 use jtree::Tree;
@@ -71,37 +70,30 @@ fn find_choices<'p, Z: SizeSet>(
     Ok(())
 }
 
-/// The first free candidate of a size past a place. `following` becomes those that continue it in its place, the last one first, and
-/// this candidate on top; it becomes empty where they have parts.
-fn first_choice<'p, Z: SizeSet>(
+/// Puts the last of the choices in the place of the tree, in its room, where there is one, and answers whether there is. Choices that
+/// have parts are dropped then.
+fn put_first<'p>(
     alloc: Global,
-    plan: &'p Plan<Z>,
-    node: PlanNode,
     size: u32,
-    after: Option<&Tree>,
-    taken: &Taken<'_>,
-    following: &mut Vec<&'p Tree>,
-    meter: &mut Meter,
-) -> Result<Option<Tree>, AllocError>
-    requires node { IsNodeOf plan.now node }
-    requires leaf { sort_of (site plan.now node) ≡ sort.Leaf }
-    ensures some { IfOk result (λ found. IfSome found (λ v. IsLeast tree_cmp (IsChoice plan.now node size (resume_point after.entry) taken.now) (data_of v))) }
-    ensures none { IfOk result (λ found. IfNone found ((u : Data) → IsChoice plan.now node size (resume_point after.entry) taken.now u → ⊥)) }
-    ensures following { IfOk result (λ found. IfSome found (λ v. Continue (λ u. IsPartOf plan.now node size u × IsFree taken.now u) (data_of v) (stack_of following.new.items))) }
-    ensures steps { Costs plan.now meter.old meter.new 1 }
+    tree: &mut Tree,
+    choices: &mut Vec<&'p Tree>,
+) -> Result<bool, AllocError>
+    ensures some { IfOk result (λ found. found ≡ true → (cs : List Data) × (stack_of choices.old.items ≡ data_of tree.new ∷ cs)) }
+    ensures none { IfOk result (λ found. found ≡ false → stack_of choices.old.items ≡ []) }
+    ensures kept { OnOk result ((stack_of choices.new.items ≡ []) ⊎ ((size ≡ 1) × (stack_of choices.new.items ≡ stack_of choices.old.items))) }
 {
-    find_choices(plan, node, size, after, taken, following, meter)?;
-    let Some(first) = following.last() else {
-        return Ok(None);
+    let Some(first) = choices.last() else {
+        return Ok(false);
     };
-    let copy = copy_of(alloc, *first)?;
+    tree.set(alloc, *first)?;
     if size != 1 {
-        following.clear();
+        choices.clear();
     }
-    Ok(Some(copy))
+    Ok(true)
 }
 
-/// The first free candidate of a size.
+/// The first free candidate of a size. `following` becomes those that continue it in its place, the last one first, and this
+/// candidate on top; it becomes empty where they have parts.
 fn first_free<'p, Z: SizeSet>(
     alloc: Global,
     plan: &'p Plan<Z>,
@@ -118,33 +110,39 @@ fn first_free<'p, Z: SizeSet>(
     ensures following { IfOk result (λ v. Continue (λ u. IsPartOf plan.now node size u × IsFree taken.now u) (data_of v) (stack_of following.new.items)) }
     ensures steps { Costs plan.now meter.old meter.new 1 }
 {
-    match first_choice(alloc, plan, node, size, None, taken, following, meter)? {
-        Some(tree) => Ok(tree),
-        None => unreachable!(),
+    find_choices(plan, node, size, None, taken, following, meter)?;
+    let mut tree = Tree::Null;
+    if put_first(alloc, size, &mut tree, following)? {
+        Ok(tree)
+    } else {
+        unreachable!()
     }
 }
 
-/// The next free candidate of the same size.
+/// The next free candidate of the same size, in the room of the tree. `following` becomes what it becomes at the first one.
 fn next_free<'p, Z: SizeSet>(
     alloc: Global,
     plan: &'p Plan<Z>,
     node: PlanNode,
-    tree: &Tree,
+    tree: Tree,
     taken: &Taken<'_>,
     following: &mut Vec<&'p Tree>,
     meter: &mut Meter,
 ) -> Result<Moved, AllocError>
     requires node { IsNodeOf plan.now node }
     requires leaf { sort_of (site plan.now node) ≡ sort.Leaf }
-    requires limit { node_count (data_of tree.now) < 4294967296 }
-    ensures ok { IfOk result (λ moved. IsMoved (λ v. IsPartOf plan.now node (node_count (data_of tree.now)) v × IsFree taken.now v) (data_of tree.now) moved) }
-    ensures following { IfOk result (λ moved. ContinueMoved (λ v. IsPartOf plan.now node (node_count (data_of tree.now)) v × IsFree taken.now v) moved (stack_of following.new.items)) }
+    requires limit { node_count (data_of tree) < 4294967296 }
+    ensures ok { IfOk result (λ moved. IsMoved (λ v. IsPartOf plan.now node (node_count (data_of tree)) v × IsFree taken.now v) (data_of tree) moved) }
+    ensures following { IfOk result (λ moved. ContinueMoved (λ v. IsPartOf plan.now node (node_count (data_of tree)) v × IsFree taken.now v) moved (stack_of following.new.items)) }
     ensures steps { Costs plan.now meter.old meter.new 1 }
 {
     let size = tree.nodes() as u32;
-    match first_choice(alloc, plan, node, size, Some(tree), taken, following, meter)? {
-        Some(next) => Ok(Moved::To(next)),
-        None => Ok(Moved::Last(size)),
+    find_choices(plan, node, size, Some(&tree), taken, following, meter)?;
+    let mut tree = tree;
+    if put_first(alloc, size, &mut tree, following)? {
+        Ok(Moved::To(tree))
+    } else {
+        Ok(Moved::Last(size))
     }
 }
 
@@ -181,16 +179,16 @@ pub(crate) fn next_unused<'p, Z: SizeSet>(
     alloc: Global,
     plan: &'p Plan<Z>,
     node: PlanNode,
-    tree: &Tree,
+    tree: Tree,
     items: &[Tree],
     following: &mut Vec<&'p Tree>,
     meter: &mut Meter,
 ) -> Result<Moved, AllocError>
     requires node { IsNodeOf plan.now node }
     requires leaf { sort_of (site plan.now node) ≡ sort.Leaf }
-    requires limit { node_count (data_of tree.now) < 4294967296 }
-    ensures ok { IfOk result (λ moved. IsMoved (IsUnusedPart plan.now node (node_count (data_of tree.now)) (trees_of items.now)) (data_of tree.now) moved) }
-    ensures following { IfOk result (λ moved. ContinueMoved (IsUnusedPart plan.now node (node_count (data_of tree.now)) (trees_of items.now)) moved (stack_of following.new.items)) }
+    requires limit { node_count (data_of tree) < 4294967296 }
+    ensures ok { IfOk result (λ moved. IsMoved (IsUnusedPart plan.now node (node_count (data_of tree)) (trees_of items.now)) (data_of tree) moved) }
+    ensures following { IfOk result (λ moved. ContinueMoved (IsUnusedPart plan.now node (node_count (data_of tree)) (trees_of items.now)) moved (stack_of following.new.items)) }
     ensures steps { Costs plan.now meter.old meter.new 1 }
 {
     next_free(
@@ -234,16 +232,16 @@ pub(crate) fn next_key<'p, Z: SizeSet>(
     alloc: Global,
     plan: &'p Plan<Z>,
     slot: &Slot<'_>,
-    tree: &Tree,
+    tree: Tree,
     used: &[&Tree],
     following: &mut Vec<&'p Tree>,
     meter: &mut Meter,
 ) -> Result<Moved, AllocError>
     requires node { IsNodeOf plan.now slot.now.node }
     requires leaf { sort_of (site plan.now slot.now.node) ≡ sort.Leaf }
-    requires limit { node_count (data_of tree.now) < 4294967296 }
-    ensures ok { IfOk result (λ moved. IsMoved (IsFreeKey plan.now slot.now.node (node_count (data_of tree.now)) slot.now.name.now (rows_of used.now) slot.now.later) (data_of tree.now) moved) }
-    ensures following { IfOk result (λ moved. ContinueMoved (IsFreeKey plan.now slot.now.node (node_count (data_of tree.now)) slot.now.name.now (rows_of used.now) slot.now.later) moved (stack_of following.new.items)) }
+    requires limit { node_count (data_of tree) < 4294967296 }
+    ensures ok { IfOk result (λ moved. IsMoved (IsFreeKey plan.now slot.now.node (node_count (data_of tree)) slot.now.name.now (rows_of used.now) slot.now.later) (data_of tree) moved) }
+    ensures following { IfOk result (λ moved. ContinueMoved (IsFreeKey plan.now slot.now.node (node_count (data_of tree)) slot.now.name.now (rows_of used.now) slot.now.later) moved (stack_of following.new.items)) }
     ensures steps { Costs plan.now meter.old meter.new 1 }
 {
     let taken = Taken::Key(KeyRows {

@@ -49,7 +49,7 @@ pub(crate) fn advance<'p, Z: SizeSet>(
     plan.no_dead_end();
     plan.limit();
     match plan.sort(node) {
-        Sort::Leaf => next_unused(alloc, plan, node, &tree, &[], following, meter),
+        Sort::Leaf => next_unused(alloc, plan, node, tree, &[], following, meter),
         _ if is_null(&tree) => {
             following.clear();
             Ok(past_null(alloc, plan, node))
@@ -504,7 +504,7 @@ fn advance_value<'p, Z: SizeSet>(
     plan.sound_parts();
     plan.limit();
     if slot.key {
-        return next_key(alloc, plan, slot, &tree, used, following, meter);
+        return next_key(alloc, plan, slot, tree, used, following, meter);
     }
     advance(alloc, plan, slot.node, tree, following, meter)
 }
@@ -634,7 +634,7 @@ fn advance_item<'p, Z: SizeSet>(
     plan.limit();
     match plan.distinct(node) {
         Distinct::Free => advance(alloc, plan, child, item, following, meter),
-        Distinct::Whole => next_unused(alloc, plan, child, &item, items, following, meter),
+        Distinct::Whole => next_unused(alloc, plan, child, item, items, following, meter),
         Distinct::Keys => {
             let used = references(alloc, items)?;
             advance_row(alloc, plan, child, item, used.as_slice(), following, meter)
