@@ -26,3 +26,4 @@ pub mod LiveLemmas
 pub mod FollowingLemmas
 pub mod StandingLemmas
 pub mod RowWalks
+pub mod FrontLemmas

@@ -1,7 +1,6 @@
 -- Lists from their last item on: what was there behind those that are left, and what takes its place.
-use Rattle.std.proofs.Common.{◌≡◌, ◌==◌, ◌≤◌, ◌+◌, ◌-◌, ◌*◌, ◌++◌, ℕ, List, [], ◌∷◌, true, false, Some, None, refl, sym, ap, ◌∙◌, subst, arith, length}
+use Rattle.std.proofs.Common.{◌≡◌, ◌==◌, ◌≤◌, ◌+◌, ◌-◌, ◌++◌, ℕ, List, [], ◌∷◌, true, false, Some, None, refl, sym, ap, ◌∙◌, subst, arith, length}
 use Rattle.std.proofs.lemmas.Bool.{eqb-true, eq-eqb}
-use Rattle.std.proofs.Math.Nat.{mul-add, mul-le-mul_left}
 use Rattle.std.specs.declared.cmp.Ordering.TheVariants.{Less}
 use Rattle.jtree.specs.Data.{Data, Items, no_items, item}
 use Rattle.jtree.specs.Data as tree
@@ -216,15 +215,6 @@ module _ (q : Question) (i : ℕ) (rule : RuleOfParts q.pools q.limit (site q i)
   list_stays h v p less = let r = past_list v p less in h r.0 r.1.0 r.1.1.1
 
 -- ---- costs
-
-pub double : (k a : ℕ) → k * (2 * a) ≡ k * a + k * a
-double k a = ap (λ x. k * x) (omega arith) ∙ mul-add k a a
-
--- twice the cost of two parts of a list
-pub cost_room : (k a b all : ℕ) → a + b ≤ all → k * a + k * a + (k * b + k * b) ≤ k * (2 * all)
-cost_room k a b all h =
-    let more : k * (2 * (a + b)) ≤ k * (2 * all) = mul-le-mul_left k (omega (arith, h)) in
-    omega (arith, more, double k (a + b), mul-add k a b)
 
 -- what costs no more than a move to no next one
 pub no_more : (ts : List Tree) → length ts ≡ 0 → ts ≡ []

@@ -21,5 +21,5 @@ module _ (old : Enumeration) (q : Question) (standing : Option Standing) (is : e
     more_is = there;
   }
 
-  pub within_delay : (before after : ℕ) → Costs q before after (2 * q.limit) → IsWithinDelay old.question before after
+  pub within_delay : (before after : ℕ) → Costs q before after (3 * q.limit) → IsWithinDelay old.question before after
   within_delay before after costs = subst (λ (e : Enumeration). IsWithinDelay e.question before after) is (step_within q before after costs)

@@ -1,7 +1,6 @@
 -- What the steps of a move make of a row, at a place of it.
 use Rattle.std.specs.Prelude.{◌≡◌, ℕ, ◌+◌, ◌-◌, ◌≤◌, List, true, false, Option, Some, None, drop, filter}
 use Rattle.std.proofs.Common.{refl, ap, sym, ◌∙◌, subst, arith, [], ◌∷◌, ◌++◌, length}
-use Rattle.std.specs.declared.cmp.Ordering.TheVariants.{Less}
 use Rattle.jtree.specs.Data.{Data}
 use Rattle.jtree.specs.Data as tree
 use Rattle.jtree.specs.Nodes.{node_count, members_count, most_nodes}
@@ -11,22 +10,20 @@ use Rattle.jtree.specs.declared.value.Member.{Member}
 use Rattle.plan.specs.Pools.Pools.{Pools}
 use Rattle.plan.specs.Samples.Sites.{Slot, slots}
 use Rattle.plan.specs.Samples.NoDeadEnd.{is_key, HasFree}
-use Rattle.plan.specs.Samples.Sizes.{AreFillings, filled_nodes, Before, nothing, filled, Ending}
+use Rattle.plan.specs.Samples.Sizes.{filled_nodes, Before, nothing, filled, Ending}
 use Rattle.plan.specs.Samples.RuleOfParts.{members_in}
 use Rattle.plan.specs.Samples.Keys.{AreKeySlots, AreInOrder, HasSoundParts, HasTuples}
 use Rattle.plan.specs.Samples.Question.{Question}
 use Rattle.enumerate.specs.Least.{IsNext}
 use Rattle.enumerate.specs.Internal.Nodes.{site, IsPartOf}
-use Rattle.enumerate.specs.Internal.Candidates.{IsFreeKey, agreeing_if}
-use Rattle.enumerate.proofs.MemberCuts.{IsCut}
-use Rattle.plan.specs.declared.plan.Slot as handed
-use Rattle.enumerate.specs.Internal.Rows.{fill_cmp, slots_from, slot_in, ending_at, used_keys, IsRest, AreUsed, IsOpen, AddsFirst, still_used, IsValue, IsGrown, IsSlotOf, IsRow}
-use Rattle.enumerate.specs.Internal.Moves.{IsFilled, Begins, StandIn, AreNext, AreMoved, IsMoved}
+use Rattle.enumerate.specs.Internal.Candidates.{IsFreeKey}
+use Rattle.enumerate.specs.Internal.Rows.{fill_cmp, slots_from, slot_in, ending_at, used_keys, IsRest, AreUsed, IsOpen, AddsFirst, still_used, IsValue, IsGrown, IsRow}
+use Rattle.enumerate.specs.Internal.Moves.{IsFilled, StandIn, AreNext, AreMoved, IsMoved}
 use Rattle.enumerate.specs.declared.moved.Moved as answer
 use Rattle.enumerate.specs.declared.moved.Step.{Step}
-use Rattle.enumerate.specs.declared.moved.Step.TheVariants.{Moved, Last}
-use Rattle.enumerate.proofs.RowLemmas.{can_fill, has_free, goes_in, keys_behind, used_behind, used_out, no_key, still_used_other}
-use Rattle.enumerate.proofs.RowMoves.{stands_out, moved_out, grown_out, stands_in, moved_in, value_in, grown_in}
+use Rattle.enumerate.specs.declared.moved.Step.TheVariants.{Moved}
+use Rattle.enumerate.proofs.RowLemmas.{can_fill, has_free, goes_in, keys_behind, used_behind, still_used_other}
+use Rattle.enumerate.proofs.RowMoves.{grown_out, stands_in, value_in, grown_in}
 use Rattle.enumerate.proofs.MoveLemmas.{moved_same}
 use Rattle.enumerate.proofs.RowOrder.{filled_count_nodes}
 use Rattle.enumerate.proofs.RowSteps.{FreeLaw, keys_at, part_is_value, key_is_value}
@@ -41,20 +38,6 @@ pub row_stands : (q : Question) (i n : ℕ) (used : List Data) (v : Data) (membe
 row_stands q i n used v members r e =
     let is : tree.object (members_of members) ≡ tree.object (members_in (slots_from q i 0) r.fillings) = sym e ∙ r.is in
     record { are = cc (is); rest = subst (λ m. IsRest q.pools (slots_from q i 0) (ending_at q i) nothing m used r.fillings) (sym r.rest.nodes_are) r.rest }
-
--- what a move says, where what stands before it is said in other words
-pub moved_at : (step : Step) (P : Pools) (ss : List Slot) (end : Ending) (rows : List Data) (old new : List Member) {x y : Before} → x ≡ y
-    → ((gs : List (Option Data)) → StandIn P ss end x rows (drop x.count old) gs → AreMoved step P ss end x rows gs (drop x.count new)) → (gs : List (Option Data)) → StandIn P ss end y rows (drop y.count old) gs → AreMoved step P ss end y rows gs (drop y.count new)
-moved_at step P ss end rows old new e h = subst (λ (z : Before). (gs : List (Option Data)) → StandIn P ss end z rows (drop z.count old) gs → AreMoved step P ss end z rows gs (drop z.count new)) e h
-
--- where no slot is left, there is no next one
-pub none_left : (P : Pools) (end : Ending) (x : Before) (m : ℕ) (used : List Data) (gs : List (Option Data)) → AreFillings P [] gs → IsNext fill_cmp (IsRest P [] end x m used) gs None × (filled_nodes gs ≡ 0)
-none_left P end x m used [] are = ((λ u h less. nothing_past u h.are less), refl)
-  where
-    nothing_past : (u : List (Option Data)) → AreFillings P [] u → fill_cmp [] u ≡ Less → ⊥
-    nothing_past [] are less = cc
-    nothing_past (g ∷ gs) are less = are
-none_left P end x m used (g ∷ gs) are = absurd are
 
 module _ (q : Question) (i place : ℕ) (sound : HasSoundParts q.pools (site q i)) (first : slots_from q i place ≡ slot_in q i place ∷ slots_from q i (place + 1)) where
   abbrev behind : List Slot
@@ -84,9 +67,6 @@ module _ (q : Question) (i place : ℕ) (sound : HasSoundParts q.pools (site q i
   moved_back : (step : Step) (x : Before) (used : List Data) (gs hs : List (Option Data)) (new : List Member) → gs ≡ hs → AreMoved step q.pools (here ∷ behind) end x used hs new → AreMoved step q.pools (slots_from q i place) end x used gs new
   moved_back step x used gs hs new e h = subst (λ ss. AreMoved step q.pools ss end x used gs new) (sym first) (subst (λ us. AreMoved step q.pools (here ∷ behind) end x used us new) (sym e) h)
 
-  pub known_out : (used : List Data) → here.must ≡ false → AreUsed q.pools (slots_from q i place) used → AreUsed q.pools behind used
-  known_out used free h = used_out q.pools here behind used (no_key q.pools here behind keys free) (known_here used h)
-
   -- the slots can be filled, as they are
   pub open_here : (x : Before) (used : List Data) (members : List Member) (gs : List (Option Data)) → AreUsed q.pools (slots_from q i place) used → StandIn q.pools (slots_from q i place) end x used members gs → IsOpen q.pools (slots_from q i place) end x (filled_nodes gs) used
   open_here x used members gs known h = record {
@@ -96,13 +76,6 @@ module _ (q : Question) (i place : ℕ) (sound : HasSoundParts q.pools (site q i
   }
 
   -- ---- the slot is left out
-
-  pub out_stands : (x : Before) (used : List Data) (members : List Member) (gs : List (Option Data)) → StandIn q.pools (slots_from q i place) end x used members gs → (Begins here.name (members_of members) → ⊥)
-      → (hs : List (Option Data)) × ((gs ≡ None ∷ hs) × ((here.must ≡ false) × StandIn q.pools behind end x used members hs))
-  out_stands x used members gs h other = stands_out q.pools end here behind x used keys members gs (here_stand x used members gs h) other
-
-  pub out_next : (x : Before) (used : List Data) (gs hs : List (Option Data)) (new : List Member) → gs ≡ None ∷ hs → filled_nodes hs ≤ most_nodes → here.must ≡ false → AreNext q.pools behind end x used hs new → AreNext q.pools (slots_from q i place) end x used gs new
-  out_next x used gs hs new e small free h = moved_back Moved x used gs (None ∷ hs) new e (moved_out q.pools end here behind x used keys hs new small free h)
 
   pub out_grown : (step : Step) (x : Before) (used : List Data) (gs hs : List (Option Data)) (room : ℕ) (base new : List Member) → gs ≡ None ∷ hs → filled_nodes hs ≤ most_nodes → here.must ≡ false → length base ≡ x.count → filled_nodes hs ≡ room
       → IsNext fill_cmp (IsRest q.pools behind end x (filled_nodes hs) used) hs None → IsGrown step q.pools here behind end x room 0 used base new → AreMoved step q.pools (slots_from q i place) end x used gs (drop x.count new)
@@ -139,27 +112,12 @@ module _ (q : Question) (i place : ℕ) (sound : HasSoundParts q.pools (site q i
       subst (IsFilled q i place x used one others) (sym e)
       (filled_so x used one others r.1.0 (subst (λ x. filled_nodes x ≤ most_nodes) e small) (subst (StandIn q.pools (here ∷ behind) end x used (one ∷ others)) e s))
 
-  -- the member at a place of the members
-  pub filled_at : (x : Before) (used : List Data) (items : List Member) (one : Member) (gs : List (Option Data)) → filled_nodes gs ≤ most_nodes → drop x.count items ≡ one ∷ drop (x.count + 1) items → StandIn q.pools (slots_from q i place) end x used (drop x.count items) gs
-      → Begins here.name (members_of (drop x.count items)) → IsFilled q i place x used one (drop (x.count + 1) items) gs
-  filled_at x used items one gs small is h begin =
-      filled_here x used one (drop (x.count + 1) items) gs small (subst (λ ms. StandIn q.pools (slots_from q i place) end x used ms gs) is h) (subst (λ ms. Begins here.name (members_of ms)) is begin)
-
-  -- what a move of the slots behind says of what stands there
-  pub moved_behind : (step : Step) (x : Before) (used rows : List Data) (one : Member) (others new : List Member) (gs : List (Option Data)) (f : IsFilled q i place x used one others gs) → rows ≡ still_used here (data_of one.tree) used
-      → ((hs : List (Option Data)) → StandIn q.pools behind end (filled here.bit x) rows others hs → AreMoved step q.pools behind end (filled here.bit x) rows hs new) → AreMoved step q.pools behind end (filled here.bit x) (still_used here (data_of one.tree) used) f.rest new
-  moved_behind step x used rows one others new gs f same h =
-      subst (λ us. AreMoved step q.pools behind end (filled here.bit x) us f.rest new) same (h f.rest (subst (λ us. StandIn q.pools behind end (filled here.bit x) us others f.rest) (sym same) f.stand))
-
   module _ (x : Before) (used : List Data) (old : Member) (others : List Member) (gs : List (Option Data)) (small : filled_nodes gs ≤ most_nodes) (f : IsFilled q i place x used old others gs) where
     abbrev value : Data
     value = data_of old.tree
 
     few : filled_nodes (Some value ∷ f.rest) ≤ most_nodes
     few = subst (λ x. filled_nodes x ≤ most_nodes) f.is small
-
-    pub in_next : (new : List Member) → AreNext q.pools behind end (filled here.bit x) (still_used here value used) f.rest new → AreNext q.pools (slots_from q i place) end x used gs (old ∷ new)
-    in_next new h = moved_back Moved x used gs (Some value ∷ f.rest) (old ∷ new) f.is (moved_in q.pools end here behind x used keys value f.rest f.whole few old new f.name refl h)
 
     pub in_value : (room : ℕ) (one : Member) (base new : List Member) → length base ≡ x.count → one.name ≡ here.name → filled_nodes f.rest ≡ room → IsNext fill_cmp (IsRest q.pools behind end (filled here.bit x) (filled_nodes f.rest) (still_used here value used)) f.rest None
         → IsNext tree_cmp (IsValue q.pools here behind used (node_count value)) value (Some (data_of one.tree)) → AddsFirst q.pools behind end (filled here.bit x) room (still_used here (data_of one.tree) used) (base ++ one ∷ []) new
@@ -192,60 +150,3 @@ module _ (q : Question) (i place : ℕ) (sound : HasSoundParts q.pools (site q i
       let free = subst (λ us. HasFree q.pools (filter is_key behind) (used_keys behind us) []) (still_used_other here behind other old used) value.free in
       let e = λ (u : Data). part_is_value q c here behind used n u is other free in
       moved_same (IsPartOf q c n) (IsValue q.pools here behind used n) old m (λ u. (e u).0) (λ u. (e u).1) h
-
--- a member was taken off, and those behind it had no next ones with it
-pub record IsEnded (q : Question) (i place : ℕ) (x : Before) (room : ℕ) (used : List Data) (old : List Member) (one : Member) (gs : List (Option Data)) : Type 0 where
-  pub small : filled_nodes gs ≤ most_nodes
-  pub stood : IsFilled q i place x used one (drop (x.count + 1) old) gs
-  pub last : IsNext fill_cmp (IsRest q.pools (slots_from q i (place + 1)) (ending_at q i) (filled (slot_in q i place).bit x) (filled_nodes stood.rest) (still_used (slot_in q i place) (data_of one.tree) used)) stood.rest None
-  pub room_is : filled_nodes stood.rest ≡ room
-  pub behind_are : members_count (members_of (drop (x.count + 1) old)) ≡ room
-  pub nodes_are : members_count (members_of (drop x.count old)) ≡ node_count (data_of one.tree) + room
-
--- the slot is left out, and those behind it have no next ones
-pub record IsOutEnded (q : Question) (i place : ℕ) (x : Before) (room : ℕ) (used : List Data) (members : List Member) (gs : List (Option Data)) : Type 0 where
-  pub rest : List (Option Data)
-  pub is : gs ≡ None ∷ rest
-  pub free : (slot_in q i place).must ≡ false
-  pub small : filled_nodes rest ≤ most_nodes
-  pub last : IsNext fill_cmp (IsRest q.pools (slots_from q i (place + 1)) (ending_at q i) x (filled_nodes rest) used) rest None
-  pub room_is : filled_nodes rest ≡ room
-  pub nodes_are : members_count (members_of members) ≡ room
-
-module _ (q : Question) (i place : ℕ) (s : handed.Slot) (slot : IsSlotOf q i place s) (sound : HasSoundParts q.pools (site q i)) where
-  abbrev left : List Slot
-  left = slots_from q i (place + 1)
-
-  pub same_used : (rows used : List Data) (v : Data) → rows ≡ agreeing_if s.key s.name.now v used → rows ≡ still_used (slot_in q i place) v used
-  same_used rows used v is = is ∙ (λ k. agreeing_if (slot.key k) (slot.name k) v used)
-
-  pub filled_in : (x : Before) (used : List Data) (old : List Member) (one : Member) (gs : List (Option Data)) → members_count (members_of (drop x.count old)) ≤ most_nodes → drop x.count old ≡ one ∷ drop (x.count + 1) old → Begins s.name.now (members_of (drop x.count old))
-      → StandIn q.pools (slots_from q i place) (ending_at q i) x used (drop x.count old) gs → (filled_nodes gs ≤ most_nodes) × IsFilled q i place x used one (drop (x.count + 1) old) gs
-  filled_in x used old one gs few is begin h =
-      let small : filled_nodes gs ≤ most_nodes = omega (arith, stand_nodes q.pools (slots_from q i place) (ending_at q i) x used (drop x.count old) gs h, few) in
-      (small, filled_at q i place sound slot.first x used old one gs small is h (subst (λ k. Begins k (members_of (drop x.count old))) slot.name begin))
-
-  pub ended : (step : Step) (x : Before) (room : ℕ) (used rows : List Data) (old front new : List Member) (was one : Member) (gs : List (Option Data)) → IsCut x.count old front was one → Begins s.name.now (members_of (drop x.count old)) → members_count (members_of (drop x.count old)) ≤ most_nodes
-      → step ≡ Last room → rows ≡ agreeing_if s.key s.name.now (data_of was.tree) used → ((hs : List (Option Data)) → StandIn q.pools left (ending_at q i) (filled (slot_in q i place).bit x) rows (drop (x.count + 1) old) hs → AreMoved step q.pools left (ending_at q i) (filled (slot_in q i place).bit x) rows hs new)
-      → StandIn q.pools (slots_from q i place) (ending_at q i) x used (drop x.count old) gs → IsEnded q i place x room used old one gs
-  ended step x room used rows old front new was one gs cut begin few is same moved h =
-      let f = filled_in x used old one gs few cut.there begin h in
-      let us = still_used (slot_in q i place) (data_of one.tree) used in
-      let none = subst (λ st. AreMoved st q.pools left (ending_at q i) (filled (slot_in q i place).bit x) us f.1.rest new) is
-      (moved_behind q i place sound slot.first step x used rows one (drop (x.count + 1) old) new gs f.1 (same_used rows used (data_of was.tree) same ∙ ap (λ m. still_used (slot_in q i place) (data_of m.tree) used) (sym cut.is)) moved) in
-      let behind_is = stand_nodes q.pools left (ending_at q i) (filled (slot_in q i place).bit x) us (drop (x.count + 1) old) f.1.rest f.1.stand ∙ none.1 in
-      record { small = f.0; stood = f.1; last = none.0; room_is = none.1; behind_are = behind_is; nodes_are = cut.nodes_are ∙ ap (λ n. node_count (data_of one.tree) + n) behind_is }
-
-  pub left_out : (x : Before) (used : List Data) (members slice : List Member) (gs : List (Option Data)) → slice ≡ members → (Begins s.name.now (members_of (drop x.count slice)) → ⊥) → StandIn q.pools (slots_from q i place) (ending_at q i) x used (drop x.count members) gs
-      → (hs : List (Option Data)) × ((gs ≡ None ∷ hs) × (((slot_in q i place).must ≡ false) × StandIn q.pools left (ending_at q i) x used (drop x.count members) hs))
-  left_out x used members slice gs value other h = out_stands q i place sound slot.first x used (drop x.count members) gs h
-      (λ begin. other (subst (λ ms. Begins s.name.now (members_of (drop x.count ms))) (sym value) (subst (λ k. Begins k (members_of (drop x.count members))) (sym slot.name) begin)))
-
-  pub out_ended : (step : Step) (x : Before) (room : ℕ) (used : List Data) (members slice new : List Member) (gs : List (Option Data)) → slice ≡ members → (Begins s.name.now (members_of (drop x.count slice)) → ⊥) → members_count (members_of (drop x.count members)) ≤ most_nodes → step ≡ Last room
-      → ((hs : List (Option Data)) → StandIn q.pools left (ending_at q i) x used (drop x.count members) hs → AreMoved step q.pools left (ending_at q i) x used hs new)
-      → StandIn q.pools (slots_from q i place) (ending_at q i) x used (drop x.count members) gs → IsOutEnded q i place x room used (drop x.count members) gs
-  out_ended step x room used members slice new gs value other few is moved h =
-      let out = left_out x used members slice gs value other h in
-      let none = subst (λ st. AreMoved st q.pools left (ending_at q i) x used out.0 new) is (moved out.0 out.1.1.1) in
-      let nodes = stand_nodes q.pools left (ending_at q i) x used (drop x.count members) out.0 out.1.1.1 in
-      record { rest = out.0; is = out.1.0; free = out.1.1.0; small = omega (arith, nodes, few); last = none.0; room_is = none.1; nodes_are = nodes ∙ none.1 }

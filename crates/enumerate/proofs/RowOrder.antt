@@ -5,7 +5,7 @@ use Rattle.std.specs.Cmp.{nat_cmp_is}
 use Rattle.std.specs.Ordering.{nat_cmp}
 use Rattle.std.proofs.lemmas.Cmp.{nat_list_cmp_total, tied_itself}
 use Rattle.std.specs.declared.cmp.Ordering.TheVariants.{Less, Equal, Greater}
-use Rattle.jtree.specs.Data.{Data, Members, no_members, member, IsNameBefore, AreMembers, IsTree}
+use Rattle.jtree.specs.Data.{Data, Members, no_members, member, IsNameBefore, AreMembers}
 use Rattle.jtree.specs.Data as tree
 use Rattle.jtree.specs.Nodes.{node_count, members_count, nodes}
 use Rattle.jtree.specs.Order.{text_cmp, members_cmp, tree_cmp}
@@ -19,7 +19,7 @@ use Rattle.plan.specs.Samples.Question.{Question}
 use Rattle.enumerate.specs.Least.{IsLeast, IsNext}
 use Rattle.enumerate.specs.Internal.Rows.{fill_cmp, slots_from, ending_at, IsRest, IsRow}
 
-later : (s : Slot) (ss : List Slot) (t : Slot) → Contains ss t → Contains (s ∷ ss) t
+pub later : (s : Slot) (ss : List Slot) (t : Slot) → Contains ss t → Contains (s ∷ ss) t
 later s ss t c = contains (s ∷ ss) t (inr (contained ss t c))
 
 pub before_in : (k : List ℕ) (ss : List Slot) (gs : List (Option Data)) → ((t : Slot) → Contains ss t → text_cmp k t.name ≡ Less) → IsNameBefore k (members_in ss gs)

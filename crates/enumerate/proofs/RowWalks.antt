@@ -1,29 +1,25 @@
 -- Walking a row from the last slot to the first.
-use Rattle.std.specs.Prelude.{◌≡◌, ℕ, zero, suc, ◌+◌, ◌-◌, ◌≤◌, ◌==◌, slice_get, List, Bool, true, false, Option, Some, None, take, drop, length, All}
+use Rattle.std.specs.Prelude.{◌≡◌, ℕ, zero, suc, ◌+◌, ◌-◌, ◌≤◌, slice_get, List, true, false, Option, Some, None, take, drop, length}
 use Rattle.std.proofs.Common.{ltb, refl, ap, sym, ◌∙◌, subst, inl, inr, arith, [], ◌∷◌, ◌++◌}
 use Rattle.jtree.specs.Data.{Data, no_members, member}
 use Rattle.std.proofs.Math.ListN.{drop_of_length-le}
-use Rattle.std.proofs.lemmas.List.{take-append-drop}
+use Rattle.std.proofs.lemmas.List.{take-append-drop, take_all}
+use Rattle.enumerate.specs.Page.{IsPast}
+use Rattle.plan.specs.Samples.Part.{IsPart}
 use Rattle.std.proofs.lemmas.Bool.{ltb-false}
 use Rattle.jtree.specs.Nodes.{node_count, members_count, most_nodes}
 use Rattle.jtree.specs.View.{data_of, members_of}
 use Rattle.jtree.specs.declared.value.Member.{Member}
-use Rattle.jtree.specs.declared.value.Tree.{Tree}
-use Rattle.std.specs.Borrow.{Bor}
-use Rattle.std.proofs.lemmas.List.{nil_from_length}
-use Rattle.enumerate.proofs.ListWalks.{empty_len}
 use Rattle.jtree.specs.Internal.Lookups.{not_itself}
 use Rattle.jtree.specs.Internal.Rising.{Among, contains}
 use Rattle.plan.specs.Pools.Pools.{Pools}
 use Rattle.plan.specs.Samples.Sites.{Slot}
-use Rattle.plan.specs.Samples.Sizes.{AreFillings, filled_nodes, Before, nothing, filled, Ending}
-use Rattle.plan.specs.Samples.Presence.{with_bit}
+use Rattle.plan.specs.Samples.Sizes.{AreFillings, filled_nodes, Before, nothing, filled, Ending, CanFill}
 use Rattle.plan.specs.Samples.Question.{Question}
 use Rattle.plan.specs.Samples.RuleOfParts.{members_in}
 use Rattle.plan.specs.Samples.Keys.{AreKeySlots, AreInOrder, HasSoundParts}
 use Rattle.enumerate.specs.Least.{IsNext}
-use Rattle.enumerate.specs.Internal.Rows.{fill_cmp, IsRest, IsGrown, AreUsed, IsOpen, still_used, slots_from, slot_in, ending_at}
-use Rattle.enumerate.specs.Internal.Candidates.{agreeing_if, rows_of}
+use Rattle.enumerate.specs.Internal.Rows.{fill_cmp, IsRest, IsGrown, IsValue, FitsSlot, AreUsed, IsOpen, still_used, slots_from, slot_in, ending_at}
 use Rattle.enumerate.specs.Internal.Nodes.{site}
 use Rattle.enumerate.specs.Internal.Walks.{IsWalkedTo, AreWalked, AreLeft}
 use Rattle.enumerate.specs.Internal.Moves.{AreNext, AreMoved, AreLastBehind, StandIn}
@@ -32,11 +28,12 @@ use Rattle.enumerate.specs.declared.moved.Step.TheVariants as step
 use Rattle.enumerate.specs.Internal.Following.{MembersContinue, GrownContinue}
 use Rattle.enumerate.specs.Internal.Prefixes.{members_to, before_at, used_at, EndsIn}
 use Rattle.enumerate.proofs.FollowingLemmas.{may_out, may_in}
-use Rattle.enumerate.proofs.RowLemmas.{keys_behind, rest_out, goes_in}
+use Rattle.enumerate.proofs.RowLemmas.{can_fill, key_here, keys_behind, rest_out, goes_in, no_key, used_behind, used_out}
 use Rattle.enumerate.proofs.RowMoves.{moved_out, moved_in}
 use Rattle.enumerate.proofs.ListLemmas.{some_nodes}
 use Rattle.enumerate.proofs.RowSteps.{keys_at, nothing_after}
-use Rattle.enumerate.proofs.MoveSteps.{open_here, stand_nodes, filled_here}
+use Rattle.enumerate.proofs.MemberCuts.{grown_kept}
+use Rattle.enumerate.proofs.MoveSteps.{open_here, stand_nodes, filled_here, out_grown, in_grown}
 
 -- ---- at a place of slots that are filled
 
@@ -175,6 +172,35 @@ before_in (suc place) (s ∷ ss) behind here [] v x first e = absurd (cc)
 before_in (suc place) (s ∷ ss) behind here (None ∷ gs) v x first e = before_in place ss behind here gs v x first e
 before_in (suc place) (s ∷ ss) behind here (Some u ∷ gs) v x first e = before_in place ss behind here gs v (filled s.bit x) first e
 
+pub rows_out : (place : ℕ) (ss : List Slot) (gs : List (Option Data)) (used : List Data) → drop place gs ≡ None ∷ drop (suc place) gs → used_at (suc place) ss gs used ≡ used_at place ss gs used
+rows_out zero [] gs used e = refl
+rows_out zero (s ∷ ss) [] used e = refl
+rows_out zero (s ∷ ss) (None ∷ gs) used e = refl
+rows_out zero (s ∷ ss) (Some v ∷ gs) used e = absurd (cc)
+rows_out (suc place) [] gs used e = refl
+rows_out (suc place) (s ∷ ss) [] used e = refl
+rows_out (suc place) (s ∷ ss) (None ∷ gs) used e = rows_out place ss gs used e
+rows_out (suc place) (s ∷ ss) (Some v ∷ gs) used e = rows_out place ss gs (still_used s v used) e
+
+pub rows_in : (place : ℕ) (ss behind : List Slot) (here : Slot) (gs : List (Option Data)) (v : Data) (used : List Data) → drop place ss ≡ here ∷ behind → drop place gs ≡ Some v ∷ drop (suc place) gs → used_at (suc place) ss gs used ≡ still_used here v (used_at place ss gs used)
+rows_in zero [] behind here gs v used first e = absurd (cc)
+rows_in zero (s ∷ ss) behind here [] v used first e = absurd (cc)
+rows_in zero (s ∷ ss) behind here (None ∷ gs) v used first e = absurd (cc)
+rows_in zero (s ∷ ss) behind here (Some u ∷ gs) v used first e = let same : s ≡ here = cc in let value : u ≡ v = cc in ap (λ t. still_used t u used) same ∙ ap (λ z. still_used here z used) value
+rows_in (suc place) [] behind here gs v used first e = absurd (cc)
+rows_in (suc place) (s ∷ ss) behind here [] v used first e = absurd (cc)
+rows_in (suc place) (s ∷ ss) behind here (None ∷ gs) v used first e = rows_in place ss behind here gs v used first e
+rows_in (suc place) (s ∷ ss) behind here (Some u ∷ gs) v used first e = rows_in place ss behind here gs v (still_used s u used) first e
+
+-- the used rows that agree have the keys of the slots from the place on
+known_at : (P : Pools) (place : ℕ) (ss : List Slot) (gs : List (Option Data)) (used : List Data) → AreKeySlots P ss → AreFillings P ss gs → AreUsed P ss used → AreUsed P (drop place ss) (used_at place ss gs used)
+known_at P zero ss gs used keys are known = known
+known_at P (suc place) [] [] used keys are known = known
+known_at P (suc place) [] (g ∷ gs) used keys are known = absurd are
+known_at P (suc place) (s ∷ ss) [] used keys are known = absurd are
+known_at P (suc place) (s ∷ ss) (None ∷ gs) used keys are known = known_at P place ss gs used (keys_behind P s ss keys) are.1 (used_out P s ss used (no_key P s ss keys are.0) known)
+known_at P (suc place) (s ∷ ss) (Some v ∷ gs) used keys are known = known_at P place ss gs (still_used s v used) (keys_behind P s ss keys) are.1 (used_behind P s ss v used known)
+
 -- the last member has another name
 not_at : (members : List Member) (n : ℕ) (last : Member) (k : List ℕ) → n + 1 ≡ length members → Some last ≡ slice_get members n → (last.name ≡ k → ⊥) → EndsIn k members → ⊥
 not_at [] n last k count is other ends = ends
@@ -195,40 +221,20 @@ pub left_grown : (step : Step) (P : Pools) (s : Slot) (ss : List Slot) (end : En
 left_grown step.Moved P s ss end x m from used old new h = tt
 left_grown (step.Last k) P s ss end x m from used old new h = h.0
 
-pub no_rows : (rows : List (Bor Tree)) (empty : Bool) → empty ≡ (length rows == 0) → empty ≡ true → rows_of rows ≡ []
-no_rows rows empty is so = ap rows_of (nil_from_length rows (empty_len (length rows) (sym is ∙ so)))
-
--- ---- where no used row and no named field has to be kept in mind
-
-pub still_none : (s : Slot) (v : Data) → still_used s v [] ≡ []
-still_none s v = none s.key s.name
-  where
-    none : (key : Bool) (name : List ℕ) → agreeing_if key name v [] ≡ []
-    none true name = refl
-    none false name = refl
-
-pub used_none : (place : ℕ) (ss : List Slot) (gs : List (Option Data)) → used_at place ss gs [] ≡ []
-used_none zero ss gs = refl
-used_none (suc place) [] gs = refl
-used_none (suc place) (s ∷ ss) [] = refl
-used_none (suc place) (s ∷ ss) (None ∷ gs) = used_none place ss gs
-used_none (suc place) (s ∷ ss) (Some v ∷ gs) = subst (λ us. used_at place ss gs us ≡ []) (sym (still_none s v)) (used_none place ss gs)
-
-pub before_plain : (place : ℕ) (ss : List Slot) (gs : List (Option Data)) (x : Before) (front : List Member) → All (λ s. s.bit ≡ None) ss → members_of front ≡ members_to place ss gs → before_at place ss gs x ≡ record { count = x.count + length front; seen = x.seen }
-before_plain zero ss gs x [] plain are = let c : x.count ≡ x.count + 0 = omega arith in ap (λ n. record { count = n; seen = x.seen }) c
-before_plain zero ss gs x (one ∷ front) plain are = absurd (cc)
-before_plain (suc place) [] gs x [] plain are = let c : x.count ≡ x.count + 0 = omega arith in ap (λ n. record { count = n; seen = x.seen }) c
-before_plain (suc place) [] gs x (one ∷ front) plain are = absurd (cc)
-before_plain (suc place) (s ∷ ss) [] x [] plain are = let c : x.count ≡ x.count + 0 = omega arith in ap (λ n. record { count = n; seen = x.seen }) c
-before_plain (suc place) (s ∷ ss) [] x (one ∷ front) plain are = absurd (cc)
-before_plain (suc place) (s ∷ ss) (None ∷ gs) x front plain are = before_plain place ss gs x front (λ k d lt. plain (suc k) d (omega (arith, lt))) are
-before_plain (suc place) (s ∷ ss) (Some v ∷ gs) x [] plain are = absurd (cc)
-before_plain (suc place) (s ∷ ss) (Some v ∷ gs) x (one ∷ front) plain are =
+-- so many slots are filled before a place
+pub count_at : (place : ℕ) (ss : List Slot) (gs : List (Option Data)) (x : Before) (front : List Member) → members_of front ≡ members_to place ss gs → (before_at place ss gs x).count ≡ x.count + length front
+count_at zero ss gs x [] are = omega arith
+count_at zero ss gs x (one ∷ front) are = absurd (cc)
+count_at (suc place) [] gs x [] are = omega arith
+count_at (suc place) [] gs x (one ∷ front) are = absurd (cc)
+count_at (suc place) (s ∷ ss) [] x [] are = omega arith
+count_at (suc place) (s ∷ ss) [] x (one ∷ front) are = absurd (cc)
+count_at (suc place) (s ∷ ss) (None ∷ gs) x front are = count_at place ss gs x front are
+count_at (suc place) (s ∷ ss) (Some v ∷ gs) x [] are = absurd (cc)
+count_at (suc place) (s ∷ ss) (Some v ∷ gs) x (one ∷ front) are =
     let others : members_of front ≡ members_to place ss gs = cc in
-    let none : s.bit ≡ None = plain 0 s (omega arith) in
-    let h = before_plain place ss gs (filled s.bit x) front (λ k d lt. plain (suc k) d (omega (arith, lt))) others in
-    let c : x.count + 1 + length front ≡ x.count + suc (length front) = omega arith in
-    h ∙ ap (λ b. record { count = x.count + 1 + length front; seen = with_bit b x.seen }) none ∙ ap (λ n. record { count = n; seen = x.seen }) c
+    let c = count_at place ss gs (filled s.bit x) front others in
+    omega (arith, c)
 
 -- no more members than slots
 pub few_at : (place : ℕ) (ss : List Slot) (gs : List (Option Data)) (front : List Member) → members_of front ≡ members_to place ss gs → length front ≤ place
@@ -281,13 +287,13 @@ nodes_at P (suc place) (s ∷ ss) [] are = absurd are
 nodes_at P (suc place) (s ∷ ss) (None ∷ gs) are = nodes_at P place ss gs are.1
 nodes_at P (suc place) (s ∷ ss) (Some v ∷ gs) are = omega (arith, nodes_at P place ss gs are.1)
 
-pub walked_nodes : (q : Question) (i place room : ℕ) (members : List Member) (gs : List (Option Data)) → IsWalkedTo q i place room members gs → members_count (members_of members) + room ≡ filled_nodes gs
-walked_nodes q i place room members gs w = let all = nodes_at q.pools place (slots_from q i 0) gs w.whole.are in omega (arith, all, ap members_count w.front, w.room_is)
+pub walked_nodes : (q : Question) (i place room : ℕ) (used : List Data) (before : Before) (members : List Member) (gs : List (Option Data)) → IsWalkedTo q i place room used before members gs → members_count (members_of members) + room ≡ filled_nodes gs
+walked_nodes q i place room used before members gs w = let all = nodes_at q.pools place (slots_from q i 0) gs w.whole.are in omega (arith, all, ap members_count w.front, w.room_is)
 
-pub plain_nodes : (q : Question) (i place room : ℕ) (old members : List Member) (gs : List (Option Data)) → StandIn q.pools (slots_from q i 0) (ending_at q i) nothing [] old gs → IsWalkedTo q i place room members gs → members_count (members_of members) + room ≡ members_count (members_of old)
-plain_nodes q i place room old members gs h w = walked_nodes q i place room members gs w ∙ sym (stand_nodes q.pools (slots_from q i 0) (ending_at q i) nothing [] old gs h)
+pub kept_nodes : (q : Question) (i place room : ℕ) (used : List Data) (before : Before) (old members : List Member) (gs : List (Option Data)) → StandIn q.pools (slots_from q i 0) (ending_at q i) nothing used old gs → IsWalkedTo q i place room used before members gs → members_count (members_of members) + room ≡ members_count (members_of old)
+kept_nodes q i place room used before old members gs h w = walked_nodes q i place room used before members gs w ∙ sym (stand_nodes q.pools (slots_from q i 0) (ending_at q i) nothing used old gs h)
 
-module _ (q : Question) (i : ℕ) (sound : HasSoundParts q.pools (site q i)) where
+module _ (q : Question) (i : ℕ) (sound : HasSoundParts q.pools (site q i)) (used : List Data) where
   abbrev P : Pools
   P = q.pools
 
@@ -300,15 +306,18 @@ module _ (q : Question) (i : ℕ) (sound : HasSoundParts q.pools (site q i)) whe
   keys : AreKeySlots P ss
   keys = keys_at q i 0 sound
 
+  pub so_many : (place : ℕ) (gs : List (Option Data)) (front : List Member) → members_of front ≡ members_to place ss gs → (before_at place ss gs nothing).count ≡ length front
+  so_many place gs front are = omega (arith, count_at place ss gs nothing front are)
+
   -- nothing was taken off
-  pub walk_begins : (n : ℕ) (members : List Member) (gs : List (Option Data)) → n ≡ length ss → members_count (members_of members) ≤ most_nodes → StandIn P ss end nothing [] members gs → IsWalkedTo q i n 0 members gs
-  walk_begins n members gs all few h =
+  pub walk_begins : (n : ℕ) (before : Before) (members : List Member) (gs : List (Option Data)) → n ≡ length ss → members_count (members_of members) ≤ most_nodes → StandIn P ss end nothing used members gs → IsWalkedTo q i n 0 used before members gs
+  walk_begins n before members gs all few h =
       let are = h.rest.are in
-      let small : filled_nodes gs ≤ most_nodes = omega (arith, few, stand_nodes P ss end nothing [] members gs h) in
+      let small : filled_nodes gs ≤ most_nodes = omega (arith, few, stand_nodes P ss end nothing used members gs h) in
       let past : drop n gs ≡ [] = ap (λ k. drop k gs) all ∙ none_past P ss gs are in
       let no_slots : slots_from q i n ≡ [] = drop_of_length-le ss (omega (arith, all)) in
       let none : filled_nodes (drop n gs) ≡ 0 = ap filled_nodes past in
-      let rest = subst (λ us. IsRest P (slots_from q i n) end (before_at n ss gs nothing) (filled_nodes (drop n gs)) us (drop n gs)) (used_none n ss gs) (rest_at P end n ss gs nothing [] keys small h.rest) in
+      let rest = rest_at P end n ss gs nothing used keys small h.rest in
       record {
         small = small;
         whole = h.rest;
@@ -316,12 +325,23 @@ module _ (q : Question) (i : ℕ) (sound : HasSoundParts q.pools (site q i)) whe
         room_is = none;
         behind = [];
         behind_are = sym (ap (λ us. members_in us (drop n gs)) no_slots ∙ ap (members_in []) past);
-        last = nothing_after P end (slots_from q i n) (before_at n ss gs nothing) [] (drop n gs) rest.are none;
+        last = nothing_after P end (slots_from q i n) (before_at n ss gs nothing) (used_at n ss gs used) (drop n gs) rest.are none;
+        known = λ some. absurd (some refl);
       }
+
+  -- used rows that agree are known too
+  pub known_to : (place : ℕ) (gs : List (Option Data)) → AreFillings P ss gs → AreUsed P ss used → AreUsed P (slots_from q i place) (used_at place ss gs used)
+  known_to place gs are known = known_at P place ss gs used keys are known
 
   module _ (place : ℕ) (first : slots_from q i place ≡ slot_in q i place ∷ slots_from q i (place + 1)) where
     abbrev here : Slot
     here = slot_in q i place
+
+    abbrev so_far : List (Option Data) → Before
+    so_far gs = before_at place ss gs nothing
+
+    abbrev agreeing : List (Option Data) → List Data
+    agreeing gs = used_at place ss gs used
 
     next_place : place + 1 ≡ suc place
     next_place = omega arith
@@ -329,29 +349,22 @@ module _ (q : Question) (i : ℕ) (sound : HasSoundParts q.pools (site q i)) whe
     first_so : drop place ss ≡ here ∷ drop (suc place) ss
     first_so = subst (λ n. slots_from q i place ≡ here ∷ slots_from q i n) next_place first
 
-    nothing_used : (ts : List Slot) → AreUsed P ts []
-    nothing_used ts = record { few = omega arith; tuples = λ k d lt. absurd (omega (arith, lt)); apart = λ a b d lt inside. absurd (omega (arith, lt, inside)) }
-
-    rest_here : (gs : List (Option Data)) → filled_nodes gs ≤ most_nodes → IsRest P ss end nothing (filled_nodes gs) [] gs → IsRest P (slots_from q i place) end (before_at place ss gs nothing) (filled_nodes (drop place gs)) [] (drop place gs)
-    rest_here gs small whole = subst (λ us. IsRest P (slots_from q i place) end (before_at place ss gs nothing) (filled_nodes (drop place gs)) us (drop place gs)) (used_none place ss gs) (rest_at P end place ss gs nothing [] keys small whole)
-
-    can_here : (room : ℕ) (gs : List (Option Data)) (behind : List Member) → filled_nodes gs ≤ most_nodes → IsRest P ss end nothing (filled_nodes gs) [] gs → filled_nodes (drop place gs) ≡ room → members_of behind ≡ members_in (slots_from q i place) (drop place gs)
-        → IsOpen P (slots_from q i place) end (before_at place ss gs nothing) room []
-    can_here room gs behind small whole nodes are =
-        let x = before_at place ss gs nothing in
-        subst (λ m. IsOpen P (slots_from q i place) end x m []) nodes (open_here q i place sound first x [] behind (drop place gs) (nothing_used (slots_from q i place)) (record { are = are; rest = rest_here gs small whole }))
+    can_here : (room : ℕ) (gs : List (Option Data)) (behind : List Member) → AreUsed P ss used → filled_nodes gs ≤ most_nodes → IsRest P ss end nothing (filled_nodes gs) used gs → filled_nodes (drop place gs) ≡ room → members_of behind ≡ members_in (slots_from q i place) (drop place gs)
+        → IsOpen P (slots_from q i place) end (so_far gs) room (agreeing gs)
+    can_here room gs behind known small whole nodes are =
+        subst (λ m. IsOpen P (slots_from q i place) end (so_far gs) m (agreeing gs)) nodes
+        (open_here q i place sound first (so_far gs) (agreeing gs) behind (drop place gs) (known_to place gs whole.are known) (record { are = are; rest = rest_at P end place ss gs nothing used keys small whole }))
 
     few_here : (gs : List (Option Data)) → filled_nodes gs ≤ most_nodes → filled_nodes (drop place gs) ≤ most_nodes
     few_here gs small = omega (arith, small, fewer_from place gs)
 
     -- the members are the next ones, or the slots from the place on have none
-    pub walked_step : (step : Step) (base new : List Member) (gs : List (Option Data)) (behind : List Member) → filled_nodes gs ≤ most_nodes → IsRest P ss end nothing (filled_nodes gs) [] gs → members_of base ≡ members_to place ss gs → members_of behind ≡ members_in (slots_from q i place) (drop place gs)
-        → take (length base) new ≡ base → AreLeft step base new → AreMoved step P (slots_from q i place) end (before_at place ss gs nothing) [] (drop place gs) (drop (length base) new) → AreWalked step q i place new gs
-    walked_step step.Moved base new gs behind small whole front are kept left h =
-        let next = subst (λ us. AreNext P (slots_from q i place) end (before_at place ss gs nothing) us (drop place gs) (drop (length base) new)) (sym (used_none place ss gs)) h in
-        let all = next_from P end place ss gs nothing [] base (drop (length base) new) keys small whole front next in
-        subst (AreNext P ss end nothing [] gs) (ap (λ l. l ++ drop (length base) new) (sym kept) ∙ take-append-drop (length base) new) all
-    walked_step (step.Last n) base new gs behind small whole front are kept left h = record {
+    pub walked_step : (step : Step) (before : Before) (base new : List Member) (gs : List (Option Data)) (behind : List Member) → filled_nodes gs ≤ most_nodes → IsRest P ss end nothing (filled_nodes gs) used gs → members_of base ≡ members_to place ss gs → members_of behind ≡ members_in (slots_from q i place) (drop place gs)
+        → take (length base) new ≡ base → AreLeft step base new → before ≡ so_far gs → AreMoved step P (slots_from q i place) end (so_far gs) (agreeing gs) (drop place gs) (drop (length base) new) → AreWalked step q i place used before new gs
+    walked_step step.Moved before base new gs behind small whole front are kept left is h =
+        let all = next_from P end place ss gs nothing used base (drop (length base) new) keys small whole front h in
+        subst (AreNext P ss end nothing used gs) (ap (λ l. l ++ drop (length base) new) (sym kept) ∙ take-append-drop (length base) new) all
+    walked_step (step.Last n) before base new gs behind small whole front are kept left is h = record {
       small = small;
       whole = whole;
       front = ap members_of left ∙ front;
@@ -359,58 +372,77 @@ module _ (q : Question) (i : ℕ) (sound : HasSoundParts q.pools (site q i)) whe
       behind = behind;
       behind_are = are;
       last = h.0;
+      known = λ some. is;
     }
 
-    pub walked_continue : (step : Step) (base new : List Member) (gs : List (Option Data)) (cs : List Data) → AreFillings P ss gs → members_of base ≡ members_to place ss gs → take (length base) new ≡ base → GrownContinue step P (slots_from q i place) [] (drop (length base) new) cs → GrownContinue step P ss [] new cs
+    pub walked_continue : (step : Step) (base new : List Member) (gs : List (Option Data)) (cs : List Data) → AreFillings P ss gs → members_of base ≡ members_to place ss gs → take (length base) new ≡ base → GrownContinue step P (slots_from q i place) (agreeing gs) (drop (length base) new) cs → GrownContinue step P ss used new cs
     walked_continue step.Moved base new gs cs fit front kept h =
-        let there = subst (λ us. MembersContinue P (slots_from q i place) us (drop (length base) new) cs) (sym (used_none place ss gs)) h in
-        subst (λ l. MembersContinue P ss [] l cs) (ap (λ l. l ++ drop (length base) new) (sym kept) ∙ take-append-drop (length base) new) (continue_from P place ss gs [] base (drop (length base) new) cs fit front there)
+        subst (λ l. MembersContinue P ss used l cs) (ap (λ l. l ++ drop (length base) new) (sym kept) ∙ take-append-drop (length base) new) (continue_from P place ss gs used base (drop (length base) new) cs fit front h)
     walked_continue (step.Last n) base new gs cs fit front kept h = tt
 
     -- the slot is left out
-    pub record IsLeftOut (room : ℕ) (members : List Member) (gs : List (Option Data)) : Type 0 where
+    pub record IsLeftOut (room : ℕ) (before : Before) (members : List Member) (gs : List (Option Data)) : Type 0 where
       pub front : members_of members ≡ members_to place ss gs
       pub is : drop place gs ≡ None ∷ drop (suc place) gs
       pub must : here.must ≡ false
       pub small : filled_nodes (drop (suc place) gs) ≤ most_nodes
       pub room_is : filled_nodes (drop (suc place) gs) ≡ room
-      pub behind_are : (behind : List Member) × (members_of behind ≡ members_in (slots_from q i place) (drop place gs))
-      pub last : IsNext fill_cmp (IsRest P (slots_from q i (place + 1)) end (before_at place ss gs nothing) (filled_nodes (drop (suc place) gs)) []) (drop (suc place) gs) None
-      pub can : IsOpen P (slots_from q i place) end (before_at place ss gs nothing) room []
+      pub behind : List Member
+      pub behind_are : members_of behind ≡ members_in (slots_from q i place) (drop place gs)
+      pub last : IsNext fill_cmp (IsRest P (slots_from q i (place + 1)) end (so_far gs) (filled_nodes (drop (suc place) gs)) (agreeing gs)) (drop (suc place) gs) None
+      pub known : (room ≡ 0 → ⊥) → before ≡ so_far gs
+      pub can : IsOpen P (slots_from q i place) end (so_far gs) room (agreeing gs)
 
-    pub out_walked : (room : ℕ) (members : List Member) (gs : List (Option Data)) → IsWalkedTo q i (place + 1) room members gs → (EndsIn here.name members → ⊥) → IsLeftOut room members gs
-    out_walked room members gs w other =
-        let Walk = λ (n : ℕ). IsNext fill_cmp (IsRest P (slots_from q i (place + 1)) end (before_at n ss gs nothing) (filled_nodes (drop n gs)) []) (drop n gs) None in
+    pub out_walked : (room : ℕ) (before : Before) (members : List Member) (gs : List (Option Data)) → AreUsed P ss used → IsWalkedTo q i (place + 1) room used before members gs → (EndsIn here.name members → ⊥) → IsLeftOut room before members gs
+    out_walked room before members gs known w other =
+        let Walk = λ (n : ℕ). IsNext fill_cmp (IsRest P (slots_from q i (place + 1)) end (before_at n ss gs nothing) (filled_nodes (drop n gs)) (used_at n ss gs used)) (drop n gs) None in
         let o = out_at P place ss (drop (suc place) ss) here gs members w.whole.are first_so (w.front ∙ ap (λ n. members_to n ss gs) next_place) other in
         let nodes : filled_nodes (drop (suc place) gs) ≡ room = ap (λ n. filled_nodes (drop n gs)) (sym next_place) ∙ w.room_is in
         let same = before_out place ss gs nothing o.0 in
+        let agree = rows_out place ss gs used o.0 in
         let behind = w.behind_are ∙ ap (λ n. members_in (slots_from q i (place + 1)) (drop n gs)) next_place in
         let are : members_of w.behind ≡ members_in (slots_from q i place) (drop place gs) = behind ∙ (sym (ap (λ ts. members_in ts (drop place gs)) first ∙ ap (members_in (here ∷ slots_from q i (place + 1))) o.0)) in
         let small = few_here gs w.small in
         let same_nodes : filled_nodes (drop place gs) ≡ room = ap filled_nodes o.0 ∙ nodes in
+        let Last = λ (x : Before) (us : List Data). IsNext fill_cmp (IsRest P (slots_from q i (place + 1)) end x (filled_nodes (drop (suc place) gs)) us) (drop (suc place) gs) None in
         record {
           front = o.2;
           is = o.0;
           must = o.1;
           small = omega (arith, small, nodes, same_nodes);
           room_is = nodes;
-          behind_are = (w.behind, are);
-          last = subst (λ x. IsNext fill_cmp (IsRest P (slots_from q i (place + 1)) end x (filled_nodes (drop (suc place) gs)) []) (drop (suc place) gs) None) same (subst Walk next_place w.last);
-          can = can_here room gs w.behind w.small w.whole same_nodes are;
+          behind = w.behind;
+          behind_are = are;
+          last = subst (λ x. Last x (agreeing gs)) same (subst (Last (before_at (suc place) ss gs nothing)) agree (subst Walk next_place w.last));
+          known = λ some. w.known some ∙ (ap (λ n. before_at n ss gs nothing) next_place ∙ same);
+          can = can_here room gs w.behind known w.small w.whole same_nodes are;
         }
+
+    -- no size fits, or nothing was taken off
+    pub walked_out : (room : ℕ) (before : Before) (members new : List Member) (gs : List (Option Data)) → filled_nodes gs ≤ most_nodes → IsRest P ss end nothing (filled_nodes gs) used gs → IsLeftOut room before members gs → new ≡ members
+        → AreMoved (step.Last room) P (slots_from q i place) end (so_far gs) (agreeing gs) (drop place gs) [] → IsWalkedTo q i place room used before new gs
+    walked_out room before members new gs small whole o same h = record {
+      small = small;
+      whole = whole;
+      front = ap members_of same ∙ o.front;
+      room_is = h.1;
+      behind = o.behind;
+      behind_are = o.behind_are;
+      last = h.0;
+      known = o.known;
+    }
 
     -- the last member stands in it, and was taken off
     pub record IsTakenOff (room : ℕ) (front : List Member) (one : Member) (gs : List (Option Data)) : Type 0 where
       pub front_is : members_of front ≡ members_to place ss gs
       pub behind : List Member
-      pub ended : AreLastBehind q i place (before_at place ss gs nothing) [] one behind room (drop place gs)
+      pub ended : AreLastBehind q i place (so_far gs) (agreeing gs) one behind room (drop place gs)
       pub behind_are : members_of (one ∷ behind) ≡ members_in (slots_from q i place) (drop place gs)
-      pub can : IsOpen P (slots_from q i place) end (before_at place ss gs nothing) (room + node_count (data_of one.tree)) []
+      pub can : IsOpen P (slots_from q i place) end (so_far gs) (room + node_count (data_of one.tree)) (agreeing gs)
 
-    pub taken_off : (room : ℕ) (members front : List Member) (one : Member) (gs : List (Option Data)) → IsWalkedTo q i (place + 1) room members gs → members ≡ front ++ one ∷ [] → one.name ≡ here.name → IsTakenOff room front one gs
-    taken_off room members front one gs w is name =
+    pub taken_off : (room : ℕ) (before : Before) (members front : List Member) (one : Member) (gs : List (Option Data)) → AreUsed P ss used → IsWalkedTo q i (place + 1) room used before members gs → members ≡ front ++ one ∷ [] → one.name ≡ here.name → IsTakenOff room front one gs
+    taken_off room before members front one gs known w is name =
         let v = data_of one.tree in
-        let x = before_at place ss gs nothing in
         let hs = drop (suc place) gs in
         let o = in_at P place ss (drop (suc place) ss) here gs front one sound.order w.whole.are first_so (sym (ap members_of is) ∙ w.front ∙ ap (λ n. members_to n ss gs) next_place) name in
         let nodes : filled_nodes hs ≡ room = ap (λ n. filled_nodes (drop n gs)) (sym next_place) ∙ w.room_is in
@@ -418,11 +450,12 @@ module _ (q : Question) (i : ℕ) (sound : HasSoundParts q.pools (site q i)) whe
         let are : members_of (one ∷ w.behind) ≡ members_in (slots_from q i place) (drop place gs) =
         (λ k. member (name k) v (behind k)) ∙ sym (ap (λ ts. members_in ts (drop place gs)) first ∙ ap (members_in (here ∷ slots_from q i (place + 1))) o.0) in
         let small = few_here gs w.small in
-        let f = filled_here q i place sound first x [] one w.behind (drop place gs) small (record { are = are; rest = rest_here gs w.small w.whole }) name in
+        let f = filled_here q i place sound first (so_far gs) (agreeing gs) one w.behind (drop place gs) small (record { are = are; rest = rest_at P end place ss gs nothing used keys w.small w.whole }) name in
         let rest : f.rest ≡ hs = rest_same v f.rest hs (sym f.is ∙ o.0) in
         let state = before_in place ss (drop (suc place) ss) here gs v nothing first_so o.0 in
+        let agree = rows_in place ss (drop (suc place) ss) here gs v used first_so o.0 in
         let Last = λ (y : Before) (us : List Data) (ts : List (Option Data)). IsNext fill_cmp (IsRest P (slots_from q i (place + 1)) end y (filled_nodes ts) us) ts None in
-        let last = subst (λ n. Last (before_at n ss gs nothing) [] (drop n gs)) next_place w.last in
+        let last = subst (λ n. Last (before_at n ss gs nothing) (used_at n ss gs used) (drop n gs)) next_place w.last in
         let sum : filled_nodes (drop place gs) ≡ room + node_count v = ap filled_nodes o.0 ∙ omega (arith, nodes) in
         record {
           front_is = o.1;
@@ -431,23 +464,69 @@ module _ (q : Question) (i : ℕ) (sound : HasSoundParts q.pools (site q i)) whe
             small = small;
             stood = f;
             room_is = ap filled_nodes rest ∙ nodes;
-            last = subst (Last (filled here.bit x) (still_used here v [])) (sym rest) (subst (λ us. Last (filled here.bit x) us hs) (sym (still_none here v)) (subst (λ y. Last y [] hs) state last));
+            last = subst (Last (filled here.bit (so_far gs)) (still_used here v (agreeing gs))) (sym rest) (subst (λ us. Last (filled here.bit (so_far gs)) us hs) agree (subst (λ y. Last y (used_at (suc place) ss gs used) hs) state last));
           };
           behind_are = are;
-          can = can_here (room + node_count v) gs (one ∷ w.behind) w.small w.whole sum are;
+          can = can_here (room + node_count v) gs (one ∷ w.behind) known w.small w.whole sum are;
         }
 
-    -- nothing stands from the next place on
-    pub walked_nothing : (members : List Member) (gs : List (Option Data)) → filled_nodes gs ≤ most_nodes → IsRest P ss end nothing (filled_nodes gs) [] gs → IsLeftOut 0 members gs → IsWalkedTo q i place 0 members gs
-    walked_nothing members gs small whole o =
+    -- what its move asks for, where this is before the place and these used rows agree with it
+    pub record IsReady (room : ℕ) (one : Member) (x : Before) (us : List Data) : Type 0 where
+      pub known : AreUsed P (slots_from q i place) us
+      pub value : IsValue P here (slots_from q i (place + 1)) us (node_count (data_of one.tree)) (data_of one.tree)
+      pub rest : CanFill P (slots_from q i (place + 1)) end (filled here.bit x) room
+      pub can : IsOpen P (slots_from q i place) end x (room + node_count (data_of one.tree)) us
+
+    pub ready : (room : ℕ) (front : List Member) (one : Member) (gs : List (Option Data)) (x : Before) (us : List Data) → AreFillings P ss gs → AreUsed P ss used → IsTakenOff room front one gs → x ≡ so_far gs → us ≡ agreeing gs → IsReady room one x us
+    ready room front one gs x us fit known off is same =
+        let f = off.ended.stood in
+        let rest = subst (CanFill P (slots_from q i (place + 1)) end (filled here.bit (so_far gs))) off.ended.room_is (can_fill P (slots_from q i (place + 1)) end (filled here.bit (so_far gs)) _ (still_used here (data_of one.tree) (agreeing gs)) f.rest f.stand.rest) in
+        subst (λ y. IsReady room one y us) (sym is) (subst (IsReady room one (so_far gs)) (sym same) (record { known = known_to place gs fit known; value = f.value; rest = rest; can = off.can }))
+
+    -- a move of the member
+    pub walked_member : (step : Step) (room : ℕ) (front new : List Member) (one : Member) (gs : List (Option Data)) (x : Before) (us : List Data) → filled_nodes gs ≤ most_nodes → IsRest P ss end nothing (filled_nodes gs) used gs → IsTakenOff room front one gs → x ≡ so_far gs → us ≡ agreeing gs
+        → x.count ≡ length front → take x.count new ≡ front → AreLeft step front new → ((hs : List (Option Data)) (others : List Member) → AreLastBehind q i place x us one others room hs → AreMoved step P (slots_from q i place) end x us hs (drop x.count new)) → AreWalked step q i place used x new gs
+    walked_member step room front new one gs x us small whole off is same count kept left h =
+        let hs = drop place gs in
+        let ended = subst (λ y. AreLastBehind q i place y us one off.behind room hs) (sym is) (subst (λ vs. AreLastBehind q i place (so_far gs) vs one off.behind room hs) (sym same) off.ended) in
+        let moved = subst (λ y. AreMoved step P (slots_from q i place) end y us hs (drop x.count new)) is (h hs off.behind ended) in
+        let there = subst (λ vs. AreMoved step P (slots_from q i place) end (so_far gs) vs hs (drop x.count new)) same moved in
+        walked_step step x front new gs (one ∷ off.behind) small whole off.front_is off.behind_are (subst (λ n. take n new ≡ front) count kept) left is (subst (λ n. AreMoved step P (slots_from q i place) end (so_far gs) (agreeing gs) hs (drop n new)) count there)
+
+    -- a key that has no later candidate: it has no next one, and no part of another size
+    pub walked_key : (room : ℕ) (front : List Member) (one : Member) (gs : List (Option Data)) (x : Before) → filled_nodes gs ≤ most_nodes → IsRest P ss end nothing (filled_nodes gs) used gs → IsTakenOff room front one gs → x ≡ so_far gs → here.key ≡ true
+        → ((u : Data) → IsPart P here.site u → IsPast (Some (data_of one.tree)) u → ⊥) → IsWalkedTo q i place (room + 1) used x front gs
+    walked_key room front one gs x small whole off is key none =
+        let law = key_here P here (slots_from q i (place + 1)) (subst (AreKeySlots P) first (keys_at q i place sound)) key in
+        let f = off.ended.stood in
+        let own : node_count (data_of one.tree) ≡ 1 = law.one (data_of one.tree) f.value.part in
+        let empty : (n : ℕ) → 2 ≤ n → FitsSlot P here (slots_from q i (place + 1)) end (so_far gs) (room + 1) n → ⊥ = λ n more fits.
+        let size : n ≡ 1 = sym fits.0.nodes_are ∙ law.one fits.0.part fits.0.is in
+        omega (arith, more, size) in
+        let moved = in_grown q i place sound first (so_far gs) (agreeing gs) one off.behind (drop place gs) off.ended.small f (step.Last (room + 1)) room 1 front front (sym (so_many place gs front off.front_is)) off.ended.room_is own off.ended.last (λ u v past. none u v.part past) (refl, empty, refl) in
+        walked_step (step.Last (room + 1)) x front front gs (one ∷ off.behind) small whole off.front_is off.behind_are (take_all (length front) front (omega arith)) refl is moved
+
+    -- no size fits where the slot is left out
+    pub nothing_fits : (room : ℕ) (before : Before) (members : List Member) (gs : List (Option Data)) → IsLeftOut room before members gs → ((n : ℕ) → FitsSlot P here (slots_from q i (place + 1)) end (so_far gs) room n → ⊥)
+        → AreMoved (step.Last room) P (slots_from q i place) end (so_far gs) (agreeing gs) (drop place gs) []
+    nothing_fits room before members gs o none =
+        out_grown q i place sound first (step.Last room) (so_far gs) (agreeing gs) (drop place gs) (drop (suc place) gs) room members members o.is o.small o.must (sym (so_many place gs members o.front)) o.room_is o.last (refl, (λ n least. none n), refl)
+
+    -- a part grows in it
+    pub walked_grown : (step : Step) (room : ℕ) (before : Before) (members base new : List Member) (gs : List (Option Data)) (us : List Data) → filled_nodes gs ≤ most_nodes → IsRest P ss end nothing (filled_nodes gs) used gs → IsLeftOut room before members gs → base ≡ members → before ≡ so_far gs → us ≡ agreeing gs
+        → IsGrown step P here (slots_from q i (place + 1)) end before room 0 us base new → AreWalked step q i place used before new gs
+    walked_grown step room before members base new gs us small whole o base_is is same h =
+        let front : members_of base ≡ members_to place ss gs = ap members_of base_is ∙ o.front in
+        let count : (so_far gs).count ≡ length base = so_many place gs base front in
+        let grown = subst (λ y. IsGrown step P here (slots_from q i (place + 1)) end y room 0 (agreeing gs) base new) is (subst (λ vs. IsGrown step P here (slots_from q i (place + 1)) end before room 0 vs base new) same h) in
+        let moved = out_grown q i place sound first step (so_far gs) (agreeing gs) (drop place gs) (drop (suc place) gs) room base new o.is o.small o.must (sym count) o.room_is o.last grown in
+        walked_step step before base new gs o.behind small whole front o.behind_are (grown_kept step P here (slots_from q i (place + 1)) end (so_far gs) room 0 (length base) (agreeing gs) base new grown refl) (left_grown step P here (slots_from q i (place + 1)) end (so_far gs) room 0 (agreeing gs) base new grown) is
+        (subst (λ n. AreMoved step P (slots_from q i place) end (so_far gs) (agreeing gs) (drop place gs) (drop n new)) count moved)
+
+    -- nothing was taken off, and nothing is in the slot
+    pub walked_nothing : (before : Before) (members : List Member) (gs : List (Option Data)) → filled_nodes gs ≤ most_nodes → IsRest P ss end nothing (filled_nodes gs) used gs → IsLeftOut 0 before members gs
+        → AreMoved (step.Last 0) P (slots_from q i place) end (so_far gs) (agreeing gs) (drop place gs) []
+    walked_nothing before members gs small whole o =
         let none : filled_nodes (drop place gs) ≡ 0 = ap filled_nodes o.is ∙ o.room_is in
-        let rest = rest_here gs small whole in
-        record {
-          small = small;
-          whole = whole;
-          front = o.front;
-          room_is = none;
-          behind = o.behind_are.0;
-          behind_are = o.behind_are.1;
-          last = nothing_after P end (slots_from q i place) (before_at place ss gs nothing) [] (drop place gs) rest.are none;
-        }
+        let rest = rest_at P end place ss gs nothing used keys small whole in
+        (nothing_after P end (slots_from q i place) (so_far gs) (agreeing gs) (drop place gs) rest.are none, none)

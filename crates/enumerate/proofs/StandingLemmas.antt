@@ -58,5 +58,5 @@ can_replace q old new has_taken items (next, standing, replaces) taken = replace
     replaced (Some r) h = (items, subst (λ u. has_taken (items ++ u ∷ [])) (sym h) taken)
 
 -- the delay has room for a step
-pub step_within : (q : Question) (before after : ℕ) → Costs q before after (2 * q.limit) → IsWithinDelay q before after
+pub step_within : (q : Question) (before after : ℕ) → Costs q before after (3 * q.limit) → IsWithinDelay q before after
 step_within q before after costs = λ w wide. omega (arith, costs w wide)

@@ -11,3 +11,4 @@ pub mod Roots
 pub mod Following
 pub mod Prefixes
 pub mod Walks
+pub mod Front

@@ -1,10 +1,11 @@
 //! The candidates of leaves.
-ghost use Rattle.std.specs.Prelude.{◌≡◌, ◌↔◌, ◌⊎◌, ◌+◌, ◌*◌, ◌≤◌, ◌<◌, ◌∷◌, [], ℕ, List, IfOk, OnOk, IsTrue, true, false, None, length};
+ghost use Rattle.std.specs.Prelude.{◌≡◌, ◌↔◌, ◌⊎◌, ◌+◌, ◌*◌, ◌≤◌, ◌<◌, ◌∷◌, [], ℕ, List, IfOk, OnOk, IsTrue, true, false, Some, None, length};
 ghost use Rattle.jtree.specs.Data.{Data};
 ghost use Rattle.jtree.specs.Nodes.{node_count};
 ghost use Rattle.jtree.specs.Order.{tree_cmp};
 ghost use Rattle.jtree.specs.View.{data_of};
 ghost use Rattle.plan.specs.Samples.Candidates.{sort_of};
+ghost use Rattle.plan.specs.Samples.Part.{IsPart};
 ghost use Rattle.plan.specs.declared.sort.Sort.TheVariants as sort;
 ghost use Rattle.enumerate.specs.Least.{IsLeast};
 ghost use Rattle.enumerate.specs.Page.{IsPast};
@@ -30,11 +31,21 @@ fn is_past(after: Option<&Tree>, tree: &Tree) -> bool
     }
 }
 
+/// Whether the tree has so many nodes; those of a scalar are not counted.
+fn has_size(tree: &Tree, size: u32) -> bool
+    ensures { IsTrue result ↔ (node_count (data_of tree.now) ≡ size) }
+{
+    match tree {
+        Tree::List(_) | Tree::Object(_) => tree.nodes() == size as u64,
+        _ => size == 1,
+    }
+}
+
 /// Whether the tree has the size and is free.
 fn is_choice(size: u32, taken: &Taken<'_>, tree: &Tree) -> bool
     ensures { IsTrue result ↔ ((node_count (data_of tree.now) ≡ size) × IsFree taken.now (data_of tree.now)) }
 {
-    tree.nodes() == size as u64 && is_free(taken, tree)
+    has_size(tree, size) && is_free(taken, tree)
 }
 
 /// Replaces what is in `found` by the free candidates of a size past a place, the last one first. It looks at those past the place
@@ -68,6 +79,28 @@ fn find_choices<'p, Z: SizeSet>(
         }
     }
     Ok(())
+}
+
+/// Whether some candidate of a leaf comes after the tree.
+pub(crate) fn has_later<Z: SizeSet>(
+    plan: &Plan<Z>,
+    node: PlanNode,
+    tree: &Tree,
+    meter: &mut Meter,
+) -> bool
+    requires node { IsNodeOf plan.now node }
+    requires leaf { sort_of (site plan.now node) ≡ sort.Leaf }
+    ensures none { result ≡ false → (u : Data) → IsPart plan.now.pools (site plan.now node) u → IsPast (Some (data_of tree.now)) u → ⊥ }
+    ensures steps { meter.new ≤ meter.old + 1 }
+{
+    let count = plan.count(node);
+    if count == 0 {
+        return false;
+    }
+    match plan.candidate(node, count - 1, meter) {
+        Some(last) => is_past(Some(tree), last),
+        None => false,
+    }
 }
 
 /// Puts the last of the choices in the place of the tree, in its room, where there is one, and answers whether there is. Choices that

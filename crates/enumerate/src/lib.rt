@@ -5,6 +5,7 @@ mod before;
 mod building;
 mod copying;
 mod fault;
+mod front;
 mod law;
 mod leaves;
 mod listed;

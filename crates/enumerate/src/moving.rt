@@ -9,21 +9,23 @@ ghost use Rattle.plan.specs.Samples.Candidates.{sort_of};
 ghost use Rattle.plan.specs.declared.sort.Sort.TheVariants as sort;
 ghost use Rattle.enumerate.specs.Internal.Nodes.{site, IsNodeOf, IsPartOf, Costs};
 ghost use Rattle.enumerate.specs.Internal.Candidates.{rows_of, stack_of};
-ghost use Rattle.enumerate.specs.Internal.Rows.{slots_from, slot_in, ending_at, IsSlotOf, AreUsed, IsOpen, IsRow, IsValue, CostsSlots};
+ghost use Rattle.enumerate.specs.Internal.Rows.{slots_from, slot_in, ending_at, IsSlotOf, AreUsed, IsOpen, IsRow, IsValue, FitsSlot, CostsSlots};
 ghost use Rattle.enumerate.specs.Internal.Lists.{AreFirst, IsFreshItem};
 ghost use Rattle.enumerate.specs.Internal.Following.{ContinueMoved, GrownContinue, GrownItemsContinue};
-ghost use Rattle.enumerate.specs.Internal.Steps.{CostsLast, CostsLastStep, CostsLastSlots, CostsTwice};
+ghost use Rattle.enumerate.specs.Internal.Steps.{CostsLast, CostsLastStep, CostsLastSlots, CostsMembers, CostsFrom};
 ghost use Rattle.plan.specs.Samples.Sizes.{nothing, filled, CanFill};
-ghost use Rattle.enumerate.specs.Internal.Moves.{IsMoved, StandIn, Begins, AreMoved, AreLastBehind, AreItemsMoved};
+ghost use Rattle.enumerate.specs.Internal.Moves.{IsMoved, StandIn, AreMoved, AreLastBehind, AreItemsMoved};
 ghost use Rattle.enumerate.specs.Internal.Prefixes.{EndsIn};
-ghost use Rattle.enumerate.specs.Internal.Walks.{IsWalkedTo, AreWalked, AreLeft, CostsLastAt};
+ghost use Rattle.enumerate.specs.Internal.Walks.{IsWalkedTo, AreWalked, AreLeft, CostsLastAt, CostsLastFrom};
 
 use crate::before::Before;
 use crate::building::{first_items, grow_items, grow_slots, put_member};
-use crate::leaves::{next_key, next_unused};
+use crate::front::front_at;
+use crate::leaves::{has_later, next_key, next_unused};
 use crate::membership::is_null;
 use crate::moved::{Moved, Step};
-use crate::taken::{references, still_used};
+use crate::splitting::least_split;
+use crate::taken::references;
 use jtree::{Items, Member, Members, Tree};
 use plan::{Distinct, Meter, Plan, PlanNode, SizeSet, Slot, Sort};
 use std::alloc::{AllocError, Global};
@@ -43,7 +45,7 @@ pub(crate) fn advance<'p, Z: SizeSet>(
     requires limit { node_count (data_of tree) ≤ plan.now.limit }
     ensures ok { IfOk result (λ moved. IsMoved (IsPartOf plan.now node (node_count (data_of tree))) (data_of tree) moved) }
     ensures following { IfOk result (λ moved. ContinueMoved (IsPartOf plan.now node (node_count (data_of tree))) moved (stack_of following.new.items)) }
-    ensures steps { Costs plan.now meter.old meter.new (2 * node_count (data_of tree)) }
+    ensures steps { Costs plan.now meter.old meter.new (3 * node_count (data_of tree)) }
     ensures last { IfOk result (λ moved. CostsLast moved plan.now meter.old meter.new (node_count (data_of tree))) }
 {
     plan.no_dead_end();
@@ -120,7 +122,7 @@ fn advance_row<'p, Z: SizeSet>(
     requires limit { node_count (data_of tree) ≤ plan.now.limit }
     ensures ok { IfOk result (λ moved. IsMoved (IsRow plan.now node (node_count (data_of tree) - 1) (rows_of used.now)) (data_of tree) moved) }
     ensures following { IfOk result (λ moved. ContinueMoved (IsRow plan.now node (node_count (data_of tree) - 1) (rows_of used.now)) moved (stack_of following.new.items)) }
-    ensures steps { Costs plan.now meter.old meter.new (2 * node_count (data_of tree)) }
+    ensures steps { Costs plan.now meter.old meter.new (3 * node_count (data_of tree)) }
     ensures last { IfOk result (λ moved. CostsLast moved plan.now meter.old meter.new (node_count (data_of tree))) }
 {
     plan.sound_parts();
@@ -135,7 +137,7 @@ fn advance_row<'p, Z: SizeSet>(
     }
 }
 
-/// Moves the members of a row to the next ones of as many nodes.
+/// Moves the members of a row to the next ones of as many nodes: from the last slot on, and no further than to the one that moves.
 #[cycle(advance)]
 fn advance_members<'p, Z: SizeSet>(
     alloc: Global,
@@ -148,42 +150,52 @@ fn advance_members<'p, Z: SizeSet>(
 ) -> Result<Step, AllocError>
     requires node { IsNodeOf plan.now node }
     requires row { sort_of (site plan.now node) ≡ sort.Row }
-    requires known { AreUsed plan.now.pools (slots_from plan.now node 0) (rows_of used.now) }
+    requires used { AreUsed plan.now.pools (slots_from plan.now node 0) (rows_of used.now) }
     requires stand { (gs : List (Option Data)) × StandIn plan.now.pools (slots_from plan.now node 0) (ending_at plan.now node) nothing (rows_of used.now) members.old.items gs }
     requires limit { members_count (members_of members.old.items) < plan.now.limit }
     ensures moved { IfOk result (λ step. (gs : List (Option Data)) → StandIn plan.now.pools (slots_from plan.now node 0) (ending_at plan.now node) nothing (rows_of used.now) members.old.items gs
         → AreMoved step plan.now.pools (slots_from plan.now node 0) (ending_at plan.now node) nothing (rows_of used.now) gs members.new.items) }
     ensures following { IfOk result (λ step. GrownContinue step plan.now.pools (slots_from plan.now node 0) (rows_of used.now) members.new.items (stack_of following.new.items)) }
-    ensures steps { CostsTwice plan.now node 0 meter.old meter.new (members_count (members_of members.old.items)) }
-    ensures last { IfOk result (λ step. CostsLastSlots step plan.now node 0 meter.old meter.new (members_count (members_of members.old.items))) }
+    ensures steps { CostsMembers plan.now node meter.old meter.new (members_count (members_of members.old.items)) }
+    ensures last { IfOk result (λ step. CostsLastSlots step plan.now node 0 meter.old meter.new (2 * members_count (members_of members.old.items))) }
 {
-    if used.is_empty() && !plan.names_fields(node) {
-        return advance_plain(alloc, plan, node, members, following, meter);
+    plan.sound_parts();
+    plan.limit();
+    let mut before = Before::nothing();
+    let mut room = 0;
+    let mut place = plan.slot_count(node);
+    while place > 0 {
+        place -= 1;
+        match advance_at(
+            alloc,
+            plan,
+            node,
+            place,
+            room,
+            &mut before,
+            used,
+            members,
+            following,
+            meter,
+        )? {
+            Step::Moved => return Ok(Step::Moved),
+            Step::Last(nodes) => room = nodes,
+        }
     }
-    let nothing = Before::nothing();
-    advance_slots(
-        alloc, plan, node, 0, nothing, used, members, following, meter,
-    )
+    Ok(Step::Last(room))
 }
 
-/// Whether the member at a place has the name.
-fn begins(members: &[Member], place: usize, name: &str) -> bool
-    ensures { IsTrue result ↔ Begins name.now (members_of (drop place members.now)) }
-{
-    match members.get(place) {
-        Some(member) => member.name.as_str() == name,
-        None => false,
-    }
-}
-
-/// Moves the members that stand in the slots from `place` on to the next ones of as many nodes, where `before` stands before it.
+/// Moves what is in the slot at `place`, where the members after it, of `room` nodes, had no next ones and were taken off. Where there
+/// is no next one either, it is taken off too. `before` is what is before the next place, where members were taken off, and becomes
+/// what is before this one.
 #[cycle(advance)]
-fn advance_slots<'p, Z: SizeSet>(
+fn advance_at<'p, Z: SizeSet>(
     alloc: Global,
     plan: &'p Plan<Z>,
     node: PlanNode,
     place: u64,
-    before: Before,
+    room: u32,
+    before: &mut Before,
     used: &[&Tree],
     members: &mut Vec<Member>,
     following: &mut Vec<&'p Tree>,
@@ -191,60 +203,95 @@ fn advance_slots<'p, Z: SizeSet>(
 ) -> Result<Step, AllocError>
     requires node { IsNodeOf plan.now node }
     requires row { sort_of (site plan.now node) ≡ sort.Row }
-    requires taken { before.count ≤ place }
-    requires within { before.count ≤ length members.old.items }
-    requires known { AreUsed plan.now.pools (slots_from plan.now node place) (rows_of used.now) }
-    requires stand { (gs : List (Option Data)) × StandIn plan.now.pools (slots_from plan.now node place) (ending_at plan.now node) before (rows_of used.now) (drop before.count members.old.items) gs }
-    requires limit { before.count + members_count (members_of (drop before.count members.old.items)) < plan.now.limit }
-    ensures kept { IfOk result (λ _. take before.count members.new.items ≡ take before.count members.old.items) }
-    ensures moved { IfOk result (λ step. (gs : List (Option Data)) → StandIn plan.now.pools (slots_from plan.now node place) (ending_at plan.now node) before (rows_of used.now) (drop before.count members.old.items) gs
-        → AreMoved step plan.now.pools (slots_from plan.now node place) (ending_at plan.now node) before (rows_of used.now) gs (drop before.count members.new.items)) }
-    ensures following { IfOk result (λ step. GrownContinue step plan.now.pools (slots_from plan.now node place) (rows_of used.now) (drop before.count members.new.items) (stack_of following.new.items)) }
-    ensures steps { CostsTwice plan.now node place meter.old meter.new (members_count (members_of (drop before.count members.old.items))) }
-    ensures last { IfOk result (λ step. CostsLastSlots step plan.now node place meter.old meter.new (members_count (members_of (drop before.count members.old.items)))) }
+    requires place { place < length (slots_from plan.now node 0) }
+    requires used { AreUsed plan.now.pools (slots_from plan.now node 0) (rows_of used.now) }
+    requires walked { (gs : List (Option Data)) × IsWalkedTo plan.now node (place + 1) room (rows_of used.now) before.old members.old.items gs }
+    requires limit { members_count (members_of members.old.items) + room < plan.now.limit }
+    ensures moved { IfOk result (λ step. (gs : List (Option Data)) → IsWalkedTo plan.now node (place + 1) room (rows_of used.now) before.old members.old.items gs
+        → AreWalked step plan.now node place (rows_of used.now) before.new members.new.items gs) }
+    ensures following { IfOk result (λ step. GrownContinue step plan.now.pools (slots_from plan.now node 0) (rows_of used.now) members.new.items (stack_of following.new.items)) }
+    ensures steps { CostsFrom plan.now node meter.old meter.new (3 * members_count (members_of members.old.items) + room) }
+    ensures last { IfOk result (λ step. CostsLastAt step plan.now room meter.old meter.new) }
 {
     plan.sound_parts();
     plan.limit();
-    if members.len() == before.count() {
-        return Ok(Step::Last(0));
-    }
     let Some(slot) = plan.slot(node, place, meter) else {
-        return Ok(Step::Last(0));
+        unreachable!()
     };
-    if begins(members.as_slice(), before.count(), slot.name) {
-        return advance_filled(
-            alloc, plan, node, &slot, place, before, used, members, following, meter,
-        );
+    match pop_named(members, slot.name) {
+        Some(member) => advance_taken(
+            alloc, plan, node, &slot, place, room, before, used, member, members, following, meter,
+        ),
+        None => fill_at(
+            alloc, plan, node, &slot, place, *before, room, used, members, following, meter,
+        ),
     }
-    let Step::Last(room) = advance_slots(
+}
+
+/// The same where a member was in the slot and was taken off.
+#[cycle(advance)]
+fn advance_taken<'p, Z: SizeSet>(
+    alloc: Global,
+    plan: &'p Plan<Z>,
+    node: PlanNode,
+    slot: &Slot<'_>,
+    place: u64,
+    room: u32,
+    before: &mut Before,
+    used: &[&Tree],
+    member: Member,
+    members: &mut Vec<Member>,
+    following: &mut Vec<&'p Tree>,
+    meter: &mut Meter,
+) -> Result<Step, AllocError>
+    requires node { IsNodeOf plan.now node }
+    requires row { sort_of (site plan.now node) ≡ sort.Row }
+    requires slot { IsSlotOf plan.now node place slot.now }
+    requires place { place < length (slots_from plan.now node 0) }
+    requires used { AreUsed plan.now.pools (slots_from plan.now node 0) (rows_of used.now) }
+    requires name { member.name ≡ (slot_in plan.now node place).name }
+    requires walked { (gs : List (Option Data)) × IsWalkedTo plan.now node (place + 1) room (rows_of used.now) before.old (members.old.items ++ member ∷ []) gs }
+    requires limit { members_count (members_of members.old.items) + (room + node_count (data_of member.tree)) < plan.now.limit }
+    ensures moved { IfOk result (λ step. (gs : List (Option Data)) → IsWalkedTo plan.now node (place + 1) room (rows_of used.now) before.old (members.old.items ++ member ∷ []) gs
+        → AreWalked step plan.now node place (rows_of used.now) before.new members.new.items gs) }
+    ensures following { IfOk result (λ step. GrownContinue step plan.now.pools (slots_from plan.now node 0) (rows_of used.now) members.new.items (stack_of following.new.items)) }
+    ensures steps { CostsSlots plan.now node 0 meter.old meter.new (3 * node_count (data_of member.tree) + room) }
+    ensures last { IfOk result (λ step. CostsLastFrom step plan.now room meter.old meter.new) }
+{
+    plan.sound_parts();
+    plan.limit();
+    // A key without a later candidate has no next value, whatever is before it.
+    if slot.key && !plan.names_fields(node) && !has_later(plan, slot.node, &member.tree, meter) {
+        *before = Before::unnamed(members.len() as u32);
+        return Ok(Step::Last(room + 1));
+    }
+    let front = front_at(alloc, plan, node, place, members.as_slice(), used, meter)?;
+    *before = front.before;
+    advance_member(
         alloc,
         plan,
         node,
-        place + 1,
-        before,
-        used,
+        slot,
+        place,
+        front.before,
+        room,
+        front.rows(&*used),
+        member,
         members,
         following,
         meter,
-    )?
-    else {
-        return Ok(Step::Moved);
-    };
-    members.truncate(before.count());
-    grow_slots(
-        alloc, plan, node, &slot, place, before, room, 0, used, members, following, meter,
     )
 }
 
-/// The same where the slot at `place` is filled.
-#[cycle(advance)]
-fn advance_filled<'p, Z: SizeSet>(
+/// The same where the slot is empty: a first part that fits is put in it, and the first members after it, of `room` nodes together.
+fn fill_at<'p, Z: SizeSet>(
     alloc: Global,
     plan: &'p Plan<Z>,
     node: PlanNode,
     slot: &Slot<'_>,
     place: u64,
     before: Before,
+    room: u32,
     used: &[&Tree],
     members: &mut Vec<Member>,
     following: &mut Vec<&'p Tree>,
@@ -253,43 +300,62 @@ fn advance_filled<'p, Z: SizeSet>(
     requires node { IsNodeOf plan.now node }
     requires row { sort_of (site plan.now node) ≡ sort.Row }
     requires slot { IsSlotOf plan.now node place slot.now }
-    requires filled { Begins slot.now.name.now (members_of (drop before.count members.old.items)) }
-    requires taken { before.count ≤ place }
-    requires within { before.count ≤ length members.old.items }
-    requires known { AreUsed plan.now.pools (slots_from plan.now node place) (rows_of used.now) }
-    requires stand { (gs : List (Option Data)) × StandIn plan.now.pools (slots_from plan.now node place) (ending_at plan.now node) before (rows_of used.now) (drop before.count members.old.items) gs }
-    requires limit { before.count + members_count (members_of (drop before.count members.old.items)) < plan.now.limit }
-    ensures kept { IfOk result (λ _. take before.count members.new.items ≡ take before.count members.old.items) }
-    ensures moved { IfOk result (λ step. (gs : List (Option Data)) → StandIn plan.now.pools (slots_from plan.now node place) (ending_at plan.now node) before (rows_of used.now) (drop before.count members.old.items) gs
-        → AreMoved step plan.now.pools (slots_from plan.now node place) (ending_at plan.now node) before (rows_of used.now) gs (drop before.count members.new.items)) }
-    ensures following { IfOk result (λ step. GrownContinue step plan.now.pools (slots_from plan.now node place) (rows_of used.now) (drop before.count members.new.items) (stack_of following.new.items)) }
-    ensures steps { CostsTwice plan.now node (place + 1) meter.old meter.new (members_count (members_of (drop before.count members.old.items))) }
-    ensures last { IfOk result (λ step. CostsLastSlots step plan.now node (place + 1) meter.old meter.new (members_count (members_of (drop before.count members.old.items)))) }
+    requires place { place < length (slots_from plan.now node 0) }
+    requires used { AreUsed plan.now.pools (slots_from plan.now node 0) (rows_of used.now) }
+    requires out { EndsIn (slot_in plan.now node place).name members.old.items → ⊥ }
+    requires walked { (gs : List (Option Data)) × IsWalkedTo plan.now node (place + 1) room (rows_of used.now) before members.old.items gs }
+    requires limit { members_count (members_of members.old.items) + room < plan.now.limit }
+    ensures moved { IfOk result (λ step. (gs : List (Option Data)) → IsWalkedTo plan.now node (place + 1) room (rows_of used.now) before members.old.items gs
+        → AreWalked step plan.now node place (rows_of used.now) before members.new.items gs) }
+    ensures following { IfOk result (λ step. GrownContinue step plan.now.pools (slots_from plan.now node 0) (rows_of used.now) members.new.items (stack_of following.new.items)) }
+    ensures steps { CostsSlots plan.now node 0 meter.old meter.new room }
+    ensures last { IfOk result (λ step. CostsLastFrom step plan.now room meter.old meter.new) }
 {
     plan.sound_parts();
     plan.limit();
-    let same = still_used(alloc, slot, &members[before.count()].tree, used)?;
-    let Step::Last(room) = advance_slots(
+    if room == 0 || !fits(plan, node, slot, place, before, room) {
+        return Ok(Step::Last(room));
+    }
+    let front = front_at(alloc, plan, node, place, members.as_slice(), used, meter)?;
+    let step = grow_slots(
         alloc,
         plan,
         node,
-        place + 1,
-        before.fill(slot),
-        same.as_slice(),
+        slot,
+        place,
+        before,
+        room,
+        0,
+        front.rows(&*used),
         members,
         following,
         meter,
-    )?
-    else {
-        return Ok(Step::Moved);
-    };
-    members.truncate(before.count() + 1);
-    let Some(member) = members.pop() else {
-        unreachable!()
-    };
-    advance_member(
-        alloc, plan, node, slot, place, before, room, used, member, members, following, meter,
-    )
+    )?;
+    match step {
+        Step::Moved => Ok(Step::Moved),
+        Step::Last(_) => unreachable!(),
+    }
+}
+
+/// Whether a part in the slot at `place`, and those after it, can have so many nodes together.
+fn fits<Z: SizeSet>(
+    plan: &Plan<Z>,
+    node: PlanNode,
+    slot: &Slot<'_>,
+    place: u64,
+    before: Before,
+    room: u32,
+) -> bool
+    requires node { IsNodeOf plan.now node }
+    requires row { sort_of (site plan.now node) ≡ sort.Row }
+    requires slot { IsSlotOf plan.now node place slot.now }
+    requires taken { before.count ≤ place }
+    requires limit { before.count + room < plan.now.limit }
+    ensures { IsTrue result ↔ ((n : ℕ) × FitsSlot plan.now.pools (slot_in plan.now node place) (slots_from plan.now node (place + 1)) (ending_at plan.now node) before room n) }
+{
+    plan.limit();
+    let rest = before.fill(slot).rest(plan, node, place + 1);
+    least_split(plan.sizes(slot.node), rest, room, 0).is_some()
 }
 
 /// Puts back the next value of the member that was taken off, and then the first members of `room` nodes behind it, where those that
@@ -324,9 +390,9 @@ fn advance_member<'p, Z: SizeSet>(
     ensures moved { IfOk result (λ step. (gs : List (Option Data)) (others : List Member) → AreLastBehind plan.now node place before (rows_of used.now) member others room gs
         → AreMoved step plan.now.pools (slots_from plan.now node place) (ending_at plan.now node) before (rows_of used.now) gs (drop before.count members.new.items)) }
     ensures following { IfOk result (λ step. GrownContinue step plan.now.pools (slots_from plan.now node place) (rows_of used.now) (drop before.count members.new.items) (stack_of following.new.items)) }
-    ensures steps { CostsSlots plan.now node (place + 1) meter.old meter.new (2 * node_count (data_of member.tree) + room) }
+    ensures steps { CostsSlots plan.now node (place + 1) meter.old meter.new (3 * node_count (data_of member.tree) + room) }
     ensures left { IfOk result (λ step. AreLeft step members.old.items members.new.items) }
-    ensures last { IfOk result (λ step. CostsLastStep step plan.now meter.old meter.new (node_count (data_of member.tree))) }
+    ensures last { IfOk result (λ step. CostsLastStep step plan.now meter.old meter.new (2 * node_count (data_of member.tree) - 1)) }
 {
     plan.sound_parts();
     plan.limit();
@@ -378,106 +444,6 @@ fn pop_named(members: &mut Vec<Member>, name: &str) -> Option<Member>
     }
 }
 
-/// Moves the members of a row to the next ones of as many nodes, where no used row and no named field has to be kept in mind: from
-/// the last slot on, and no further than to the one that moves.
-#[cycle(advance)]
-fn advance_plain<'p, Z: SizeSet>(
-    alloc: Global,
-    plan: &'p Plan<Z>,
-    node: PlanNode,
-    members: &mut Vec<Member>,
-    following: &mut Vec<&'p Tree>,
-    meter: &mut Meter,
-) -> Result<Step, AllocError>
-    requires node { IsNodeOf plan.now node }
-    requires row { sort_of (site plan.now node) ≡ sort.Row }
-    requires plain { All (λ s. s.bit ≡ None) (slots_from plan.now node 0) }
-    requires stand { (gs : List (Option Data)) × StandIn plan.now.pools (slots_from plan.now node 0) (ending_at plan.now node) nothing [] members.old.items gs }
-    requires limit { members_count (members_of members.old.items) < plan.now.limit }
-    ensures moved { IfOk result (λ step. (gs : List (Option Data)) → StandIn plan.now.pools (slots_from plan.now node 0) (ending_at plan.now node) nothing [] members.old.items gs
-        → AreMoved step plan.now.pools (slots_from plan.now node 0) (ending_at plan.now node) nothing [] gs members.new.items) }
-    ensures following { IfOk result (λ step. GrownContinue step plan.now.pools (slots_from plan.now node 0) [] members.new.items (stack_of following.new.items)) }
-    ensures steps { CostsTwice plan.now node 0 meter.old meter.new (members_count (members_of members.old.items)) }
-    ensures last { IfOk result (λ step. CostsLastSlots step plan.now node 0 meter.old meter.new (members_count (members_of members.old.items))) }
-{
-    plan.sound_parts();
-    plan.limit();
-    let mut room = 0;
-    let mut place = plan.slot_count(node);
-    while place > 0 {
-        place -= 1;
-        match advance_at(alloc, plan, node, place, room, members, following, meter)? {
-            Step::Moved => return Ok(Step::Moved),
-            Step::Last(nodes) => room = nodes,
-        }
-    }
-    Ok(Step::Last(room))
-}
-
-/// Moves what stands in the slot at `place`, where the members behind it, of `room` nodes, had no next ones and were taken off. Where
-/// there is no next one either, it is taken off too.
-#[cycle(advance)]
-fn advance_at<'p, Z: SizeSet>(
-    alloc: Global,
-    plan: &'p Plan<Z>,
-    node: PlanNode,
-    place: u64,
-    room: u32,
-    members: &mut Vec<Member>,
-    following: &mut Vec<&'p Tree>,
-    meter: &mut Meter,
-) -> Result<Step, AllocError>
-    requires node { IsNodeOf plan.now node }
-    requires row { sort_of (site plan.now node) ≡ sort.Row }
-    requires plain { All (λ s. s.bit ≡ None) (slots_from plan.now node 0) }
-    requires place { place < length (slots_from plan.now node 0) }
-    requires walked { (gs : List (Option Data)) × IsWalkedTo plan.now node (place + 1) room members.old.items gs }
-    requires limit { members_count (members_of members.old.items) + room < plan.now.limit }
-    ensures moved { IfOk result (λ step. (gs : List (Option Data)) → IsWalkedTo plan.now node (place + 1) room members.old.items gs → AreWalked step plan.now node place members.new.items gs) }
-    ensures following { IfOk result (λ step. GrownContinue step plan.now.pools (slots_from plan.now node 0) [] members.new.items (stack_of following.new.items)) }
-    ensures steps { CostsSlots plan.now node place meter.old meter.new (2 * members_count (members_of members.old.items) + room) }
-    ensures last { IfOk result (λ step. CostsLastAt step plan.now room meter.old meter.new) }
-{
-    plan.sound_parts();
-    plan.limit();
-    let Some(slot) = plan.slot(node, place, meter) else {
-        unreachable!()
-    };
-    let popped = pop_named(members, slot.name);
-    let before = Before::unnamed(members.len() as u32);
-    match popped {
-        Some(member) => advance_member(
-            alloc,
-            plan,
-            node,
-            &slot,
-            place,
-            before,
-            room,
-            &[],
-            member,
-            members,
-            following,
-            meter,
-        ),
-        None if room == 0 => Ok(Step::Last(0)),
-        None => grow_slots(
-            alloc,
-            plan,
-            node,
-            &slot,
-            place,
-            before,
-            room,
-            0,
-            &[],
-            members,
-            following,
-            meter,
-        ),
-    }
-}
-
 /// The next part of as many nodes for a slot; for a key, the next one that leaves some tuple of keys unused.
 #[cycle(advance)]
 fn advance_value<'p, Z: SizeSet>(
@@ -498,7 +464,7 @@ fn advance_value<'p, Z: SizeSet>(
     requires limit { node_count (data_of tree) ≤ plan.now.limit }
     ensures ok { IfOk result (λ moved. IsMoved (IsValue plan.now.pools (slot_in plan.now node place) (slots_from plan.now node (place + 1)) (rows_of used.now) (node_count (data_of tree))) (data_of tree) moved) }
     ensures following { IfOk result (λ moved. ContinueMoved (IsValue plan.now.pools (slot_in plan.now node place) (slots_from plan.now node (place + 1)) (rows_of used.now) (node_count (data_of tree))) moved (stack_of following.new.items)) }
-    ensures steps { Costs plan.now meter.old meter.new (2 * node_count (data_of tree)) }
+    ensures steps { Costs plan.now meter.old meter.new (3 * node_count (data_of tree)) }
     ensures last { IfOk result (λ moved. CostsLast moved plan.now meter.old meter.new (node_count (data_of tree))) }
 {
     plan.sound_parts();
@@ -526,7 +492,7 @@ fn advance_list<'p, Z: SizeSet>(
     requires limit { node_count (data_of tree) ≤ plan.now.limit }
     ensures ok { IfOk result (λ moved. IsMoved (IsPartOf plan.now node (node_count (data_of tree))) (data_of tree) moved) }
     ensures following { IfOk result (λ moved. ContinueMoved (IsPartOf plan.now node (node_count (data_of tree))) moved (stack_of following.new.items)) }
-    ensures steps { Costs plan.now meter.old meter.new (2 * node_count (data_of tree)) }
+    ensures steps { Costs plan.now meter.old meter.new (3 * node_count (data_of tree)) }
     ensures last { IfOk result (λ moved. CostsLast moved plan.now meter.old meter.new (node_count (data_of tree))) }
 {
     plan.no_dead_end();
@@ -564,8 +530,8 @@ fn advance_items<'p, Z: SizeSet>(
     requires limit { items_count (items_of items.old.items) < plan.now.limit }
     ensures moved { IfOk result (λ step. AreItemsMoved step plan.now node (items_of items.old.items) (items_of items.new.items)) }
     ensures following { IfOk result (λ step. GrownItemsContinue step plan.now node child (items_of items.new.items) (stack_of following.new.items)) }
-    ensures steps { Costs plan.now meter.old meter.new (2 * items_count (items_of items.old.items)) }
-    ensures last { IfOk result (λ step. CostsLastStep step plan.now meter.old meter.new (items_count (items_of items.old.items))) }
+    ensures steps { Costs plan.now meter.old meter.new (3 * items_count (items_of items.old.items)) }
+    ensures last { IfOk result (λ step. CostsLastStep step plan.now meter.old meter.new (2 * items_count (items_of items.old.items))) }
 {
     plan.no_dead_end();
     plan.limit();
@@ -626,7 +592,7 @@ fn advance_item<'p, Z: SizeSet>(
     requires within { items_count (items_of items.now) + node_count (data_of item) < plan.now.limit }
     ensures ok { IfOk result (λ moved. IsMoved (IsFreshItem plan.now node child (node_count (data_of item)) (items_of items.now)) (data_of item) moved) }
     ensures following { IfOk result (λ moved. ContinueMoved (IsFreshItem plan.now node child (node_count (data_of item)) (items_of items.now)) moved (stack_of following.new.items)) }
-    ensures steps { Costs plan.now meter.old meter.new (2 * node_count (data_of item)) }
+    ensures steps { Costs plan.now meter.old meter.new (3 * node_count (data_of item)) }
     ensures last { IfOk result (λ moved. CostsLast moved plan.now meter.old meter.new (node_count (data_of item))) }
 {
     plan.no_dead_end();

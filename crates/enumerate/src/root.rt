@@ -49,7 +49,7 @@ pub(crate) fn next_sample<'p, Z: SizeSet>(
     requires sample { IsSampleOf plan.now (data_of tree) }
     ensures ok { IfOk result (λ next. IsNextSample plan.now (Some (data_of tree)) (tree_of next)) }
     ensures following { IfOk result (λ found. IfSome (tree_of found) (λ v. ContinueSample plan.now v (stack_of following.new.items))) }
-    ensures steps { Costs plan.now meter.old meter.new (2 * plan.now.limit) }
+    ensures steps { Costs plan.now meter.old meter.new (3 * plan.now.limit) }
 {
     last_node_is_replaced();
     let root = plan.root();

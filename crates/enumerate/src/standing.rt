@@ -53,7 +53,7 @@ impl<'p> Standing<'p> {
     ) -> Result<bool, AllocError>
         requires { IsStanding plan.now self.old }
         ensures ok { IfOk result (λ more. IsStep plan.now self.old self.new more) }
-        ensures steps { Costs plan.now meter.old meter.new (2 * plan.now.limit) }
+        ensures steps { Costs plan.now meter.old meter.new (3 * plan.now.limit) }
     {
         last_node_is_replaced();
         if let Some(stood) = self.following.pop() {

@@ -10,17 +10,17 @@ use Rattle.enumerate.proofs.StandingLemmas.{continue_sample}
 use Rattle.enumerate.specs.Internal.Nodes.{IsPartOf}
 use Rattle.enumerate.specs.Internal.Roots.{IsFirstFrom}
 use Rattle.enumerate.specs.Internal.Steps.{CostsLast}
-use Rattle.enumerate.proofs.MoveCosts.{costs_twice_within, costs_then}
+use Rattle.enumerate.proofs.MoveCosts.{costs_thrice_within, costs_then}
 use Rattle.enumerate.proofs.RootLemmas.{few, next_same_size, next_more, next_none}
 use Rattle.enumerate.proofs.root.next_sample.Goals as goal
 
 pub returns-in_err-next-clause-steps : goal.returns-in_err-next-clause-steps
 returns-in_err-next-clause-steps g c =
-    costs_twice_within c.args.plan.now c.args.meter.now c.advance.new.meter (node_count (data_of c.args.tree)) c.args.plan.now.limit (few c.args.plan.now (data_of c.args.tree) (omega (arith, c.limit-limit.type_inv, c.limit-limit.ensures)) c.requires.sample) c.advance.ensures.steps
+    costs_thrice_within c.args.plan.now c.args.meter.now c.advance.new.meter (node_count (data_of c.args.tree)) c.args.plan.now.limit (few c.args.plan.now (data_of c.args.tree) (omega (arith, c.limit-limit.type_inv, c.limit-limit.ensures)) c.requires.sample) c.advance.ensures.steps
 
 pub returns-in-To-clause-steps : goal.returns-in-To-clause-steps
 returns-in-To-clause-steps g c =
-    costs_twice_within c.args.plan.now c.args.meter.now c.advance.new.meter (node_count (data_of c.args.tree)) c.args.plan.now.limit (few c.args.plan.now (data_of c.args.tree) (omega (arith, c.limit-limit.type_inv, c.limit-limit.ensures)) c.requires.sample) c.advance.ensures.steps
+    costs_thrice_within c.args.plan.now c.args.meter.now c.advance.new.meter (node_count (data_of c.args.tree)) c.args.plan.now.limit (few c.args.plan.now (data_of c.args.tree) (omega (arith, c.limit-limit.type_inv, c.limit-limit.ensures)) c.requires.sample) c.advance.ensures.steps
 
 pub returns-then-size-limit-clause-steps : goal.returns-then-size-limit-clause-steps
 returns-then-size-limit-clause-steps g c =
@@ -29,7 +29,7 @@ returns-then-size-limit-clause-steps g c =
 
 pub returns-else-size-limit-clause-steps : goal.returns-else-size-limit-clause-steps
 returns-else-size-limit-clause-steps g c =
-    costs_twice_within c.args.plan.now c.args.meter.now c.advance.new.meter (node_count (data_of c.args.tree)) c.args.plan.now.limit (few c.args.plan.now (data_of c.args.tree) (omega (arith, c.limit-limit.type_inv, c.limit-limit.ensures)) c.requires.sample) c.advance.ensures.steps
+    costs_thrice_within c.args.plan.now c.args.meter.now c.advance.new.meter (node_count (data_of c.args.tree)) c.args.plan.now.limit (few c.args.plan.now (data_of c.args.tree) (omega (arith, c.limit-limit.type_inv, c.limit-limit.ensures)) c.requires.sample) c.advance.ensures.steps
 
 pub returns-in-To-clause-ok : goal.returns-in-To-clause-ok
 returns-in-To-clause-ok g c =
