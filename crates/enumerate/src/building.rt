@@ -176,6 +176,9 @@ pub(crate) fn grow_slots<'p, Z: SizeSet>(
 {
     plan.sound_parts();
     plan.limit();
+    if from > room {
+        return Ok(Step::Last(room));
+    }
     let sizes = plan.sizes(slot.node);
     let rest = before.fill(slot).rest(plan, node, place + 1);
     let Some(size) = least_split(sizes, rest, room, from) else {
@@ -373,6 +376,9 @@ pub(crate) fn grow_items<'p, Z: SizeSet>(
     ensures last { IfOk result (λ step. KeepsMeter step meter.old meter.new) }
 {
     plan.limit();
+    if from > room {
+        return Ok(Step::Last(room));
+    }
     let more = plan.more(node, items.len() as u32 + 1);
     let Some(size) = least_split(plan.sizes(child), more, room, from) else {
         return Ok(Step::Last(room));

@@ -22,6 +22,7 @@ use plan::{Meter, Plan, PlanNode, SizeSet, Slot};
 use std::alloc::{AllocError, Global};
 
 /// Whether the tree comes after the place.
+#[inline(always)]
 fn is_past(after: Option<&Tree>, tree: &Tree) -> bool
     ensures { IsTrue result ↔ IsPast (resume_point after.entry) (data_of tree.now) }
 {
@@ -32,6 +33,7 @@ fn is_past(after: Option<&Tree>, tree: &Tree) -> bool
 }
 
 /// Whether the tree has so many nodes; those of a scalar are not counted.
+#[inline(always)]
 fn has_size(tree: &Tree, size: u32) -> bool
     ensures { IsTrue result ↔ (node_count (data_of tree.now) ≡ size) }
 {
@@ -42,6 +44,7 @@ fn has_size(tree: &Tree, size: u32) -> bool
 }
 
 /// Whether the tree has the size and is free.
+#[inline(always)]
 fn is_choice(size: u32, taken: &Taken<'_>, tree: &Tree) -> bool
     ensures { IsTrue result ↔ ((node_count (data_of tree.now) ≡ size) × IsFree taken.now (data_of tree.now)) }
 {

@@ -433,6 +433,7 @@ fn advance_member<'p, Z: SizeSet>(
 }
 
 /// Takes the last member off, where it has the name.
+#[inline(always)]
 fn pop_named(members: &mut Vec<Member>, name: &str) -> Option<Member>
     ensures some { IfSome result (λ one. (members.old.items ≡ members.new.items ++ one ∷ []) × (one.name ≡ name.now)) }
     ensures none { IfNone result ((members.new.items ≡ members.old.items) × (EndsIn name.now members.old.items → ⊥)) }

@@ -28,6 +28,7 @@ pub(crate) enum Taken<'a> {
 }
 
 /// Whether the object has the value under the name.
+#[inline(always)]
 fn has_under(name: &str, value: &Tree, row: &Tree) -> bool
     ensures { result ≡ has_under name.now (data_of value.now) (data_of row.now) }
 {
@@ -70,6 +71,7 @@ pub(crate) fn still_used<'a>(
 }
 
 /// Whether the candidate is free.
+#[inline(always)]
 pub(crate) fn is_free(taken: &Taken<'_>, tree: &Tree) -> bool
     ensures { IsTrue result ↔ IsFree taken.now (data_of tree.now) }
 {
@@ -86,6 +88,7 @@ pub(crate) fn references<'a>(alloc: Global, trees: &'a [Tree]) -> Result<Vec<&'a
     ensures { IfOk result (λ all. rows_of all.items ≡ trees_of trees.now) }
 {
     let mut all = Vec::new(alloc);
+    all.reserve_exact(trees.len())?;
     for place in 0..trees.len() {
         all.push(&trees[place])?;
     }
