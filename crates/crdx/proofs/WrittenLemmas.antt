@@ -1,9 +1,9 @@
 -- Lines in blocks, and what is out of them where a sink stops.
-use Rattle.std.proofs.Common.{◌≡◌, ℕ, zero, suc, ◌+◌, ◌-◌, ◌<◌, ◌≤◌, Bool, true, false, List, [], ◌∷◌, ◌++◌, length, take, drop, get_or, Option, Some, None, refl, sym, ap, ◌∙◌, subst, inl, inr, arith, length-append, drop-cons, length-take, length-drop, add-one, Ok, append_assoc, append-nil}
-use Rattle.std.specs.Prelude.{slice_get, is_some}
+use Rattle.std.proofs.Common.{◌≡◌, ℕ, zero, suc, ◌+◌, ◌-◌, ◌^◌, ◌<◌, ◌≤◌, min, Bool, true, false, List, [], ◌∷◌, ◌++◌, length, take, drop, get_or, Option, Some, None, refl, sym, ap, ◌∙◌, subst, inl, inr, arith, length-append, drop-cons, length-take, length-drop, add-one, Ok, append_assoc, append-nil}
+use Rattle.std.specs.Prelude.{slice_get, is_some, IfSome}
 use Rattle.std.specs.Io.KnownBytes.{Appends}
 use Rattle.std.proofs.KnownBytes.{Appends-trans}
-use Rattle.std.proofs.Math.Seq.{take-append-add, take-add}
+use Rattle.std.proofs.Math.Seq.{take-append-add, take-append_seam, take-add}
 use Rattle.std.proofs.lemmas.Bool.{cases_lt}
 use Rattle.std.proofs.lemmas.Bool.Decides.{nat_tests}
 use Rattle.std.proofs.lemmas.Grind.{flat_map-append}
@@ -12,11 +12,14 @@ use Rattle.std.proofs.lemmas.Option.{slice_get_cases, slice_get-get_or, get_or_f
 use Rattle.jtree.specs.Data.{Data}
 use Rattle.crdx.specs.Output.Line.{newline, line, lines}
 use Rattle.jtree.specs.Text.{compact}
+use Rattle.jtree.specs.Last.{last_depth, with_last}
+use Rattle.jtree.specs.PartText.{front_text, part_text}
 use Rattle.std.specs.Borrow.{Bor}
 use Rattle.std.specs.Option.{option_copied}
 use Rattle.crdx.specs.Output.Sink.{failures_after}
 use Rattle.crdx.specs.Output.PartialOutput.{IsCutWithinLine}
-use Rattle.crdx.specs.Internal.Block.{HasEnds, Holds, TakesLines, IsCountOfEnds}
+use Rattle.crdx.specs.Internal.Block.{HasEnds, Holds, IsFrontOf, IsLineOf, TakesLines, IsCountOfEnds}
+use Rattle.crdx.specs.declared.walk.blocks.Front.{Front}
 use Rattle.crdx.specs.declared.walk.line.Envelope.{Envelope}
 
 below : (items : List Data) (n : ℕ) (next : Data) → slice_get items n ≡ Some next → n < length items
@@ -90,11 +93,11 @@ module _ (e : Option Envelope) where
       ]
 
   -- the lines of one item more
-  pub takes_more : (e_then e_now : Option Envelope) (items : List Data) (v : Data) (bytes ends mid_bytes mid_ends new_bytes new_ends : List ℕ) (n : ℕ) (known_then known : Bool) (line_then l : List ℕ) → e_now ≡ e_then
-      → TakesLines e e_then items bytes ends mid_bytes mid_ends known_then line_then → l ≡ line e_then v → new_bytes ≡ mid_bytes ++ l → new_ends ≡ mid_ends ++ n ∷ [] → n ≡ length new_bytes
-      → TakesLines e e_now (items ++ v ∷ []) bytes ends new_bytes new_ends known l
-  takes_more e_then e_now items v bytes ends mid_bytes mid_ends new_bytes new_ends n known_then known line_then l stays t is_line more ended is =
-      let mine : l ≡ line e v = is_line ∙ ap (λ f. line f v) t.same in
+  pub takes_more : (e_then e_now : Option Envelope) (items : List Data) (v : Data) (bytes ends mid_bytes mid_ends new_bytes new_ends : List ℕ) (n : ℕ) (known_then known : Bool) (line_then l : List ℕ) (front_then f : Option Front) → e_now ≡ e_then
+      → TakesLines e e_then items bytes ends mid_bytes mid_ends known_then line_then front_then → IsLineOf e_then v l f → new_bytes ≡ mid_bytes ++ l → new_ends ≡ mid_ends ++ n ∷ [] → n ≡ length new_bytes
+      → TakesLines e e_now (items ++ v ∷ []) bytes ends new_bytes new_ends known l f
+  takes_more e_then e_now items v bytes ends mid_bytes mid_ends new_bytes new_ends n known_then known line_then l front_then f stays t is_line more ended is =
+      let mine : l ≡ line e v = is_line.0 ∙ ap (λ f. line f v) t.same in
       record {
         same = stays ∙ t.same;
         holds = λ before h.
@@ -103,13 +106,13 @@ module _ (e : Option Envelope) where
             let written : new_bytes ≡ lines e ((before ++ items) ++ v ∷ []) = more ∙ (ap (λ m. m ++ l) held.written ∙ (ap (λ m. lines e (before ++ items) ++ m) mine ∙ sym (lines_more (before ++ items) v))) in
             let there = ends_more (before ++ items) v mid_ends n held.ended (is ∙ ap (λ m. length m) written) in
             subst (λ us. Holds e us new_bytes new_ends) joined (record { written = written; ended = subst (HasEnds e ((before ++ items) ++ v ∷ [])) (sym ended) there });
-        last = λ yes front u same. mine ∙ ap (line e) (same_from_push items front v u same).1;
+        last = λ yes before u same. let is = (same_from_push items before v u same).1 in (mine ∙ ap (line e) is, subst (λ d. IsFrontOf d f) is is_line.1);
       }
 
   -- nothing more, where the last line is not known
-  pub takes_same : (e_then e_now : Option Envelope) (items : List Data) (bytes ends mid_bytes mid_ends new_bytes new_ends : List ℕ) (known_then known : Bool) (line_then l : List ℕ) → e_now ≡ e_then → new_bytes ≡ mid_bytes → new_ends ≡ mid_ends → known ≡ false
-      → TakesLines e e_then items bytes ends mid_bytes mid_ends known_then line_then → TakesLines e e_now items bytes ends new_bytes new_ends known l
-  takes_same e_then e_now items bytes ends mid_bytes mid_ends new_bytes new_ends known_then known line_then l stays same_bytes same_ends unknown t = record {
+  pub takes_same : (e_then e_now : Option Envelope) (items : List Data) (bytes ends mid_bytes mid_ends new_bytes new_ends : List ℕ) (known_then known : Bool) (line_then l : List ℕ) (front_then f : Option Front) → e_now ≡ e_then → new_bytes ≡ mid_bytes → new_ends ≡ mid_ends → known ≡ false
+      → TakesLines e e_then items bytes ends mid_bytes mid_ends known_then line_then front_then → TakesLines e e_now items bytes ends new_bytes new_ends known l f
+  takes_same e_then e_now items bytes ends mid_bytes mid_ends new_bytes new_ends known_then known line_then l front_then f stays same_bytes same_ends unknown t = record {
     same = stays ∙ t.same;
     holds = λ before h. subst (λ m. Holds e (before ++ items) m new_ends) (sym same_bytes) (subst (Holds e (before ++ items) mid_bytes) (sym same_ends) (t.holds before h));
     last = λ yes. absurd (let no : true ≡ false = sym yes ∙ unknown in cc);
@@ -158,9 +161,45 @@ pub none_copied : {X : Type 0} (o : Option (Bor X)) → is_some o ≡ false → 
 none_copied None none = refl
 none_copied (Some x) none = cc
 
--- without an envelope: what stands before the newline is overwritten, and the newline is put back
-pub overwritten : (e : Option Envelope) (v w : Data) (old text new_text new : List ℕ) (x : ℕ) → e ≡ None → old ≡ line e w → old ≡ text ++ x ∷ [] → ((front : List ℕ) → text ≡ front ++ compact w → new_text ≡ front ++ compact v) → new ≡ new_text ++ newline ∷ []
-    → new ≡ line e v
-overwritten e v w old text new_text new x plain is popped overwrites pushed =
-    let before : text ≡ compact w = (same_from_push text (compact w) x newline (sym popped ∙ (is ∙ ap (λ f. line f w) plain))).0 in
-    pushed ∙ (ap (λ t. t ++ newline ∷ []) (overwrites [] before) ∙ ap (λ f. line f v) (sym plain))
+regroup : (front node rest end : List ℕ) → (front ++ (node ++ rest)) ++ end ≡ front ++ (node ++ (rest ++ end))
+regroup front node rest end = simp append_assoc
+
+-- without an envelope: around the last node's text
+pub split_line : (w u : Data) (old front rest : List ℕ) → old ≡ line None w → compact w ≡ front ++ (compact u ++ rest) → old ≡ front ++ (compact u ++ (rest ++ newline ∷ []))
+split_line w u old front rest is text = is ∙ (ap (λ l. l ++ newline ∷ []) text ∙ regroup front (compact u) rest (newline ∷ []))
+
+-- and joined again
+pub joined_line : (v w u : Data) (new front rest : List ℕ) → w ≡ v → compact w ≡ front ++ (compact u ++ rest) → new ≡ front ++ (compact u ++ (rest ++ newline ∷ [])) → new ≡ line None v
+joined_line v w u new front rest own text is = is ∙ (sym (regroup front (compact u) rest (newline ∷ [])) ∙ (ap (λ l. l ++ newline ∷ []) (sym text) ∙ ap (λ d. line None d) own))
+
+-- how many bytes are after it
+pub after_node : (old front node rest : List ℕ) (deep depth after : ℕ) → old ≡ front ++ (node ++ (rest ++ newline ∷ [])) → length old < 2 ^ 64 → length rest ≡ deep → depth ≡ min deep (2 ^ 64 - 1) → after ≡ min (depth + 1) (2 ^ 64 - 1)
+    → length (rest ++ newline ∷ []) ≡ after
+after_node old front node rest deep depth after is small size known next =
+    omega (arith, ap (λ l. length l) is, length-append front (node ++ (rest ++ newline ∷ [])), length-append node (rest ++ newline ∷ []), length-append rest (newline ∷ []), small, size, known, next)
+
+-- ---- a line that is written anew from a part on
+
+-- without an envelope: the bytes before the part stay, where it begins after as many of them in the old sample as in the new one
+pub rewritten : (n bytes : ℕ) (v w : Data) (old new : List ℕ) → old ≡ line None w → bytes ≡ length (front_text n w) → front_text n w ≡ front_text n v → compact w ≡ front_text n w ++ part_text n w → compact v ≡ front_text n v ++ part_text n v
+    → new ≡ (take bytes old ++ part_text n v) ++ newline ∷ [] → (new ≡ line None v) × (bytes ≡ length (front_text n v))
+rewritten n bytes v w old new is begins same old_text text written =
+    let kept : take bytes old ≡ front_text n v =
+    ap (λ l. take bytes l) (is ∙ (ap (λ l. l ++ newline ∷ []) old_text ∙ append_assoc (front_text n w) (part_text n w) (newline ∷ [])))
+    ∙ (ap (λ m. take m (front_text n w ++ (part_text n w ++ newline ∷ []))) begins ∙ (take-append_seam (front_text n w) (part_text n w ++ newline ∷ []) ∙ same)) in
+    (written ∙ ap (λ l. l ++ newline ∷ []) (ap (λ l. l ++ part_text n v) kept ∙ sym text), begins ∙ ap (λ l. length l) same)
+
+-- how many bytes are before the part, by those of the line and of the text from the part on
+pub begins_after : (n bytes : ℕ) (v : Data) (l part : List ℕ) → l ≡ line None v → compact v ≡ front_text n v ++ part_text n v → part ≡ part_text n v → bytes + 1 + length part ≡ length l → bytes ≡ length (front_text n v)
+begins_after n bytes v l part is text parted sum =
+    let size : length l ≡ length (front_text n v) + length part + 1 =
+    ap (λ l. length l) is ∙ (length-append (compact v) (newline ∷ []) ∙ ap (λ m. m + 1) (ap (λ l. length l) text ∙ (length-append (front_text n v) (part_text n v) ∙ ap (λ p. length (front_text n v) + length p) (sym parted)))) in
+    omega (arith, size, sum)
+
+-- where the part begins, with another last node that is at least as deep
+pub kept : (then now : Option Front) (depth : ℕ) (v w : Data) → IfSome now (λ f. (then ≡ Some f) × (f.depth ≤ depth)) → depth ≤ last_depth v → ((n : ℕ) (d u : Data) → n ≤ last_depth d → front_text n (with_last d u) ≡ front_text n d)
+    → IsFrontOf (with_last v w) then → IsFrontOf v now
+kept then None depth v w is deep law begins = tt
+kept then (Some f) depth v w is deep law begins =
+    let there : f.bytes ≡ length (front_text f.depth (with_last v w)) = subst (IsFrontOf (with_last v w)) is.0 begins in
+    there ∙ ap (λ l. length l) (law f.depth v w (omega (arith, is.1, deep)))

@@ -13,12 +13,10 @@ use Rattle.plan.specs.Samples.Sites.{Slot}
 use Rattle.plan.specs.Samples.Sizes.{AreFillings, Before, filled}
 use Rattle.enumerate.specs.Internal.Moves.{Begins}
 use Rattle.enumerate.specs.Internal.Prefixes.{members_to, before_at, used_at}
-use Rattle.enumerate.specs.Internal.Candidates.{rows_of, agreeing_if}
+use Rattle.enumerate.specs.Internal.Candidates.{agreeing_if}
 use Rattle.plan.specs.Samples.Question.{Question}
 use Rattle.enumerate.specs.Internal.Rows.{still_used, slots_from, slot_in}
 use Rattle.std.proofs.lemmas.List.{drop-drop, nil_from_length}
-use Rattle.std.specs.Borrow.{Bor}
-use Rattle.jtree.specs.declared.value.Tree.{Tree}
 use Rattle.enumerate.proofs.ListWalks.{empty_len}
 use Rattle.plan.specs.Samples.Presence.{with_bit}
 use Rattle.enumerate.proofs.RowMoves.{never_begins}
@@ -127,5 +125,5 @@ used_first (suc place) (s ∷ ss) [] used are = refl
 used_first (suc place) (s ∷ ss) (None ∷ gs) used are = used_first place ss gs used are
 used_first (suc place) (s ∷ ss) (Some v ∷ gs) used are = absurd (cc)
 
-pub no_rows : (rows : List (Bor Tree)) (empty : Bool) → empty ≡ (length rows == 0) → empty ≡ true → rows_of rows ≡ []
-no_rows rows empty is so = ap rows_of (nil_from_length rows (empty_len (length rows) (sym is ∙ so)))
+pub no_rows : (rows : List Data) (empty : Bool) → empty ≡ (length rows == 0) → empty ≡ true → rows ≡ []
+no_rows rows empty is so = nil_from_length rows (empty_len (length rows) (sym is ∙ so))

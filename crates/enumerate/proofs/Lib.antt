@@ -27,3 +27,4 @@ pub mod FollowingLemmas
 pub mod StandingLemmas
 pub mod RowWalks
 pub mod FrontLemmas
+pub mod ChangeLemmas

@@ -1,19 +1,19 @@
 -- A sample at which an enumeration stands, and the next ones in the place of its last node.
 use Rattle.std.proofs.Common.{◌≡◌, ◌<◌, ◌+◌, ◌*◌, ℕ, List, [], ◌∷◌, ◌++◌, true, Option, Some, None, sym, ◌∙◌, subst, arith}
-use Rattle.std.specs.Borrow.{Bor}
+use Rattle.enumerate.specs.Change.{Changes}
+use Rattle.enumerate.specs.declared.taking.Change.{Change}
 use Rattle.std.specs.Prelude.{IfSome, OnErr, Result, Ok, Err}
 use Rattle.jtree.specs.Data.{Data}
 use Rattle.jtree.specs.Last.{with_last}
 use Rattle.jtree.specs.Nodes.{node_count}
 use Rattle.jtree.specs.View.{data_of}
-use Rattle.jtree.specs.declared.value.Tree.{Tree}
 use Rattle.plan.specs.Samples.Question.{Question}
 use Rattle.plan.specs.Samples.Sites.{root_site}
 use Rattle.enumerate.specs.Live.{IsNextSample, IsWithinDelay}
 use Rattle.enumerate.specs.Page.{IsSampleOf}
 use Rattle.enumerate.specs.Internal.Following.{Follow, Continue}
 use Rattle.enumerate.specs.Internal.Nodes.{site, IsPartOf, Costs}
-use Rattle.enumerate.specs.Internal.Standing.{FollowSample, ContinueSample, IsStep, Replaces}
+use Rattle.enumerate.specs.Internal.Standing.{FollowSample, ContinueSample, IsStep, ChangesIf}
 use Rattle.enumerate.specs.declared.standing.Standing.{Standing}
 use Rattle.enumerate.proofs.RootLemmas.{next_same_size}
 
@@ -40,22 +40,22 @@ pub where_err : {T E : Type 0} (r : Result T E) (P : Type 0) → P → OnErr r P
 where_err (Ok x) P h = tt
 where_err (Err e) P h = h
 
--- what was taken last is the sample with this in the place of its last node
-abbrev pub CanReplace : (List Data → Type 0) → Data → Option (Bor Tree) → Type 0
-CanReplace has_taken v None = Unit {0}
-CanReplace has_taken v (Some r) = (items : List Data) × has_taken (items ++ with_last v (data_of r.now) ∷ [])
+-- what was taken last differs from the sample in this alone
+abbrev pub CanChange : (List Data → Type 0) → Data → Option Change → Type 0
+CanChange has_taken v None = Unit {0}
+CanChange has_taken v (Some c) = (items : List Data) × (old : Data) × has_taken (items ++ old ∷ []) × Changes c old v
 
 -- the same, in the words of what a taker asks
-pub needed : {T : Type 0} (has_taken : T → T → List Data → Type 0) (first now : T) (v : Data) (r : Option (Bor Tree)) → CanReplace (has_taken first now) v r → IfSome r (λ r. (first : T) × (items : List Data) × has_taken first now (items ++ with_last v (data_of r.now) ∷ []))
+pub needed : {T : Type 0} (has_taken : T → T → List Data → Type 0) (first now : T) (v : Data) (c : Option Change) → CanChange (has_taken first now) v c → IfSome c (λ c. (first : T) × (items : List Data) × (old : Data) × has_taken first now (items ++ old ∷ []) × Changes c old v)
 needed has_taken first now v None h = tt
-needed has_taken first now v (Some r) h = (first, h.0, h.1)
+needed has_taken first now v (Some c) h = (first, h.0, h.1, h.2, h.3)
 
-pub can_replace : (q : Question) (old new : Standing) (has_taken : List Data → Type 0) (items : List Data) → IsStep q old new true → has_taken (items ++ data_of old.tree ∷ []) → CanReplace has_taken (data_of new.tree) new.replaced
-can_replace q old new has_taken items (next, standing, replaces) taken = replaced new.replaced replaces
+pub can_change : (q : Question) (old new : Standing) (has_taken : List Data → Type 0) (items : List Data) → IsStep q old new true → has_taken (items ++ data_of old.tree ∷ []) → CanChange has_taken (data_of new.tree) new.change
+can_change q old new has_taken items (next, standing, changes) taken = changed new.change changes
   where
-    replaced : (r : Option (Bor Tree)) → Replaces r (data_of old.tree) (data_of new.tree) → CanReplace has_taken (data_of new.tree) r
-    replaced None h = tt
-    replaced (Some r) h = (items, subst (λ u. has_taken (items ++ u ∷ [])) (sym h) taken)
+    changed : (c : Option Change) → ChangesIf c (data_of old.tree) (data_of new.tree) → CanChange has_taken (data_of new.tree) c
+    changed None h = tt
+    changed (Some c) h = (items, data_of old.tree, taken, h)
 
 -- the delay has room for a step
 pub step_within : (q : Question) (before after : ℕ) → Costs q before after (3 * q.limit) → IsWithinDelay q before after

@@ -4,4 +4,5 @@ pub mod Page
 pub mod Limit
 pub mod View
 pub mod Live
+pub mod Change
 pub mod Internal

@@ -12,7 +12,7 @@ ghost use Rattle.plan.specs.Samples.RuleOfParts.{admits_null};
 ghost use Rattle.plan.specs.declared.sort.Sort.TheVariants as sort;
 ghost use Rattle.enumerate.specs.Least.{IsLeast};
 ghost use Rattle.enumerate.specs.Internal.Nodes.{site, IsNodeOf, IsPartOf, HasSizeAt, Costs};
-ghost use Rattle.enumerate.specs.Internal.Candidates.{rows_of, stack_of};
+ghost use Rattle.enumerate.specs.Internal.Candidates.{used_rows, stack_of};
 ghost use Rattle.enumerate.specs.Internal.Steps.{KeepsMeter};
 ghost use Rattle.enumerate.specs.Internal.Rows.{slots_from, slot_in, ending_at, used_keys, IsSlotOf, AreUsed, IsOpen, AddsFirst, IsRow, still_used, IsValue, IsGrown, CostsSlots};
 ghost use Rattle.enumerate.specs.Internal.Following.{Continue, MembersContinue, GrownContinue, ItemsContinue, GrownItemsContinue};
@@ -21,8 +21,9 @@ ghost use Rattle.enumerate.specs.Internal.Lists.{AreFirst, CanFollow, IsFreshIte
 use crate::before::Before;
 use crate::leaves::{first_key, first_unused};
 use crate::moved::Step;
+use crate::naming::take_name;
 use crate::splitting::least_split;
-use crate::taken::{references, still_used};
+use crate::taken::{Chosen, Rows, still_used};
 use jtree::{Items, Member, Members, Text, Tree};
 use plan::{Distinct, Meter, Plan, PlanNode, SizeSet, Slot, Sort};
 use std::alloc::{AllocError, Global};
@@ -35,6 +36,7 @@ pub(crate) fn first<'p, Z: SizeSet>(
     node: PlanNode,
     size: u32,
     following: &mut Vec<&'p Tree>,
+    spare: &mut Vec<Text>,
     meter: &mut Meter,
 ) -> Result<Tree, AllocError>
     requires node { IsNodeOf plan.now node }
@@ -52,8 +54,17 @@ pub(crate) fn first<'p, Z: SizeSet>(
             following.clear();
             Ok(Tree::Null)
         }
-        Sort::Row => first_row(alloc, plan, node, size, &[], following, meter),
-        Sort::List => first_list(alloc, plan, node, size, following, meter),
+        Sort::Row => first_row(
+            alloc,
+            plan,
+            node,
+            size,
+            &Rows::Listed(&[]),
+            following,
+            spare,
+            meter,
+        ),
+        Sort::List => first_list(alloc, plan, node, size, following, spare, meter),
     }
 }
 
@@ -64,17 +75,18 @@ pub(crate) fn first_row<'p, Z: SizeSet>(
     plan: &'p Plan<Z>,
     node: PlanNode,
     size: u32,
-    used: &[&Tree],
+    used: &Rows<'_>,
     following: &mut Vec<&'p Tree>,
+    spare: &mut Vec<Text>,
     meter: &mut Meter,
 ) -> Result<Tree, AllocError>
     requires node { IsNodeOf plan.now node }
     requires row { sort_of (site plan.now node) ≡ sort.Row }
     requires some { 1 ≤ size }
     requires limit { size ≤ plan.now.limit }
-    requires open { IsOpen plan.now.pools (slots_from plan.now node 0) (ending_at plan.now node) nothing (size - 1) (rows_of used.now) }
-    ensures ok { IfOk result (λ v. IsLeast tree_cmp (IsRow plan.now node (size - 1) (rows_of used.now)) (data_of v)) }
-    ensures following { IfOk result (λ v. Continue (IsRow plan.now node (size - 1) (rows_of used.now)) (data_of v) (stack_of following.new.items)) }
+    requires open { IsOpen plan.now.pools (slots_from plan.now node 0) (ending_at plan.now node) nothing (size - 1) (used_rows used.now) }
+    ensures ok { IfOk result (λ v. IsLeast tree_cmp (IsRow plan.now node (size - 1) (used_rows used.now)) (data_of v)) }
+    ensures following { IfOk result (λ v. Continue (IsRow plan.now node (size - 1) (used_rows used.now)) (data_of v) (stack_of following.new.items)) }
     ensures steps { Costs plan.now meter.old meter.new size }
 {
     plan.sound_parts();
@@ -93,6 +105,7 @@ pub(crate) fn first_row<'p, Z: SizeSet>(
         used,
         &mut members,
         following,
+        spare,
         meter,
     )?;
     Ok(Tree::Object(Members { members }))
@@ -100,6 +113,7 @@ pub(crate) fn first_row<'p, Z: SizeSet>(
 
 /// Appends the first members of `room` nodes that stand in the slots from `place` on, where `before` stands before it.
 #[cycle(first)]
+#[inline(always)]
 pub(crate) fn first_slots<'p, Z: SizeSet>(
     alloc: Global,
     plan: &'p Plan<Z>,
@@ -107,9 +121,10 @@ pub(crate) fn first_slots<'p, Z: SizeSet>(
     place: u64,
     before: Before,
     room: u32,
-    used: &[&Tree],
+    used: &Rows<'_>,
     members: &mut Vec<Member>,
     following: &mut Vec<&'p Tree>,
+    spare: &mut Vec<Text>,
     meter: &mut Meter,
 ) -> Result<(), AllocError>
     requires node { IsNodeOf plan.now node }
@@ -117,9 +132,9 @@ pub(crate) fn first_slots<'p, Z: SizeSet>(
     requires taken { before.count ≤ place }
     requires some { 1 ≤ room }
     requires limit { before.count + room < plan.now.limit }
-    requires open { IsOpen plan.now.pools (slots_from plan.now node place) (ending_at plan.now node) before room (rows_of used.now) }
-    ensures ok { OnOk result (AddsFirst plan.now.pools (slots_from plan.now node place) (ending_at plan.now node) before room (rows_of used.now) members.old.items members.new.items) }
-    ensures following { OnOk result (MembersContinue plan.now.pools (slots_from plan.now node place) (rows_of used.now) (drop (length members.old.items) members.new.items) (stack_of following.new.items)) }
+    requires open { IsOpen plan.now.pools (slots_from plan.now node place) (ending_at plan.now node) before room (used_rows used.now) }
+    ensures ok { OnOk result (AddsFirst plan.now.pools (slots_from plan.now node place) (ending_at plan.now node) before room (used_rows used.now) members.old.items members.new.items) }
+    ensures following { OnOk result (MembersContinue plan.now.pools (slots_from plan.now node place) (used_rows used.now) (drop (length members.old.items) members.new.items) (stack_of following.new.items)) }
     ensures steps { CostsSlots plan.now node place meter.old meter.new room }
 {
     plan.sound_parts();
@@ -137,11 +152,12 @@ pub(crate) fn first_slots<'p, Z: SizeSet>(
             used,
             members,
             following,
+            spare,
             meter,
         );
     }
     grow_slots(
-        alloc, plan, node, &slot, place, before, room, 0, used, members, following, meter,
+        alloc, plan, node, &slot, place, before, room, 0, used, members, following, spare, meter,
     )?;
     Ok(())
 }
@@ -149,6 +165,7 @@ pub(crate) fn first_slots<'p, Z: SizeSet>(
 /// Appends the first part of the slot at `place` of a size from `from` on, and the first members behind it; or nothing, where there
 /// is no such size.
 #[cycle(first)]
+#[inline(always)]
 pub(crate) fn grow_slots<'p, Z: SizeSet>(
     alloc: Global,
     plan: &'p Plan<Z>,
@@ -158,9 +175,10 @@ pub(crate) fn grow_slots<'p, Z: SizeSet>(
     before: Before,
     room: u32,
     from: u32,
-    used: &[&Tree],
+    used: &Rows<'_>,
     members: &mut Vec<Member>,
     following: &mut Vec<&'p Tree>,
+    spare: &mut Vec<Text>,
     meter: &mut Meter,
 ) -> Result<Step, AllocError>
     requires node { IsNodeOf plan.now node }
@@ -168,9 +186,9 @@ pub(crate) fn grow_slots<'p, Z: SizeSet>(
     requires slot { IsSlotOf plan.now node place slot.now }
     requires taken { before.count ≤ place }
     requires limit { before.count + room < plan.now.limit }
-    requires open { IsOpen plan.now.pools (slots_from plan.now node place) (ending_at plan.now node) before room (rows_of used.now) }
-    ensures ok { IfOk result (λ step. IsGrown step plan.now.pools (slot_in plan.now node place) (slots_from plan.now node (place + 1)) (ending_at plan.now node) before room from (rows_of used.now) members.old.items members.new.items) }
-    ensures following { IfOk result (λ step. GrownContinue step plan.now.pools (slots_from plan.now node place) (rows_of used.now) (drop (length members.old.items) members.new.items) (stack_of following.new.items)) }
+    requires open { IsOpen plan.now.pools (slots_from plan.now node place) (ending_at plan.now node) before room (used_rows used.now) }
+    ensures ok { IfOk result (λ step. IsGrown step plan.now.pools (slot_in plan.now node place) (slots_from plan.now node (place + 1)) (ending_at plan.now node) before room from (used_rows used.now) members.old.items members.new.items) }
+    ensures following { IfOk result (λ step. GrownContinue step plan.now.pools (slots_from plan.now node place) (used_rows used.now) (drop (length members.old.items) members.new.items) (stack_of following.new.items)) }
     ensures steps { CostsSlots plan.now node (place + 1) meter.old meter.new room }
     ensures last { IfOk result (λ step. KeepsMeter step meter.old meter.new) }
 {
@@ -184,8 +202,11 @@ pub(crate) fn grow_slots<'p, Z: SizeSet>(
     let Some(size) = least_split(sizes, rest, room, from) else {
         return Ok(Step::Last(room));
     };
-    let tree = first_value(alloc, plan, node, slot, place, size, used, following, meter)?;
-    let name = Text::from_str(alloc, slot.name)?;
+    // Before the value, whose own names were kept before this one.
+    let name = take_name(alloc, slot.name, spare)?;
+    let tree = first_value(
+        alloc, plan, node, slot, place, size, used, following, spare, meter,
+    )?;
     put_member(
         alloc,
         plan,
@@ -198,6 +219,7 @@ pub(crate) fn grow_slots<'p, Z: SizeSet>(
         Member { name, tree },
         members,
         following,
+        spare,
         meter,
     )?;
     Ok(Step::Moved)
@@ -212,25 +234,26 @@ fn first_value<'p, Z: SizeSet>(
     slot: &Slot<'_>,
     place: u64,
     size: u32,
-    used: &[&Tree],
+    used: &Rows<'_>,
     following: &mut Vec<&'p Tree>,
+    spare: &mut Vec<Text>,
     meter: &mut Meter,
 ) -> Result<Tree, AllocError>
     requires node { IsNodeOf plan.now node }
     requires slot { IsSlotOf plan.now node place slot.now }
     requires size { HasSizeAt plan.now slot.now.node size }
     requires limit { size ≤ plan.now.limit }
-    requires known { AreUsed plan.now.pools (slots_from plan.now node place) (rows_of used.now) }
-    requires free { HasFree plan.now.pools (filter is_key (slots_from plan.now node place)) (used_keys (slots_from plan.now node place) (rows_of used.now)) [] }
-    ensures ok { IfOk result (λ v. IsLeast tree_cmp (IsValue plan.now.pools (slot_in plan.now node place) (slots_from plan.now node (place + 1)) (rows_of used.now) size) (data_of v)) }
-    ensures following { IfOk result (λ v. Continue (IsValue plan.now.pools (slot_in plan.now node place) (slots_from plan.now node (place + 1)) (rows_of used.now) size) (data_of v) (stack_of following.new.items)) }
+    requires known { AreUsed plan.now.pools (slots_from plan.now node place) (used_rows used.now) }
+    requires free { HasFree plan.now.pools (filter is_key (slots_from plan.now node place)) (used_keys (slots_from plan.now node place) (used_rows used.now)) [] }
+    ensures ok { IfOk result (λ v. IsLeast tree_cmp (IsValue plan.now.pools (slot_in plan.now node place) (slots_from plan.now node (place + 1)) (used_rows used.now) size) (data_of v)) }
+    ensures following { IfOk result (λ v. Continue (IsValue plan.now.pools (slot_in plan.now node place) (slots_from plan.now node (place + 1)) (used_rows used.now) size) (data_of v) (stack_of following.new.items)) }
     ensures steps { Costs plan.now meter.old meter.new size }
 {
     plan.sound_parts();
     if slot.key {
         return first_key(alloc, plan, slot, size, used, following, meter);
     }
-    first(alloc, plan, slot.node, size, following, meter)
+    first(alloc, plan, slot.node, size, following, spare, meter)
 }
 
 /// Appends a member, and the first members of `room` nodes behind it.
@@ -243,10 +266,11 @@ pub(crate) fn put_member<'p, Z: SizeSet>(
     place: u64,
     before: Before,
     room: u32,
-    used: &[&Tree],
+    used: &Rows<'_>,
     member: Member,
     members: &mut Vec<Member>,
     following: &mut Vec<&'p Tree>,
+    spare: &mut Vec<Text>,
     meter: &mut Meter,
 ) -> Result<(), AllocError>
     requires node { IsNodeOf plan.now node }
@@ -256,11 +280,11 @@ pub(crate) fn put_member<'p, Z: SizeSet>(
     requires limit { before.count + 1 + room < plan.now.limit }
     requires name { member.name ≡ (slot_in plan.now node place).name }
     requires part { IsPart plan.now.pools (slot_in plan.now node place).site (data_of member.tree) }
-    requires following { Continue (IsValue plan.now.pools (slot_in plan.now node place) (slots_from plan.now node (place + 1)) (rows_of used.now) (node_count (data_of member.tree))) (data_of member.tree) (stack_of following.old.items) }
-    requires open { IsOpen plan.now.pools (slots_from plan.now node (place + 1)) (ending_at plan.now node) (filled (slot_in plan.now node place).bit before) room (still_used (slot_in plan.now node place) (data_of member.tree) (rows_of used.now)) }
-    ensures ok { OnOk result (AddsFirst plan.now.pools (slots_from plan.now node (place + 1)) (ending_at plan.now node) (filled (slot_in plan.now node place).bit before) room (still_used (slot_in plan.now node place) (data_of member.tree) (rows_of used.now))
+    requires following { Continue (IsValue plan.now.pools (slot_in plan.now node place) (slots_from plan.now node (place + 1)) (used_rows used.now) (node_count (data_of member.tree))) (data_of member.tree) (stack_of following.old.items) }
+    requires open { IsOpen plan.now.pools (slots_from plan.now node (place + 1)) (ending_at plan.now node) (filled (slot_in plan.now node place).bit before) room (still_used (slot_in plan.now node place) (data_of member.tree) (used_rows used.now)) }
+    ensures ok { OnOk result (AddsFirst plan.now.pools (slots_from plan.now node (place + 1)) (ending_at plan.now node) (filled (slot_in plan.now node place).bit before) room (still_used (slot_in plan.now node place) (data_of member.tree) (used_rows used.now))
         (members.old.items ++ member ∷ []) members.new.items) }
-    ensures following { OnOk result (MembersContinue plan.now.pools (slots_from plan.now node place) (rows_of used.now) (drop (length members.old.items) members.new.items) (stack_of following.new.items)) }
+    ensures following { OnOk result (MembersContinue plan.now.pools (slots_from plan.now node place) (used_rows used.now) (drop (length members.old.items) members.new.items) (stack_of following.new.items)) }
     ensures steps { CostsSlots plan.now node (place + 1) meter.old meter.new room }
 {
     plan.sound_parts();
@@ -278,9 +302,12 @@ pub(crate) fn put_member<'p, Z: SizeSet>(
         place + 1,
         before.fill(slot),
         room,
-        same.as_slice(),
+        &Rows::Chosen(Chosen {
+            rows: same.as_slice(),
+        }),
         members,
         following,
+        spare,
         meter,
     )
 }
@@ -293,6 +320,7 @@ fn first_list<'p, Z: SizeSet>(
     node: PlanNode,
     size: u32,
     following: &mut Vec<&'p Tree>,
+    spare: &mut Vec<Text>,
     meter: &mut Meter,
 ) -> Result<Tree, AllocError>
     requires node { IsNodeOf plan.now node }
@@ -320,6 +348,7 @@ fn first_list<'p, Z: SizeSet>(
             size - 1,
             &mut items,
             following,
+            spare,
             meter,
         )?;
     }
@@ -336,6 +365,7 @@ pub(crate) fn first_items<'p, Z: SizeSet>(
     room: u32,
     items: &mut Vec<Tree>,
     following: &mut Vec<&'p Tree>,
+    spare: &mut Vec<Text>,
     meter: &mut Meter,
 ) -> Result<(), AllocError>
     requires node { IsNodeOf plan.now node }
@@ -348,7 +378,9 @@ pub(crate) fn first_items<'p, Z: SizeSet>(
 {
     plan.no_dead_end();
     if room > 0 {
-        grow_items(alloc, plan, node, child, room, 0, items, following, meter)?;
+        grow_items(
+            alloc, plan, node, child, room, 0, items, following, spare, meter,
+        )?;
     }
     Ok(())
 }
@@ -364,6 +396,7 @@ pub(crate) fn grow_items<'p, Z: SizeSet>(
     from: u32,
     items: &mut Vec<Tree>,
     following: &mut Vec<&'p Tree>,
+    spare: &mut Vec<Text>,
     meter: &mut Meter,
 ) -> Result<Step, AllocError>
     requires node { IsNodeOf plan.now node }
@@ -391,6 +424,7 @@ pub(crate) fn grow_items<'p, Z: SizeSet>(
         size,
         items.as_slice(),
         following,
+        spare,
         meter,
     )?;
     items.push(item)?;
@@ -402,6 +436,7 @@ pub(crate) fn grow_items<'p, Z: SizeSet>(
         room - size,
         items,
         following,
+        spare,
         meter,
     )?;
     Ok(Step::Moved)
@@ -417,6 +452,7 @@ fn first_item<'p, Z: SizeSet>(
     size: u32,
     items: &[Tree],
     following: &mut Vec<&'p Tree>,
+    spare: &mut Vec<Text>,
     meter: &mut Meter,
 ) -> Result<Tree, AllocError>
     requires node { IsNodeOf plan.now node }
@@ -433,11 +469,17 @@ fn first_item<'p, Z: SizeSet>(
     plan.sound_parts();
     plan.limit();
     match plan.distinct(node) {
-        Distinct::Free => first(alloc, plan, child, size, following, meter),
+        Distinct::Free => first(alloc, plan, child, size, following, spare, meter),
         Distinct::Whole => first_unused(alloc, plan, child, size, items, following, meter),
-        Distinct::Keys => {
-            let used = references(alloc, items)?;
-            first_row(alloc, plan, child, size, used.as_slice(), following, meter)
-        }
+        Distinct::Keys => first_row(
+            alloc,
+            plan,
+            child,
+            size,
+            &Rows::Listed(items),
+            following,
+            spare,
+            meter,
+        ),
     }
 }

@@ -5,7 +5,7 @@ ghost use Rattle.jtree.specs.View.{data_of, members_of};
 ghost use Rattle.plan.specs.Samples.Candidates.{sort_of};
 ghost use Rattle.plan.specs.Samples.Sizes.{AreFillings, filled};
 ghost use Rattle.plan.specs.declared.sort.Sort.TheVariants as sort;
-ghost use Rattle.enumerate.specs.Internal.Candidates.{rows_of, agreeing_if};
+ghost use Rattle.enumerate.specs.Internal.Candidates.{used_rows, agreeing_if};
 ghost use Rattle.enumerate.specs.Internal.Moves.{Begins};
 ghost use Rattle.enumerate.specs.Internal.Nodes.{site, IsNodeOf};
 ghost use Rattle.enumerate.specs.Internal.Prefixes.{members_to};
@@ -13,7 +13,7 @@ ghost use Rattle.enumerate.specs.Internal.Front.{agreeing_rows, IsFront};
 ghost use Rattle.enumerate.specs.Internal.Rows.{slots_from};
 
 use crate::before::Before;
-use crate::taken::still_used;
+use crate::taken::{Chosen, Rows, still_chosen, still_used};
 use jtree::{Member, Tree};
 use plan::{Meter, Plan, PlanNode, SizeSet, Slot};
 use std::alloc::{AllocError, Global};
@@ -28,12 +28,14 @@ pub(crate) struct Front<'a> {
 
 impl<'a> Front<'a> {
     /// The used rows that agree with it under the keys.
-    pub(crate) fn rows<'s>(&'s self, used: &'s [&'a Tree]) -> &'s [&'a Tree]
-        ensures { rows_of result.now ≡ agreeing_rows self.now.agreeing (rows_of used.now) }
+    pub(crate) fn rows<'s>(&'s self, used: &Rows<'a>) -> Rows<'s>
+        ensures { used_rows result ≡ agreeing_rows self.now.agreeing (used_rows used.now) }
     {
         match &self.agreeing {
-            Some(rows) => rows.as_slice(),
-            None => used,
+            Some(rows) => Rows::Chosen(Chosen {
+                rows: rows.as_slice(),
+            }),
+            None => *used,
         }
     }
 
@@ -43,12 +45,12 @@ impl<'a> Front<'a> {
         alloc: Global,
         slot: &Slot<'_>,
         value: &Tree,
-        used: &[&'a Tree],
+        used: &Rows<'a>,
     ) -> Result<Front<'a>, AllocError>
         requires room { self.before.count < 4294967295 }
         requires few { IfSome slot.now.bit (λ j. j < 4) }
         ensures before { IfOk result (λ front. front.before ≡ filled slot.now.bit self.entry.before) }
-        ensures rows { IfOk result (λ front. agreeing_rows front.agreeing (rows_of used.now) ≡ agreeing_if slot.now.key slot.now.name.now (data_of value.now) (agreeing_rows self.entry.agreeing (rows_of used.now))) }
+        ensures rows { IfOk result (λ front. agreeing_rows front.agreeing (used_rows used.now) ≡ agreeing_if slot.now.key slot.now.name.now (data_of value.now) (agreeing_rows self.entry.agreeing (used_rows used.now))) }
     {
         let before = self.before.fill(slot);
         if !slot.key {
@@ -57,7 +59,10 @@ impl<'a> Front<'a> {
                 agreeing: self.agreeing,
             });
         }
-        let rows = still_used(alloc, slot, value, self.rows(&*used))?;
+        let rows = match self.agreeing {
+            Some(rows) => still_chosen(alloc, slot, value, rows.as_slice())?,
+            None => still_used(alloc, slot, value, used)?,
+        };
         Ok(Front {
             before,
             agreeing: Some(rows),
@@ -76,13 +81,14 @@ fn begins(members: &[Member], place: usize, name: &str) -> bool
 }
 
 /// What is before a place of a row, of which these are the members there.
+#[inline(always)]
 pub(crate) fn front_at<'a, Z: SizeSet>(
     alloc: Global,
     plan: &Plan<Z>,
     node: PlanNode,
     place: u64,
     members: &[Member],
-    used: &[&'a Tree],
+    used: &Rows<'a>,
     meter: &mut Meter,
 ) -> Result<Front<'a>, AllocError>
     requires node { IsNodeOf plan.now node }
@@ -90,10 +96,9 @@ pub(crate) fn front_at<'a, Z: SizeSet>(
     requires place { place ≤ length (slots_from plan.now node 0) }
     requires limit { length members.now < plan.now.limit }
     ensures front { IfOk result (λ front. (gs : List (Option Data)) → AreFillings plan.now.pools (slots_from plan.now node 0) gs → members_of members.now ≡ members_to place (slots_from plan.now node 0) gs
-        → IsFront (slots_from plan.now node 0) place gs (rows_of used.now) front) }
+        → IsFront (slots_from plan.now node 0) place gs (used_rows used.now) front) }
     ensures steps { meter.new ≤ meter.old + place }
 {
-    plan.sound_parts();
     plan.limit();
     if !plan.names_fields(node) && (used.is_empty() || members.is_empty()) {
         return Ok(Front {
@@ -101,6 +106,29 @@ pub(crate) fn front_at<'a, Z: SizeSet>(
             agreeing: None,
         });
     }
+    find_front(alloc, plan, node, place, members, used, meter)
+}
+
+/// The same, found from the first slot on.
+fn find_front<'a, Z: SizeSet>(
+    alloc: Global,
+    plan: &Plan<Z>,
+    node: PlanNode,
+    place: u64,
+    members: &[Member],
+    used: &Rows<'a>,
+    meter: &mut Meter,
+) -> Result<Front<'a>, AllocError>
+    requires node { IsNodeOf plan.now node }
+    requires row { sort_of (site plan.now node) ≡ sort.Row }
+    requires place { place ≤ length (slots_from plan.now node 0) }
+    requires limit { length members.now < plan.now.limit }
+    ensures front { IfOk result (λ front. (gs : List (Option Data)) → AreFillings plan.now.pools (slots_from plan.now node 0) gs → members_of members.now ≡ members_to place (slots_from plan.now node 0) gs
+        → IsFront (slots_from plan.now node 0) place gs (used_rows used.now) front) }
+    ensures steps { meter.new ≤ meter.old + place }
+{
+    plan.sound_parts();
+    plan.limit();
     let mut front = Front {
         before: Before::nothing(),
         agreeing: None,
@@ -111,7 +139,7 @@ pub(crate) fn front_at<'a, Z: SizeSet>(
         };
         let next = front.before.count();
         if begins(members, next, slot.name) {
-            front = front.add(alloc, &slot, &members[next].tree, &*used)?;
+            front = front.add(alloc, &slot, &members[next].tree, used)?;
         }
     }
     Ok(front)

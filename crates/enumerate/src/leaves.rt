@@ -11,12 +11,12 @@ ghost use Rattle.enumerate.specs.Least.{IsLeast};
 ghost use Rattle.enumerate.specs.Page.{IsPast};
 ghost use Rattle.enumerate.specs.View.{resume_point, trees_of};
 ghost use Rattle.enumerate.specs.Internal.Nodes.{site, IsNodeOf, IsPartOf, Costs};
-ghost use Rattle.enumerate.specs.Internal.Candidates.{rows_of, IsFree, IsUnusedPart, IsFreeKey, IsChoice, stack_of};
+ghost use Rattle.enumerate.specs.Internal.Candidates.{used_rows, IsFree, IsUnusedPart, IsFreeKey, IsChoice, stack_of};
 ghost use Rattle.enumerate.specs.Internal.Moves.{IsMoved};
 ghost use Rattle.enumerate.specs.Internal.Following.{AreChoices, Continue, ContinueMoved};
 
 use crate::moved::Moved;
-use crate::taken::{KeyRows, Taken, is_free};
+use crate::taken::{KeyRows, Rows, Taken, is_free};
 use jtree::Tree;
 use plan::{Meter, Plan, PlanNode, SizeSet, Slot};
 use std::alloc::{AllocError, Global};
@@ -53,6 +53,7 @@ fn is_choice(size: u32, taken: &Taken<'_>, tree: &Tree) -> bool
 
 /// Replaces what is in `found` by the free candidates of a size past a place, the last one first. It looks at those past the place
 /// alone, and at the one before them.
+#[inline(always)]
 fn find_choices<'p, Z: SizeSet>(
     plan: &'p Plan<Z>,
     node: PlanNode,
@@ -108,6 +109,7 @@ pub(crate) fn has_later<Z: SizeSet>(
 
 /// Puts the last of the choices in the place of the tree, in its room, where there is one, and answers whether there is. Choices that
 /// have parts are dropped then.
+#[inline(always)]
 fn put_first<'p>(
     alloc: Global,
     size: u32,
@@ -130,6 +132,7 @@ fn put_first<'p>(
 
 /// The first free candidate of a size. `following` becomes those that continue it in its place, the last one first, and this
 /// candidate on top; it becomes empty where they have parts.
+#[inline(always)]
 fn first_free<'p, Z: SizeSet>(
     alloc: Global,
     plan: &'p Plan<Z>,
@@ -156,6 +159,7 @@ fn first_free<'p, Z: SizeSet>(
 }
 
 /// The next free candidate of the same size, in the room of the tree. `following` becomes what it becomes at the first one.
+#[inline(always)]
 fn next_free<'p, Z: SizeSet>(
     alloc: Global,
     plan: &'p Plan<Z>,
@@ -239,25 +243,26 @@ pub(crate) fn next_unused<'p, Z: SizeSet>(
 }
 
 /// The first candidate of a size for a key that leaves some tuple of keys unused.
+#[inline(always)]
 pub(crate) fn first_key<'p, Z: SizeSet>(
     alloc: Global,
     plan: &'p Plan<Z>,
     slot: &Slot<'_>,
     size: u32,
-    used: &[&Tree],
+    used: &Rows<'_>,
     following: &mut Vec<&'p Tree>,
     meter: &mut Meter,
 ) -> Result<Tree, AllocError>
     requires node { IsNodeOf plan.now slot.now.node }
     requires leaf { sort_of (site plan.now slot.now.node) ≡ sort.Leaf }
-    requires free { (v : Data) × IsFreeKey plan.now slot.now.node size slot.now.name.now (rows_of used.now) slot.now.later v }
-    ensures ok { IfOk result (λ v. IsLeast tree_cmp (IsFreeKey plan.now slot.now.node size slot.now.name.now (rows_of used.now) slot.now.later) (data_of v)) }
-    ensures following { IfOk result (λ v. Continue (IsFreeKey plan.now slot.now.node size slot.now.name.now (rows_of used.now) slot.now.later) (data_of v) (stack_of following.new.items)) }
+    requires free { (v : Data) × IsFreeKey plan.now slot.now.node size slot.now.name.now (used_rows used.now) slot.now.later v }
+    ensures ok { IfOk result (λ v. IsLeast tree_cmp (IsFreeKey plan.now slot.now.node size slot.now.name.now (used_rows used.now) slot.now.later) (data_of v)) }
+    ensures following { IfOk result (λ v. Continue (IsFreeKey plan.now slot.now.node size slot.now.name.now (used_rows used.now) slot.now.later) (data_of v) (stack_of following.new.items)) }
     ensures steps { Costs plan.now meter.old meter.new 1 }
 {
     let taken = Taken::Key(KeyRows {
         name: slot.name,
-        rows: used,
+        rows: *used,
         later: slot.later,
     });
     first_free(alloc, plan, slot.node, size, &taken, following, meter)
@@ -269,20 +274,20 @@ pub(crate) fn next_key<'p, Z: SizeSet>(
     plan: &'p Plan<Z>,
     slot: &Slot<'_>,
     tree: Tree,
-    used: &[&Tree],
+    used: &Rows<'_>,
     following: &mut Vec<&'p Tree>,
     meter: &mut Meter,
 ) -> Result<Moved, AllocError>
     requires node { IsNodeOf plan.now slot.now.node }
     requires leaf { sort_of (site plan.now slot.now.node) ≡ sort.Leaf }
     requires limit { node_count (data_of tree) < 4294967296 }
-    ensures ok { IfOk result (λ moved. IsMoved (IsFreeKey plan.now slot.now.node (node_count (data_of tree)) slot.now.name.now (rows_of used.now) slot.now.later) (data_of tree) moved) }
-    ensures following { IfOk result (λ moved. ContinueMoved (IsFreeKey plan.now slot.now.node (node_count (data_of tree)) slot.now.name.now (rows_of used.now) slot.now.later) moved (stack_of following.new.items)) }
+    ensures ok { IfOk result (λ moved. IsMoved (IsFreeKey plan.now slot.now.node (node_count (data_of tree)) slot.now.name.now (used_rows used.now) slot.now.later) (data_of tree) moved) }
+    ensures following { IfOk result (λ moved. ContinueMoved (IsFreeKey plan.now slot.now.node (node_count (data_of tree)) slot.now.name.now (used_rows used.now) slot.now.later) moved (stack_of following.new.items)) }
     ensures steps { Costs plan.now meter.old meter.new 1 }
 {
     let taken = Taken::Key(KeyRows {
         name: slot.name,
-        rows: used,
+        rows: *used,
         later: slot.later,
     });
     next_free(alloc, plan, slot.node, tree, &taken, following, meter)

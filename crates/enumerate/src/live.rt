@@ -66,11 +66,12 @@ impl<'p, Z: SizeSet> Live<'p, Z> {
         ensures steps { IsWithinDelay plan.now meter.old meter.new }
     {
         let mut following = Vec::new(alloc);
-        match first_from(alloc, plan, 0, &mut following, meter)? {
+        let mut spare = Vec::new(alloc);
+        match first_from(alloc, plan, 0, &mut following, &mut spare, meter)? {
             Some(tree) => Ok(Some(Live {
                 alloc,
                 plan,
-                standing: Some(Standing::at(plan, tree, following)),
+                standing: Some(Standing::at(plan, tree, following, spare)),
             })),
             None => Ok(None),
         }
@@ -97,11 +98,12 @@ impl<'p, Z: SizeSet> Live<'p, Z> {
         }
         let copy = copy_of(alloc, tree)?;
         let mut following = Vec::new(alloc);
-        match next_sample(alloc, plan, copy, &mut following, meter)? {
+        let mut spare = Vec::new(alloc);
+        match next_sample(alloc, plan, copy, &mut following, &mut spare, &mut 0, meter)? {
             Some(next) => Ok(Some(Live {
                 alloc,
                 plan,
-                standing: Some(Standing::at(plan, next, following)),
+                standing: Some(Standing::at(plan, next, following, spare)),
             })),
             None => Ok(None),
         }

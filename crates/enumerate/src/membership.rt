@@ -7,13 +7,13 @@ ghost use Rattle.plan.specs.Samples.Part.{IsPart};
 ghost use Rattle.plan.specs.Samples.Candidates.{sort_of};
 ghost use Rattle.plan.specs.declared.sort.Sort.TheVariants as sort;
 ghost use Rattle.enumerate.specs.Internal.Nodes.{site, IsNodeOf, Costs};
-ghost use Rattle.enumerate.specs.Internal.Candidates.{rows_of};
+ghost use Rattle.enumerate.specs.Internal.Candidates.{used_rows};
 ghost use Rattle.enumerate.specs.Internal.Rows.{slots_from, ending_at, CostsSlots};
 ghost use Rattle.enumerate.specs.Internal.Lists.{AreFirst, IsFreshItem};
 ghost use Rattle.enumerate.specs.Internal.Membership.{StandFresh, IsFreshRow, IsListOf};
 
 use crate::before::Before;
-use crate::taken::{references, still_used};
+use crate::taken::{Chosen, Rows, still_used};
 use jtree::{Member, Tree};
 use plan::{Distinct, Meter, Plan, PlanNode, SizeSet, Sort};
 use std::alloc::{AllocError, Global};
@@ -36,7 +36,7 @@ pub(crate) fn is_part<Z: SizeSet>(
     match plan.sort(node) {
         Sort::Leaf => Ok(is_candidate(plan, node, tree, meter)),
         _ if is_null(tree) => Ok(plan.null_ok(node)),
-        Sort::Row => is_fresh_row(alloc, plan, node, tree, &[], meter),
+        Sort::Row => is_fresh_row(alloc, plan, node, tree, &Rows::Listed(&[]), meter),
         Sort::List => is_list(alloc, plan, node, tree, meter),
     }
 }
@@ -77,13 +77,13 @@ fn is_fresh_row<Z: SizeSet>(
     plan: &Plan<Z>,
     node: PlanNode,
     tree: &Tree,
-    used: &[&Tree],
+    used: &Rows<'_>,
     meter: &mut Meter,
 ) -> Result<bool, AllocError>
     requires node { IsNodeOf plan.now node }
     requires row { sort_of (site plan.now node) ≡ sort.Row }
     requires limit { node_count (data_of tree.now) ≤ plan.now.limit }
-    ensures ok { IfOk result (λ is. IsTrue is ↔ IsFreshRow plan.now node (rows_of used.now) (data_of tree.now)) }
+    ensures ok { IfOk result (λ is. IsTrue is ↔ IsFreshRow plan.now node (used_rows used.now) (data_of tree.now)) }
     ensures steps { Costs plan.now meter.old meter.new (node_count (data_of tree.now)) }
 {
     match tree {
@@ -110,7 +110,7 @@ fn stand_fresh<Z: SizeSet>(
     node: PlanNode,
     place: u64,
     before: Before,
-    used: &[&Tree],
+    used: &Rows<'_>,
     members: &[Member],
     meter: &mut Meter,
 ) -> Result<bool, AllocError>
@@ -119,7 +119,7 @@ fn stand_fresh<Z: SizeSet>(
     requires place { place ≤ length (slots_from plan.now node 0) }
     requires taken { before.count ≤ place }
     requires limit { before.count + members_count (members_of members.now) < plan.now.limit }
-    ensures ok { IfOk result (λ is. IsTrue is ↔ StandFresh plan.now.pools (slots_from plan.now node place) (ending_at plan.now node) before (rows_of used.now) (members_of members.now)) }
+    ensures ok { IfOk result (λ is. IsTrue is ↔ StandFresh plan.now.pools (slots_from plan.now node place) (ending_at plan.now node) before (used_rows used.now) (members_of members.now)) }
     ensures steps { CostsSlots plan.now node place meter.old meter.new (members_count (members_of members.now)) }
 {
     plan.sound_parts();
@@ -144,7 +144,9 @@ fn stand_fresh<Z: SizeSet>(
         node,
         place + 1,
         before.fill(&slot),
-        same.as_slice(),
+        &Rows::Chosen(Chosen {
+            rows: same.as_slice(),
+        }),
         behind,
         meter,
     )
@@ -182,14 +184,14 @@ fn ends_fresh<Z: SizeSet>(
     node: PlanNode,
     place: u64,
     before: Before,
-    used: &[&Tree],
+    used: &Rows<'_>,
     members: &[Member],
 ) -> bool
     requires node { IsNodeOf plan.now node }
     requires row { sort_of (site plan.now node) ≡ sort.Row }
     requires place { place ≡ length (slots_from plan.now node 0) }
     requires taken { before.count ≤ place }
-    ensures { IsTrue result ↔ StandFresh plan.now.pools [] (ending_at plan.now node) before (rows_of used.now) (members_of members.now) }
+    ensures { IsTrue result ↔ StandFresh plan.now.pools [] (ending_at plan.now node) before (used_rows used.now) (members_of members.now) }
 {
     if !members.is_empty() {
         return false;
@@ -290,9 +292,6 @@ fn is_fresh_item<Z: SizeSet>(
             }
             is_part(alloc, plan, child, item, meter)
         }
-        Distinct::Keys => {
-            let used = references(alloc, items)?;
-            is_fresh_row(alloc, plan, child, item, used.as_slice(), meter)
-        }
+        Distinct::Keys => is_fresh_row(alloc, plan, child, item, &Rows::Listed(items), meter),
     }
 }

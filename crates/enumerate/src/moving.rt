@@ -8,13 +8,14 @@ ghost use Rattle.plan.specs.Samples.Sites.{item_site};
 ghost use Rattle.plan.specs.Samples.Candidates.{sort_of};
 ghost use Rattle.plan.specs.declared.sort.Sort.TheVariants as sort;
 ghost use Rattle.enumerate.specs.Internal.Nodes.{site, IsNodeOf, IsPartOf, Costs};
-ghost use Rattle.enumerate.specs.Internal.Candidates.{rows_of, stack_of};
+ghost use Rattle.enumerate.specs.Internal.Candidates.{used_rows, stack_of};
 ghost use Rattle.enumerate.specs.Internal.Rows.{slots_from, slot_in, ending_at, IsSlotOf, AreUsed, IsOpen, IsRow, IsValue, FitsSlot, CostsSlots};
 ghost use Rattle.enumerate.specs.Internal.Lists.{AreFirst, IsFreshItem};
 ghost use Rattle.enumerate.specs.Internal.Following.{ContinueMoved, GrownContinue, GrownItemsContinue};
 ghost use Rattle.enumerate.specs.Internal.Steps.{CostsLast, CostsLastStep, CostsLastSlots, CostsMembers, CostsFrom};
 ghost use Rattle.plan.specs.Samples.Sizes.{nothing, filled, CanFill};
 ghost use Rattle.enumerate.specs.Internal.Moves.{IsMoved, StandIn, AreMoved, AreLastBehind, AreItemsMoved};
+ghost use Rattle.enumerate.specs.Internal.Changes.{MovesAt, StepsAt, StepsAfter};
 ghost use Rattle.enumerate.specs.Internal.Prefixes.{EndsIn};
 ghost use Rattle.enumerate.specs.Internal.Walks.{IsWalkedTo, AreWalked, AreLeft, CostsLastAt, CostsLastFrom};
 
@@ -24,20 +25,25 @@ use crate::front::front_at;
 use crate::leaves::{has_later, next_key, next_unused};
 use crate::membership::is_null;
 use crate::moved::{Moved, Step};
+use crate::naming::keep_name;
 use crate::splitting::least_split;
-use crate::taken::references;
-use jtree::{Items, Member, Members, Tree};
+use crate::taken::Rows;
+use jtree::{Items, Member, Members, Text, Tree};
 use plan::{Distinct, Meter, Plan, PlanNode, SizeSet, Slot, Sort};
 use std::alloc::{AllocError, Global};
 
-/// The next part of as many nodes, made out of the part.
+/// The next part of as many nodes, made out of the part. `depth` becomes how many levels down the two differ: the part that is there,
+/// by the last item or member of each level, and nothing else.
 #[cycle(advance)]
+#[inline(always)]
 pub(crate) fn advance<'p, Z: SizeSet>(
     alloc: Global,
     plan: &'p Plan<Z>,
     node: PlanNode,
     tree: Tree,
     following: &mut Vec<&'p Tree>,
+    spare: &mut Vec<Text>,
+    depth: &mut usize,
     meter: &mut Meter,
 ) -> Result<Moved, AllocError>
     requires node { IsNodeOf plan.now node }
@@ -47,17 +53,32 @@ pub(crate) fn advance<'p, Z: SizeSet>(
     ensures following { IfOk result (λ moved. ContinueMoved (IsPartOf plan.now node (node_count (data_of tree))) moved (stack_of following.new.items)) }
     ensures steps { Costs plan.now meter.old meter.new (3 * node_count (data_of tree)) }
     ensures last { IfOk result (λ moved. CostsLast moved plan.now meter.old meter.new (node_count (data_of tree))) }
+    ensures place { IfOk result (λ moved. MovesAt depth.new (data_of tree) moved) }
 {
     plan.no_dead_end();
     plan.limit();
     match plan.sort(node) {
-        Sort::Leaf => next_unused(alloc, plan, node, tree, &[], following, meter),
+        Sort::Leaf => {
+            *depth = 0;
+            next_unused(alloc, plan, node, tree, &[], following, meter)
+        }
         _ if is_null(&tree) => {
+            *depth = 0;
             following.clear();
             Ok(past_null(alloc, plan, node))
         }
-        Sort::Row => advance_row(alloc, plan, node, tree, &[], following, meter),
-        Sort::List => advance_list(alloc, plan, node, tree, following, meter),
+        Sort::Row => advance_row(
+            alloc,
+            plan,
+            node,
+            tree,
+            &Rows::Listed(&[]),
+            following,
+            spare,
+            depth,
+            meter,
+        ),
+        Sort::List => advance_list(alloc, plan, node, tree, following, spare, depth, meter),
     }
 }
 
@@ -83,6 +104,7 @@ fn past_null<Z: SizeSet>(alloc: Global, plan: &Plan<Z>, node: PlanNode) -> Moved
 }
 
 /// The members of an object; none of another tree.
+#[inline(always)]
 fn into_members(tree: Tree) -> Option<Vec<Member>>
     ensures some { IfSome result (λ members. data_of tree ≡ object_data (members_of members.items)) }
     ensures none { IfNone result ((ms : MembersData) → data_of tree ≢ object_data ms) }
@@ -94,6 +116,7 @@ fn into_members(tree: Tree) -> Option<Vec<Member>>
 }
 
 /// The items of a list; none of another tree.
+#[inline(always)]
 fn into_items(tree: Tree) -> Option<Vec<Tree>>
     ensures some { IfSome result (λ items. data_of tree ≡ list_data (items_of items.items)) }
     ensures none { IfNone result ((ds : ItemsData) → data_of tree ≢ list_data ds) }
@@ -111,26 +134,39 @@ fn advance_row<'p, Z: SizeSet>(
     plan: &'p Plan<Z>,
     node: PlanNode,
     tree: Tree,
-    used: &[&Tree],
+    used: &Rows<'_>,
     following: &mut Vec<&'p Tree>,
+    spare: &mut Vec<Text>,
+    depth: &mut usize,
     meter: &mut Meter,
 ) -> Result<Moved, AllocError>
     requires node { IsNodeOf plan.now node }
     requires sort { sort_of (site plan.now node) ≡ sort.Row }
-    requires known { AreUsed plan.now.pools (slots_from plan.now node 0) (rows_of used.now) }
-    requires row { IsRow plan.now node (node_count (data_of tree) - 1) (rows_of used.now) (data_of tree) }
+    requires known { AreUsed plan.now.pools (slots_from plan.now node 0) (used_rows used.now) }
+    requires row { IsRow plan.now node (node_count (data_of tree) - 1) (used_rows used.now) (data_of tree) }
     requires limit { node_count (data_of tree) ≤ plan.now.limit }
-    ensures ok { IfOk result (λ moved. IsMoved (IsRow plan.now node (node_count (data_of tree) - 1) (rows_of used.now)) (data_of tree) moved) }
-    ensures following { IfOk result (λ moved. ContinueMoved (IsRow plan.now node (node_count (data_of tree) - 1) (rows_of used.now)) moved (stack_of following.new.items)) }
+    ensures ok { IfOk result (λ moved. IsMoved (IsRow plan.now node (node_count (data_of tree) - 1) (used_rows used.now)) (data_of tree) moved) }
+    ensures following { IfOk result (λ moved. ContinueMoved (IsRow plan.now node (node_count (data_of tree) - 1) (used_rows used.now)) moved (stack_of following.new.items)) }
     ensures steps { Costs plan.now meter.old meter.new (3 * node_count (data_of tree)) }
     ensures last { IfOk result (λ moved. CostsLast moved plan.now meter.old meter.new (node_count (data_of tree))) }
+    ensures place { IfOk result (λ moved. MovesAt depth.new (data_of tree) moved) }
 {
     plan.sound_parts();
     plan.limit();
     let Some(mut members) = into_members(tree) else {
         unreachable!()
     };
-    let step = advance_members(alloc, plan, node, used, &mut members, following, meter)?;
+    let step = advance_members(
+        alloc,
+        plan,
+        node,
+        used,
+        &mut members,
+        following,
+        spare,
+        depth,
+        meter,
+    )?;
     match step {
         Step::Moved => Ok(Moved::To(Tree::Object(Members { members }))),
         Step::Last(room) => Ok(Moved::Last(room + 1)),
@@ -143,21 +179,24 @@ fn advance_members<'p, Z: SizeSet>(
     alloc: Global,
     plan: &'p Plan<Z>,
     node: PlanNode,
-    used: &[&Tree],
+    used: &Rows<'_>,
     members: &mut Vec<Member>,
     following: &mut Vec<&'p Tree>,
+    spare: &mut Vec<Text>,
+    depth: &mut usize,
     meter: &mut Meter,
 ) -> Result<Step, AllocError>
     requires node { IsNodeOf plan.now node }
     requires row { sort_of (site plan.now node) ≡ sort.Row }
-    requires used { AreUsed plan.now.pools (slots_from plan.now node 0) (rows_of used.now) }
-    requires stand { (gs : List (Option Data)) × StandIn plan.now.pools (slots_from plan.now node 0) (ending_at plan.now node) nothing (rows_of used.now) members.old.items gs }
+    requires used { AreUsed plan.now.pools (slots_from plan.now node 0) (used_rows used.now) }
+    requires stand { (gs : List (Option Data)) × StandIn plan.now.pools (slots_from plan.now node 0) (ending_at plan.now node) nothing (used_rows used.now) members.old.items gs }
     requires limit { members_count (members_of members.old.items) < plan.now.limit }
-    ensures moved { IfOk result (λ step. (gs : List (Option Data)) → StandIn plan.now.pools (slots_from plan.now node 0) (ending_at plan.now node) nothing (rows_of used.now) members.old.items gs
-        → AreMoved step plan.now.pools (slots_from plan.now node 0) (ending_at plan.now node) nothing (rows_of used.now) gs members.new.items) }
-    ensures following { IfOk result (λ step. GrownContinue step plan.now.pools (slots_from plan.now node 0) (rows_of used.now) members.new.items (stack_of following.new.items)) }
+    ensures moved { IfOk result (λ step. (gs : List (Option Data)) → StandIn plan.now.pools (slots_from plan.now node 0) (ending_at plan.now node) nothing (used_rows used.now) members.old.items gs
+        → AreMoved step plan.now.pools (slots_from plan.now node 0) (ending_at plan.now node) nothing (used_rows used.now) gs members.new.items) }
+    ensures following { IfOk result (λ step. GrownContinue step plan.now.pools (slots_from plan.now node 0) (used_rows used.now) members.new.items (stack_of following.new.items)) }
     ensures steps { CostsMembers plan.now node meter.old meter.new (members_count (members_of members.old.items)) }
     ensures last { IfOk result (λ step. CostsLastSlots step plan.now node 0 meter.old meter.new (2 * members_count (members_of members.old.items))) }
+    ensures place { IfOk result (λ step. StepsAt depth.new (object_data (members_of members.old.items)) step (object_data (members_of members.new.items))) }
 {
     plan.sound_parts();
     plan.limit();
@@ -176,6 +215,8 @@ fn advance_members<'p, Z: SizeSet>(
             used,
             members,
             following,
+            spare,
+            depth,
             meter,
         )? {
             Step::Moved => return Ok(Step::Moved),
@@ -196,22 +237,25 @@ fn advance_at<'p, Z: SizeSet>(
     place: u64,
     room: u32,
     before: &mut Before,
-    used: &[&Tree],
+    used: &Rows<'_>,
     members: &mut Vec<Member>,
     following: &mut Vec<&'p Tree>,
+    spare: &mut Vec<Text>,
+    depth: &mut usize,
     meter: &mut Meter,
 ) -> Result<Step, AllocError>
     requires node { IsNodeOf plan.now node }
     requires row { sort_of (site plan.now node) ≡ sort.Row }
     requires place { place < length (slots_from plan.now node 0) }
-    requires used { AreUsed plan.now.pools (slots_from plan.now node 0) (rows_of used.now) }
-    requires walked { (gs : List (Option Data)) × IsWalkedTo plan.now node (place + 1) room (rows_of used.now) before.old members.old.items gs }
+    requires used { AreUsed plan.now.pools (slots_from plan.now node 0) (used_rows used.now) }
+    requires walked { (gs : List (Option Data)) × IsWalkedTo plan.now node (place + 1) room (used_rows used.now) before.old members.old.items gs }
     requires limit { members_count (members_of members.old.items) + room < plan.now.limit }
-    ensures moved { IfOk result (λ step. (gs : List (Option Data)) → IsWalkedTo plan.now node (place + 1) room (rows_of used.now) before.old members.old.items gs
-        → AreWalked step plan.now node place (rows_of used.now) before.new members.new.items gs) }
-    ensures following { IfOk result (λ step. GrownContinue step plan.now.pools (slots_from plan.now node 0) (rows_of used.now) members.new.items (stack_of following.new.items)) }
+    ensures moved { IfOk result (λ step. (gs : List (Option Data)) → IsWalkedTo plan.now node (place + 1) room (used_rows used.now) before.old members.old.items gs
+        → AreWalked step plan.now node place (used_rows used.now) before.new members.new.items gs) }
+    ensures following { IfOk result (λ step. GrownContinue step plan.now.pools (slots_from plan.now node 0) (used_rows used.now) members.new.items (stack_of following.new.items)) }
     ensures steps { CostsFrom plan.now node meter.old meter.new (3 * members_count (members_of members.old.items) + room) }
     ensures last { IfOk result (λ step. CostsLastAt step plan.now room meter.old meter.new) }
+    ensures place { IfOk result (λ step. StepsAfter room depth.new (object_data (members_of members.old.items)) step (object_data (members_of members.new.items))) }
 {
     plan.sound_parts();
     plan.limit();
@@ -220,11 +264,16 @@ fn advance_at<'p, Z: SizeSet>(
     };
     match pop_named(members, slot.name) {
         Some(member) => advance_taken(
-            alloc, plan, node, &slot, place, room, before, used, member, members, following, meter,
+            alloc, plan, node, &slot, place, room, before, used, member, members, following, spare,
+            depth, meter,
         ),
-        None => fill_at(
-            alloc, plan, node, &slot, place, *before, room, used, members, following, meter,
-        ),
+        None => {
+            *depth = 0;
+            fill_at(
+                alloc, plan, node, &slot, place, *before, room, used, members, following, spare,
+                meter,
+            )
+        }
     }
 }
 
@@ -238,31 +287,36 @@ fn advance_taken<'p, Z: SizeSet>(
     place: u64,
     room: u32,
     before: &mut Before,
-    used: &[&Tree],
+    used: &Rows<'_>,
     member: Member,
     members: &mut Vec<Member>,
     following: &mut Vec<&'p Tree>,
+    spare: &mut Vec<Text>,
+    depth: &mut usize,
     meter: &mut Meter,
 ) -> Result<Step, AllocError>
     requires node { IsNodeOf plan.now node }
     requires row { sort_of (site plan.now node) ≡ sort.Row }
     requires slot { IsSlotOf plan.now node place slot.now }
     requires place { place < length (slots_from plan.now node 0) }
-    requires used { AreUsed plan.now.pools (slots_from plan.now node 0) (rows_of used.now) }
+    requires used { AreUsed plan.now.pools (slots_from plan.now node 0) (used_rows used.now) }
     requires name { member.name ≡ (slot_in plan.now node place).name }
-    requires walked { (gs : List (Option Data)) × IsWalkedTo plan.now node (place + 1) room (rows_of used.now) before.old (members.old.items ++ member ∷ []) gs }
+    requires walked { (gs : List (Option Data)) × IsWalkedTo plan.now node (place + 1) room (used_rows used.now) before.old (members.old.items ++ member ∷ []) gs }
     requires limit { members_count (members_of members.old.items) + (room + node_count (data_of member.tree)) < plan.now.limit }
-    ensures moved { IfOk result (λ step. (gs : List (Option Data)) → IsWalkedTo plan.now node (place + 1) room (rows_of used.now) before.old (members.old.items ++ member ∷ []) gs
-        → AreWalked step plan.now node place (rows_of used.now) before.new members.new.items gs) }
-    ensures following { IfOk result (λ step. GrownContinue step plan.now.pools (slots_from plan.now node 0) (rows_of used.now) members.new.items (stack_of following.new.items)) }
+    ensures moved { IfOk result (λ step. (gs : List (Option Data)) → IsWalkedTo plan.now node (place + 1) room (used_rows used.now) before.old (members.old.items ++ member ∷ []) gs
+        → AreWalked step plan.now node place (used_rows used.now) before.new members.new.items gs) }
+    ensures following { IfOk result (λ step. GrownContinue step plan.now.pools (slots_from plan.now node 0) (used_rows used.now) members.new.items (stack_of following.new.items)) }
     ensures steps { CostsSlots plan.now node 0 meter.old meter.new (3 * node_count (data_of member.tree) + room) }
     ensures last { IfOk result (λ step. CostsLastFrom step plan.now room meter.old meter.new) }
+    ensures place { IfOk result (λ step. StepsAfter room depth.new (object_data (members_of (members.old.items ++ member ∷ []))) step (object_data (members_of members.new.items))) }
 {
     plan.sound_parts();
     plan.limit();
     // A key without a later candidate has no next value, whatever is before it.
     if slot.key && !plan.names_fields(node) && !has_later(plan, slot.node, &member.tree, meter) {
         *before = Before::unnamed(members.len() as u32);
+        let Member { name, tree: _ } = member;
+        keep_name(spare, name);
         return Ok(Step::Last(room + 1));
     }
     let front = front_at(alloc, plan, node, place, members.as_slice(), used, meter)?;
@@ -275,10 +329,12 @@ fn advance_taken<'p, Z: SizeSet>(
         place,
         front.before,
         room,
-        front.rows(&*used),
+        &front.rows(used),
         member,
         members,
         following,
+        spare,
+        depth,
         meter,
     )
 }
@@ -292,22 +348,23 @@ fn fill_at<'p, Z: SizeSet>(
     place: u64,
     before: Before,
     room: u32,
-    used: &[&Tree],
+    used: &Rows<'_>,
     members: &mut Vec<Member>,
     following: &mut Vec<&'p Tree>,
+    spare: &mut Vec<Text>,
     meter: &mut Meter,
 ) -> Result<Step, AllocError>
     requires node { IsNodeOf plan.now node }
     requires row { sort_of (site plan.now node) ≡ sort.Row }
     requires slot { IsSlotOf plan.now node place slot.now }
     requires place { place < length (slots_from plan.now node 0) }
-    requires used { AreUsed plan.now.pools (slots_from plan.now node 0) (rows_of used.now) }
+    requires used { AreUsed plan.now.pools (slots_from plan.now node 0) (used_rows used.now) }
     requires out { EndsIn (slot_in plan.now node place).name members.old.items → ⊥ }
-    requires walked { (gs : List (Option Data)) × IsWalkedTo plan.now node (place + 1) room (rows_of used.now) before members.old.items gs }
+    requires walked { (gs : List (Option Data)) × IsWalkedTo plan.now node (place + 1) room (used_rows used.now) before members.old.items gs }
     requires limit { members_count (members_of members.old.items) + room < plan.now.limit }
-    ensures moved { IfOk result (λ step. (gs : List (Option Data)) → IsWalkedTo plan.now node (place + 1) room (rows_of used.now) before members.old.items gs
-        → AreWalked step plan.now node place (rows_of used.now) before members.new.items gs) }
-    ensures following { IfOk result (λ step. GrownContinue step plan.now.pools (slots_from plan.now node 0) (rows_of used.now) members.new.items (stack_of following.new.items)) }
+    ensures moved { IfOk result (λ step. (gs : List (Option Data)) → IsWalkedTo plan.now node (place + 1) room (used_rows used.now) before members.old.items gs
+        → AreWalked step plan.now node place (used_rows used.now) before members.new.items gs) }
+    ensures following { IfOk result (λ step. GrownContinue step plan.now.pools (slots_from plan.now node 0) (used_rows used.now) members.new.items (stack_of following.new.items)) }
     ensures steps { CostsSlots plan.now node 0 meter.old meter.new room }
     ensures last { IfOk result (λ step. CostsLastFrom step plan.now room meter.old meter.new) }
 {
@@ -326,9 +383,10 @@ fn fill_at<'p, Z: SizeSet>(
         before,
         room,
         0,
-        front.rows(&*used),
+        &front.rows(used),
         members,
         following,
+        spare,
         meter,
     )?;
     match step {
@@ -369,10 +427,12 @@ fn advance_member<'p, Z: SizeSet>(
     place: u64,
     before: Before,
     room: u32,
-    used: &[&Tree],
+    used: &Rows<'_>,
     member: Member,
     members: &mut Vec<Member>,
     following: &mut Vec<&'p Tree>,
+    spare: &mut Vec<Text>,
+    depth: &mut usize,
     meter: &mut Meter,
 ) -> Result<Step, AllocError>
     requires node { IsNodeOf plan.now node }
@@ -380,25 +440,29 @@ fn advance_member<'p, Z: SizeSet>(
     requires slot { IsSlotOf plan.now node place slot.now }
     requires taken { before.count ≤ place }
     requires front { length members.old.items ≡ before.count }
-    requires known { AreUsed plan.now.pools (slots_from plan.now node place) (rows_of used.now) }
+    requires known { AreUsed plan.now.pools (slots_from plan.now node place) (used_rows used.now) }
     requires name { member.name ≡ (slot_in plan.now node place).name }
-    requires value { IsValue plan.now.pools (slot_in plan.now node place) (slots_from plan.now node (place + 1)) (rows_of used.now) (node_count (data_of member.tree)) (data_of member.tree) }
+    requires value { IsValue plan.now.pools (slot_in plan.now node place) (slots_from plan.now node (place + 1)) (used_rows used.now) (node_count (data_of member.tree)) (data_of member.tree) }
     requires rest { CanFill plan.now.pools (slots_from plan.now node (place + 1)) (ending_at plan.now node) (filled (slot_in plan.now node place).bit before) room }
-    requires open { IsOpen plan.now.pools (slots_from plan.now node place) (ending_at plan.now node) before (room + node_count (data_of member.tree)) (rows_of used.now) }
+    requires open { IsOpen plan.now.pools (slots_from plan.now node place) (ending_at plan.now node) before (room + node_count (data_of member.tree)) (used_rows used.now) }
     requires limit { before.count + (room + node_count (data_of member.tree)) < plan.now.limit }
     ensures kept { IfOk result (λ _. take before.count members.new.items ≡ members.old.items) }
-    ensures moved { IfOk result (λ step. (gs : List (Option Data)) (others : List Member) → AreLastBehind plan.now node place before (rows_of used.now) member others room gs
-        → AreMoved step plan.now.pools (slots_from plan.now node place) (ending_at plan.now node) before (rows_of used.now) gs (drop before.count members.new.items)) }
-    ensures following { IfOk result (λ step. GrownContinue step plan.now.pools (slots_from plan.now node place) (rows_of used.now) (drop before.count members.new.items) (stack_of following.new.items)) }
+    ensures moved { IfOk result (λ step. (gs : List (Option Data)) (others : List Member) → AreLastBehind plan.now node place before (used_rows used.now) member others room gs
+        → AreMoved step plan.now.pools (slots_from plan.now node place) (ending_at plan.now node) before (used_rows used.now) gs (drop before.count members.new.items)) }
+    ensures following { IfOk result (λ step. GrownContinue step plan.now.pools (slots_from plan.now node place) (used_rows used.now) (drop before.count members.new.items) (stack_of following.new.items)) }
     ensures steps { CostsSlots plan.now node (place + 1) meter.old meter.new (3 * node_count (data_of member.tree) + room) }
     ensures left { IfOk result (λ step. AreLeft step members.old.items members.new.items) }
     ensures last { IfOk result (λ step. CostsLastStep step plan.now meter.old meter.new (2 * node_count (data_of member.tree) - 1)) }
+    ensures place { IfOk result (λ step. StepsAfter room depth.new (object_data (members_of (members.old.items ++ member ∷ []))) step (object_data (members_of members.new.items))) }
 {
     plan.sound_parts();
     plan.limit();
     let Member { name, tree } = member;
-    match advance_value(alloc, plan, node, slot, place, tree, used, following, meter)? {
+    match advance_value(
+        alloc, plan, node, slot, place, tree, used, following, spare, depth, meter,
+    )? {
         Moved::To(tree) => {
+            *depth = below(room, *depth);
             put_member(
                 alloc,
                 plan,
@@ -411,25 +475,41 @@ fn advance_member<'p, Z: SizeSet>(
                 Member { name, tree },
                 members,
                 following,
+                spare,
                 meter,
             )?;
             Ok(Step::Moved)
         }
-        Moved::Last(size) => grow_slots(
-            alloc,
-            plan,
-            node,
-            slot,
-            place,
-            before,
-            room + size,
-            size + 1,
-            used,
-            members,
-            following,
-            meter,
-        ),
+        Moved::Last(size) => {
+            *depth = 0;
+            keep_name(spare, name);
+            grow_slots(
+                alloc,
+                plan,
+                node,
+                slot,
+                place,
+                before,
+                room + size,
+                size + 1,
+                used,
+                members,
+                following,
+                spare,
+                meter,
+            )
+        }
     }
+}
+
+/// How many levels down a list or an object differs from the one before it, where its part at some place moved, which differs so many
+/// levels down, and parts of `room` nodes after it are others.
+fn below(room: u32, depth: usize) -> usize
+    requires { depth < 4294967295 }
+    ensures last { room ≡ 0 → result ≡ depth + 1 }
+    ensures other { (room ≡ 0 → ⊥) → result ≡ 0 }
+{
+    if room == 0 { depth + 1 } else { 0 }
 }
 
 /// Takes the last member off, where it has the name.
@@ -454,36 +534,43 @@ fn advance_value<'p, Z: SizeSet>(
     slot: &Slot<'_>,
     place: u64,
     tree: Tree,
-    used: &[&Tree],
+    used: &Rows<'_>,
     following: &mut Vec<&'p Tree>,
+    spare: &mut Vec<Text>,
+    depth: &mut usize,
     meter: &mut Meter,
 ) -> Result<Moved, AllocError>
     requires node { IsNodeOf plan.now node }
     requires slot { IsSlotOf plan.now node place slot.now }
-    requires known { AreUsed plan.now.pools (slots_from plan.now node place) (rows_of used.now) }
-    requires value { IsValue plan.now.pools (slot_in plan.now node place) (slots_from plan.now node (place + 1)) (rows_of used.now) (node_count (data_of tree)) (data_of tree) }
+    requires known { AreUsed plan.now.pools (slots_from plan.now node place) (used_rows used.now) }
+    requires value { IsValue plan.now.pools (slot_in plan.now node place) (slots_from plan.now node (place + 1)) (used_rows used.now) (node_count (data_of tree)) (data_of tree) }
     requires limit { node_count (data_of tree) ≤ plan.now.limit }
-    ensures ok { IfOk result (λ moved. IsMoved (IsValue plan.now.pools (slot_in plan.now node place) (slots_from plan.now node (place + 1)) (rows_of used.now) (node_count (data_of tree))) (data_of tree) moved) }
-    ensures following { IfOk result (λ moved. ContinueMoved (IsValue plan.now.pools (slot_in plan.now node place) (slots_from plan.now node (place + 1)) (rows_of used.now) (node_count (data_of tree))) moved (stack_of following.new.items)) }
+    ensures ok { IfOk result (λ moved. IsMoved (IsValue plan.now.pools (slot_in plan.now node place) (slots_from plan.now node (place + 1)) (used_rows used.now) (node_count (data_of tree))) (data_of tree) moved) }
+    ensures following { IfOk result (λ moved. ContinueMoved (IsValue plan.now.pools (slot_in plan.now node place) (slots_from plan.now node (place + 1)) (used_rows used.now) (node_count (data_of tree))) moved (stack_of following.new.items)) }
     ensures steps { Costs plan.now meter.old meter.new (3 * node_count (data_of tree)) }
     ensures last { IfOk result (λ moved. CostsLast moved plan.now meter.old meter.new (node_count (data_of tree))) }
+    ensures place { IfOk result (λ moved. MovesAt depth.new (data_of tree) moved) }
 {
     plan.sound_parts();
     plan.limit();
     if slot.key {
+        *depth = 0;
         return next_key(alloc, plan, slot, tree, used, following, meter);
     }
-    advance(alloc, plan, slot.node, tree, following, meter)
+    advance(alloc, plan, slot.node, tree, following, spare, depth, meter)
 }
 
 /// The next list of as many nodes.
 #[cycle(advance)]
+#[inline(always)]
 fn advance_list<'p, Z: SizeSet>(
     alloc: Global,
     plan: &'p Plan<Z>,
     node: PlanNode,
     tree: Tree,
     following: &mut Vec<&'p Tree>,
+    spare: &mut Vec<Text>,
+    depth: &mut usize,
     meter: &mut Meter,
 ) -> Result<Moved, AllocError>
     requires node { IsNodeOf plan.now node }
@@ -495,6 +582,7 @@ fn advance_list<'p, Z: SizeSet>(
     ensures following { IfOk result (λ moved. ContinueMoved (IsPartOf plan.now node (node_count (data_of tree))) moved (stack_of following.new.items)) }
     ensures steps { Costs plan.now meter.old meter.new (3 * node_count (data_of tree)) }
     ensures last { IfOk result (λ moved. CostsLast moved plan.now meter.old meter.new (node_count (data_of tree))) }
+    ensures place { IfOk result (λ moved. MovesAt depth.new (data_of tree) moved) }
 {
     plan.no_dead_end();
     plan.limit();
@@ -507,7 +595,9 @@ fn advance_list<'p, Z: SizeSet>(
     let Some(child) = plan.item(node, 0, meter) else {
         unreachable!()
     };
-    match advance_items(alloc, plan, node, child, &mut items, following, meter)? {
+    match advance_items(
+        alloc, plan, node, child, &mut items, following, spare, depth, meter,
+    )? {
         Step::Moved => Ok(Moved::To(Tree::List(Items { items }))),
         Step::Last(room) => Ok(Moved::Last(room + 1)),
     }
@@ -522,6 +612,8 @@ fn advance_items<'p, Z: SizeSet>(
     child: PlanNode,
     items: &mut Vec<Tree>,
     following: &mut Vec<&'p Tree>,
+    spare: &mut Vec<Text>,
+    depth: &mut usize,
     meter: &mut Meter,
 ) -> Result<Step, AllocError>
     requires node { IsNodeOf plan.now node }
@@ -533,6 +625,7 @@ fn advance_items<'p, Z: SizeSet>(
     ensures following { IfOk result (λ step. GrownItemsContinue step plan.now node child (items_of items.new.items) (stack_of following.new.items)) }
     ensures steps { Costs plan.now meter.old meter.new (3 * items_count (items_of items.old.items)) }
     ensures last { IfOk result (λ step. CostsLastStep step plan.now meter.old meter.new (2 * items_count (items_of items.old.items))) }
+    ensures place { IfOk result (λ step. StepsAt depth.new (list_data (items_of items.old.items)) step (list_data (items_of items.new.items))) }
 {
     plan.no_dead_end();
     plan.limit();
@@ -546,14 +639,20 @@ fn advance_items<'p, Z: SizeSet>(
             item,
             items.as_slice(),
             following,
+            spare,
+            depth,
             meter,
         )? {
             Moved::To(next) => {
                 items.push(next)?;
-                first_items(alloc, plan, node, child, room, items, following, meter)?;
+                *depth = below(room, *depth);
+                first_items(
+                    alloc, plan, node, child, room, items, following, spare, meter,
+                )?;
                 return Ok(Step::Moved);
             }
             Moved::Last(size) => {
+                *depth = 0;
                 room += size;
                 if let Step::Moved = grow_items(
                     alloc,
@@ -564,6 +663,7 @@ fn advance_items<'p, Z: SizeSet>(
                     size + 1,
                     items,
                     following,
+                    spare,
                     meter,
                 )? {
                     return Ok(Step::Moved);
@@ -584,6 +684,8 @@ fn advance_item<'p, Z: SizeSet>(
     item: Tree,
     items: &[Tree],
     following: &mut Vec<&'p Tree>,
+    spare: &mut Vec<Text>,
+    depth: &mut usize,
     meter: &mut Meter,
 ) -> Result<Moved, AllocError>
     requires node { IsNodeOf plan.now node }
@@ -595,16 +697,22 @@ fn advance_item<'p, Z: SizeSet>(
     ensures following { IfOk result (λ moved. ContinueMoved (IsFreshItem plan.now node child (node_count (data_of item)) (items_of items.now)) moved (stack_of following.new.items)) }
     ensures steps { Costs plan.now meter.old meter.new (3 * node_count (data_of item)) }
     ensures last { IfOk result (λ moved. CostsLast moved plan.now meter.old meter.new (node_count (data_of item))) }
+    ensures place { IfOk result (λ moved. MovesAt depth.new (data_of item) moved) }
 {
     plan.no_dead_end();
     plan.sound_parts();
     plan.limit();
     match plan.distinct(node) {
-        Distinct::Free => advance(alloc, plan, child, item, following, meter),
-        Distinct::Whole => next_unused(alloc, plan, child, item, items, following, meter),
+        Distinct::Free => advance(alloc, plan, child, item, following, spare, depth, meter),
+        Distinct::Whole => {
+            *depth = 0;
+            next_unused(alloc, plan, child, item, items, following, meter)
+        }
         Distinct::Keys => {
-            let used = references(alloc, items)?;
-            advance_row(alloc, plan, child, item, used.as_slice(), following, meter)
+            let used = Rows::Listed(items);
+            advance_row(
+                alloc, plan, child, item, &used, following, spare, depth, meter,
+            )
         }
     }
 }

@@ -11,7 +11,7 @@ use crate::copying::copy_of;
 use crate::fault::EFault;
 use crate::listed::Page;
 use crate::live::Live;
-use crate::taking::Taker;
+use crate::taking::{Change, Taker};
 use jtree::Tree;
 use plan::{Meter, Plan, SizeSet};
 use std::alloc::{AllocError, Global};
@@ -66,7 +66,7 @@ impl Taker for Copies {
 
     ghost none_taken = { λ now. sym (append-nil (trees_of now.items.items)) };
 
-    fn take(&mut self, sample: &Tree, _replaced: Option<&Tree>) -> Result<(), AllocError> {
+    fn take(&mut self, sample: &Tree, _change: Option<Change<'_>>) -> Result<(), AllocError> {
         self.items.push(copy_of(self.alloc, sample)?)?;
         Ok(())
     }

@@ -6,22 +6,36 @@ ghost use Rattle.enumerate.specs.Live.{IsNextSample, LendsPage, LendsPart};
 ghost use Rattle.enumerate.specs.Page.{IsSampleOf};
 ghost use Rattle.enumerate.specs.Internal.Nodes.{Costs};
 ghost use Rattle.enumerate.specs.Internal.Candidates.{stack_of};
-ghost use Rattle.enumerate.specs.Internal.Standing.{ContinueSample, IsStanding, IsStep, unless_ended};
+ghost use Rattle.enumerate.specs.Internal.Changes.{DiffersAt};
+ghost use Rattle.enumerate.specs.Internal.Standing.{ContinueSample, ChangesIf, IsStanding, IsStep, unless_ended};
 
 use crate::root::next_sample;
-use crate::taking::Taker;
-use jtree::{Tree, last_node_is_replaced};
+use crate::taking::{Change, Replaced, Taker};
+use jtree::{Text, Tree, last_node_is_replaced};
 use plan::{Meter, Plan, SizeSet};
 use std::alloc::{AllocError, Global};
 use std::mem;
+
+/// What a sample differs in from the one before it, where it is the part so many levels down; `None` where that is all of it.
+fn change_at<'p>(depth: usize) -> Option<Change<'p>>
+    ensures { (old new : Data) → DiffersAt depth old new → ChangesIf result old new }
+{
+    if depth > 0 {
+        Some(Change::Part(depth))
+    } else {
+        None
+    }
+}
 
 #[derive(Drop)]
 pub(crate) struct Standing<'p> {
     pub tree: Tree,
     /// On top the candidate that stands in the place of the last node, and below it those that make the next samples there.
     following: Vec<&'p Tree>,
-    /// What stood there in the sample before, where the two differ there alone.
-    replaced: Option<&'p Tree>,
+    /// Names of members that were taken off, at most as many as a sample had members.
+    spare: Vec<Text>,
+    /// What the sample differs in from the one before it, where that is known.
+    change: Option<Change<'p>>,
 }
 
 impl<'p> Standing<'p> {
@@ -30,6 +44,7 @@ impl<'p> Standing<'p> {
         plan: &'p Plan<Z>,
         tree: Tree,
         following: Vec<&'p Tree>,
+        spare: Vec<Text>,
     ) -> Standing<'p>
         requires sample { IsSampleOf plan.now (data_of tree) }
         requires following { ContinueSample plan.now (data_of tree) (stack_of following.items) }
@@ -40,7 +55,8 @@ impl<'p> Standing<'p> {
         Standing {
             tree,
             following,
-            replaced: None,
+            spare,
+            change: None,
         }
     }
 
@@ -58,16 +74,29 @@ impl<'p> Standing<'p> {
         last_node_is_replaced();
         if let Some(stood) = self.following.pop() {
             if let Some(next) = self.following.last() {
-                self.tree.set_last(alloc, *next)?;
-                self.replaced = Some(stood);
+                let depth = self.tree.set_last(alloc, *next)?;
+                self.change = Some(Change::Node(Replaced {
+                    before: stood,
+                    node: *next,
+                    depth,
+                }));
                 return Ok(true);
             }
         }
-        self.replaced = None;
+        let mut depth = 0;
         let tree = mem::replace(&mut self.tree, Tree::Null);
-        match next_sample(alloc, plan, tree, &mut self.following, meter)? {
+        match next_sample(
+            alloc,
+            plan,
+            tree,
+            &mut self.following,
+            &mut self.spare,
+            &mut depth,
+            meter,
+        )? {
             Some(next) => {
                 self.tree = next;
+                self.change = change_at(depth);
                 Ok(true)
             }
             None => Ok(false),
@@ -93,13 +122,13 @@ impl<'p> Standing<'p> {
         ensures standing { IfOk result (λ end. end ≡ false → IsStanding plan.now self.new) }
     {
         let mut lent = 0;
-        let mut replaced = None;
+        let mut change = None;
         'samples: while lent < count {
-            taker.take(&self.tree, replaced)?;
+            taker.take(&self.tree, change)?;
             if !self.step(alloc, plan, meter)? {
                 return Ok(true);
             }
-            replaced = self.replaced;
+            change = self.change;
             lent += 1;
         }
         Ok(false)

@@ -1,19 +1,50 @@
 //! Which candidates are free.
-ghost use Rattle.std.specs.Prelude.{◌≡◌, ◌↔◌, ◌<◌, IsTrue, IfOk, length};
+ghost use Rattle.std.specs.Prelude.{◌≡◌, ◌↔◌, ◌<◌, ◌==◌, IsTrue, IfOk, length};
 ghost use Rattle.jtree.specs.View.{data_of};
 ghost use Rattle.enumerate.specs.View.{trees_of};
-ghost use Rattle.enumerate.specs.Internal.Candidates.{rows_of, has_under, agreeing, agreeing_if, IsFree};
+ghost use Rattle.enumerate.specs.Internal.Candidates.{rows_of, used_rows, has_under, agreeing, agreeing_if, IsFree};
 
 use jtree::Tree;
 use plan::Slot;
 use std::alloc::{AllocError, Global};
+
+/// Some items of a list.
+#[derive(Clone, Copy)]
+pub(crate) struct Chosen<'a> {
+    pub rows: &'a [&'a Tree],
+}
+
+/// Objects that have all keys.
+#[derive(Clone, Copy)]
+pub(crate) enum Rows<'a> {
+    /// All items of a list.
+    Listed(&'a [Tree]),
+    Chosen(Chosen<'a>),
+}
+
+impl<'a> Rows<'a> {
+    fn len(&self) -> usize
+        ensures { result ≡ length (used_rows self.now) }
+    {
+        match self {
+            Rows::Listed(trees) => trees.len(),
+            Rows::Chosen(some) => some.rows.len(),
+        }
+    }
+
+    pub(crate) fn is_empty(&self) -> bool
+        ensures { result ≡ (length (used_rows self.now) == 0) }
+    {
+        self.len() == 0
+    }
+}
 
 /// Objects that have all keys, and agree on those that were chosen so far.
 #[derive(Clone, Copy)]
 pub(crate) struct KeyRows<'a> {
     /// The key to be chosen next.
     pub name: &'a str,
-    pub rows: &'a [&'a Tree],
+    pub rows: Rows<'a>,
     /// How many tuples of candidates the keys behind it have.
     pub later: u64,
 }
@@ -39,7 +70,28 @@ fn has_under(name: &str, value: &Tree, row: &Tree) -> bool
 }
 
 /// How many of the objects have the value under the name.
-fn count_agreeing(name: &str, value: &Tree, rows: &[&Tree]) -> usize
+fn count_agreeing(name: &str, value: &Tree, rows: &Rows<'_>) -> usize
+    ensures { result ≡ length (agreeing name.now (data_of value.now) (used_rows rows.now)) }
+{
+    match rows {
+        Rows::Listed(trees) => count_listed(name, value, trees),
+        Rows::Chosen(some) => count_chosen(name, value, some.rows),
+    }
+}
+
+fn count_listed(name: &str, value: &Tree, trees: &[Tree]) -> usize
+    ensures { result ≡ length (agreeing name.now (data_of value.now) (trees_of trees.now)) }
+{
+    let mut count = 0;
+    for place in 0..trees.len() {
+        if has_under(name, value, &trees[place]) {
+            count += 1;
+        }
+    }
+    count
+}
+
+fn count_chosen(name: &str, value: &Tree, rows: &[&Tree]) -> usize
     ensures { result ≡ length (agreeing name.now (data_of value.now) (rows_of rows.now)) }
 {
     let mut count = 0;
@@ -52,17 +104,52 @@ fn count_agreeing(name: &str, value: &Tree, rows: &[&Tree]) -> usize
 }
 
 /// The objects that agree so far with a value in the slot: where it is a key, those that have it there.
+#[inline(always)]
 pub(crate) fn still_used<'a>(
     alloc: Global,
     slot: &Slot<'_>,
     value: &Tree,
-    used: &[&'a Tree],
+    used: &Rows<'a>,
 ) -> Result<Vec<&'a Tree>, AllocError>
-    ensures { IfOk result (λ some. rows_of some.items ≡ agreeing_if slot.now.key slot.now.name.now (data_of value.now) (rows_of used.now)) }
+    ensures { IfOk result (λ some. rows_of some.items ≡ agreeing_if slot.now.key slot.now.name.now (data_of value.now) (used_rows used.now)) }
+{
+    match used {
+        Rows::Listed(trees) => still_listed(alloc, slot, value, *trees),
+        Rows::Chosen(some) => still_chosen(alloc, slot, value, some.rows),
+    }
+}
+
+#[inline(always)]
+fn still_listed<'a>(
+    alloc: Global,
+    slot: &Slot<'_>,
+    value: &Tree,
+    trees: &'a [Tree],
+) -> Result<Vec<&'a Tree>, AllocError>
+    ensures { IfOk result (λ some. rows_of some.items ≡ agreeing_if slot.now.key slot.now.name.now (data_of value.now) (trees_of trees.now)) }
 {
     let mut some = Vec::new(alloc);
-    for place in 0..used.len() {
-        let row = used[place];
+    for place in 0..trees.len() {
+        let row = &trees[place];
+        if !slot.key || has_under(slot.name, value, row) {
+            some.push(row)?;
+        }
+    }
+    Ok(some)
+}
+
+#[inline(always)]
+pub(crate) fn still_chosen<'a>(
+    alloc: Global,
+    slot: &Slot<'_>,
+    value: &Tree,
+    rows: &[&'a Tree],
+) -> Result<Vec<&'a Tree>, AllocError>
+    ensures { IfOk result (λ some. rows_of some.items ≡ agreeing_if slot.now.key slot.now.name.now (data_of value.now) (rows_of rows.now)) }
+{
+    let mut some = Vec::new(alloc);
+    for place in 0..rows.len() {
+        let row = rows[place];
         if !slot.key || has_under(slot.name, value, row) {
             some.push(row)?;
         }
@@ -79,18 +166,6 @@ pub(crate) fn is_free(taken: &Taken<'_>, tree: &Tree) -> bool
         Taken::Items(items) => !items.contains(tree),
         // No more rows agree than there are.
         Taken::Key(key) if (key.rows.len() as u64) < key.later => true,
-        Taken::Key(key) => (count_agreeing(key.name, tree, key.rows) as u64) < key.later,
+        Taken::Key(key) => (count_agreeing(key.name, tree, &key.rows) as u64) < key.later,
     }
-}
-
-/// The trees, by reference.
-pub(crate) fn references<'a>(alloc: Global, trees: &'a [Tree]) -> Result<Vec<&'a Tree>, AllocError>
-    ensures { IfOk result (λ all. rows_of all.items ≡ trees_of trees.now) }
-{
-    let mut all = Vec::new(alloc);
-    all.reserve_exact(trees.len())?;
-    for place in 0..trees.len() {
-        all.push(&trees[place])?;
-    }
-    Ok(all)
 }

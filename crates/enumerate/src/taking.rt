@@ -2,11 +2,30 @@
 use jtree::Tree;
 use std::alloc::AllocError;
 
+/// The last node of a sample, in the place of another one.
+#[derive(Clone, Copy)]
+pub struct Replaced<'a> {
+    /// What the sample before had in its place.
+    pub before: &'a Tree,
+    pub node: &'a Tree,
+    /// How many times one goes down to it by the last item or member, at most 2^64 - 1.
+    pub depth: usize,
+}
+
+/// Where a sample differs from the one before it, and in nothing else.
+#[derive(Clone, Copy)]
+pub enum Change<'a> {
+    /// In its last node.
+    Node(Replaced<'a>),
+    /// In the part that is reached by going down so many times by the last item or member, at least once.
+    Part(usize),
+}
+
 /// Takes samples, each of which it is lent.
 pub trait Taker {
     ghost use Rattle.std.specs.Prelude.{◌∷◌, ◌++◌, [], List, IfSome, OnOk, OnErr};
     ghost use Rattle.jtree.specs.Data.{Data};
-    ghost use Rattle.jtree.specs.Last.{with_last};
+    ghost use Rattle.enumerate.specs.Change.{Changes};
     ghost use Rattle.jtree.specs.View.{data_of};
 
     // From the first of these states to the second it has taken these samples, in order.
@@ -14,10 +33,10 @@ pub trait Taker {
 
     ghost none_taken: { (now : Self) → has_taken now now [] };
 
-    /// Takes the sample. With `replaced` in the place of its last node it is the one that was taken before. It fails where an
-    /// allocation fails, and has then taken nothing of it.
-    fn take(&mut self, sample: &Tree, replaced: Option<&Tree>) -> Result<(), AllocError>
-        requires { IfSome replaced (λ r. (first : Self) × (items : List Data) × has_taken first self.old (items ++ with_last (data_of sample.now) (data_of r.now) ∷ [])) }
+    /// Takes the sample. Where there is a `change`, it is what it differs in from the one that was taken before. It fails where
+    /// an allocation fails, and has then taken nothing of it.
+    fn take(&mut self, sample: &Tree, change: Option<Change<'_>>) -> Result<(), AllocError>
+        requires { IfSome change (λ c. (first : Self) × (items : List Data) × (old : Data) × has_taken first self.old (items ++ old ∷ []) × Changes c old (data_of sample.now)) }
         ensures ok { OnOk result ((first : Self) (items : List Data) → has_taken first self.old items → has_taken first self.new (items ++ data_of sample.now ∷ [])) }
         ensures err { OnErr result ((first : Self) (items : List Data) → has_taken first self.old items → has_taken first self.new items) };
 }

@@ -5,7 +5,7 @@ use Rattle.jtree.specs.Nodes.{node_count, items_count, members_count}
 use Rattle.jtree.specs.View.{data_of, items_of, members_of}
 use Rattle.jtree.specs.declared.value.Tree.{Tree}
 use Rattle.jtree.specs.declared.value.Member.{Member}
-use Rattle.jtree.specs.Last.{last_of, last_of_items, last_of_members, with_last, items_with_last, members_with_last}
+use Rattle.jtree.specs.Last.{last_of, last_of_items, last_of_members, last_depth, items_last_depth, members_last_depth, with_last, items_with_last, members_with_last}
 
 -- a tree is itself with its own last node
 mutual
@@ -149,3 +149,79 @@ mutual
   members_count_with no_members v some = absurd (some refl)
   members_count_with (member k d no_members) v some = let h = count_with d v in omega (arith, h)
   members_count_with (member k d (member l e ms)) v some = let h = members_count_with (member l e ms) v (λ e. cc) in omega (arith, h)
+
+mutual
+  last_with : (d v : Data) → last_of (with_last d v) ≡ last_of v
+  last_with (list no_items) v = refl
+  last_with (list (item d no_items)) v = items_last_with (item d no_items) v (λ e. cc)
+  last_with (list (item d (item e es))) v = items_last_with (item d (item e es)) v (λ e. cc)
+  last_with (object no_members) v = refl
+  last_with (object (member k d no_members)) v = members_last_with (member k d no_members) v (λ e. cc)
+  last_with (object (member k d (member l e ms))) v = members_last_with (member k d (member l e ms)) v (λ e. cc)
+  last_with _ v = refl
+
+  items_last_with : (ds : Items) (v : Data) → (ds ≡ no_items → ⊥) → last_of_items (items_with_last ds v) ≡ last_of v
+  items_last_with no_items v some = absurd (some refl)
+  items_last_with (item d no_items) v some = last_with d v
+  items_last_with (item d (item e no_items)) v some = items_last_with (item e no_items) v (λ e. cc)
+  items_last_with (item d (item e (item f fs))) v some = items_last_with (item e (item f fs)) v (λ e. cc)
+
+  members_last_with : (ms : Members) (v : Data) → (ms ≡ no_members → ⊥) → last_of_members (members_with_last ms v) ≡ last_of v
+  members_last_with no_members v some = absurd (some refl)
+  members_last_with (member k d no_members) v some = last_with d v
+  members_last_with (member k d (member l e no_members)) v some = members_last_with (member l e no_members) v (λ e. cc)
+  members_last_with (member k d (member l e (member j f ms))) v some = members_last_with (member l e (member j f ms)) v (λ e. cc)
+
+mutual
+  depth_with : (d v : Data) → last_depth (with_last d v) ≡ last_depth d + last_depth v
+  depth_with (list no_items) v = omega arith
+  depth_with (list (item d no_items)) v = let h = items_depth_with (item d no_items) v (λ e. cc) in omega (arith, h)
+  depth_with (list (item d (item e es))) v = let h = items_depth_with (item d (item e es)) v (λ e. cc) in omega (arith, h)
+  depth_with (object no_members) v = omega arith
+  depth_with (object (member k d no_members)) v = let h = members_depth_with (member k d no_members) v (λ e. cc) in omega (arith, h)
+  depth_with (object (member k d (member l e ms))) v = let h = members_depth_with (member k d (member l e ms)) v (λ e. cc) in omega (arith, h)
+  depth_with _ v = omega arith
+
+  items_depth_with : (ds : Items) (v : Data) → (ds ≡ no_items → ⊥) → items_last_depth (items_with_last ds v) ≡ items_last_depth ds + last_depth v
+  items_depth_with no_items v some = absurd (some refl)
+  items_depth_with (item d no_items) v some = depth_with d v
+  items_depth_with (item d (item e no_items)) v some = items_depth_with (item e no_items) v (λ e. cc)
+  items_depth_with (item d (item e (item f fs))) v some = items_depth_with (item e (item f fs)) v (λ e. cc)
+
+  members_depth_with : (ms : Members) (v : Data) → (ms ≡ no_members → ⊥) → members_last_depth (members_with_last ms v) ≡ members_last_depth ms + last_depth v
+  members_depth_with no_members v some = absurd (some refl)
+  members_depth_with (member k d no_members) v some = depth_with d v
+  members_depth_with (member k d (member l e no_members)) v some = members_depth_with (member l e no_members) v (λ e. cc)
+  members_depth_with (member k d (member l e (member j f ms))) v some = members_depth_with (member l e (member j f ms)) v (λ e. cc)
+
+-- a node of count 1 has no parts
+one_last : (v : Data) → node_count v ≡ 1 → (last_of v ≡ v) × (last_depth v ≡ 0)
+one_last (list no_items) one = (refl, refl)
+one_last (list (item d ds)) one = absurd (omega (arith, counts_one d))
+one_last (object no_members) one = (refl, refl)
+one_last (object (member k d ms)) one = absurd (omega (arith, counts_one d))
+one_last _ one = (refl, refl)
+
+pub is_last : (d v : Data) → node_count v ≡ 1 → last_of (with_last d v) ≡ v
+is_last d v one = last_with d v ∙ (one_last v one).0
+
+pub same_depth : (d v : Data) → node_count v ≡ 1 → last_depth (with_last d v) ≡ last_depth d
+same_depth d v one = let none = (one_last v one).1 in omega (arith, depth_with d v, none)
+
+-- ---- how many times one goes down to where the code puts it
+
+item_depth : (t : Tree) (us : List Tree) (d : Tree) → d ≡ slice_index_or (t ∷ us) (length us) d → items_last_depth (items_of (t ∷ us)) ≡ last_depth (data_of d)
+item_depth t [] d here = ap (λ x. last_depth (data_of x)) (sym here)
+item_depth t (x ∷ us) d here = item_depth x us d here
+
+pub item_depth_last : (ts : List Tree) (n : ℕ) (d : Tree) → n ≡ length ts → 1 ≤ n → d ≡ slice_index_or ts (n - 1) d → last_depth (list (items_of ts)) ≡ last_depth (data_of d) + 1
+item_depth_last [] n d size some here = absurd (omega (arith, size, some))
+item_depth_last (t ∷ us) n d size some here = let last : n - 1 ≡ length us = omega arith in let h = item_depth t us d (rw last at here) in omega (arith, h)
+
+member_depth : (m : Member) (ns : List Member) (d : Member) → d ≡ slice_index_or (m ∷ ns) (length ns) d → members_last_depth (members_of (m ∷ ns)) ≡ last_depth (data_of d.tree)
+member_depth m [] d here = ap (λ (x : Member). last_depth (data_of x.tree)) (sym here)
+member_depth m (n ∷ ns) d here = member_depth n ns d here
+
+pub member_depth_last : (ms : List Member) (n : ℕ) (d : Member) → n ≡ length ms → 1 ≤ n → d ≡ slice_index_or ms (n - 1) d → last_depth (object (members_of ms)) ≡ last_depth (data_of d.tree) + 1
+member_depth_last [] n d size some here = absurd (omega (arith, size, some))
+member_depth_last (m ∷ ns) n d size some here = let last : n - 1 ≡ length ns = omega arith in let h = member_depth m ns d (rw last at here) in omega (arith, h)

@@ -25,11 +25,11 @@ regroup_last_member c q p v a b = simp append_assoc
 regroup_member : (c q t p x : List ℕ) → c ++ (q ++ 58 ∷ (t ++ (p ++ x))) ≡ (c ++ (q ++ 58 ∷ (t ++ p))) ++ x
 regroup_member c q t p x = simp append_assoc
 
-abbrev HasItem : Items → Type 0
+abbrev pub HasItem : Items → Type 0
 HasItem no_items = ⊥
 HasItem ds = Unit {0}
 
-abbrev HasMember : Members → Type 0
+abbrev pub HasMember : Members → Type 0
 HasMember no_members = ⊥
 HasMember ms = Unit {0}
 

@@ -1,6 +1,7 @@
 pub mod Escapes
 pub mod LastNode
 pub mod LastText
+pub mod PartText
 pub mod OrderSteps
 pub mod OrderWords
 pub mod Reading

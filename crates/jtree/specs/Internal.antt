@@ -6,4 +6,3 @@ pub mod OrderLaws
 pub mod Code
 pub mod Measures
 pub mod LastText
-pub mod Overwriting

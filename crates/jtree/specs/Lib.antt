@@ -9,6 +9,8 @@ pub mod PathOrder
 pub mod Before
 pub mod Text
 pub mod Last
+pub mod PartText
+pub mod Overwriting
 pub mod Failures
 pub mod Reads
 pub mod Pointer

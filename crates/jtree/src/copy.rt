@@ -55,6 +55,7 @@ impl Tree {
 
     /// Makes it equal to `value`. Where both are texts, the room of the text is used again; else a copy takes its place.
     /// `AllocError` where an allocation fails, and it is then as it was.
+    #[inline(always)]
     pub fn set(&mut self, alloc: Global, value: &Tree) -> Result<(), AllocError>
         ensures ok { OnOk result (data_of self.new ≡ data_of value.now) }
         ensures err { OnErr result (data_of self.new ≡ data_of self.old) }

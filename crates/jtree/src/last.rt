@@ -1,12 +1,13 @@
 // The last node of a tree, and its text at the end of a text that is already there.
-ghost use Rattle.std.specs.Prelude.{◌≡◌, ◌+◌, ◌++◌, ◌↔◌, ℕ, List, length, true, false, IsTrue, IfOk, OnOk, OnErr, option_map};
-ghost use Rattle.jtree.specs.Data.{Data, IsTree};
+ghost use Rattle.std.specs.Prelude.{◌≡◌, ◌+◌, ◌-◌, ◌^◌, ◌≤◌, ◌++◌, ◌↔◌, ℕ, List, length, min, true, false, IsTrue, IfOk, OnOk, OnErr, option_map};
+ghost use Rattle.jtree.specs.Data.{Data, Items, Members, list, object, IsTree};
 ghost use Rattle.jtree.specs.Nodes.{node_count};
 ghost use Rattle.jtree.specs.Text.{compact};
-ghost use Rattle.jtree.specs.Last.{last_of, with_last, items_with_last, members_with_last};
+ghost use Rattle.jtree.specs.Last.{last_of, last_depth, with_last, with_part, items_with_last, members_with_last};
+ghost use Rattle.jtree.specs.PartText.{front_text, part_text};
 ghost use Rattle.jtree.specs.View.{data_of, items_of, members_of};
-ghost use Rattle.jtree.specs.Internal.LastText.{last_part, text_after};
-ghost use Rattle.jtree.specs.Internal.Overwriting.{count, Overwrites};
+ghost use Rattle.jtree.specs.Overwriting.{Overwrites};
+ghost use Rattle.jtree.specs.Internal.LastText.{count, last_part, text_after};
 
 use crate::value::{Member, Tree};
 use itoa::Buffer;
@@ -22,43 +23,100 @@ impl Tree {
         find_last(self).node
     }
 
-    /// Puts a tree in the place of the last node, in the room of a text where both are texts. `AllocError` where an
-    /// allocation fails, and the tree is then as it was.
-    pub fn set_last(&mut self, alloc: Global, value: &Tree) -> Result<(), AllocError>
+    /// Puts a tree in the place of the last node, in the room of a text where both are texts. It answers how many times one goes
+    /// down to that node, at most 2^64 - 1. `AllocError` where an allocation fails, and the tree is then as it was.
+    pub fn set_last(&mut self, alloc: Global, value: &Tree) -> Result<usize, AllocError>
         ensures ok { OnOk result (data_of self.new ≡ with_last (data_of self.old) (data_of value.now)) }
+        ensures depth { IfOk result (λ depth. depth ≡ min (last_depth (data_of self.old)) (2 ^ 64 - 1)) }
         ensures err { OnErr result (data_of self.new ≡ data_of self.old) }
     {
         value.reveal_invariant();
-        set_last_node(self, alloc, value)
+        set_last_node(self, alloc, value, 0)
     }
 
-    /// Overwrites the text of the last node in place. `text` has to end with the compact text of this tree with `before` in
-    /// place of its last node. If the texts of `before` and of the last node have the same number of bytes, `text` ends
-    /// with this tree's text after the call, and the answer is `true`; else the answer is `false`, and `text` is as it was.
-    /// Where `text` ends otherwise, some of its bytes may be overwritten all the same. It writes these two texts alone, and
-    /// not the tree. What `scratch` holds is lost; its room is used again.
+    /// Overwrites in `text` the text of `before`, which `after` bytes follow, by the text of this tree, where both have as many bytes,
+    /// and answers whether it did so. Where `text` has another text there, some of its bytes may be overwritten all the same. What
+    /// `scratch` holds is lost; its room is used again.
     ///
     /// `AllocError` where an allocation fails, and `text` is then as it was.
-    pub fn overwrite_last(
+    pub fn overwrite(
         &self,
         before: &Tree,
+        after: usize,
         text: &mut Vec<u8>,
         scratch: &mut Vec<u8>,
     ) -> Result<bool, AllocError>
-        ensures overwritten { IfOk result (λ done. done ≡ true → (front : List ℕ)
-            → text.old.items ≡ front ++ compact (with_last (data_of self.now) (data_of before.now))
-            → text.new.items ≡ front ++ compact (data_of self.now)) }
-        ensures same_length { IfOk result (λ done. (front : List ℕ)
-            → text.old.items ≡ front ++ compact (with_last (data_of self.now) (data_of before.now))
-            → (IsTrue done
-            ↔ (length (compact (data_of before.now)) ≡ length (compact (last_of (data_of self.now)))))) }
-        ensures unchanged { IfOk result (λ done. done ≡ false → text.new.items ≡ text.old.items) }
+        ensures ok { IfOk result (λ done. Overwrites done after (compact (data_of before.now)) (compact (data_of self.now)) text.old.items text.new.items) }
         ensures err { OnErr result (text.new.items ≡ text.old.items) }
     {
-        let last = find_last(self);
-        overwrite_node(text, last.after, before, last.node, scratch)
+        if let (Tree::Int(old), Tree::Int(new)) = (before, self) {
+            let mut buffer = Buffer::new();
+            let size = buffer.format(*old).len();
+            return Ok(overwrite_bytes(text, after, size, buffer.format(*new).as_bytes()));
+        }
+        let empty = Vec::new(*scratch.allocator());
+        let mut room = mem::replace(scratch, empty);
+        room.clear();
+        let first = before.append_text(room)?;
+        let size = first.len();
+        let both = self.append_text(first)?;
+        let done = overwrite_bytes(text, after, size, &both[size..]);
+        *scratch = both;
+        Ok(done)
+    }
+
+    /// How many times one goes down by the last item or member to the last node, at most 2^64 - 1.
+    pub fn last_depth(&self) -> usize
+        ensures { result ≡ min (last_depth (data_of self.now)) (2 ^ 64 - 1) }
+    {
+        find_last(self).after
+    }
+
+    /// Appends what the compact text of this tree has from the part on that is reached by going down `depth` times by the last
+    /// item or member: the text of the part, and the brackets that close what is around it. Where there is no such part, the
+    /// brackets that close what is around the last node. Where an allocation fails, `out` is dropped.
+    pub fn append_part(&self, depth: usize, out: Vec<u8>) -> Result<Vec<u8>, AllocError>
+        ensures { IfOk result (λ v. v.items ≡ out.items ++ part_text depth (data_of self.now)) }
+    {
+        append_part_of(self, depth, out)
     }
 }
+
+#[cycle(append_part)]
+fn append_part_of(tree: &Tree, depth: usize, out: Vec<u8>) -> Result<Vec<u8>, AllocError>
+    ensures { IfOk result (λ v. v.items ≡ out.items ++ part_text depth (data_of tree.now)) }
+{
+    if depth == 0 {
+        return tree.append_text(out);
+    }
+    let Some(part) = last_part(tree) else {
+        return Ok(out);
+    };
+    let mut out = append_part_of(part, depth - 1, out)?;
+    out.push(closing(tree))?;
+    Ok(out)
+}
+
+/// The bracket that closes a list or an object.
+fn closing(tree: &Tree) -> u8
+    ensures list { (ds : Items) → data_of tree.now ≡ list ds → result ≡ 93 }
+    ensures object { (ms : Members) → data_of tree.now ≡ object ms → result ≡ 125 }
+{
+    match tree {
+        Tree::List(_) => b']',
+        _ => b'}',
+    }
+}
+
+/// A law, and nothing that runs: a tree's text is that before a part and that from it on, and the text before it does not depend on
+/// the part, nor on what is deeper. Around the last node's text a tree has the same text whatever that node is, and after it a bracket
+/// for each time that one goes down to it.
+pub fn parts_have_their_text()
+    ensures whole { (n : ℕ) (d : Data) → compact d ≡ front_text n d ++ part_text n d }
+    ensures front { (m n : ℕ) (d v : Data) → m ≤ n → front_text m (with_part n d v) ≡ front_text m d }
+    ensures last { (n : ℕ) (d v : Data) → n ≤ last_depth d → front_text n (with_last d v) ≡ front_text n d }
+    ensures around { (d : Data) → (front : List ℕ) × (rest : List ℕ) × (length rest ≡ last_depth d) × ((v : Data) → compact (with_last d v) ≡ front ++ (compact v ++ rest)) }
+{}
 
 /// A law, and nothing that runs: a node of count 1 in the place of the last node is itself the last node, the last node in
 /// its own place changes nothing, and a tree there adds its count to that of the others.
@@ -66,44 +124,71 @@ pub fn last_node_is_replaced()
     ensures again { (d v w : Data) → node_count v ≡ 1 → with_last (with_last d v) w ≡ with_last d w }
     ensures own { (d : Data) → with_last d (last_of d) ≡ d }
     ensures count { (d v : Data) → node_count (with_last d v) + 1 ≡ node_count d + node_count v }
+    ensures last { (d v : Data) → node_count v ≡ 1 → last_of (with_last d v) ≡ v }
+    ensures depth { (d v : Data) → node_count v ≡ 1 → last_depth (with_last d v) ≡ last_depth d }
 {}
 
 #[cycle(set_last)]
-fn set_last_node(tree: &mut Tree, alloc: Global, value: &Tree) -> Result<(), AllocError>
+fn set_last_node(
+    tree: &mut Tree,
+    alloc: Global,
+    value: &Tree,
+    above: usize,
+) -> Result<usize, AllocError>
     requires { IsTree (data_of value.now) }
     ensures ok { OnOk result (data_of tree.new ≡ with_last (data_of tree.old) (data_of value.now)) }
+    ensures depth { IfOk result (λ depth. depth ≡ min (above + last_depth (data_of tree.old)) (2 ^ 64 - 1)) }
     ensures err { OnErr result (data_of tree.new ≡ data_of tree.old) }
 {
     match tree {
-        Tree::List(list) if !list.items.is_empty() => set_last_item(&mut list.items, alloc, value),
-        Tree::Object(object) if !object.members.is_empty() => {
-            set_last_member(&mut object.members, alloc, value)
+        Tree::List(list) if !list.items.is_empty() => {
+            set_last_item(&mut list.items, alloc, value, above)
         }
-        _ => tree.set(alloc, value),
+        Tree::Object(object) if !object.members.is_empty() => {
+            set_last_member(&mut object.members, alloc, value, above)
+        }
+        _ => {
+            tree.set(alloc, value)?;
+            Ok(above)
+        }
     }
 }
 
 #[cycle(set_last)]
-fn set_last_item(items: &mut Vec<Tree>, alloc: Global, value: &Tree) -> Result<(), AllocError>
+#[inline(always)]
+fn set_last_item(
+    items: &mut Vec<Tree>,
+    alloc: Global,
+    value: &Tree,
+    above: usize,
+) -> Result<usize, AllocError>
     requires { IsTree (data_of value.now) }
     ensures ok { OnOk result (items_of items.new.items ≡ items_with_last (items_of items.old.items) (data_of value.now)) }
+    ensures depth { IfOk result (λ depth. depth ≡ min (above + last_depth (list (items_of items.old.items))) (2 ^ 64 - 1)) }
     ensures err { OnErr result (items_of items.new.items ≡ items_of items.old.items) }
 {
     match items.last_mut() {
-        Some(item) => set_last_node(item, alloc, value),
-        None => Ok(()),
+        Some(item) => set_last_node(item, alloc, value, above.saturating_add(1)),
+        None => Ok(above),
     }
 }
 
 #[cycle(set_last)]
-fn set_last_member(members: &mut Vec<Member>, alloc: Global, value: &Tree) -> Result<(), AllocError>
+#[inline(always)]
+fn set_last_member(
+    members: &mut Vec<Member>,
+    alloc: Global,
+    value: &Tree,
+    above: usize,
+) -> Result<usize, AllocError>
     requires { IsTree (data_of value.now) }
     ensures ok { OnOk result (members_of members.new.items ≡ members_with_last (members_of members.old.items) (data_of value.now)) }
+    ensures depth { IfOk result (λ depth. depth ≡ min (above + last_depth (object (members_of members.old.items))) (2 ^ 64 - 1)) }
     ensures err { OnErr result (members_of members.new.items ≡ members_of members.old.items) }
 {
     match members.last_mut() {
-        Some(member) => set_last_node(&mut member.tree, alloc, value),
-        None => Ok(()),
+        Some(member) => set_last_node(&mut member.tree, alloc, value, above.saturating_add(1)),
+        None => Ok(above),
     }
 }
 
@@ -142,37 +227,8 @@ fn last_part(tree: &Tree) -> Option<&Tree>
     }
 }
 
-/// Overwrites the text of the tree `old` before the last `after` bytes by that of `new`, where both have as many bytes.
-/// Whether it did so.
-fn overwrite_node(
-    text: &mut Vec<u8>,
-    after: usize,
-    old: &Tree,
-    new: &Tree,
-    scratch: &mut Vec<u8>,
-) -> Result<bool, AllocError>
-    ensures ok { IfOk result (λ done. Overwrites done after (compact (data_of old.now)) (compact (data_of new.now))
-        text.old.items text.new.items) }
-    ensures err { OnErr result (text.new.items ≡ text.old.items) }
-{
-    if let (Tree::Int(old), Tree::Int(new)) = (old, new) {
-        let mut buffer = Buffer::new();
-        let size = buffer.format(*old).len();
-        return Ok(overwrite(text, after, size, buffer.format(*new).as_bytes()));
-    }
-    let empty = Vec::new(*scratch.allocator());
-    let mut room = mem::replace(scratch, empty);
-    room.clear();
-    let first = old.append_text(room)?;
-    let size = first.len();
-    let both = new.append_text(first)?;
-    let done = overwrite(text, after, size, &both[size..]);
-    *scratch = both;
-    Ok(done)
-}
-
 /// Overwrites the `size` bytes before the last `after` bytes by `new`, where that has as many. Whether it did so.
-fn overwrite(text: &mut Vec<u8>, after: usize, size: usize, new: &[u8]) -> bool
+fn overwrite_bytes(text: &mut Vec<u8>, after: usize, size: usize, new: &[u8]) -> bool
     ensures { (old : List ℕ) → length old ≡ size
         → Overwrites result after old new.now text.old.items text.new.items }
 {

@@ -14,7 +14,7 @@ mod value;
 mod write;
 
 pub use fault::JFault;
-pub use last::last_node_is_replaced;
+pub use last::{last_node_is_replaced, parts_have_their_text};
 pub use order::{order_in_words, order_is_total};
 pub use pointer::{push_index, push_name};
 pub use read::MOST_BYTES;

@@ -9,6 +9,7 @@ use crate::value::{Members, Tree};
 impl Members {
     /// The tree under a name, by the bytes of the name, and `None` where no member has the name. It looks at each member
     /// at most once.
+    #[inline(always)]
     pub fn get(&self, name: &str) -> Option<&Tree>
         ensures { option_map (λ t. data_of t.now) result ≡ member_at name.now self.now }
     {
@@ -24,6 +25,7 @@ impl Members {
 impl Tree {
     /// The tree under a name of an object, by the bytes of the name. `None` where no member has the name, and for what
     /// is no object.
+    #[inline(always)]
     pub fn get(&self, name: &str) -> Option<&Tree>
         ensures { option_map (λ t. data_of t.now) result ≡ under (data_of self.now) name.now }
     {

@@ -6,14 +6,14 @@ ghost use Rattle.enumerate.specs.View.{trees_of};
 
 use crate::support::documents::{SPEC, ZERO_AND_ONE};
 use crate::support::harness::{is_said, is_value, made};
-use enumerate::{EFault, Live, Taker};
+use enumerate::{Change, EFault, Live, Taker};
 use jtree::Tree;
 use plan::Meter;
 use std::alloc::{AllocError, Global};
 use std::process::Abort;
 use std::test::Fail;
 
-/// Copies of samples, with room for so many. What was replaced makes the sample before.
+/// Copies of samples, with room for so many. It fails where a sample differs from the one before in more than the change.
 #[derive(Drop)]
 struct Copies {
     alloc: Global,
@@ -26,20 +26,46 @@ impl Taker for Copies {
 
     ghost none_taken = { λ now. sym (append-nil (trees_of now.trees.items)) };
 
-    fn take(&mut self, sample: &Tree, replaced: Option<&Tree>) -> Result<(), AllocError> {
+    fn take(&mut self, sample: &Tree, change: Option<Change<'_>>) -> Result<(), AllocError> {
         if self.trees.len() >= self.room {
             return Err(AllocError);
         }
-        if let Some(replaced) = replaced {
-            let mut before = copied(self.alloc, sample)?;
-            before.set_last(self.alloc, replaced)?;
-            if !is_last(&before, self.trees.as_slice()) {
-                return Err(AllocError);
-            }
+        if let Some(change) = change
+            && !differs_in(self.alloc, self.trees.as_slice(), sample, change)?
+        {
+            return Err(AllocError);
         }
         self.trees.push(copied(self.alloc, sample)?)?;
         Ok(())
     }
+}
+
+/// Whether the sample differs from the last of the trees in the change alone.
+fn differs_in(
+    alloc: Global,
+    trees: &[Tree],
+    sample: &Tree,
+    change: Change<'_>,
+) -> Result<bool, AllocError> {
+    let Some(last) = trees.last() else {
+        return Ok(false);
+    };
+    match change {
+        Change::Node(change) => {
+            let mut before = copied(alloc, sample)?;
+            let depth = before.set_last(alloc, change.before)?;
+            Ok(before == *last && sample.last() == change.node && depth == change.depth)
+        }
+        Change::Part(depth) => Ok(front(alloc, last, depth)? == front(alloc, sample, depth)?),
+    }
+}
+
+/// The text of the tree before a part.
+fn front(alloc: Global, tree: &Tree, depth: usize) -> Result<Vec<u8>, AllocError> {
+    let part = tree.append_part(depth, Vec::new(alloc))?;
+    let mut text = tree.append_text(Vec::new(alloc))?;
+    text.truncate(text.len().saturating_sub(part.len()));
+    Ok(text)
 }
 
 fn copied(alloc: Global, tree: &Tree) -> Result<Tree, AllocError>
@@ -48,13 +74,6 @@ fn copied(alloc: Global, tree: &Tree) -> Result<Tree, AllocError>
     match tree.copy(alloc) {
         Ok(copy) => Ok(copy),
         Err(_) => Err(AllocError),
-    }
-}
-
-fn is_last(tree: &Tree, trees: &[Tree]) -> bool {
-    match trees.last() {
-        Some(last) => *last == *tree,
-        None => false,
     }
 }
 

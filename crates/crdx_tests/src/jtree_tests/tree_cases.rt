@@ -463,6 +463,64 @@ static LAST_NODES: [(&str, &str, &str, &str, bool); 16] = [
     ),
 ];
 
+// A document, how many levels down its last node is, how many levels down a part is, and the text from that part on.
+static LAST_PARTS: [(&str, usize, usize, &str); 11] = [
+    ("7", 0, 0, "7"),
+    ("7", 0, 1, ""),
+    ("{}", 0, 0, "{}"),
+    ("[]", 0, 2, ""),
+    (r#"[1,"a"]"#, 1, 0, r#"[1,"a"]"#),
+    (r#"[1,"a"]"#, 1, 1, r#""a"]"#),
+    (
+        r#"{"a":[{"b":1},{"b":[]}],"c":[{"d":2},{"e":3,"f":4}]}"#,
+        3,
+        1,
+        r#"[{"d":2},{"e":3,"f":4}]}"#,
+    ),
+    (
+        r#"{"a":[{"b":1},{"b":[]}],"c":[{"d":2},{"e":3,"f":4}]}"#,
+        3,
+        2,
+        r#"{"e":3,"f":4}]}"#,
+    ),
+    (
+        r#"{"a":[{"b":1},{"b":[]}],"c":[{"d":2},{"e":3,"f":4}]}"#,
+        3,
+        3,
+        "4}]}",
+    ),
+    (
+        r#"{"a":[{"b":1},{"b":[]}],"c":[{"d":2},{"e":3,"f":4}]}"#,
+        3,
+        4,
+        "}]}",
+    ),
+    ("[[],[{}]]", 2, 2, "{}]]"),
+];
+
+fn try_last_part(
+    rt: &impl Abort,
+    alloc: Global,
+    row: &(&str, usize, usize, &str),
+) -> Result<(), Fail> {
+    let (document, last, depth, part) = *row;
+    let tree = Tree::from_bytes(alloc, document.as_bytes())?;
+    holds(
+        rt,
+        tree.last_depth() == last,
+        "how deep the last node is",
+        document,
+    );
+    let text = String::from_utf8(tree.append_part(depth, Vec::from_slice(alloc, b"> ")?)?)?;
+    holds(
+        rt,
+        text.as_str().strip_prefix("> ") == Some(part),
+        "the text of the part",
+        document,
+    );
+    Ok(())
+}
+
 fn try_overwriting(
     rt: &impl Abort,
     alloc: Global,
@@ -474,7 +532,9 @@ fn try_overwriting(
     let mut text = Vec::from_slice(alloc, b"> ")?;
     text.extend_from_slice(other.as_bytes())?;
     let mut scratch = Vec::from_slice(alloc, b"scratch")?;
-    let done = tree.overwrite_last(node, &mut text, &mut scratch)?;
+    let done = tree
+        .last()
+        .overwrite(node, tree.last_depth(), &mut text, &mut scratch)?;
     holds(rt, done == same, "whether it has as many bytes", document);
     let text = String::from_utf8(text)?;
     let wanted = if same { document } else { other };
@@ -497,7 +557,13 @@ fn try_last_node(
     is_tree(rt, alloc, tree.last(), last, "the last node", document)?;
     let mut node = Tree::from_bytes(alloc, other.as_bytes())?;
     try_overwriting(rt, alloc, &tree, &node, row)?;
-    tree.set_last(alloc, &node)?;
+    let depth = tree.last_depth();
+    holds(
+        rt,
+        tree.set_last(alloc, &node)? == depth,
+        "how deep the node is",
+        document,
+    );
     is_tree(
         rt,
         alloc,
@@ -522,6 +588,14 @@ fn try_last_node(
 fn last_nodes(rt: HostRuntime) -> Result<(), Fail> {
     for row in &LAST_NODES {
         try_last_node(&rt, rt.alloc(), row)?;
+    }
+    Ok(())
+}
+
+#[test]
+fn last_parts(rt: HostRuntime) -> Result<(), Fail> {
+    for row in &LAST_PARTS {
+        try_last_part(&rt, rt.alloc(), row)?;
     }
     Ok(())
 }

@@ -10,11 +10,18 @@ use Rattle.plan.specs.Samples.Question.{Question}
 use Rattle.enumerate.specs.Page.{IsPast}
 use Rattle.enumerate.specs.View.{trees_of}
 use Rattle.enumerate.specs.Internal.Nodes.{IsPartOf}
+use Rattle.enumerate.specs.declared.taken.Rows.{Rows}
+use Rattle.enumerate.specs.declared.taken.Rows.TheVariants.{Listed, Chosen}
 use Rattle.enumerate.specs.declared.taken.Taken.{Taken}
 use Rattle.enumerate.specs.declared.taken.Taken.TheVariants.{Items, Key}
 
 abbrev pub rows_of : List (Bor Tree) → List Data
 rows_of rs = map (λ r. data_of r.now) rs
+
+-- objects that are used already
+abbrev pub used_rows : Rows → List Data
+used_rows (Listed ts) = trees_of ts.now
+used_rows (Chosen rs) = rows_of rs.rows.now
 
 -- the trees, the last one first
 abbrev pub stack_of : List (Bor Tree) → List Data
@@ -39,7 +46,7 @@ agreeing_if false k v us = us
 
 abbrev pub IsFree : Taken → Data → Type 0
 IsFree (Items ts) v = Contains (trees_of ts.now) v → ⊥
-IsFree (Key k) v = length (agreeing k.name.now v (rows_of k.rows.now)) < k.later
+IsFree (Key k) v = length (agreeing k.name.now v (used_rows k.rows)) < k.later
 
 -- a part that is none of the items
 abbrev pub IsUnusedPart : Question → ℕ → ℕ → List Data → Data → Type 0

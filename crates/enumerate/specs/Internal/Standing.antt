@@ -1,12 +1,13 @@
 -- A sample at which an enumeration stands, and what makes the next ones in the place of its last node.
 use Rattle.std.specs.Prelude.{◌≡◌, List, [], ◌∷◌, Bool, true, false, Option, Some, None}
-use Rattle.std.specs.Borrow.{Bor}
+use Rattle.enumerate.specs.declared.taking.Change.{Change}
 use Rattle.jtree.specs.Data.{Data}
 use Rattle.jtree.specs.Last.{with_last}
 use Rattle.jtree.specs.Nodes.{node_count}
 use Rattle.jtree.specs.View.{data_of}
 use Rattle.jtree.specs.declared.value.Tree.{Tree}
 use Rattle.plan.specs.Samples.Question.{Question}
+use Rattle.enumerate.specs.Change.{Changes}
 use Rattle.enumerate.specs.Live.{IsNextSample}
 use Rattle.enumerate.specs.Page.{IsSampleOf}
 use Rattle.enumerate.specs.Internal.Candidates.{stack_of}
@@ -26,14 +27,14 @@ pub record IsStanding (q : Question) (s : Standing) : Type 0 where
   pub sample : IsSampleOf q (data_of s.tree)
   pub continue : ContinueSample q (data_of s.tree) (stack_of s.following.items)
 
--- with this in the place of its last node the new tree is the old one
-abbrev pub Replaces : Option (Bor Tree) → Data → Data → Type 0
-Replaces None old new = Unit {0}
-Replaces (Some r) old new = with_last new (data_of r.now) ≡ old
+-- what the new tree differs in from the old one, where it is known
+abbrev pub ChangesIf : Option Change → Data → Data → Type 0
+ChangesIf None old new = Unit {0}
+ChangesIf (Some c) old new = Changes c old new
 
 -- to the next sample; or there is none
 abbrev pub IsStep : Question → Standing → Standing → Bool → Type 0
-IsStep q old new true = IsNextSample q (Some (data_of old.tree)) (Some (data_of new.tree)) × IsStanding q new × Replaces new.replaced (data_of old.tree) (data_of new.tree)
+IsStep q old new true = IsNextSample q (Some (data_of old.tree)) (Some (data_of new.tree)) × IsStanding q new × ChangesIf new.change (data_of old.tree) (data_of new.tree)
 IsStep q old new false = IsNextSample q (Some (data_of old.tree)) None
 
 -- the sample at which it stands, where it has not ended

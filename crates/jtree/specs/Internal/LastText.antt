@@ -1,5 +1,5 @@
 -- The way to the last node of a tree, and what stands before and after its text in the compact text of the tree.
-use Rattle.std.specs.Prelude.{ℕ, List, [], ◌∷◌, ◌++◌, Bool, true, false, Option, Some, None}
+use Rattle.std.specs.Prelude.{◌-◌, ◌^◌, ℕ, List, [], ◌∷◌, ◌++◌, length, min, Bool, true, false, Option, Some, None}
 use Rattle.json.specs.Print.{quoted}
 use Rattle.serde_json.specs.Written.{comma_if}
 use Rattle.jtree.specs.Data.{Data, list, object, Items, no_items, item, Members, no_members, member}
@@ -56,3 +56,7 @@ abbrev mutual
   members_after no_members = []
   members_after (member k d no_members) = text_after d ++ 125 ∷ []
   members_after (member k d ms) = members_after ms
+
+-- how many bytes these are, at most 2^64 - 1
+abbrev pub count : List ℕ → ℕ
+count rest = min (length rest) (2 ^ 64 - 1)

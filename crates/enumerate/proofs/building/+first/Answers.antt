@@ -51,7 +51,7 @@ use Rattle.plan.specs.Samples.Candidates.{sort_of}
 use Rattle.plan.specs.Samples.Sizes.{Before, nothing, filled, HasMore}
 use Rattle.enumerate.specs.Least.{IsLeast}
 use Rattle.enumerate.specs.Internal.Nodes.{site, IsPartOf, Costs}
-use Rattle.enumerate.specs.Internal.Candidates.{stack_of, rows_of}
+use Rattle.enumerate.specs.Internal.Candidates.{stack_of, rows_of, used_rows}
 use Rattle.enumerate.specs.Internal.Rows.{slots_from, slot_in, ending_at, IsSlotOf, IsOpen, AddsFirst, IsRow, still_used}
 use Rattle.enumerate.specs.Internal.Lists.{CanFollow, IsFreshItem, AddsItems}
 use Rattle.enumerate.proofs.building.+first.Given.{Over}
@@ -229,7 +229,7 @@ fewer_here g t c = one_fewer c.args.plan.now c.args.node c.args.place (slot_here
 pub first_slots-returns-in_default-clause-ok : goal.first_slots-returns-in_default-clause-ok
 first_slots-returns-in_default-clause-ok g t c =
     let q = c.args.plan.now in
-    none_at q c.args.node c.args.place (c.sound_parts.ensures.parts _ (site_among q c.args.node c.requires.node)) c.args.before c.args.room (rows_of c.args.used.now) c.args.members.now.items c.in_default.ensures.none c.requires.open
+    none_at q c.args.node c.args.place (c.sound_parts.ensures.parts _ (site_among q c.args.node c.requires.node)) c.args.before c.args.room (used_rows c.args.used.now) c.args.members.now.items c.in_default.ensures.none c.requires.open
 
 pub first_slots-returns-in_default-clause-steps : goal.first_slots-returns-in_default-clause-steps
 first_slots-returns-in_default-clause-steps g t c = λ w wide. omega (arith, c.slot.ensures.step)
@@ -246,7 +246,7 @@ first_slots-first_slots-requires g t c κs within =
     let can = ((c.rest.ensures c.args.room).0 (c.has.ensures.0 c.if-has.true)).1 in
     let fewer = fewer_here g t (goal.at.first_slots-first_slots-requires g t c).In-Some in (
       omega (arith, c.decreases, fewer),
-      (within, (c.requires.node, (c.requires.row, (omega (arith, c.requires.taken), (c.requires.some, (c.requires.limit, out_open q c.args.node c.args.place sound s.first c.args.before c.args.room (rows_of c.args.used.now) free can c.requires.open)))))),
+      (within, (c.requires.node, (c.requires.row, (omega (arith, c.requires.taken), (c.requires.some, (c.requires.limit, out_open q c.args.node c.args.place sound s.first c.args.before c.args.room (used_rows c.args.used.now) free can c.requires.open)))))),
     )
 
 pub first_slots-returns-then-has-clause-ok : goal.first_slots-returns-then-has-clause-ok
@@ -255,7 +255,7 @@ first_slots-returns-then-has-clause-ok g t c =
     let s = slot_here g t (goal.at.first_slots-returns-then-has-clause-ok g t c).In-Some in
     let sound = c.sound_parts.ensures.parts _ (site_among q c.args.node c.requires.node) in
     let free = sym s.must ∙ c.if-not-slot.true in
-    on_ok_weaker c.first_slots.result (λ a. out_adds q c.args.node c.args.place sound s.first c.args.before c.args.room (rows_of c.args.used.now) c.args.members.now.items c.first_slots.new.members.items (omega (arith, c.ranges.room.fits)) free a)
+    on_ok_weaker c.first_slots.result (λ a. out_adds q c.args.node c.args.place sound s.first c.args.before c.args.room (used_rows c.args.used.now) c.args.members.now.items c.first_slots.new.members.items (omega (arith, c.ranges.room.fits)) free a)
     c.first_slots.ensures.ok
 
 pub first_slots-returns-then-has-clause-steps : goal.first_slots-returns-then-has-clause-steps
@@ -279,7 +279,7 @@ first_slots-returns-clause-ok g t c =
     let q = c.args.plan.now in
     let s = slot_here g t (goal.at.first_slots-returns-clause-ok g t c).In-Some in
     let sound = c.sound_parts.ensures.parts _ (site_among q c.args.node c.requires.node) in
-    grown_at q c.args.node c.args.place sound s.first c.in_ok-grow_slots.field-0 c.args.before c.args.room (rows_of c.args.used.now) c.args.members.now.items c.grow_slots.new.members.items (omega (arith, c.ranges.room.fits))
+    grown_at q c.args.node c.args.place sound s.first c.in_ok-grow_slots.field-0 c.args.before c.args.room (used_rows c.args.used.now) c.args.members.now.items c.grow_slots.new.members.items (omega (arith, c.ranges.room.fits))
     (λ free can. elim c.else-not-slot.branch [
       | first_slots-else-not-slot-via-then-not-slot+else-has w ↦ let yes = w.has.ensures.1 ((w.rest.ensures c.args.room).1 (omega (arith, c.requires.limit), can)) in let no = sym yes ∙ w.if-has.false in cc
       | first_slots-else-not-slot-via-else-not-slot w ↦ let yes = w.if-not-slot.false in let no = sym yes ∙ s.must ∙ free in cc
@@ -299,15 +299,15 @@ first_value-first_key-requires-clause-free g t c =
     let q = c.args.plan.now in
     let sound = c.sound_parts.ensures.parts _ (site_among q c.args.node c.requires.node) in
     let size = subst (λ x. HasSize q.pools x c.args.size) c.requires.slot.node c.requires.size in
-    subst (λ k. (v : Data) × IsFreeKey q c.args.slot.now.node c.args.size k (rows_of c.args.used.now) c.args.slot.now.later v) (sym c.requires.slot.name)
-    (key_there q c.args.node c.args.place sound c.requires.slot.first c.sound_parts.ensures.free c.args.slot.now.node (rows_of c.args.used.now) c.args.size c.args.slot.now.later c.requires.slot.node (sym c.requires.slot.key ∙ c.if-slot.true) c.requires.known c.requires.slot.later size c.requires.free)
+    subst (λ k. (v : Data) × IsFreeKey q c.args.slot.now.node c.args.size k (used_rows c.args.used.now) c.args.slot.now.later v) (sym c.requires.slot.name)
+    (key_there q c.args.node c.args.place sound c.requires.slot.first c.sound_parts.ensures.free c.args.slot.now.node (used_rows c.args.used.now) c.args.size c.args.slot.now.later c.requires.slot.node (sym c.requires.slot.key ∙ c.if-slot.true) c.requires.known c.requires.slot.later size c.requires.free)
 
 pub first_value-returns-then-slot-clause-ok : goal.first_value-returns-then-slot-clause-ok
 first_value-returns-then-slot-clause-ok g t c =
     let q = c.args.plan.now in
     let sound = c.sound_parts.ensures.parts _ (site_among q c.args.node c.requires.node) in
-    IfOk-weaker c.first_key.result _ _ (λ v h. key_value q c.args.node c.args.place sound c.requires.slot.first c.sound_parts.ensures.free c.args.slot.now.node (rows_of c.args.used.now) c.args.size c.args.slot.now.later (data_of v) c.requires.slot.node
-    (sym c.requires.slot.key ∙ c.if-slot.true) c.requires.known c.requires.slot.later (subst (λ k. IsLeast tree_cmp (IsFreeKey q c.args.slot.now.node c.args.size k (rows_of c.args.used.now) c.args.slot.now.later) (data_of v)) c.requires.slot.name h)) c.first_key.ensures.ok
+    IfOk-weaker c.first_key.result _ _ (λ v h. key_value q c.args.node c.args.place sound c.requires.slot.first c.sound_parts.ensures.free c.args.slot.now.node (used_rows c.args.used.now) c.args.size c.args.slot.now.later (data_of v) c.requires.slot.node
+    (sym c.requires.slot.key ∙ c.if-slot.true) c.requires.known c.requires.slot.later (subst (λ k. IsLeast tree_cmp (IsFreeKey q c.args.slot.now.node c.args.size k (used_rows c.args.used.now) c.args.slot.now.later) (data_of v)) c.requires.slot.name h)) c.first_key.ensures.ok
 
 pub first_value-returns-then-slot-clause-steps : goal.first_value-returns-then-slot-clause-steps
 first_value-returns-then-slot-clause-steps g t c = costs_within c.args.plan.now c.args.meter.now c.first_key.new.meter 1 c.args.size (some_size c.requires.size) c.first_key.ensures.steps
@@ -320,7 +320,7 @@ pub first_value-returns-clause-ok : goal.first_value-returns-clause-ok
 first_value-returns-clause-ok g t c =
     let q = c.args.plan.now in
     let sound = c.sound_parts.ensures.parts _ (site_among q c.args.node c.requires.node) in
-    IfOk-weaker c.first.result _ _ (λ v h. part_value q c.args.node c.args.place sound c.requires.slot.first c.args.slot.now.node (rows_of c.args.used.now) c.args.size (data_of v) c.requires.slot.node (sym c.requires.slot.key ∙ c.if-slot.false) c.requires.free h) c.first.ensures.ok
+    IfOk-weaker c.first.result _ _ (λ v h. part_value q c.args.node c.args.place sound c.requires.slot.first c.args.slot.now.node (used_rows c.args.used.now) c.args.size (data_of v) c.requires.slot.node (sym c.requires.slot.key ∙ c.if-slot.false) c.requires.free h) c.first.ensures.ok
 
 pub grow_slots-sizes-sizes-requires : goal.grow_slots-sizes-sizes-requires
 grow_slots-sizes-sizes-requires g t c = omega (arith, c.requires.slot.below, c.requires.node)
@@ -383,8 +383,8 @@ grow_slots-put_member-requires g t c κs within =
                     (
                       value.part,
                       (
-                        subst (λ n. Continue (IsValue q.pools (slot_in q c.args.node c.args.place) (slots_from q c.args.node (c.args.place + 1)) (rows_of c.args.used.now) n) (data_of c.in_ok-tree.tree) (stack_of c.first_value.new.following.items)) (sym value.nodes_are) c.in_ok-tree.ensures.following,
-                        behind_open q c.args.node c.args.place sound c.requires.slot.first c.args.before c.args.room (rows_of c.args.used.now) c.in-Some.size (data_of c.in_ok-tree.tree) c.requires.open.known fits value,
+                        subst (λ n. Continue (IsValue q.pools (slot_in q c.args.node c.args.place) (slots_from q c.args.node (c.args.place + 1)) (used_rows c.args.used.now) n) (data_of c.in_ok-tree.tree) (stack_of c.first_value.new.following.items)) (sym value.nodes_are) c.in_ok-tree.ensures.following,
+                        behind_open q c.args.node c.args.place sound c.requires.slot.first c.args.before c.args.room (used_rows c.args.used.now) c.in-Some.size (data_of c.in_ok-tree.tree) c.requires.open.known fits value,
                       ),
                     ),
                   ),
@@ -416,7 +416,7 @@ pub grow_slots-returns-in_err-tree-clause-steps : goal.grow_slots-returns-in_err
 grow_slots-returns-in_err-tree-clause-steps g t c = costs_slots c.args.plan.now c.args.node (c.args.place + 1) c.args.meter.now c.first_value.new.meter c.in-Some.size c.args.room (part_within c.in-Some.size c.in-Some.ensures.1.1.0 c.args.room c.in-Some.ensures.1.1.1.1) c.first_value.ensures.steps
 
 pub grow_slots-returns-in_err-name-clause-steps : goal.grow_slots-returns-in_err-name-clause-steps
-grow_slots-returns-in_err-name-clause-steps g t c = costs_slots c.args.plan.now c.args.node (c.args.place + 1) c.args.meter.now c.first_value.new.meter c.in-Some.size c.args.room (part_within c.in-Some.size c.in-Some.ensures.1.1.0 c.args.room c.in-Some.ensures.1.1.1.1) c.first_value.ensures.steps
+grow_slots-returns-in_err-name-clause-steps g t c = λ w wide. omega arith
 
 pub grow_slots-returns-in_err-put_member-clause-steps : goal.grow_slots-returns-in_err-put_member-clause-steps
 grow_slots-returns-in_err-put_member-clause-steps g t c = costs_both_slots c.args.plan.now c.args.node (c.args.place + 1) c.args.meter.now c.first_value.new.meter c.put_member.new.meter c.in-Some.size c.args.room (part_within c.in-Some.size c.in-Some.ensures.1.1.0 c.args.room c.in-Some.ensures.1.1.1.1) c.first_value.ensures.steps c.put_member.ensures.steps
@@ -431,7 +431,7 @@ pub put_member-first_slots-requires : goal.put_member-first_slots-requires
 put_member-first_slots-requires g t c κs within =
     let q = c.args.plan.now in
     let count = ap (λ (x : Before). x.count) c.fill.ensures in
-    let same = ap rows_of c.as_slice.ensures.value ∙ c.in_ok-same.ensures ∙ (λ i. agreeing_if (c.requires.slot.key i) (c.requires.slot.name i) (data_of c.args.member.tree) (rows_of c.args.used.now)) in (
+    let same = ap rows_of c.as_slice.ensures.value ∙ c.in_ok-same.ensures ∙ (λ i. agreeing_if (c.requires.slot.key i) (c.requires.slot.name i) (data_of c.args.member.tree) (used_rows c.args.used.now)) in (
       omega (arith, c.decreases),
       (
         within,
@@ -458,9 +458,9 @@ put_member-first_slots-requires g t c κs within =
 pub put_member-returns-clause-ok : goal.put_member-returns-clause-ok
 put_member-returns-clause-ok g t c =
     let q = c.args.plan.now in
-    let same = ap rows_of c.as_slice.ensures.value ∙ c.in_ok-same.ensures ∙ (λ i. agreeing_if (c.requires.slot.key i) (c.requires.slot.name i) (data_of c.args.member.tree) (rows_of c.args.used.now)) in
+    let same = ap rows_of c.as_slice.ensures.value ∙ c.in_ok-same.ensures ∙ (λ i. agreeing_if (c.requires.slot.key i) (c.requires.slot.name i) (data_of c.args.member.tree) (used_rows c.args.used.now)) in
     on_ok_weaker c.first_slots.result (λ a.
-    subst (λ l. AddsFirst q.pools (slots_from q c.args.node (c.args.place + 1)) (ending_at q c.args.node) (filled (slot_in q c.args.node c.args.place).bit c.args.before) c.args.room (still_used (slot_in q c.args.node c.args.place) (data_of c.args.member.tree) (rows_of c.args.used.now)) l c.first_slots.new.members.items)
+    subst (λ l. AddsFirst q.pools (slots_from q c.args.node (c.args.place + 1)) (ending_at q c.args.node) (filled (slot_in q c.args.node c.args.place).bit c.args.before) c.args.room (still_used (slot_in q c.args.node c.args.place) (data_of c.args.member.tree) (used_rows c.args.used.now)) l c.first_slots.new.members.items)
     c.in_ok-push-2.ensures.items
     (subst (λ u. AddsFirst q.pools (slots_from q c.args.node (c.args.place + 1)) (ending_at q c.args.node) (filled (slot_in q c.args.node c.args.place).bit c.args.before) c.args.room u c.push-2.new.self.items c.first_slots.new.members.items) same
     (subst (λ x. AddsFirst q.pools (slots_from q c.args.node (c.args.place + 1)) (ending_at q c.args.node) x c.args.room (rows_of c.as_slice.result.now) c.push-2.new.self.items c.first_slots.new.members.items) (filled_at q c.args.node c.args.place c.args.slot.now c.args.before c.fill.result c.requires.slot c.fill.ensures) a))) c.first_slots.ensures.ok
@@ -471,7 +471,7 @@ put_member-returns-then-room-eq0-clause-ok g t c =
     let i = c.args.node in
     let ss = slots_from q i (c.args.place + 1) in
     let x = filled (slot_in q i c.args.place).bit c.args.before in
-    let used = still_used (slot_in q i c.args.place) (data_of c.args.member.tree) (rows_of c.args.used.now) in
+    let used = still_used (slot_in q i c.args.place) (data_of c.args.member.tree) (used_rows c.args.used.now) in
     let none : c.args.room ≡ 0 = omega (arith, c.if-room-eq0.true) in
     let keys = keys_at q i (c.args.place + 1) (c.sound_parts.ensures.parts _ (site_among q i c.requires.node)) in
     let adds = adds_nothing q.pools (ending_at q i) ss x used c.push.new.self.items keys (subst (λ m. IsOpen q.pools ss (ending_at q i) x m used) none c.requires.open) in
@@ -486,15 +486,15 @@ put_member-returns-then-room-eq0-clause-following g t c =
     let none : c.args.room ≡ 0 = omega (arith, c.if-room-eq0.true) in
     let can = subst (λ m. CanFill q.pools (slots_from q i (c.args.place + 1)) (ending_at q i) x m) none c.requires.open.rest in
     let put : drop (length old) c.push.new.self.items ≡ c.args.member ∷ [] = ap (drop (length old)) c.in_ok-push.ensures.items ∙ drop_at old (c.args.member ∷ []) (length old) refl in
-    subst (λ ms. MembersContinue q.pools (slots_from q i c.args.place) (rows_of c.args.used.now) ms (stack_of c.args.following.now.items)) (sym put)
-    (continue_here q i c.args.place c.requires.slot.first x (rows_of c.args.used.now) c.args.member (stack_of c.args.following.now.items) c.requires.name c.requires.part can c.requires.following)
+    subst (λ ms. MembersContinue q.pools (slots_from q i c.args.place) (used_rows c.args.used.now) ms (stack_of c.args.following.now.items)) (sym put)
+    (continue_here q i c.args.place c.requires.slot.first x (used_rows c.args.used.now) c.args.member (stack_of c.args.following.now.items) c.requires.name c.requires.part can c.requires.following)
 
 pub put_member-returns-clause-following : goal.put_member-returns-clause-following
 put_member-returns-clause-following g t c =
     let q = c.args.plan.now in
     let i = c.args.node in
     let place = c.args.place in
-    let used = rows_of c.args.used.now in
+    let used = used_rows c.args.used.now in
     let one = c.args.member in
     let old = c.args.members.now.items in
     let pushed = c.push-2.new.self.items in
@@ -510,7 +510,7 @@ pub first_row-first_slots-requires : goal.first_row-first_slots-requires
 first_row-first_slots-requires g t c κs within =
     let q = c.args.plan.now in
     let count = ap (λ (x : Before). x.count) c.nothing.ensures in
-    let can = subst (λ x. IsOpen q.pools (slots_from q c.args.node 0) (ending_at q c.args.node) x (c.args.size - 1) (rows_of c.args.used.now)) (sym c.nothing.ensures) c.requires.open in
+    let can = subst (λ x. IsOpen q.pools (slots_from q c.args.node 0) (ending_at q c.args.node) x (c.args.size - 1) (used_rows c.args.used.now)) (sym c.nothing.ensures) c.requires.open in
     (omega (arith, c.decreases), (within, (c.requires.node, (c.requires.row, (omega (arith, count), (omega (arith, c.requires.some, c.if-size-eq1.false), (omega (arith, c.requires.some, c.requires.limit, count), can)))))))
 
 -- without nodes the first row is empty
@@ -524,38 +524,38 @@ pub first_row-invariant_of-result : goal.first_row-invariant_of-result
 first_row-invariant_of-result g t c =
     let q = c.args.plan.now in
     let sound = c.sound_parts.ensures.parts _ (site_among q c.args.node c.requires.node) in
-    let adds = empty_adds q c.args.node (c.args.size - 1) (rows_of c.args.used.now) c.new-members.result.items sound c.new-members.ensures.items (omega (arith, c.if-size-eq1.true)) c.requires.open in
+    let adds = empty_adds q c.args.node (c.args.size - 1) (used_rows c.args.used.now) c.new-members.result.items sound c.new-members.ensures.items (omega (arith, c.if-size-eq1.true)) c.requires.open in
     subst AreMembers (sym (ap members_of adds.is ∙ adds.are)) (in_members q.pools (slots_from q c.args.node 0) adds.fillings sound.order adds.least.is.are)
 
 pub first_row-returns-then-size-eq1-clause-ok : goal.first_row-returns-then-size-eq1-clause-ok
 first_row-returns-then-size-eq1-clause-ok g t c =
     let q = c.args.plan.now in
     let sound = c.sound_parts.ensures.parts _ (site_among q c.args.node c.requires.node) in
-    let adds = empty_adds q c.args.node (c.args.size - 1) (rows_of c.args.used.now) c.new-members.result.items sound c.new-members.ensures.items (omega (arith, c.if-size-eq1.true)) c.requires.open in
-    subst (λ ms. IsLeast tree_cmp (IsRow q c.args.node (c.args.size - 1) (rows_of c.args.used.now)) (object_data ms)) (sym (ap members_of adds.is ∙ adds.are)) (row_least q c.args.node (c.args.size - 1) (rows_of c.args.used.now) adds.fillings sound.order adds.least)
+    let adds = empty_adds q c.args.node (c.args.size - 1) (used_rows c.args.used.now) c.new-members.result.items sound c.new-members.ensures.items (omega (arith, c.if-size-eq1.true)) c.requires.open in
+    subst (λ ms. IsLeast tree_cmp (IsRow q c.args.node (c.args.size - 1) (used_rows c.args.used.now)) (object_data ms)) (sym (ap members_of adds.is ∙ adds.are)) (row_least q c.args.node (c.args.size - 1) (used_rows c.args.used.now) adds.fillings sound.order adds.least)
 
 pub first_row-invariant_of-result-2 : goal.first_row-invariant_of-result-2
 first_row-invariant_of-result-2 g t c =
     let q = c.args.plan.now in
     let sound = c.sound_parts.ensures.parts _ (site_among q c.args.node c.requires.node) in
-    let adds = subst (λ old. AddsFirst q.pools (slots_from q c.args.node 0) (ending_at q c.args.node) nothing (c.args.size - 1) (rows_of c.args.used.now) old c.first_slots.new.members.items) c.new-members.ensures.items
-    (subst (λ x. AddsFirst q.pools (slots_from q c.args.node 0) (ending_at q c.args.node) x (c.args.size - 1) (rows_of c.args.used.now) c.new-members.result.items c.first_slots.new.members.items) c.nothing.ensures c.in_ok-first_slots.ensures.ok) in
+    let adds = subst (λ old. AddsFirst q.pools (slots_from q c.args.node 0) (ending_at q c.args.node) nothing (c.args.size - 1) (used_rows c.args.used.now) old c.first_slots.new.members.items) c.new-members.ensures.items
+    (subst (λ x. AddsFirst q.pools (slots_from q c.args.node 0) (ending_at q c.args.node) x (c.args.size - 1) (used_rows c.args.used.now) c.new-members.result.items c.first_slots.new.members.items) c.nothing.ensures c.in_ok-first_slots.ensures.ok) in
     subst AreMembers (sym (ap members_of adds.is ∙ adds.are)) (in_members q.pools (slots_from q c.args.node 0) adds.fillings sound.order adds.least.is.are)
 
 pub first_row-returns-clause-ok : goal.first_row-returns-clause-ok
 first_row-returns-clause-ok g t c =
     let q = c.args.plan.now in
     let sound = c.sound_parts.ensures.parts _ (site_among q c.args.node c.requires.node) in
-    let adds = subst (λ old. AddsFirst q.pools (slots_from q c.args.node 0) (ending_at q c.args.node) nothing (c.args.size - 1) (rows_of c.args.used.now) old c.first_slots.new.members.items) c.new-members.ensures.items
-    (subst (λ x. AddsFirst q.pools (slots_from q c.args.node 0) (ending_at q c.args.node) x (c.args.size - 1) (rows_of c.args.used.now) c.new-members.result.items c.first_slots.new.members.items) c.nothing.ensures c.in_ok-first_slots.ensures.ok) in
-    subst (λ ms. IsLeast tree_cmp (IsRow q c.args.node (c.args.size - 1) (rows_of c.args.used.now)) (object_data ms)) (sym (ap members_of adds.is ∙ adds.are)) (row_least q c.args.node (c.args.size - 1) (rows_of c.args.used.now) adds.fillings sound.order adds.least)
+    let adds = subst (λ old. AddsFirst q.pools (slots_from q c.args.node 0) (ending_at q c.args.node) nothing (c.args.size - 1) (used_rows c.args.used.now) old c.first_slots.new.members.items) c.new-members.ensures.items
+    (subst (λ x. AddsFirst q.pools (slots_from q c.args.node 0) (ending_at q c.args.node) x (c.args.size - 1) (used_rows c.args.used.now) c.new-members.result.items c.first_slots.new.members.items) c.nothing.ensures c.in_ok-first_slots.ensures.ok) in
+    subst (λ ms. IsLeast tree_cmp (IsRow q c.args.node (c.args.size - 1) (used_rows c.args.used.now)) (object_data ms)) (sym (ap members_of adds.is ∙ adds.are)) (row_least q c.args.node (c.args.size - 1) (used_rows c.args.used.now) adds.fillings sound.order adds.least)
 
 pub first_row-returns-clause-following : goal.first_row-returns-clause-following
 first_row-returns-clause-following g t c =
     let q = c.args.plan.now in
     let i = c.args.node in
     let n = c.args.size - 1 in
-    let used = rows_of c.args.used.now in
+    let used = used_rows c.args.used.now in
     let ss = slots_from q i 0 in
     let sound = c.sound_parts.ensures.parts _ (site_among q i c.requires.node) in
     let new = c.first_slots.new.members.items in
@@ -682,8 +682,7 @@ first_item-first_row-requires g t c κs within =
               some,
               (
                 c.requires.limit,
-                subst (IsOpen q.pools (slots_from q c.args.child 0) (ending_at q c.args.child) nothing (c.args.size - 1)) (sym (ap rows_of c.as_slice.ensures.value ∙ c.in_ok-used-in-Keys.ensures))
-                    (item_open q c.args.node c.args.child (c.no_dead_end.ensures.parts _ here) (c.no_dead_end.ensures.parts _ there) (c.sound_parts.ensures.parts _ there) items c.sound_parts.ensures.free counts.0 counts.1 c.args.items.now c.args.size c.requires.fresh.0
+                (item_open q c.args.node c.args.child (c.no_dead_end.ensures.parts _ here) (c.no_dead_end.ensures.parts _ there) (c.sound_parts.ensures.parts _ there) items c.sound_parts.ensures.free counts.0 counts.1 c.args.items.now c.args.size c.requires.fresh.0
                     (omega (arith, c.limit.ensures, c.limit.type_inv)) c.requires.first c.requires.fresh.1 c.requires.size),
               ),
             ),
@@ -692,24 +691,21 @@ first_item-first_row-requires g t c κs within =
       ),
     )
 
-pub first_item-returns-in_ok-used-in-Keys-clause-ok : goal.first_item-returns-in_ok-used-in-Keys-clause-ok
-first_item-returns-in_ok-used-in-Keys-clause-ok g t c =
+pub first_item-returns-in-Keys-clause-ok : goal.first_item-returns-in-Keys-clause-ok
+first_item-returns-in-Keys-clause-ok g t c =
     let q = c.args.plan.now in
     let here = site_among q c.args.node c.requires.node in
     let there = site_among q c.args.child (omega (arith, c.requires.child, c.requires.node)) in
     let items = (c.sound_parts.ensures.parts _ here).map (site q c.args.child) c.requires.first.item (sym c.distinct.ensures ∙ c.in-Keys.is) in
     let some = some_size c.requires.size in
     IfOk-weaker c.first_row.result _ _ (λ v h. item_least q c.args.node c.args.child (c.no_dead_end.ensures.parts _ there) (c.sound_parts.ensures.parts _ there) items c.args.items.now c.args.size (data_of v) some c.requires.first.are
-    (subst (λ us. IsLeast tree_cmp (IsRow q c.args.child (c.args.size - 1) us) (data_of v)) (ap rows_of c.as_slice.ensures.value ∙ c.in_ok-used-in-Keys.ensures) h)) c.first_row.ensures.ok
+    h) c.first_row.ensures.ok
 
 pub first_item-returns-in-Free-clause-steps : goal.first_item-returns-in-Free-clause-steps
 first_item-returns-in-Free-clause-steps g t c = c.first.ensures.steps
 
-pub first_item-returns-in_err-used-in-Keys-clause-steps : goal.first_item-returns-in_err-used-in-Keys-clause-steps
-first_item-returns-in_err-used-in-Keys-clause-steps g t c = λ w wide. omega arith
-
-pub first_item-returns-in_ok-used-in-Keys-clause-steps : goal.first_item-returns-in_ok-used-in-Keys-clause-steps
-first_item-returns-in_ok-used-in-Keys-clause-steps g t c = c.first_row.ensures.steps
+pub first_item-returns-in-Keys-clause-steps : goal.first_item-returns-in-Keys-clause-steps
+first_item-returns-in-Keys-clause-steps g t c = c.first_row.ensures.steps
 
 pub first_items-returns-in_err-grow_items-clause-steps : goal.first_items-returns-in_err-grow_items-clause-steps
 first_items-returns-in_err-grow_items-clause-steps g t c = c.grow_items.ensures.steps
@@ -775,8 +771,8 @@ first_item-returns-in-Whole-clause-following g t c =
     IfOk-weaker c.first_unused.result _ _ (λ v h. continue_same (IsUnusedPart q k n (trees_of c.args.items.now)) (IsFreshItem q i k n (items_of c.args.items.now)) (data_of v) (stack_of c.first_unused.new.following.items)
     (λ u p. (unused_fresh q i k n c.args.items.now u set).0 p) (λ u f. (unused_fresh q i k n c.args.items.now u set).1 f) h) c.first_unused.ensures.following
 
-pub first_item-returns-in_ok-used-in-Keys-clause-following : goal.first_item-returns-in_ok-used-in-Keys-clause-following
-first_item-returns-in_ok-used-in-Keys-clause-following g t c =
+pub first_item-returns-in-Keys-clause-following : goal.first_item-returns-in-Keys-clause-following
+first_item-returns-in-Keys-clause-following g t c =
     let q = c.args.plan.now in
     let i = c.args.node in
     let k = c.args.child in
@@ -790,7 +786,7 @@ first_item-returns-in_ok-used-in-Keys-clause-following g t c =
     let cs = stack_of c.first_row.new.following.items in
     IfOk-weaker c.first_row.result _ _ (λ v h. continue_same (IsRow q k (n - 1) (trees_of c.args.items.now)) (IsFreshItem q i k n (items_of c.args.items.now)) (data_of v) cs
     (λ u r. row_fresh q i k rule sound items c.args.items.now n u some c.requires.first.are r) (λ u f. fresh_row q i k rule sound items c.args.items.now n u c.requires.first.are f)
-    (subst (λ us. Continue (IsRow q k (n - 1) us) (data_of v) cs) (ap rows_of c.as_slice.ensures.value ∙ c.in_ok-used-in-Keys.ensures) h)) c.first_row.ensures.following
+    h) c.first_row.ensures.following
 
 pub first_items-returns-in_ok-grow_items-clause-following : goal.first_items-returns-in_ok-grow_items-clause-following
 first_items-returns-in_ok-grow_items-clause-following g t c =
@@ -822,7 +818,7 @@ first_slots-returns-then-has-clause-following g t c =
     let q = c.args.plan.now in
     let s = slot_here g t (goal.at.first_slots-returns-then-has-clause-following g t c).In-Some in
     let free = sym s.must ∙ c.if-not-slot.true in
-    on_ok_weaker c.first_slots.result (λ h. continue_out q c.args.node c.args.place s.first (rows_of c.args.used.now) (drop (length c.args.members.now.items) c.first_slots.new.members.items) (stack_of c.first_slots.new.following.items) free h) c.first_slots.ensures.following
+    on_ok_weaker c.first_slots.result (λ h. continue_out q c.args.node c.args.place s.first (used_rows c.args.used.now) (drop (length c.args.members.now.items) c.first_slots.new.members.items) (stack_of c.first_slots.new.following.items) free h) c.first_slots.ensures.following
 
 pub first_slots-returns-clause-following : goal.first_slots-returns-clause-following
 first_slots-returns-clause-following g t c =
@@ -831,7 +827,7 @@ first_slots-returns-clause-following g t c =
     let old = c.args.members.now.items in
     let new = c.grow_slots.new.members.items in
     let s = slot_here g t (goal.at.first_slots-returns-clause-following g t c).In-Some in
-    grown_continues q i c.args.place s.first c.in_ok-grow_slots.field-0 c.args.before c.args.room (rows_of c.args.used.now) old new (drop (length old) new) (stack_of c.grow_slots.new.following.items)
+    grown_continues q i c.args.place s.first c.in_ok-grow_slots.field-0 c.args.before c.args.room (used_rows c.args.used.now) old new (drop (length old) new) (stack_of c.grow_slots.new.following.items)
     (λ free can. elim c.else-not-slot.branch [
       | first_slots-else-not-slot-via-then-not-slot+else-has w ↦ let yes = w.has.ensures.1 ((w.rest.ensures c.args.room).1 (omega (arith, c.requires.limit), can)) in let no = sym yes ∙ w.if-has.false in cc
       | first_slots-else-not-slot-via-else-not-slot w ↦ let yes = w.if-not-slot.false in let no = sym yes ∙ s.must ∙ free in cc
@@ -853,7 +849,7 @@ first_value-returns-then-slot-clause-following g t c =
     let s = c.args.slot.now in
     let here = slot_in q i place in
     let behind = slots_from q i (place + 1) in
-    let used = rows_of c.args.used.now in
+    let used = used_rows c.args.used.now in
     let n = c.args.size in
     let cs = stack_of c.first_key.new.following.items in
     let known = subst (λ ss. AreUsed q.pools ss used) c.requires.slot.first c.requires.known in
@@ -869,7 +865,7 @@ first_value-returns-clause-following g t c =
     let s = c.args.slot.now in
     let here = slot_in q i place in
     let behind = slots_from q i (place + 1) in
-    let used = rows_of c.args.used.now in
+    let used = used_rows c.args.used.now in
     let n = c.args.size in
     let cs = stack_of c.first.new.following.items in
     let other : here.key ≡ false = sym c.requires.slot.key ∙ c.if-slot.false in

@@ -1,86 +1,31 @@
-use Rattle.std.proofs.Common.{◌≡◌, ◌∙◌, ◌+◌, ◌-◌, [], List, Option, ap, sym, subst, arith, length, drop}
+use Rattle.std.proofs.Common.{◌≡◌, ◌∙◌, ◌+◌, [], ap, sym, subst, arith, length}
 use Rattle.std.proofs.lemmas.List.{nil_from_length}
-use Rattle.jtree.specs.Data.{Data}
-use Rattle.jtree.specs.View.{data_of, members_of}
-use Rattle.jtree.specs.declared.value.Member.{Member}
-use Rattle.plan.specs.Samples.Sizes.{Before, filled, nothing}
-use Rattle.enumerate.specs.Internal.Candidates.{rows_of, agreeing_if}
-use Rattle.enumerate.specs.Internal.Front.{agreeing_rows}
-use Rattle.enumerate.specs.Internal.Moves.{Begins}
-use Rattle.enumerate.specs.Internal.Prefixes.{before_at, used_at}
-use Rattle.enumerate.specs.Internal.Rows.{slots_from, slot_in, still_used}
-use Rattle.enumerate.specs.declared.front.Front.{Front}
-use Rattle.enumerate.proofs.FrontLemmas.{IsLeft, passed_out, passed_in, used_none, before_plain, used_first, no_rows}
+use Rattle.jtree.specs.View.{members_of}
+use Rattle.plan.specs.Samples.Sizes.{nothing}
+use Rattle.enumerate.specs.Internal.Candidates.{used_rows}
+use Rattle.enumerate.specs.Internal.Prefixes.{used_at}
+use Rattle.enumerate.specs.Internal.Rows.{slots_from}
+use Rattle.enumerate.proofs.FrontLemmas.{used_none, before_plain, used_first, no_rows}
 use Rattle.enumerate.proofs.ListWalks.{empty_len}
-use Rattle.enumerate.proofs.MemberCuts.{begins_at, begins_within, member_here, at_count}
-use Rattle.enumerate.proofs.RowSteps.{slot_of}
 use Rattle.enumerate.proofs.front.front_at.Goals as goal
-use Rattle.enumerate.proofs.front.front_at.Goals.{then-is_empty, else-is_empty, then-begins+in_ok-front, else-begins}
+use Rattle.enumerate.proofs.front.front_at.Goals.{then-is_empty, else-is_empty}
 
 pub returns-then-is_empty-2-clause-front : goal.returns-then-is_empty-2-clause-front
 returns-then-is_empty-2-clause-front g c = λ gs fit are.
     let q = c.args.plan.now in
     let ss = slots_from q c.args.node 0 in
     let members = c.args.members.now in
-    let used = rows_of c.args.used.now in
+    let used = used_rows c.args.used.now in
     let plain = c.names_fields.ensures.no_bit c.if-not-names_fields.true in
     let count : length members ≡ 0 + length members = omega arith in
     record {
       before = c.unnamed.ensures ∙ ap (λ n. record { count = n; seen = 0 }) count ∙ sym (before_plain c.args.place ss gs nothing members plain are);
       rows = elim c.if-is_empty.branch [
         | then-is_empty w ↦
-            let none = no_rows c.args.used.now c.is_empty.result c.is_empty.ensures w.if-is_empty.true in
+            let none = no_rows (used_rows c.args.used.now) c.is_empty.result c.is_empty.ensures w.if-is_empty.true in
             subst (λ us. us ≡ used_at c.args.place ss gs us) (sym none) (sym (used_none c.args.place ss gs))
         | else-is_empty w ↦
             let none : members ≡ [] = nil_from_length members (empty_len (length members) (sym w.is_empty-else-is_empty.ensures ∙ (sym w.value-is ∙ c.if-is_empty-2.true))) in
             sym (used_first c.args.place ss gs used (sym (ap members_of none) ∙ are))
       ];
     }
-
-pub loop-earlier-preserved : goal.loop-earlier-preserved
-loop-earlier-preserved g c =
-    let q = c.args.plan.now in
-    let i = c.args.node in
-    let place = c.args.place in
-    let earlier = c.loop-earlier.earlier in
-    let ss = slots_from q i 0 in
-    let members = c.args.members.now in
-    let used = rows_of c.args.used.now in
-    let old = c.loop-earlier.front in
-    let slot = c.in-Some.slot in
-    let s = slot_of q i earlier slot c.in-Some.ensures.some c.in-Some.ensures.below c.in-Some.ensures.later c.in-Some.ensures.bit c.in-Some.ensures.followed in
-    let here = slot_in q i earlier in
-    let Left = λ (gs : List (Option Data)) (x : Before) (rows : List Data). IsLeft q.pools (place - (earlier + 1)) (slots_from q i (earlier + 1)) (drop (earlier + 1) gs) (members_of (drop x.count members)) x (before_at place ss gs nothing) rows (used_at place ss gs used) in
-    elim c.if-begins.branch [
-      | then-begins+in_ok-front w ↦
-          let one = w.index-members-next.result in
-          let front = w.in_ok-front.front in
-          let begin = begins_at slot.name.now members c.count-next.ensures (c.begins.ensures.0 w.if-begins.true) in
-          let there = member_here slot.name.now old.before.count members one begin (at_count members one c.count-next.ensures w.index-members-next.is) in
-          let name : one.name ≡ here.name = subst (λ ms. Begins slot.name.now (members_of ms)) there begin ∙ s.name in
-          let state : front.before ≡ filled here.bit old.before = w.in_ok-front.ensures.before ∙ ap (λ b. filled b old.before) s.bit in
-          let rows : agreeing_rows front.agreeing used ≡ still_used here (data_of one.tree) (agreeing_rows old.agreeing used) = w.in_ok-front.ensures.rows ∙ (ap (λ (m : Member). agreeing_if slot.key slot.name.now (data_of m.tree) (agreeing_rows old.agreeing used)) (sym w.index-members-next.is) ∙ (λ k. agreeing_if (s.key k) (s.name k) (data_of one.tree) (agreeing_rows old.agreeing used))) in
-          let more : c.if-begins.front.before.count ≡ old.before.count + 1 = ap (λ (f : Front). f.before.count) w.front-is ∙ ap (λ (x : Before). x.count) state in
-          record {
-            left = λ gs fit are.
-                let l = c.loop-earlier.invariant.left gs fit are in
-                let passed = passed_in q i earlier place s.first (omega (arith, c.loop-earlier-test.true)) gs old.before (before_at place ss gs nothing) (agreeing_rows old.agreeing used) (used_at place ss gs used) one (drop (old.before.count + 1) members)
-                (subst (λ ms. IsLeft q.pools (place - earlier) (slots_from q i earlier) (drop earlier gs) (members_of ms) old.before (before_at place ss gs nothing) (agreeing_rows old.agreeing used) (used_at place ss gs used)) there l) name in
-                subst (λ (f : Front). Left gs f.before (agreeing_rows f.agreeing used)) (sym w.front-is) (subst (λ x. Left gs x (agreeing_rows front.agreeing used)) (sym state) (subst (Left gs (filled here.bit old.before)) (sym rows) passed));
-            within = omega (arith, more, begins_within slot.name.now members old.before.count begin);
-            few = omega (arith, more, c.loop-earlier.invariant.few);
-            steps = omega (arith, c.slot.ensures.step, c.loop-earlier.invariant.steps);
-          }
-      | else-begins w ↦
-          let same : c.if-begins.front.before.count ≡ old.before.count = ap (λ (f : Front). f.before.count) w.front-is in
-          record {
-            left = λ gs fit are.
-                let l = c.loop-earlier.invariant.left gs fit are in
-                let passed = passed_out q i earlier place s.first (omega (arith, c.loop-earlier-test.true)) gs old.before (before_at place ss gs nothing) (agreeing_rows old.agreeing used) (used_at place ss gs used) (members_of (drop old.before.count members)) l
-                (λ b. let yes = c.begins.ensures.1 (subst (λ n. Begins slot.name.now (members_of (drop n members))) (sym c.count-next.ensures) (subst (λ k. Begins k (members_of (drop old.before.count members))) (sym s.name) b)) in let no = w.if-begins.false in cc) in
-                subst (λ (f : Front). Left gs f.before (agreeing_rows f.agreeing used)) (sym w.front-is) passed;
-            within = omega (arith, same, c.loop-earlier.invariant.within);
-            few = omega (arith, same, c.loop-earlier.invariant.few);
-            steps = omega (arith, c.slot.ensures.step, c.loop-earlier.invariant.steps);
-          }
-    ]

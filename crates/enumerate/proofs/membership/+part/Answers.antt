@@ -61,9 +61,8 @@ is_fresh_item-returns-else-contains-clause-ok g t c =
     let any = any_found q.pools _ _ c.args.items.now c.args.item.now ((c.sound_parts.ensures.parts _ (site_among q c.args.node c.requires.node)).set _ c.requires.first.item (sym c.in-Whole.ensures)) in
     answered c.is_part-in-Whole.result _ _ (λ part. record { part = record { part = part; nodes_are = refl }; fresh = any ∙ (sym c.contains.ensures.value ∙ c.if-contains.false) }) (λ h. h.part.part) c.is_part-in-Whole.ensures.ok
 
-pub is_fresh_item-returns-in_ok-used-in-Keys-clause-ok :
-    goal.is_fresh_item-returns-in_ok-used-in-Keys-clause-ok
-is_fresh_item-returns-in_ok-used-in-Keys-clause-ok g t c =
+pub is_fresh_item-returns-in-Keys-clause-ok : goal.is_fresh_item-returns-in-Keys-clause-ok
+is_fresh_item-returns-in-Keys-clause-ok g t c =
     let q = c.args.plan.now in
     let i = c.args.node in
     let j = c.args.child in
@@ -72,10 +71,9 @@ is_fresh_item-returns-in_ok-used-in-Keys-clause-ok g t c =
     let map = (c.sound_parts.ensures.parts _ (site_among q i c.requires.node)).map _ c.requires.first.item (sym c.in-Keys.ensures) in
     let rule = c.no_dead_end.ensures.parts _ (site_among q j at) in
     let sound = c.sound_parts.ensures.parts _ (site_among q j at) in
-    let used : rows_of c.as_slice.result.now ≡ trees_of c.args.items.now = ap rows_of c.as_slice.ensures.value ∙ c.in_ok-used-in-Keys.ensures in
-    answered c.is_fresh_row.result (IsFreshRow q j (rows_of c.as_slice.result.now) v) _
-    (λ r. fresh_item q i j rule sound map c.args.items.now v c.requires.first.are (subst (λ us. IsFreshRow q j us v) used r))
-    (λ f. subst (λ us. IsFreshRow q j us v) (sym used) (fresh_row q i j rule sound map c.args.items.now v c.requires.first.are f)) c.is_fresh_row.ensures.ok
+    answered c.is_fresh_row.result (IsFreshRow q j (trees_of c.args.items.now) v) _
+    (λ r. fresh_item q i j rule sound map c.args.items.now v c.requires.first.are r)
+    (λ f. fresh_row q i j rule sound map c.args.items.now v c.requires.first.are f) c.is_fresh_row.ensures.ok
 
 pub is_fresh_row-returns-in-Object-clause-steps : goal.is_fresh_row-returns-in-Object-clause-steps
 is_fresh_row-returns-in-Object-clause-steps g t c =
@@ -298,11 +296,8 @@ is_fresh_item-returns-then-contains-clause-steps g t c = λ w wide. omega arith
 pub is_fresh_item-returns-else-contains-clause-steps : goal.is_fresh_item-returns-else-contains-clause-steps
 is_fresh_item-returns-else-contains-clause-steps g t c = c.is_part-in-Whole.ensures.steps
 
-pub is_fresh_item-returns-in_err-used-in-Keys-clause-steps : goal.is_fresh_item-returns-in_err-used-in-Keys-clause-steps
-is_fresh_item-returns-in_err-used-in-Keys-clause-steps g t c = λ w wide. omega arith
-
-pub is_fresh_item-returns-in_ok-used-in-Keys-clause-steps : goal.is_fresh_item-returns-in_ok-used-in-Keys-clause-steps
-is_fresh_item-returns-in_ok-used-in-Keys-clause-steps g t c = c.is_fresh_row.ensures.steps
+pub is_fresh_item-returns-in-Keys-clause-steps : goal.is_fresh_item-returns-in-Keys-clause-steps
+is_fresh_item-returns-in-Keys-clause-steps g t c = c.is_fresh_row.ensures.steps
 
 pub make_list-returns-then-is_empty-clause-steps : goal.make_list-returns-then-is_empty-clause-steps
 make_list-returns-then-is_empty-clause-steps g t c = λ w wide. omega arith

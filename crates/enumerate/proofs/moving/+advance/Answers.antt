@@ -10,7 +10,7 @@ use Rattle.plan.specs.Samples.Candidates.{IsWidth}
 use Rattle.plan.specs.Samples.Sites.{sites_of}
 use Rattle.enumerate.specs.Least.{IsNext}
 use Rattle.enumerate.specs.Internal.Nodes.{site, IsPartOf, Costs}
-use Rattle.enumerate.specs.Internal.Candidates.{stack_of, IsUnusedPart, IsFreeKey, rows_of}
+use Rattle.enumerate.specs.Internal.Candidates.{stack_of, IsUnusedPart, IsFreeKey, used_rows}
 use Rattle.plan.specs.Samples.Sizes.{Before, nothing, filled, filled_nodes, HasMore}
 use Rattle.enumerate.specs.Internal.Rows.{fill_cmp, IsRest, IsOpen, IsSlotOf, slots_from, slot_in, ending_at, AreUsed, IsRow, IsValue}
 use Rattle.jtree.specs.declared.value.Tree.{Tree}
@@ -28,6 +28,10 @@ use Rattle.enumerate.specs.Internal.Walks.{CostsLastAt}
 use Rattle.enumerate.proofs.MoveCosts.{cost_within, split_cost, costs_slots, step_kept, walk_cost, last_taken, costs_thrice, costs_less, members_row, costs_below, costs_within, costs_row, costs_last}
 use Rattle.enumerate.proofs.moving.+advance.Goals.{advance_at-In-Some, advance_taken-In_ok-front, advance_members-After-advance_at, advance_taken-else-slot-via-then-slot+then-not-names_fields+else-not-has_later, advance_taken-else-slot-via-then-slot+else-not-names_fields, advance_taken-else-slot-via-else-slot}
 use Rattle.enumerate.proofs.FrontLemmas.{before_plain}
+use Rattle.enumerate.proofs.ChangeLemmas.{moves, differs_in_member, differs_in_item, all_to, if_last, if_all, none_added, no_member, all_items}
+use Rattle.enumerate.proofs.RowSteps.{no_members_in}
+use Rattle.std.proofs.Common.{append-nil}
+use Rattle.enumerate.specs.Internal.Changes.{DiffersAt, MovesAt, StepsAt, StepsAfter}
 use Rattle.enumerate.proofs.RowWalks.{fewer_members, members_pushed, kept_nodes, left_grown, walk_begins, walked_continue, walked_member, walked_key, IsTakenOff, taken_off, ready, so_many, few_at}
 use Rattle.enumerate.proofs.FollowingLemmas.{if_both, moved_continues_same, none_continues, row_moved_continues, row_continues, item_continues, list_continues}
 use Rattle.enumerate.proofs.RowLemmas.{still_used_other}
@@ -102,6 +106,7 @@ advance-returns-in_default g t c =
       following = none_continues (IsPartOf q c.args.node (node_count (data_of c.args.tree))) c.past_null.result (stack_of c.clear.new.self.items) (ap stack_of c.clear.ensures.items);
       steps = λ w wide. omega arith;
       last = costs_last c.past_null.result q c.args.meter.now c.args.meter.now (node_count (data_of c.args.tree)) (λ w wide. omega arith);
+      place = moves (data_of c.args.tree) c.past_null.result;
     }
 
 pub advance-returns-in-Row : goal.advance-returns-in-Row
@@ -114,10 +119,11 @@ advance-returns-in-Row g t c =
       following = if_both c.advance_row.result _ _ _ (λ m h k. row_moved_continues q c.args.node (c.no_dead_end.ensures.parts _ there) row (node_count (data_of c.args.tree)) (data_of c.args.tree) m (stack_of c.advance_row.new.following.items) (some_nodes (data_of c.args.tree)) h k) c.advance_row.ensures.ok c.advance_row.ensures.following;
       steps = c.advance_row.ensures.steps;
       last = c.advance_row.ensures.last;
+      place = c.advance_row.ensures.place;
     }
 
 pub advance-returns-in-List : goal.advance-returns-in-List
-advance-returns-in-List g t c = record { ok = c.advance_list.ensures.ok; following = c.advance_list.ensures.following; steps = c.advance_list.ensures.steps; last = c.advance_list.ensures.last }
+advance-returns-in-List g t c = record { ok = c.advance_list.ensures.ok; following = c.advance_list.ensures.following; steps = c.advance_list.ensures.steps; last = c.advance_list.ensures.last; place = c.advance_list.ensures.place }
 
 pub advance-returns-in-Leaf-clause-ok : goal.advance-returns-in-Leaf-clause-ok
 advance-returns-in-Leaf-clause-ok g t c =
@@ -140,7 +146,7 @@ advance_members-loop-place-init g t c =
     let sound = c.sound_parts.ensures.parts _ (site_among q i c.requires.node) in
     record {
       within = omega (arith, c.slot_count-place.ensures);
-      walked = λ gs h. walk_begins q i sound (rows_of c.args.used.now) c.slot_count-place.result _ c.args.members.now.items gs c.slot_count-place.ensures (omega (arith, c.requires.limit, c.limit.ensures, c.limit.type_inv)) h;
+      walked = λ gs h. walk_begins q i sound (used_rows c.args.used.now) c.slot_count-place.result _ c.args.members.now.items gs c.slot_count-place.ensures (omega (arith, c.requires.limit, c.limit.ensures, c.limit.type_inv)) h;
       steps = λ w wide. omega (arith, c.slot_count-place.ensures);
     }
 
@@ -148,7 +154,7 @@ pub advance_members-advance_at-requires : goal.advance_members-advance_at-requir
 advance_members-advance_at-requires g t c κs within =
     let q = c.args.plan.now in
     let i = c.args.node in
-    let used = rows_of c.args.used.now in
+    let used = used_rows c.args.used.now in
     let gs = c.requires.stand.0 in
     let back : c.loop-place.place ≡ c.loop-place.place - 1 + 1 = omega (arith, c.loop-place-test.true) in
     let there = c.loop-place.invariant.walked gs c.requires.stand.1 in
@@ -160,7 +166,7 @@ pub advance_members-returns-in-Moved-clause-moved : goal.advance_members-returns
 advance_members-returns-in-Moved-clause-moved g t c = λ gs h.
     let q = c.args.plan.now in
     let i = c.args.node in
-    let used = rows_of c.args.used.now in
+    let used = used_rows c.args.used.now in
     let back : c.loop-place.place ≡ c.loop-place.place - 1 + 1 = omega (arith, c.loop-place-test.true) in
     let walked = subst (λ n. IsWalkedTo q i n c.loop-place.room used c.loop-place.before c.loop-place.members.items gs) back (c.loop-place.invariant.walked gs h) in
     subst (λ st. AreWalked st q i (c.loop-place.place - 1) used c.advance_at.new.before c.advance_at.new.members.items gs) c.in-Moved.is (c.in_ok-advance_at.ensures.moved gs walked)
@@ -168,14 +174,14 @@ advance_members-returns-in-Moved-clause-moved g t c = λ gs h.
 pub advance_members-returns-in-Moved-clause-following : goal.advance_members-returns-in-Moved-clause-following
 advance_members-returns-in-Moved-clause-following g t c =
     let q = c.args.plan.now in
-    subst (λ st. GrownContinue st q.pools (slots_from q c.args.node 0) (rows_of c.args.used.now) c.advance_at.new.members.items (stack_of c.advance_at.new.following.items)) c.in-Moved.is c.in_ok-advance_at.ensures.following
+    subst (λ st. GrownContinue st q.pools (slots_from q c.args.node 0) (used_rows c.args.used.now) c.advance_at.new.members.items (stack_of c.advance_at.new.following.items)) c.in-Moved.is c.in_ok-advance_at.ensures.following
 
 -- what it took to the slot, and at it
 cost_here : (g : Over) (t : ℕ) (c : advance_members-After-advance_at g t) → CostsMembers c.args.plan.now c.args.node c.args.meter.now c.advance_at.new.meter (members_count (members_of c.args.members.now.items))
 cost_here g t c =
     let q = c.args.plan.now in
     let l = c.loop-place in
-    let nodes = kept_nodes q c.args.node l.place l.room (rows_of c.args.used.now) l.before c.args.members.now.items l.members.items c.requires.stand.0 c.requires.stand.1 (l.invariant.walked c.requires.stand.0 c.requires.stand.1) in
+    let nodes = kept_nodes q c.args.node l.place l.room (used_rows c.args.used.now) l.before c.args.members.now.items l.members.items c.requires.stand.0 c.requires.stand.1 (l.invariant.walked c.requires.stand.0 c.requires.stand.1) in
     walk_cost q c.args.node c.args.meter.now l.meter c.advance_at.new.meter l.place l.room (members_count (members_of l.members.items)) (members_count (members_of c.args.members.now.items)) nodes l.invariant.steps c.advance_at.ensures.steps
 
 pub advance_members-returns-in_err-advance_at-clause-steps : goal.advance_members-returns-in_err-advance_at-clause-steps
@@ -188,7 +194,7 @@ pub advance_members-loop-place-preserved : goal.advance_members-loop-place-prese
 advance_members-loop-place-preserved g t c =
     let q = c.args.plan.now in
     let i = c.args.node in
-    let used = rows_of c.args.used.now in
+    let used = used_rows c.args.used.now in
     let l = c.loop-place in
     let back : l.place ≡ l.place - 1 + 1 = omega (arith, c.loop-place-test.true) in
     let last = subst (λ st. CostsLastAt st q l.room l.meter c.advance_at.new.meter) c.in-Last.is c.in_ok-advance_at.ensures.last in
@@ -203,7 +209,7 @@ advance_members-loop-place-preserved g t c =
 pub advance_members-returns-clause-moved : goal.advance_members-returns-clause-moved
 advance_members-returns-clause-moved g t c = λ gs h.
     let none : c.loop-place.place ≡ 0 = omega (arith, c.loop-place-test.false) in
-    let walked = subst (λ n. IsWalkedTo c.args.plan.now c.args.node n c.loop-place.room (rows_of c.args.used.now) c.loop-place.before c.loop-place.members.items gs) none (c.loop-place.invariant.walked gs h) in
+    let walked = subst (λ n. IsWalkedTo c.args.plan.now c.args.node n c.loop-place.room (used_rows c.args.used.now) c.loop-place.before c.loop-place.members.items gs) none (c.loop-place.invariant.walked gs h) in
     (walked.last, walked.room_is)
 
 pub advance_members-returns-clause-steps : goal.advance_members-returns-clause-steps
@@ -211,7 +217,7 @@ advance_members-returns-clause-steps g t c =
     let q = c.args.plan.now in
     let l = c.loop-place in
     let m = members_count (members_of c.args.members.now.items) in
-    let nodes = kept_nodes q c.args.node l.place l.room (rows_of c.args.used.now) l.before c.args.members.now.items l.members.items c.requires.stand.0 c.requires.stand.1 (l.invariant.walked c.requires.stand.0 c.requires.stand.1) in
+    let nodes = kept_nodes q c.args.node l.place l.room (used_rows c.args.used.now) l.before c.args.members.now.items l.members.items c.requires.stand.0 c.requires.stand.1 (l.invariant.walked c.requires.stand.0 c.requires.stand.1) in
     λ w wide. omega (arith, cost_within w (2 * l.room) (3 * m) (omega (arith, nodes)), l.invariant.steps w wide)
 
 pub advance_members-returns-clause-last : goal.advance_members-returns-clause-last
@@ -219,7 +225,7 @@ advance_members-returns-clause-last g t c =
     let q = c.args.plan.now in
     let l = c.loop-place in
     let m = members_count (members_of c.args.members.now.items) in
-    let nodes = kept_nodes q c.args.node l.place l.room (rows_of c.args.used.now) l.before c.args.members.now.items l.members.items c.requires.stand.0 c.requires.stand.1 (l.invariant.walked c.requires.stand.0 c.requires.stand.1) in
+    let nodes = kept_nodes q c.args.node l.place l.room (used_rows c.args.used.now) l.before c.args.members.now.items l.members.items c.requires.stand.0 c.requires.stand.1 (l.invariant.walked c.requires.stand.0 c.requires.stand.1) in
     λ w wide. omega (arith, cost_within w (2 * l.room) (2 * m) (omega (arith, nodes)), l.invariant.steps w wide)
 
 -- ---- a slot on the way
@@ -243,7 +249,7 @@ advance_at-advance_taken-requires g t c κs within =
     let front = c.pop_named.new.members.items in
     let s = at_slot g t (goal.at.advance_at-advance_taken-requires g t c).In-Some in
     let popped = c.in-Some-pop_named.ensures.some in
-    let walked = subst (λ l. IsWalkedTo q i (c.args.place + 1) c.args.room (rows_of c.args.used.now) c.args.before.now l gs) popped.0 c.requires.walked.1 in
+    let walked = subst (λ l. IsWalkedTo q i (c.args.place + 1) c.args.room (used_rows c.args.used.now) c.args.before.now l gs) popped.0 c.requires.walked.1 in
     let nodes : members_count (members_of c.args.members.now.items) ≡ members_count (members_of front) + node_count (data_of one.tree) = ap (λ l. members_count (members_of l)) popped.0 ∙ members_pushed front one in
     (omega (arith, c.decreases), (within, (c.requires.node, (c.requires.row, (s, (c.requires.place, (c.requires.used, (popped.1 ∙ s.name, ((gs, walked), omega (arith, nodes, c.requires.limit))))))))))
 
@@ -283,7 +289,7 @@ advance_taken-returns-then-not-has_later-clause-moved g t c = λ gs w.
     let q = c.args.plan.now in
     let i = c.args.node in
     let place = c.args.place in
-    let used = rows_of c.args.used.now in
+    let used = used_rows c.args.used.now in
     let members = c.args.members.now.items in
     let sound = c.sound_parts.ensures.parts _ (site_among q i c.requires.node) in
     let first = c.requires.slot.first in
@@ -298,13 +304,13 @@ pub advance_taken-front_at-requires-clause-limit : goal.advance_taken-front_at-r
 advance_taken-front_at-requires-clause-limit g t c = omega (arith, ap (λ (l : List Member). length l) c.as_slice.ensures.value, fewer_members c.args.members.now.items, c.requires.limit)
 
 -- the member that was taken off, and what is before it
-off_here : (g : Over) (t : ℕ) (c : advance_taken-In_ok-front g t) (gs : List (Option Data)) → IsWalkedTo c.args.plan.now c.args.node (c.args.place + 1) c.args.room (rows_of c.args.used.now) c.args.before.now (c.args.members.now.items ++ c.args.member ∷ []) gs
-    → IsTakenOff c.args.plan.now c.args.node (c.sound_parts.ensures.parts _ (site_among c.args.plan.now c.args.node c.requires.node)) (rows_of c.args.used.now) c.args.place c.requires.slot.first c.args.room c.args.members.now.items c.args.member gs
+off_here : (g : Over) (t : ℕ) (c : advance_taken-In_ok-front g t) (gs : List (Option Data)) → IsWalkedTo c.args.plan.now c.args.node (c.args.place + 1) c.args.room (used_rows c.args.used.now) c.args.before.now (c.args.members.now.items ++ c.args.member ∷ []) gs
+    → IsTakenOff c.args.plan.now c.args.node (c.sound_parts.ensures.parts _ (site_among c.args.plan.now c.args.node c.requires.node)) (used_rows c.args.used.now) c.args.place c.requires.slot.first c.args.room c.args.members.now.items c.args.member gs
 off_here g t c gs w =
-    taken_off c.args.plan.now c.args.node (c.sound_parts.ensures.parts _ (site_among c.args.plan.now c.args.node c.requires.node)) (rows_of c.args.used.now) c.args.place c.requires.slot.first c.args.room c.args.before.now (c.args.members.now.items ++ c.args.member ∷ []) c.args.members.now.items c.args.member gs c.requires.used w refl c.requires.name
+    taken_off c.args.plan.now c.args.node (c.sound_parts.ensures.parts _ (site_among c.args.plan.now c.args.node c.requires.node)) (used_rows c.args.used.now) c.args.place c.requires.slot.first c.args.room c.args.before.now (c.args.members.now.items ++ c.args.member ∷ []) c.args.members.now.items c.args.member gs c.requires.used w refl c.requires.name
 
-front_here : (g : Over) (t : ℕ) (c : advance_taken-In_ok-front g t) (gs : List (Option Data)) → IsWalkedTo c.args.plan.now c.args.node (c.args.place + 1) c.args.room (rows_of c.args.used.now) c.args.before.now (c.args.members.now.items ++ c.args.member ∷ []) gs
-    → IsFront (slots_from c.args.plan.now c.args.node 0) c.args.place gs (rows_of c.args.used.now) c.in_ok-front.front
+front_here : (g : Over) (t : ℕ) (c : advance_taken-In_ok-front g t) (gs : List (Option Data)) → IsWalkedTo c.args.plan.now c.args.node (c.args.place + 1) c.args.room (used_rows c.args.used.now) c.args.before.now (c.args.members.now.items ++ c.args.member ∷ []) gs
+    → IsFront (slots_from c.args.plan.now c.args.node 0) c.args.place gs (used_rows c.args.used.now) c.in_ok-front.front
 front_here g t c gs w = c.in_ok-front.ensures.front gs w.whole.are (ap members_of c.as_slice.ensures.value ∙ (off_here g t c gs w).front_is)
 
 pub advance_taken-advance_member-requires : goal.advance_taken-advance_member-requires
@@ -317,8 +323,8 @@ advance_taken-advance_member-requires g t c κs within =
     let here = (goal.at.advance_taken-advance_member-requires g t c).In_ok-front in
     let off = off_here g t here gs w in
     let front = front_here g t here gs w in
-    let count : c.in_ok-front.front.before.count ≡ length c.args.members.now.items = ap (λ (x : Before). x.count) front.before ∙ so_many q i sound (rows_of c.args.used.now) c.args.place gs c.args.members.now.items off.front_is in
-    let is = ready q i sound (rows_of c.args.used.now) c.args.place c.requires.slot.first c.args.room c.args.members.now.items c.args.member gs c.in_ok-front.front.before (rows_of c.rows.result.now) w.whole.are c.requires.used off front.before (c.rows.ensures ∙ front.rows) in
+    let count : c.in_ok-front.front.before.count ≡ length c.args.members.now.items = ap (λ (x : Before). x.count) front.before ∙ so_many q i sound (used_rows c.args.used.now) c.args.place gs c.args.members.now.items off.front_is in
+    let is = ready q i sound (used_rows c.args.used.now) c.args.place c.requires.slot.first c.args.room c.args.members.now.items c.args.member gs c.in_ok-front.front.before (used_rows c.rows.result) w.whole.are c.requires.used off front.before (c.rows.ensures ∙ front.rows) in
     let few = few_at c.args.place (slots_from q i 0) gs c.args.members.now.items off.front_is in
     (omega (arith, c.decreases), (within, (c.requires.node, (c.requires.row, (c.requires.slot, (omega (arith, count, few), (sym count, (is.known, (c.requires.name, (is.value, (is.rest, (is.can, omega (arith, count, fewer_members c.args.members.now.items, c.requires.limit)))))))))))))
 
@@ -331,8 +337,8 @@ advance_taken-returns-clause-moved g t c =
     let here = (goal.at.advance_taken-returns-clause-moved g t c).In_ok-front in
     let off = off_here g t here gs w in
     let front = front_here g t here gs w in
-    let count : c.in_ok-front.front.before.count ≡ length c.args.members.now.items = ap (λ (x : Before). x.count) front.before ∙ so_many q i sound (rows_of c.args.used.now) c.args.place gs c.args.members.now.items off.front_is in
-    walked_member q i sound (rows_of c.args.used.now) c.args.place c.requires.slot.first st c.args.room c.args.members.now.items c.advance_member.new.members.items c.args.member gs c.in_ok-front.front.before (rows_of c.rows.result.now) w.small w.whole off front.before (c.rows.ensures ∙ front.rows) count both.0 both.1 h) c.advance_member.ensures.moved
+    let count : c.in_ok-front.front.before.count ≡ length c.args.members.now.items = ap (λ (x : Before). x.count) front.before ∙ so_many q i sound (used_rows c.args.used.now) c.args.place gs c.args.members.now.items off.front_is in
+    walked_member q i sound (used_rows c.args.used.now) c.args.place c.requires.slot.first st c.args.room c.args.members.now.items c.advance_member.new.members.items c.args.member gs c.in_ok-front.front.before (used_rows c.rows.result) w.small w.whole off front.before (c.rows.ensures ∙ front.rows) count both.0 both.1 h) c.advance_member.ensures.moved
     (if_both c.advance_member.result _ _ _ (λ st k l. (k, l)) c.advance_member.ensures.kept c.advance_member.ensures.left)
 
 pub advance_taken-returns-clause-following : goal.advance_taken-returns-clause-following
@@ -349,9 +355,9 @@ advance_taken-returns-clause-following g t c =
     let members = c.args.members.now.items in
     let new = c.advance_member.new.members.items in
     let cs = stack_of c.advance_member.new.following.items in
-    let count : c.in_ok-front.front.before.count ≡ length members = ap (λ (x : Before). x.count) front.before ∙ so_many q i sound (rows_of c.args.used.now) c.args.place gs members off.front_is in
-    walked_continue q i sound (rows_of c.args.used.now) c.args.place c.requires.slot.first st members new gs cs w.whole.are off.front_is (subst (λ n. take n new ≡ members) count kept)
-    (subst (λ us. GrownContinue st q.pools (slots_from q i c.args.place) us (drop (length members) new) cs) (c.rows.ensures ∙ front.rows) (subst (λ n. GrownContinue st q.pools (slots_from q i c.args.place) (rows_of c.rows.result.now) (drop n new) cs) count h))) c.advance_member.ensures.following c.advance_member.ensures.kept
+    let count : c.in_ok-front.front.before.count ≡ length members = ap (λ (x : Before). x.count) front.before ∙ so_many q i sound (used_rows c.args.used.now) c.args.place gs members off.front_is in
+    walked_continue q i sound (used_rows c.args.used.now) c.args.place c.requires.slot.first st members new gs cs w.whole.are off.front_is (subst (λ n. take n new ≡ members) count kept)
+    (subst (λ us. GrownContinue st q.pools (slots_from q i c.args.place) us (drop (length members) new) cs) (c.rows.ensures ∙ front.rows) (subst (λ n. GrownContinue st q.pools (slots_from q i c.args.place) (used_rows c.rows.result) (drop n new) cs) count h))) c.advance_member.ensures.following c.advance_member.ensures.kept
 
 -- a step at most was taken before
 asked_here : (g : Over) (t : ℕ) (c : advance_taken-In_ok-front g t) → c.else-slot.meter ≤ c.args.meter.now + 1
@@ -377,7 +383,7 @@ advance_taken-returns-clause-last g t c =
     let off = off_here g t here gs w in
     let front = front_here g t here gs w in
     let x = c.in_ok-front.front.before in
-    let us = rows_of c.rows.result.now in
+    let us = used_rows c.rows.result in
     let hs = drop c.args.place gs in
     let n = node_count (data_of c.args.member.tree) in
     let Ended = λ (y : Before) (vs : List Data). AreLastBehind q i c.args.place y vs c.args.member off.behind c.args.room hs in
@@ -391,16 +397,16 @@ pub advance_member-advance_value-requires : goal.advance_member-advance_value-re
 advance_member-advance_value-requires g t c κs within = (omega (arith, c.decreases), (within, (c.requires.node, (c.requires.slot, (c.requires.known, (c.requires.value, omega (arith, c.requires.limit)))))))
 
 -- the next value
-next_value_here : (g : Over) (t : ℕ) (c : advance_member-In-To g t) → IsNext tree_cmp (IsValue c.args.plan.now.pools (slot_in c.args.plan.now c.args.node c.args.place) (slots_from c.args.plan.now c.args.node (c.args.place + 1)) (rows_of c.args.used.now) (node_count (data_of c.args.member.tree))) (data_of c.args.member.tree) (Some (data_of c.in-To.tree))
+next_value_here : (g : Over) (t : ℕ) (c : advance_member-In-To g t) → IsNext tree_cmp (IsValue c.args.plan.now.pools (slot_in c.args.plan.now c.args.node c.args.place) (slots_from c.args.plan.now c.args.node (c.args.place + 1)) (used_rows c.args.used.now) (node_count (data_of c.args.member.tree))) (data_of c.args.member.tree) (Some (data_of c.in-To.tree))
 next_value_here g t c =
     let q = c.args.plan.now in
-    subst (λ m. IsMoved (IsValue q.pools (slot_in q c.args.node c.args.place) (slots_from q c.args.node (c.args.place + 1)) (rows_of c.args.used.now) (node_count (data_of c.args.member.tree))) (data_of c.args.member.tree) m) c.in-To.is c.in_ok-tree.ensures.ok
+    subst (λ m. IsMoved (IsValue q.pools (slot_in q c.args.node c.args.place) (slots_from q c.args.node (c.args.place + 1)) (used_rows c.args.used.now) (node_count (data_of c.args.member.tree))) (data_of c.args.member.tree) m) c.in-To.is c.in_ok-tree.ensures.ok
 
 -- or there is none
-no_value_here : (g : Over) (t : ℕ) (c : advance_member-In-Last g t) → IsNext tree_cmp (IsValue c.args.plan.now.pools (slot_in c.args.plan.now c.args.node c.args.place) (slots_from c.args.plan.now c.args.node (c.args.place + 1)) (rows_of c.args.used.now) (node_count (data_of c.args.member.tree))) (data_of c.args.member.tree) None × (node_count (data_of c.args.member.tree) ≡ c.in-Last.size)
+no_value_here : (g : Over) (t : ℕ) (c : advance_member-In-Last g t) → IsNext tree_cmp (IsValue c.args.plan.now.pools (slot_in c.args.plan.now c.args.node c.args.place) (slots_from c.args.plan.now c.args.node (c.args.place + 1)) (used_rows c.args.used.now) (node_count (data_of c.args.member.tree))) (data_of c.args.member.tree) None × (node_count (data_of c.args.member.tree) ≡ c.in-Last.size)
 no_value_here g t c =
     let q = c.args.plan.now in
-    subst (λ m. IsMoved (IsValue q.pools (slot_in q c.args.node c.args.place) (slots_from q c.args.node (c.args.place + 1)) (rows_of c.args.used.now) (node_count (data_of c.args.member.tree))) (data_of c.args.member.tree) m) c.in-Last.is c.in_ok-tree.ensures.ok
+    subst (λ m. IsMoved (IsValue q.pools (slot_in q c.args.node c.args.place) (slots_from q c.args.node (c.args.place + 1)) (used_rows c.args.used.now) (node_count (data_of c.args.member.tree))) (data_of c.args.member.tree) m) c.in-Last.is c.in_ok-tree.ensures.ok
 
 pub advance_member-returns-in_err-tree-clause-steps : goal.advance_member-returns-in_err-tree-clause-steps
 advance_member-returns-in_err-tree-clause-steps g t c = costs_slots c.args.plan.now c.args.node (c.args.place + 1) c.args.meter.now c.advance_value.new.meter (3 * node_count (data_of c.args.member.tree)) (3 * node_count (data_of c.args.member.tree) + c.args.room) (omega arith) c.advance_value.ensures.steps
@@ -414,7 +420,7 @@ advance_member-put_member-requires-clause-part g t c = (next_value_here g t (goa
 pub advance_member-put_member-requires-clause-following : goal.advance_member-put_member-requires-clause-following
 advance_member-put_member-requires-clause-following g t c =
     let q = c.args.plan.now in
-    let C = λ (n : ℕ). IsValue q.pools (slot_in q c.args.node c.args.place) (slots_from q c.args.node (c.args.place + 1)) (rows_of c.args.used.now) n in
+    let C = λ (n : ℕ). IsValue q.pools (slot_in q c.args.node c.args.place) (slots_from q c.args.node (c.args.place + 1)) (used_rows c.args.used.now) n in
     let old = data_of c.args.member.tree in
     let cs = stack_of c.advance_value.new.following.items in
     let next = next_value_here g t (goal.at.advance_member-put_member-requires-clause-following g t c).In-To in
@@ -426,7 +432,7 @@ advance_member-put_member-requires-clause-open g t c =
     let q = c.args.plan.now in
     let sound = c.sound_parts.ensures.parts _ (site_among q c.args.node c.requires.node) in
     record {
-      known = known_behind q c.args.node c.args.place sound c.requires.slot.first (rows_of c.args.used.now) (data_of c.in-To.tree) c.requires.known;
+      known = known_behind q c.args.node c.args.place sound c.requires.slot.first (used_rows c.args.used.now) (data_of c.in-To.tree) c.requires.known;
       rest = c.requires.rest;
       free = (next_value_here g t (goal.at.advance_member-put_member-requires-clause-open g t c).In-To).is.0.free;
     }
@@ -444,13 +450,13 @@ advance_member-returns-in_ok-put_member-in-To-clause-moved g t c = λ gs others 
     let q = c.args.plan.now in
     let sound = c.sound_parts.ensures.parts _ (site_among q c.args.node c.requires.node) in
     let next = next_value_here g t (goal.at.advance_member-returns-in_ok-put_member-in-To-clause-moved g t c).In-To in
-    in_value q c.args.node c.args.place sound c.requires.slot.first c.args.before (rows_of c.args.used.now) c.args.member others gs e.small e.stood c.args.room (record { name = c.args.member.name; tree = c.in-To.tree }) c.args.members.now.items c.put_member.new.members.items
+    in_value q c.args.node c.args.place sound c.requires.slot.first c.args.before (used_rows c.args.used.now) c.args.member others gs e.small e.stood c.args.room (record { name = c.args.member.name; tree = c.in-To.tree }) c.args.members.now.items c.put_member.new.members.items
     c.requires.front c.requires.name e.room_is e.last next c.in_ok-put_member-in-To.ensures.ok
 
 pub advance_member-returns-in_ok-put_member-in-To-clause-following : goal.advance_member-returns-in_ok-put_member-in-To-clause-following
 advance_member-returns-in_ok-put_member-in-To-clause-following g t c =
     let q = c.args.plan.now in
-    subst (λ n. MembersContinue q.pools (slots_from q c.args.node c.args.place) (rows_of c.args.used.now) (drop n c.put_member.new.members.items) (stack_of c.put_member.new.following.items)) c.requires.front c.in_ok-put_member-in-To.ensures.following
+    subst (λ n. MembersContinue q.pools (slots_from q c.args.node c.args.place) (used_rows c.args.used.now) (drop n c.put_member.new.members.items) (stack_of c.put_member.new.following.items)) c.requires.front c.in_ok-put_member-in-To.ensures.following
 
 pub advance_member-returns-in_ok-put_member-in-To-clause-steps : goal.advance_member-returns-in_ok-put_member-in-To-clause-steps
 advance_member-returns-in_ok-put_member-in-To-clause-steps g t c = let n = 3 * node_count (data_of c.args.member.tree) in λ w wide. omega (arith, split_cost w n c.args.room (n + c.args.room) (omega arith), c.advance_value.ensures.steps w wide, c.put_member.ensures.steps w wide)
@@ -474,12 +480,12 @@ pub advance_member-grow_slots-requires-clause-open : goal.advance_member-grow_sl
 advance_member-grow_slots-requires-clause-open g t c =
     let q = c.args.plan.now in
     let none = no_value_here g t (goal.at.advance_member-grow_slots-requires-clause-open g t c).In-Last in
-    subst (λ n. IsOpen q.pools (slots_from q c.args.node c.args.place) (ending_at q c.args.node) c.args.before (c.args.room + n) (rows_of c.args.used.now)) none.1 c.requires.open
+    subst (λ n. IsOpen q.pools (slots_from q c.args.node c.args.place) (ending_at q c.args.node) c.args.before (c.args.room + n) (used_rows c.args.used.now)) none.1 c.requires.open
 
 pub advance_member-returns-in-Last-clause-kept : goal.advance_member-returns-in-Last-clause-kept
 advance_member-returns-in-Last-clause-kept g t c =
     let q = c.args.plan.now in
-    IfOk-weaker c.grow_slots.result _ _ (λ st h. grown_kept st q.pools (slot_in q c.args.node c.args.place) (slots_from q c.args.node (c.args.place + 1)) (ending_at q c.args.node) c.args.before (c.args.room + c.in-Last.size) (c.in-Last.size + 1) c.args.before.count (rows_of c.args.used.now) c.args.members.now.items c.grow_slots.new.members.items h c.requires.front) c.grow_slots.ensures.ok
+    IfOk-weaker c.grow_slots.result _ _ (λ st h. grown_kept st q.pools (slot_in q c.args.node c.args.place) (slots_from q c.args.node (c.args.place + 1)) (ending_at q c.args.node) c.args.before (c.args.room + c.in-Last.size) (c.in-Last.size + 1) c.args.before.count (used_rows c.args.used.now) c.args.members.now.items c.grow_slots.new.members.items h c.requires.front) c.grow_slots.ensures.ok
 
 pub advance_member-returns-in-Last-clause-moved : goal.advance_member-returns-in-Last-clause-moved
 advance_member-returns-in-Last-clause-moved g t c =
@@ -487,18 +493,18 @@ advance_member-returns-in-Last-clause-moved g t c =
     let q = c.args.plan.now in
     let sound = c.sound_parts.ensures.parts _ (site_among q c.args.node c.requires.node) in
     let none = no_value_here g t (goal.at.advance_member-returns-in-Last-clause-moved g t c).In-Last in
-    in_grown q c.args.node c.args.place sound c.requires.slot.first c.args.before (rows_of c.args.used.now) c.args.member others gs e.small e.stood st c.args.room c.in-Last.size c.args.members.now.items c.grow_slots.new.members.items
+    in_grown q c.args.node c.args.place sound c.requires.slot.first c.args.before (used_rows c.args.used.now) c.args.member others gs e.small e.stood st c.args.room c.in-Last.size c.args.members.now.items c.grow_slots.new.members.items
     c.requires.front e.room_is none.1 e.last none.0 h) c.grow_slots.ensures.ok
 
 pub advance_member-returns-in-Last-clause-following : goal.advance_member-returns-in-Last-clause-following
 advance_member-returns-in-Last-clause-following g t c =
     let q = c.args.plan.now in
-    IfOk-weaker c.grow_slots.result _ _ (λ st h. subst (λ n. GrownContinue st q.pools (slots_from q c.args.node c.args.place) (rows_of c.args.used.now) (drop n c.grow_slots.new.members.items) (stack_of c.grow_slots.new.following.items)) c.requires.front h) c.grow_slots.ensures.following
+    IfOk-weaker c.grow_slots.result _ _ (λ st h. subst (λ n. GrownContinue st q.pools (slots_from q c.args.node c.args.place) (used_rows c.args.used.now) (drop n c.grow_slots.new.members.items) (stack_of c.grow_slots.new.following.items)) c.requires.front h) c.grow_slots.ensures.following
 
 pub advance_member-returns-in-Last-clause-left : goal.advance_member-returns-in-Last-clause-left
 advance_member-returns-in-Last-clause-left g t c =
     let q = c.args.plan.now in
-    IfOk-weaker c.grow_slots.result _ _ (λ st h. left_grown st q.pools (slot_in q c.args.node c.args.place) (slots_from q c.args.node (c.args.place + 1)) (ending_at q c.args.node) c.args.before (c.args.room + c.in-Last.size) (c.in-Last.size + 1) (rows_of c.args.used.now) c.args.members.now.items c.grow_slots.new.members.items h) c.grow_slots.ensures.ok
+    IfOk-weaker c.grow_slots.result _ _ (λ st h. left_grown st q.pools (slot_in q c.args.node c.args.place) (slots_from q c.args.node (c.args.place + 1)) (ending_at q c.args.node) c.args.before (c.args.room + c.in-Last.size) (c.in-Last.size + 1) (used_rows c.args.used.now) c.args.members.now.items c.grow_slots.new.members.items h) c.grow_slots.ensures.ok
 
 pub advance_member-returns-in-Last-clause-steps : goal.advance_member-returns-in-Last-clause-steps
 advance_member-returns-in-Last-clause-steps g t c =
@@ -522,8 +528,8 @@ advance_row-unreachable-requires g t c =
     none _ c.requires.row.is
 
 -- the members stand in the slots
-row_here : (g : Over) (t : ℕ) (c : advance_row-In-Some g t) → StandIn c.args.plan.now.pools (slots_from c.args.plan.now c.args.node 0) (ending_at c.args.plan.now c.args.node) nothing (rows_of c.args.used.now) c.in-Some.members.items c.requires.row.fillings
-row_here g t c = row_stands c.args.plan.now c.args.node (node_count (data_of c.args.tree) - 1) (rows_of c.args.used.now) (data_of c.args.tree) c.in-Some.members.items c.requires.row c.in-Some.ensures.some
+row_here : (g : Over) (t : ℕ) (c : advance_row-In-Some g t) → StandIn c.args.plan.now.pools (slots_from c.args.plan.now c.args.node 0) (ending_at c.args.plan.now c.args.node) nothing (used_rows c.args.used.now) c.in-Some.members.items c.requires.row.fillings
+row_here g t c = row_stands c.args.plan.now c.args.node (node_count (data_of c.args.tree) - 1) (used_rows c.args.used.now) (data_of c.args.tree) c.in-Some.members.items c.requires.row c.in-Some.ensures.some
 
 row_cost : (g : Over) (t : ℕ) (c : advance_row-After-advance_members g t) → Costs c.args.plan.now c.args.meter.now c.advance_members.new.meter (3 * node_count (data_of c.args.tree))
 row_cost g t c = members_row c.args.plan.now c.args.node c.args.meter.now c.advance_members.new.meter (members_count (members_of c.in-Some.members.items)) (node_count (data_of c.args.tree)) c.requires.node c.requires.sort (ap node_count c.in-Some.ensures.some) c.advance_members.ensures.steps
@@ -539,20 +545,20 @@ pub advance_row-returns-in_err-step-clause-steps : goal.advance_row-returns-in_e
 advance_row-returns-in_err-step-clause-steps g t c = row_cost g t (goal.at.advance_row-returns-in_err-step-clause-steps g t c).After-advance_members
 
 -- the next ones
-row_next_here : (g : Over) (t : ℕ) (c : advance_row-In-Moved g t) → AreNext c.args.plan.now.pools (slots_from c.args.plan.now c.args.node 0) (ending_at c.args.plan.now c.args.node) nothing (rows_of c.args.used.now) c.requires.row.fillings c.advance_members.new.members.items
+row_next_here : (g : Over) (t : ℕ) (c : advance_row-In-Moved g t) → AreNext c.args.plan.now.pools (slots_from c.args.plan.now c.args.node 0) (ending_at c.args.plan.now c.args.node) nothing (used_rows c.args.used.now) c.requires.row.fillings c.advance_members.new.members.items
 row_next_here g t c =
     let q = c.args.plan.now in
     let r = c.requires.row in
-    let stand = row_stands q c.args.node (node_count (data_of c.args.tree) - 1) (rows_of c.args.used.now) (data_of c.args.tree) c.in-Some.members.items r c.in-Some.ensures.some in
-    subst (λ st. AreMoved st q.pools (slots_from q c.args.node 0) (ending_at q c.args.node) nothing (rows_of c.args.used.now) r.fillings c.advance_members.new.members.items) c.in-Moved.is (c.in_ok-step.ensures.moved r.fillings stand)
+    let stand = row_stands q c.args.node (node_count (data_of c.args.tree) - 1) (used_rows c.args.used.now) (data_of c.args.tree) c.in-Some.members.items r c.in-Some.ensures.some in
+    subst (λ st. AreMoved st q.pools (slots_from q c.args.node 0) (ending_at q c.args.node) nothing (used_rows c.args.used.now) r.fillings c.advance_members.new.members.items) c.in-Moved.is (c.in_ok-step.ensures.moved r.fillings stand)
 
 -- or there are none
-row_none_here : (g : Over) (t : ℕ) (c : advance_row-In-Last g t) → IsNext fill_cmp (IsRest c.args.plan.now.pools (slots_from c.args.plan.now c.args.node 0) (ending_at c.args.plan.now c.args.node) nothing (filled_nodes c.requires.row.fillings) (rows_of c.args.used.now)) c.requires.row.fillings None × (filled_nodes c.requires.row.fillings ≡ c.in-Last.room)
+row_none_here : (g : Over) (t : ℕ) (c : advance_row-In-Last g t) → IsNext fill_cmp (IsRest c.args.plan.now.pools (slots_from c.args.plan.now c.args.node 0) (ending_at c.args.plan.now c.args.node) nothing (filled_nodes c.requires.row.fillings) (used_rows c.args.used.now)) c.requires.row.fillings None × (filled_nodes c.requires.row.fillings ≡ c.in-Last.room)
 row_none_here g t c =
     let q = c.args.plan.now in
     let r = c.requires.row in
-    let stand = row_stands q c.args.node (node_count (data_of c.args.tree) - 1) (rows_of c.args.used.now) (data_of c.args.tree) c.in-Some.members.items r c.in-Some.ensures.some in
-    subst (λ st. AreMoved st q.pools (slots_from q c.args.node 0) (ending_at q c.args.node) nothing (rows_of c.args.used.now) r.fillings c.advance_members.new.members.items) c.in-Last.is (c.in_ok-step.ensures.moved r.fillings stand)
+    let stand = row_stands q c.args.node (node_count (data_of c.args.tree) - 1) (used_rows c.args.used.now) (data_of c.args.tree) c.in-Some.members.items r c.in-Some.ensures.some in
+    subst (λ st. AreMoved st q.pools (slots_from q c.args.node 0) (ending_at q c.args.node) nothing (used_rows c.args.used.now) r.fillings c.advance_members.new.members.items) c.in-Last.is (c.in_ok-step.ensures.moved r.fillings stand)
 
 pub advance_row-invariant_of-result : goal.advance_row-invariant_of-result
 advance_row-invariant_of-result g t c =
@@ -568,8 +574,8 @@ advance_row-returns-in-Moved-clause-ok g t c =
     let r = c.requires.row in
     let stand = row_here g t (goal.at.advance_row-returns-in-Moved-clause-ok g t c).In-Some in
     let next = row_next_here g t (goal.at.advance_row-returns-in-Moved-clause-ok g t c).In-Moved in
-    subst (λ ms. IsNext tree_cmp (IsRow q c.args.node (node_count (data_of c.args.tree) - 1) (rows_of c.args.used.now)) (data_of c.args.tree) (Some (object_data ms))) (sym next.are)
-    (row_next q c.args.node (rows_of c.args.used.now) (data_of c.args.tree) r.fillings (Some next.fillings) sound.order r.is stand.rest r.rest.nodes_are next.next)
+    subst (λ ms. IsNext tree_cmp (IsRow q c.args.node (node_count (data_of c.args.tree) - 1) (used_rows c.args.used.now)) (data_of c.args.tree) (Some (object_data ms))) (sym next.are)
+    (row_next q c.args.node (used_rows c.args.used.now) (data_of c.args.tree) r.fillings (Some next.fillings) sound.order r.is stand.rest r.rest.nodes_are next.next)
 
 pub advance_row-returns-in-Moved-clause-steps : goal.advance_row-returns-in-Moved-clause-steps
 advance_row-returns-in-Moved-clause-steps g t c = row_cost g t (goal.at.advance_row-returns-in-Moved-clause-steps g t c).After-advance_members
@@ -586,7 +592,7 @@ advance_row-returns-in-Last-clause-ok g t c =
     let stand = row_here g t (goal.at.advance_row-returns-in-Last-clause-ok g t c).In-Some in
     let none = row_none_here g t (goal.at.advance_row-returns-in-Last-clause-ok g t c).In-Last in
     let left = none.1 in
-    (row_next q c.args.node (rows_of c.args.used.now) (data_of c.args.tree) r.fillings None sound.order r.is stand.rest nodes none.0, omega (arith, left, nodes, some_nodes (data_of c.args.tree)))
+    (row_next q c.args.node (used_rows c.args.used.now) (data_of c.args.tree) r.fillings None sound.order r.is stand.rest nodes none.0, omega (arith, left, nodes, some_nodes (data_of c.args.tree)))
 
 pub advance_row-returns-in-Last-clause-steps : goal.advance_row-returns-in-Last-clause-steps
 advance_row-returns-in-Last-clause-steps g t c = row_cost g t (goal.at.advance_row-returns-in-Last-clause-steps g t c).After-advance_members
@@ -615,8 +621,8 @@ advance_value-returns-then-slot-clause-ok g t c =
     let q = c.args.plan.now in
     let sound = c.sound_parts.ensures.parts _ (site_among q c.args.node c.requires.node) in
     let n = node_count (data_of c.args.tree) in
-    IfOk-weaker c.next_key.result _ _ (λ m h. key_moved q c.args.node c.args.place sound c.requires.slot.first c.sound_parts.ensures.free c.args.slot.now.node (rows_of c.args.used.now) n c.args.slot.now.later (data_of c.args.tree) m c.requires.slot.node
-    (sym c.requires.slot.key ∙ c.if-slot.true) c.requires.known c.requires.slot.later (subst (λ k. IsMoved (IsFreeKey q c.args.slot.now.node n k (rows_of c.args.used.now) c.args.slot.now.later) (data_of c.args.tree) m) c.requires.slot.name h)) c.next_key.ensures.ok
+    IfOk-weaker c.next_key.result _ _ (λ m h. key_moved q c.args.node c.args.place sound c.requires.slot.first c.sound_parts.ensures.free c.args.slot.now.node (used_rows c.args.used.now) n c.args.slot.now.later (data_of c.args.tree) m c.requires.slot.node
+    (sym c.requires.slot.key ∙ c.if-slot.true) c.requires.known c.requires.slot.later (subst (λ k. IsMoved (IsFreeKey q c.args.slot.now.node n k (used_rows c.args.used.now) c.args.slot.now.later) (data_of c.args.tree) m) c.requires.slot.name h)) c.next_key.ensures.ok
 
 pub advance_value-returns-then-slot-clause-steps : goal.advance_value-returns-then-slot-clause-steps
 advance_value-returns-then-slot-clause-steps g t c = costs_thrice c.args.plan.now c.args.meter.now c.next_key.new.meter (node_count (data_of c.args.tree)) (some_nodes (data_of c.args.tree)) c.next_key.ensures.steps
@@ -642,7 +648,7 @@ advance_value-returns-clause-ok g t c =
     let q = c.args.plan.now in
     let sound = c.sound_parts.ensures.parts _ (site_among q c.args.node c.requires.node) in
     let n = node_count (data_of c.args.tree) in
-    IfOk-weaker c.advance.result _ _ (λ m h. part_moved q c.args.node c.args.place sound c.requires.slot.first c.args.slot.now.node (rows_of c.args.used.now) n (data_of c.args.tree) m c.requires.slot.node (sym c.requires.slot.key ∙ c.if-slot.false) c.requires.value h) c.advance.ensures.ok
+    IfOk-weaker c.advance.result _ _ (λ m h. part_moved q c.args.node c.args.place sound c.requires.slot.first c.args.slot.now.node (used_rows c.args.used.now) n (data_of c.args.tree) m c.requires.slot.node (sym c.requires.slot.key ∙ c.if-slot.false) c.requires.value h) c.advance.ensures.ok
 
 pub advance_value-returns-clause-steps : goal.advance_value-returns-clause-steps
 advance_value-returns-clause-steps g t c = c.advance.ensures.steps
@@ -662,9 +668,8 @@ advance_item-advance_row-requires g t c κs within =
     let items = (c.sound_parts.ensures.parts _ here).map (site q k) c.requires.first.item (sym c.distinct.ensures ∙ c.in-Keys.is) in
     let rule = c.no_dead_end.ensures.parts _ there in
     let sound = c.sound_parts.ensures.parts _ there in
-    let same = ap rows_of c.as_slice.ensures.value ∙ c.in_ok-used-in-Keys.ensures in
-    let known = subst (AreUsed q.pools (slots_from q k 0)) (sym same) (items_used q i k rule sound items c.args.items.now (omega (arith, few_items (items_of c.args.items.now), counted c.args.items.now, c.requires.within, c.limit.ensures, c.limit.type_inv)) c.requires.first.are c.requires.first.apart) in
-    let row = subst (λ us. IsRow q k (n - 1) us (data_of c.args.item)) (sym same) (fresh_row q i k rule sound items c.args.items.now n (data_of c.args.item) c.requires.first.are c.requires.item) in
+    let known = items_used q i k rule sound items c.args.items.now (omega (arith, few_items (items_of c.args.items.now), counted c.args.items.now, c.requires.within, c.limit.ensures, c.limit.type_inv)) c.requires.first.are c.requires.first.apart in
+    let row = fresh_row q i k rule sound items c.args.items.now n (data_of c.args.item) c.requires.first.are c.requires.item in
     (omega (arith, c.decreases, row_lighter q k i c.requires.child), (within, (node, (items.row, (known, (row, omega (arith, c.requires.within)))))))
 
 pub advance_item-advance-requires : goal.advance_item-advance-requires
@@ -719,8 +724,8 @@ advance_item-returns-in-Whole-clause-steps g t c = costs_thrice c.args.plan.now 
 pub advance_item-returns-in-Whole-clause-last : goal.advance_item-returns-in-Whole-clause-last
 advance_item-returns-in-Whole-clause-last g t c = IfOk-weaker c.next_unused.result _ _ (λ m h. costs_less c.args.plan.now m c.args.meter.now c.next_unused.new.meter (node_count (data_of c.args.item)) (some_nodes (data_of c.args.item)) c.next_unused.ensures.steps) c.next_unused.ensures.ok
 
-pub advance_item-returns-in_ok-used-in-Keys-clause-ok : goal.advance_item-returns-in_ok-used-in-Keys-clause-ok
-advance_item-returns-in_ok-used-in-Keys-clause-ok g t c =
+pub advance_item-returns-in-Keys-clause-ok : goal.advance_item-returns-in-Keys-clause-ok
+advance_item-returns-in-Keys-clause-ok g t c =
     let q = c.args.plan.now in
     let i = c.args.node in
     let k = c.args.child in
@@ -731,17 +736,16 @@ advance_item-returns-in_ok-used-in-Keys-clause-ok g t c =
     let items = (c.sound_parts.ensures.parts _ here).map (site q k) c.requires.first.item (sym c.distinct.ensures ∙ c.in-Keys.is) in
     let rule = c.no_dead_end.ensures.parts _ there in
     let sound = c.sound_parts.ensures.parts _ there in
-    let same = ap rows_of c.as_slice.ensures.value ∙ c.in_ok-used-in-Keys.ensures in
     let some = some_nodes (data_of c.args.item) in
     IfOk-weaker c.advance_row.result _ _ (λ m h. moved_same (IsRow q k (n - 1) (trees_of c.args.items.now)) (IsFreshItem q i k n (items_of c.args.items.now)) (data_of c.args.item) m
     (λ u r. row_fresh q i k rule sound items c.args.items.now n u some c.requires.first.are r) (λ u f. fresh_row q i k rule sound items c.args.items.now n u c.requires.first.are f)
-    (subst (λ us. IsMoved (IsRow q k (n - 1) us) (data_of c.args.item) m) same h)) c.advance_row.ensures.ok
+    h) c.advance_row.ensures.ok
 
-pub advance_item-returns-in_ok-used-in-Keys-clause-steps : goal.advance_item-returns-in_ok-used-in-Keys-clause-steps
-advance_item-returns-in_ok-used-in-Keys-clause-steps g t c = c.advance_row.ensures.steps
+pub advance_item-returns-in-Keys-clause-steps : goal.advance_item-returns-in-Keys-clause-steps
+advance_item-returns-in-Keys-clause-steps g t c = c.advance_row.ensures.steps
 
-pub advance_item-returns-in_ok-used-in-Keys-clause-last : goal.advance_item-returns-in_ok-used-in-Keys-clause-last
-advance_item-returns-in_ok-used-in-Keys-clause-last g t c = c.advance_row.ensures.last
+pub advance_item-returns-in-Keys-clause-last : goal.advance_item-returns-in-Keys-clause-last
+advance_item-returns-in-Keys-clause-last g t c = c.advance_row.ensures.last
 
 pub advance_items-loop-item-init : goal.advance_items-loop-item-init
 advance_items-loop-item-init g t c = record { last = all_left c.args.plan.now c.args.node (items_of c.args.items.now.items); steps = λ w wide. omega arith }
@@ -1058,9 +1062,6 @@ advance_list-returns-in-Last-clause-last g t c =
     let count : node_count (data_of c.args.tree) ≡ 1 + m = ap node_count c.in-Some.ensures.some in
     costs_below q c.args.meter.now c.item.new.meter c.advance_items.new.meter (2 * m) (2 * node_count (data_of c.args.tree) - 1) c.item.ensures.step (omega (arith, count)) (subst (λ s. CostsLastStep s q c.item.new.meter c.advance_items.new.meter (2 * m)) c.in-Last.is c.in_ok-advance_items.ensures.last)
 
-pub advance_item-returns-in_err-used-in-Keys-clause-steps : goal.advance_item-returns-in_err-used-in-Keys-clause-steps
-advance_item-returns-in_err-used-in-Keys-clause-steps g t c = λ w wide. omega arith
-
 pub advance_items-returns-in-To-clause-last : goal.advance_items-returns-in-To-clause-last
 advance_items-returns-in-To-clause-last g t c = tt
 
@@ -1083,7 +1084,7 @@ advance_row-returns-in-Moved-clause-following g t c =
     let q = c.args.plan.now in
     let i = c.args.node in
     let n = node_count (data_of c.args.tree) - 1 in
-    let used = rows_of c.args.used.now in
+    let used = used_rows c.args.used.now in
     let ss = slots_from q i 0 in
     let sound = c.sound_parts.ensures.parts _ (site_among q i c.requires.node) in
     let r = c.requires.row in
@@ -1102,7 +1103,7 @@ advance_value-returns-then-slot-clause-following g t c =
     let s = c.args.slot.now in
     let here = slot_in q i place in
     let behind = slots_from q i (place + 1) in
-    let used = rows_of c.args.used.now in
+    let used = used_rows c.args.used.now in
     let n = node_count (data_of c.args.tree) in
     let cs = stack_of c.next_key.new.following.items in
     let known = subst (λ ss. AreUsed q.pools ss used) c.requires.slot.first c.requires.known in
@@ -1118,7 +1119,7 @@ advance_value-returns-clause-following g t c =
     let s = c.args.slot.now in
     let here = slot_in q i place in
     let behind = slots_from q i (place + 1) in
-    let used = rows_of c.args.used.now in
+    let used = used_rows c.args.used.now in
     let v = data_of c.args.tree in
     let n = node_count v in
     let cs = stack_of c.advance.new.following.items in
@@ -1182,8 +1183,8 @@ advance_item-returns-in-Whole-clause-following g t c =
     IfOk-weaker c.next_unused.result _ _ (λ m h. moved_continues_same (IsUnusedPart q k n (trees_of c.args.items.now)) (IsFreshItem q i k n (items_of c.args.items.now)) m (stack_of c.next_unused.new.following.items)
     (λ u p. (unused_fresh q i k n c.args.items.now u set).0 p) (λ u f. (unused_fresh q i k n c.args.items.now u set).1 f) h) c.next_unused.ensures.following
 
-pub advance_item-returns-in_ok-used-in-Keys-clause-following : goal.advance_item-returns-in_ok-used-in-Keys-clause-following
-advance_item-returns-in_ok-used-in-Keys-clause-following g t c =
+pub advance_item-returns-in-Keys-clause-following : goal.advance_item-returns-in-Keys-clause-following
+advance_item-returns-in-Keys-clause-following g t c =
     let q = c.args.plan.now in
     let i = c.args.node in
     let k = c.args.child in
@@ -1194,9 +1195,97 @@ advance_item-returns-in_ok-used-in-Keys-clause-following g t c =
     let items = (c.sound_parts.ensures.parts _ here).map (site q k) c.requires.first.item (sym c.distinct.ensures ∙ c.in-Keys.is) in
     let rule = c.no_dead_end.ensures.parts _ there in
     let sound = c.sound_parts.ensures.parts _ there in
-    let same = ap rows_of c.as_slice.ensures.value ∙ c.in_ok-used-in-Keys.ensures in
     let some = some_nodes (data_of c.args.item) in
     let cs = stack_of c.advance_row.new.following.items in
     IfOk-weaker c.advance_row.result _ _ (λ m h. moved_continues_same (IsRow q k (n - 1) (trees_of c.args.items.now)) (IsFreshItem q i k n (items_of c.args.items.now)) m cs
     (λ u r. row_fresh q i k rule sound items c.args.items.now n u some c.requires.first.are r) (λ u f. fresh_row q i k rule sound items c.args.items.now n u c.requires.first.are f)
-    (subst (λ us. ContinueMoved (IsRow q k (n - 1) us) m cs) same h)) c.advance_row.ensures.following
+    h) c.advance_row.ensures.following
+
+-- ---- where it differs
+
+pub advance-returns-in-Leaf-clause-place : goal.advance-returns-in-Leaf-clause-place
+advance-returns-in-Leaf-clause-place g t c = IfOk-weaker c.next_unused.result _ _ (λ m h. moves (data_of c.args.tree) m) c.next_unused.ensures.ok
+
+pub advance_row-returns-in-Moved-clause-place : goal.advance_row-returns-in-Moved-clause-place
+advance_row-returns-in-Moved-clause-place g t c =
+    let n = c.advance_members.new.depth in
+    let new = object_data (members_of c.advance_members.new.members.items) in
+    subst (λ d. DiffersAt n d new) (sym c.in-Some.ensures.some) (subst (λ st. StepsAt n (object_data (members_of c.in-Some.members.items)) st new) c.in-Moved.is c.in_ok-step.ensures.place)
+
+pub advance_value-returns-then-slot-clause-place : goal.advance_value-returns-then-slot-clause-place
+advance_value-returns-then-slot-clause-place g t c = IfOk-weaker c.next_key.result _ _ (λ m h. moves (data_of c.args.tree) m) c.next_key.ensures.ok
+
+pub advance_value-returns-clause-place : goal.advance_value-returns-clause-place
+advance_value-returns-clause-place g t c = c.advance.ensures.place
+
+pub advance_list-returns-in-Moved-clause-place : goal.advance_list-returns-in-Moved-clause-place
+advance_list-returns-in-Moved-clause-place g t c =
+    let n = c.advance_items.new.depth in
+    let new = list_data (items_of c.advance_items.new.items.items) in
+    subst (λ d. DiffersAt n d new) (sym c.in-Some.ensures.some) (subst (λ st. StepsAt n (list_data (items_of c.in-Some.items.items)) st new) c.in-Moved.is c.in_ok-advance_items.ensures.place)
+
+pub advance_item-returns-in-Free-clause-place : goal.advance_item-returns-in-Free-clause-place
+advance_item-returns-in-Free-clause-place g t c = c.advance.ensures.place
+
+pub advance_item-returns-in-Whole-clause-place : goal.advance_item-returns-in-Whole-clause-place
+advance_item-returns-in-Whole-clause-place g t c = IfOk-weaker c.next_unused.result _ _ (λ m h. moves (data_of c.args.item) m) c.next_unused.ensures.ok
+
+pub advance_item-returns-in-Keys-clause-place : goal.advance_item-returns-in-Keys-clause-place
+advance_item-returns-in-Keys-clause-place g t c = c.advance_row.ensures.place
+
+pub advance_items-below-requires : goal.advance_items-below-requires
+advance_items-below-requires g t c =
+    let d = subst (λ m. MovesAt c.advance_item.new.depth (data_of c.in-Some.item) m) c.in-To.is c.in_ok-next.ensures.place in
+    let nodes = nodes_here g t (goal.at.advance_items-below-requires g t c).In-Some in
+    omega (arith, d.few, nodes, c.requires.limit, c.limit.ensures, c.limit.type_inv)
+
+pub advance_items-returns-in-To-clause-place : goal.advance_items-returns-in-To-clause-place
+advance_items-returns-in-To-clause-place g t c =
+    let q = c.args.plan.now in
+    let i = c.args.node in
+    let room = c.loop-item.room in
+    let old = c.args.items.now.items in
+    let left = c.loop-item.items.items in
+    let front = c.pop.new.self.items in
+    let pushed = c.push.new.self.items in
+    let new = c.first_items.new.items.items in
+    let d = subst (λ m. MovesAt c.advance_item.new.depth (data_of c.in-Some.item) m) c.in-To.is c.in_ok-next.ensures.place in
+    if_last room c.advance_item.new.depth c.below.result (list_data (items_of old)) (list_data (items_of new)) c.below.ensures.last c.below.ensures.other (λ empty.
+    let all = all_items q i (items_of old) (items_of left) (subst (λ n. WereLast q i n (items_of old) (items_of left)) empty c.loop-item.invariant.last) in
+    let adds = subst (λ n. AddsItems q i n pushed new) empty c.in_ok-first_items-in-To.ensures.ok in
+    let none = none_added adds.added adds.least.is.nodes_are in
+    let is : new ≡ front ++ c.in-To.next ∷ [] = adds.is ∙ (ap (λ l. pushed ++ l) none ∙ (append-nil pushed ∙ c.in_ok-push-in-To.ensures.items)) in
+    subst (λ ds. DiffersAt (c.advance_item.new.depth + 1) (list_data ds) (list_data (items_of new))) (sym all) (differs_in_item c.advance_item.new.depth front left new c.in-Some.item c.in-To.next c.in-Some.ensures.items is d))
+
+pub advance_member-returns-in_ok-put_member-in-To-clause-place : goal.advance_member-returns-in_ok-put_member-in-To-clause-place
+advance_member-returns-in_ok-put_member-in-To-clause-place g t c = (
+  λ empty.
+      let q = c.args.plan.now in
+      let behind = slots_from q c.args.node (c.args.place + 1) in
+      let front = c.args.members.now.items in
+      let one : Member = record { name = c.args.member.name; tree = c.in-To.tree } in
+      let new = c.put_member.new.members.items in
+      let d = subst (λ m. MovesAt c.advance_value.new.depth (data_of c.args.member.tree) m) c.in-To.is c.in_ok-tree.ensures.place in
+      let adds = c.in_ok-put_member-in-To.ensures.ok in
+      let none = no_member adds.added (adds.are ∙ no_members_in q.pools behind adds.fillings adds.least.is.are (adds.least.is.nodes_are ∙ empty)) in
+      let is : new ≡ front ++ one ∷ [] = adds.is ∙ (ap (λ l. (front ++ one ∷ []) ++ l) none ∙ append-nil (front ++ one ∷ [])) in
+      subst (λ n. DiffersAt n (object_data (members_of (front ++ c.args.member ∷ []))) (object_data (members_of new))) (sym (c.below.ensures.last empty))
+      (subst (λ l. DiffersAt (c.advance_value.new.depth + 1) (object_data (members_of (front ++ c.args.member ∷ []))) (object_data (members_of l))) (sym is) (differs_in_member c.advance_value.new.depth front c.args.member one refl d)),
+  c.below.ensures.other,
+)
+
+pub advance_members-returns-in-Moved-clause-place : goal.advance_members-returns-in-Moved-clause-place
+advance_members-returns-in-Moved-clause-place g t c =
+    let q = c.args.plan.now in
+    let i = c.args.node in
+    let l = c.loop-place in
+    let ss = slots_from q i 0 in
+    let stand = c.requires.stand in
+    let old = members_of c.args.members.now.items in
+    let mid = members_of l.members.items in
+    let new = object_data (members_of c.advance_at.new.members.items) in
+    let there = subst (λ st. StepsAfter l.room c.advance_at.new.depth (object_data mid) st new) c.in-Moved.is c.in_ok-advance_at.ensures.place in
+    if_all l.room c.advance_at.new.depth (object_data old) (object_data mid) new there.0 there.1 (λ empty.
+    let w = l.invariant.walked stand.0 stand.1 in
+    let same : mid ≡ old = w.front ∙ (all_to q.pools l.place ss stand.0 w.whole.are (w.room_is ∙ empty) ∙ sym stand.1.are) in
+    ap object_data same)

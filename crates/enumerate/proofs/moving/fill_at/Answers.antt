@@ -4,7 +4,7 @@ use Rattle.jtree.specs.Data.{Data}
 use Rattle.jtree.specs.View.{members_of}
 use Rattle.jtree.specs.declared.value.Member.{Member}
 use Rattle.plan.specs.Samples.Sizes.{Before, nothing}
-use Rattle.enumerate.specs.Internal.Candidates.{rows_of, stack_of}
+use Rattle.enumerate.specs.Internal.Candidates.{used_rows, stack_of}
 use Rattle.enumerate.specs.Internal.Following.{GrownContinue}
 use Rattle.enumerate.specs.Internal.Front.{agreeing_rows}
 use Rattle.enumerate.specs.Internal.Moves.{AreMoved}
@@ -21,10 +21,10 @@ use Rattle.enumerate.proofs.moving.fill_at.Goals as goal
 use Rattle.enumerate.proofs.moving.fill_at.Goals.{After-limit, In_ok-front, then-room-eq0-via-then-room-eq0, then-room-eq0-via-else-room-eq0+then-not-fits}
 
 -- the slot is left out
-out_of : (g : Over) (c : After-limit g) (gs : List (Option Data)) → IsWalkedTo c.args.plan.now c.args.node (c.args.place + 1) c.args.room (rows_of c.args.used.now) c.args.before c.args.members.now.items gs
-    → IsLeftOut c.args.plan.now c.args.node (c.sound_parts.ensures.parts _ (site_among c.args.plan.now c.args.node c.requires.node)) (rows_of c.args.used.now) c.args.place c.requires.slot.first c.args.room c.args.before c.args.members.now.items gs
+out_of : (g : Over) (c : After-limit g) (gs : List (Option Data)) → IsWalkedTo c.args.plan.now c.args.node (c.args.place + 1) c.args.room (used_rows c.args.used.now) c.args.before c.args.members.now.items gs
+    → IsLeftOut c.args.plan.now c.args.node (c.sound_parts.ensures.parts _ (site_among c.args.plan.now c.args.node c.requires.node)) (used_rows c.args.used.now) c.args.place c.requires.slot.first c.args.room c.args.before c.args.members.now.items gs
 out_of g c gs w =
-    out_walked c.args.plan.now c.args.node (c.sound_parts.ensures.parts _ (site_among c.args.plan.now c.args.node c.requires.node)) (rows_of c.args.used.now) c.args.place c.requires.slot.first c.args.room c.args.before c.args.members.now.items gs c.requires.used w c.requires.out
+    out_walked c.args.plan.now c.args.node (c.sound_parts.ensures.parts _ (site_among c.args.plan.now c.args.node c.requires.node)) (used_rows c.args.used.now) c.args.place c.requires.slot.first c.args.room c.args.before c.args.members.now.items gs c.requires.used w c.requires.out
 
 -- how many members are before it
 many : (g : Over) (c : After-limit g) → (c.args.room ≡ 0 → ⊥) → c.args.before.count ≡ length c.args.members.now.items
@@ -32,7 +32,7 @@ many g c some =
     let q = c.args.plan.now in
     let gs = c.requires.walked.0 in
     let out = out_of g c gs c.requires.walked.1 in
-    ap (λ (x : Before). x.count) (out.known some) ∙ so_many q c.args.node (c.sound_parts.ensures.parts _ (site_among q c.args.node c.requires.node)) (rows_of c.args.used.now) c.args.place gs c.args.members.now.items out.front
+    ap (λ (x : Before). x.count) (out.known some) ∙ so_many q c.args.node (c.sound_parts.ensures.parts _ (site_among q c.args.node c.requires.node)) (used_rows c.args.used.now) c.args.place gs c.args.members.now.items out.front
 
 few : (g : Over) (c : After-limit g) → length c.args.members.now.items ≤ c.args.place
 few g c =
@@ -56,7 +56,7 @@ returns-then-room-eq0-clause-moved g c = λ gs w.
     let place = c.args.place in
     let room = c.args.room in
     let sound = c.sound_parts.ensures.parts _ (site_among q i c.requires.node) in
-    let used = rows_of c.args.used.now in
+    let used = used_rows c.args.used.now in
     let members = c.args.members.now.items in
     let first = c.requires.slot.first in
     let out = out_of g (goal.at.returns-then-room-eq0-clause-moved g c).After-limit gs w in
@@ -85,8 +85,8 @@ grow_slots-requires-clause-limit g c =
     omega (arith, many g l (λ e. omega (arith, e, c.if-room-eq0.false)), fewer_members c.args.members.now.items, c.requires.limit)
 
 -- the used rows that agree with what is before it
-agree_here : (g : Over) (c : In_ok-front g) (gs : List (Option Data)) → IsWalkedTo c.args.plan.now c.args.node (c.args.place + 1) c.args.room (rows_of c.args.used.now) c.args.before c.args.members.now.items gs → members_of c.args.members.now.items ≡ members_to c.args.place (slots_from c.args.plan.now c.args.node 0) gs
-    → agreeing_rows c.in_ok-front.front.agreeing (rows_of c.args.used.now) ≡ used_at c.args.place (slots_from c.args.plan.now c.args.node 0) gs (rows_of c.args.used.now)
+agree_here : (g : Over) (c : In_ok-front g) (gs : List (Option Data)) → IsWalkedTo c.args.plan.now c.args.node (c.args.place + 1) c.args.room (used_rows c.args.used.now) c.args.before c.args.members.now.items gs → members_of c.args.members.now.items ≡ members_to c.args.place (slots_from c.args.plan.now c.args.node 0) gs
+    → agreeing_rows c.in_ok-front.front.agreeing (used_rows c.args.used.now) ≡ used_at c.args.place (slots_from c.args.plan.now c.args.node 0) gs (used_rows c.args.used.now)
 agree_here g c gs w are = (c.in_ok-front.ensures.front gs w.whole.are (ap members_of c.as_slice.ensures.value ∙ are)).rows
 
 pub grow_slots-requires-clause-open : goal.grow_slots-requires-clause-open
@@ -97,7 +97,7 @@ grow_slots-requires-clause-open g c =
     let w = c.requires.walked.1 in
     let out = out_of g (goal.at.grow_slots-requires-clause-open g c).After-limit gs w in
     let Open = λ (x : Before) (us : List Data). IsOpen q.pools (slots_from q i c.args.place) (ending_at q i) x c.args.room us in
-    subst (λ x. Open x (rows_of c.rows.result.now)) (sym (out.known (λ e. omega (arith, e, c.if-room-eq0.false)))) (subst (Open (before_at c.args.place (slots_from q i 0) gs nothing)) (sym (c.rows.ensures ∙ agree_here g (goal.at.grow_slots-requires-clause-open g c).In_ok-front gs w out.front)) out.can)
+    subst (λ x. Open x (used_rows c.rows.result)) (sym (out.known (λ e. omega (arith, e, c.if-room-eq0.false)))) (subst (Open (before_at c.args.place (slots_from q i 0) gs nothing)) (sym (c.rows.ensures ∙ agree_here g (goal.at.grow_slots-requires-clause-open g c).In_ok-front gs w out.front)) out.can)
 
 pub returns-in_err-step-clause-steps : goal.returns-in_err-step-clause-steps
 returns-in_err-step-clause-steps g c = λ w wide. omega (arith, one_fewer c.args.plan.now c.args.node c.args.place c.requires.slot.first, length-drop c.args.place (slots_from c.args.plan.now c.args.node 0), c.requires.place, c.in_ok-front.ensures.steps, c.grow_slots.ensures.steps w wide)
@@ -107,7 +107,7 @@ unreachable-requires g c =
     let q = c.args.plan.now in
     let i = c.args.node in
     let fit = c.fits.ensures.0 c.if-not-fits.false in
-    let none = subst (λ st. IsGrown st q.pools (slot_in q i c.args.place) (slots_from q i (c.args.place + 1)) (ending_at q i) c.args.before c.args.room 0 (rows_of c.rows.result.now) c.args.members.now.items c.grow_slots.new.members.items) c.in-Last.is c.in_ok-step.ensures.ok in
+    let none = subst (λ st. IsGrown st q.pools (slot_in q i c.args.place) (slots_from q i (c.args.place + 1)) (ending_at q i) c.args.before c.args.room 0 (used_rows c.rows.result) c.args.members.now.items c.grow_slots.new.members.items) c.in-Last.is c.in_ok-step.ensures.ok in
     none.1 fit.0 (omega arith) fit.1
 
 pub returns-clause-moved : goal.returns-clause-moved
@@ -115,8 +115,8 @@ returns-clause-moved g c = λ gs w.
     let q = c.args.plan.now in
     let i = c.args.node in
     let out = out_of g (goal.at.returns-clause-moved g c).After-limit gs w in
-    let grown = subst (λ st. IsGrown st q.pools (slot_in q i c.args.place) (slots_from q i (c.args.place + 1)) (ending_at q i) c.args.before c.args.room 0 (rows_of c.rows.result.now) c.args.members.now.items c.grow_slots.new.members.items) c.in-Moved.is c.in_ok-step.ensures.ok in
-    walked_grown q i (c.sound_parts.ensures.parts _ (site_among q i c.requires.node)) (rows_of c.args.used.now) c.args.place c.requires.slot.first step.Moved c.args.room c.args.before c.args.members.now.items c.args.members.now.items c.grow_slots.new.members.items gs (rows_of c.rows.result.now) w.small w.whole out refl
+    let grown = subst (λ st. IsGrown st q.pools (slot_in q i c.args.place) (slots_from q i (c.args.place + 1)) (ending_at q i) c.args.before c.args.room 0 (used_rows c.rows.result) c.args.members.now.items c.grow_slots.new.members.items) c.in-Moved.is c.in_ok-step.ensures.ok in
+    walked_grown q i (c.sound_parts.ensures.parts _ (site_among q i c.requires.node)) (used_rows c.args.used.now) c.args.place c.requires.slot.first step.Moved c.args.room c.args.before c.args.members.now.items c.args.members.now.items c.grow_slots.new.members.items gs (used_rows c.rows.result) w.small w.whole out refl
     (out.known (λ e. omega (arith, e, c.if-room-eq0.false))) (c.rows.ensures ∙ agree_here g (goal.at.returns-clause-moved g c).In_ok-front gs w out.front) grown
 
 pub returns-clause-following : goal.returns-clause-following
@@ -129,10 +129,10 @@ returns-clause-following g c =
     let new = c.grow_slots.new.members.items in
     let cs = stack_of c.grow_slots.new.following.items in
     let out = out_of g (goal.at.returns-clause-following g c).After-limit gs w in
-    let grown = subst (λ st. IsGrown st q.pools (slot_in q i c.args.place) (slots_from q i (c.args.place + 1)) (ending_at q i) c.args.before c.args.room 0 (rows_of c.rows.result.now) members new) c.in-Moved.is c.in_ok-step.ensures.ok in
-    let kept : take (length members) new ≡ members = grown_kept step.Moved q.pools (slot_in q i c.args.place) (slots_from q i (c.args.place + 1)) (ending_at q i) c.args.before c.args.room 0 (length members) (rows_of c.rows.result.now) members new grown refl in
-    let h = subst (λ st. GrownContinue st q.pools (slots_from q i c.args.place) (rows_of c.rows.result.now) (drop (length members) new) cs) c.in-Moved.is c.in_ok-step.ensures.following in
-    walked_continue q i (c.sound_parts.ensures.parts _ (site_among q i c.requires.node)) (rows_of c.args.used.now) c.args.place c.requires.slot.first step.Moved members new gs cs w.whole.are out.front kept
+    let grown = subst (λ st. IsGrown st q.pools (slot_in q i c.args.place) (slots_from q i (c.args.place + 1)) (ending_at q i) c.args.before c.args.room 0 (used_rows c.rows.result) members new) c.in-Moved.is c.in_ok-step.ensures.ok in
+    let kept : take (length members) new ≡ members = grown_kept step.Moved q.pools (slot_in q i c.args.place) (slots_from q i (c.args.place + 1)) (ending_at q i) c.args.before c.args.room 0 (length members) (used_rows c.rows.result) members new grown refl in
+    let h = subst (λ st. GrownContinue st q.pools (slots_from q i c.args.place) (used_rows c.rows.result) (drop (length members) new) cs) c.in-Moved.is c.in_ok-step.ensures.following in
+    walked_continue q i (c.sound_parts.ensures.parts _ (site_among q i c.requires.node)) (used_rows c.args.used.now) c.args.place c.requires.slot.first step.Moved members new gs cs w.whole.are out.front kept
     (subst (λ us. GrownContinue step.Moved q.pools (slots_from q i c.args.place) us (drop (length members) new) cs) (c.rows.ensures ∙ agree_here g (goal.at.returns-clause-following g c).In_ok-front gs w out.front) h)
 
 pub returns-clause-steps : goal.returns-clause-steps

@@ -1,11 +1,8 @@
 use Rattle.std.proofs.Common.{◌≡◌, ◌↔◌, ◌≤◌, ℕ, List, length, Bool, true, false, not, IsTrue, refl, sym, ◌∙◌, arith, rules}
-use Rattle.std.specs.Borrow.{Bor}
-use Rattle.std.proofs.lemmas.List.{length-map}
 use Rattle.std.proofs.lemmas.List.Sums.{length-filter, count_by-le-length}
 use Rattle.jtree.specs.Data.{Data}
 use Rattle.jtree.specs.View.{data_of}
-use Rattle.jtree.specs.declared.value.Tree.{Tree}
-use Rattle.enumerate.specs.Internal.Candidates.{rows_of, has_under, agreeing}
+use Rattle.enumerate.specs.Internal.Candidates.{used_rows, has_under, agreeing}
 use Rattle.enumerate.proofs.LeafLemmas.{tree_found, found_tree}
 use Rattle.enumerate.proofs.taken.is_free.Goals as goal
 
@@ -20,13 +17,13 @@ returns-in-Items c =
     let is = c.contains.ensures.value in
     rw c.in-Items.is (denied c.contains.result _ (λ e. tree_found ts t (sym is ∙ e)) (λ a. is ∙ found_tree ts t a))
 
-few_agree : (k : List ℕ) (v : Data) (rows : List (Bor Tree)) → length (agreeing k v (rows_of rows)) ≤ length rows
-few_agree k v rows = omega (arith, length-filter (has_under k v) (rows_of rows), count_by-le-length (has_under k v) (rows_of rows), length-map rows (λ (r : Bor Tree). data_of r.now))
+few_agree : (k : List ℕ) (v : Data) (rows : List Data) → length (agreeing k v rows) ≤ length rows
+few_agree k v rows = omega (arith, length-filter (has_under k v) rows, count_by-le-length (has_under k v) rows)
 
 pub returns-in-Key : goal.returns-in-Key
 returns-in-Key c =
     let key = c.in-Key.key in
-    rw c.in-Key.is (λ free. omega (arith, few_agree key.name.now (data_of c.args.tree.now) key.rows.now, c.if-key.true), λ free. refl)
+    rw c.in-Key.is (λ free. omega (arith, few_agree key.name.now (data_of c.args.tree.now) (used_rows key.rows), c.len.ensures, c.if-len-key.true), λ free. refl)
 
 pub returns-in-Key-2 : goal.returns-in-Key-2
 returns-in-Key-2 c = search rules

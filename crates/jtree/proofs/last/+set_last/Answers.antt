@@ -1,15 +1,26 @@
-use Rattle.std.proofs.lemmas.Result.{on_ok_weaker}
+use Rattle.std.proofs.Common.{◌+◌, refl, arith}
+use Rattle.std.proofs.lemmas.Result.{IfOk-weaker, on_ok_weaker}
 use Rattle.jtree.specs.View.{data_of}
-use Rattle.jtree.proofs.LastNode.{item_put_last, member_put_last, list_put, object_put, items_put, members_put}
+use Rattle.jtree.proofs.LastNode.{item_put_last, member_put_last, item_depth_last, member_depth_last, list_put, object_put, items_put, members_put}
 use Rattle.jtree.proofs.last.+set_last.Goals as goal
 
 pub set_last_item-returns-in-Some-clause-ok : goal.set_last_item-returns-in-Some-clause-ok
 set_last_item-returns-in-Some-clause-ok t c =
     on_ok_weaker _ (item_put_last c.args.items.now.items _ _ _ (data_of c.args.value.now) c.args.items.now.ok.0 c.in-Some.ensures.value) c.set_last_node.ensures.ok
 
+pub set_last_item-returns-in-Some-clause-depth : goal.set_last_item-returns-in-Some-clause-depth
+set_last_item-returns-in-Some-clause-depth t c =
+    let deeper = item_depth_last c.args.items.now.items _ _ c.args.items.now.ok.0 (omega (arith, c.in-Some.ensures.variant.0 refl)) c.in-Some.ensures.value in
+    IfOk-weaker c.set_last_node.result _ _ (λ depth is. omega (arith, c.saturating_add.ensures, is, deeper)) c.set_last_node.ensures.depth
+
 pub set_last_member-returns-in-Some-clause-ok : goal.set_last_member-returns-in-Some-clause-ok
 set_last_member-returns-in-Some-clause-ok t c =
     on_ok_weaker _ (member_put_last c.args.members.now.items _ _ c.in-Some.member.now (data_of c.args.value.now) c.args.members.now.ok.0 c.in-Some.ensures.value) c.set_last_node.ensures.ok
+
+pub set_last_member-returns-in-Some-clause-depth : goal.set_last_member-returns-in-Some-clause-depth
+set_last_member-returns-in-Some-clause-depth t c =
+    let deeper = member_depth_last c.args.members.now.items _ _ c.args.members.now.ok.0 (omega (arith, c.in-Some.ensures.variant.0 refl)) c.in-Some.ensures.value in
+    IfOk-weaker c.set_last_node.result _ _ (λ depth is. omega (arith, c.saturating_add.ensures, is, deeper)) c.set_last_node.ensures.depth
 
 pub set_last_node-invariant_of-list : goal.set_last_node-invariant_of-list
 set_last_node-invariant_of-list t c = items_put _ _ _ (data_of c.args.value.now) c.list.invariant c.requires c.set_last_item.ensures.ok c.set_last_item.ensures.err

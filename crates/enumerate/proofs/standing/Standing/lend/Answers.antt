@@ -4,7 +4,7 @@ use Rattle.enumerate.proofs.PageLemmas.{lent_nothing, lent_more, lends_full, len
 use Rattle.enumerate.proofs.PageLaws.{lends_part, lends_part_with}
 use Rattle.enumerate.specs.Live.{IsNextSample}
 use Rattle.enumerate.specs.Internal.Standing.{IsStep}
-use Rattle.enumerate.proofs.StandingLemmas.{where_err, needed, can_replace, step_within}
+use Rattle.enumerate.proofs.StandingLemmas.{where_err, needed, can_change, step_within}
 use Rattle.enumerate.proofs.standing.Standing.lend.Goals as goal
 
 pub samples-init : goal.samples-init
@@ -17,7 +17,7 @@ samples-init g c = record {
 }
 
 pub take-requires : goal.take-requires
-take-requires g c = needed (g.T.Taker.has_taken) c.args.taker.now c.samples.taker (data_of c.samples.self.tree) c.samples.replaced c.samples.invariant.before
+take-requires g c = needed (g.T.Taker.has_taken) c.args.taker.now c.samples.taker (data_of c.samples.self.tree) c.samples.change c.samples.invariant.before
 
 pub returns-in_err-take-clause-part : goal.returns-in_err-take-clause-part
 returns-in_err-take-clause-part g c =
@@ -78,7 +78,7 @@ samples-preserved g c =
     record {
       standing = step.1;
       lent = lent_more q first c.args.count c.samples.lent old new v (Some (data_of c.step.new.self.tree)) (c.in_ok-take.ensures.ok c.args.taker.now) (omega (arith, c.samples-test.true)) step.0 l;
-      before = can_replace q c.samples.self c.step.new.self new l.items step (c.in_ok-take.ensures.ok c.args.taker.now l.items l.taken);
+      before = can_change q c.samples.self c.step.new.self new l.items step (c.in_ok-take.ensures.ok c.args.taker.now l.items l.taken);
       short = omega (arith, c.samples-test.true);
       steps = λ w wide. omega (arith, c.samples.invariant.steps w wide, step_within q c.samples.meter c.step.new.meter c.step.ensures.steps w wide);
     }

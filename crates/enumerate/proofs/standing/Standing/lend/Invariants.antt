@@ -4,14 +4,14 @@ use Rattle.plan.specs.Samples.Candidates.{IsWidth}
 use Rattle.plan.specs.Samples.Steps.{delay}
 use Rattle.enumerate.specs.Internal.Standing.{IsStanding}
 use Rattle.enumerate.proofs.PageLemmas.{IsLent}
-use Rattle.enumerate.proofs.StandingLemmas.{CanReplace}
+use Rattle.enumerate.proofs.StandingLemmas.{CanChange}
 use Rattle.enumerate.proofs.standing.Standing.lend.Given as goal
 
 abbrev pub invariant-samples : goal.invariant-samples
 invariant-samples g l = record {
   standing : IsStanding l.plan l.self;
   lent : IsLent l.plan (Some (data_of l.initial.self.tree)) l.count l.lent (g.T.Taker.has_taken l.initial.taker l.taker) (Some (data_of l.self.tree));
-  before : CanReplace (g.T.Taker.has_taken l.initial.taker l.taker) (data_of l.self.tree) l.replaced;
+  before : CanChange (g.T.Taker.has_taken l.initial.taker l.taker) (data_of l.self.tree) l.change;
   short : l.lent ≤ l.count;
   steps : (w : ℕ) → IsWidth l.plan.pools l.plan.root w → l.meter ≤ l.initial.meter + l.lent * delay l.plan.limit w;
 }
