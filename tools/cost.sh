@@ -236,13 +236,13 @@ ratio() {
 
 # instructions WORD..: how many instructions a run of these words takes
 instructions() {
-    valgrind --tool=callgrind --callgrind-out-file="$folder/callgrind" "$@" >"$folder/said" 2>"$folder/told" || stop "valgrind could not run $*"
+    valgrind --tool=callgrind --callgrind-out-file="$folder/callgrind" "$@" >"$folder/output" 2>"$folder/errors" || stop "valgrind could not run $*"
     awk '/^totals:/ { print $2 }' "$folder/callgrind"
 }
 
 # peak WORD..: the peak memory of a run of these words, in KiB
 peak() {
-    /usr/bin/time -f '%M' -o "$folder/cost" "$@" >"$folder/said" 2>"$folder/told"
+    /usr/bin/time -f '%M' -o "$folder/cost" "$@" >"$folder/output" 2>"$folder/errors"
     tail -n 1 "$folder/cost"
 }
 
@@ -261,7 +261,7 @@ against_plain() {
     shift
     crdx=(crates/crdx_cli/out/crdx_cli sample "$@" --count 10000)
     plain=("$folder/plain" "$shape" 10000)
-    "${crdx[@]}" >"$folder/lines" 2>"$folder/told" || stop "$shape: $(tail -n 1 "$folder/told")"
+    "${crdx[@]}" >"$folder/lines" 2>"$folder/errors" || stop "$shape: $(tail -n 1 "$folder/errors")"
     "${plain[@]}" >"$folder/plain-lines"
     cmp "$folder/lines" "$folder/plain-lines" >&2 || stop "$shape: other lines than tools/plain.rs writes"
     one=$(best "${crdx[@]}")
@@ -280,8 +280,8 @@ against_plain() {
 measure() {
     local name=$1 file=$2
     shift 2
-    /usr/bin/time -f '%e s, %M KiB' -o "$folder/cost" ./crdx "$@" >"$folder/said" 2>&1 || true
-    printf '%s, %s bytes: %s (%s)\n' "$name" "$(stat -c %s "$file")" "$(tail -n 1 "$folder/cost")" "$(head -c 60 "$folder/said" | head -n 1)"
+    /usr/bin/time -f '%e s, %M KiB' -o "$folder/cost" ./crdx "$@" >"$folder/output" 2>&1 || true
+    printf '%s, %s bytes: %s (%s)\n' "$name" "$(stat -c %s "$file")" "$(tail -n 1 "$folder/cost")" "$(head -c 60 "$folder/output" | head -n 1)"
 }
 
 mkdir "$folder/schemas" "$folder/objects"
@@ -338,7 +338,7 @@ measure 'a sample of 511-places-1-MiB with 64 lists for paths' "$folder/schemas/
 optional 12 | define >"$folder/optional"
 echo '{"integers":[0,1]}' >"$folder/two"
 many=(./crdx sample "$folder/optional" v1 --pools "$folder/two" --limit 8 --count 10000)
-"${many[@]}" >"$folder/lines" 2>"$folder/told"
+"${many[@]}" >"$folder/lines" 2>"$folder/errors"
 paste -sd, "$folder/lines" | between '{"x":[' ']}' >"$folder/list-of-lines"
 listed=$(best "${many[@]}")
 printed=$(best ./crdx prune "$folder/preserving" v1 "$folder/list-of-lines")

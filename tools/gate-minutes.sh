@@ -1,6 +1,6 @@
 #!/usr/bin/env bash
 # What the gate takes, crate by crate: runs `rt ci`, or the command that is given, looks each second at the checks that run for it, and
-# prints a table of minutes behind its output. The output of `rt ci` tells no times, nor when the wrong bodies of a crate are done.
+# prints a table of minutes after its output. The output of `rt ci` has no times, and does not say when the wrong bodies of a crate are done.
 # Wall minutes of a crate are those in which a check of it ran, processor minutes what each of its checks had taken when it was last seen.
 # The last line is the whole, with what is linked and the programs and tests that are run.
 set -euo pipefail

@@ -50,7 +50,7 @@ class Entry:
 
 @dataclasses.dataclass
 class Help:
-    """The parts of a help: `description` stands before the usage, and `end` after the entries."""
+    """The parts of a help: `description` comes before the usage, and `end` after the entries."""
 
     description: str
     usage: str
@@ -158,7 +158,7 @@ def command(said):
 
 
 def ending(end):
-    """The sections of what stands at the end of the help. A table of codes has a heading of its own, after what is said of all."""
+    """The sections made of the end of a help. A table of codes has a heading of its own, after what is said of all."""
     status, codes, tables, examples = [], [], [], []
     for text, indented in blocks_of(end):
         if text.startswith("Exit status"):
@@ -173,7 +173,7 @@ def ending(end):
 
 
 def blocks_of(text):
-    """What stands between blank lines: a paragraph, which may be empty, and the indented lines that follow it at once."""
+    """What is between blank lines: a paragraph, which may be empty, and the indented lines that follow it at once."""
     for block in re.split(r"\n\n+", text.strip("\n")):
         lines = block.splitlines()
         yield " ".join(it for it in lines if it[0] != " "), [it for it in lines if it[0] == " "]
@@ -212,7 +212,7 @@ def filled(text):
 
 
 def escaped(text):
-    """A text in roff, with what stands between backquotes in bold. The program is on the path, and not in the current folder."""
+    """A text in roff, with what is between backquotes in bold. The program is on the path, and not in the current folder."""
     text = text.replace("./crdx", "crdx").replace("\\", r"\(rs")
     for sign, name in {"-": r"\-", "'": r"\(aq", '"': r"\(dq", "^": r"\(ha", "~": r"\(ti"}.items():
         text = text.replace(sign, name)

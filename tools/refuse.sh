@@ -1,6 +1,6 @@
 #!/usr/bin/env bash
 # Runs the program again and again with one of its requests for memory refused: the first, the second, and so on until a run meets no refusal.
-# Each run has to give the row's own answer, or to end for want of memory as docs/MEANING.md says: status 5, `crdx: out of memory`, and
+# Each run has to give the row's own answer, or to end out of memory as docs/MEANING.md says: status 5, `crdx: out of memory`, and
 # on standard output nothing, or whole lines with which the row's own output begins.
 # Usage: tools/refuse.sh [PROGRAM], by default the program that `rt ci` leaves.
 set -euo pipefail
@@ -26,7 +26,7 @@ failures=0
 # row NAME PARTIAL STATUS OUT ERR WORD..
 #   PARTIAL: what may be on standard output at status 5: `nothing`, or `lines`, with which OUT begins
 #   STATUS, OUT, ERR: the row's own answer, the last two as files
-#   WORD..: the words behind the program's name
+#   WORD..: the words after the program's name
 # Standard input is the file that the variable `input` names, where it is set before the row, and else empty.
 row() {
     local name=$1 partial=$2 status=$3 out=$4 err=$5 ended request
@@ -40,8 +40,8 @@ row() {
             export LD_PRELOAD=$folder/refuse.so REFUSE_REQUEST=$request REFUSE_REPORT=$folder/refused
             exec "$program" "$@"
         ) <"${input:-/dev/null}" >"$folder/out" 2>"$folder/err" || ended=$?
-        if ! is_own && ! { [ -s "$folder/refused" ] && is_want; }; then
-            echo "refuse.sh: $name: $(refusal): status $ended, $(told out output), $(told err error)" >&2
+        if ! is_own && ! { [ -s "$folder/refused" ] && is_out_of_memory; }; then
+            echo "refuse.sh: $name: $(refusal): status $ended, $(written out output), $(written err error)" >&2
             failures=$((failures + 1))
         fi
         [ -s "$folder/refused" ] || break
@@ -56,7 +56,7 @@ is_own() {
     [ "$ended" -eq "$status" ] && cmp -s "$folder/out" "$out" && cmp -s "$folder/err" "$err"
 }
 
-is_want() {
+is_out_of_memory() {
     [ "$ended" -eq 5 ] && cmp -s "$folder/err" "$folder/no-memory" || return 1
     case $partial in
         nothing) [ ! -s "$folder/out" ] ;;
@@ -72,12 +72,12 @@ refusal() {
     fi
 }
 
-told() {
+written() {
     printf '%s bytes on standard %s' "$(stat -c %s "$folder/$1")" "$2"
     [ ! -s "$folder/$1" ] || printf ' (%s)' "$(head -n 1 "$folder/$1" | head -c 80)"
 }
 
-# the rows, behind the files that they name
+# the rows, after the files that they name
 
 echo 'crdx: end' >"$folder/end"
 echo 'crdx: more' >"$folder/more"

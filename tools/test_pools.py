@@ -1,5 +1,5 @@
 #!/usr/bin/env python3
-"""Tests of `crdx pools` on the examples: over the pools that it prints, each field of a schema stands in some sample.
+"""Tests of `crdx pools` on the examples: over the pools that it prints, each field of a schema is in some sample.
 
 The program is the wrapper ./crdx, or another that the variable CRDX names.
 """
@@ -50,7 +50,7 @@ def step_text(name):
 
 
 def mark_of(path):
-    """What stands in the text of each object that has the field with this path."""
+    """What is in the text of each object that has the field with this path."""
     step = path.rsplit("/", 1)[1]
     if step in ("[]", "{}"):
         return step[0]
@@ -60,7 +60,7 @@ def mark_of(path):
 
 
 def paths_in(value, path, fields):
-    """The paths of fields that stand in a value with this path."""
+    """The paths of the fields in a value with this path."""
     if path in fields:
         yield path
     if isinstance(value, list):

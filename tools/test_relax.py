@@ -137,7 +137,7 @@ class Validator:
 
     @classmethod
     def has_parts(cls, schema, value):
-        """Whether what stands in a list or an object is valid, and no two items of a list are too much alike."""
+        """Whether what is in a list or an object is valid, and no two items of a list are too much alike."""
         if isinstance(value, dict):
             fields, others = schema.get("properties", {}), schema.get("additionalProperties")
             return all(
@@ -604,7 +604,7 @@ class Streams(unittest.TestCase):
         fields = {f"f{number}": {"type": "string", "pattern": "a"} for number in range(5000)}
         self.long = json.dumps(definition({"type": "object", "properties": fields}))
 
-    def test_a_reader_that_goes_away_is_not_told_of(self):
+    def test_a_reader_that_goes_away_is_not_reported(self):
         self.assertEqual(self.shell('"$1" | head -n 1; echo "${PIPESTATUS[0]}"', self.long), (0, "{\n4\n", ""))
         self.assertEqual(self.shell('"$1" --help | true'), (0, "", ""))
 

@@ -15,7 +15,7 @@ root=$folder/repository
 mkdir -p "$folder/bin" "$root"/{docs,tools} "$root"/crates/{low,middle,crdx_cli,crdx_tests}/{src,specs,proofs,must-fail}
 cp crdx "$root"
 cat >"$root/crates.txt" <<'CRATES'
-# NAME: what it stands on
+# NAME: what it depends on
 crdx_tests: crdx_cli low
 crdx_cli backend=rattle: low middle
 middle: clap low  # clap is of the kit

@@ -1,8 +1,9 @@
 -- What `check` says of a schema, as an answer.
 use Rattle.std.proofs.Common.{◌≡◌, ◌≢◌, ◌∙◌, ◌++◌, ℕ, List, [], ◌∷◌, Bool, true, false, refl, ap, sym, string_bytes, codes}
+use Rattle.std.proofs.lemmas.List.Folds.{flat_map-map}
 use Rattle.jtree.specs.Data.{Data}
 use Rattle.jtree.specs.Internal.Rising.{contained}
-use Rattle.schema.specs.Rules.Breaks.{Told, told, rule_name, IsUnbroken}
+use Rattle.schema.specs.Rules.Breaks.{Reported, reported, rule_name, IsUnbroken}
 use Rattle.schema.specs.Rules.Explained.{AreExplained}
 use Rattle.stored.specs.Schemas.Accepted.{IsBroken}
 use Rattle.crdx.specs.Internal.CheckText.{IsCheckText}
@@ -25,7 +26,7 @@ some_letter : (xs : List ℕ) (x : ℕ) (ys : List ℕ) → xs ++ (x ∷ ys) ≡
 some_letter [] x ys none = cc
 some_letter (v ∷ xs) x ys none = cc
 
-some_line : (t : Told) → violation_line t ≡ [] → ⊥
+some_line : (t : Reported) → violation_line t ≡ [] → ⊥
 some_line t none = some_letter (rule_name t.rule) _ _ none
 
 -- ---- an answer with and without lines
@@ -42,10 +43,10 @@ module _ (has : Documents) (arguments : CheckArguments) (raw : Data) (said : Lis
   pub check_answer : (why : Bool) → arguments.why ≡ why → IsCheckText raw why said → IsAnswer has (Check arguments) a.status (string_bytes a.text)
   check_answer true why ([], are, same) = unbroken_answer same (none_explained raw are)
   check_answer true why (e ∷ found, are, same) =
-      let is = some (λ empty. some_line (told e.violation) (empty_left _ _ (empty_left _ _ (sym same ∙ empty)))) in
+      let is = some (λ empty. some_line (reported e.violation) (empty_left _ _ (empty_left _ _ (sym same ∙ empty)))) in
       rw (is.0, is.1 ∙ same) (explained arguments raw (e ∷ found) why asked are (λ no. cc))
   check_answer false why ([], are, same) = unbroken_answer same (none_broken (IsBroken raw) are)
   check_answer false why (v ∷ found, are, same) =
-      let is = some (λ empty. some_line (told v) (empty_left _ _ (sym same ∙ empty))) in
+      let is = some (λ empty. some_line (reported v) (empty_left _ _ (sym same ∙ empty))) in
       let breaks = broken has 0 0 (file_name arguments.crd) arguments.version.now raw (v ∷ found) asked are (λ no. cc) in
-      rw (is.0, is.1 ∙ (same ∙ ap violation_lines breaks.1)) (violations arguments breaks.0 why breaks.2)
+      rw (is.0, is.1 ∙ (same ∙ (sym (flat_map-map violation_line reported (v ∷ found)) ∙ ap violation_lines breaks.1))) (violations arguments breaks.0 why breaks.2)

@@ -22,11 +22,11 @@ use Rattle.crdx.specs.declared.walk.line.Envelope.{Envelope}
 
 -- ---- the place of a name
 
-pub place_here : (stands : Bool) (k : List ℕ) (xs : List Member) (i : ℕ) (x : Member) → All (λ m. text_cmp k m.name ≡ Greater) (take i xs) → i < length xs
-    → x ≡ get_or xs i x → text_cmp k x.name ≡ (if stands then Equal else Less) → IsPlace stands k xs i
-place_here stands k [] i x past within is here = absurd (omega arith)
-place_here stands k (y ∷ xs) zero x past within is here = rw (← is) here
-place_here stands k (y ∷ xs) (suc i) x past within is here = (past 0 y (omega arith), place_here stands k xs i x (λ j d less. past (suc j) d (omega (arith, less))) (omega arith) is here)
+pub place_here : (present : Bool) (k : List ℕ) (xs : List Member) (i : ℕ) (x : Member) → All (λ m. text_cmp k m.name ≡ Greater) (take i xs) → i < length xs
+    → x ≡ get_or xs i x → text_cmp k x.name ≡ (if present then Equal else Less) → IsPlace present k xs i
+place_here present k [] i x past within is here = absurd (omega arith)
+place_here present k (y ∷ xs) zero x past within is here = rw (← is) here
+place_here present k (y ∷ xs) (suc i) x past within is here = (past 0 y (omega arith), place_here present k xs i x (λ j d less. past (suc j) d (omega (arith, less))) (omega arith) is here)
 
 pub place_end : (k : List ℕ) (xs : List Member) → All (λ m. text_cmp k m.name ≡ Greater) xs → IsPlace false k xs (length xs)
 place_end k [] past = (refl, refl)
@@ -60,7 +60,7 @@ inserted m [] (suc i) p = let e = p.1 in cc
 inserted m (x ∷ xs) zero p = rw p refl
 inserted m (x ∷ xs) (suc i) p = rw p.0 (ap (member x.name (data_of x.tree)) (inserted m xs i p.1))
 
--- what stands under a name once a member is taken off, or put in
+-- the value under a name once a member is taken off, or put in
 pub taken_at : (k : List ℕ) (ms : Members) → AreMembers ms → (j : List ℕ) → member_at j (without k ms) ≡ (if bytes_eq j k then None else member_at j ms)
 taken_at k ms sorted j = elim (bool_cases (bytes_eq j k)) [
   | inl t ↦ rw t (rw (same_name j k t) (replaced_at k None ms sorted))
@@ -101,9 +101,9 @@ three_put a k m old one two three first second third j =
     third j ∙ (ap (first_of (first_at a)) (second j ∙ (ap (first_of (first_at k)) (first j) ∙ sym (first_again (first_at k) (first_at m) (member_at j old))))
     ∙ (sym (first_again (first_at a) (first_of (first_at k) (first_at m)) (member_at j old)) ∙ sym split))
 
--- ---- objects by what stands under each name
+-- ---- objects by the value under each name
 
--- behind the same first name
+-- after the same first name
 same_rest : (k l : List ℕ) (d e : Data) (ms ns : Members) → k ≡ l → AreMembers (member k d ms) → AreMembers (member l e ns) → (j : List ℕ)
     → member_at j (member k d ms) ≡ member_at j (member l e ns) → member_at j ms ≡ member_at j ns
 same_rest k l d e ms ns is t u j h = elim (bool_cases (bytes_eq j k)) [
@@ -205,7 +205,7 @@ first_alone : (o : Option Data) → first_of o None ≡ o
 first_alone None = refl
 first_alone (Some d) = refl
 
--- under a name of the envelope stands what the members have there
+-- under a name of the envelope is what the members have there
 three_names : (ms : Members) (j : List ℕ)
     → (if bytes_eq j api_version then first_of (member_at api_version ms) (if bytes_eq j kind then first_of (member_at kind ms) (if bytes_eq j metadata then first_of (member_at metadata ms) None else None)
     else (if bytes_eq j metadata then first_of (member_at metadata ms) None else None)) else (if bytes_eq j kind then first_of (member_at kind ms) (if bytes_eq j metadata then first_of (member_at metadata ms) None else None)

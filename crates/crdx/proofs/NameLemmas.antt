@@ -17,7 +17,7 @@ use Rattle.jtree.specs.Internal.Lookups.{bool_cases, ordering_cases, member_firs
 pub before_of : (k l : List ℕ) → text_cmp k l ≡ Greater → text_cmp l k ≡ Less
 before_of k l past = nat_list_cmp_total.antisymm l k ∙ ap ordering_reverse past
 
--- what stands under a name is a tree
+-- the value under a name is a tree
 pub member_tree : (ms : Members) (k : List ℕ) (w : Data) → AreMembers ms → member_at k ms ≡ Some w → IsTree w
 member_tree no_members k w sorted e = cc
 member_tree (member l d ms) k w sorted e = elim (bool_cases (bytes_eq k l)) [

@@ -6,7 +6,7 @@ use Rattle.jtree.specs.Data.{Data, IsTree, Members}
 use Rattle.jtree.specs.Internal.Rising.{contained}
 use Rattle.schema.specs.Nodes.Node.{Node}
 use Rattle.stored.specs.Objects.Fault.{IsValid}
-use Rattle.stored.specs.Objects.AllFaults.{AreFailures, AreFaults, told}
+use Rattle.stored.specs.Objects.AllFaults.{AreFailures, AreFaults, reported}
 use Rattle.stored.specs.Objects.Becomes.{IsPruned, IsCompleted, IsStored}
 use Rattle.stored.specs.Objects.Leaves.{AreLeaves, elements_of}
 use Rattle.stored.specs.declared.fault.LFault.{LFault}
@@ -35,7 +35,7 @@ module _ (N : Node) (document : Data) where
   valid_answer v [] is are none = valid (subst (IsValid N) (sym is) (no_fault N v are))
   valid_answer v (f ∷ faults) is are none = absurd (grind (arith, nat_tests))
 
-  pub faulty_answer : (v : Data) (faults : List Fault) → body_of document ≡ v → AreFaults N v faults → (length faults == 0) ≡ false → IsObjectAnswer N document Validate 1 (fault_lines (map told faults))
+  pub faulty_answer : (v : Data) (faults : List Fault) → body_of document ≡ v → AreFaults N v faults → (length faults == 0) ≡ false → IsObjectAnswer N document Validate 1 (fault_lines (map reported faults))
   faulty_answer v [] is are some = cc
   faulty_answer v (f ∷ faults) is ([], are, same) some = cc
   faulty_answer v (f ∷ faults) is (g ∷ fs, are, same) some =

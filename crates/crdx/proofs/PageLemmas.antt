@@ -1,4 +1,4 @@
--- What follows for walks from one page past each place: the first items of a page are a page, and a page behind a page is one.
+-- What follows for walks from one page past each place: the first items of a page are a page, and a page after a page is one.
 use Rattle.std.proofs.Common.{◌≡◌, ℕ, zero, suc, ◌+◌, ◌<◌, ◌≤◌, List, [], ◌∷◌, ◌++◌, length, drop, Bool, false, Option, Some, None, refl, sym, ap, ◌∙◌, subst, inl, inr, arith, length-append, append-nil, append_assoc}
 use Rattle.std.specs.Prelude.{All, slice_get}
 use Rattle.std.proofs.lemmas.Bool.{cases_lt}
@@ -38,7 +38,7 @@ rising_across [] ys r u v a b = elim a [ ]
 rising_across (x ∷ xs) ys r u v (inl e) b = subst (λ t. Precedes t v) e (r.0 v (among_right xs ys v b))
 rising_across (x ∷ xs) ys r u v (inr a) b = rising_across xs ys r.1 u v a b
 
--- a list at an index: what is before, what stands there, and what comes after
+-- a list at an index: what is before, what is there, and what comes after
 pub record IsSplit (xs : List Data) (n : ℕ) : Type 0 where
   pub front : List Data
   pub at : Data
@@ -155,11 +155,11 @@ module _ (q : Question) (after : Option Data) (n k : ℕ) (front : List Data) (l
   later_sample v c = record { sample = c.sample; past = past_after v c.past }
 
   -- past the last item
-  behind : (v : Data) → IsPastSample q after v → All (λ u. Precedes u v) items → IsPastSample q (Some l) v
-  behind v c all = record { sample = c.sample; past = All-contains (λ u. Precedes u v) items l all (contains items l (among_right front (l ∷ []) l (inl refl))) }
+  after_last : (v : Data) → IsPastSample q after v → All (λ u. Precedes u v) items → IsPastSample q (Some l) v
+  after_last v c all = record { sample = c.sample; past = All-contains (λ u. Precedes u v) items l all (contains items l (among_right front (l ∷ []) l (inl refl))) }
 
-  pub page_behind : IsPage q after (length items + k) (items ++ more) end
-  page_behind = record {
+  pub page_after : IsPage q after (length items + k) (items ++ more) end
+  page_after = record {
     samples = each_of (IsPastSample q after) (items ++ more) (λ v a. elim (among_parts items more v a) [
       | inl early ↦ All-contains (IsPastSample q after) items v p.samples (contains items v early)
       | inr late ↦ later_sample v (All-contains (IsPastSample q (Some l)) more v r.samples (contains more v late))
@@ -169,7 +169,7 @@ module _ (q : Question) (after : Option Data) (n k : ℕ) (front : List Data) (l
     short = omega (arith, length-append items more, r.short);
     rest = λ v c. elim (p.rest v c) [
       | inl found ↦ inl (Contains-append_left items more v found)
-      | inr all ↦ elim (r.rest v (behind v c all)) [
+      | inr all ↦ elim (r.rest v (after_last v c all)) [
         | inl found ↦ inl (Contains-append_right items more v found)
         | inr later ↦ inr (All-append (λ u. Precedes u v) items more all later)
       ]
@@ -177,7 +177,7 @@ module _ (q : Question) (after : Option Data) (n k : ℕ) (front : List Data) (l
     exact_end = (
       λ t v c. elim (p.rest v c) [
         | inl found ↦ Contains-append_left items more v found
-        | inr all ↦ Contains-append_right items more v (r.exact_end.0 t v (behind v c all))
+        | inr all ↦ Contains-append_right items more v (r.exact_end.0 t v (after_last v c all))
       ],
       λ all. r.exact_end.1 (λ v c. elim (Contains-append_cases items more v (all v (later_sample v c))) [
         | inl early ↦ absurd (not_before_itself v v refl (past_last v v (contained items v early) c.past))

@@ -6,7 +6,7 @@ use Rattle.jtree.specs.Data.{Data}
 use Rattle.jtree.specs.Internal.Rising.{contained}
 use Rattle.schema.specs.Nodes.Node.{Node}
 use Rattle.schema.specs.Nodes.ByPlace.{AreNodesOf}
-use Rattle.schema.specs.Rules.Breaks.{Break, Breaking, AreViolations, IsUnbroken, told, told_of}
+use Rattle.schema.specs.Rules.Breaks.{Break, Breaking, AreViolations, IsUnbroken, reported, reported_of}
 use Rattle.schema.specs.declared.refused.Refused.{Refused}
 use Rattle.schema.specs.declared.refused.Refused.TheVariants as refusal
 use Rattle.stored.specs.Schemas.Accepted.{IsBroken, IsRefusal}
@@ -14,14 +14,14 @@ use Rattle.schema.specs.Document.ReadFault.{IsReadFault}
 use Rattle.schema.specs.declared.fault.SFault.{SFault}
 use Rattle.schema.specs.declared.fault.SFault.TheVariants as s
 use Rattle.schema.specs.declared.violation.Violation.{Violation}
-use Rattle.crdx.specs.Program.RunResult.{Effects, WritesNothing, IsRunResult, answered, refused, unread_input, unwritten, no_memory, IsInputRefused, IsAnswer, fields, object, samples, no_sample, HasBreaks, IsCutByMemory, IsCutByWrite}
+use Rattle.crdx.specs.Program.RunResult.{Effects, WritesNothing, IsRunResult, answered, refused, read_failed, write_failed, no_memory, IsInputRefused, IsAnswer, fields, object, samples, no_sample, HasBreaks, IsCutByMemory, IsCutByWrite}
 use Rattle.crdx.specs.Output.Line.{lines}
 use Rattle.crdx.specs.Output.PartialOutput.{IsPartialOutput}
 use Rattle.crdx.specs.Output.Walk.{WritesPage}
 use Rattle.crdx.specs.Program.Requested.{IsRequested, IsRequestedCrd, IsRequestedSchema, IsRequestedRoot, HasAcceptedSchema, IsCrdRefused, ArePools, AreRootAndPools}
 use Rattle.crdx.specs.Program.Documents.{Documents, file_name, AreAmong}
-use Rattle.crdx.specs.Internal.ExitStatus.{status, cause_of_reading, cause_of_refusal, cause_of_pools, cause_of_walk, IsGiven}
-use Rattle.crdx.specs.Internal.Cause.{IsUnreadCause, IsReadCause, IsBrokenCause, IsSchemaCause, IsPoolsCause, IsPlanCause, IsTextCause, IsSamplingCause, IsFieldCause, IsObjectCause, IsDocumentCause, IsInputCause, IsSampleCause, IsWalkCause}
+use Rattle.crdx.specs.Internal.ExitStatus.{status, cause_of_reading, cause_of_refusal, cause_of_pools, cause_of_walk, IsWritten}
+use Rattle.crdx.specs.Internal.Cause.{IsReadFailure, IsReadCause, IsBrokenCause, IsSchemaCause, IsPoolsCause, IsPlanCause, IsTextCause, IsSamplingCause, IsFieldCause, IsObjectCause, IsDocumentCause, IsInputCause, IsSampleCause, IsWalkCause}
 use Rattle.plan.specs.Pools.Pools.{Pools}
 use Rattle.plan.specs.Pools.PoolsFault.{IsPoolsFault}
 use Rattle.plan.specs.Pools.PlanFault.{HasGoodPaths, IsPlanFault}
@@ -34,7 +34,7 @@ use Rattle.crdx.specs.declared.walk.line.Envelope.{Envelope}
 use Rattle.crdx.specs.declared.running.causes.Input.TheVariants as input
 use Rattle.crdx.specs.declared.running.causes.PlaceCode.TheVariants as code
 use Rattle.crdx.specs.declared.running.causes.Cause.{Cause}
-use Rattle.crdx.specs.declared.running.causes.Cause.TheVariants.{Unread, Document, Crd, Pools as PoolsCause, Place, Violations, NoField, NotStored, NotASample, Write, NoMemory}
+use Rattle.crdx.specs.declared.running.causes.Cause.TheVariants.{Read, Document, Crd, Pools as PoolsCause, Place, Violations, NoField, NotStored, NotASample, Write, NoMemory}
 use Rattle.crdx.specs.declared.running.answer.Answer.{Answer}
 use Rattle.crdx.specs.declared.arguments.request.ExplainArguments.{ExplainArguments}
 use Rattle.crdx.specs.declared.arguments.request.ObjectArguments.{ObjectArguments}
@@ -60,7 +60,7 @@ module _ (has : Documents) (unread read : ℕ) (crd : Option (List ℕ)) (versio
   -- why a request that names the schema has no answer
   pub input_of_reading : (request : Request) (cause : Cause) → (IsCrdRefused has crd version → IsInputRefused has request)
       → IsReadCause has unread read crd version cause → IsInputCause has unread read request cause
-  input_of_reading request (Unread i) refuse why = why.1
+  input_of_reading request (Read i) refuse why = why.1
   input_of_reading request (Document i fault) refuse why = refuse (inl (fault, why.1, why.2))
   input_of_reading request (Crd fault) refuse why = refuse (inr (fault, why))
   input_of_reading request (Place input.Crd code.KeywordForm p) refuse why = refuse (inr (s.KeywordForm p, why))
@@ -68,14 +68,14 @@ module _ (has : Documents) (unread read : ℕ) (crd : Option (List ℕ)) (versio
   input_of_reading request NoMemory refuse why = tt
   input_of_reading request _ refuse why = absurd why
 
-  some_break : (vs : List Violation) (breaks : List Break) → map told vs ≡ map told_of breaks → vs ≢ [] → breaks ≢ []
+  some_break : (vs : List Violation) (breaks : List Break) → map reported vs ≡ map reported_of breaks → vs ≢ [] → breaks ≢ []
   some_break [] breaks same some none = some refl
   some_break (v ∷ vs) [] same some none = cc
   some_break (v ∷ vs) (b ∷ breaks) same some none = cc
 
-  -- the breaks that violations tell
+  -- the breaks that violations report
   pub broken : (raw : Data) (vs : List Violation) → IsRequestedSchema has crd version raw → AreViolations (IsBroken raw) vs → vs ≢ []
-      → (breaks : List Break) × (map told vs ≡ map told_of breaks) × HasBreaks has crd version breaks
+      → (breaks : List Break) × (map reported vs ≡ map reported_of breaks) × HasBreaks has crd version breaks
   broken raw vs asked are some = (are.0, are.2, (raw, asked, are.1, some_break vs are.0 are.2 some))
 
 -- where there are no violations, no rule is broken
@@ -112,8 +112,8 @@ field_input has unread read arguments N _ asked why = absurd why
 
 module _ (has later : Documents) (unread read : ℕ) (arguments : ObjectArguments) (N : Node) (among : AreAmong later has) (root : IsRequestedRoot has (file_name arguments.crd) arguments.version.now N) where
   -- the object is read of documents that were at hand before, where the schema breaks no rule
-  input_of_object : (cause : Cause) → IsUnreadCause later unread read input.Object (file_name arguments.object) cause → IsInputCause has unread read (Object arguments) cause
-  input_of_object (Unread i) why = why.1
+  input_of_object : (cause : Cause) → IsReadFailure later unread read input.Object (file_name arguments.object) cause → IsInputCause has unread read (Object arguments) cause
+  input_of_object (Read i) why = why.1
   input_of_object (Document i fault) why = inr ((root.0, root.1), (fault, why.1, among (file_name arguments.object) (Err fault) why.2))
   input_of_object NoMemory why = tt
   input_of_object _ why = absurd why
@@ -143,7 +143,7 @@ among_some first second (Some n) r q f is = f n is
 -- the pools are read of documents that were at hand before, where the schema is accepted
 pub pools_input : (has later : Documents) (unread read : ℕ) (arguments : SampleArguments) (cause : Cause) → AreAmong later has → HasAcceptedSchema has (file_name arguments.crd) arguments.version.now
     → IsPoolsCause later unread read arguments.pools cause → IsInputCause has unread read (Sample arguments) cause
-pools_input has later unread read arguments (Unread i) among accepted why = why.1
+pools_input has later unread read arguments (Read i) among accepted why = why.1
 pools_input has later unread read arguments (Document i fault) among accepted why =
     inr (inl (accepted, inl (fault, why.1, among_some later has arguments.pools _ _ (λ n is. among (file_name n) (Err fault) is) why.2)))
 pools_input has later unread read arguments (PoolsCause fault) among accepted why =
@@ -200,7 +200,7 @@ module _ (run : Effects) (request : Request) where
   pub result_of_input : (cause : Cause) (code : ℕ) → IsInputCause run.documents run.failed_reads_before run.failed_reads request cause → WritesNothing run
       → (code ≡ status cause) ⊎ (code ≡ 5) → IsRunResult run request code
   result_of_input cause code why nothing (inr e) = result_of_nothing code nothing e
-  result_of_input (Unread i) code why nothing (inl e) = rw e (unread_input why nothing)
+  result_of_input (Read i) code why nothing (inl e) = rw e (read_failed why nothing)
   result_of_input (Document i fault) code why nothing (inl e) = rw e (refused why nothing)
   result_of_input (Crd fault) code why nothing (inl e) = rw e (refused why nothing)
   result_of_input (PoolsCause fault) code why nothing (inl e) = rw e (refused why nothing)
@@ -217,18 +217,18 @@ module _ (run : Effects) (request : Request) where
   IsCut = (code : ℕ) (text : List ℕ) → IsAnswer run.documents request code text → (n : ℕ) → Appends run.output_before run.output (take n text) → IsCutByWrite run request
 
   -- an answer was given, or standard output failed after a beginning of it
-  pub result_of_given : (answer : Answer) (code : ℕ) → IsAnswer run.documents request answer.status (string_bytes answer.text) → IsCut
-      → IsGiven answer run.output_before run.output run.failed_writes_before run.failed_writes code → IsRunResult run request code
-  result_of_given answer code is cut (inl given) = rw given.0 (answered answer.status (string_bytes answer.text) is given.1 given.2)
-  result_of_given answer code is cut (inr failed) = unwritten code failed.0 failed.1 (cut answer.status (string_bytes answer.text) is failed.2.0 failed.2.1)
+  pub result_of_written : (answer : Answer) (code : ℕ) → IsAnswer run.documents request answer.status (string_bytes answer.text) → IsCut
+      → IsWritten answer run.output_before run.output run.failed_writes_before run.failed_writes code → IsRunResult run request code
+  result_of_written answer code is cut (inl given) = rw given.0 (answered answer.status (string_bytes answer.text) is given.1 given.2)
+  result_of_written answer code is cut (inr failed) = write_failed code failed.0 failed.1 (cut answer.status (string_bytes answer.text) is failed.2.0 failed.2.1)
 
   -- an answer was given, or it was said why there is none
   pub result_of_finished : (r : Result Answer Cause) (code : ℕ) → IfOk r (λ a. IsAnswer run.documents request a.status (string_bytes a.text))
       → IfErr r (IsInputCause run.documents run.failed_reads_before run.failed_reads request) → IsCut
-      → IfOk r (λ a. IsGiven a run.output_before run.output run.failed_writes_before run.failed_writes code)
+      → IfOk r (λ a. IsWritten a run.output_before run.output run.failed_writes_before run.failed_writes code)
       → IfErr r (λ cause. (code ≡ status cause) ⊎ (code ≡ 5)) → OnErr r (Keeps run.output_before run.output) → OnErr r (run.failed_writes ≡ run.failed_writes_before)
       → IsRunResult run request code
-  result_of_finished (Ok answer) code is why cut given said kept unfailed = result_of_given answer code is cut given
+  result_of_finished (Ok answer) code is why cut given said kept unfailed = result_of_written answer code is cut given
   result_of_finished (Err cause) code is why cut given said kept unfailed = result_of_input cause code why (record { kept = kept; unfailed = unfailed }) said
 
 -- why a walk stopped, as the cause that its fault becomes
@@ -265,7 +265,7 @@ module _ (run : Effects) (arguments : SampleArguments) where
 
   result_of_walk : (q : Question) (after : Option Data) (e : Option Envelope) (cause : Cause) (code : ℕ) → IsRequested run.documents arguments q after e → IsWalkCauseOf q after e cause
       → (code ≡ status cause) ⊎ (code ≡ 5) → IsRunResult run (Sample arguments) code
-  result_of_walk q after e (Write n) code asked why is = unwritten code is why.0 (q, after, e, asked, why.1, why.2)
+  result_of_walk q after e (Write n) code asked why is = write_failed code is why.0 (q, after, e, asked, why.1, why.2)
   result_of_walk q after e NoMemory code asked why (inl five) = rw five (no_memory (cut_by_memory q after e asked why) why.0)
   result_of_walk q after e NoMemory code asked why (inr five) = rw five (no_memory (cut_by_memory q after e asked why) why.0)
   result_of_walk q after e NotASample code asked why (inl one) = rw one (result_of_no_sample q after e asked why.0 (record { kept = why.1; unfailed = why.2 }))

@@ -22,11 +22,11 @@ use Rattle.crdx.specs.Internal.Progress.{AddsBlock, IsPartialBlock, IsSoFar}
 use Rattle.crdx.specs.declared.walk.line.Envelope.{Envelope}
 use Rattle.crdx.specs.declared.walk.fault.WFault.{WFault}
 use Rattle.crdx.specs.declared.walk.fault.WFault.TheVariants.{NotASample, NoMemory, Write}
-use Rattle.crdx.proofs.PageLemmas.{PagesAgree, begins, longer, page_behind, page_counted, page_of_total}
+use Rattle.crdx.proofs.PageLemmas.{PagesAgree, begins, longer, page_after, page_counted, page_of_total}
 use Rattle.crdx.proofs.WrittenLemmas.{lines-append, lines_front, cut_within}
 
 module _ (law : PagesAgree) (q : Question) (after : Option Data) (total : ℕ) (e : Option Envelope) (old mid new : Option (List ℕ)) (unfailed failed : ℕ) where
-  -- a page was written in part behind others: so it stands with the items of any page with all the room
+  -- a page was written in part after others: so it is with the items of any page with all the room
   pub partial_output_of_lines : (front more : List Data) (count n : ℕ) (end : Bool) (fault : WFault) → IfSome after (IsSampleOf q) → n ≡ length front
       → IsPage q after count (front ++ more) end → count ≤ total → Appends old mid (lines e front)
       → ArePartialLines e more n mid new unfailed failed fault → IsPartialOutput q after total e old new unfailed failed fault
@@ -60,7 +60,7 @@ module _ (law : PagesAgree) (q : Question) (after : Option Data) (total : ℕ) (
         subst (λ us. IsCutWithinLine e us m old new) (sym is) (subst (λ i. IsCutWithinLine e (front ++ (more ++ rest.0)) i old new) (sym at) there),
   )
 
--- memory was wanting behind pages with more to come
+-- out of memory after pages with more to come
 pub partial_output_of_pages : (law : PagesAgree) (q : Question) (after : Option Data) (total : ℕ) (e : Option Envelope) (old new : Option (List ℕ)) (items us : List Data) (end : Bool)
     → IsPage q after (length items) items false → length items < total → Appends old new (lines e items) → IsPage q after total us end → IsCutBetweenLines e us (length items) old new
 partial_output_of_pages law q after total e old new items us end p lt out r =
@@ -97,7 +97,7 @@ page_onto q after k items more end p r = elim (last_or_none items) [
   | inr (front, l, is) ↦
       let place = ap (place_after after) is ∙ after_last after front l in
       subst (λ us. IsPage q after (length us + k) (us ++ more) end) (sym is)
-      (page_behind q after (length items) k front l more false end (subst (λ us. IsPage q after (length items) us false) is p) (subst (λ o. IsPage q o k more end) place r))
+      (page_after q after (length items) k front l more false end (subst (λ us. IsPage q after (length items) us false) is p) (subst (λ o. IsPage q o k more end) place r))
 ]
 
 -- where there is a sample past the place, none of them is a page without an end
@@ -122,7 +122,7 @@ nothing_left q after total h = record {
   full = λ f. cc;
 }
 
--- an enumeration that was started stands at the next sample past the place
+-- an enumeration that was started is at the next sample past the place
 started_next : (q : Question) (after : Option Data) (live : Enumeration) → IsStarted q after (Some live) → IsNextSample q after live.at
 started_next q after live s = subst (IsNextSample q after) (sym s.1.1.0) s.1.1.1
 

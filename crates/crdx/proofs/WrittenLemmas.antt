@@ -62,7 +62,7 @@ module _ (e : Option Envelope) where
       ap (λ n. take n (A ++ (B ++ C))) is ∙ (take-append-add A (B ++ C) (t - length A)
       ∙ ap (λ l. A ++ l) (take-append-le (t - length A) B C (omega (arith, low, high))))
 
-  -- what is taken of lines ends within the one behind the whole ones
+  -- what is taken of lines ends within the one after the whole ones
   pub cut_lines : (items : List Data) (ends : List ℕ) (taken n : ℕ) (old new : Option (List ℕ)) → HasEnds e items ends → IsCountOfEnds ends taken n → taken < length (lines e items)
       → Appends old new (take taken (lines e items)) → IsCutWithinLine e items n old new
   cut_lines items ends taken n old new h c lt out =

@@ -42,7 +42,7 @@ impl From<JFault> for InFault {
 
 /// A place that has documents.
 pub trait Inputs {
-    // What stands under the name of a file, or is the standard input where there is no name: a document, or why there is none.
+    // What the file of this name has, or the standard input where there is no name: a document, or why there is none.
     ghost has: { Self → Option (List ℕ) → Result Data JFault → Type 0 };
 
     // How often a document could not be opened or read, up to the greatest count.
@@ -60,19 +60,19 @@ pub trait Inputs {
 
 /// The files and the standard input of a runtime.
 #[derive(Drop)]
-pub struct Outside<'a, R> {
+pub struct HostInputs<'a, R> {
     rt: &'a R,
     failures: u64,
 }
 
-impl<'a, R> Outside<'a, R> {
+impl<'a, R> HostInputs<'a, R> {
     /// The files and the standard input of this runtime.
-    pub fn new(rt: &'a R) -> Outside<'a, R> {
-        Outside { rt, failures: 0 }
+    pub fn new(rt: &'a R) -> HostInputs<'a, R> {
+        HostInputs { rt, failures: 0 }
     }
 }
 
-impl<R: Files + Input + AllocGlobal> Outside<'_, R> {
+impl<R: Files + Input + AllocGlobal> HostInputs<'_, R> {
     fn read(&self, name: Option<&str>) -> Result<Tree, InFault>
         ensures { IfErr result (λ e. e ≢ Document ReadFailed) }
     {
@@ -87,7 +87,7 @@ impl<R: Files + Input + AllocGlobal> Outside<'_, R> {
     }
 }
 
-impl<R: Files + Input + AllocGlobal> Inputs for Outside<'_, R> {
+impl<R: Files + Input + AllocGlobal> Inputs for HostInputs<'_, R> {
     // Nothing is known of files.
     ghost has = { λ _ _ _. Unit {0} };
 
@@ -114,7 +114,7 @@ fn read_document<R: Read + Drop>(alloc: Global, reader: R) -> Result<Tree, InFau
     Ok(Tree::from_reader(alloc, &mut Feed::new(reader))?)
 }
 
-/// Opening a file that runs out of memory is told apart from one that fails.
+/// Running out of memory while a file is opened is another fault than failing to open it.
 fn fault_of(kind: ErrorKind) -> InFault
     ensures memory { kind ≡ ErrorKind.OutOfMemory → result ≡ Document NoMemory }
     ensures other { kind ≢ ErrorKind.OutOfMemory → result ≡ Failed }

@@ -10,6 +10,7 @@ mod causes;
 mod checking;
 mod documents;
 mod explaining;
+mod lines;
 mod objects;
 mod reporting;
 mod sampling;
@@ -22,7 +23,7 @@ use crate::running::causes::Cause;
 use crate::running::checking::check;
 use crate::running::explaining::explain;
 use crate::running::objects::judge_object;
-use crate::running::reporting::{finish, finish_samples, give, report};
+use crate::running::reporting::{finish, finish_samples, report, write_answer};
 use crate::running::sampling::sample;
 use crate::running::suggesting::suggest_pools;
 use crate::sink::{Sink, put_all};
@@ -66,7 +67,7 @@ pub fn run<I: Inputs, W: Sink, E: Sink>(
         Request::Sample(arguments) => {
             finish_samples(alloc, &sample(alloc, &arguments, inputs, out), err)
         }
-        Request::Help(text) => give(alloc, &Answer { status: 0, text }, out, err),
+        Request::Help(text) => write_answer(alloc, &Answer { status: 0, text }, out, err),
         Request::UsageError(text) => {
             let _ = put_all(err, text.as_bytes());
             2

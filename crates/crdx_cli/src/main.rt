@@ -1,7 +1,7 @@
-//! The program `crdx`: hands the arguments, the files and the standard streams to the library.
+//! The program `crdx`: passes the arguments, the files and the standard streams to the library.
 #![tactic(auto)]
 
-use crdx::inputs::Outside;
+use crdx::inputs::HostInputs;
 use crdx::sink::{Plain, put_all};
 use std::process::ExitCode;
 use std::rt::Env;
@@ -17,7 +17,7 @@ fn main(rt: HostRuntime) -> ExitCode {
     let mut err = Plain::new(rt.stderr());
     match words_of(&rt) {
         Ok(arguments) => {
-            let mut inputs = Outside::new(&rt);
+            let mut inputs = HostInputs::new(&rt);
             let status = crdx::run(
                 rt.alloc(),
                 arguments.as_slice(),
@@ -27,12 +27,12 @@ fn main(rt: HostRuntime) -> ExitCode {
             );
             ExitCode::from(status)
         }
-        Err(error) => ExitCode::from(untold_words(error.kind(), &mut err)),
+        Err(error) => ExitCode::from(report_arguments(error.kind(), &mut err)),
     }
 }
 
-/// The status where the arguments cannot be had: 5 where memory is wanted, and 2 where they are no UTF-8.
-fn untold_words<E: crdx::sink::Sink>(kind: io::ErrorKind, err: &mut E) -> u8 {
+/// Says why the arguments could not be read, and answers the status: 5 out of memory, and 2 where they are not UTF-8.
+fn report_arguments<E: crdx::sink::Sink>(kind: io::ErrorKind, err: &mut E) -> u8 {
     let (text, status) = match kind {
         io::ErrorKind::OutOfMemory => ("crdx: out of memory\n", 5),
         _ => ("crdx: the arguments are no UTF-8\n", 2),

@@ -1,1 +1,2 @@
+-- The lemmas of this crate: `FakeLemmas` says why a document is not read, where one of two is at hand under every name.
 pub mod FakeLemmas

@@ -2,7 +2,7 @@
 //!
 //! | File | What is tested |
 //! |---|---|
-//! | `jtree_tests/tree_cases` | trees: read and written, their order, pointers, what stands under a name, the last node |
+//! | `jtree_tests/tree_cases` | trees: read and written, their order, pointers, the value under a name, the last node |
 //! | `jtree_tests/source_cases` | documents in pieces, sources that fail, and readers that are interrupted |
 //! | `schema_tests/reading_cases` | definitions that are read or refused, and the form of each keyword |
 //! | `schema_tests/limit_cases` | schemas at each limit and past it |
@@ -15,7 +15,7 @@
 //! | `explain_tests/field_cases` | the fields of a listing, and the field and the node of a path |
 //! | `plan_tests/pools_cases` | documents of pools |
 //! | `plan_tests/size_set_cases` | sets of sizes |
-//! | `plan_tests/plan_cases` | plans: their nodes, sizes and what is handed out |
+//! | `plan_tests/plan_cases` | plans: their nodes, sizes, candidates and slots |
 //! | `suggest_tests/document_cases` | the pools document that is suggested for a schema |
 //! | `enumerate_tests/lending_cases` | samples lent to a taker, page by page |
 //! | `enumerate_tests/page_cases` | pages, walks and enumerations, with their steps |

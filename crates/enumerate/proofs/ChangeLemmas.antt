@@ -12,7 +12,7 @@ use Rattle.plan.specs.Samples.NoDeadEnd.{items_then}
 use Rattle.plan.specs.Samples.RuleOfParts.{members_in}
 use Rattle.plan.specs.Samples.Sites.{Slot}
 use Rattle.plan.specs.Samples.Sizes.{AreFillings, filled_nodes}
-use Rattle.enumerate.specs.Internal.Changes.{DiffersAt, MovesAt, StepsAt}
+use Rattle.enumerate.specs.Internal.Changes.{DiffersAt, MovesAt, StepsAfter}
 use Rattle.enumerate.specs.Internal.Prefixes.{members_to}
 use Rattle.enumerate.specs.declared.moved.Moved.{Moved}
 use Rattle.enumerate.specs.declared.moved.Moved.TheVariants as moved
@@ -32,9 +32,9 @@ pub moves : (old : Data) (m : Moved) → MovesAt 0 old m
 moves old (moved.To t) = differs old (data_of t)
 moves old (moved.Last n) = tt
 
-pub steps : (old new : Data) (s : Step) → StepsAt 0 old s new
-steps old new step.Moved = differs old new
-steps old new (step.Last n) = tt
+pub steps_after : (room : ℕ) (old new : Data) (s : Step) → StepsAfter room 0 old s new
+steps_after room old new step.Moved = (λ _. differs old new, λ _. refl)
+steps_after room old new (step.Last n) = tt
 
 -- ---- in the last member
 
@@ -123,4 +123,4 @@ no_member (one ∷ ms) none = absurd (cc)
 
 -- the items that are left are all
 pub all_items : (q : Question) (i : ℕ) (old left : Items) → WereLast q i 0 old left → old ≡ left
-all_items q i old left w = w.is ∙ ap (items_then left) (none_there w.behind w.nodes_are) ∙ then_none left
+all_items q i old left w = w.is ∙ ap (items_then left) (none_there w.after w.nodes_are) ∙ then_none left

@@ -20,7 +20,7 @@ use Rattle.plan.specs.Pools.Pools.{Pools}
 use Rattle.plan.specs.Samples.Part.{IsPart}
 use Rattle.plan.specs.Samples.Sites.{Slot, item_site}
 use Rattle.plan.specs.Samples.Candidates.{AreCandidates, HasCount, sort_of}
-use Rattle.plan.specs.Samples.Handed.{IsCandidateAt}
+use Rattle.plan.specs.Samples.ByPlace.{IsCandidateAt}
 use Rattle.std.specs.declared.cmp.Ordering.TheVariants.{Less}
 use Rattle.plan.specs.Samples.NoDeadEnd.{NoDeadEnd, items_then}
 use Rattle.plan.specs.declared.sort.Sort.TheVariants as sort
@@ -39,16 +39,16 @@ use Rattle.enumerate.specs.declared.moved.Step.TheVariants as step
 use Rattle.enumerate.proofs.PartRows.{row_plain}
 use Rattle.enumerate.specs.declared.taken.Taken.{Taken}
 use Rattle.enumerate.specs.Internal.Nodes.{site, IsPartOf}
-use Rattle.enumerate.specs.Internal.Lists.{AreItems, IsFreshItem}
+use Rattle.enumerate.specs.Internal.Lists.{AreItems, IsUnusedItem}
 use Rattle.enumerate.specs.Internal.Rows.{fill_cmp, slots_from, slot_in, ending_at, IsRest, still_used, IsValue, IsRow, IsGrown}
 use Rattle.enumerate.proofs.LeastLemmas.{next_same, tree_order, not_itself}
 use Rattle.enumerate.proofs.LeafLemmas.{NoneBefore, candidates_same, index_of}
 use Rattle.enumerate.proofs.PageLemmas.{goes_past}
 use Rattle.enumerate.proofs.RowMoves.{never_begins}
-use Rattle.enumerate.proofs.ListLemmas.{some_nodes, first_more, some_items, none_behind, then_count, then_nodes, items_pushed}
+use Rattle.enumerate.proofs.ListLemmas.{some_nodes, first_more, some_items, none_follow, then_count, then_nodes, items_pushed}
 use Rattle.enumerate.proofs.ListWalks.{all_left, walk_first, walk_fits, walk_next, list_moved}
 use Rattle.enumerate.proofs.NullMoves.{row_next_part}
-use Rattle.enumerate.proofs.RowLemmas.{keys_behind, can_fill, rest_out, goes_in, next_behind_out, next_behind_in, next_value}
+use Rattle.enumerate.proofs.RowLemmas.{keys_after, can_fill, rest_out, goes_in, next_after_out, next_after_in, next_value}
 use Rattle.enumerate.proofs.RowOrder.{before_in, filled_count_nodes, row_next}
 use Rattle.enumerate.proofs.RowSteps.{nothing_after, least_nothing, no_members_in, not_stuck}
 
@@ -60,48 +60,48 @@ put_at zero w (g ∷ gs) = Some w ∷ gs
 put_at (suc place) w (g ∷ gs) = g ∷ put_at place w gs
 put_at place w [] = []
 
-module _ (P : Pools) (end : Ending) (here : Slot) (behind : List Slot) (rows : List Data) where
-  next_here : (x : Before) (gs : List (Option Data)) (v w : Data) → AreKeySlots P (here ∷ behind) → filled_nodes gs ≡ 0 → filled_nodes (Some v ∷ gs) ≤ most_nodes
-      → IsRest P (here ∷ behind) end x (filled_nodes (Some v ∷ gs)) rows (Some v ∷ gs) → IsNext tree_cmp (IsValue P here behind rows (node_count v)) v (Some w)
-      → IsNext fill_cmp (IsRest P (here ∷ behind) end x (filled_nodes (Some v ∷ gs)) rows) (Some v ∷ gs) (Some (Some w ∷ gs))
+module _ (P : Pools) (end : Ending) (here : Slot) (after : List Slot) (rows : List Data) where
+  next_here : (x : Before) (gs : List (Option Data)) (v w : Data) → AreKeySlots P (here ∷ after) → filled_nodes gs ≡ 0 → filled_nodes (Some v ∷ gs) ≤ most_nodes
+      → IsRest P (here ∷ after) end x (filled_nodes (Some v ∷ gs)) rows (Some v ∷ gs) → IsNext tree_cmp (IsValue P here after rows (node_count v)) v (Some w)
+      → IsNext fill_cmp (IsRest P (here ∷ after) end x (filled_nodes (Some v ∷ gs)) rows) (Some v ∷ gs) (Some (Some w ∷ gs))
   next_here x gs v w keys none small is next =
       let m = filled_nodes (Some v ∷ gs) in
-      let goes = goes_in P end here behind x m rows keys small v gs is in
+      let goes = goes_in P end here after x m rows keys small v gs is in
       let left : m - node_count v ≡ 0 = omega (arith, none) in
-      let after = subst (λ n. IsRest P behind end (filled here.bit x) n (still_used here v rows) gs) left goes.2 in
-      let behind_keys = keys_behind P here behind keys in
-      let first = least_nothing P end behind (filled here.bit x) (still_used here w rows) gs behind_keys after.are none (can_fill P behind end (filled here.bit x) 0 (still_used here v rows) gs after) next.is.0.free in
-      next_value P end here behind x m rows keys small v gs is w gs
-      (nothing_after P end behind (filled here.bit x) (still_used here v rows) gs after.are none) next
-      (subst (λ n. IsLeast fill_cmp (IsRest P behind end (filled here.bit x) n (still_used here w rows)) gs) (sym none) first)
+      let remaining = subst (λ n. IsRest P after end (filled here.bit x) n (still_used here v rows) gs) left goes.2 in
+      let after_keys = keys_after P here after keys in
+      let first = least_nothing P end after (filled here.bit x) (still_used here w rows) gs after_keys remaining.are none (can_fill P after end (filled here.bit x) 0 (still_used here v rows) gs remaining) next.is.0.free in
+      next_value P end here after x m rows keys small v gs is w gs
+      (nothing_after P end after (filled here.bit x) (still_used here v rows) gs remaining.are none) next
+      (subst (λ n. IsLeast fill_cmp (IsRest P after end (filled here.bit x) n (still_used here w rows)) gs) (sym none) first)
 
   -- the next value in the last place makes the next row
-  pub next_at : (ss : List Slot) (x : Before) (used : List Data) (gs : List (Option Data)) (place : ℕ) (v w : Data) → AreKeySlots P ss → EndsAt ss used gs place here behind rows v → filled_nodes gs ≤ most_nodes
-      → IsRest P ss end x (filled_nodes gs) used gs → IsNext tree_cmp (IsValue P here behind rows (node_count v)) v (Some w) → IsNext fill_cmp (IsRest P ss end x (filled_nodes gs) used) gs (Some (put_at place w gs))
+  pub next_at : (ss : List Slot) (x : Before) (used : List Data) (gs : List (Option Data)) (place : ℕ) (v w : Data) → AreKeySlots P ss → EndsAt ss used gs place here after rows v → filled_nodes gs ≤ most_nodes
+      → IsRest P ss end x (filled_nodes gs) used gs → IsNext tree_cmp (IsValue P here after rows (node_count v)) v (Some w) → IsNext fill_cmp (IsRest P ss end x (filled_nodes gs) used) gs (Some (put_at place w gs))
   next_at [] x used gs place v w keys e small is next = absurd e
   next_at (s ∷ ss) x used [] place v w keys e small is next = absurd e
   next_at (s ∷ ss) x used (None ∷ gs) zero v w keys e small is next = absurd e
   next_at (s ∷ ss) x used (Some u ∷ gs) zero v w keys (slot, others, rest, value, none) small is next =
       let Next = λ (t : Slot) (ts : List Slot) (us : List Data) (z : Data). IsNext fill_cmp (IsRest P (t ∷ ts) end x (filled_nodes (Some z ∷ gs)) us) (Some z ∷ gs) (Some (Some w ∷ gs)) in
-      subst (λ t. Next t ss used u) (sym slot) (subst (λ ts. Next here ts used u) (sym others) (subst (λ us. Next here behind us u) (sym rest) (subst (λ z. Next here behind rows z) (sym value)
-      (next_here x gs v w (subst (λ t. AreKeySlots P (t ∷ behind)) slot (subst (λ ts. AreKeySlots P (s ∷ ts)) others keys)) none (subst (λ z. filled_nodes (Some z ∷ gs) ≤ most_nodes) value small)
-      (subst (λ z. IsRest P (here ∷ behind) end x (filled_nodes (Some z ∷ gs)) rows (Some z ∷ gs)) value
-      (subst (λ us. IsRest P (here ∷ behind) end x (filled_nodes (Some u ∷ gs)) us (Some u ∷ gs)) rest
+      subst (λ t. Next t ss used u) (sym slot) (subst (λ ts. Next here ts used u) (sym others) (subst (λ us. Next here after us u) (sym rest) (subst (λ z. Next here after rows z) (sym value)
+      (next_here x gs v w (subst (λ t. AreKeySlots P (t ∷ after)) slot (subst (λ ts. AreKeySlots P (s ∷ ts)) others keys)) none (subst (λ z. filled_nodes (Some z ∷ gs) ≤ most_nodes) value small)
+      (subst (λ z. IsRest P (here ∷ after) end x (filled_nodes (Some z ∷ gs)) rows (Some z ∷ gs)) value
+      (subst (λ us. IsRest P (here ∷ after) end x (filled_nodes (Some u ∷ gs)) us (Some u ∷ gs)) rest
       (subst (λ ts. IsRest P (here ∷ ts) end x (filled_nodes (Some u ∷ gs)) used (Some u ∷ gs)) others
       (subst (λ t. IsRest P (t ∷ ss) end x (filled_nodes (Some u ∷ gs)) used (Some u ∷ gs)) slot is)))) next))))
   next_at (s ∷ ss) x used (None ∷ gs) (suc place) v w keys e small is next =
-      next_behind_out P end s ss x (filled_nodes gs) used keys small gs (put_at place w gs) is.are.0
-      (next_at ss x used gs place v w (keys_behind P s ss keys) e small (rest_out P end s ss x (filled_nodes gs) used keys gs is) next)
+      next_after_out P end s ss x (filled_nodes gs) used keys small gs (put_at place w gs) is.are.0
+      (next_at ss x used gs place v w (keys_after P s ss keys) e small (rest_out P end s ss x (filled_nodes gs) used keys gs is) next)
   next_at (s ∷ ss) x used (Some u ∷ gs) (suc place) v w keys e small is next =
       let m = filled_nodes (Some u ∷ gs) in
       let goes = goes_in P end s ss x m used keys small u gs is in
       let left : m - node_count u ≡ filled_nodes gs = omega arith in
-      let after = subst (λ n. IsRest P ss end (filled s.bit x) n (still_used s u used) gs) left goes.2 in
-      next_behind_in P end s ss x m used keys small u gs is (put_at place w gs)
-      (next_at ss (filled s.bit x) (still_used s u used) gs place v w (keys_behind P s ss keys) e (omega (arith, small)) after next)
+      let remaining = subst (λ n. IsRest P ss end (filled s.bit x) n (still_used s u used) gs) left goes.2 in
+      next_after_in P end s ss x m used keys small u gs is (put_at place w gs)
+      (next_at ss (filled s.bit x) (still_used s u used) gs place v w (keys_after P s ss keys) e (omega (arith, small)) remaining next)
 
   -- with another value in the last place, that is the last one
-  ends_put : (ss : List Slot) (used : List Data) (gs : List (Option Data)) (place : ℕ) (v w : Data) → EndsAt ss used gs place here behind rows v → EndsAt ss used (put_at place w gs) place here behind rows w
+  ends_put : (ss : List Slot) (used : List Data) (gs : List (Option Data)) (place : ℕ) (v w : Data) → EndsAt ss used gs place here after rows v → EndsAt ss used (put_at place w gs) place here after rows w
   ends_put [] used gs place v w e = absurd e
   ends_put (s ∷ ss) used [] place v w e = absurd e
   ends_put (s ∷ ss) used (None ∷ gs) zero v w e = absurd e
@@ -109,7 +109,7 @@ module _ (P : Pools) (end : Ending) (here : Slot) (behind : List Slot) (rows : L
   ends_put (s ∷ ss) used (None ∷ gs) (suc place) v w e = ends_put ss used gs place v w e
   ends_put (s ∷ ss) used (Some u ∷ gs) (suc place) v w e = ends_put ss (still_used s u used) gs place v w e
 
--- ---- what stands at the end of an object
+-- ---- what is at the end of an object
 
 object_last : (ms : Members) (c : Data) → (ms ≡ no_members → ⊥) → with_last (object ms) c ≡ object (members_with_last ms c)
 object_last no_members c some = absurd (some refl)
@@ -119,15 +119,15 @@ rest_last : (k : List ℕ) (d : Data) (ms : Members) (c : Data) → (ms ≡ no_m
 rest_last k d no_members c some = absurd (some refl)
 rest_last k d (member l e ms) c some = refl
 
-module _ (P : Pools) (here : Slot) (behind : List Slot) (rows : List Data) where
-  some_members : (ss : List Slot) (used : List Data) (gs : List (Option Data)) (place : ℕ) (v : Data) → EndsAt ss used gs place here behind rows v → members_in ss gs ≡ no_members → ⊥
+module _ (P : Pools) (here : Slot) (after : List Slot) (rows : List Data) where
+  some_members : (ss : List Slot) (used : List Data) (gs : List (Option Data)) (place : ℕ) (v : Data) → EndsAt ss used gs place here after rows v → members_in ss gs ≡ no_members → ⊥
   some_members [] used gs place v e none = e
   some_members (s ∷ ss) used [] place v e none = e
   some_members (s ∷ ss) used (None ∷ gs) zero v e none = e
   some_members (s ∷ ss) used (Some u ∷ gs) place v e none = cc
   some_members (s ∷ ss) used (None ∷ gs) (suc place) v e none = some_members ss used gs place v e none
 
-  members_last : (ss : List Slot) (used : List Data) (gs : List (Option Data)) (place : ℕ) (v c : Data) → AreFillings P ss gs → EndsAt ss used gs place here behind rows v
+  members_last : (ss : List Slot) (used : List Data) (gs : List (Option Data)) (place : ℕ) (v c : Data) → AreFillings P ss gs → EndsAt ss used gs place here after rows v
       → members_with_last (members_in ss gs) c ≡ members_in ss (put_at place (with_last v c) gs)
   members_last [] used gs place v c are e = absurd e
   members_last (s ∷ ss) used [] place v c are e = absurd e
@@ -141,26 +141,26 @@ module _ (P : Pools) (here : Slot) (behind : List Slot) (rows : List Data) where
 
 -- ---- whole rows
 
-module _ (q : Question) (i place : ℕ) (used : List Data) (here : Slot) (behind : List Slot) (rows : List Data) (order : AreInOrder (slots_from q i 0)) (keys : AreKeySlots q.pools (slots_from q i 0)) where
+module _ (q : Question) (i place : ℕ) (used : List Data) (here : Slot) (after : List Slot) (rows : List Data) (order : AreInOrder (slots_from q i 0)) (keys : AreKeySlots q.pools (slots_from q i 0)) where
   abbrev row : List (Option Data) → Data
   row gs = object (members_in (slots_from q i 0) gs)
 
   -- where values follow in the last place, they do so in the row
-  pub follow_row : (gs : List (Option Data)) (u : Data) (cs : List Data) → EndsAt (slots_from q i 0) used gs place here behind rows u → filled_nodes gs ≤ most_nodes
-      → IsRest q.pools (slots_from q i 0) (ending_at q i) nothing (filled_nodes gs) used gs → Follow (IsValue q.pools here behind rows (node_count u)) u cs → Follow (IsRow q i (filled_nodes gs) used) (row gs) cs
+  pub follow_row : (gs : List (Option Data)) (u : Data) (cs : List Data) → EndsAt (slots_from q i 0) used gs place here after rows u → filled_nodes gs ≤ most_nodes
+      → IsRest q.pools (slots_from q i 0) (ending_at q i) nothing (filled_nodes gs) used gs → Follow (IsValue q.pools here after rows (node_count u)) u cs → Follow (IsRow q i (filled_nodes gs) used) (row gs) cs
   follow_row gs u [] e small is f = tt
   follow_row gs u (c ∷ cs) e small is f =
       let ss = slots_from q i 0 in
       let w = with_last u c in
       let hs = put_at place w gs in
-      let next = next_at q.pools (ending_at q i) here behind rows ss nothing used gs place u w keys e small is f.0 in
+      let next = next_at q.pools (ending_at q i) here after rows ss nothing used gs place u w keys e small is f.0 in
       let count : filled_nodes gs ≡ node_count (row gs) - 1 = omega (arith, filled_count_nodes q.pools ss gs is.are) in
       let whole : IsNext tree_cmp (IsRow q i (filled_nodes gs) used) (row gs) (Some (row hs)) =
       subst (λ m. IsNext tree_cmp (IsRow q i m used) (row gs) (Some (row hs))) (sym count) (row_next q i used (row gs) gs (Some hs) order refl is count next) in
-      let same : row hs ≡ with_last (row gs) c = sym (object_last (members_in ss gs) c (some_members q.pools here behind rows ss used gs place u e) ∙ ap object (members_last q.pools here behind rows ss used gs place u c is.are e)) in
+      let same : row hs ≡ with_last (row gs) c = sym (object_last (members_in ss gs) c (some_members q.pools here after rows ss used gs place u e) ∙ ap object (members_last q.pools here after rows ss used gs place u c is.are e)) in
       let nodes : filled_nodes hs ≡ filled_nodes gs = next.is.0.nodes_are in
       let there = subst (λ m. IsRest q.pools ss (ending_at q i) nothing m used hs) (sym nodes) next.is.0 in
-      let later = follow_row hs w cs (ends_put q.pools (ending_at q i) here behind rows ss used gs place u w e) (omega (arith, small, nodes)) there (subst (λ n. Follow (IsValue q.pools here behind rows n) w cs) (sym f.0.is.0.nodes_are) f.1) in (
+      let later = follow_row hs w cs (ends_put q.pools (ending_at q i) here after rows ss used gs place u w e) (omega (arith, small, nodes)) there (subst (λ n. Follow (IsValue q.pools here after rows n) w cs) (sym f.0.is.0.nodes_are) f.1) in (
         subst (λ v. IsNext tree_cmp (IsRow q i (filled_nodes gs) used) (row gs) (Some v)) same whole,
         subst (λ v. Follow (IsRow q i (filled_nodes gs) used) v cs) same (subst (λ m. Follow (IsRow q i m used) (row hs) cs) nodes later),
       )
@@ -187,33 +187,33 @@ module _ (q : Question) (i c : ℕ) (rule : RuleOfParts q.pools q.limit (site q 
   abbrev whole : Data → Items
   whole u = items_then front (item u no_items)
 
-  -- nothing stands behind another item of as many nodes
-  nothing_behind : (u w : Data) → IsPart q.pools (site q i) (list (whole u)) → 1 + items_count (whole u) ≤ q.limit → IsFreshItem q i c (node_count u) front w → IsLeast items_cmp (AreItems q i 0 (whole w)) no_items
-  nothing_behind u w part within fresh =
+  -- nothing comes after another item of as many nodes
+  nothing_follows : (u w : Data) → IsPart q.pools (site q i) (list (whole u)) → 1 + items_count (whole u) ≤ q.limit → IsUnusedItem q i c (node_count u) front w → IsLeast items_cmp (AreItems q i 0 (whole w)) no_items
+  nothing_follows u w part within unused =
       let old = whole u in
       let before = all_left q i old in
-      let first = first_more q i c (node_count u) front w (walk_first q i c rule ends item_is old part within top 0 front u before) fresh in
+      let first = first_more q i c (node_count u) front w (walk_first q i c rule ends item_is old part within top 0 front u before) unused in
       let fits = walk_fits q i c rule ends item_is old part within top 0 front u before in
       let none : fits.1.0 ≡ 0 = omega (arith, fits.1.1.1) in
       let count : fault.items_count front + 1 ≡ fault.items_count (whole w) = omega (arith, then_count front (item w no_items)) in
       let more = subst (λ k. HasMore q.pools q.limit (site q i) k 0) count (subst (HasMore q.pools q.limit (site q i) (fault.items_count front + 1)) none fits.1.1.0) in
-      let few : 1 + items_count (whole w) + 0 ≤ q.limit = omega (arith, within, then_nodes front (item u no_items), then_nodes front (item w no_items), fresh.part.nodes_are) in
+      let few : 1 + items_count (whole w) + 0 ≤ q.limit = omega (arith, within, then_nodes front (item u no_items), then_nodes front (item w no_items), unused.part.nodes_are) in
       let ds = some_items q i c rule ends item_is (whole w) 0 few first more in
-      none_behind q i (whole w) ds.0 ds.1
+      none_follow q i (whole w) ds.0 ds.1
 
   -- where values follow in the place of the last item, they do so in the list
-  pub follow_list : (u : Data) (cs : List Data) → IsPart q.pools (site q i) (list (whole u)) → 1 + items_count (whole u) ≤ q.limit → Follow (IsFreshItem q i c (node_count u) front) u cs
+  pub follow_list : (u : Data) (cs : List Data) → IsPart q.pools (site q i) (list (whole u)) → 1 + items_count (whole u) ≤ q.limit → Follow (IsUnusedItem q i c (node_count u) front) u cs
       → Follow (IsPartOf q i (1 + items_count (whole u))) (list (whole u)) cs
   follow_list u [] part within f = tt
   follow_list u (x ∷ cs) part within f =
       let old = whole u in
       let w = with_last u x in
       let n = 1 + items_count old in
-      let moved = walk_next q i c rule ends item_is old part within top 0 front u (all_left q i old) w no_items f.0 (nothing_behind u w part within f.0.is.0) in
+      let moved = walk_next q i c rule ends item_is old part within top 0 front u (all_left q i old) w no_items f.0 (nothing_follows u w part within f.0.is.0) in
       let next = list_moved q i rule is_list old within (whole w) moved in
       let same : list (whole w) ≡ with_last (list old) x = sym (list_last old x (some_items_then front u) ∙ ap list (items_last front u x)) in
       let nodes : items_count (whole w) ≡ items_count old = moved.is.0.nodes_are in
-      let later = follow_list w cs moved.is.0.part (omega (arith, nodes, within)) (subst (λ k. Follow (IsFreshItem q i c k front) w cs) (sym f.0.is.0.part.nodes_are) f.1) in (
+      let later = follow_list w cs moved.is.0.part (omega (arith, nodes, within)) (subst (λ k. Follow (IsUnusedItem q i c k front) w cs) (sym f.0.is.0.part.nodes_are) f.1) in (
         subst (λ v. IsNext tree_cmp (IsPartOf q i n) (list old) (Some v)) same next,
         subst (λ v. Follow (IsPartOf q i n) v cs) same (subst (λ k. Follow (IsPartOf q i (1 + k)) (list (whole w)) cs) nodes later),
       )
@@ -261,7 +261,7 @@ module _ (q : Question) (i : ℕ) (C : Data → Type 0) (part : (u : Data) → C
 
   -- the candidate at a place
   at_place : (place : ℕ) (x : Data) → IsCandidateAt q.pools (site q i) place (Some x) → (vs : List Data) → AreCandidates q.pools (site q i) vs → slice_get vs place ≡ Some x
-  at_place place x handed vs are = ap (λ xs. slice_get xs place) (candidates_same q i vs handed.candidates are handed.are) ∙ sym handed.is
+  at_place place x candidate vs are = ap (λ xs. slice_get xs place) (candidates_same q i vs candidate.candidates are candidate.are) ∙ sym candidate.is
 
   -- candidates ascend
   ascends : (vs : List Data) → AreCandidates q.pools (site q i) vs → (j k : ℕ) (u v : Data) → j < k → slice_get vs j ≡ Some u → slice_get vs k ≡ Some v → tree_cmp u v ≡ Less
@@ -279,11 +279,11 @@ module _ (q : Question) (i : ℕ) (C : Data → Type 0) (part : (u : Data) → C
 
   -- C holds for the candidate before the place
   pub chosen_more : (vs : List Data) (x : Data) (place : ℕ) → C x → IsCandidateAt q.pools (site q i) place (Some x) → Chosen vs (place + 1) → Chosen (x ∷ vs) place
-  chosen_more [] x place c handed none = (
+  chosen_more [] x place c candidate none = (
     c,
     tt,
     λ vs are.
-        let here = at_place place x handed vs are in (
+        let here = at_place place x candidate vs are in (
           (place, omega arith, here),
           (λ j u from at d less. elim (cases_lt place j) [
             | inl lt ↦ none vs are j u (omega (arith, lt)) at d
@@ -291,27 +291,27 @@ module _ (q : Question) (i : ℕ) (C : Data → Type 0) (part : (u : Data) → C
           ]),
         ),
   )
-  chosen_more (v ∷ cs) x place c handed (holds, turn, first) = (
+  chosen_more (v ∷ cs) x place c candidate (holds, turn, first) = (
     c,
     (
       record {
-        is = let f = first handed.candidates handed.are in (holds, ascends handed.candidates handed.are place f.0.0 x v (omega (arith, f.0.1)) (sym handed.is) f.0.2);
+        is = let f = first candidate.candidates candidate.are in (holds, ascends candidate.candidates candidate.are place f.0.0 x v (omega (arith, f.0.1)) (sym candidate.is) f.0.2);
         least = λ u d less.
-            let vs = handed.candidates in
-            let here = sym handed.is in
-            let k = index_here vs handed.are u d.0 in
+            let vs = candidate.candidates in
+            let here = sym candidate.is in
+            let k = index_here vs candidate.are u d.0 in
             elim (cases_lt place k.0) [
-              | inl lt ↦ (first vs handed.are).1 k.0 u (omega (arith, lt)) k.1 d.0 less
+              | inl lt ↦ (first vs candidate.are).1 k.0 u (omega (arith, lt)) k.1 d.0 less
               | inr ge ↦ elim (eq-or-lt_of_le ge) [
                 | inl same ↦ not_itself tree_cmp tree_order x u (same_at vs place k.0 x u (sym same) here k.1) d.1
-                | inr lt ↦ tree_order.turned u x (ascends vs handed.are k.0 place u x lt k.1 here) d.1
+                | inr lt ↦ tree_order.turned u x (ascends vs candidate.are k.0 place u x lt k.1 here) d.1
               ]
             ];
       },
       turn,
     ),
     λ vs are.
-        let here = at_place place x handed vs are in (
+        let here = at_place place x candidate vs are in (
           (place, omega arith, here),
           (λ j u from at d less. elim (cases_lt place j) [
             | inl lt ↦ tree_order.turned u x less (ascends vs are place j x u lt here at)
@@ -322,11 +322,11 @@ module _ (q : Question) (i : ℕ) (C : Data → Type 0) (part : (u : Data) → C
 
   -- it does not
   pub chosen_same : (vs : List Data) (x : Data) (place : ℕ) → IsCandidateAt q.pools (site q i) place (Some x) → (C x → ⊥) → Chosen vs (place + 1) → Chosen vs place
-  chosen_same [] x place handed other none = λ vs are j u from at d. elim (cases_lt place j) [
+  chosen_same [] x place candidate other none = λ vs are j u from at d. elim (cases_lt place j) [
     | inl lt ↦ none vs are j u (omega (arith, lt)) at d
-    | inr ge ↦ other (subst C (same_at vs j place u x (omega (arith, ge, from)) at (at_place place x handed vs are)) d)
+    | inr ge ↦ other (subst C (same_at vs j place u x (omega (arith, ge, from)) at (at_place place x candidate vs are)) d)
   ]
-  chosen_same (v ∷ cs) x place handed other (holds, turn, first) = (
+  chosen_same (v ∷ cs) x place candidate other (holds, turn, first) = (
     holds,
     turn,
     λ vs are.
@@ -334,7 +334,7 @@ module _ (q : Question) (i : ℕ) (C : Data → Type 0) (part : (u : Data) → C
           (f.0.0, omega (arith, f.0.1), f.0.2),
           (λ j u from at d less. elim (cases_lt place j) [
             | inl lt ↦ f.1 j u (omega (arith, lt)) at d less
-            | inr ge ↦ other (subst C (same_at vs j place u x (omega (arith, ge, from)) at (at_place place x handed vs are)) d)
+            | inr ge ↦ other (subst C (same_at vs j place u x (omega (arith, ge, from)) at (at_place place x candidate vs are)) d)
           ]),
         ),
   )
@@ -361,8 +361,8 @@ module _ (q : Question) (i : ℕ) (C : Data → Type 0) (part : (u : Data) → C
 
   -- nor for the candidate at a place and those before it, where it is not past, and the others are
   pub none_to : (after : Option Data) (x : Data) (place : ℕ) → ((u : Data) → C u → IsPast after u) → (IsPast after x → ⊥) → IsCandidateAt q.pools (site q i) place (Some x) → NoneBefore q i C part (place + 1)
-  none_to after x place past other handed = λ vs are j u before at c.
-      let here = at_place place x handed vs are in
+  none_to after x place past other candidate = λ vs are j u before at c.
+      let here = at_place place x candidate vs are in
       elim (cases_lt j place) [
         | inl lt ↦ other (goes_past after u x (past u c) (ascends vs are j place u x lt at here))
         | inr ge ↦ other (subst (IsPast after) (same_at vs j place u x (omega (arith, ge, before)) at here) (past u c))
@@ -396,7 +396,7 @@ continue_same C D v (u ∷ cs) there back f = (f.0, follow_same C D v cs there b
 
 -- where values go on in the place of the last item, they do so in the list
 pub continue_list : (q : Question) (i c : ℕ) (rule : RuleOfParts q.pools q.limit (site q i)) (ends : NoDeadEnd q.pools q.limit (site q i)) (item_is : item_site (site q i) ≡ Some (site q c)) (is_list : sort_of (site q i) ≡ sort.List) (top : q.limit ≤ most_nodes)
-    (front : Items) (u v : Data) (cs : List Data) → v ≡ list (items_then front (item u no_items)) → IsPart q.pools (site q i) v → node_count v ≤ q.limit → Continue (IsFreshItem q i c (node_count u) front) u cs → Continue (IsPartOf q i (node_count v)) v cs
+    (front : Items) (u v : Data) (cs : List Data) → v ≡ list (items_then front (item u no_items)) → IsPart q.pools (site q i) v → node_count v ≤ q.limit → Continue (IsUnusedItem q i c (node_count u) front) u cs → Continue (IsPartOf q i (node_count v)) v cs
 continue_list q i c rule ends item_is is_list top front u v [] is part within f = tt
 continue_list q i c rule ends item_is is_list top front u v (x ∷ cs) is part within f =
     let old = items_then front (item u no_items) in
@@ -414,18 +414,18 @@ continue_row q i used order keys gs v (x ∷ cs) is count small rest (inr r) =
     let ss = slots_from q i 0 in
     let f = r.continue in
     let same : with_last (object (members_in ss gs)) x ≡ object (members_in ss gs) =
-    object_last (members_in ss gs) x (some_members q.pools r.here r.behind r.rows ss used gs r.place r.value r.ends)
-    ∙ ap object (members_last q.pools r.here r.behind r.rows ss used gs r.place r.value x rest.are r.ends ∙ (ap (λ t. members_in ss (put_at r.place t gs)) f.0 ∙ ap (members_in ss) (put_same ss used gs r.place r.here r.behind r.rows r.value r.ends))) in
-    let later = follow_row q i r.place used r.here r.behind r.rows order keys gs r.value cs r.ends small rest f.1 in
+    object_last (members_in ss gs) x (some_members q.pools r.here r.after r.rows ss used gs r.place r.value r.ends)
+    ∙ ap object (members_last q.pools r.here r.after r.rows ss used gs r.place r.value x rest.are r.ends ∙ (ap (λ t. members_in ss (put_at r.place t gs)) f.0 ∙ ap (members_in ss) (put_same ss used gs r.place r.here r.after r.rows r.value r.ends))) in
+    let later = follow_row q i r.place used r.here r.after r.rows order keys gs r.value cs r.ends small rest f.1 in
     (subst (λ t. with_last t x ≡ t) (sym is) same, subst (λ n. Follow (IsRow q i n used) v cs) (sym count) (subst (λ t. Follow (IsRow q i (filled_nodes gs) used) t cs) (sym is) later))
   where
-    put_same : (ss : List Slot) (used : List Data) (gs : List (Option Data)) (place : ℕ) (here : Slot) (behind : List Slot) (rows : List Data) (w : Data) → EndsAt ss used gs place here behind rows w → put_at place w gs ≡ gs
-    put_same [] used gs place here behind rows w e = absurd e
-    put_same (s ∷ ss) used [] place here behind rows w e = absurd e
-    put_same (s ∷ ss) used (None ∷ gs) zero here behind rows w e = absurd e
-    put_same (s ∷ ss) used (Some u ∷ gs) zero here behind rows w (slot, others, rest, value, none) = ap (λ t. Some t ∷ gs) (sym value)
-    put_same (s ∷ ss) used (None ∷ gs) (suc place) here behind rows w e = ap (λ us. None ∷ us) (put_same ss used gs place here behind rows w e)
-    put_same (s ∷ ss) used (Some u ∷ gs) (suc place) here behind rows w e = ap (λ us. Some u ∷ us) (put_same ss (still_used s u used) gs place here behind rows w e)
+    put_same : (ss : List Slot) (used : List Data) (gs : List (Option Data)) (place : ℕ) (here : Slot) (after : List Slot) (rows : List Data) (w : Data) → EndsAt ss used gs place here after rows w → put_at place w gs ≡ gs
+    put_same [] used gs place here after rows w e = absurd e
+    put_same (s ∷ ss) used [] place here after rows w e = absurd e
+    put_same (s ∷ ss) used (None ∷ gs) zero here after rows w e = absurd e
+    put_same (s ∷ ss) used (Some u ∷ gs) zero here after rows w (slot, others, rest, value, none) = ap (λ t. Some t ∷ gs) (sym value)
+    put_same (s ∷ ss) used (None ∷ gs) (suc place) here after rows w e = ap (λ us. None ∷ us) (put_same ss used gs place here after rows w e)
+    put_same (s ∷ ss) used (Some u ∷ gs) (suc place) here after rows w e = ap (λ us. Some u ∷ us) (put_same ss (still_used s u used) gs place here after rows w e)
 
 -- of a row that is not null: where rows go on, parts do
 pub continue_part : (q : Question) (i : ℕ) (rule : RuleOfParts q.pools q.limit (site q i)) (is_row : sort_of (site q i) ≡ sort.Row) (v : Data) (cs : List Data) → Continue (IsRow q i (node_count v - 1) []) v cs → Continue (IsPartOf q i (node_count v)) v cs
@@ -468,18 +468,18 @@ pub on_both : {T E : Type 0} (r : Result T E) {P Q R : Type 0} → (P → Q → 
 on_both (Ok v) then p q = then p q
 on_both (Err e) then p q = tt
 
--- ---- a slot, and those behind it
+-- ---- a slot, and those after it
 
 pub may_here : (P : Pools) (s : Slot) (ss : List Slot) (used : List Data) (u : Data) (gs : List (Option Data)) (cs : List Data) → filled_nodes gs ≡ 0 → Continue (IsValue P s ss used (node_count u)) u cs → MayContinue P (s ∷ ss) used (Some u ∷ gs) cs
-may_here P s ss used u gs cs none f = inr record { place = zero; here = s; behind = ss; rows = used; value = u; ends = (refl, refl, refl, refl, none); continue = f }
+may_here P s ss used u gs cs none f = inr record { place = zero; here = s; after = ss; rows = used; value = u; ends = (refl, refl, refl, refl, none); continue = f }
 
 pub may_out : (P : Pools) (s : Slot) (ss : List Slot) (used : List Data) (gs : List (Option Data)) (cs : List Data) → MayContinue P ss used gs cs → MayContinue P (s ∷ ss) used (None ∷ gs) cs
 may_out P s ss used gs cs (inl none) = inl none
-may_out P s ss used gs cs (inr r) = inr record { place = suc r.place; here = r.here; behind = r.behind; rows = r.rows; value = r.value; ends = r.ends; continue = r.continue }
+may_out P s ss used gs cs (inr r) = inr record { place = suc r.place; here = r.here; after = r.after; rows = r.rows; value = r.value; ends = r.ends; continue = r.continue }
 
 pub may_in : (P : Pools) (s : Slot) (ss : List Slot) (used : List Data) (u : Data) (gs : List (Option Data)) (cs : List Data) → MayContinue P ss (still_used s u used) gs cs → MayContinue P (s ∷ ss) used (Some u ∷ gs) cs
 may_in P s ss used u gs cs (inl none) = inl none
-may_in P s ss used u gs cs (inr r) = inr record { place = suc r.place; here = r.here; behind = r.behind; rows = r.rows; value = r.value; ends = r.ends; continue = r.continue }
+may_in P s ss used u gs cs (inr r) = inr record { place = suc r.place; here = r.here; after = r.after; rows = r.rows; value = r.value; ends = r.ends; continue = r.continue }
 
 -- what is on top of a stack, and below it
 top_at : (xs : List (Bor Tree)) (n : ℕ) (x : Bor Tree) → n + 1 ≡ length xs → Some x ≡ slice_get xs n → (below : List (Bor Tree)) × (xs ≡ below ++ x ∷ [])
@@ -495,7 +495,7 @@ on_top (y ∷ xs) x is = let t = top_at (y ∷ xs) (length (y ∷ xs) - 1) x (om
 
 -- ---- the members that were put there
 
--- members stand in slots in one way
+-- members are in slots in one way
 same_fillings : (P : Pools) (ss : List Slot) (gs hs : List (Option Data)) → AreInOrder ss → AreFillings P ss gs → AreFillings P ss hs → members_in ss gs ≡ members_in ss hs → gs ≡ hs
 same_fillings P [] [] [] order a b same = refl
 same_fillings P [] [] (h ∷ hs) order a b same = absurd b
@@ -525,44 +525,44 @@ row_continues q i n used order keys members gs cs are small rest h =
 
 -- at a place of a row
 module _ (q : Question) (i place : ℕ) (first : slots_from q i place ≡ slot_in q i place ∷ slots_from q i (place + 1)) where
-  abbrev behind_it : List Slot
-  behind_it = slots_from q i (place + 1)
+  abbrev after_it : List Slot
+  after_it = slots_from q i (place + 1)
 
   abbrev here_it : Slot
   here_it = slot_in q i place
 
   -- the slot is left out
-  pub continue_out : (used : List Data) (members : List Member) (cs : List Data) → here_it.must ≡ false → MembersContinue q.pools behind_it used members cs → MembersContinue q.pools (slots_from q i place) used members cs
+  pub continue_out : (used : List Data) (members : List Member) (cs : List Data) → here_it.must ≡ false → MembersContinue q.pools after_it used members cs → MembersContinue q.pools (slots_from q i place) used members cs
   continue_out used members cs free h = subst (λ ss. MembersContinue q.pools ss used members cs) (sym first)
-      (record { fillings = None ∷ h.fillings; are = h.are; fit = (free, h.fit); continue = may_out q.pools here_it behind_it used h.fillings cs h.continue })
+      (record { fillings = None ∷ h.fillings; are = h.are; fit = (free, h.fit); continue = may_out q.pools here_it after_it used h.fillings cs h.continue })
 
-  -- a member stands in it, and others behind it
-  pub continue_in : (used : List Data) (one : Member) (members : List Member) (cs : List Data) → one.name ≡ here_it.name → IsPart q.pools here_it.site (data_of one.tree) → MembersContinue q.pools behind_it (still_used here_it (data_of one.tree) used) members cs
+  -- a member is in it, and others after it
+  pub continue_in : (used : List Data) (one : Member) (members : List Member) (cs : List Data) → one.name ≡ here_it.name → IsPart q.pools here_it.site (data_of one.tree) → MembersContinue q.pools after_it (still_used here_it (data_of one.tree) used) members cs
       → MembersContinue q.pools (slots_from q i place) used (one ∷ members) cs
   continue_in used one members cs name part h = subst (λ ss. MembersContinue q.pools ss used (one ∷ members) cs) (sym first)
       (record {
         fillings = Some (data_of one.tree) ∷ h.fillings;
         are = λ k. member (name k) (data_of one.tree) (h.are k);
         fit = (part, h.fit);
-        continue = may_in q.pools here_it behind_it used (data_of one.tree) h.fillings cs h.continue;
+        continue = may_in q.pools here_it after_it used (data_of one.tree) h.fillings cs h.continue;
       })
 
-  -- a member stands in it, and nothing behind it
-  pub continue_here : (x : Before) (used : List Data) (one : Member) (cs : List Data) → one.name ≡ here_it.name → IsPart q.pools here_it.site (data_of one.tree) → CanFill q.pools behind_it (ending_at q i) x 0
-      → Continue (IsValue q.pools here_it behind_it used (node_count (data_of one.tree))) (data_of one.tree) cs → MembersContinue q.pools (slots_from q i place) used (one ∷ []) cs
+  -- a member is in it, and nothing after it
+  pub continue_here : (x : Before) (used : List Data) (one : Member) (cs : List Data) → one.name ≡ here_it.name → IsPart q.pools here_it.site (data_of one.tree) → CanFill q.pools after_it (ending_at q i) x 0
+      → Continue (IsValue q.pools here_it after_it used (node_count (data_of one.tree))) (data_of one.tree) cs → MembersContinue q.pools (slots_from q i place) used (one ∷ []) cs
   continue_here x used one cs name part can h = subst (λ ss. MembersContinue q.pools ss used (one ∷ []) cs) (sym first)
       (record {
         fillings = Some (data_of one.tree) ∷ can.fillings;
-        are = λ k. member (name k) (data_of one.tree) (sym (no_members_in q.pools behind_it can.fillings can.are can.nodes_are) k);
+        are = λ k. member (name k) (data_of one.tree) (sym (no_members_in q.pools after_it can.fillings can.are can.nodes_are) k);
         fit = (part, can.are);
-        continue = may_here q.pools here_it behind_it used (data_of one.tree) can.fillings cs can.nodes_are h;
+        continue = may_here q.pools here_it after_it used (data_of one.tree) can.fillings cs can.nodes_are h;
       })
 
   -- some size fits, so that members were put there
-  pub grown_continues : (step : Step) (x : Before) (m : ℕ) (used : List Data) (old new members : List Member) (cs : List Data) → (here_it.must ≡ false → CanFill q.pools behind_it (ending_at q i) x m → ⊥) → CanFill q.pools (slots_from q i place) (ending_at q i) x m
-      → IsGrown step q.pools here_it behind_it (ending_at q i) x m 0 used old new → GrownContinue step q.pools (slots_from q i place) used members cs → MembersContinue q.pools (slots_from q i place) used members cs
+  pub grown_continues : (step : Step) (x : Before) (m : ℕ) (used : List Data) (old new members : List Member) (cs : List Data) → (here_it.must ≡ false → CanFill q.pools after_it (ending_at q i) x m → ⊥) → CanFill q.pools (slots_from q i place) (ending_at q i) x m
+      → IsGrown step q.pools here_it after_it (ending_at q i) x m 0 used old new → GrownContinue step q.pools (slots_from q i place) used members cs → MembersContinue q.pools (slots_from q i place) used members cs
   grown_continues step.Moved x m used old new members cs stays can g h = h
-  grown_continues (step.Last n) x m used old new members cs stays can g h = absurd (not_stuck q.pools (ending_at q i) here_it behind_it x m (subst (λ ss. CanFill q.pools ss (ending_at q i) x m) first can) stays g.1)
+  grown_continues (step.Last n) x m used old new members cs stays can g h = absurd (not_stuck q.pools (ending_at q i) here_it after_it x m (subst (λ ss. CanFill q.pools ss (ending_at q i) x m) first can) stays g.1)
 
 -- no nodes are left where no slot is
 pub no_room : (P : Pools) (end : Ending) (x : Before) (m : ℕ) → CanFill P [] end x m → m ≡ 0
@@ -572,21 +572,21 @@ no_room P end x m can = nothing_in can.fillings can.are can.nodes_are
     nothing_in [] are nodes = sym nodes
     nothing_in (g ∷ gs) are nodes = absurd are
 
--- a member was put behind others, and more behind it
-pub put_behind : {X : Type 0} (old pushed new added : List X) (one : X) → pushed ≡ old ++ one ∷ [] → new ≡ pushed ++ added → drop (length old) new ≡ one ∷ drop (length pushed) new
-put_behind old pushed new added one is all =
+-- a member was put after others, and more after it
+pub put_after : {X : Type 0} (old pushed new added : List X) (one : X) → pushed ≡ old ++ one ∷ [] → new ≡ pushed ++ added → drop (length old) new ≡ one ∷ drop (length pushed) new
+put_after old pushed new added one is all =
     let whole : new ≡ old ++ (one ∷ added) = all ∙ (ap (λ l. l ++ added) is ∙ append_assoc old (one ∷ []) added) in
     ap (drop (length old)) whole ∙ (drop_at old (one ∷ added) (length old) refl ∙ ap (λ l. one ∷ l) (sym (ap (drop (length pushed)) all ∙ drop_at pushed added (length pushed) refl)))
 
 -- ---- the items that were put there
 
--- an item behind others
-pub item_continues : (q : Question) (i c n : ℕ) (old new : List Tree) (one : Tree) (cs : List Data) → new ≡ old ++ one ∷ [] → node_count (data_of one) ≡ n → Continue (IsFreshItem q i c n (items_of old)) (data_of one) cs → ItemsContinue q i c (items_of new) cs
+-- an item after others
+pub item_continues : (q : Question) (i c n : ℕ) (old new : List Tree) (one : Tree) (cs : List Data) → new ≡ old ++ one ∷ [] → node_count (data_of one) ≡ n → Continue (IsUnusedItem q i c n (items_of old)) (data_of one) cs → ItemsContinue q i c (items_of new) cs
 item_continues q i c n old new one cs is nodes h = inr (record {
   front = items_of old;
   one = data_of one;
   is = items_pushed old new one is;
-  continue = subst (λ m. Continue (IsFreshItem q i c m (items_of old)) (data_of one) cs) (sym nodes) h;
+  continue = subst (λ m. Continue (IsUnusedItem q i c m (items_of old)) (data_of one) cs) (sym nodes) h;
 })
 
 -- where the items of a list continue, the list does

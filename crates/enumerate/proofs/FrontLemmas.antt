@@ -37,18 +37,18 @@ before_to k (suc n) (s ∷ ss) [] o = tt
 before_to k (suc n) (s ∷ ss) (None ∷ gs) o = before_to k n ss gs (λ t c. o t (later s ss t c))
 before_to k (suc n) (s ∷ ss) (Some v ∷ gs) o = o s (contains (s ∷ ss) s (inl refl))
 
-module _ (P : Pools) (n : ℕ) (here : Slot) (behind : List Slot) (x before : Before) (rows used : List Data) where
+module _ (P : Pools) (n : ℕ) (here : Slot) (after : List Slot) (x before : Before) (rows used : List Data) where
   -- the slot is left out, where the members do not begin with its name
-  pub left_out : (gs : List (Option Data)) (members : Members) → IsLeft P (suc n) (here ∷ behind) gs members x before rows used → (Begins here.name members → ⊥) → IsLeft P n behind (drop 1 gs) members x before rows used
+  pub left_out : (gs : List (Option Data)) (members : Members) → IsLeft P (suc n) (here ∷ after) gs members x before rows used → (Begins here.name members → ⊥) → IsLeft P n after (drop 1 gs) members x before rows used
   left_out [] _ l other = absurd l.fit
   left_out (None ∷ gs) _ l other = record { order = l.order.1; fit = l.fit.1; members_are = l.members_are; before_is = l.before_is; used_are = l.used_are }
   left_out (Some v ∷ gs) _ l other = absurd (other (subst (Begins here.name) (sym l.members_are) refl))
 
   -- the first of the members is in it
-  pub left_in : (gs : List (Option Data)) (one : Member) (members : List Member) → IsLeft P (suc n) (here ∷ behind) gs (members_of (one ∷ members)) x before rows used → one.name ≡ here.name
-      → IsLeft P n behind (drop 1 gs) (members_of members) (filled here.bit x) before (still_used here (data_of one.tree) rows) used
+  pub left_in : (gs : List (Option Data)) (one : Member) (members : List Member) → IsLeft P (suc n) (here ∷ after) gs (members_of (one ∷ members)) x before rows used → one.name ≡ here.name
+      → IsLeft P n after (drop 1 gs) (members_of members) (filled here.bit x) before (still_used here (data_of one.tree) rows) used
   left_in [] one members l name = absurd l.fit
-  left_in (None ∷ gs) one members l name = absurd (never_begins here.name (members_to n behind gs) (before_to here.name n behind gs l.order.0) (subst (Begins here.name) l.members_are name))
+  left_in (None ∷ gs) one members l name = absurd (never_begins here.name (members_to n after gs) (before_to here.name n after gs l.order.0) (subst (Begins here.name) l.members_are name))
   left_in (Some v ∷ gs) one members l name =
       let are = l.members_are in
       let value : data_of one.tree ≡ v = cc in
@@ -57,7 +57,7 @@ module _ (P : Pools) (n : ℕ) (here : Slot) (behind : List Slot) (x before : Be
         fit = l.fit.1;
         members_are = cc;
         before_is = l.before_is;
-        used_are = l.used_are ∙ ap (λ u. used_at n behind gs (still_used here u rows)) (sym value);
+        used_are = l.used_are ∙ ap (λ u. used_at n after gs (still_used here u rows)) (sym value);
       }
 
 -- one slot further
@@ -65,27 +65,27 @@ module _ (q : Question) (i earlier place : ℕ) (first : slots_from q i earlier 
   abbrev here : Slot
   here = slot_in q i earlier
 
-  abbrev behind : List Slot
-  behind = slots_from q i (earlier + 1)
+  abbrev after : List Slot
+  after = slots_from q i (earlier + 1)
 
-  so_left : (members : Members) → IsLeft q.pools (place - earlier) (slots_from q i earlier) (drop earlier gs) members x before rows used → IsLeft q.pools (suc (place - (earlier + 1))) (here ∷ behind) (drop earlier gs) members x before rows used
+  so_left : (members : Members) → IsLeft q.pools (place - earlier) (slots_from q i earlier) (drop earlier gs) members x before rows used → IsLeft q.pools (suc (place - (earlier + 1))) (here ∷ after) (drop earlier gs) members x before rows used
   so_left members l =
       let fewer : place - earlier ≡ suc (place - (earlier + 1)) = omega (arith, below) in
-      subst (λ n. IsLeft q.pools n (here ∷ behind) (drop earlier gs) members x before rows used) fewer (subst (λ ss. IsLeft q.pools (place - earlier) ss (drop earlier gs) members x before rows used) first l)
+      subst (λ n. IsLeft q.pools n (here ∷ after) (drop earlier gs) members x before rows used) fewer (subst (λ ss. IsLeft q.pools (place - earlier) ss (drop earlier gs) members x before rows used) first l)
 
   pub passed_out : (members : Members) → IsLeft q.pools (place - earlier) (slots_from q i earlier) (drop earlier gs) members x before rows used → (Begins here.name members → ⊥)
-      → IsLeft q.pools (place - (earlier + 1)) behind (drop (earlier + 1) gs) members x before rows used
+      → IsLeft q.pools (place - (earlier + 1)) after (drop (earlier + 1) gs) members x before rows used
   passed_out members l other =
-      subst (λ hs. IsLeft q.pools (place - (earlier + 1)) behind hs members x before rows used) (drop-drop 1 earlier gs)
-      (left_out q.pools (place - (earlier + 1)) here behind x before rows used (drop earlier gs) members (so_left members l) other)
+      subst (λ hs. IsLeft q.pools (place - (earlier + 1)) after hs members x before rows used) (drop-drop 1 earlier gs)
+      (left_out q.pools (place - (earlier + 1)) here after x before rows used (drop earlier gs) members (so_left members l) other)
 
   pub passed_in : (one : Member) (members : List Member) → IsLeft q.pools (place - earlier) (slots_from q i earlier) (drop earlier gs) (members_of (one ∷ members)) x before rows used → one.name ≡ here.name
-      → IsLeft q.pools (place - (earlier + 1)) behind (drop (earlier + 1) gs) (members_of members) (filled here.bit x) before (still_used here (data_of one.tree) rows) used
+      → IsLeft q.pools (place - (earlier + 1)) after (drop (earlier + 1) gs) (members_of members) (filled here.bit x) before (still_used here (data_of one.tree) rows) used
   passed_in one members l name =
-      subst (λ hs. IsLeft q.pools (place - (earlier + 1)) behind hs (members_of members) (filled here.bit x) before (still_used here (data_of one.tree) rows) used) (drop-drop 1 earlier gs)
-      (left_in q.pools (place - (earlier + 1)) here behind x before rows used (drop earlier gs) one members (so_left (members_of (one ∷ members)) l) name)
+      subst (λ hs. IsLeft q.pools (place - (earlier + 1)) after hs (members_of members) (filled here.bit x) before (still_used here (data_of one.tree) rows) used) (drop-drop 1 earlier gs)
+      (left_in q.pools (place - (earlier + 1)) here after x before rows used (drop earlier gs) one members (so_left (members_of (one ∷ members)) l) name)
 
--- ---- where no used row and no named field is to be kept in mind
+-- ---- where neither used rows nor named fields matter
 
 still_none : (s : Slot) (v : Data) → still_used s v [] ≡ []
 still_none s v = none s.key s.name

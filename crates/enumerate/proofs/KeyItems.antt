@@ -1,4 +1,4 @@
--- The items of a map list: rows of which no two have the same under all keys.
+-- The items of a map list: rows of which no two have the same values under all keys.
 use Rattle.std.specs.Prelude.{◌≡◌, ◌≢◌, ℕ, ◌+◌, ◌-◌, ◌≤◌, ◌<◌, List, true, not, filter, All}
 use Rattle.std.proofs.Common.{refl, ap, sym, ◌∙◌, subst, inl, inr, arith, [], ◌∷◌, length}
 use Rattle.std.proofs.lemmas.Bool.{and_parts, false_from_ne_true, not-true}
@@ -26,8 +26,8 @@ use Rattle.enumerate.specs.View.{trees_of}
 use Rattle.enumerate.specs.Internal.Nodes.{site, IsPartOf, HasSizeAt}
 use Rattle.plan.specs.Samples.Sizes.{nothing}
 use Rattle.enumerate.specs.Internal.Rows.{slots_from, ending_at, key_values, used_keys, AreUsed, IsOpen, IsRow}
-use Rattle.enumerate.specs.Internal.Lists.{AreFirst, IsFreshItem}
-use Rattle.enumerate.proofs.FreshItemLemmas.{own_keys, among_parts}
+use Rattle.enumerate.specs.Internal.Lists.{AreFirst, IsUnusedItem}
+use Rattle.enumerate.proofs.UnusedItemLemmas.{own_keys, among_parts}
 use Rattle.enumerate.proofs.WholeListLemmas.{any_false, false_any}
 use Rattle.enumerate.proofs.LeastLemmas.{least_same}
 use Rattle.enumerate.proofs.ListLemmas.{counted, few_items}
@@ -49,8 +49,8 @@ module _ (q : Question) (i c : ℕ) (rule : RuleOfParts q.pools q.limit (site q 
   key_is n v p = let r = row_of n v p in ap (key_under ss) r.is ∙ own_keys q.pools ss r.fillings sound.order r.rest.are must_keys
 
   -- where no earlier item is alike
-  pub fresh_row : (ts : List Tree) (n : ℕ) (v : Data) → AreParts q.pools (site q c) (items_of ts) → IsFreshItem q i c n (items_of ts) v → IsRow q c (n - 1) (trees_of ts) v
-  fresh_row ts n v parts h =
+  pub unused_row : (ts : List Tree) (n : ℕ) (v : Data) → AreParts q.pools (site q c) (items_of ts) → IsUnusedItem q i c n (items_of ts) v → IsRow q c (n - 1) (trees_of ts) v
+  unused_row ts n v parts h =
       let r = row_of n v h.part in
       record {
         fillings = r.fillings;
@@ -59,28 +59,28 @@ module _ (q : Question) (i c : ℕ) (rule : RuleOfParts q.pools q.limit (site q 
           are = r.rest.are;
           ends = r.rest.ends;
           nodes_are = r.rest.nodes_are;
-          fresh = λ k.
+          unused = λ k.
               let u = among_map (key_under ss) (trees_of ts) (key_values ss r.fillings) (contained _ _ k) in
               let yes = (items.alike u.0 v (among_parts q.pools (site q c) ts parts u.0 u.1.0) h.part.part).1 (u.1.1 ∙ sym (key_is n v h.part)) in
-              let no = any_false (λ w. alike_at (site q i) w v) ts h.fresh u.0 u.1.0 in
+              let no = any_false (λ w. alike_at (site q i) w v) ts h.unused u.0 u.1.0 in
               let both = sym yes ∙ no in
               cc;
         };
       }
 
-  pub row_fresh : (ts : List Tree) (n : ℕ) (v : Data) → 1 ≤ n → AreParts q.pools (site q c) (items_of ts) → IsRow q c (n - 1) (trees_of ts) v → IsFreshItem q i c n (items_of ts) v
-  row_fresh ts n v some parts r =
-      let p = row_plain q c rule items.row n v some (record { fillings = r.fillings; is = r.is; rest = record { are = r.rest.are; ends = r.rest.ends; nodes_are = r.rest.nodes_are; fresh = λ k. contained [] _ k } }) in
+  pub row_unused : (ts : List Tree) (n : ℕ) (v : Data) → 1 ≤ n → AreParts q.pools (site q c) (items_of ts) → IsRow q c (n - 1) (trees_of ts) v → IsUnusedItem q i c n (items_of ts) v
+  row_unused ts n v some parts r =
+      let p = row_plain q c rule items.row n v some (record { fillings = r.fillings; is = r.is; rest = record { are = r.rest.are; ends = r.rest.ends; nodes_are = r.rest.nodes_are; unused = λ k. contained [] _ k } }) in
       let key : key_under ss v ≡ key_values ss r.fillings = ap (key_under ss) r.is ∙ own_keys q.pools ss r.fillings sound.order r.rest.are must_keys in
       record {
         part = p;
-        fresh = false_any (λ w. alike_at (site q i) w v) ts (λ u a. false_from_ne_true (alike_at (site q i) u v) (λ yes.
+        unused = false_any (λ w. alike_at (site q i) w v) ts (λ u a. false_from_ne_true (alike_at (site q i) u v) (λ yes.
             let same = (items.alike u v (among_parts q.pools (site q c) ts parts u a) p.part).0 yes in
-            r.rest.fresh (contains _ _ (subst (Among (used_keys ss (trees_of ts))) (same ∙ key) (map_among (key_under ss) (trees_of ts) u a)))));
+            r.rest.unused (contains _ _ (subst (Among (used_keys ss (trees_of ts))) (same ∙ key) (map_among (key_under ss) (trees_of ts) u a)))));
       }
 
-  pub item_least : (ts : List Tree) (n : ℕ) (v : Data) → 1 ≤ n → AreParts q.pools (site q c) (items_of ts) → IsLeast tree_cmp (IsRow q c (n - 1) (trees_of ts)) v → IsLeast tree_cmp (IsFreshItem q i c n (items_of ts)) v
-  item_least ts n v some parts h = least_same tree_cmp (IsRow q c (n - 1) (trees_of ts)) (IsFreshItem q i c n (items_of ts)) v (λ u r. row_fresh ts n u some parts r) (λ u f. fresh_row ts n u parts f) h
+  pub item_least : (ts : List Tree) (n : ℕ) (v : Data) → 1 ≤ n → AreParts q.pools (site q c) (items_of ts) → IsLeast tree_cmp (IsRow q c (n - 1) (trees_of ts)) v → IsLeast tree_cmp (IsUnusedItem q i c n (items_of ts)) v
+  item_least ts n v some parts h = least_same tree_cmp (IsRow q c (n - 1) (trees_of ts)) (IsUnusedItem q i c n (items_of ts)) v (λ u r. row_unused ts n u some parts r) (λ u f. unused_row ts n u parts f) h
 
   -- ---- the keys of items
 

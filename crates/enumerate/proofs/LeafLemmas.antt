@@ -17,7 +17,7 @@ use Rattle.jtree.specs.Internal.OrderLaws.{tree_same}
 use Rattle.jtree.specs.Internal.Rising.{Among, Rising, contained, contains, rising}
 use Rattle.plan.specs.Samples.Part.{IsPart}
 use Rattle.plan.specs.Samples.Candidates.{AreCandidates, HasCount, HasWidthBy, IsWidth, sort_of}
-use Rattle.plan.specs.Samples.Handed.{IsCandidateAt}
+use Rattle.plan.specs.Samples.ByPlace.{IsCandidateAt}
 use Rattle.plan.specs.Samples.Sites.{sites_of}
 use Rattle.plan.specs.Samples.Question.{Question}
 use Rattle.plan.specs.declared.sort.Sort.TheVariants as sort
@@ -54,17 +54,17 @@ module _ (q : Question) (i : ℕ) where
       (λ v a. contained vs v ((d.each v).1 ((c.each v).0 (contains us v a))))
       (λ v a. contained us v ((c.each v).1 ((d.each v).0 (contains vs v a))))
 
-  pub handed_part : (place : ℕ) (v : Data) → IsCandidateAt q.pools (site q i) place (Some v) → IsPart q.pools (site q i) v
-  handed_part place v handed =
-      let at : slice_get handed.candidates place ≡ Some v = sym handed.is in
-      (handed.are.each v).0 (place, slice_get_within handed.candidates place v at, get_or_from_slice_get handed.candidates place v v at)
+  pub candidate_part : (place : ℕ) (v : Data) → IsCandidateAt q.pools (site q i) place (Some v) → IsPart q.pools (site q i) v
+  candidate_part place v candidate =
+      let at : slice_get candidate.candidates place ≡ Some v = sym candidate.is in
+      (candidate.are.each v).0 (place, slice_get_within candidate.candidates place v at, get_or_from_slice_get candidate.candidates place v v at)
 
   -- before the end there is one
   pub some_candidate : (place n : ℕ) → HasCount q.pools (site q i) n → place < n → IsCandidateAt q.pools (site q i) place None → ⊥
-  some_candidate place n count inside handed =
-      let same = ap length (candidates_same handed.candidates count.candidates handed.are count.are) in
-      let at = slice_get-get_or handed.candidates place null (omega (arith, inside, same, count.count_is)) in
-      let is = handed.is in
+  some_candidate place n count inside candidate =
+      let same = ap length (candidates_same candidate.candidates count.candidates candidate.are count.are) in
+      let at = slice_get-get_or candidate.candidates place null (omega (arith, inside, same, count.count_is)) in
+      let is = candidate.is in
       cc
 
   -- a leaf has at most as many candidates as the plan is wide
@@ -80,12 +80,12 @@ module _ (q : Question) (i : ℕ) where
     NoneBefore place = (vs : List Data) → AreCandidates q.pools (site q i) vs → (j : ℕ) (u : Data) → j < place → slice_get vs j ≡ Some u → C u → ⊥
 
     pub none_after : (place : ℕ) (o : Option Data) → IsCandidateAt q.pools (site q i) place o → NoneBefore place → ((v : Data) → o ≡ Some v → C v → ⊥) → NoneBefore (place + 1)
-    none_after place o handed none not_it vs are j u below at c = elim (cases_lt j place) [
+    none_after place o candidate none not_it vs are j u below at c = elim (cases_lt j place) [
       | inl lt ↦ none vs are j u lt at c
       | inr ge ↦
           let here : place ≡ j = omega arith in
-          let same : handed.candidates ≡ vs = candidates_same handed.candidates vs handed.are are in
-          not_it u (handed.is ∙ (ap (λ xs. slice_get xs place) same ∙ (ap (slice_get vs) here ∙ at))) c
+          let same : candidate.candidates ≡ vs = candidates_same candidate.candidates vs candidate.are are in
+          not_it u (candidate.is ∙ (ap (λ xs. slice_get xs place) same ∙ (ap (slice_get vs) here ∙ at))) c
     ]
 
     pub index_of : (vs : List Data) → AreCandidates q.pools (site q i) vs → (u : Data) → C u → (j : ℕ) × (j < length vs) × (slice_get vs j ≡ Some u)
@@ -98,7 +98,7 @@ module _ (q : Question) (i : ℕ) where
         let k = index_of count.candidates count.are u c in
         none count.candidates count.are k.0 u (omega (arith, k.1, count.count_is)) k.2 c
 
--- ---- whether a tree stands among trees
+-- ---- whether a tree is among trees
 
 abbrev pub has_tree : List Tree → Tree → Bool
 has_tree ts t = list_any (λ u. is_eq (tree_cmp (data_of u) (data_of t))) ts

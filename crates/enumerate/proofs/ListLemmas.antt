@@ -1,5 +1,6 @@
--- Lists by their items: one item more behind those that are there, and whole lists.
+-- Lists by their items: one item more after those that are there, and whole lists.
 use Rattle.std.proofs.Common.{◌≡◌, ◌↔◌, ◌≤◌, ◌+◌, ◌-◌, ◌++◌, ℕ, zero, suc, List, [], ◌∷◌, Bool, true, false, not, Option, Some, None, Contains, length, refl, sym, ap, ◌∙◌, subst, inl, inr, append_assoc, arith}
+use Rattle.std.specs.Prelude.{MatchOption}
 use Rattle.std.proofs.lemmas.Bool.{and_parts, and_from, or_parts, or_from, not-true}
 use Rattle.std.proofs.lemmas.List.{append-nil}
 use Rattle.std.proofs.lemmas.List.Elements.{Contains-get_or}
@@ -24,7 +25,7 @@ use Rattle.plan.specs.Samples.Question.{Question}
 use Rattle.enumerate.specs.Least.{IsLeast, IsNext}
 use Rattle.enumerate.specs.Internal.Nodes.{HasSizeAt, site, IsNodeOf, IsSplit}
 use Rattle.enumerate.specs.Internal.Following.{ItemsContinue, GrownItemsContinue}
-use Rattle.enumerate.specs.Internal.Lists.{AreItems, AreFirst, CanFollow, IsFreshItem, AddsItems, FitsItem, GrowsItems, AreGrown}
+use Rattle.enumerate.specs.Internal.Lists.{AreItems, AreFirst, CanFollow, IsUnusedItem, AddsItems, FitsItem, GrowsItems, AreGrown}
 use Rattle.enumerate.specs.declared.moved.Step.{Step}
 use Rattle.enumerate.specs.declared.moved.Step.TheVariants.{Moved, Last}
 use Rattle.enumerate.proofs.LeastLemmas.{tree_order, least_same, next_same, first_by_size, next_of_size, next_size, no_next_size, least_pair, next_rest, next_part, no_next}
@@ -112,13 +113,13 @@ apart_front alike (item d ds) es p =
     let h = and_parts (not (any_item (alike d) (items_then ds es))) (are_apart alike (items_then ds es)) p in
     and_from (not (any_item (alike d) ds)) (are_apart alike ds) (ap not (none_front (alike d) ds es (not-true (any_item (alike d) (items_then ds es)) h.0))) (apart_front alike ds es h.1)
 
--- what stands behind others is alike none of them
-pub apart_fresh : (alike : Data → Data → Bool) (ds es : Items) (v : Data) → are_apart alike (items_then ds (item v es)) ≡ true → any_item (λ u. alike u v) ds ≡ false
-apart_fresh alike no_items es v p = refl
-apart_fresh alike (item d ds) es v p =
+-- what comes after others is alike none of them
+pub apart_unused : (alike : Data → Data → Bool) (ds es : Items) (v : Data) → are_apart alike (items_then ds (item v es)) ≡ true → any_item (λ u. alike u v) ds ≡ false
+apart_unused alike no_items es v p = refl
+apart_unused alike (item d ds) es v p =
     let all = items_then ds (item v es) in
     let h = and_parts (not (any_item (alike d) all)) (are_apart alike all) p in
-    or_from (alike d v) (any_item (λ u. alike u v) ds) (none_there (alike d) ds es v (not-true (any_item (alike d) all) h.0)) (apart_fresh alike ds es v h.1)
+    or_from (alike d v) (any_item (λ u. alike u v) ds) (none_there (alike d) ds es v (not-true (any_item (alike d) all) h.0)) (apart_unused alike ds es v h.1)
 
 apart_more : (alike : Data → Data → Bool) (ds : Items) (v : Data) → are_apart alike ds ≡ true → any_item (λ u. alike u v) ds ≡ false → are_apart alike (items_then ds (item v no_items)) ≡ true
 apart_more alike no_items v p f = refl
@@ -134,19 +135,19 @@ apart_more alike (item d ds) v p f =
 pub first_none : (q : Question) (i c : ℕ) → item_site (site q i) ≡ Some (site q c) → AreFirst q i c no_items
 first_none q i c is = record { item = is; are = tt; apart = refl }
 
--- a fresh one more
-pub first_more : (q : Question) (i c n : ℕ) (used : Items) (d : Data) → AreFirst q i c used → IsFreshItem q i c n used d → AreFirst q i c (items_then used (item d no_items))
+-- one unused item more
+pub first_more : (q : Question) (i c n : ℕ) (used : Items) (d : Data) → AreFirst q i c used → IsUnusedItem q i c n used d → AreFirst q i c (items_then used (item d no_items))
 first_more q i c n used d a f = record {
   item = a.item;
   are = parts_then q.pools (site q c) used (item d no_items) a.are (f.part.part, tt);
-  apart = apart_more (alike_at (site q i)) used d a.apart f.fresh;
+  apart = apart_more (alike_at (site q i)) used d a.apart f.unused;
 }
 
 -- the same items one by one
 pub items_pushed : (old new : List Tree) (t : Tree) → new ≡ old ++ t ∷ [] → items_of new ≡ items_then (items_of old) (item (data_of t) no_items)
 items_pushed old new t is = ap items_of is ∙ items_of-append old (t ∷ [])
 
--- those behind items that end with an item
+-- those after items that end with an item
 pub items_shift : (q : Question) (i m : ℕ) (used ds : Items) (d : Data) → AreItems q i m used (item d ds) → AreItems q i (m - node_count d) (items_then used (item d no_items)) ds
 items_shift q i m used ds d a = record {
   part = subst (λ x. IsPart q.pools (site q i) (tree.list x)) (sym (then_then used (item d no_items) ds)) a.part;
@@ -172,19 +173,19 @@ module _ (q : Question) (i c : ℕ) (rule : RuleOfParts q.pools q.limit (site q 
   ]
 
   module _ (used : Items) (m : ℕ) (within : 1 + items_count used + m ≤ q.limit) where
-    -- an item that others follow is fresh
-    pub item_fresh : (d : Data) (ds : Items) → AreItems q i m used (item d ds) → IsFreshItem q i c (node_count d) used d
-    item_fresh d ds a =
+    -- an item that others follow is unused
+    pub item_unused : (d : Data) (ds : Items) → AreItems q i m used (item d ds) → IsUnusedItem q i c (node_count d) used d
+    item_unused d ds a =
         let all = list_parts (items_then used (item d ds)) a.part (omega (arith, then_nodes used (item d ds), a.nodes_are, within)) in
         record {
           part = record { part = (parts_split q.pools (site q c) used (item d ds) all.0).1.0; nodes_are = refl };
-          fresh = apart_fresh (alike_at (site q i)) used ds d all.1;
+          unused = apart_unused (alike_at (site q i)) used ds d all.1;
         }
 
-    -- and of a size that leaves the rest to those behind it
+    -- and of a size that leaves the rest to those after it
     pub item_fits : (d : Data) (ds : Items) → AreItems q i m used (item d ds) → FitsItem q i c (fault.items_count used) m (node_count d)
     item_fits d ds a = (
-      record { part = d; is = (item_fresh d ds a).part.part; nodes_are = refl },
+      record { part = d; is = (item_unused d ds a).part.part; nodes_are = refl },
       (
         items_count ds,
         (
@@ -200,8 +201,8 @@ module _ (q : Question) (i c : ℕ) (rule : RuleOfParts q.pools q.limit (site q 
       ),
     )
 
-    -- a fresh item of such a size is followed by some
-    pub item_goes : (d : Data) → AreFirst q i c used → FitsItem q i c (fault.items_count used) m (node_count d) → IsFreshItem q i c (node_count d) used d → (ds : Items) × AreItems q i m used (item d ds)
+    -- an unused item of such a size is followed by some
+    pub item_goes : (d : Data) → AreFirst q i c used → FitsItem q i c (fault.items_count used) m (node_count d) → IsUnusedItem q i c (node_count d) used d → (ds : Items) × AreItems q i m used (item d ds)
     item_goes d a fit f =
         let more = first_more q i c (node_count d) used d a f in
         let r = ends.lists (site q c) (items_then used (item d no_items)) fit.1.0 item_is more.are more.apart
@@ -217,14 +218,14 @@ module _ (q : Question) (i c : ℕ) (rule : RuleOfParts q.pools q.limit (site q 
       abbrev FitsThere : ℕ → Type 0
       FitsThere n = FitsItem q i c (fault.items_count used) m n
 
-      abbrev FreshThere : ℕ → Data → Type 0
-      FreshThere n v = IsFreshItem q i c n used v
+      abbrev UnusedThere : ℕ → Data → Type 0
+      UnusedThere n v = IsUnusedItem q i c n used v
 
       abbrev Follows : Data → Items → Type 0
       Follows d ds = AreItems q i m used (item d ds)
 
-      abbrev FitsFresh : Data → Type 0
-      FitsFresh d = FitsThere (node_count d) × FreshThere (node_count d) d
+      abbrev FitsUnused : Data → Type 0
+      FitsUnused d = FitsThere (node_count d) × UnusedThere (node_count d) d
 
       abbrev IsFollowed : Data → Type 0
       IsFollowed d = (ds : Items) × Follows d ds
@@ -233,14 +234,14 @@ module _ (q : Question) (i c : ℕ) (rule : RuleOfParts q.pools q.limit (site q 
       split_items no_items a = absurd (omega (arith, a.nodes_are, some))
       split_items (item d ds) a = (d, (ds, (a, refl)))
 
-      followed : (d : Data) → FitsFresh d → IsFollowed d
+      followed : (d : Data) → FitsUnused d → IsFollowed d
       followed d f = item_goes d first f.0 f.1
 
-      follows : (d : Data) → IsFollowed d → FitsFresh d
-      follows d f = (item_fits d f.0 f.1, item_fresh d f.0 f.1)
+      follows : (d : Data) → IsFollowed d → FitsUnused d
+      follows d f = (item_fits d f.0 f.1, item_unused d f.0 f.1)
 
-      fresh_count : (n : ℕ) (v : Data) → FreshThere n v → node_count v ≡ n
-      fresh_count n v f = f.part.nodes_are
+      unused_count : (n : ℕ) (v : Data) → UnusedThere n v → node_count v ≡ n
+      unused_count n v f = f.part.nodes_are
 
       fits_few : (n : ℕ) → FitsThere n → n ≤ m
       fits_few n f = omega (arith, f.1.1.1)
@@ -257,16 +258,16 @@ module _ (q : Question) (i c : ℕ) (rule : RuleOfParts q.pools q.limit (site q 
       rest_next d old next few h = next_same items_cmp (AreItems q i (m - node_count d) (items_then used (item d no_items))) (Follows d) old next
           (λ r a. items_unshift q i m used r d few a) (λ r a. items_shift q i m used r d a) h
 
-      -- the first fresh item of the least size, and the first items behind it
-      pub least_items : (n : ℕ) (d : Data) (ds : Items) → IsLeastFrom FitsThere 0 n → IsLeast tree_cmp (FreshThere n) d → IsLeast items_cmp (AreItems q i (m - n) (items_then used (item d no_items))) ds → IsLeast items_cmp (AreItems q i m used) (item d ds)
-      least_items n d ds size fresh rest =
+      -- the first unused item of the least size, and the first items after it
+      pub least_items : (n : ℕ) (d : Data) (ds : Items) → IsLeastFrom FitsThere 0 n → IsLeast tree_cmp (UnusedThere n) d → IsLeast items_cmp (AreItems q i (m - n) (items_then used (item d no_items))) ds → IsLeast items_cmp (AreItems q i m used) (item d ds)
+      least_items n d ds size unused rest =
           least_pair tree_cmp items_cmp items_cmp item (AreItems q i m used) Follows tree_order (λ a b r s. refl) split_items (λ a r f. f) d ds
-          (least_same tree_cmp FitsFresh IsFollowed d followed follows (first_by_size FreshThere FitsThere fresh_count fits_small n d size fresh))
-          (rest_least n d ds fresh.is.part.nodes_are (fits_few n size.1) rest)
+          (least_same tree_cmp FitsUnused IsFollowed d followed follows (first_by_size UnusedThere FitsThere unused_count fits_small n d size unused))
+          (rest_least n d ds unused.is.part.nodes_are (fits_few n size.1) rest)
 
-      -- the next items behind the same one
-      pub next_behind : (d : Data) (old new : Items) → node_count d ≤ m → IsNext items_cmp (AreItems q i (m - node_count d) (items_then used (item d no_items))) old (Some new) → IsNext items_cmp (AreItems q i m used) (item d old) (Some (item d new))
-      next_behind d old new few h =
+      -- the next items after the same one
+      pub next_after : (d : Data) (old new : Items) → node_count d ≤ m → IsNext items_cmp (AreItems q i (m - node_count d) (items_then used (item d no_items))) old (Some new) → IsNext items_cmp (AreItems q i m used) (item d old) (Some (item d new))
+      next_after d old new few h =
           next_rest tree_cmp items_cmp items_cmp item (AreItems q i m used) Follows tree_order (λ a b r s. refl) split_items (λ a r f. f) d old new
           (rest_next d old (Some new) few h)
 
@@ -274,31 +275,31 @@ module _ (q : Question) (i c : ℕ) (rule : RuleOfParts q.pools q.limit (site q 
         few : node_count d ≤ m
         few = omega (arith, there.nodes_are)
 
-        ready : FitsFresh d
+        ready : FitsUnused d
         ready = follows d (old, there)
 
-        -- the next item of the same size, where those behind it were the last
-        pub next_one : (v : Data) (new : Items) → IsNext tree_cmp (FreshThere (node_count d)) d (Some v) → IsLeast items_cmp (AreItems q i (m - node_count d) (items_then used (item v no_items))) new → IsNext items_cmp (AreItems q i m used) (item d old) (Some (item v new))
+        -- the next item of the same size, where those after it were the last
+        pub next_one : (v : Data) (new : Items) → IsNext tree_cmp (UnusedThere (node_count d)) d (Some v) → IsLeast items_cmp (AreItems q i (m - node_count d) (items_then used (item v no_items))) new → IsNext items_cmp (AreItems q i m used) (item d old) (Some (item v new))
         next_one v new next rest =
             next_part tree_cmp items_cmp items_cmp item (AreItems q i m used) Follows tree_order (λ a b r s. refl) split_items (λ a r f. f) d old v new
             (rest_next d old None few last)
-            (next_same tree_cmp FitsFresh IsFollowed d (Some v) followed follows (next_of_size FreshThere FitsThere fresh_count fits_small d v ready next))
+            (next_same tree_cmp FitsUnused IsFollowed d (Some v) followed follows (next_of_size UnusedThere FitsThere unused_count fits_small d v ready next))
             (rest_least (node_count d) v new next.is.0.part.nodes_are few rest)
 
         -- the first item of the next size, where it was the last of its size too
-        pub next_larger : (n : ℕ) (v : Data) (new : Items) → IsNext tree_cmp (FreshThere (node_count d)) d None → IsLeastFrom FitsThere (node_count d + 1) n → IsLeast tree_cmp (FreshThere n) v
+        pub next_larger : (n : ℕ) (v : Data) (new : Items) → IsNext tree_cmp (UnusedThere (node_count d)) d None → IsLeastFrom FitsThere (node_count d + 1) n → IsLeast tree_cmp (UnusedThere n) v
             → IsLeast items_cmp (AreItems q i (m - n) (items_then used (item v no_items))) new → IsNext items_cmp (AreItems q i m used) (item d old) (Some (item v new))
-        next_larger n v new none size fresh rest =
+        next_larger n v new none size unused rest =
             next_part tree_cmp items_cmp items_cmp item (AreItems q i m used) Follows tree_order (λ a b r s. refl) split_items (λ a r f. f) d old v new
             (rest_next d old None few last)
-            (next_same tree_cmp FitsFresh IsFollowed d (Some v) followed follows (next_size FreshThere FitsThere fresh_count fits_small d n v ready none size fresh))
-            (rest_least n v new fresh.is.part.nodes_are (fits_few n size.1) rest)
+            (next_same tree_cmp FitsUnused IsFollowed d (Some v) followed follows (next_size UnusedThere FitsThere unused_count fits_small d n v ready none size unused))
+            (rest_least n v new unused.is.part.nodes_are (fits_few n size.1) rest)
 
-        pub none_larger : IsNext tree_cmp (FreshThere (node_count d)) d None → IsEmptyFrom FitsThere (node_count d + 1) → IsNext items_cmp (AreItems q i m used) (item d old) None
+        pub none_larger : IsNext tree_cmp (UnusedThere (node_count d)) d None → IsEmptyFrom FitsThere (node_count d + 1) → IsNext items_cmp (AreItems q i m used) (item d old) None
         none_larger none empty =
             no_next tree_cmp items_cmp items_cmp item (AreItems q i m used) Follows tree_order (λ a b r s. refl) split_items (λ a r f. f) d old
             (rest_next d old None few last)
-            (next_same tree_cmp FitsFresh IsFollowed d None followed follows (no_next_size FreshThere FitsThere fresh_count fits_small d ready none empty))
+            (next_same tree_cmp FitsUnused IsFollowed d None followed follows (no_next_size UnusedThere FitsThere unused_count fits_small d ready none empty))
 
 -- ---- what the functions that fill a list answer
 
@@ -309,7 +310,7 @@ split_same limit m A B P Q top a b n = (
   λ h. ((a n).1 (omega (arith, h.1.1.1, top), h.0), (h.1.0, ((b h.1.0).1 (omega (arith, h.1.1.1, top), h.1.1.0), h.1.1.1))),
 )
 
--- the same of an item and those behind it
+-- the same of an item and those after it
 pub fits_same : (q : Question) (i c t len m : ℕ) (A B : ℕ → Type 0) → t ≡ len → m ≤ q.limit → IsUpTo q.limit A (HasSizeAt q c) → IsUpTo q.limit B (HasMore q.pools q.limit (site q i) (len + 1)) → (n : ℕ) → IsSplit A B m n ↔ FitsItem q i c t m n
 fits_same q i c t len m A B same top sizes more =
     split_same q.limit m A B (HasSizeAt q c) (HasMore q.pools q.limit (site q i) (t + 1)) top sizes (subst (λ k. IsUpTo q.limit B (HasMore q.pools q.limit (site q i) (k + 1))) (sym same) more)
@@ -317,39 +318,43 @@ fits_same q i c t len m A B same top sizes more =
 pub least_from_same : (A B : ℕ → Type 0) (from n : ℕ) → ((i : ℕ) → A i ↔ B i) → IsLeastFrom A from n → IsLeastFrom B from n
 least_from_same A B from n same h = (h.0, (same n).0 h.1, λ i low lt b. h.2 i low lt ((same i).1 b))
 
-pub empty_from_same : (A B : ℕ → Type 0) (from : ℕ) → ((i : ℕ) → A i ↔ B i) → IsEmptyFrom A from → IsEmptyFrom B from
+empty_from_same : (A B : ℕ → Type 0) (from : ℕ) → ((i : ℕ) → A i ↔ B i) → IsEmptyFrom A from → IsEmptyFrom B from
 empty_from_same A B from same h = λ i low b. h i low ((same i).1 b)
+
+pub found_from_same : (A B : ℕ → Type 0) (from : ℕ) (o : Option ℕ) → ((i : ℕ) → A i ↔ B i) → MatchOption o (IsEmptyFrom A from) (IsLeastFrom A from) → MatchOption o (IsEmptyFrom B from) (IsLeastFrom B from)
+found_from_same A B from (Some n) same h = least_from_same A B from n same h
+found_from_same A B from None same h = empty_from_same A B from same h
 
 no_items_least : (q : Question) (i : ℕ) (used ds : Items) → AreItems q i 0 used ds → items_cmp ds no_items ≡ Less → ⊥
 no_items_least q i used no_items a less = cc
 no_items_least q i used (item d ds) a less = omega (arith, some_nodes d, a.nodes_are)
 
-pub none_behind : (q : Question) (i : ℕ) (used ds : Items) → AreItems q i 0 used ds → IsLeast items_cmp (AreItems q i 0 used) no_items
-none_behind q i used no_items a = record { is = a; least = no_items_least q i used }
-none_behind q i used (item d ds) a = absurd (omega (arith, some_nodes d, a.nodes_are))
+pub none_follow : (q : Question) (i : ℕ) (used ds : Items) → AreItems q i 0 used ds → IsLeast items_cmp (AreItems q i 0 used) no_items
+none_follow q i used no_items a = record { is = a; least = no_items_least q i used }
+none_follow q i used (item d ds) a = absurd (omega (arith, some_nodes d, a.nodes_are))
 
 module _ (q : Question) (i c : ℕ) (rule : RuleOfParts q.pools q.limit (site q i)) (ends : NoDeadEnd q.pools q.limit (site q i)) where
-  -- nothing stands behind the items
+  -- nothing comes after the items
   pub adds_none : (m : ℕ) (old : List Tree) → m ≡ 0 → CanFollow q i c m (items_of old) → AddsItems q i m old old
   adds_none m old e h =
       let follow = subst (λ x. CanFollow q i c x (items_of old)) e h in
       let ds = some_items q i c rule ends h.first.item (items_of old) 0 follow.within follow.first follow.more in
-      subst (λ x. AddsItems q i x old old) (sym e) (record { added = []; is = sym (append-nil old); least = none_behind q i (items_of old) ds.0 ds.1 })
+      subst (λ x. AddsItems q i x old old) (sym e) (record { added = []; is = sym (append-nil old); least = none_follow q i (items_of old) ds.0 ds.1 })
 
   fits_first : (m : ℕ) (old : List Tree) → 1 ≤ m → CanFollow q i c m (items_of old) → (ds : Items) → AreItems q i m (items_of old) ds → IsEmptyFrom (FitsItem q i c (length old) m) 0 → ⊥
   fits_first m old some h no_items a none = omega (arith, some, a.nodes_are)
   fits_first m old some h (item d ds) a none =
       none (node_count d) (omega arith) (subst (λ t. FitsItem q i c t m (node_count d)) (counted old) (item_fits q i c rule ends h.first.item (items_of old) m h.within d ds a))
 
-  -- an item, and the first items behind it
+  -- an item, and the first items after it
   pub adds_item : (m : ℕ) (old new : List Tree) → 1 ≤ m → m ≤ most_nodes → CanFollow q i c m (items_of old) → GrowsItems q i c m 0 old new → AddsItems q i m old new
   adds_item m old new some top h g =
-      let behind = subst (λ ds. IsLeast items_cmp (AreItems q i (m - g.size) ds) (items_of g.rest.added)) (items_of-append old (g.one ∷ [])) g.rest.least in
+      let after = subst (λ ds. IsLeast items_cmp (AreItems q i (m - g.size) ds) (items_of g.rest.added)) (items_of-append old (g.one ∷ [])) g.rest.least in
       record {
         added = g.one ∷ g.rest.added;
         is = g.rest.is ∙ append_assoc old (g.one ∷ []) g.rest.added;
         least = least_items q i c rule ends h.first.item (items_of old) m h.within h.first some top g.size (data_of g.one) (items_of g.rest.added)
-            (subst (λ t. IsLeastFrom (FitsItem q i c t m) 0 g.size) (sym (counted old)) g.least) g.first behind;
+            (subst (λ t. IsLeastFrom (FitsItem q i c t m) 0 g.size) (sym (counted old)) g.least) g.first after;
       }
 
   pub adds_grown : (step : Step) (m : ℕ) (old new : List Tree) → 1 ≤ m → m ≤ most_nodes → CanFollow q i c m (items_of old) → AreGrown step q i c m 0 old new → AddsItems q i m old new
@@ -365,17 +370,17 @@ module _ (q : Question) (i c : ℕ) (rule : RuleOfParts q.pools q.limit (site q 
       let ds = some_items q i c rule ends h.first.item (items_of old) m h.within h.first h.more in
       absurd (fits_first m old some h ds.0 ds.1 g.1)
 
--- what can follow an item that was put behind the others
-pub follow_item : (q : Question) (i c m n : ℕ) (old new : List Tree) (t : Tree) → AreFirst q i c (items_of old) → 1 + items_count (items_of old) + m ≤ q.limit → FitsItem q i c (length old) m n → IsFreshItem q i c n (items_of old) (data_of t)
+-- what can follow an item that was put after the others
+pub follow_item : (q : Question) (i c m n : ℕ) (old new : List Tree) (t : Tree) → AreFirst q i c (items_of old) → 1 + items_count (items_of old) + m ≤ q.limit → FitsItem q i c (length old) m n → IsUnusedItem q i c n (items_of old) (data_of t)
     → new ≡ old ++ t ∷ [] → CanFollow q i c (m - n) (items_of new)
-follow_item q i c m n old new t first within fit fresh is =
+follow_item q i c m n old new t first within fit unused is =
     let pushed = items_pushed old new t is in
-    let behind : fit.1.0 ≡ m - n = omega (arith, fit.1.1.1) in
+    let after : fit.1.0 ≡ m - n = omega (arith, fit.1.1.1) in
     let count : length old + 1 ≡ fault.items_count (items_of new) = rw pushed (omega (arith, then_count (items_of old) (item (data_of t) no_items), counted old)) in
     record {
-      first = subst (AreFirst q i c) (sym pushed) (first_more q i c n (items_of old) (data_of t) first fresh);
-      more = subst (λ k. HasMore q.pools q.limit (site q i) k (m - n)) count (subst (HasMore q.pools q.limit (site q i) (length old + 1)) behind fit.1.1.0);
-      within = subst (λ ds. 1 + items_count ds + (m - n) ≤ q.limit) (sym pushed) (omega (arith, then_nodes (items_of old) (item (data_of t) no_items), fresh.part.nodes_are, within, fit.1.1.1));
+      first = subst (AreFirst q i c) (sym pushed) (first_more q i c n (items_of old) (data_of t) first unused);
+      more = subst (λ k. HasMore q.pools q.limit (site q i) k (m - n)) count (subst (HasMore q.pools q.limit (site q i) (length old + 1)) after fit.1.1.0);
+      within = subst (λ ds. 1 + items_count ds + (m - n) ≤ q.limit) (sym pushed) (omega (arith, then_nodes (items_of old) (item (data_of t) no_items), unused.part.nodes_are, within, fit.1.1.1));
     }
 
 -- ---- nodes and their sites

@@ -1,4 +1,4 @@
--- Items that move: the next ones behind others, as the next ones of the whole list.
+-- Items that move: the next ones after others, as the next ones of the whole list.
 use Rattle.std.proofs.Common.{◌≡◌, ◌≤◌, ◌+◌, ◌-◌, ℕ, Some, sym, subst, arith}
 use Rattle.jtree.specs.Data.{Items, no_items, item}
 use Rattle.jtree.specs.Nodes.{node_count, most_nodes, items_count}
@@ -9,7 +9,7 @@ use Rattle.plan.specs.Samples.Question.{Question}
 use Rattle.enumerate.specs.Least.{IsNext}
 use Rattle.enumerate.specs.Internal.Nodes.{site}
 use Rattle.enumerate.specs.Internal.Lists.{AreItems, AreFirst}
-use Rattle.enumerate.proofs.ListLemmas.{some_nodes, then_nodes, then_then, then_none, next_behind}
+use Rattle.enumerate.proofs.ListLemmas.{some_nodes, then_nodes, then_then, then_none, next_after}
 
 -- the items in front are first ones too
 abbrev pub AreFirstOnes : Question → ℕ → ℕ → Items → Items → Type 0
@@ -26,5 +26,5 @@ next_whole q i c rule ends used (item d front) m old new within top are h =
     let inner = subst (λ u. IsNext items_cmp (AreItems q i m u) old (Some new)) (sym (then_then used (item d no_items) front)) h in
     let rest = next_whole q i c rule ends more front m old new (omega (arith, then_nodes used (item d no_items), within)) (omega (arith, top)) are.1 inner in
     let left : items_count front + m ≡ items_count (item d front) + m - node_count d = omega arith in
-    next_behind q i c rule ends are.0.item used (items_count (item d front) + m) within are.0 (omega (arith, some_nodes d)) top d (items_then front old) (items_then front new) (omega arith)
+    next_after q i c rule ends are.0.item used (items_count (item d front) + m) within are.0 (omega (arith, some_nodes d)) top d (items_then front old) (items_then front new) (omega arith)
     (subst (λ k. IsNext items_cmp (AreItems q i k more) (items_then front old) (Some (items_then front new))) left rest)

@@ -1,4 +1,4 @@
--- Lists from their last item on: what was there behind those that are left, and what takes its place.
+-- Lists from their last item on: what was there after those that are left, and what takes its place.
 use Rattle.std.proofs.Common.{◌≡◌, ◌==◌, ◌≤◌, ◌+◌, ◌-◌, ◌++◌, ℕ, List, [], ◌∷◌, true, false, Some, None, refl, sym, ap, ◌∙◌, subst, arith, length}
 use Rattle.std.proofs.lemmas.Bool.{eqb-true, eq-eqb}
 use Rattle.std.specs.declared.cmp.Ordering.TheVariants.{Less}
@@ -23,22 +23,22 @@ use Rattle.enumerate.specs.declared.moved.Step.{Step}
 use Rattle.enumerate.specs.declared.moved.Step.TheVariants.{Moved, Last}
 use Rattle.enumerate.specs.Internal.Moves.{AreItemsMoved}
 use Rattle.enumerate.specs.Internal.Steps.{KeepsMeter}
-use Rattle.enumerate.specs.Internal.Lists.{AreItems, AreFirst, CanFollow, IsFreshItem, AddsItems, FitsItem, AreGrown}
-use Rattle.enumerate.proofs.ListLemmas.{some_nodes, then_then, then_none, then_nodes, parts_split, apart_front, list_parts, item_fresh, item_fits, next_one, next_larger, none_larger, items_of-append, items_pushed, counted, follow_item}
+use Rattle.enumerate.specs.Internal.Lists.{AreItems, AreFirst, CanFollow, IsUnusedItem, AddsItems, FitsItem, AreGrown}
+use Rattle.enumerate.proofs.ListLemmas.{some_nodes, then_then, then_none, then_nodes, parts_split, apart_front, list_parts, item_unused, item_fits, next_one, next_larger, none_larger, items_of-append, items_pushed, counted, follow_item}
 use Rattle.enumerate.proofs.ListMoveLemmas.{AreFirstOnes, next_whole}
 use Rattle.enumerate.proofs.WholeListLemmas.{list_order, part_list}
 use Rattle.enumerate.proofs.NullMoves.{never_null}
 
--- the list begins with the items that are left, and none of as many nodes as its other items comes behind these after them
+-- the list begins with the items that are left, and its other items are the last ones of as many nodes that can follow on them
 pub record WereLast (q : Question) (i room : ℕ) (old left : Items) : Type 0 where
-  pub behind : Items
-  pub is : old ≡ items_then left behind
-  pub nodes_are : items_count behind ≡ room
-  pub last : IsNext items_cmp (AreItems q i room left) behind None
+  pub after : Items
+  pub is : old ≡ items_then left after
+  pub nodes_are : items_count after ≡ room
+  pub last : IsNext items_cmp (AreItems q i room left) after None
 
 -- nothing comes after no items
 pub all_left : (q : Question) (i : ℕ) (old : Items) → WereLast q i 0 old old
-all_left q i old = record { behind = no_items; is = sym (then_none old); nodes_are = refl; last = λ ds a less. past_none q i old ds a less }
+all_left q i old = record { after = no_items; is = sym (then_none old); nodes_are = refl; last = λ ds a less. past_none q i old ds a less }
   where
     past_none : (q : Question) (i : ℕ) (old ds : Items) → AreItems q i 0 old ds → items_cmp no_items ds ≡ Less → ⊥
     past_none q i old no_items a less = cc
@@ -52,11 +52,11 @@ walk_ended q i room old w =
 
 -- one item is taken from the end
 module _ (q : Question) (i room : ℕ) (old front : Items) (d : Data) (w : WereLast q i room old (items_then front (item d no_items))) where
-  walk_is : old ≡ items_then front (item d w.behind)
-  walk_is = w.is ∙ then_then front (item d no_items) w.behind
+  walk_is : old ≡ items_then front (item d w.after)
+  walk_is = w.is ∙ then_then front (item d no_items) w.after
 
   walk_nodes : items_count old ≡ items_count front + (node_count d + room)
-  walk_nodes = ap items_count walk_is ∙ then_nodes front (item d w.behind) ∙ ap (λ n. items_count front + (node_count d + n)) w.nodes_are
+  walk_nodes = ap items_count walk_is ∙ then_nodes front (item d w.after) ∙ ap (λ n. items_count front + (node_count d + n)) w.nodes_are
 
 module _ (q : Question) (i c : ℕ) (rule : RuleOfParts q.pools q.limit (site q i)) (ends : NoDeadEnd q.pools q.limit (site q i)) (item_is : item_site (site q i) ≡ Some (site q c)) where
   -- the items in front of others
@@ -76,23 +76,23 @@ module _ (q : Question) (i c : ℕ) (rule : RuleOfParts q.pools q.limit (site q 
   -- one item is taken from the end
   module _ (old : Items) (part : IsPart q.pools (site q i) (tree.list old)) (within : 1 + items_count old ≤ q.limit) (top : q.limit ≤ most_nodes)
       (room : ℕ) (front : Items) (d : Data) (w : WereLast q i room old (items_then front (item d no_items))) where
-    walk_items : AreItems q i (node_count d + room) front (item d w.behind)
+    walk_items : AreItems q i (node_count d + room) front (item d w.after)
     walk_items = record { part = subst (λ x. IsPart q.pools (site q i) (tree.list x)) (walk_is q i room old front d w) part; nodes_are = ap (λ n. node_count d + n) w.nodes_are }
 
     walk_within : 1 + items_count front + (node_count d + room) ≤ q.limit
     walk_within = omega (arith, (walk_nodes q i room old front d w), within)
 
-    walk_count : 1 + items_count (items_then front (item d w.behind)) ≤ q.limit
+    walk_count : 1 + items_count (items_then front (item d w.after)) ≤ q.limit
     walk_count = subst (λ x. 1 + items_count x ≤ q.limit) (walk_is q i room old front d w) within
 
     pub walk_first : AreFirst q i c front
-    walk_first = first_front front (item d w.behind) walk_items.part walk_count
+    walk_first = first_front front (item d w.after) walk_items.part walk_count
 
-    pub walk_fresh : IsFreshItem q i c (node_count d) front d
-    walk_fresh = item_fresh q i c rule ends item_is front (node_count d + room) walk_within d w.behind walk_items
+    pub walk_unused : IsUnusedItem q i c (node_count d) front d
+    walk_unused = item_unused q i c rule ends item_is front (node_count d + room) walk_within d w.after walk_items
 
     pub walk_fits : FitsItem q i c (fault.items_count front) (node_count d + room) (node_count d)
-    walk_fits = item_fits q i c rule ends item_is front (node_count d + room) walk_within d w.behind walk_items
+    walk_fits = item_fits q i c rule ends item_is front (node_count d + room) walk_within d w.after walk_items
 
     walk_some : 1 ≤ node_count d + room
     walk_some = omega (arith, some_nodes d)
@@ -100,34 +100,34 @@ module _ (q : Question) (i c : ℕ) (rule : RuleOfParts q.pools q.limit (site q 
     walk_top : node_count d + room ≤ most_nodes
     walk_top = omega (arith, walk_within, top)
 
-    walk_last : IsNext items_cmp (AreItems q i (node_count d + room - node_count d) (items_then front (item d no_items))) w.behind None
-    walk_last = subst (λ k. IsNext items_cmp (AreItems q i k (items_then front (item d no_items))) w.behind None) (omega arith) w.last
+    walk_last : IsNext items_cmp (AreItems q i (node_count d + room - node_count d) (items_then front (item d no_items))) w.after None
+    walk_last = subst (λ k. IsNext items_cmp (AreItems q i k (items_then front (item d no_items))) w.after None) (omega arith) w.last
 
-    -- what comes next behind the items in front does so in the whole list
-    walk_whole : (new : Items) → IsNext items_cmp (AreItems q i (node_count d + room) front) (item d w.behind) (Some new) → IsNext items_cmp (AreItems q i (items_count old) no_items) old (Some (items_then front new))
+    -- what comes next after the items in front does so in the whole list
+    walk_whole : (new : Items) → IsNext items_cmp (AreItems q i (node_count d + room) front) (item d w.after) (Some new) → IsNext items_cmp (AreItems q i (items_count old) no_items) old (Some (items_then front new))
     walk_whole new h =
-        let all = next_whole q i c rule ends no_items front (node_count d + room) (item d w.behind) new (omega (arith, walk_within)) (omega (arith, walk_within, top)) (first_ones no_items front (item d w.behind) walk_items.part walk_count) h in
+        let all = next_whole q i c rule ends no_items front (node_count d + room) (item d w.after) new (omega (arith, walk_within)) (omega (arith, walk_within, top)) (first_ones no_items front (item d w.after) walk_items.part walk_count) h in
         subst (λ k. IsNext items_cmp (AreItems q i k no_items) old (Some (items_then front new))) (sym (walk_nodes q i room old front d w))
         (subst (λ x. IsNext items_cmp (AreItems q i (items_count front + (node_count d + room)) no_items) x (Some (items_then front new))) (sym (walk_is q i room old front d w)) all)
 
-    pub walk_next : (next : Data) (added : Items) → IsNext tree_cmp (IsFreshItem q i c (node_count d) front) d (Some next) → IsLeast items_cmp (AreItems q i room (items_then front (item next no_items))) added
+    pub walk_next : (next : Data) (added : Items) → IsNext tree_cmp (IsUnusedItem q i c (node_count d) front) d (Some next) → IsLeast items_cmp (AreItems q i room (items_then front (item next no_items))) added
         → IsNext items_cmp (AreItems q i (items_count old) no_items) old (Some (items_then front (item next added)))
     walk_next next added h rest =
         let left : room ≡ node_count d + room - node_count d = omega arith in
         let there = subst (λ k. IsLeast items_cmp (AreItems q i k (items_then front (item next no_items))) added) left rest in
-        walk_whole (item next added) (next_one q i c rule ends item_is front (node_count d + room) walk_within walk_first walk_some walk_top d w.behind walk_items walk_last next added h there)
+        walk_whole (item next added) (next_one q i c rule ends item_is front (node_count d + room) walk_within walk_first walk_some walk_top d w.after walk_items walk_last next added h there)
 
-    module _ (none : IsNext tree_cmp (IsFreshItem q i c (node_count d) front) d None) where
-      pub walk_larger : (n : ℕ) (v : Data) (added : Items) → IsLeastFrom (FitsItem q i c (fault.items_count front) (node_count d + room)) (node_count d + 1) n → IsLeast tree_cmp (IsFreshItem q i c n front) v
+    module _ (none : IsNext tree_cmp (IsUnusedItem q i c (node_count d) front) d None) where
+      pub walk_larger : (n : ℕ) (v : Data) (added : Items) → IsLeastFrom (FitsItem q i c (fault.items_count front) (node_count d + room)) (node_count d + 1) n → IsLeast tree_cmp (IsUnusedItem q i c n front) v
           → IsLeast items_cmp (AreItems q i (node_count d + room - n) (items_then front (item v no_items))) added → IsNext items_cmp (AreItems q i (items_count old) no_items) old (Some (items_then front (item v added)))
-      walk_larger n v added size fresh rest = walk_whole (item v added) (next_larger q i c rule ends item_is front (node_count d + room) walk_within walk_first walk_some walk_top d w.behind walk_items walk_last n v added none size fresh rest)
+      walk_larger n v added size unused rest = walk_whole (item v added) (next_larger q i c rule ends item_is front (node_count d + room) walk_within walk_first walk_some walk_top d w.after walk_items walk_last n v added none size unused rest)
 
       pub walk_back : IsEmptyFrom (FitsItem q i c (fault.items_count front) (node_count d + room)) (node_count d + 1) → WereLast q i (node_count d + room) old front
       walk_back empty = record {
-        behind = item d w.behind;
+        after = item d w.after;
         is = walk_is q i room old front d w;
         nodes_are = walk_items.nodes_are;
-        last = none_larger q i c rule ends item_is front (node_count d + room) walk_within walk_first walk_some walk_top d w.behind walk_items walk_last none empty;
+        last = none_larger q i c rule ends item_is front (node_count d + room) walk_within walk_first walk_some walk_top d w.after walk_items walk_last none empty;
       }
 
 -- ---- the same of the items in memory
@@ -136,7 +136,7 @@ added_is : (front added now : List Tree) (one : Tree) → now ≡ (front ++ one 
 added_is front added now one is =
     ap items_of is ∙ (items_of-append (front ++ one ∷ []) added ∙ (ap (λ x. items_then x (items_of added)) (items_of-append front (one ∷ [])) ∙ then_then (items_of front) (item (data_of one) no_items) (items_of added)))
 
--- one item less, and those behind it the last ones; or a next list
+-- one item less, and those after it the last ones; or a next list
 abbrev pub IsWalked : Step → Question → ℕ → ℕ → Items → List Tree → List Tree → Type 0
 IsWalked Moved q i room old front now = IsNext items_cmp (AreItems q i (items_count old) no_items) old (Some (items_of now))
 IsWalked (Last n) q i room old front now = (now ≡ front) × WereLast q i room old (items_of now)
@@ -156,23 +156,23 @@ module _ (q : Question) (i c : ℕ) (rule : RuleOfParts q.pools q.limit (site q 
   pub front_first : AreFirst q i c (items_of front)
   front_first = walk_first q i c rule ends item_is old part within top room (items_of front) (data_of one) before
 
-  pub front_fresh : IsFreshItem q i c (node_count (data_of one)) (items_of front) (data_of one)
-  front_fresh = walk_fresh q i c rule ends item_is old part within top room (items_of front) (data_of one) before
+  pub front_unused : IsUnusedItem q i c (node_count (data_of one)) (items_of front) (data_of one)
+  front_unused = walk_unused q i c rule ends item_is old part within top room (items_of front) (data_of one) before
 
-  -- the rest of the nodes can stand behind another item of as many nodes
-  pub front_follow : (next : Tree) (now : List Tree) → IsNext tree_cmp (IsFreshItem q i c (node_count (data_of one)) (items_of front)) (data_of one) (Some (data_of next)) → now ≡ front ++ next ∷ [] → CanFollow q i c room (items_of now)
+  -- the rest of the nodes can come after another item of as many nodes
+  pub front_follow : (next : Tree) (now : List Tree) → IsNext tree_cmp (IsUnusedItem q i c (node_count (data_of one)) (items_of front)) (data_of one) (Some (data_of next)) → now ≡ front ++ next ∷ [] → CanFollow q i c room (items_of now)
   front_follow next now h is =
       let n = node_count (data_of one) in
       let fits = subst (λ t. FitsItem q i c t (n + room) n) (counted front) (walk_fits q i c rule ends item_is old part within top room (items_of front) (data_of one) before) in
       subst (λ k. CanFollow q i c k (items_of now)) (omega arith) (follow_item q i c (n + room) n front now next front_first (omega (arith, front_nodes q i room old left front one popped last, within)) fits h.is.0 is)
 
-  pub front_next : (next : Tree) (now : List Tree) → IsNext tree_cmp (IsFreshItem q i c (node_count (data_of one)) (items_of front)) (data_of one) (Some (data_of next)) → AddsItems q i room (front ++ next ∷ []) now → AreItemsMoved Moved q i old (items_of now)
+  pub front_next : (next : Tree) (now : List Tree) → IsNext tree_cmp (IsUnusedItem q i c (node_count (data_of one)) (items_of front)) (data_of one) (Some (data_of next)) → AddsItems q i room (front ++ next ∷ []) now → AreItemsMoved Moved q i old (items_of now)
   front_next next now h a =
       subst (λ x. IsNext items_cmp (AreItems q i (items_count old) no_items) old (Some x)) (sym (added_is front a.added now next a.is))
       (walk_next q i c rule ends item_is old part within top room (items_of front) (data_of one) before (data_of next) (items_of a.added) h
       (subst (λ x. IsLeast items_cmp (AreItems q i room x) (items_of a.added)) (items_of-append front (next ∷ [])) a.least))
 
-  module _ (none : IsNext tree_cmp (IsFreshItem q i c (node_count (data_of one)) (items_of front)) (data_of one) None) where
+  module _ (none : IsNext tree_cmp (IsUnusedItem q i c (node_count (data_of one)) (items_of front)) (data_of one) None) where
     walked : (step : Step) (now : List Tree) → AreGrown step q i c (node_count (data_of one) + room) (node_count (data_of one) + 1) front now → IsWalked step q i (node_count (data_of one) + room) old front now
     walked Moved now g =
         let m = node_count (data_of one) + room in

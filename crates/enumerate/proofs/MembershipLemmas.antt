@@ -23,8 +23,8 @@ use Rattle.jtree.specs.declared.value.Tree.{Tree}
 use Rattle.plan.specs.declared.sort.Sort.{Sort}
 use Rattle.plan.specs.declared.sort.Sort.TheVariants as sort
 use Rattle.plan.specs.Samples.Sites.{item_site, Slot, slots, sites_of}
-use Rattle.plan.specs.Samples.Handed.{IsSlotAt}
-use Rattle.plan.specs.declared.plan.Slot as handed
+use Rattle.plan.specs.Samples.ByPlace.{IsSlotAt}
+use Rattle.plan.specs.declared.plan.Slot as answer
 use Rattle.plan.specs.Samples.Sizes.{AreFillings, Before, nothing, filled, state_after, Ending, CanFill, HasMore}
 use Rattle.plan.specs.Samples.RuleOfParts.{members_in, RuleOfParts, IsRowPart, AreParts, alike_at, admits_null}
 use Rattle.plan.specs.Samples.Keys.{AreInOrder}
@@ -32,10 +32,10 @@ use Rattle.plan.specs.Samples.Question.{Question}
 use Rattle.enumerate.specs.Internal.Nodes.{weight, site, IsNodeOf}
 use Rattle.enumerate.specs.Internal.Rows.{slots_from, ending_at, still_used}
 use Rattle.enumerate.specs.Internal.Candidates.{agreeing_if}
-use Rattle.enumerate.specs.Internal.Lists.{AreFirst, IsFreshItem}
-use Rattle.enumerate.proofs.ListLemmas.{few_items, counted, then_nodes, parts_split, apart_fresh, first_more}
+use Rattle.enumerate.specs.Internal.Lists.{AreFirst, IsUnusedItem}
+use Rattle.enumerate.proofs.ListLemmas.{few_items, counted, then_nodes, parts_split, apart_unused, first_more}
 use Rattle.enumerate.proofs.WholeListLemmas as lists
-use Rattle.enumerate.specs.Internal.Membership.{still_left, StandFresh, IsFreshRow, IsListOf}
+use Rattle.enumerate.specs.Internal.Membership.{still_left, MakeUnusedRow, IsUnusedRow, IsListOf}
 
 -- ---- measures
 
@@ -69,45 +69,45 @@ not_in k d ms (t ∷ ss) (None ∷ gs) above e = not_in k d ms ss gs (λ u a. ab
 not_in k d ms (t ∷ ss) (Some v ∷ gs) above e = not_itself k t.name (cc) (above t (inl refl))
 
 module _ (P : Pools) (end : Ending) (x : Before) (used : List Data) (ms : Members) where
-  pub ends_is : StandFresh P [] end x used ms → (ms ≡ no_members) × (used ≡ []) × CanFill P [] end x 0
-  ends_is h = go h.fillings h.are h.parts h.ends h.fresh where
+  pub ends_is : MakeUnusedRow P [] end x used ms → (ms ≡ no_members) × (used ≡ []) × CanFill P [] end x 0
+  ends_is h = go h.fillings h.are h.parts h.ends h.unused where
     go : (gs : List (Option Data)) → ms ≡ members_in [] gs → AreFillings P [] gs → CanFill P [] end (state_after [] gs x) 0 → still_left [] gs used ≡ [] → (ms ≡ no_members) × (used ≡ []) × CanFill P [] end x 0
-    go [] are parts ends fresh = (are, fresh, ends)
-    go (g ∷ gs) are parts ends fresh = absurd parts
+    go [] are parts ends unused = (are, unused, ends)
+    go (g ∷ gs) are parts ends unused = absurd parts
 
-  pub ends_from : ms ≡ no_members → used ≡ [] → CanFill P [] end x 0 → StandFresh P [] end x used ms
-  ends_from none nobody ends = record { fillings = []; are = none; parts = tt; ends = ends; fresh = nobody }
+  pub ends_from : ms ≡ no_members → used ≡ [] → CanFill P [] end x 0 → MakeUnusedRow P [] end x used ms
+  ends_from none nobody ends = record { fillings = []; are = none; parts = tt; ends = ends; unused = nobody }
 
   module _ (s : Slot) (ss : List Slot) where
     -- the first slot is left out
-    pub absent_is : ((v : Data) (ns : Members) → ms ≢ member s.name v ns) → StandFresh P (s ∷ ss) end x used ms → (s.must ≡ false) × StandFresh P ss end x used ms
-    absent_is other h = go h.fillings h.are h.parts h.ends h.fresh where
-      go : (gs : List (Option Data)) → ms ≡ members_in (s ∷ ss) gs → AreFillings P (s ∷ ss) gs → CanFill P [] end (state_after (s ∷ ss) gs x) 0 → still_left (s ∷ ss) gs used ≡ [] → (s.must ≡ false) × StandFresh P ss end x used ms
-      go [] are parts ends fresh = absurd parts
-      go (None ∷ gs) are parts ends fresh = (parts.0, record { fillings = gs; are = are; parts = parts.1; ends = ends; fresh = fresh })
-      go (Some v ∷ gs) are parts ends fresh = absurd (other v (members_in ss gs) are)
+    pub absent_is : ((v : Data) (ns : Members) → ms ≢ member s.name v ns) → MakeUnusedRow P (s ∷ ss) end x used ms → (s.must ≡ false) × MakeUnusedRow P ss end x used ms
+    absent_is other h = go h.fillings h.are h.parts h.ends h.unused where
+      go : (gs : List (Option Data)) → ms ≡ members_in (s ∷ ss) gs → AreFillings P (s ∷ ss) gs → CanFill P [] end (state_after (s ∷ ss) gs x) 0 → still_left (s ∷ ss) gs used ≡ [] → (s.must ≡ false) × MakeUnusedRow P ss end x used ms
+      go [] are parts ends unused = absurd parts
+      go (None ∷ gs) are parts ends unused = (parts.0, record { fillings = gs; are = are; parts = parts.1; ends = ends; unused = unused })
+      go (Some v ∷ gs) are parts ends unused = absurd (other v (members_in ss gs) are)
 
-    pub absent_from : s.must ≡ false → StandFresh P ss end x used ms → StandFresh P (s ∷ ss) end x used ms
-    absent_from may h = record { fillings = None ∷ h.fillings; are = h.are; parts = (may, h.parts); ends = h.ends; fresh = h.fresh }
+    pub absent_from : s.must ≡ false → MakeUnusedRow P ss end x used ms → MakeUnusedRow P (s ∷ ss) end x used ms
+    absent_from may h = record { fillings = None ∷ h.fillings; are = h.are; parts = (may, h.parts); ends = h.ends; unused = h.unused }
 
     -- it is filled
     module _ (d : Data) (rest : Members) (first : ms ≡ member s.name d rest) where
-      pub filled_is : AreInOrder (s ∷ ss) → StandFresh P (s ∷ ss) end x used ms → IsPart P s.site d × StandFresh P ss end (filled s.bit x) (still_used s d used) rest
-      filled_is order h = go h.fillings h.are h.parts h.ends h.fresh where
-        go : (gs : List (Option Data)) → ms ≡ members_in (s ∷ ss) gs → AreFillings P (s ∷ ss) gs → CanFill P [] end (state_after (s ∷ ss) gs x) 0 → still_left (s ∷ ss) gs used ≡ [] → IsPart P s.site d × StandFresh P ss end (filled s.bit x) (still_used s d used) rest
-        go [] are parts ends fresh = absurd parts
-        go (None ∷ gs) are parts ends fresh = absurd (not_in s.name d rest ss gs (λ u a. order.0 u (contains ss u a)) (sym first ∙ are))
-        go (Some v ∷ gs) are parts ends fresh =
+      pub filled_is : AreInOrder (s ∷ ss) → MakeUnusedRow P (s ∷ ss) end x used ms → IsPart P s.site d × MakeUnusedRow P ss end (filled s.bit x) (still_used s d used) rest
+      filled_is order h = go h.fillings h.are h.parts h.ends h.unused where
+        go : (gs : List (Option Data)) → ms ≡ members_in (s ∷ ss) gs → AreFillings P (s ∷ ss) gs → CanFill P [] end (state_after (s ∷ ss) gs x) 0 → still_left (s ∷ ss) gs used ≡ [] → IsPart P s.site d × MakeUnusedRow P ss end (filled s.bit x) (still_used s d used) rest
+        go [] are parts ends unused = absurd parts
+        go (None ∷ gs) are parts ends unused = absurd (not_in s.name d rest ss gs (λ u a. order.0 u (contains ss u a)) (sym first ∙ are))
+        go (Some v ∷ gs) are parts ends unused =
             let same : member s.name d rest ≡ member s.name v (members_in ss gs) = sym first ∙ are in
             let value : v ≡ d = cc in
-            let behind : rest ≡ members_in ss gs = cc in (
+            let after : rest ≡ members_in ss gs = cc in (
               subst (IsPart P s.site) value parts.0,
-              record { fillings = gs; are = behind; parts = parts.1; ends = ends; fresh = subst (λ w. still_left ss gs (still_used s w used) ≡ []) value fresh },
+              record { fillings = gs; are = after; parts = parts.1; ends = ends; unused = subst (λ w. still_left ss gs (still_used s w used) ≡ []) value unused },
             )
 
-      pub filled_from : IsPart P s.site d → StandFresh P ss end (filled s.bit x) (still_used s d used) rest → StandFresh P (s ∷ ss) end x used ms
+      pub filled_from : IsPart P s.site d → MakeUnusedRow P ss end (filled s.bit x) (still_used s d used) rest → MakeUnusedRow P (s ∷ ss) end x used ms
       filled_from part h =
-          record { fillings = Some d ∷ h.fillings; are = first ∙ ap (member s.name d) h.are; parts = (part, h.parts); ends = h.ends; fresh = h.fresh }
+          record { fillings = Some d ∷ h.fillings; are = first ∙ ap (member s.name d) h.are; parts = (part, h.parts); ends = h.ends; unused = h.unused }
 
 -- ---- answers
 
@@ -115,9 +115,9 @@ pub answered : {E : Type 0} (r : Result Bool E) (A B : Type 0) → (A → B) →
 answered (Ok is) A B there back h = (λ yes. there (h.0 yes), λ b. h.1 (back b))
 answered (Err e) A B there back h = h
 
--- ---- slots as they are handed out
+-- ---- slots as the plan answers them
 
-module _ (q : Question) (i place : ℕ) (t : handed.Slot) (is : IsSlotAt (sites_of q.root) (slots q.pools (site q i)) place t) where
+module _ (q : Question) (i place : ℕ) (t : answer.Slot) (is : IsSlotAt (sites_of q.root) (slots q.pools (site q i)) place t) where
   pub slots_are : slots_from q i place ≡ is.slot ∷ slots_from q i (place + 1)
   slots_are = slots_at_place (slots q.pools (site q i)) place is.slot is.is
 
@@ -125,26 +125,26 @@ module _ (q : Question) (i place : ℕ) (t : handed.Slot) (is : IsSlotAt (sites_
   one_slot_less = let e : length (slots_from q i place) ≡ length (is.slot ∷ slots_from q i (place + 1)) = ap (λ ss. length ss) slots_are in omega (arith, e)
 
   module _ (end : Ending) (x : Before) (used : List Data) (ms : Members) where
-    pub absent_here : ((v : Data) (ns : Members) → ms ≢ member t.name.now v ns) → StandFresh q.pools (slots_from q i place) end x used ms → (t.must ≡ false) × StandFresh q.pools (slots_from q i (place + 1)) end x used ms
+    pub absent_here : ((v : Data) (ns : Members) → ms ≢ member t.name.now v ns) → MakeUnusedRow q.pools (slots_from q i place) end x used ms → (t.must ≡ false) × MakeUnusedRow q.pools (slots_from q i (place + 1)) end x used ms
     absent_here other h =
-        let k = absent_is q.pools end x used ms is.slot (slots_from q i (place + 1)) (λ v ns e. other v ns (e ∙ ap (λ k. member k v ns) (sym is.name))) (subst (λ ss. StandFresh q.pools ss end x used ms) slots_are h) in
+        let k = absent_is q.pools end x used ms is.slot (slots_from q i (place + 1)) (λ v ns e. other v ns (e ∙ ap (λ k. member k v ns) (sym is.name))) (subst (λ ss. MakeUnusedRow q.pools ss end x used ms) slots_are h) in
         (is.must ∙ k.0, k.1)
 
-    pub absent_there : t.must ≡ false → StandFresh q.pools (slots_from q i (place + 1)) end x used ms → StandFresh q.pools (slots_from q i place) end x used ms
-    absent_there may h = subst (λ ss. StandFresh q.pools ss end x used ms) (sym slots_are) (absent_from q.pools end x used ms is.slot (slots_from q i (place + 1)) (sym is.must ∙ may) h)
+    pub absent_there : t.must ≡ false → MakeUnusedRow q.pools (slots_from q i (place + 1)) end x used ms → MakeUnusedRow q.pools (slots_from q i place) end x used ms
+    absent_there may h = subst (λ ss. MakeUnusedRow q.pools ss end x used ms) (sym slots_are) (absent_from q.pools end x used ms is.slot (slots_from q i (place + 1)) (sym is.must ∙ may) h)
 
     module _ (d : Data) (rest : Members) (first : ms ≡ member t.name.now d rest) where
       named : ms ≡ member is.slot.name d rest
       named = first ∙ ap (λ k. member k d rest) is.name
 
-      pub filled_here : AreInOrder (slots q.pools (site q i)) → StandFresh q.pools (slots_from q i place) end x used ms
-          → IsPart q.pools (site q t.node) d × StandFresh q.pools (slots_from q i (place + 1)) end (filled t.bit x) (agreeing_if t.key t.name.now d used) rest
+      pub filled_here : AreInOrder (slots q.pools (site q i)) → MakeUnusedRow q.pools (slots_from q i place) end x used ms
+          → IsPart q.pools (site q t.node) d × MakeUnusedRow q.pools (slots_from q i (place + 1)) end (filled t.bit x) (agreeing_if t.key t.name.now d used) rest
       filled_here order h =
-          let k = filled_is q.pools end x used ms is.slot (slots_from q i (place + 1)) d rest named (subst AreInOrder slots_are (order_from place (slots q.pools (site q i)) order)) (subst (λ ss. StandFresh q.pools ss end x used ms) slots_are h) in
+          let k = filled_is q.pools end x used ms is.slot (slots_from q i (place + 1)) d rest named (subst AreInOrder slots_are (order_from place (slots q.pools (site q i)) order)) (subst (λ ss. MakeUnusedRow q.pools ss end x used ms) slots_are h) in
           (subst (λ s. IsPart q.pools s d) (sym is.node) k.0, rw (is.key, is.name, is.bit) k.1)
 
-      pub filled_there : IsPart q.pools (site q t.node) d → StandFresh q.pools (slots_from q i (place + 1)) end (filled t.bit x) (agreeing_if t.key t.name.now d used) rest → StandFresh q.pools (slots_from q i place) end x used ms
-      filled_there part h = subst (λ ss. StandFresh q.pools ss end x used ms) (sym slots_are)
+      pub filled_there : IsPart q.pools (site q t.node) d → MakeUnusedRow q.pools (slots_from q i (place + 1)) end (filled t.bit x) (agreeing_if t.key t.name.now d used) rest → MakeUnusedRow q.pools (slots_from q i place) end x used ms
+      filled_there part h = subst (λ ss. MakeUnusedRow q.pools ss end x used ms) (sym slots_are)
           (filled_from q.pools end x used ms is.slot (slots_from q i (place + 1)) d rest named (subst (λ s. IsPart q.pools s d) is.node part) (rw (← is.key, ← is.name, ← is.bit) h))
 
 -- ---- sorts
@@ -166,24 +166,24 @@ nobody (s ∷ ss) (Some v ∷ gs) = ap (still_left ss gs) (none_agrees s.key s.n
   none_agrees false k v = refl
 
 module _ (q : Question) (i : ℕ) (used : List Data) (v : Data) where
-  pub row_of : IsFreshRow q i used v → (h : IsRowPart q.pools (site q i) v) × (still_left (slots q.pools (site q i)) h.fillings used ≡ [])
+  pub row_of : IsUnusedRow q i used v → (h : IsRowPart q.pools (site q i) v) × (still_left (slots q.pools (site q i)) h.fillings used ≡ [])
   row_of r =
       let st = r.1.1 in
       let ss = slots q.pools (site q i) in
       let last : [] ≡ drop (length ss) ss = sym (drop_all (length ss) ss (omega arith)) in
-      (record { fillings = st.fillings; is = r.1.0 ∙ ap object st.are; are = st.parts; ends = subst (λ rs. CanFill q.pools rs (ending_at q i) (state_after ss st.fillings nothing) 0) last st.ends }, st.fresh)
+      (record { fillings = st.fillings; is = r.1.0 ∙ ap object st.are; are = st.parts; ends = subst (λ rs. CanFill q.pools rs (ending_at q i) (state_after ss st.fillings nothing) 0) last st.ends }, st.unused)
 
-  pub row_from : (h : IsRowPart q.pools (site q i) v) → still_left (slots q.pools (site q i)) h.fillings used ≡ [] → IsFreshRow q i used v
-  row_from h fresh =
+  pub row_from : (h : IsRowPart q.pools (site q i) v) → still_left (slots q.pools (site q i)) h.fillings used ≡ [] → IsUnusedRow q i used v
+  row_from h unused =
       let ss = slots q.pools (site q i) in
       let last : drop (length ss) ss ≡ [] = drop_all (length ss) ss (omega arith) in
-      (members_in ss h.fillings, (h.is, record { fillings = h.fillings; are = refl; parts = h.are; ends = subst (λ rs. CanFill q.pools rs (ending_at q i) (state_after ss h.fillings nothing) 0) last h.ends; fresh = fresh }))
+      (members_in ss h.fillings, (h.is, record { fillings = h.fillings; are = refl; parts = h.are; ends = subst (λ rs. CanFill q.pools rs (ending_at q i) (state_after ss h.fillings nothing) 0) last h.ends; unused = unused }))
 
 module _ (q : Question) (i : ℕ) (rule : RuleOfParts q.pools q.limit (site q i)) (v : Data) where
-  pub row_part : sort_of (site q i) ≡ sort.Row → IsFreshRow q i [] v → IsPart q.pools (site q i) v
+  pub row_part : sort_of (site q i) ≡ sort.Row → IsUnusedRow q i [] v → IsPart q.pools (site q i) v
   row_part row r = (rule.row v row).1 (inr (row_of q i [] v r).0)
 
-  pub part_row : sort_of (site q i) ≡ sort.Row → v ≢ null → IsPart q.pools (site q i) v → IsFreshRow q i [] v
+  pub part_row : sort_of (site q i) ≡ sort.Row → v ≢ null → IsPart q.pools (site q i) v → IsUnusedRow q i [] v
   part_row row other part = elim ((rule.row v row).0 part) [
     | inl none ↦ absurd (other none.0)
     | inr h ↦ row_from q i [] v h (nobody (slots q.pools (site q i)) h.fillings)
@@ -239,19 +239,19 @@ items_some ts = omega (arith, few_items (items_of ts), counted ts)
 -- ---- lists
 
 module _ (q : Question) (i c : ℕ) where
-  pub first_next : (ts : List Tree) (place : ℕ) (t : Tree) → place < length ts → get_or ts place t ≡ t → AreFirst q i c (items_of (take place ts)) → IsFreshItem q i c (node_count (data_of t)) (items_of (take place ts)) (data_of t) → AreFirst q i c (items_of (take (place + 1) ts))
+  pub first_next : (ts : List Tree) (place : ℕ) (t : Tree) → place < length ts → get_or ts place t ≡ t → AreFirst q i c (items_of (take place ts)) → IsUnusedItem q i c (node_count (data_of t)) (items_of (take place ts)) (data_of t) → AreFirst q i c (items_of (take (place + 1) ts))
   first_next ts place t lt at h f = subst (AreFirst q i c) (sym (join_next ts place t lt at)) (first_more q i c (node_count (data_of t)) (items_of (take place ts)) (data_of t) h f)
 
   module _ (rule : RuleOfParts q.pools q.limit (site q i)) (is : item_site (site q i) ≡ Some (site q c)) (ts : List Tree) (few : 1 + items_count (items_of ts) ≤ q.limit) where
-    pub fresh_in : (place : ℕ) (t : Tree) → place < length ts → get_or ts place t ≡ t → IsPart q.pools (site q i) (list (items_of ts)) → IsFreshItem q i c (node_count (data_of t)) (items_of (take place ts)) (data_of t)
-    fresh_in place t lt at part = elim ((rule.list (site q c) (list (items_of ts)) is few).0 part) [
+    pub unused_in : (place : ℕ) (t : Tree) → place < length ts → get_or ts place t ≡ t → IsPart q.pools (site q i) (list (items_of ts)) → IsUnusedItem q i c (node_count (data_of t)) (items_of (take place ts)) (data_of t)
+    unused_in place t lt at part = elim ((rule.list (site q c) (list (items_of ts)) is few).0 part) [
       | inl none ↦ let no = none.0 in cc
       | inr h ↦
           let same : items_of ts ≡ h.items = let e = h.is in cc in
           let split : h.items ≡ items_then (items_of (take place ts)) (item (data_of t) (items_of (drop (place + 1) ts))) = sym same ∙ split_items ts place t lt at in
           record {
             part = record { part = (parts_split q.pools (site q c) (items_of (take place ts)) (item (data_of t) (items_of (drop (place + 1) ts))) (subst (AreParts q.pools (site q c)) split h.are)).1.0; nodes_are = refl };
-            fresh = apart_fresh (alike_at (site q i)) (items_of (take place ts)) (items_of (drop (place + 1) ts)) (data_of t) (subst (λ ds. are_apart (alike_at (site q i)) ds ≡ true) split h.apart);
+            unused = apart_unused (alike_at (site q i)) (items_of (take place ts)) (items_of (drop (place + 1) ts)) (data_of t) (subst (λ ds. are_apart (alike_at (site q i)) ds ≡ true) split h.apart);
           }
     ]
 
@@ -272,7 +272,7 @@ module _ (q : Question) (i c : ℕ) where
       ends = subst (λ n. HasMore q.pools q.limit (site q i) n 0) (sym (counted ts)) ends;
     }))
 
--- a list with an item goes on behind its beginning
+-- a list with an item goes on after its beginning
 pub goes_on : (q : Question) (i : ℕ) (ts : List Tree) → (length ts == 0) ≡ false → 1 + items_count (items_of ts) ≤ q.limit → IsPart q.pools (site q i) (list (items_of ts)) → (m : ℕ) × HasMore q.pools q.limit (site q i) 1 m
 goes_on q i [] some few part = cc
 goes_on q i (t ∷ ts) some few part = (items_count (items_of ts), record { items = items_of (t ∷ ts); part = part; fits = few; many = omega arith; nodes_are = refl })

@@ -81,7 +81,7 @@ module _ (q : Question) (i place : ℕ) where
   pub costs_both_slots : (old mid new n m : ℕ) → n ≤ m → Costs q old mid n → CostsSlots q i place mid new (m - n) → CostsSlots q i place old new m
   costs_both_slots old mid new n m few h k = λ w wide. omega (arith, split_cost w n (m - n) m (omega (arith, few)), h w wide, k w wide)
 
-  -- the first member, and those behind it
+  -- the first member, and those after it
   module _ (old mid new : ℕ) where
     pub costs_first : (a n m : ℕ) → mid ≡ counted old 1 → m ≡ a + n → Costs q mid new a → CostsSlots q i place old new m
     costs_first a n m step both h = λ w wide. omega (arith, step, split_cost w a n m both, h w wide)

@@ -60,7 +60,7 @@ module _ (q : Question) (i : ℕ) (rule : RuleOfParts q.pools q.limit (site q i)
 
   pub empty_row : CanFill q.pools (slots_from q i 0) (ending_at q i) nothing 0 → IsNext tree_cmp (IsPartOf q i 1) null (Some (object no_members))
   empty_row h =
-      let r : IsRow q i 0 [] (object (members_in (slots_from q i 0) h.fillings)) = record { fillings = h.fillings; is = refl; rest = record { are = h.are; ends = h.ends; nodes_are = h.nodes_are; fresh = λ c. contained [] _ c } } in
+      let r : IsRow q i 0 [] (object (members_in (slots_from q i 0) h.fillings)) = record { fillings = h.fillings; is = refl; rest = record { are = h.are; ends = h.ends; nodes_are = h.nodes_are; unused = λ c. contained [] _ c } } in
       record {
         is = (row_plain q i rule is_row 1 (object no_members) (omega arith) (subst (IsRow q i 0 []) (empty_is _ r) r), refl);
         least = λ u p less. not_itself tree_cmp tree_order u (object no_members) (empty_is u (row_past 1 u p.0 (past_null u p.1))) less;

@@ -1,4 +1,4 @@
--- A question has one page past a place with a count; and what stands past its last sample at a larger limit.
+-- A question has one page past a place with a count; and what is past its last sample at a larger limit.
 use Rattle.std.proofs.Common.{◌≡◌, ◌⊎◌, ◌↔◌, ℕ, ◌-◌, ◌<◌, ◌≤◌, List, [], ◌∷◌, ◌++◌, length, Bool, Option, Some, refl, sym, ap, ◌∙◌, subst, inl, inr, arith, length-append, append-nil}
 use Rattle.std.specs.Prelude.{All, Contains}
 use Rattle.std.proofs.lemmas.Bool.{cases_lt}
@@ -140,7 +140,7 @@ lends_part q first at count lent old new keeps l after h = record {
   part = λ whole end p. listed_begins q after count l.items whole end (l.page after h).listed p;
 }
 
--- and so it is with the sample at which the enumeration stood, from which it did not move on
+-- the same with the sample at which the enumeration was, where it could not move on
 pub lends_part_with : (q : Question) (first : Option Data) (count lent : ℕ) (old new : List Data → Type 0) (v : Data) → ((ds : List Data) → old ds → new (ds ++ v ∷ [])) → lent < count → IsLent q first count lent old (Some v)
     → (after : Option Data) → IsNextSample q after first → LendsPart q after count new
 lends_part_with q first count lent old new v takes room l after h = record {

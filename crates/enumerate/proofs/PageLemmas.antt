@@ -15,15 +15,15 @@ use Rattle.enumerate.specs.Live.{Enumeration, IsNextSample, IsStarted, place_aft
 use Rattle.enumerate.specs.Page.{Precedes, IsPast, IsPastSample, IsPage}
 use Rattle.enumerate.proofs.LeastLemmas.{tree_order, not_itself}
 
--- a sample past the place, and behind all items
-pub record IsBehind (q : Question) (after : Option Data) (items : List Data) (v : Data) : Type 0 where
+-- a sample past the place, and after all items
+pub record IsAfterItems (q : Question) (after : Option Data) (items : List Data) (v : Data) : Type 0 where
   pub past : IsPastSample q after v
-  pub behind : All (λ u. Precedes u v) items
+  pub precede : All (λ u. Precedes u v) items
 
--- the least of those behind the items; or there is none
-abbrev pub IsNextBehind : Question → Option Data → List Data → Option Data → Type 0
-IsNextBehind q after items (Some v) = IsLeast tree_cmp (IsBehind q after items) v
-IsNextBehind q after items None = (v : Data) → IsBehind q after items v → ⊥
+-- the least of those after the items; or there is none
+abbrev pub IsNextAfterItems : Question → Option Data → List Data → Option Data → Type 0
+IsNextAfterItems q after items (Some v) = IsLeast tree_cmp (IsAfterItems q after items) v
+IsNextAfterItems q after items None = (v : Data) → IsAfterItems q after items v → ⊥
 
 -- the first items of a page
 pub record IsListed (q : Question) (after : Option Data) (count : ℕ) (items : List Data) : Type 0 where
@@ -35,7 +35,7 @@ pub record IsListed (q : Question) (after : Option Data) (count : ℕ) (items : 
 -- they, and the sample that comes next
 pub record IsSoFar (q : Question) (after : Option Data) (count : ℕ) (items : List Data) (at : Option Data) : Type 0 where
   pub listed : IsListed q after count items
-  pub next : IsNextBehind q after items at
+  pub next : IsNextAfterItems q after items at
 
 abbrev no_items : List Data
 no_items = []
@@ -43,8 +43,8 @@ no_items = []
 none_in : (P : Data → Type 0) → All P no_items
 none_in P = λ k d lt. absurd (omega arith)
 
-first_next : (q : Question) (after at : Option Data) → IsNextSample q after at → IsNextBehind q after [] at
-first_next q after (Some v) h = record { is = record { past = h.is; behind = none_in (λ u. Precedes u v) }; least = λ u b. h.least u b.past }
+first_next : (q : Question) (after at : Option Data) → IsNextSample q after at → IsNextAfterItems q after [] at
+first_next q after (Some v) h = record { is = record { past = h.is; precede = none_in (λ u. Precedes u v) }; least = λ u b. h.least u b.past }
 first_next q after None h = λ v b. h v b.past
 
 pub none_so_far : (q : Question) (after : Option Data) (count : ℕ) (at : Option Data) → IsNextSample q after at → IsSoFar q after count [] at
@@ -58,7 +58,7 @@ none_so_far q after count at h = record {
   next = first_next q after at h;
 }
 
--- an enumeration that was started stands at the next sample
+-- an enumeration that was started is at the next sample
 pub started_next : (q : Question) (after : Option Data) (live : Enumeration) → IsStarted q after (Some live) → IsNextSample live.question after live.at
 started_next q after live start = subst (IsNextSample live.question after) (sym start.1.1.0) (subst (λ r. IsNextSample r after (Some start.1.0)) (sym start.0) start.1.1.1)
 
@@ -67,8 +67,8 @@ goes_past None u v p h = tt
 goes_past (Some a) u v p h = tree_total.trans a u v p h
 
 module _ (q : Question) (after : Option Data) (count : ℕ) (items : List Data) (w : Data) (s : IsSoFar q after count items (Some w)) where
-  -- what is behind the items is the next one, or behind it too
-  from_next : (v : Data) → IsBehind q after items v → (w ≡ v) ⊎ Precedes w v
+  -- what is after the items is the next one, or after it too
+  from_next : (v : Data) → IsAfterItems q after items v → (w ≡ v) ⊎ Precedes w v
   from_next v b = elim (ordering_cases (tree_cmp v w)) [
     | inl less ↦ absurd (s.next.least v b less)
     | inr (inl equal) ↦ inl (sym (tree_same v w equal))
@@ -76,30 +76,30 @@ module _ (q : Question) (after : Option Data) (count : ℕ) (items : List Data) 
   ]
 
   all_before : (v : Data) → Precedes w v → All (λ u. Precedes u v) (items ++ w ∷ [])
-  all_before v h = All-push (λ u. Precedes u v) items w (All-weaker (λ u. Precedes u w) (λ u. Precedes u v) (λ u p. tree_total.trans u w v p h) items s.next.is.behind) h
+  all_before v h = All-push (λ u. Precedes u v) items w (All-weaker (λ u. Precedes u w) (λ u. Precedes u v) (λ u p. tree_total.trans u w v p h) items s.next.is.precede) h
 
   before_all : (v : Data) → All (λ u. Precedes u v) (items ++ w ∷ []) → Precedes w v
   before_all v all = All-contains (λ u. Precedes u v) (items ++ w ∷ []) w all (Contains-push items w)
 
-  past_next : (v : Data) → IsBehind q after (items ++ w ∷ []) v → IsPastSample q (Some w) v
-  past_next v b = record { sample = b.past.sample; past = before_all v b.behind }
+  past_next : (v : Data) → IsAfterItems q after (items ++ w ∷ []) v → IsPastSample q (Some w) v
+  past_next v b = record { sample = b.past.sample; past = before_all v b.precede }
 
-  next_past : (v : Data) → IsPastSample q (Some w) v → IsBehind q after (items ++ w ∷ []) v
-  next_past v p = record { past = record { sample = p.sample; past = goes_past after w v s.next.is.past.past p.past }; behind = all_before v p.past }
+  next_past : (v : Data) → IsPastSample q (Some w) v → IsAfterItems q after (items ++ w ∷ []) v
+  next_past v p = record { past = record { sample = p.sample; past = goes_past after w v s.next.is.past.past p.past }; precede = all_before v p.past }
 
-  next_behind : (at : Option Data) → IsNextSample q (Some w) at → IsNextBehind q after (items ++ w ∷ []) at
-  next_behind (Some v) h = record { is = next_past v h.is; least = λ u b. h.least u (past_next u b) }
-  next_behind None h = λ v b. h v (past_next v b)
+  next_after : (at : Option Data) → IsNextSample q (Some w) at → IsNextAfterItems q after (items ++ w ∷ []) at
+  next_after (Some v) h = record { is = next_past v h.is; least = λ u b. h.least u (past_next u b) }
+  next_after None h = λ v b. h v (past_next v b)
 
   -- the next one is one more item
   pub one_listed : length items < count → IsListed q after count (items ++ w ∷ [])
   one_listed room = record {
     samples = All-push (IsPastSample q after) items w s.listed.samples s.next.is.past;
-    ascending = all_pairs_push Precedes items w s.listed.ascending s.next.is.behind;
+    ascending = all_pairs_push Precedes items w s.listed.ascending s.next.is.precede;
     short = omega (arith, room, length-append items (w ∷ []));
     rest = λ v p. elim (s.listed.rest v p) [
       | inl listed ↦ inl (Contains-append_left items (w ∷ []) v listed)
-      | inr behind ↦ elim (from_next v (record { past = p; behind = behind })) [
+      | inr precede ↦ elim (from_next v (record { past = p; precede = precede })) [
         | inl same ↦ inl (subst (Contains (items ++ w ∷ [])) same (Contains-push items w))
         | inr later ↦ inr (all_before v later)
       ]
@@ -107,7 +107,7 @@ module _ (q : Question) (after : Option Data) (count : ℕ) (items : List Data) 
   }
 
   pub one_more : (at : Option Data) → length items < count → IsNextSample q (Some w) at → IsSoFar q after count (items ++ w ∷ []) at
-  one_more at room h = record { listed = one_listed room; next = next_behind at h }
+  one_more at room h = record { listed = one_listed room; next = next_after at h }
 
   -- where there is a next one, a full page has no end
   pub full_page : count ≤ length items → IsPage q after count items false
@@ -116,7 +116,7 @@ module _ (q : Question) (after : Option Data) (count : ℕ) (items : List Data) 
     ascending = s.listed.ascending;
     short = s.listed.short;
     rest = s.listed.rest;
-    exact_end = (λ t. cc, λ all. absurd (let at = all w s.next.is.past in let before = All-contains (λ u. Precedes u w) items w s.next.is.behind at in not_itself tree_cmp tree_order w w refl before));
+    exact_end = (λ t. cc, λ all. absurd (let at = all w s.next.is.past in let before = All-contains (λ u. Precedes u w) items w s.next.is.precede at in not_itself tree_cmp tree_order w w refl before));
     full = λ f. omega (arith, full, s.listed.short);
   }
 
@@ -126,13 +126,13 @@ last_page q after count items s = record {
   ascending = s.listed.ascending;
   short = s.listed.short;
   rest = s.listed.rest;
-  exact_end = (λ t v p. elim (s.listed.rest v p) [ inl listed ↦ listed | inr behind ↦ absurd (s.next v (record { past = p; behind = behind })) ], λ all. refl);
+  exact_end = (λ t v p. elim (s.listed.rest v p) [ inl listed ↦ listed | inr precede ↦ absurd (s.next v (record { past = p; precede = precede })) ], λ all. refl);
   full = λ f. cc;
 }
 
 -- ---- what is lent of a page
 
--- So many samples were lent and taken, from the one on at which the enumeration stood first; it stands at the next one now.
+-- So many samples were lent and taken, from the one on at which the enumeration was first; it is at the next one now.
 pub record IsLent (q : Question) (first : Option Data) (count lent : ℕ) (has_taken : List Data → Type 0) (at : Option Data) : Type 0 where
   pub items : List Data
   pub taken : has_taken items
@@ -154,7 +154,7 @@ after_more after [] v = refl
 after_more after (u ∷ items) v = after_more (Some u) items v
 
 module _ (q : Question) (first : Option Data) (count lent : ℕ) where
-  -- the sample at which the enumeration stood is one more, and it moved on
+  -- the sample at which the enumeration was is one more, and it moved on
   pub lent_more : (old new : List Data → Type 0) (v : Data) (at : Option Data) → ((ds : List Data) → old ds → new (ds ++ v ∷ [])) → lent < count → IsNextSample q (Some v) at → IsLent q first count lent old (Some v) → IsLent q first count (lent + 1) new at
   lent_more old new v at takes room later l = record {
     items = l.items ++ v ∷ [];

@@ -64,7 +64,7 @@ module _ (q : Question) (i : ℕ) (rule : RuleOfParts q.pools q.limit (site q i)
         record {
           fillings = r.fillings;
           is = r.is;
-          rest = record { are = r.are; ends = can_end q.pools (slots q.pools (site q i)) (ending_at q i) (state_after (slots q.pools (site q i)) r.fillings nothing) r.ends; nodes_are = omega (arith, nodes); fresh = no_used (slots_from q i 0) _ };
+          rest = record { are = r.are; ends = can_end q.pools (slots q.pools (site q i)) (ending_at q i) (state_after (slots q.pools (site q i)) r.fillings nothing) r.ends; nodes_are = omega (arith, nodes); unused = no_used (slots_from q i 0) _ };
         }
   ]
 

@@ -53,7 +53,7 @@ filter_among test (x ∷ xs) v (inr a) t = elim (cases_Bool (test x)) [
   | inr other ↦ rw other (filter_among test xs v a t)
 ]
 
--- ---- the key of a used row, behind the first slot
+-- ---- the key of a used row, after the first slot
 
 there : (o : Option Data) (v : Data) → is_there o v ≡ true → o ≡ Some v
 there None v e = cc
@@ -165,8 +165,8 @@ used_out P s ss used other h = record {
   apart = rw (used_keys_other s ss other used) at h.apart;
 }
 
-pub used_behind : (P : Pools) (s : Slot) (ss : List Slot) (v : Data) (used : List Data) → AreUsed P (s ∷ ss) used → AreUsed P ss (still_used s v used)
-used_behind P s ss v used h = elim (cases_Bool s.key) [
+pub used_after : (P : Pools) (s : Slot) (ss : List Slot) (v : Data) (used : List Data) → AreUsed P (s ∷ ss) used → AreUsed P ss (still_used s v used)
+used_after P s ss v used h = elim (cases_Bool s.key) [
   | inl key ↦ subst (AreUsed P ss) (sym (still_used_key s ss key v used)) (record {
     few = fewer (has_under s.name v) used h.few;
     tuples = tuples_agreeing s ss key P used v h.tuples;
@@ -178,9 +178,9 @@ used_behind P s ss v used h = elim (cases_Bool s.key) [
 pub free_out : (P : Pools) (s : Slot) (ss : List Slot) (used : List Data) → s.key ≡ false → HasFree P (filter is_key (s ∷ ss)) (used_keys (s ∷ ss) used) [] → HasFree P (filter is_key ss) (used_keys ss used) []
 free_out P s ss used other h = rw (keys_other s ss other, used_keys_other s ss other used) at h
 
-pub unused_behind : (P : Pools) (s : Slot) (ss : List Slot) (used : List Data) (v : Data) (gs : List (Option Data)) → (s.key ≡ true → IsKeySlot P s) → IsPart P s.site v
+pub unused_after : (P : Pools) (s : Slot) (ss : List Slot) (used : List Data) (v : Data) (gs : List (Option Data)) → (s.key ≡ true → IsKeySlot P s) → IsPart P s.site v
     → IsUnused (s ∷ ss) used (key_values (s ∷ ss) (Some v ∷ gs)) ↔ IsUnused ss (still_used s v used) (key_values ss gs)
-unused_behind P s ss used v gs keyed p = elim (cases_Bool s.key) [
+unused_after P s ss used v gs keyed p = elim (cases_Bool s.key) [
   | inl key ↦ rw (key_values_first s ss key v gs, still_used_key s ss key v used) (unused_first s ss key used v (key_values ss gs) (λ e. (keyed key).no_null (subst (IsPart P s.site) e p)))
   | inr other ↦ rw (key_values_other s ss other v gs, still_used_other s ss other v used, used_keys_other s ss other used) ((λ h. h), λ h. h)
 ]
@@ -190,8 +190,8 @@ unused_behind P s ss used v gs keyed p = elim (cases_Bool s.key) [
 pub key_here : (P : Pools) (s : Slot) (ss : List Slot) → AreKeySlots P (s ∷ ss) → s.key ≡ true → IsKeySlot P s
 key_here P s ss keys = keys s (contains (s ∷ ss) s (inl refl))
 
-pub keys_behind : (P : Pools) (s : Slot) (ss : List Slot) → AreKeySlots P (s ∷ ss) → AreKeySlots P ss
-keys_behind P s ss keys = λ t c. keys t (contains (s ∷ ss) t (inr (contained ss t c)))
+pub keys_after : (P : Pools) (s : Slot) (ss : List Slot) → AreKeySlots P (s ∷ ss) → AreKeySlots P ss
+keys_after P s ss keys = λ t c. keys t (contains (s ∷ ss) t (inr (contained ss t c)))
 
 -- what may be left out is no key
 pub no_key : (P : Pools) (s : Slot) (ss : List Slot) → AreKeySlots P (s ∷ ss) → s.must ≡ false → s.key ≡ false
@@ -201,15 +201,15 @@ pub known : (P : Pools) (ss : List Slot) (gs : List (Option Data)) → AreKeySlo
 known P [] [] keys h = tt
 known P [] (g ∷ gs) keys h = absurd h
 known P (s ∷ ss) [] keys h = absurd h
-known P (s ∷ ss) (None ∷ gs) keys h = rw (keys_other s ss (no_key P s ss keys h.0)) (known P ss gs (keys_behind P s ss keys) h.1)
+known P (s ∷ ss) (None ∷ gs) keys h = rw (keys_other s ss (no_key P s ss keys h.0)) (known P ss gs (keys_after P s ss keys) h.1)
 known P (s ∷ ss) (Some v ∷ gs) keys h =
-    let r = known P ss gs (keys_behind P s ss keys) h.1 in
+    let r = known P ss gs (keys_after P s ss keys) h.1 in
     elim (cases_Bool s.key) [
       | inl key ↦ rw key (h.0, r)
       | inr other ↦ rw other r
     ]
 
--- the slots with another key, as many nodes, and the same behind them
+-- the slots with another key, as many nodes, and the same after them
 record Refilled (P : Pools) (ss : List Slot) (gs : List (Option Data)) (k : List Data) : Type 0 where
   fillings : List (Option Data)
   are : AreFillings P ss fillings
@@ -236,12 +236,12 @@ refilled P [] [] (x ∷ k) keys h t = absurd t
 refilled P [] (g ∷ gs) k keys h t = absurd h
 refilled P (s ∷ ss) [] k keys h t = absurd h
 refilled P (s ∷ ss) (None ∷ gs) k keys h t =
-    let r = refilled P ss gs k (keys_behind P s ss keys) h.1 (rw (keys_other s ss (no_key P s ss keys h.0)) at t) in
+    let r = refilled P ss gs k (keys_after P s ss keys) h.1 (rw (keys_other s ss (no_key P s ss keys h.0)) at t) in
     record { fillings = None ∷ r.fillings; are = (h.0, r.are); key_is = r.key_is; nodes_are = r.nodes_are; state_is = r.state_is }
 refilled P (s ∷ ss) (Some v ∷ gs) k keys h t = elim (cases_Bool s.key) [
-  | inl key ↦ refilled_key P s ss v gs k key (key_here P s ss keys key) h.0 (rw key at t) (λ l is. refilled P ss gs l (keys_behind P s ss keys) h.1 is)
+  | inl key ↦ refilled_key P s ss v gs k key (key_here P s ss keys key) h.0 (rw key at t) (λ l is. refilled P ss gs l (keys_after P s ss keys) h.1 is)
   | inr other ↦
-      let r = refilled P ss gs k (keys_behind P s ss keys) h.1 (rw (keys_other s ss other) at t) in
+      let r = refilled P ss gs k (keys_after P s ss keys) h.1 (rw (keys_other s ss other) at t) in
       record { fillings = Some v ∷ r.fillings; are = (h.0, r.are); key_is = key_values_other s ss other v r.fillings ∙ r.key_is; nodes_are = ap (λ n. node_count v + n) r.nodes_are; state_is = λ y. r.state_is (filled s.bit y) }
 ]
 
@@ -250,21 +250,21 @@ refilled P (s ∷ ss) (Some v ∷ gs) k keys h t = elim (cases_Bool s.key) [
 pub some_rest : (P : Pools) (ss : List Slot) (end : Ending) (x : Before) (m : ℕ) (used : List Data) → AreKeySlots P ss → CanFill P ss end x m → HasFree P (filter is_key ss) (used_keys ss used) [] → (gs : List (Option Data)) × IsRest P ss end x m used gs
 some_rest P ss end x m used keys can free =
     let r = refilled P ss can.fillings free.0 keys can.are free.1.0 in
-    (r.fillings, record { are = r.are; ends = subst (MayEnd end) (sym (r.state_is x)) can.ends; nodes_are = r.nodes_are ∙ can.nodes_are; fresh = subst (IsUnused ss used) (sym r.key_is) free.1.1 })
+    (r.fillings, record { are = r.are; ends = subst (MayEnd end) (sym (r.state_is x)) can.ends; nodes_are = r.nodes_are ∙ can.nodes_are; unused = subst (IsUnused ss used) (sym r.key_is) free.1.1 })
 
 pub can_fill : (P : Pools) (ss : List Slot) (end : Ending) (x : Before) (m : ℕ) (used : List Data) (gs : List (Option Data)) → IsRest P ss end x m used gs → CanFill P ss end x m
 can_fill P ss end x m used gs h = record { fillings = gs; are = h.are; ends = h.ends; nodes_are = h.nodes_are }
 
 pub has_free : (P : Pools) (ss : List Slot) (end : Ending) (x : Before) (m : ℕ) (used : List Data) (gs : List (Option Data)) → AreKeySlots P ss → IsRest P ss end x m used gs → HasFree P (filter is_key ss) (used_keys ss used) []
-has_free P ss end x m used gs keys h = (key_values ss gs, (known P ss gs keys h.are, h.fresh))
+has_free P ss end x m used gs keys h = (key_values ss gs, (known P ss gs keys h.are, h.unused))
 
--- what stands behind a slot that is left out
+-- what is after a slot that is left out
 pub rest_out : (P : Pools) (end : Ending) (s : Slot) (ss : List Slot) (x : Before) (m : ℕ) (used : List Data) → AreKeySlots P (s ∷ ss) → (gs : List (Option Data)) → IsRest P (s ∷ ss) end x m used (None ∷ gs) → IsRest P ss end x m used gs
 rest_out P end s ss x m used keys gs h =
-    let fresh = h.fresh in
-    record { are = h.are.1; ends = h.ends; nodes_are = h.nodes_are; fresh = rw (used_keys_other s ss (no_key P s ss keys h.are.0) used) at fresh }
+    let unused = h.unused in
+    record { are = h.are.1; ends = h.ends; nodes_are = h.nodes_are; unused = rw (used_keys_other s ss (no_key P s ss keys h.are.0) used) at unused }
 
--- ---- one slot, and those behind it
+-- ---- one slot, and those after it
 
 module _ (P : Pools) (end : Ending) (s : Slot) (ss : List Slot) (x : Before) (m : ℕ) (used : List Data) (keys : AreKeySlots P (s ∷ ss)) (small : m ≤ most_nodes) where
   abbrev Goes : Option Data → List (Option Data) → Type 0
@@ -289,7 +289,7 @@ module _ (P : Pools) (end : Ending) (s : Slot) (ss : List Slot) (x : Before) (m 
           are = h.are.1;
           ends = h.ends;
           nodes_are = omega (arith, nodes);
-          fresh = (unused_behind P s ss used v gs (key_here P s ss keys) h.are.0).0 h.fresh;
+          unused = (unused_after P s ss used v gs (key_here P s ss keys) h.are.0).0 h.unused;
         },
       )
 
@@ -300,8 +300,8 @@ module _ (P : Pools) (end : Ending) (s : Slot) (ss : List Slot) (x : Before) (m 
 
   join : (o : Option Data) (gs : List (Option Data)) → Goes o gs → Whole (o ∷ gs)
   join None gs h =
-      let fresh = h.1.fresh in
-      record { are = (h.0, h.1.are); ends = h.1.ends; nodes_are = h.1.nodes_are; fresh = rw (used_keys_other s ss (no_key P s ss keys h.0) used) fresh }
+      let unused = h.1.unused in
+      record { are = (h.0, h.1.are); ends = h.1.ends; nodes_are = h.1.nodes_are; unused = rw (used_keys_other s ss (no_key P s ss keys h.0) used) unused }
   join (Some v) gs h =
       let nodes = h.2.nodes_are in
       let few = h.1 in
@@ -309,25 +309,25 @@ module _ (P : Pools) (end : Ending) (s : Slot) (ss : List Slot) (x : Before) (m 
         are = (h.0, h.2.are);
         ends = h.2.ends;
         nodes_are = omega (arith, nodes, few);
-        fresh = (unused_behind P s ss used v gs (key_here P s ss keys) h.0).1 h.2.fresh;
+        unused = (unused_after P s ss used v gs (key_here P s ss keys) h.0).1 h.2.unused;
       }
 
   fits : (o : Option Data) → ((gs : List (Option Data)) × Goes o gs) → OutOrIn Out In o
-  fits None h = (h.1.0, can_fill P ss end x m used h.0 h.1.1, has_free P ss end x m used h.0 (keys_behind P s ss keys) h.1.1)
+  fits None h = (h.1.0, can_fill P ss end x m used h.0 h.1.1, has_free P ss end x m used h.0 (keys_after P s ss keys) h.1.1)
   fits (Some v) h =
       let left = still_used s v used in
       let few = h.1.1 in (
         (record { part = v; is = h.1.0; nodes_are = refl }, (m - node_count v, (can_fill P ss end (filled s.bit x) (m - node_count v) left h.0 h.1.2, omega (arith, few)))),
-        record { part = h.1.0; nodes_are = refl; free = has_free P ss end (filled s.bit x) (m - node_count v) left h.0 (keys_behind P s ss keys) h.1.2 },
+        record { part = h.1.0; nodes_are = refl; free = has_free P ss end (filled s.bit x) (m - node_count v) left h.0 (keys_after P s ss keys) h.1.2 },
       )
 
   fitting : (o : Option Data) → OutOrIn Out In o → (gs : List (Option Data)) × Goes o gs
-  fitting None h = let r = some_rest P ss end x m used (keys_behind P s ss keys) h.1 h.2 in (r.0, (h.0, r.1))
+  fitting None h = let r = some_rest P ss end x m used (keys_after P s ss keys) h.1 h.2 in (r.0, (h.0, r.1))
   fitting (Some v) h =
       let j = h.0.1 in
       let sum = j.1.1 in
       let left : j.0 ≡ m - node_count v = omega (arith, sum) in
-      let r = some_rest P ss end (filled s.bit x) (m - node_count v) (still_used s v used) (keys_behind P s ss keys) (subst (CanFill P ss end (filled s.bit x)) left j.1.0) h.1.free in
+      let r = some_rest P ss end (filled s.bit x) (m - node_count v) (still_used s v used) (keys_after P s ss keys) (subst (CanFill P ss end (filled s.bit x)) left j.1.0) h.1.free in
       (r.0, (h.1.part, omega (arith, sum), r.1))
 
   sizes_small : (n : ℕ) → FitsSlot P s ss end x m n → n ≤ most_nodes
@@ -345,18 +345,18 @@ module _ (P : Pools) (end : Ending) (s : Slot) (ss : List Slot) (x : Before) (m 
   order : (a c : Option Data) (r u : List (Option Data)) → fill_cmp (a ∷ r) (c ∷ u) ≡ ordering_then (option_cmp a c) (fill_cmp r u)
   order a c r u = refl
 
-  -- what stands behind a value
-  abbrev pub Behind : Data → ℕ → List (Option Data) → Type 0
-  Behind v j gs = IsRest P ss end (filled s.bit x) j (still_used s v used) gs
+  -- what is after a value
+  abbrev pub After : Data → ℕ → List (Option Data) → Type 0
+  After v j gs = IsRest P ss end (filled s.bit x) j (still_used s v used) gs
 
   least_out : (gs : List (Option Data)) → s.must ≡ false → IsLeast fill_cmp (IsRest P ss end x m used) gs → IsLeast fill_cmp (Goes None) gs
   least_out gs free h = least_same fill_cmp (IsRest P ss end x m used) (Goes None) gs (λ u r. (free, r)) (λ u r. r.1) h
 
-  least_in : (n : ℕ) (v : Data) (gs : List (Option Data)) → IsValue P s ss used n v → n ≤ m → IsLeast fill_cmp (Behind v (m - n)) gs → IsLeast fill_cmp (Goes (Some v)) gs
+  least_in : (n : ℕ) (v : Data) (gs : List (Option Data)) → IsValue P s ss used n v → n ≤ m → IsLeast fill_cmp (After v (m - n)) gs → IsLeast fill_cmp (Goes (Some v)) gs
   least_in n v gs value few h =
       let nodes = value.nodes_are in
-      least_same fill_cmp (Behind v (m - n)) (Goes (Some v)) gs
-      (λ u r. (value.part, omega (arith, nodes, few), subst (λ k. Behind v (m - k) u) (sym nodes) r)) (λ u r. subst (λ k. Behind v (m - k) u) nodes r.2) h
+      least_same fill_cmp (After v (m - n)) (Goes (Some v)) gs
+      (λ u r. (value.part, omega (arith, nodes, few), subst (λ k. After v (m - k) u) (sym nodes) r)) (λ u r. subst (λ k. After v (m - k) u) nodes r.2) h
 
   within : (from n : ℕ) → IsLeastFrom (FitsSlot P s ss end x m) from n → n ≤ m
   within from n h = let sum = h.1.1.1.1 in omega (arith, sum)
@@ -368,21 +368,21 @@ module _ (P : Pools) (end : Ending) (s : Slot) (ss : List Slot) (x : Before) (m 
       (least_slot None (left_out Out In (fits None (gs, (free, h.is))))) (least_out gs free h)
 
   pub grown_first : (n : ℕ) (v : Data) (gs : List (Option Data)) → (s.must ≡ false → CanFill P ss end x m → ⊥) → IsLeastFrom (FitsSlot P s ss end x m) 0 n → IsLeast tree_cmp (IsValue P s ss used n) v
-      → IsLeast fill_cmp (Behind v (m - n)) gs → IsLeast fill_cmp Whole (Some v ∷ gs)
+      → IsLeast fill_cmp (After v (m - n)) gs → IsLeast fill_cmp Whole (Some v ∷ gs)
   grown_first n v gs stays size first h = least_pair option_cmp fill_cmp fill_cmp (λ o us. o ∷ us) Whole Goes option_order order split join (Some v) gs
       (least_slot (Some v) (first_in Out In (λ out. stays out.0 out.1) v (first_by_size (IsValue P s ss used) (FitsSlot P s ss end x m) value_nodes sizes_small n v size first)))
       (least_in n v gs first.is (within 0 n size) h)
 
   -- ---- the next ones, where the slot is left out
 
-  pub next_behind_out : (old new : List (Option Data)) → s.must ≡ false → IsNext fill_cmp (IsRest P ss end x m used) old (Some new) → IsNext fill_cmp Whole (None ∷ old) (Some (None ∷ new))
-  next_behind_out old new free h = next_rest option_cmp fill_cmp fill_cmp (λ o us. o ∷ us) Whole Goes option_order order split join None old new (next_same fill_cmp (IsRest P ss end x m used) (Goes None) old (Some new) (λ u r. (free, r)) (λ u r. r.1) h)
+  pub next_after_out : (old new : List (Option Data)) → s.must ≡ false → IsNext fill_cmp (IsRest P ss end x m used) old (Some new) → IsNext fill_cmp Whole (None ∷ old) (Some (None ∷ new))
+  next_after_out old new free h = next_rest option_cmp fill_cmp fill_cmp (λ o us. o ∷ us) Whole Goes option_order order split join None old new (next_same fill_cmp (IsRest P ss end x m used) (Goes None) old (Some new) (λ u r. (free, r)) (λ u r. r.1) h)
 
   last_out : (old : List (Option Data)) → s.must ≡ false → IsNext fill_cmp (IsRest P ss end x m used) old None → IsNext fill_cmp (Goes None) old None
   last_out old free h = next_same fill_cmp (IsRest P ss end x m used) (Goes None) old None (λ u r. (free, r)) (λ u r. r.1) h
 
   pub grown_after_out : (old : List (Option Data)) (n : ℕ) (v : Data) (gs : List (Option Data)) → s.must ≡ false → IsNext fill_cmp (IsRest P ss end x m used) old None → IsLeastFrom (FitsSlot P s ss end x m) 0 n
-      → IsLeast tree_cmp (IsValue P s ss used n) v → IsLeast fill_cmp (Behind v (m - n)) gs → IsNext fill_cmp Whole (None ∷ old) (Some (Some v ∷ gs))
+      → IsLeast tree_cmp (IsValue P s ss used n) v → IsLeast fill_cmp (After v (m - n)) gs → IsNext fill_cmp Whole (None ∷ old) (Some (Some v ∷ gs))
   grown_after_out old n v gs free last size first h = next_part option_cmp fill_cmp fill_cmp (λ o us. o ∷ us) Whole Goes option_order order split join None old (Some v) gs (last_out old free last)
       (next_slot None (Some (Some v)) (in_after_out Out In v (first_by_size (IsValue P s ss used) (FitsSlot P s ss end x m) value_nodes sizes_small n v size first)))
       (least_in n v gs first.is (within 0 n size) h)
@@ -391,31 +391,31 @@ module _ (P : Pools) (end : Ending) (s : Slot) (ss : List Slot) (x : Before) (m 
   none_after_out_slot old free last none = no_next option_cmp fill_cmp fill_cmp (λ o us. o ∷ us) Whole Goes option_order order split join None old (last_out old free last)
       (next_slot None None (none_after_out Out In (λ v h. none (node_count v) (omega arith) h.0)))
 
-  -- ---- the next ones, where a value stands in the slot
+  -- ---- the next ones, where a value is in the slot
 
   module _ (v : Data) (old : List (Option Data)) (is : Whole (Some v ∷ old)) where
-    abbrev stands : Goes (Some v) old
-    stands = goes_in v old is
+    abbrev old_goes : Goes (Some v) old
+    old_goes = goes_in v old is
 
-    next_in_goes : (next : Option (List (Option Data))) → IsNext fill_cmp (Behind v (filled_nodes old)) old next → IsNext fill_cmp (Goes (Some v)) old next
-    next_in_goes next h = next_same fill_cmp (Behind v (filled_nodes old)) (Goes (Some v)) old next
-        (λ u r. (stands.0, stands.1, subst (λ k. Behind v k u) stands.2.nodes_are r)) (λ u r. subst (λ k. Behind v k u) (sym stands.2.nodes_are) r.2) h
+    next_in_goes : (next : Option (List (Option Data))) → IsNext fill_cmp (After v (filled_nodes old)) old next → IsNext fill_cmp (Goes (Some v)) old next
+    next_in_goes next h = next_same fill_cmp (After v (filled_nodes old)) (Goes (Some v)) old next
+        (λ u r. (old_goes.0, old_goes.1, subst (λ k. After v k u) old_goes.2.nodes_are r)) (λ u r. subst (λ k. After v k u) (sym old_goes.2.nodes_are) r.2) h
 
-    pub next_behind_in : (new : List (Option Data)) → IsNext fill_cmp (Behind v (filled_nodes old)) old (Some new) → IsNext fill_cmp Whole (Some v ∷ old) (Some (Some v ∷ new))
-    next_behind_in new h = next_rest option_cmp fill_cmp fill_cmp (λ o us. o ∷ us) Whole Goes option_order order split join (Some v) old new (next_in_goes (Some new) h)
+    pub next_after_in : (new : List (Option Data)) → IsNext fill_cmp (After v (filled_nodes old)) old (Some new) → IsNext fill_cmp Whole (Some v ∷ old) (Some (Some v ∷ new))
+    next_after_in new h = next_rest option_cmp fill_cmp fill_cmp (λ o us. o ∷ us) Whole Goes option_order order split join (Some v) old new (next_in_goes (Some new) h)
 
-    pub next_value : (w : Data) (gs : List (Option Data)) → IsNext fill_cmp (Behind v (filled_nodes old)) old None → IsNext tree_cmp (IsValue P s ss used (node_count v)) v (Some w)
-        → IsLeast fill_cmp (Behind w (filled_nodes old)) gs → IsNext fill_cmp Whole (Some v ∷ old) (Some (Some w ∷ gs))
+    pub next_value : (w : Data) (gs : List (Option Data)) → IsNext fill_cmp (After v (filled_nodes old)) old None → IsNext tree_cmp (IsValue P s ss used (node_count v)) v (Some w)
+        → IsLeast fill_cmp (After w (filled_nodes old)) gs → IsNext fill_cmp Whole (Some v ∷ old) (Some (Some w ∷ gs))
     next_value w gs last next h = next_part option_cmp fill_cmp fill_cmp (λ o us. o ∷ us) Whole Goes option_order order split join (Some v) old (Some w) gs (next_in_goes None last)
-        (next_slot (Some v) (Some (Some w)) (next_in Out In v (Some w) (next_of_size (IsValue P s ss used) (FitsSlot P s ss end x m) value_nodes sizes_small v w (fits (Some v) (old, stands)) next)))
-        (least_in (node_count v) w gs next.is.0 stands.1 (subst (λ k. IsLeast fill_cmp (Behind w k) gs) stands.2.nodes_are h))
+        (next_slot (Some v) (Some (Some w)) (next_in Out In v (Some w) (next_of_size (IsValue P s ss used) (FitsSlot P s ss end x m) value_nodes sizes_small v w (fits (Some v) (old, old_goes)) next)))
+        (least_in (node_count v) w gs next.is.0 old_goes.1 (subst (λ k. IsLeast fill_cmp (After w k) gs) old_goes.2.nodes_are h))
 
-    pub grown_after_in : (n : ℕ) (w : Data) (gs : List (Option Data)) → IsNext fill_cmp (Behind v (filled_nodes old)) old None → IsNext tree_cmp (IsValue P s ss used (node_count v)) v None
-        → IsLeastFrom (FitsSlot P s ss end x m) (node_count v + 1) n → IsLeast tree_cmp (IsValue P s ss used n) w → IsLeast fill_cmp (Behind w (m - n)) gs → IsNext fill_cmp Whole (Some v ∷ old) (Some (Some w ∷ gs))
+    pub grown_after_in : (n : ℕ) (w : Data) (gs : List (Option Data)) → IsNext fill_cmp (After v (filled_nodes old)) old None → IsNext tree_cmp (IsValue P s ss used (node_count v)) v None
+        → IsLeastFrom (FitsSlot P s ss end x m) (node_count v + 1) n → IsLeast tree_cmp (IsValue P s ss used n) w → IsLeast fill_cmp (After w (m - n)) gs → IsNext fill_cmp Whole (Some v ∷ old) (Some (Some w ∷ gs))
     grown_after_in n w gs last none size first h = next_part option_cmp fill_cmp fill_cmp (λ o us. o ∷ us) Whole Goes option_order order split join (Some v) old (Some w) gs (next_in_goes None last)
-        (next_slot (Some v) (Some (Some w)) (next_in Out In v (Some w) (next_size (IsValue P s ss used) (FitsSlot P s ss end x m) value_nodes sizes_small v n w (fits (Some v) (old, stands)) none size first)))
+        (next_slot (Some v) (Some (Some w)) (next_in Out In v (Some w) (next_size (IsValue P s ss used) (FitsSlot P s ss end x m) value_nodes sizes_small v n w (fits (Some v) (old, old_goes)) none size first)))
         (least_in n w gs first.is (within (node_count v + 1) n size) h)
 
-    pub none_after_in : IsNext fill_cmp (Behind v (filled_nodes old)) old None → IsNext tree_cmp (IsValue P s ss used (node_count v)) v None → IsEmptyFrom (FitsSlot P s ss end x m) (node_count v + 1) → IsNext fill_cmp Whole (Some v ∷ old) None
+    pub none_after_in : IsNext fill_cmp (After v (filled_nodes old)) old None → IsNext tree_cmp (IsValue P s ss used (node_count v)) v None → IsEmptyFrom (FitsSlot P s ss end x m) (node_count v + 1) → IsNext fill_cmp Whole (Some v ∷ old) None
     none_after_in last none empty = no_next option_cmp fill_cmp fill_cmp (λ o us. o ∷ us) Whole Goes option_order order split join (Some v) old (next_in_goes None last)
-        (next_slot (Some v) None (next_in Out In v None (no_next_size (IsValue P s ss used) (FitsSlot P s ss end x m) value_nodes sizes_small v (fits (Some v) (old, stands)) none empty)))
+        (next_slot (Some v) None (next_in Out In v None (no_next_size (IsValue P s ss used) (FitsSlot P s ss end x m) value_nodes sizes_small v (fits (Some v) (old, old_goes)) none empty)))

@@ -15,10 +15,10 @@ use Rattle.plan.specs.Samples.RuleOfParts.{members_in}
 use Rattle.plan.specs.Samples.Keys.{AreKeySlots, AreInOrder}
 use Rattle.enumerate.specs.Least.{IsNext}
 use Rattle.enumerate.specs.Internal.Rows.{fill_cmp, IsRest, AddsFirst, still_used, IsValue, IsGrown}
-use Rattle.enumerate.specs.Internal.Moves.{Begins, StandIn, AreNext, AreMoved}
+use Rattle.enumerate.specs.Internal.Moves.{Begins, AreInSlots, AreNext, AreMoved}
 use Rattle.enumerate.specs.declared.moved.Step.{Step}
 use Rattle.enumerate.specs.declared.moved.Step.TheVariants.{Moved, Last}
-use Rattle.enumerate.proofs.RowLemmas.{rest_out, next_behind_out, grown_after_out, none_after_out_slot, next_behind_in, next_value, grown_after_in, none_after_in}
+use Rattle.enumerate.proofs.RowLemmas.{rest_out, next_after_out, grown_after_out, none_after_out_slot, next_after_in, next_value, grown_after_in, none_after_in}
 use Rattle.enumerate.proofs.RowOrder.{before_in}
 
 pub never_begins : (k : List ℕ) (ms : Members) → IsNameBefore k ms → Begins k ms → ⊥
@@ -28,16 +28,16 @@ never_begins k (member l d ms) before b = not_itself k l (sym b) before
 module _ (P : Pools) (end : Ending) (s : Slot) (ss : List Slot) (x : Before) (used : List Data) (keys : AreKeySlots P (s ∷ ss)) where
   -- ---- the slot is left out
 
-  -- nothing stands in the slot, where the members do not begin with its name
-  pub stands_out : (members : List Member) (gs : List (Option Data)) → StandIn P (s ∷ ss) end x used members gs → (Begins s.name (members_of members) → ⊥)
-      → (hs : List (Option Data)) × ((gs ≡ None ∷ hs) × ((s.must ≡ false) × StandIn P ss end x used members hs))
-  stands_out members [] h other = absurd h.rest.are
-  stands_out members (Some v ∷ gs) h other = absurd (other (subst (Begins s.name) (sym h.are) refl))
-  stands_out members (None ∷ gs) h other =
+  -- the slot is empty, where the members do not begin with its name
+  pub slot_empty : (members : List Member) (gs : List (Option Data)) → AreInSlots P (s ∷ ss) end x used members gs → (Begins s.name (members_of members) → ⊥)
+      → (hs : List (Option Data)) × ((gs ≡ None ∷ hs) × ((s.must ≡ false) × AreInSlots P ss end x used members hs))
+  slot_empty members [] h other = absurd h.rest.are
+  slot_empty members (Some v ∷ gs) h other = absurd (other (subst (Begins s.name) (sym h.are) refl))
+  slot_empty members (None ∷ gs) h other =
       (gs, (refl, (h.rest.are.0, record { are = h.are; rest = rest_out P end s ss x (filled_nodes gs) used keys gs h.rest })))
 
   pub moved_out : (gs : List (Option Data)) (new : List Member) → filled_nodes gs ≤ most_nodes → s.must ≡ false → AreNext P ss end x used gs new → AreNext P (s ∷ ss) end x used (None ∷ gs) new
-  moved_out gs new small free h = record { fillings = None ∷ h.fillings; are = h.are; next = next_behind_out P end s ss x (filled_nodes gs) used keys small gs h.fillings free h.next }
+  moved_out gs new small free h = record { fillings = None ∷ h.fillings; are = h.are; next = next_after_out P end s ss x (filled_nodes gs) used keys small gs h.fillings free h.next }
 
   pub grown_out : (step : Step) (gs : List (Option Data)) (base new : List Member) → filled_nodes gs ≤ most_nodes → s.must ≡ false → length base ≡ x.count → IsNext fill_cmp (IsRest P ss end x (filled_nodes gs) used) gs None
       → IsGrown step P s ss end x (filled_nodes gs) 0 used base new → AreMoved step P (s ∷ ss) end x used (None ∷ gs) (drop x.count new)
@@ -51,20 +51,20 @@ module _ (P : Pools) (end : Ending) (s : Slot) (ss : List Slot) (x : Before) (us
       }
   grown_out (Last n) gs base new small free count last h = (none_after_out_slot P end s ss x (filled_nodes gs) used keys small gs free last h.1, sym h.2)
 
-  -- ---- a value stands in it
+  -- ---- a value is in it
 
-  pub stands_in : (members : List Member) (gs : List (Option Data)) → AreInOrder (s ∷ ss) → StandIn P (s ∷ ss) end x used members gs → Begins s.name (members_of members)
+  pub slot_filled : (members : List Member) (gs : List (Option Data)) → AreInOrder (s ∷ ss) → AreInSlots P (s ∷ ss) end x used members gs → Begins s.name (members_of members)
       → (v : Data) × ((hs : List (Option Data)) × (gs ≡ Some v ∷ hs))
-  stands_in members [] o h begin = absurd h.rest.are
-  stands_in members (Some v ∷ gs) o h begin = (v, (gs, refl))
-  stands_in members (None ∷ gs) o h begin = absurd (never_begins s.name (members_in ss gs) (before_in s.name ss gs o.0) (subst (Begins s.name) h.are begin))
+  slot_filled members [] o h begin = absurd h.rest.are
+  slot_filled members (Some v ∷ gs) o h begin = (v, (gs, refl))
+  slot_filled members (None ∷ gs) o h begin = absurd (never_begins s.name (members_in ss gs) (before_in s.name ss gs o.0) (subst (Begins s.name) h.are begin))
 
   module _ (v : Data) (gs : List (Option Data)) (is : IsRest P (s ∷ ss) end x (filled_nodes (Some v ∷ gs)) used (Some v ∷ gs)) (small : filled_nodes (Some v ∷ gs) ≤ most_nodes) where
     pub moved_in : (one : Member) (new : List Member) → one.name ≡ s.name → data_of one.tree ≡ v → AreNext P ss end (filled s.bit x) (still_used s v used) gs new → AreNext P (s ∷ ss) end x used (Some v ∷ gs) (one ∷ new)
     moved_in one new name tree_is h = record {
       fillings = Some v ∷ h.fillings;
       are = λ k. member (name k) (tree_is k) (h.are k);
-      next = next_behind_in P end s ss x (filled_nodes (Some v ∷ gs)) used keys small v gs is h.fillings h.next;
+      next = next_after_in P end s ss x (filled_nodes (Some v ∷ gs)) used keys small v gs is h.fillings h.next;
     }
 
     pub value_in : (w : Data) (one : Member) (base new : List Member) → length base ≡ x.count → one.name ≡ s.name → data_of one.tree ≡ w → IsNext fill_cmp (IsRest P ss end (filled s.bit x) (filled_nodes gs) (still_used s v used)) gs None

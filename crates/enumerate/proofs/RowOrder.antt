@@ -1,4 +1,4 @@
--- The order of rows of as many nodes is that of what stands in their slots.
+-- The order of rows of as many nodes is that of what is in their slots.
 use Rattle.std.specs.Prelude.{◌≡◌, ℕ, ◌+◌, ◌-◌, List, Option, Some, None, option_map, Contains}
 use Rattle.std.proofs.Common.{refl, ap, sym, ◌∙◌, subst, inl, inr, arith, [], ◌∷◌}
 use Rattle.std.specs.Cmp.{nat_cmp_is}
@@ -85,7 +85,7 @@ row_least q i m used gs o h = record {
   least = λ u r less. h.least r.fillings r.rest (sym (rows_order q.pools (slots_from q i 0) (ending_at q i) nothing m used r.fillings gs o r.rest h.is) ∙ subst (λ x. tree_cmp x (tree.object (members_in (slots_from q i 0) gs)) ≡ Less) r.is less);
 }
 
--- what stands next in the slots makes the next object
+-- what is next in the slots makes the next object
 pub row_next : (q : Question) (i : ℕ) (used : List Data) (old : Data) (gs : List (Option Data)) (next : Option (List (Option Data))) → AreInOrder (slots_from q i 0) → old ≡ tree.object (members_in (slots_from q i 0) gs)
     → IsRest q.pools (slots_from q i 0) (ending_at q i) nothing (filled_nodes gs) used gs → filled_nodes gs ≡ node_count old - 1 → IsNext fill_cmp (IsRest q.pools (slots_from q i 0) (ending_at q i) nothing (filled_nodes gs) used) gs next
     → IsNext tree_cmp (IsRow q i (node_count old - 1) used) old (option_map (λ us. tree.object (members_in (slots_from q i 0) us)) next)

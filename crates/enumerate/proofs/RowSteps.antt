@@ -20,13 +20,13 @@ use Rattle.plan.specs.Samples.Sizes.{AreFillings, CanFill, HasSize, filled_nodes
 use Rattle.plan.specs.Samples.RuleOfParts.{members_in}
 use Rattle.plan.specs.Samples.NoDeadEnd.{is_key, IsTuple, AreCounts, product, HasFree}
 use Rattle.plan.specs.Samples.Keys.{IsKeySlot, AreKeySlots, HasTuples, HasSoundParts, key_under}
-use Rattle.plan.specs.Samples.Handed.{IsSlotAt}
+use Rattle.plan.specs.Samples.ByPlace.{IsSlotAt}
 use Rattle.plan.specs.Samples.Question.{Question}
 use Rattle.plan.specs.Samples.Candidates.{sort_of}
 use Rattle.plan.specs.declared.sort.Sort.TheVariants as sort
 use Rattle.enumerate.specs.declared.moved.Step.{Step}
 use Rattle.enumerate.specs.declared.moved.Step.TheVariants.{Moved, Last}
-use Rattle.plan.specs.declared.plan.Slot as handed
+use Rattle.plan.specs.declared.plan.Slot as answer
 use Rattle.enumerate.specs.Least.{IsLeast, IsNext}
 use Rattle.enumerate.specs.Internal.Nodes.{site, IsPartOf}
 use Rattle.enumerate.specs.Internal.Candidates.{agreeing, IsFreeKey}
@@ -34,11 +34,11 @@ use Rattle.enumerate.specs.Internal.Rows.{option_cmp, fill_cmp, slots_from, slot
 use Rattle.enumerate.proofs.LeastLemmas.{least_same, then_less, option_order}
 use Rattle.enumerate.proofs.ListLemmas.{some_nodes}
 use Rattle.enumerate.proofs.RowOrder.{filled_count_nodes}
-use Rattle.enumerate.proofs.RowLemmas.{still_used_other, keys_first, still_used_key, used_out, used_behind, free_out, key_here, keys_behind, no_key, unused_first, some_rest, left_out_first, grown_first}
+use Rattle.enumerate.proofs.RowLemmas.{still_used_other, keys_first, still_used_key, used_out, used_after, free_out, key_here, keys_after, no_key, unused_first, some_rest, left_out_first, grown_first}
 
 -- ---- the slot at a place
 
-pub slot_of : (q : Question) (i place : ℕ) (t : handed.Slot) → IsSlotAt (sites_of q.root) (slots q.pools (site q i)) place t → t.node < i → HasTuples q.pools (slots_from q i (place + 1)) t.later → IfSome t.bit (λ j. j < 4) → place < 18446744073709551615
+pub slot_of : (q : Question) (i place : ℕ) (t : answer.Slot) → IsSlotAt (sites_of q.root) (slots q.pools (site q i)) place t → t.node < i → HasTuples q.pools (slots_from q i (place + 1)) t.later → IfSome t.bit (λ j. j < 4) → place < 18446744073709551615
     → IsSlotOf q i place t
 slot_of q i place t at below later few followed =
     let ss = slots q.pools (site q i) in
@@ -58,8 +58,8 @@ slot_of q i place t at below later few followed =
       followed = followed;
     }
 
--- what stands behind a slot that was filled as it was handed out
-pub filled_at : (q : Question) (i place : ℕ) (t : handed.Slot) (x y : Before) → IsSlotOf q i place t → y ≡ filled t.bit x → y ≡ filled (slot_in q i place).bit x
+-- what is before the next place, where the slot is filled
+pub filled_at : (q : Question) (i place : ℕ) (t : answer.Slot) (x y : Before) → IsSlotOf q i place t → y ≡ filled t.bit x → y ≡ filled (slot_in q i place).bit x
 filled_at q i place t x y slot is = is ∙ ap (λ k. filled k x) slot.bit
 
 pub no_slots : (q : Question) (i place : ℕ) → length (slots q.pools (site q i)) ≤ place → slots_from q i place ≡ []
@@ -68,7 +68,7 @@ no_slots q i place past = drop_of_length-le (slots q.pools (site q i)) past
 pub keys_from : (P : Pools) (ss : List Slot) (place : ℕ) → AreKeySlots P ss → AreKeySlots P (drop place ss)
 keys_from P ss zero keys = keys
 keys_from P [] (suc place) keys = keys
-keys_from P (s ∷ ss) (suc place) keys = keys_from P ss place (keys_behind P s ss keys)
+keys_from P (s ∷ ss) (suc place) keys = keys_from P ss place (keys_after P s ss keys)
 
 -- ---- the first members
 
@@ -80,7 +80,7 @@ nothing_rest : (P : Pools) (end : Ending) (x : Before) (m : ℕ) (used : List Da
     → (Contains (used_keys [] used) k → ⊥) → IsRest P [] end x m used []
 nothing_rest P end x m used (g ∷ gs) k are ends nodes is free = absurd are
 nothing_rest P end x m used [] (v ∷ k) are ends nodes is free = absurd is
-nothing_rest P end x m used [] [] are ends nodes is free = record { are = tt; ends = ends; nodes_are = nodes; fresh = free }
+nothing_rest P end x m used [] [] are ends nodes is free = record { are = tt; ends = ends; nodes_are = nodes; unused = free }
 
 pub adds_none : (P : Pools) (end : Ending) (x : Before) (m : ℕ) (used : List Data) (old : List Member) → IsOpen P [] end x m used → AddsFirst P [] end x m used old old
 adds_none P end x m used old h = record {
@@ -104,7 +104,7 @@ open_out P end s ss x m used keys free can h =
 same_member : (k l : List ℕ) (d : Data) (ms : tree.Members) (ns : tree.Members) → k ≡ l → ms ≡ ns → member k d ms ≡ member l d ns
 same_member k l d ms ns p q = λ i. member (p i) d (q i)
 
--- a value stands in it
+-- a value is in it
 pub adds_grown : (P : Pools) (end : Ending) (s : Slot) (ss : List Slot) (x : Before) (m : ℕ) (used : List Data) (old new : List Member) → AreKeySlots P (s ∷ ss) → m ≤ most_nodes → (s.must ≡ false → CanFill P ss end x m → ⊥)
     → Grows P s ss end x m 0 used old new → AddsFirst P (s ∷ ss) end x m used old new
 adds_grown P end s ss x m used old new keys small stays h = record {
@@ -147,11 +147,11 @@ part_is_value q c s ss used n u is other free = (
   λ w. record { part = subst (λ M. IsPart q.pools M u) (sym is) w.part; nodes_are = w.nodes_are },
 )
 
--- a key leaves another, where fewer rows have it than there are tuples behind it
+-- a key leaves another, where fewer rows have it than there are tuples of the keys after it
 pub key_free : FreeLaw → (P : Pools) (s : Slot) (ss : List Slot) (used : List Data) (v : Data) (later : ℕ) → s.key ≡ true → AreUsed P (s ∷ ss) used → HasTuples P ss later
     → (length (agreeing s.name v used) < later) ↔ HasFree P (filter is_key ss) (used_keys ss (still_used s v used)) []
 key_free law P s ss used v later key known tuples =
-    let u = used_behind P s ss v used known in
+    let u = used_after P s ss v used known in
     let same = still_used_key s ss key v used in
     let is = law P (filter is_key ss) (used_keys ss (still_used s v used)) tuples.0 u.tuples u.apart tuples.1.0 in
     let count : length (used_keys ss (still_used s v used)) ≡ length (agreeing s.name v used) = length-map (still_used s v used) (λ w. key_under ss w) ∙ ap length same in
@@ -186,11 +186,11 @@ pub some_key : FreeLaw → (q : Question) (c : ℕ) (s : Slot) (ss : List Slot) 
 some_key law q c s ss used n later is key slot known tuples size free =
     tuple_key law q c s ss used n later free.0 is key slot known tuples size (rw (keys_first s ss key) at free.1.0) free.1.1
 
--- the slots behind a value
-pub open_behind : (P : Pools) (end : Ending) (s : Slot) (ss : List Slot) (x : Before) (m : ℕ) (used : List Data) (n j : ℕ) (v : Data) → AreUsed P (s ∷ ss) used → n + j ≡ m → FitsSlot P s ss end x m n → IsValue P s ss used n v
+-- the slots after a value
+pub open_after : (P : Pools) (end : Ending) (s : Slot) (ss : List Slot) (x : Before) (m : ℕ) (used : List Data) (n j : ℕ) (v : Data) → AreUsed P (s ∷ ss) used → n + j ≡ m → FitsSlot P s ss end x m n → IsValue P s ss used n v
     → IsOpen P ss end (filled s.bit x) j (still_used s v used)
-open_behind P end s ss x m used n j v known sum fits value = record {
-  known = used_behind P s ss v used known;
+open_after P end s ss x m used n j v known sum fits value = record {
+  known = used_after P s ss v used known;
   rest = subst (CanFill P ss end (filled s.bit x)) (let split = fits.1.1.1 in omega (arith, split, sum)) fits.1.1.0;
   free = value.free;
 }
@@ -259,8 +259,8 @@ pub one_fewer : (q : Question) (i place : ℕ) → slots_from q i place ≡ slot
 one_fewer q i place first = let e = ap (λ (xs : List Slot). length xs) first in omega (arith, e)
 
 module _ (q : Question) (i place : ℕ) (sound : HasSoundParts q.pools (site q i)) where
-  abbrev behind : List Slot
-  behind = slots_from q i (place + 1)
+  abbrev after : List Slot
+  after = slots_from q i (place + 1)
 
   abbrev here : Slot
   here = slot_in q i place
@@ -270,57 +270,57 @@ module _ (q : Question) (i place : ℕ) (sound : HasSoundParts q.pools (site q i
       let none = no_slots q i place past in
       subst (λ ss. AddsFirst q.pools ss (ending_at q i) x m used old old) (sym none) (adds_none q.pools (ending_at q i) x m used old (subst (λ ss. IsOpen q.pools ss (ending_at q i) x m used) none so))
 
-  module _ (first : slots_from q i place ≡ here ∷ behind) where
-    keys : AreKeySlots q.pools (here ∷ behind)
+  module _ (first : slots_from q i place ≡ here ∷ after) where
+    keys : AreKeySlots q.pools (here ∷ after)
     keys = subst (AreKeySlots q.pools) first (keys_at q i place sound)
 
-    opened : (x : Before) (m : ℕ) (used : List Data) → IsOpen q.pools (slots_from q i place) (ending_at q i) x m used → IsOpen q.pools (here ∷ behind) (ending_at q i) x m used
+    opened : (x : Before) (m : ℕ) (used : List Data) → IsOpen q.pools (slots_from q i place) (ending_at q i) x m used → IsOpen q.pools (here ∷ after) (ending_at q i) x m used
     opened x m used so = subst (λ ss. IsOpen q.pools ss (ending_at q i) x m used) first so
 
-    known_here : (used : List Data) → AreUsed q.pools (slots_from q i place) used → AreUsed q.pools (here ∷ behind) used
+    known_here : (used : List Data) → AreUsed q.pools (slots_from q i place) used → AreUsed q.pools (here ∷ after) used
     known_here used h = subst (λ ss. AreUsed q.pools ss used) first h
 
-    pub out_open : (x : Before) (m : ℕ) (used : List Data) → here.must ≡ false → CanFill q.pools behind (ending_at q i) x m → IsOpen q.pools (slots_from q i place) (ending_at q i) x m used → IsOpen q.pools behind (ending_at q i) x m used
-    out_open x m used free can so = open_out q.pools (ending_at q i) here behind x m used keys free can (opened x m used so)
+    pub out_open : (x : Before) (m : ℕ) (used : List Data) → here.must ≡ false → CanFill q.pools after (ending_at q i) x m → IsOpen q.pools (slots_from q i place) (ending_at q i) x m used → IsOpen q.pools after (ending_at q i) x m used
+    out_open x m used free can so = open_out q.pools (ending_at q i) here after x m used keys free can (opened x m used so)
 
-    pub out_adds : (x : Before) (m : ℕ) (used : List Data) (old new : List Member) → m ≤ most_nodes → here.must ≡ false → AddsFirst q.pools behind (ending_at q i) x m used old new → AddsFirst q.pools (slots_from q i place) (ending_at q i) x m used old new
-    out_adds x m used old new small free h = subst (λ ss. AddsFirst q.pools ss (ending_at q i) x m used old new) (sym first) (adds_out q.pools (ending_at q i) here behind x m used old new keys small free h)
+    pub out_adds : (x : Before) (m : ℕ) (used : List Data) (old new : List Member) → m ≤ most_nodes → here.must ≡ false → AddsFirst q.pools after (ending_at q i) x m used old new → AddsFirst q.pools (slots_from q i place) (ending_at q i) x m used old new
+    out_adds x m used old new small free h = subst (λ ss. AddsFirst q.pools ss (ending_at q i) x m used old new) (sym first) (adds_out q.pools (ending_at q i) here after x m used old new keys small free h)
 
-    grown_adds : (step : Step) (x : Before) (m : ℕ) (used : List Data) (old new : List Member) → m ≤ most_nodes → (here.must ≡ false → CanFill q.pools behind (ending_at q i) x m → ⊥) → CanFill q.pools (here ∷ behind) (ending_at q i) x m
-        → IsGrown step q.pools here behind (ending_at q i) x m 0 used old new → AddsFirst q.pools (here ∷ behind) (ending_at q i) x m used old new
-    grown_adds Moved x m used old new small stays can h = adds_grown q.pools (ending_at q i) here behind x m used old new keys small stays h
-    grown_adds (Last n) x m used old new small stays can h = absurd (not_stuck q.pools (ending_at q i) here behind x m can stays h.1)
+    grown_adds : (step : Step) (x : Before) (m : ℕ) (used : List Data) (old new : List Member) → m ≤ most_nodes → (here.must ≡ false → CanFill q.pools after (ending_at q i) x m → ⊥) → CanFill q.pools (here ∷ after) (ending_at q i) x m
+        → IsGrown step q.pools here after (ending_at q i) x m 0 used old new → AddsFirst q.pools (here ∷ after) (ending_at q i) x m used old new
+    grown_adds Moved x m used old new small stays can h = adds_grown q.pools (ending_at q i) here after x m used old new keys small stays h
+    grown_adds (Last n) x m used old new small stays can h = absurd (not_stuck q.pools (ending_at q i) here after x m can stays h.1)
 
-    pub grown_at : (step : Step) (x : Before) (m : ℕ) (used : List Data) (old new : List Member) → m ≤ most_nodes → (here.must ≡ false → CanFill q.pools behind (ending_at q i) x m → ⊥) → IsOpen q.pools (slots_from q i place) (ending_at q i) x m used
-        → IsGrown step q.pools here behind (ending_at q i) x m 0 used old new → AddsFirst q.pools (slots_from q i place) (ending_at q i) x m used old new
+    pub grown_at : (step : Step) (x : Before) (m : ℕ) (used : List Data) (old new : List Member) → m ≤ most_nodes → (here.must ≡ false → CanFill q.pools after (ending_at q i) x m → ⊥) → IsOpen q.pools (slots_from q i place) (ending_at q i) x m used
+        → IsGrown step q.pools here after (ending_at q i) x m 0 used old new → AddsFirst q.pools (slots_from q i place) (ending_at q i) x m used old new
     grown_at step x m used old new small stays so h = subst (λ ss. AddsFirst q.pools ss (ending_at q i) x m used old new) (sym first) (grown_adds step x m used old new small stays (opened x m used so).rest h)
 
-    pub behind_open : (x : Before) (m : ℕ) (used : List Data) (n : ℕ) (v : Data) → AreUsed q.pools (slots_from q i place) used → FitsSlot q.pools here behind (ending_at q i) x m n → IsValue q.pools here behind used n v
-        → IsOpen q.pools behind (ending_at q i) (filled here.bit x) (m - n) (still_used here v used)
-    behind_open x m used n v known fits value =
+    pub after_open : (x : Before) (m : ℕ) (used : List Data) (n : ℕ) (v : Data) → AreUsed q.pools (slots_from q i place) used → FitsSlot q.pools here after (ending_at q i) x m n → IsValue q.pools here after used n v
+        → IsOpen q.pools after (ending_at q i) (filled here.bit x) (m - n) (still_used here v used)
+    after_open x m used n v known fits value =
         let sum = fits.1.1.1 in
-        open_behind q.pools (ending_at q i) here behind x m used n (m - n) v (known_here used known) (omega (arith, sum)) fits value
+        open_after q.pools (ending_at q i) here after x m used n (m - n) v (known_here used known) (omega (arith, sum)) fits value
 
-    pub key_value : FreeLaw → (c : ℕ) (used : List Data) (n later : ℕ) (v : Data) → site q c ≡ here.site → here.key ≡ true → AreUsed q.pools (slots_from q i place) used → HasTuples q.pools behind later
-        → IsLeast tree_cmp (IsFreeKey q c n here.name used later) v → IsLeast tree_cmp (IsValue q.pools here behind used n) v
+    pub key_value : FreeLaw → (c : ℕ) (used : List Data) (n later : ℕ) (v : Data) → site q c ≡ here.site → here.key ≡ true → AreUsed q.pools (slots_from q i place) used → HasTuples q.pools after later
+        → IsLeast tree_cmp (IsFreeKey q c n here.name used later) v → IsLeast tree_cmp (IsValue q.pools here after used n) v
     key_value law c used n later v is key known tuples h =
-        let e = λ (u : Data). key_is_value law q c here behind used n later u is key (known_here used known) tuples in
-        least_same tree_cmp (IsFreeKey q c n here.name used later) (IsValue q.pools here behind used n) v (λ u. (e u).0) (λ u. (e u).1) h
+        let e = λ (u : Data). key_is_value law q c here after used n later u is key (known_here used known) tuples in
+        least_same tree_cmp (IsFreeKey q c n here.name used later) (IsValue q.pools here after used n) v (λ u. (e u).0) (λ u. (e u).1) h
 
-    pub key_there : FreeLaw → (c : ℕ) (used : List Data) (n later : ℕ) → site q c ≡ here.site → here.key ≡ true → AreUsed q.pools (slots_from q i place) used → HasTuples q.pools behind later
+    pub key_there : FreeLaw → (c : ℕ) (used : List Data) (n later : ℕ) → site q c ≡ here.site → here.key ≡ true → AreUsed q.pools (slots_from q i place) used → HasTuples q.pools after later
         → HasSize q.pools here.site n → HasFree q.pools (filter is_key (slots_from q i place)) (used_keys (slots_from q i place) used) [] → (v : Data) × IsFreeKey q c n here.name used later v
     key_there law c used n later is key known tuples size free =
-        some_key law q c here behind used n later is key (key_here q.pools here behind keys key) (known_here used known) tuples size (subst (λ ss. HasFree q.pools (filter is_key ss) (used_keys ss used) []) first free)
+        some_key law q c here after used n later is key (key_here q.pools here after keys key) (known_here used known) tuples size (subst (λ ss. HasFree q.pools (filter is_key ss) (used_keys ss used) []) first free)
 
     pub key_leaf : here.key ≡ true → sort_of here.site ≡ sort.Leaf
-    key_leaf key = (key_here q.pools here behind keys key).leaf
+    key_leaf key = (key_here q.pools here after keys key).leaf
 
     pub part_value : (c : ℕ) (used : List Data) (n : ℕ) (v : Data) → site q c ≡ here.site → here.key ≡ false → HasFree q.pools (filter is_key (slots_from q i place)) (used_keys (slots_from q i place) used) []
-        → IsLeast tree_cmp (IsPartOf q c n) v → IsLeast tree_cmp (IsValue q.pools here behind used n) v
+        → IsLeast tree_cmp (IsPartOf q c n) v → IsLeast tree_cmp (IsValue q.pools here after used n) v
     part_value c used n v is other free h =
-        let left = free_out q.pools here behind used other (subst (λ ss. HasFree q.pools (filter is_key ss) (used_keys ss used) []) first free) in
-        let e = λ (u : Data). part_is_value q c here behind used n u is other left in
-        least_same tree_cmp (IsPartOf q c n) (IsValue q.pools here behind used n) v (λ u. (e u).0) (λ u. (e u).1) h
+        let left = free_out q.pools here after used other (subst (λ ss. HasFree q.pools (filter is_key ss) (used_keys ss used) []) first free) in
+        let e = λ (u : Data). part_is_value q c here after used n u is other left in
+        least_same tree_cmp (IsPartOf q c n) (IsValue q.pools here after used n) v (λ u. (e u).0) (λ u. (e u).1) h
 
 pub place_within : (q : Question) (i place : ℕ) → slots_from q i place ≡ slot_in q i place ∷ slots_from q i (place + 1) → place + 1 ≤ length (slots q.pools (site q i))
 place_within q i place first =

@@ -22,33 +22,33 @@ use Rattle.enumerate.specs.Least.{IsNext}
 use Rattle.enumerate.specs.Internal.Rows.{fill_cmp, IsRest, IsGrown, IsValue, FitsSlot, AreUsed, IsOpen, still_used, slots_from, slot_in, ending_at}
 use Rattle.enumerate.specs.Internal.Nodes.{site}
 use Rattle.enumerate.specs.Internal.Walks.{IsWalkedTo, AreWalked, AreLeft}
-use Rattle.enumerate.specs.Internal.Moves.{AreNext, AreMoved, AreLastBehind, StandIn}
+use Rattle.enumerate.specs.Internal.Moves.{AreNext, AreMoved, AreLastAfter, AreInSlots}
 use Rattle.enumerate.specs.declared.moved.Step.{Step}
 use Rattle.enumerate.specs.declared.moved.Step.TheVariants as step
 use Rattle.enumerate.specs.Internal.Following.{MembersContinue, GrownContinue}
 use Rattle.enumerate.specs.Internal.Prefixes.{members_to, before_at, used_at, EndsIn}
 use Rattle.enumerate.proofs.FollowingLemmas.{may_out, may_in}
-use Rattle.enumerate.proofs.RowLemmas.{can_fill, key_here, keys_behind, rest_out, goes_in, no_key, used_behind, used_out}
+use Rattle.enumerate.proofs.RowLemmas.{can_fill, key_here, keys_after, rest_out, goes_in, no_key, used_after, used_out}
 use Rattle.enumerate.proofs.RowMoves.{moved_out, moved_in}
 use Rattle.enumerate.proofs.ListLemmas.{some_nodes}
 use Rattle.enumerate.proofs.RowSteps.{keys_at, nothing_after}
 use Rattle.enumerate.proofs.MemberCuts.{grown_kept}
-use Rattle.enumerate.proofs.MoveSteps.{open_here, stand_nodes, filled_here, out_grown, in_grown}
+use Rattle.enumerate.proofs.MoveSteps.{open_here, in_slots_nodes, filled_here, out_grown, in_grown}
 
 -- ---- at a place of slots that are filled
 
--- the rest stands in the slots from the place on
+-- the rest is in the slots from the place on
 pub rest_at : (P : Pools) (end : Ending) (place : ℕ) (ss : List Slot) (gs : List (Option Data)) (x : Before) (used : List Data) → AreKeySlots P ss → filled_nodes gs ≤ most_nodes → IsRest P ss end x (filled_nodes gs) used gs
     → IsRest P (drop place ss) end (before_at place ss gs x) (filled_nodes (drop place gs)) (used_at place ss gs used) (drop place gs)
 rest_at P end zero ss gs x used keys small h = h
 rest_at P end (suc place) [] [] x used keys small h = h
 rest_at P end (suc place) [] (g ∷ gs) x used keys small h = absurd h.are
 rest_at P end (suc place) (s ∷ ss) [] x used keys small h = absurd h.are
-rest_at P end (suc place) (s ∷ ss) (None ∷ gs) x used keys small h = rest_at P end place ss gs x used (keys_behind P s ss keys) small (rest_out P end s ss x (filled_nodes gs) used keys gs h)
+rest_at P end (suc place) (s ∷ ss) (None ∷ gs) x used keys small h = rest_at P end place ss gs x used (keys_after P s ss keys) small (rest_out P end s ss x (filled_nodes gs) used keys gs h)
 rest_at P end (suc place) (s ∷ ss) (Some v ∷ gs) x used keys small h =
     let goes = goes_in P end s ss x (filled_nodes (Some v ∷ gs)) used keys small v gs h in
     let left : filled_nodes (Some v ∷ gs) - node_count v ≡ filled_nodes gs = omega arith in
-    rest_at P end place ss gs (filled s.bit x) (still_used s v used) (keys_behind P s ss keys) (omega (arith, small)) (subst (λ n. IsRest P ss end (filled s.bit x) n (still_used s v used) gs) left goes.2)
+    rest_at P end place ss gs (filled s.bit x) (still_used s v used) (keys_after P s ss keys) (omega (arith, small)) (subst (λ n. IsRest P ss end (filled s.bit x) n (still_used s v used) gs) left goes.2)
 
 -- ---- what moves at a place moves the row
 
@@ -61,7 +61,7 @@ next_from P end (suc place) [] [] x used (one ∷ front) new keys small h are ne
 next_from P end (suc place) [] (g ∷ gs) x used front new keys small h are next = absurd h.are
 next_from P end (suc place) (s ∷ ss) [] x used front new keys small h are next = absurd h.are
 next_from P end (suc place) (s ∷ ss) (None ∷ gs) x used front new keys small h are next =
-    moved_out P end s ss x used keys gs (front ++ new) small h.are.0 (next_from P end place ss gs x used front new (keys_behind P s ss keys) small (rest_out P end s ss x (filled_nodes gs) used keys gs h) are next)
+    moved_out P end s ss x used keys gs (front ++ new) small h.are.0 (next_from P end place ss gs x used front new (keys_after P s ss keys) small (rest_out P end s ss x (filled_nodes gs) used keys gs h) are next)
 next_from P end (suc place) (s ∷ ss) (Some v ∷ gs) x used [] new keys small h are next = cc
 next_from P end (suc place) (s ∷ ss) (Some v ∷ gs) x used (one ∷ front) new keys small h are next =
     let name : one.name ≡ s.name = cc in
@@ -70,7 +70,7 @@ next_from P end (suc place) (s ∷ ss) (Some v ∷ gs) x used (one ∷ front) ne
     let goes = goes_in P end s ss x (filled_nodes (Some v ∷ gs)) used keys small v gs h in
     let left : filled_nodes (Some v ∷ gs) - node_count v ≡ filled_nodes gs = omega arith in
     moved_in P end s ss x used keys v gs h small one (front ++ new) name value
-    (next_from P end place ss gs (filled s.bit x) (still_used s v used) front new (keys_behind P s ss keys) (omega (arith, small)) (subst (λ n. IsRest P ss end (filled s.bit x) n (still_used s v used) gs) left goes.2) others next)
+    (next_from P end place ss gs (filled s.bit x) (still_used s v used) front new (keys_after P s ss keys) (omega (arith, small)) (subst (λ n. IsRest P ss end (filled s.bit x) n (still_used s v used) gs) left goes.2) others next)
 
 pub continue_from : (P : Pools) (place : ℕ) (ss : List Slot) (gs : List (Option Data)) (used : List Data) (front new : List Member) (cs : List Data) → AreFillings P ss gs → members_of front ≡ members_to place ss gs → MembersContinue P (drop place ss) (used_at place ss gs used) new cs → MembersContinue P ss used (front ++ new) cs
 continue_from P zero ss gs used [] new cs fit are h = h
@@ -93,23 +93,23 @@ continue_from P (suc place) (s ∷ ss) (Some v ∷ gs) used (one ∷ front) new 
 -- ---- one place less
 
 -- the slot at the place is left out, where the last member before the next one has another name
-pub out_at : (P : Pools) (place : ℕ) (ss behind : List Slot) (here : Slot) (gs : List (Option Data)) (members : List Member) → AreFillings P ss gs → drop place ss ≡ here ∷ behind → members_of members ≡ members_to (suc place) ss gs → (EndsIn here.name members → ⊥)
+pub out_at : (P : Pools) (place : ℕ) (ss after : List Slot) (here : Slot) (gs : List (Option Data)) (members : List Member) → AreFillings P ss gs → drop place ss ≡ here ∷ after → members_of members ≡ members_to (suc place) ss gs → (EndsIn here.name members → ⊥)
     → (drop place gs ≡ None ∷ drop (suc place) gs) × (here.must ≡ false) × (members_of members ≡ members_to place ss gs)
-out_at P zero [] behind here gs members fit first are other = absurd (cc)
-out_at P zero (s ∷ ss) behind here [] members fit first are other = absurd fit
-out_at P zero (s ∷ ss) behind here (None ∷ gs) members fit first are other = let same : s ≡ here = cc in (refl, subst (λ t. t.must ≡ false) same fit.0, are)
-out_at P zero (s ∷ ss) behind here (Some v ∷ gs) [] fit first are other = absurd (cc)
-out_at P zero (s ∷ ss) behind here (Some v ∷ gs) (one ∷ []) fit first are other = let same : s ≡ here = cc in let name : one.name ≡ s.name = cc in absurd (other (name ∙ ap (λ t. t.name) same))
-out_at P zero (s ∷ ss) behind here (Some v ∷ gs) (one ∷ two ∷ members) fit first are other = absurd (cc)
-out_at P (suc place) [] behind here gs members fit first are other = absurd (cc)
-out_at P (suc place) (s ∷ ss) behind here [] members fit first are other = absurd fit
-out_at P (suc place) (s ∷ ss) behind here (None ∷ gs) members fit first are other = out_at P place ss behind here gs members fit.1 first are other
-out_at P (suc place) (s ∷ ss) behind here (Some v ∷ gs) [] fit first are other = absurd (cc)
-out_at P (suc place) (s ∷ ss) behind here (Some v ∷ gs) (one ∷ members) fit first are other =
+out_at P zero [] after here gs members fit first are other = absurd (cc)
+out_at P zero (s ∷ ss) after here [] members fit first are other = absurd fit
+out_at P zero (s ∷ ss) after here (None ∷ gs) members fit first are other = let same : s ≡ here = cc in (refl, subst (λ t. t.must ≡ false) same fit.0, are)
+out_at P zero (s ∷ ss) after here (Some v ∷ gs) [] fit first are other = absurd (cc)
+out_at P zero (s ∷ ss) after here (Some v ∷ gs) (one ∷ []) fit first are other = let same : s ≡ here = cc in let name : one.name ≡ s.name = cc in absurd (other (name ∙ ap (λ t. t.name) same))
+out_at P zero (s ∷ ss) after here (Some v ∷ gs) (one ∷ two ∷ members) fit first are other = absurd (cc)
+out_at P (suc place) [] after here gs members fit first are other = absurd (cc)
+out_at P (suc place) (s ∷ ss) after here [] members fit first are other = absurd fit
+out_at P (suc place) (s ∷ ss) after here (None ∷ gs) members fit first are other = out_at P place ss after here gs members fit.1 first are other
+out_at P (suc place) (s ∷ ss) after here (Some v ∷ gs) [] fit first are other = absurd (cc)
+out_at P (suc place) (s ∷ ss) after here (Some v ∷ gs) (one ∷ members) fit first are other =
     let name : one.name ≡ s.name = cc in
     let value : data_of one.tree ≡ v = cc in
     let others : members_of members ≡ members_to (suc place) ss gs = cc in
-    let h = out_at P place ss behind here gs members fit.1 first others (not_after one members here.name other) in
+    let h = out_at P place ss after here gs members fit.1 first others (not_after one members here.name other) in
     (h.0, h.1, λ k. member (name k) (value k) (h.2 k))
   where
     not_after : (one : Member) (members : List Member) (k : List ℕ) → (EndsIn k (one ∷ members) → ⊥) → EndsIn k members → ⊥
@@ -117,37 +117,37 @@ out_at P (suc place) (s ∷ ss) behind here (Some v ∷ gs) (one ∷ members) fi
     not_after one (two ∷ members) k other e = other e
 
 -- a slot among slots
-among_slots : (place : ℕ) (ss behind : List Slot) (here : Slot) → drop place ss ≡ here ∷ behind → Among ss here
-among_slots zero [] behind here first = absurd (cc)
-among_slots zero (s ∷ ss) behind here first = let same : s ≡ here = cc in inl same
-among_slots (suc place) [] behind here first = absurd (cc)
-among_slots (suc place) (s ∷ ss) behind here first = inr (among_slots place ss behind here first)
+among_slots : (place : ℕ) (ss after : List Slot) (here : Slot) → drop place ss ≡ here ∷ after → Among ss here
+among_slots zero [] after here first = absurd (cc)
+among_slots zero (s ∷ ss) after here first = let same : s ≡ here = cc in inl same
+among_slots (suc place) [] after here first = absurd (cc)
+among_slots (suc place) (s ∷ ss) after here first = inr (among_slots place ss after here first)
 
--- the last member stands in the slot at the place, where it has its name
-pub in_at : (P : Pools) (place : ℕ) (ss behind : List Slot) (here : Slot) (gs : List (Option Data)) (front : List Member) (one : Member) → AreInOrder ss → AreFillings P ss gs → drop place ss ≡ here ∷ behind → members_of (front ++ one ∷ []) ≡ members_to (suc place) ss gs → one.name ≡ here.name
+-- the last member is in the slot at the place, where it has its name
+pub in_at : (P : Pools) (place : ℕ) (ss after : List Slot) (here : Slot) (gs : List (Option Data)) (front : List Member) (one : Member) → AreInOrder ss → AreFillings P ss gs → drop place ss ≡ here ∷ after → members_of (front ++ one ∷ []) ≡ members_to (suc place) ss gs → one.name ≡ here.name
     → (drop place gs ≡ Some (data_of one.tree) ∷ drop (suc place) gs) × (members_of front ≡ members_to place ss gs)
-in_at P zero [] behind here gs front one order fit first are name = absurd (cc)
-in_at P zero (s ∷ ss) behind here [] front one order fit first are name = absurd fit
-in_at P zero (s ∷ ss) behind here (None ∷ gs) [] one order fit first are name = absurd (cc)
-in_at P zero (s ∷ ss) behind here (None ∷ gs) (a ∷ front) one order fit first are name = absurd (cc)
-in_at P zero (s ∷ ss) behind here (Some v ∷ gs) [] one order fit first are name = let value : data_of one.tree ≡ v = cc in (ap (λ u. Some u ∷ gs) (sym value), refl)
-in_at P zero (s ∷ ss) behind here (Some v ∷ gs) (a ∷ front) one order fit first are name = absurd (none_behind front one (cc))
+in_at P zero [] after here gs front one order fit first are name = absurd (cc)
+in_at P zero (s ∷ ss) after here [] front one order fit first are name = absurd fit
+in_at P zero (s ∷ ss) after here (None ∷ gs) [] one order fit first are name = absurd (cc)
+in_at P zero (s ∷ ss) after here (None ∷ gs) (a ∷ front) one order fit first are name = absurd (cc)
+in_at P zero (s ∷ ss) after here (Some v ∷ gs) [] one order fit first are name = let value : data_of one.tree ≡ v = cc in (ap (λ u. Some u ∷ gs) (sym value), refl)
+in_at P zero (s ∷ ss) after here (Some v ∷ gs) (a ∷ front) one order fit first are name = absurd (not_empty front one (cc))
   where
-    none_behind : (front : List Member) (one : Member) → members_of (front ++ one ∷ []) ≡ no_members → ⊥
-    none_behind [] one e = cc
-    none_behind (a ∷ front) one e = cc
-in_at P (suc place) [] behind here gs front one order fit first are name = absurd (cc)
-in_at P (suc place) (s ∷ ss) behind here [] front one order fit first are name = absurd fit
-in_at P (suc place) (s ∷ ss) behind here (None ∷ gs) front one order fit first are name = in_at P place ss behind here gs front one order.1 fit.1 first are name
-in_at P (suc place) (s ∷ ss) behind here (Some v ∷ gs) [] one order fit first are name =
+    not_empty : (front : List Member) (one : Member) → members_of (front ++ one ∷ []) ≡ no_members → ⊥
+    not_empty [] one e = cc
+    not_empty (a ∷ front) one e = cc
+in_at P (suc place) [] after here gs front one order fit first are name = absurd (cc)
+in_at P (suc place) (s ∷ ss) after here [] front one order fit first are name = absurd fit
+in_at P (suc place) (s ∷ ss) after here (None ∷ gs) front one order fit first are name = in_at P place ss after here gs front one order.1 fit.1 first are name
+in_at P (suc place) (s ∷ ss) after here (Some v ∷ gs) [] one order fit first are name =
     let same : one.name ≡ s.name = cc in
-    let less = order.0 here (contains ss here (among_slots place ss behind here first)) in
+    let less = order.0 here (contains ss here (among_slots place ss after here first)) in
     absurd (not_itself s.name here.name (sym same ∙ name) less)
-in_at P (suc place) (s ∷ ss) behind here (Some v ∷ gs) (a ∷ front) one order fit first are name =
+in_at P (suc place) (s ∷ ss) after here (Some v ∷ gs) (a ∷ front) one order fit first are name =
     let own : a.name ≡ s.name = cc in
     let value : data_of a.tree ≡ v = cc in
     let others : members_of (front ++ one ∷ []) ≡ members_to (suc place) ss gs = cc in
-    let h = in_at P place ss behind here gs front one order.1 fit.1 first others name in
+    let h = in_at P place ss after here gs front one order.1 fit.1 first others name in
     (h.0, λ k. member (own k) (value k) (h.1 k))
 
 -- ---- what is carried along
@@ -162,15 +162,15 @@ before_out (suc place) (s ∷ ss) [] x e = refl
 before_out (suc place) (s ∷ ss) (None ∷ gs) x e = before_out place ss gs x e
 before_out (suc place) (s ∷ ss) (Some v ∷ gs) x e = before_out place ss gs (filled s.bit x) e
 
-pub before_in : (place : ℕ) (ss behind : List Slot) (here : Slot) (gs : List (Option Data)) (v : Data) (x : Before) → drop place ss ≡ here ∷ behind → drop place gs ≡ Some v ∷ drop (suc place) gs → before_at (suc place) ss gs x ≡ filled here.bit (before_at place ss gs x)
-before_in zero [] behind here gs v x first e = absurd (cc)
-before_in zero (s ∷ ss) behind here [] v x first e = absurd (cc)
-before_in zero (s ∷ ss) behind here (None ∷ gs) v x first e = absurd (cc)
-before_in zero (s ∷ ss) behind here (Some u ∷ gs) v x first e = let same : s ≡ here = cc in ap (λ t. filled t.bit x) same
-before_in (suc place) [] behind here gs v x first e = absurd (cc)
-before_in (suc place) (s ∷ ss) behind here [] v x first e = absurd (cc)
-before_in (suc place) (s ∷ ss) behind here (None ∷ gs) v x first e = before_in place ss behind here gs v x first e
-before_in (suc place) (s ∷ ss) behind here (Some u ∷ gs) v x first e = before_in place ss behind here gs v (filled s.bit x) first e
+pub before_in : (place : ℕ) (ss after : List Slot) (here : Slot) (gs : List (Option Data)) (v : Data) (x : Before) → drop place ss ≡ here ∷ after → drop place gs ≡ Some v ∷ drop (suc place) gs → before_at (suc place) ss gs x ≡ filled here.bit (before_at place ss gs x)
+before_in zero [] after here gs v x first e = absurd (cc)
+before_in zero (s ∷ ss) after here [] v x first e = absurd (cc)
+before_in zero (s ∷ ss) after here (None ∷ gs) v x first e = absurd (cc)
+before_in zero (s ∷ ss) after here (Some u ∷ gs) v x first e = let same : s ≡ here = cc in ap (λ t. filled t.bit x) same
+before_in (suc place) [] after here gs v x first e = absurd (cc)
+before_in (suc place) (s ∷ ss) after here [] v x first e = absurd (cc)
+before_in (suc place) (s ∷ ss) after here (None ∷ gs) v x first e = before_in place ss after here gs v x first e
+before_in (suc place) (s ∷ ss) after here (Some u ∷ gs) v x first e = before_in place ss after here gs v (filled s.bit x) first e
 
 pub rows_out : (place : ℕ) (ss : List Slot) (gs : List (Option Data)) (used : List Data) → drop place gs ≡ None ∷ drop (suc place) gs → used_at (suc place) ss gs used ≡ used_at place ss gs used
 rows_out zero [] gs used e = refl
@@ -182,15 +182,15 @@ rows_out (suc place) (s ∷ ss) [] used e = refl
 rows_out (suc place) (s ∷ ss) (None ∷ gs) used e = rows_out place ss gs used e
 rows_out (suc place) (s ∷ ss) (Some v ∷ gs) used e = rows_out place ss gs (still_used s v used) e
 
-pub rows_in : (place : ℕ) (ss behind : List Slot) (here : Slot) (gs : List (Option Data)) (v : Data) (used : List Data) → drop place ss ≡ here ∷ behind → drop place gs ≡ Some v ∷ drop (suc place) gs → used_at (suc place) ss gs used ≡ still_used here v (used_at place ss gs used)
-rows_in zero [] behind here gs v used first e = absurd (cc)
-rows_in zero (s ∷ ss) behind here [] v used first e = absurd (cc)
-rows_in zero (s ∷ ss) behind here (None ∷ gs) v used first e = absurd (cc)
-rows_in zero (s ∷ ss) behind here (Some u ∷ gs) v used first e = let same : s ≡ here = cc in let value : u ≡ v = cc in ap (λ t. still_used t u used) same ∙ ap (λ z. still_used here z used) value
-rows_in (suc place) [] behind here gs v used first e = absurd (cc)
-rows_in (suc place) (s ∷ ss) behind here [] v used first e = absurd (cc)
-rows_in (suc place) (s ∷ ss) behind here (None ∷ gs) v used first e = rows_in place ss behind here gs v used first e
-rows_in (suc place) (s ∷ ss) behind here (Some u ∷ gs) v used first e = rows_in place ss behind here gs v (still_used s u used) first e
+pub rows_in : (place : ℕ) (ss after : List Slot) (here : Slot) (gs : List (Option Data)) (v : Data) (used : List Data) → drop place ss ≡ here ∷ after → drop place gs ≡ Some v ∷ drop (suc place) gs → used_at (suc place) ss gs used ≡ still_used here v (used_at place ss gs used)
+rows_in zero [] after here gs v used first e = absurd (cc)
+rows_in zero (s ∷ ss) after here [] v used first e = absurd (cc)
+rows_in zero (s ∷ ss) after here (None ∷ gs) v used first e = absurd (cc)
+rows_in zero (s ∷ ss) after here (Some u ∷ gs) v used first e = let same : s ≡ here = cc in let value : u ≡ v = cc in ap (λ t. still_used t u used) same ∙ ap (λ z. still_used here z used) value
+rows_in (suc place) [] after here gs v used first e = absurd (cc)
+rows_in (suc place) (s ∷ ss) after here [] v used first e = absurd (cc)
+rows_in (suc place) (s ∷ ss) after here (None ∷ gs) v used first e = rows_in place ss after here gs v used first e
+rows_in (suc place) (s ∷ ss) after here (Some u ∷ gs) v used first e = rows_in place ss after here gs v (still_used s u used) first e
 
 -- the used rows that agree have the keys of the slots from the place on
 known_at : (P : Pools) (place : ℕ) (ss : List Slot) (gs : List (Option Data)) (used : List Data) → AreKeySlots P ss → AreFillings P ss gs → AreUsed P ss used → AreUsed P (drop place ss) (used_at place ss gs used)
@@ -198,8 +198,8 @@ known_at P zero ss gs used keys are known = known
 known_at P (suc place) [] [] used keys are known = known
 known_at P (suc place) [] (g ∷ gs) used keys are known = absurd are
 known_at P (suc place) (s ∷ ss) [] used keys are known = absurd are
-known_at P (suc place) (s ∷ ss) (None ∷ gs) used keys are known = known_at P place ss gs used (keys_behind P s ss keys) are.1 (used_out P s ss used (no_key P s ss keys are.0) known)
-known_at P (suc place) (s ∷ ss) (Some v ∷ gs) used keys are known = known_at P place ss gs (still_used s v used) (keys_behind P s ss keys) are.1 (used_behind P s ss v used known)
+known_at P (suc place) (s ∷ ss) (None ∷ gs) used keys are known = known_at P place ss gs used (keys_after P s ss keys) are.1 (used_out P s ss used (no_key P s ss keys are.0) known)
+known_at P (suc place) (s ∷ ss) (Some v ∷ gs) used keys are known = known_at P place ss gs (still_used s v used) (keys_after P s ss keys) are.1 (used_after P s ss v used known)
 
 -- the last member has another name
 not_at : (members : List Member) (n : ℕ) (last : Member) (k : List ℕ) → n + 1 ≡ length members → Some last ≡ slice_get members n → (last.name ≡ k → ⊥) → EndsIn k members → ⊥
@@ -245,7 +245,7 @@ few_at (suc place) (s ∷ ss) [] (one ∷ front) are = absurd (cc)
 few_at (suc place) (s ∷ ss) (None ∷ gs) (one ∷ front) are = omega (arith, few_at place ss gs (one ∷ front) are)
 few_at (suc place) (s ∷ ss) (Some v ∷ gs) (one ∷ front) are = let others : members_of front ≡ members_to place ss gs = cc in omega (arith, few_at place ss gs front others)
 
--- all members stand before the end
+-- all members are before the end
 pub whole_to : (P : Pools) (ss : List Slot) (gs : List (Option Data)) → AreFillings P ss gs → members_in ss gs ≡ members_to (length ss) ss gs
 whole_to P [] [] are = refl
 whole_to P [] (g ∷ gs) are = absurd are
@@ -290,8 +290,8 @@ nodes_at P (suc place) (s ∷ ss) (Some v ∷ gs) are = omega (arith, nodes_at P
 pub walked_nodes : (q : Question) (i place room : ℕ) (used : List Data) (before : Before) (members : List Member) (gs : List (Option Data)) → IsWalkedTo q i place room used before members gs → members_count (members_of members) + room ≡ filled_nodes gs
 walked_nodes q i place room used before members gs w = let all = nodes_at q.pools place (slots_from q i 0) gs w.whole.are in omega (arith, all, ap members_count w.front, w.room_is)
 
-pub kept_nodes : (q : Question) (i place room : ℕ) (used : List Data) (before : Before) (old members : List Member) (gs : List (Option Data)) → StandIn q.pools (slots_from q i 0) (ending_at q i) nothing used old gs → IsWalkedTo q i place room used before members gs → members_count (members_of members) + room ≡ members_count (members_of old)
-kept_nodes q i place room used before old members gs h w = walked_nodes q i place room used before members gs w ∙ sym (stand_nodes q.pools (slots_from q i 0) (ending_at q i) nothing used old gs h)
+pub kept_nodes : (q : Question) (i place room : ℕ) (used : List Data) (before : Before) (old members : List Member) (gs : List (Option Data)) → AreInSlots q.pools (slots_from q i 0) (ending_at q i) nothing used old gs → IsWalkedTo q i place room used before members gs → members_count (members_of members) + room ≡ members_count (members_of old)
+kept_nodes q i place room used before old members gs h w = walked_nodes q i place room used before members gs w ∙ sym (in_slots_nodes q.pools (slots_from q i 0) (ending_at q i) nothing used old gs h)
 
 module _ (q : Question) (i : ℕ) (sound : HasSoundParts q.pools (site q i)) (used : List Data) where
   abbrev P : Pools
@@ -310,10 +310,10 @@ module _ (q : Question) (i : ℕ) (sound : HasSoundParts q.pools (site q i)) (us
   so_many place gs front are = omega (arith, count_at place ss gs nothing front are)
 
   -- nothing was taken off
-  pub walk_begins : (n : ℕ) (before : Before) (members : List Member) (gs : List (Option Data)) → n ≡ length ss → members_count (members_of members) ≤ most_nodes → StandIn P ss end nothing used members gs → IsWalkedTo q i n 0 used before members gs
+  pub walk_begins : (n : ℕ) (before : Before) (members : List Member) (gs : List (Option Data)) → n ≡ length ss → members_count (members_of members) ≤ most_nodes → AreInSlots P ss end nothing used members gs → IsWalkedTo q i n 0 used before members gs
   walk_begins n before members gs all few h =
       let are = h.rest.are in
-      let small : filled_nodes gs ≤ most_nodes = omega (arith, few, stand_nodes P ss end nothing used members gs h) in
+      let small : filled_nodes gs ≤ most_nodes = omega (arith, few, in_slots_nodes P ss end nothing used members gs h) in
       let past : drop n gs ≡ [] = ap (λ k. drop k gs) all ∙ none_past P ss gs are in
       let no_slots : slots_from q i n ≡ [] = drop_of_length-le ss (omega (arith, all)) in
       let none : filled_nodes (drop n gs) ≡ 0 = ap filled_nodes past in
@@ -323,8 +323,8 @@ module _ (q : Question) (i : ℕ) (sound : HasSoundParts q.pools (site q i)) (us
         whole = h.rest;
         front = h.are ∙ whole_to P ss gs are ∙ ap (λ k. members_to k ss gs) (sym all);
         room_is = none;
-        behind = [];
-        behind_are = sym (ap (λ us. members_in us (drop n gs)) no_slots ∙ ap (members_in []) past);
+        after = [];
+        after_are = sym (ap (λ us. members_in us (drop n gs)) no_slots ∙ ap (members_in []) past);
         last = nothing_after P end (slots_from q i n) (before_at n ss gs nothing) (used_at n ss gs used) (drop n gs) rest.are none;
         known = λ some. absurd (some refl);
       }
@@ -349,28 +349,28 @@ module _ (q : Question) (i : ℕ) (sound : HasSoundParts q.pools (site q i)) (us
     first_so : drop place ss ≡ here ∷ drop (suc place) ss
     first_so = subst (λ n. slots_from q i place ≡ here ∷ slots_from q i n) next_place first
 
-    can_here : (room : ℕ) (gs : List (Option Data)) (behind : List Member) → AreUsed P ss used → filled_nodes gs ≤ most_nodes → IsRest P ss end nothing (filled_nodes gs) used gs → filled_nodes (drop place gs) ≡ room → members_of behind ≡ members_in (slots_from q i place) (drop place gs)
+    can_here : (room : ℕ) (gs : List (Option Data)) (after : List Member) → AreUsed P ss used → filled_nodes gs ≤ most_nodes → IsRest P ss end nothing (filled_nodes gs) used gs → filled_nodes (drop place gs) ≡ room → members_of after ≡ members_in (slots_from q i place) (drop place gs)
         → IsOpen P (slots_from q i place) end (so_far gs) room (agreeing gs)
-    can_here room gs behind known small whole nodes are =
+    can_here room gs after known small whole nodes are =
         subst (λ m. IsOpen P (slots_from q i place) end (so_far gs) m (agreeing gs)) nodes
-        (open_here q i place sound first (so_far gs) (agreeing gs) behind (drop place gs) (known_to place gs whole.are known) (record { are = are; rest = rest_at P end place ss gs nothing used keys small whole }))
+        (open_here q i place sound first (so_far gs) (agreeing gs) after (drop place gs) (known_to place gs whole.are known) (record { are = are; rest = rest_at P end place ss gs nothing used keys small whole }))
 
     few_here : (gs : List (Option Data)) → filled_nodes gs ≤ most_nodes → filled_nodes (drop place gs) ≤ most_nodes
     few_here gs small = omega (arith, small, fewer_from place gs)
 
     -- the members are the next ones, or the slots from the place on have none
-    pub walked_step : (step : Step) (before : Before) (base new : List Member) (gs : List (Option Data)) (behind : List Member) → filled_nodes gs ≤ most_nodes → IsRest P ss end nothing (filled_nodes gs) used gs → members_of base ≡ members_to place ss gs → members_of behind ≡ members_in (slots_from q i place) (drop place gs)
+    pub walked_step : (step : Step) (before : Before) (base new : List Member) (gs : List (Option Data)) (after : List Member) → filled_nodes gs ≤ most_nodes → IsRest P ss end nothing (filled_nodes gs) used gs → members_of base ≡ members_to place ss gs → members_of after ≡ members_in (slots_from q i place) (drop place gs)
         → take (length base) new ≡ base → AreLeft step base new → before ≡ so_far gs → AreMoved step P (slots_from q i place) end (so_far gs) (agreeing gs) (drop place gs) (drop (length base) new) → AreWalked step q i place used before new gs
-    walked_step step.Moved before base new gs behind small whole front are kept left is h =
+    walked_step step.Moved before base new gs after small whole front are kept left is h =
         let all = next_from P end place ss gs nothing used base (drop (length base) new) keys small whole front h in
         subst (AreNext P ss end nothing used gs) (ap (λ l. l ++ drop (length base) new) (sym kept) ∙ take-append-drop (length base) new) all
-    walked_step (step.Last n) before base new gs behind small whole front are kept left is h = record {
+    walked_step (step.Last n) before base new gs after small whole front are kept left is h = record {
       small = small;
       whole = whole;
       front = ap members_of left ∙ front;
       room_is = h.1;
-      behind = behind;
-      behind_are = are;
+      after = after;
+      after_are = are;
       last = h.0;
       known = λ some. is;
     }
@@ -387,8 +387,8 @@ module _ (q : Question) (i : ℕ) (sound : HasSoundParts q.pools (site q i)) (us
       pub must : here.must ≡ false
       pub small : filled_nodes (drop (suc place) gs) ≤ most_nodes
       pub room_is : filled_nodes (drop (suc place) gs) ≡ room
-      pub behind : List Member
-      pub behind_are : members_of behind ≡ members_in (slots_from q i place) (drop place gs)
+      pub after : List Member
+      pub after_are : members_of after ≡ members_in (slots_from q i place) (drop place gs)
       pub last : IsNext fill_cmp (IsRest P (slots_from q i (place + 1)) end (so_far gs) (filled_nodes (drop (suc place) gs)) (agreeing gs)) (drop (suc place) gs) None
       pub known : (room ≡ 0 → ⊥) → before ≡ so_far gs
       pub can : IsOpen P (slots_from q i place) end (so_far gs) room (agreeing gs)
@@ -400,8 +400,8 @@ module _ (q : Question) (i : ℕ) (sound : HasSoundParts q.pools (site q i)) (us
         let nodes : filled_nodes (drop (suc place) gs) ≡ room = ap (λ n. filled_nodes (drop n gs)) (sym next_place) ∙ w.room_is in
         let same = before_out place ss gs nothing o.0 in
         let agree = rows_out place ss gs used o.0 in
-        let behind = w.behind_are ∙ ap (λ n. members_in (slots_from q i (place + 1)) (drop n gs)) next_place in
-        let are : members_of w.behind ≡ members_in (slots_from q i place) (drop place gs) = behind ∙ (sym (ap (λ ts. members_in ts (drop place gs)) first ∙ ap (members_in (here ∷ slots_from q i (place + 1))) o.0)) in
+        let after = w.after_are ∙ ap (λ n. members_in (slots_from q i (place + 1)) (drop n gs)) next_place in
+        let are : members_of w.after ≡ members_in (slots_from q i place) (drop place gs) = after ∙ (sym (ap (λ ts. members_in ts (drop place gs)) first ∙ ap (members_in (here ∷ slots_from q i (place + 1))) o.0)) in
         let small = few_here gs w.small in
         let same_nodes : filled_nodes (drop place gs) ≡ room = ap filled_nodes o.0 ∙ nodes in
         let Last = λ (x : Before) (us : List Data). IsNext fill_cmp (IsRest P (slots_from q i (place + 1)) end x (filled_nodes (drop (suc place) gs)) us) (drop (suc place) gs) None in
@@ -411,11 +411,11 @@ module _ (q : Question) (i : ℕ) (sound : HasSoundParts q.pools (site q i)) (us
           must = o.1;
           small = omega (arith, small, nodes, same_nodes);
           room_is = nodes;
-          behind = w.behind;
-          behind_are = are;
+          after = w.after;
+          after_are = are;
           last = subst (λ x. Last x (agreeing gs)) same (subst (Last (before_at (suc place) ss gs nothing)) agree (subst Walk next_place w.last));
           known = λ some. w.known some ∙ (ap (λ n. before_at n ss gs nothing) next_place ∙ same);
-          can = can_here room gs w.behind known w.small w.whole same_nodes are;
+          can = can_here room gs w.after known w.small w.whole same_nodes are;
         }
 
     -- no size fits, or nothing was taken off
@@ -426,18 +426,18 @@ module _ (q : Question) (i : ℕ) (sound : HasSoundParts q.pools (site q i)) (us
       whole = whole;
       front = ap members_of same ∙ o.front;
       room_is = h.1;
-      behind = o.behind;
-      behind_are = o.behind_are;
+      after = o.after;
+      after_are = o.after_are;
       last = h.0;
       known = o.known;
     }
 
-    -- the last member stands in it, and was taken off
+    -- the last member was in it, and was taken off
     pub record IsTakenOff (room : ℕ) (front : List Member) (one : Member) (gs : List (Option Data)) : Type 0 where
       pub front_is : members_of front ≡ members_to place ss gs
-      pub behind : List Member
-      pub ended : AreLastBehind q i place (so_far gs) (agreeing gs) one behind room (drop place gs)
-      pub behind_are : members_of (one ∷ behind) ≡ members_in (slots_from q i place) (drop place gs)
+      pub after : List Member
+      pub ended : AreLastAfter q i place (so_far gs) (agreeing gs) one after room (drop place gs)
+      pub after_are : members_of (one ∷ after) ≡ members_in (slots_from q i place) (drop place gs)
       pub can : IsOpen P (slots_from q i place) end (so_far gs) (room + node_count (data_of one.tree)) (agreeing gs)
 
     pub taken_off : (room : ℕ) (before : Before) (members front : List Member) (one : Member) (gs : List (Option Data)) → AreUsed P ss used → IsWalkedTo q i (place + 1) room used before members gs → members ≡ front ++ one ∷ [] → one.name ≡ here.name → IsTakenOff room front one gs
@@ -446,11 +446,11 @@ module _ (q : Question) (i : ℕ) (sound : HasSoundParts q.pools (site q i)) (us
         let hs = drop (suc place) gs in
         let o = in_at P place ss (drop (suc place) ss) here gs front one sound.order w.whole.are first_so (sym (ap members_of is) ∙ w.front ∙ ap (λ n. members_to n ss gs) next_place) name in
         let nodes : filled_nodes hs ≡ room = ap (λ n. filled_nodes (drop n gs)) (sym next_place) ∙ w.room_is in
-        let behind : members_of w.behind ≡ members_in (slots_from q i (place + 1)) hs = w.behind_are ∙ ap (λ n. members_in (slots_from q i (place + 1)) (drop n gs)) next_place in
-        let are : members_of (one ∷ w.behind) ≡ members_in (slots_from q i place) (drop place gs) =
-        (λ k. member (name k) v (behind k)) ∙ sym (ap (λ ts. members_in ts (drop place gs)) first ∙ ap (members_in (here ∷ slots_from q i (place + 1))) o.0) in
+        let after : members_of w.after ≡ members_in (slots_from q i (place + 1)) hs = w.after_are ∙ ap (λ n. members_in (slots_from q i (place + 1)) (drop n gs)) next_place in
+        let are : members_of (one ∷ w.after) ≡ members_in (slots_from q i place) (drop place gs) =
+        (λ k. member (name k) v (after k)) ∙ sym (ap (λ ts. members_in ts (drop place gs)) first ∙ ap (members_in (here ∷ slots_from q i (place + 1))) o.0) in
         let small = few_here gs w.small in
-        let f = filled_here q i place sound first (so_far gs) (agreeing gs) one w.behind (drop place gs) small (record { are = are; rest = rest_at P end place ss gs nothing used keys w.small w.whole }) name in
+        let f = filled_here q i place sound first (so_far gs) (agreeing gs) one w.after (drop place gs) small (record { are = are; rest = rest_at P end place ss gs nothing used keys w.small w.whole }) name in
         let rest : f.rest ≡ hs = rest_same v f.rest hs (sym f.is ∙ o.0) in
         let state = before_in place ss (drop (suc place) ss) here gs v nothing first_so o.0 in
         let agree = rows_in place ss (drop (suc place) ss) here gs v used first_so o.0 in
@@ -459,15 +459,15 @@ module _ (q : Question) (i : ℕ) (sound : HasSoundParts q.pools (site q i)) (us
         let sum : filled_nodes (drop place gs) ≡ room + node_count v = ap filled_nodes o.0 ∙ omega (arith, nodes) in
         record {
           front_is = o.1;
-          behind = w.behind;
+          after = w.after;
           ended = record {
             small = small;
-            stood = f;
+            are_filled = f;
             room_is = ap filled_nodes rest ∙ nodes;
             last = subst (Last (filled here.bit (so_far gs)) (still_used here v (agreeing gs))) (sym rest) (subst (λ us. Last (filled here.bit (so_far gs)) us hs) agree (subst (λ y. Last y (used_at (suc place) ss gs used) hs) state last));
           };
-          behind_are = are;
-          can = can_here (room + node_count v) gs (one ∷ w.behind) known w.small w.whole sum are;
+          after_are = are;
+          can = can_here (room + node_count v) gs (one ∷ w.after) known w.small w.whole sum are;
         }
 
     -- what its move asks for, where this is before the place and these used rows agree with it
@@ -479,32 +479,32 @@ module _ (q : Question) (i : ℕ) (sound : HasSoundParts q.pools (site q i)) (us
 
     pub ready : (room : ℕ) (front : List Member) (one : Member) (gs : List (Option Data)) (x : Before) (us : List Data) → AreFillings P ss gs → AreUsed P ss used → IsTakenOff room front one gs → x ≡ so_far gs → us ≡ agreeing gs → IsReady room one x us
     ready room front one gs x us fit known off is same =
-        let f = off.ended.stood in
-        let rest = subst (CanFill P (slots_from q i (place + 1)) end (filled here.bit (so_far gs))) off.ended.room_is (can_fill P (slots_from q i (place + 1)) end (filled here.bit (so_far gs)) _ (still_used here (data_of one.tree) (agreeing gs)) f.rest f.stand.rest) in
+        let f = off.ended.are_filled in
+        let rest = subst (CanFill P (slots_from q i (place + 1)) end (filled here.bit (so_far gs))) off.ended.room_is (can_fill P (slots_from q i (place + 1)) end (filled here.bit (so_far gs)) _ (still_used here (data_of one.tree) (agreeing gs)) f.rest f.in_slots.rest) in
         subst (λ y. IsReady room one y us) (sym is) (subst (IsReady room one (so_far gs)) (sym same) (record { known = known_to place gs fit known; value = f.value; rest = rest; can = off.can }))
 
     -- a move of the member
     pub walked_member : (step : Step) (room : ℕ) (front new : List Member) (one : Member) (gs : List (Option Data)) (x : Before) (us : List Data) → filled_nodes gs ≤ most_nodes → IsRest P ss end nothing (filled_nodes gs) used gs → IsTakenOff room front one gs → x ≡ so_far gs → us ≡ agreeing gs
-        → x.count ≡ length front → take x.count new ≡ front → AreLeft step front new → ((hs : List (Option Data)) (others : List Member) → AreLastBehind q i place x us one others room hs → AreMoved step P (slots_from q i place) end x us hs (drop x.count new)) → AreWalked step q i place used x new gs
+        → x.count ≡ length front → take x.count new ≡ front → AreLeft step front new → ((hs : List (Option Data)) (others : List Member) → AreLastAfter q i place x us one others room hs → AreMoved step P (slots_from q i place) end x us hs (drop x.count new)) → AreWalked step q i place used x new gs
     walked_member step room front new one gs x us small whole off is same count kept left h =
         let hs = drop place gs in
-        let ended = subst (λ y. AreLastBehind q i place y us one off.behind room hs) (sym is) (subst (λ vs. AreLastBehind q i place (so_far gs) vs one off.behind room hs) (sym same) off.ended) in
-        let moved = subst (λ y. AreMoved step P (slots_from q i place) end y us hs (drop x.count new)) is (h hs off.behind ended) in
+        let ended = subst (λ y. AreLastAfter q i place y us one off.after room hs) (sym is) (subst (λ vs. AreLastAfter q i place (so_far gs) vs one off.after room hs) (sym same) off.ended) in
+        let moved = subst (λ y. AreMoved step P (slots_from q i place) end y us hs (drop x.count new)) is (h hs off.after ended) in
         let there = subst (λ vs. AreMoved step P (slots_from q i place) end (so_far gs) vs hs (drop x.count new)) same moved in
-        walked_step step x front new gs (one ∷ off.behind) small whole off.front_is off.behind_are (subst (λ n. take n new ≡ front) count kept) left is (subst (λ n. AreMoved step P (slots_from q i place) end (so_far gs) (agreeing gs) hs (drop n new)) count there)
+        walked_step step x front new gs (one ∷ off.after) small whole off.front_is off.after_are (subst (λ n. take n new ≡ front) count kept) left is (subst (λ n. AreMoved step P (slots_from q i place) end (so_far gs) (agreeing gs) hs (drop n new)) count there)
 
     -- a key that has no later candidate: it has no next one, and no part of another size
     pub walked_key : (room : ℕ) (front : List Member) (one : Member) (gs : List (Option Data)) (x : Before) → filled_nodes gs ≤ most_nodes → IsRest P ss end nothing (filled_nodes gs) used gs → IsTakenOff room front one gs → x ≡ so_far gs → here.key ≡ true
         → ((u : Data) → IsPart P here.site u → IsPast (Some (data_of one.tree)) u → ⊥) → IsWalkedTo q i place (room + 1) used x front gs
     walked_key room front one gs x small whole off is key none =
         let law = key_here P here (slots_from q i (place + 1)) (subst (AreKeySlots P) first (keys_at q i place sound)) key in
-        let f = off.ended.stood in
+        let f = off.ended.are_filled in
         let own : node_count (data_of one.tree) ≡ 1 = law.one (data_of one.tree) f.value.part in
         let empty : (n : ℕ) → 2 ≤ n → FitsSlot P here (slots_from q i (place + 1)) end (so_far gs) (room + 1) n → ⊥ = λ n more fits.
         let size : n ≡ 1 = sym fits.0.nodes_are ∙ law.one fits.0.part fits.0.is in
         omega (arith, more, size) in
-        let moved = in_grown q i place sound first (so_far gs) (agreeing gs) one off.behind (drop place gs) off.ended.small f (step.Last (room + 1)) room 1 front front (sym (so_many place gs front off.front_is)) off.ended.room_is own off.ended.last (λ u v past. none u v.part past) (refl, empty, refl) in
-        walked_step (step.Last (room + 1)) x front front gs (one ∷ off.behind) small whole off.front_is off.behind_are (take_all (length front) front (omega arith)) refl is moved
+        let moved = in_grown q i place sound first (so_far gs) (agreeing gs) one off.after (drop place gs) off.ended.small f (step.Last (room + 1)) room 1 front front (sym (so_many place gs front off.front_is)) off.ended.room_is own off.ended.last (λ u v past. none u v.part past) (refl, empty, refl) in
+        walked_step (step.Last (room + 1)) x front front gs (one ∷ off.after) small whole off.front_is off.after_are (take_all (length front) front (omega arith)) refl is moved
 
     -- no size fits where the slot is left out
     pub nothing_fits : (room : ℕ) (before : Before) (members : List Member) (gs : List (Option Data)) → IsLeftOut room before members gs → ((n : ℕ) → FitsSlot P here (slots_from q i (place + 1)) end (so_far gs) room n → ⊥)
@@ -520,7 +520,7 @@ module _ (q : Question) (i : ℕ) (sound : HasSoundParts q.pools (site q i)) (us
         let count : (so_far gs).count ≡ length base = so_many place gs base front in
         let grown = subst (λ y. IsGrown step P here (slots_from q i (place + 1)) end y room 0 (agreeing gs) base new) is (subst (λ vs. IsGrown step P here (slots_from q i (place + 1)) end before room 0 vs base new) same h) in
         let moved = out_grown q i place sound first step (so_far gs) (agreeing gs) (drop place gs) (drop (suc place) gs) room base new o.is o.small o.must (sym count) o.room_is o.last grown in
-        walked_step step before base new gs o.behind small whole front o.behind_are (grown_kept step P here (slots_from q i (place + 1)) end (so_far gs) room 0 (length base) (agreeing gs) base new grown refl) (left_grown step P here (slots_from q i (place + 1)) end (so_far gs) room 0 (agreeing gs) base new grown) is
+        walked_step step before base new gs o.after small whole front o.after_are (grown_kept step P here (slots_from q i (place + 1)) end (so_far gs) room 0 (length base) (agreeing gs) base new grown refl) (left_grown step P here (slots_from q i (place + 1)) end (so_far gs) room 0 (agreeing gs) base new grown) is
         (subst (λ n. AreMoved step P (slots_from q i place) end (so_far gs) (agreeing gs) (drop place gs) (drop n new)) count moved)
 
     -- nothing was taken off, and nothing is in the slot

@@ -1,4 +1,4 @@
--- Whole lists, and what items may not stand in one of them.
+-- Whole lists, and what items may not be in one list.
 use Rattle.std.proofs.Common.{◌≡◌, ◌↔◌, ◌<◌, ◌≤◌, ◌+◌, ◌-◌, ℕ, List, [], ◌∷◌, Bool, true, false, Some, refl, sym, ap, ◌∙◌, subst, inl, inr, arith}
 use Rattle.std.proofs.lemmas.Bool.{or_parts, or_from, false_from_ne_true}
 use Rattle.std.specs.Cmp.{nat_cmp_is}
@@ -27,9 +27,9 @@ use Rattle.enumerate.specs.Least.{IsLeast}
 use Rattle.enumerate.specs.View.{trees_of}
 use Rattle.enumerate.specs.Internal.Nodes.{site, IsPartOf, HasSizeAt}
 use Rattle.enumerate.specs.Internal.Candidates.{IsUnusedPart}
-use Rattle.enumerate.specs.Internal.Lists.{AreItems, CanFollow, IsFreshItem, AddsItems}
+use Rattle.enumerate.specs.Internal.Lists.{AreItems, CanFollow, IsUnusedItem, AddsItems}
 use Rattle.enumerate.proofs.LeastLemmas.{same_tree, own_tree}
-use Rattle.enumerate.proofs.ListLemmas.{first_none, none_behind}
+use Rattle.enumerate.proofs.ListLemmas.{first_none, none_follow}
 
 -- lists of as many nodes compare by their items
 pub list_order : (ds es : Items) → items_count ds ≡ items_count es → tree_cmp (tree.list ds) (tree.list es) ≡ items_cmp ds es
@@ -71,7 +71,7 @@ module _ (q : Question) (i : ℕ) (rule : RuleOfParts q.pools q.limit (site q i)
           h.least r.0 r.1.0 (sym (list_order r.0 ds (r.1.0.nodes_are ∙ sym h.is.nodes_are)) ∙ at);
     }
 
-    -- the items of a list of this size can stand behind none
+    -- items of n - 1 nodes can follow where there is none
     pub list_more : HasSizeAt q i n → HasMore q.pools q.limit (site q i) 0 (n - 1)
     list_more h =
         let r = list_items h.part (record { part = h.is; nodes_are = h.nodes_are }) in
@@ -89,7 +89,7 @@ pub list_alone : (q : Question) (i n : ℕ) (rule : RuleOfParts q.pools q.limit 
 list_alone q i n rule is_list some within no_null few h =
     let r = list_items q i rule is_list n some within no_null h.part (record { part = h.is; nodes_are = h.nodes_are }) in
     let zero_left : n - 1 ≡ 0 = omega (arith, few) in
-    let none = none_behind q i no_items r.0 (subst (λ m. AreItems q i m no_items r.0) zero_left r.1.0) in
+    let none = none_follow q i no_items r.0 (subst (λ m. AreItems q i m no_items r.0) zero_left r.1.0) in
     list_least q i rule is_list n some within no_null no_items (subst (λ m. IsLeast items_cmp (AreItems q i m no_items) no_items) (sym zero_left) none)
 
 pub list_follow : (q : Question) (i c n : ℕ) (rule : RuleOfParts q.pools q.limit (site q i)) → sort_of (site q i) ≡ sort.List → item_site (site q i) ≡ Some (site q c) → 1 ≤ n → n ≤ q.limit → (n ≡ 1 → admits_null (site q i) ≡ false) → HasSizeAt q i n → CanFollow q i c (n - 1) no_items
@@ -99,7 +99,7 @@ list_follow q i c n rule is_list item_is some within no_null h = record {
   within = omega (arith, some, within);
 }
 
--- ---- items that may not stand in one list
+-- ---- items that may not be in one list
 
 pub any_false : (test : Data → Bool) (ts : List Tree) → any_item test (items_of ts) ≡ false → (u : Data) → Among (trees_of ts) u → test u ≡ false
 any_false test [] e u a = absurd a
@@ -110,26 +110,26 @@ pub false_any : (test : Data → Bool) (ts : List Tree) → ((u : Data) → Amon
 false_any test [] each = refl
 false_any test (t ∷ ts) each = rw (each (data_of t) (inl refl)) (false_any test ts (λ u a. each u (inr a)))
 
-pub always_fresh : (P : Pools) (s : Site) → HasSoundParts P s → distinct_of s ≡ Free → (v : Data) (ds : Items) → any_item (λ u. alike_at s u v) ds ≡ false
-always_fresh P s sound e v no_items = refl
-always_fresh P s sound e v (item d ds) = or_from (alike_at s d v) (any_item (λ u. alike_at s u v) ds) (sound.free d v e) (always_fresh P s sound e v ds)
+pub always_unused : (P : Pools) (s : Site) → HasSoundParts P s → distinct_of s ≡ Free → (v : Data) (ds : Items) → any_item (λ u. alike_at s u v) ds ≡ false
+always_unused P s sound e v no_items = refl
+always_unused P s sound e v (item d ds) = or_from (alike_at s d v) (any_item (λ u. alike_at s u v) ds) (sound.free d v e) (always_unused P s sound e v ds)
 
--- in a free list each part is fresh
-pub part_fresh : (q : Question) (i c n : ℕ) (used : Items) (v : Data) → HasSoundParts q.pools (site q i) → distinct_of (site q i) ≡ Free → IsPartOf q c n v → IsFreshItem q i c n used v
-part_fresh q i c n used v sound e p = record { part = p; fresh = always_fresh q.pools (site q i) sound e v used }
+-- in a free list each part is unused
+pub part_unused : (q : Question) (i c n : ℕ) (used : Items) (v : Data) → HasSoundParts q.pools (site q i) → distinct_of (site q i) ≡ Free → IsPartOf q c n v → IsUnusedItem q i c n used v
+part_unused q i c n used v sound e p = record { part = p; unused = always_unused q.pools (site q i) sound e v used }
 
 -- in a set those are that are none of the items
-pub unused_fresh : (q : Question) (i c n : ℕ) (used : List Tree) (v : Data) → AreSetItems q.pools (site q i) (site q c) → IsUnusedPart q c n (trees_of used) v ↔ IsFreshItem q i c n (items_of used) v
-unused_fresh q i c n used v set = (
+pub set_item_unused : (q : Question) (i c n : ℕ) (used : List Tree) (v : Data) → AreSetItems q.pools (site q i) (site q c) → IsUnusedPart q c n (trees_of used) v ↔ IsUnusedItem q i c n (items_of used) v
+set_item_unused q i c n used v set = (
   λ h. record {
     part = h.0;
-    fresh = false_any (λ u. alike_at (site q i) u v) used (λ u a.
+    unused = false_any (λ u. alike_at (site q i) u v) used (λ u a.
         set.alike u v ∙ false_from_ne_true (is_same u v) (λ same. h.1 (contains _ _ (subst (Among (trees_of used)) (same_tree u v same) a))));
   },
   λ h. (
     h.part,
     λ m.
-        let no = any_false (λ u. alike_at (site q i) u v) used h.fresh v (contained _ _ m) in
+        let no = any_false (λ u. alike_at (site q i) u v) used h.unused v (contained _ _ m) in
         let both : true ≡ false = sym (own_tree v) ∙ (sym (set.alike v v) ∙ no) in
         cc,
   ),

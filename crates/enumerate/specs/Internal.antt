@@ -1,9 +1,9 @@
--- What private contracts cite alone.
+-- What only private contracts cite.
 pub mod Nodes
 pub mod Candidates
 pub mod Rows
 pub mod Lists
-pub mod Standing
+pub mod Current
 pub mod Steps
 pub mod Moves
 pub mod Membership

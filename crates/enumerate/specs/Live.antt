@@ -1,4 +1,4 @@
--- An enumeration that stands at a sample, and what its calls answer (this project's own).
+-- An enumeration with its current sample, and what its calls answer (this project's own).
 use Rattle.std.specs.Prelude.{◌≡◌, ℕ, ◌+◌, ◌*◌, ◌≤◌, ◌++◌, ◌∷◌, [], refl, List, length, Option, Some, None, Bool, is_some}
 use Rattle.std.specs.Coded.{Coded, code_by, coded×, coded_option}
 use Rattle.jtree.specs.Data.{Data}
@@ -10,7 +10,7 @@ use Rattle.plan.specs.Samples.Steps.{delay}
 use Rattle.enumerate.specs.Least.{IsLeast}
 use Rattle.enumerate.specs.Page.{IsPage, IsPastSample}
 
--- the question of the plan, and the sample at which the enumeration stands; None once it has ended
+-- the question of the plan, and the current sample; None once the enumeration has ended
 pub record Enumeration : Type 0 where
   pub question : Question
   pub at : Option Data
@@ -23,30 +23,29 @@ abbrev pub IsNextSample : Question → Option Data → Option Data → Type 0
 IsNextSample q after (Some v) = IsLeast tree_cmp (IsPastSample q after) v
 IsNextSample q after None = (v : Data) → IsPastSample q after v → ⊥
 
--- an enumeration that stands at the least sample past a place; none exactly where there is no such sample
+-- an enumeration at the least sample past a place; none exactly where there is no such sample
 abbrev pub IsStarted : Question → Option Data → Option Enumeration → Type 0
 IsStarted q after (Some live) = (live.question ≡ q) × ((v : Data) × ((live.at ≡ Some v) × IsNextSample q after (Some v)))
 IsStarted q after None = IsNextSample q after None
 
--- From the sample at which it stood an enumeration moved to the next one, and has more; or there is no next one, and it stands
--- nowhere.
+-- An enumeration moved from its current sample to the next one, and has more; or there is no next one, and it has ended.
 pub record IsAdvanced (old new : Enumeration) (more : Bool) : Type 0 where
   pub last : Data
-  pub stood : old.at ≡ Some last
+  pub old_at : old.at ≡ Some last
   pub next : IsNextSample old.question (Some last) new.at
   pub more_is : more ≡ is_some new.at
 
--- at most as many steps as it takes to a sample, in a plan of this width
+-- at most as many steps as a sample may take, in a plan of this width
 abbrev pub IsWithinDelay : Question → ℕ → ℕ → Type 0
 IsWithinDelay q before after = (width : ℕ) → IsWidth q.pools q.root width → after ≤ before + delay q.limit width
 
--- the place past which what comes after these items stands: the last of them, or the place before them where there is none
+-- the place past which the samples after these items are: the last item, or the place before the items where there is none
 abbrev pub place_after : Option Data → List Data → Option Data
 place_after before [] = before
 place_after before (v ∷ vs) = place_after (Some v) vs
 
--- The samples of a page past a place were lent and taken, in at most as many steps as it takes to each of them; the enumeration stands at
--- the next one past them.
+-- The samples of a page past a place were lent and taken, in at most as many steps as each of them may take; the enumeration is at the
+-- next one past them.
 pub record LendsPage (q : Question) (after : Option Data) (count : ℕ) (end : Bool) (has_taken : List Data → Type 0) (at : Option Data) (steps_before steps_now : ℕ) : Type 0 where
   pub items : List Data
   pub taken : has_taken items

@@ -10,7 +10,7 @@ use Rattle.plan.specs.Samples.Question.{Question}
 abbrev pub Precedes : Data → Data → Type 0
 Precedes u v = tree_cmp u v ≡ Less
 
--- past the tree handed in, or past nothing
+-- past the given tree, or past nothing
 abbrev pub IsPast : Option Data → Data → Type 0
 IsPast None v = Unit {0}
 IsPast (Some a) v = Precedes a v

@@ -1,4 +1,4 @@
--- What the trees that a call is handed and answers stand for: a tree, if any, and the trees of a page.
+-- What the trees that a call takes and answers are to a contract: a tree, if any, and the trees of a page.
 use Rattle.std.specs.Prelude.{List, map, Option, option_map}
 use Rattle.std.specs.Borrow.{Bor}
 use Rattle.jtree.specs.Data.{Data}

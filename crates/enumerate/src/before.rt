@@ -2,7 +2,7 @@
 use plan::{Plan, PlanNode, SizeSet, Slot};
 use std::marker::Model;
 
-/// What stands before a place of a row: how many slots are filled, and which of the fields that the junctors name are among them.
+/// What is before a place of a row: how many slots are filled, and which of the fields that the junctors name are among them.
 #[derive(Clone, Copy)]
 pub(crate) struct Before {
     taken: u32,

@@ -1,34 +1,34 @@
-//! The first part of a node of so many nodes.
-ghost use Rattle.std.specs.Prelude.{◌≡◌, ◌≢◌, ◌+◌, ◌-◌, ◌*◌, ◌≤◌, ◌<◌, ◌++◌, ◌∷◌, [], ℕ, List, true, false, length, filter, IfOk, OnOk, IfSome, IfNone, None, Some, Contains, drop};
-ghost use Rattle.jtree.specs.Data.{Data};
+//! The first part of a node of a given size.
+ghost use Rattle.std.specs.Prelude.{◌++◌, ◌∷◌, [], ◌≡◌, ◌+◌, ◌-◌, ◌≤◌, ◌<◌, ℕ, List, length, drop, IfOk, false, filter, OnOk};
 ghost use Rattle.jtree.specs.Nodes.{node_count, items_count};
-ghost use Rattle.jtree.specs.Order.{tree_cmp};
 ghost use Rattle.jtree.specs.View.{data_of, items_of};
 ghost use Rattle.plan.specs.Samples.Part.{IsPart};
 ghost use Rattle.plan.specs.Samples.Candidates.{sort_of};
-ghost use Rattle.plan.specs.Samples.NoDeadEnd.{is_key, HasFree};
-ghost use Rattle.plan.specs.Samples.Sizes.{nothing, filled, HasMore};
-ghost use Rattle.plan.specs.Samples.RuleOfParts.{admits_null};
 ghost use Rattle.plan.specs.declared.sort.Sort.TheVariants as sort;
-ghost use Rattle.enumerate.specs.Least.{IsLeast};
-ghost use Rattle.enumerate.specs.Internal.Nodes.{site, IsNodeOf, IsPartOf, HasSizeAt, Costs};
+ghost use Rattle.enumerate.specs.Internal.Nodes.{site, IsNodeOf, IsPartOf, Costs, HasSizeAt};
 ghost use Rattle.enumerate.specs.Internal.Candidates.{used_rows, stack_of};
-ghost use Rattle.enumerate.specs.Internal.Steps.{KeepsMeter};
-ghost use Rattle.enumerate.specs.Internal.Rows.{slots_from, slot_in, ending_at, used_keys, IsSlotOf, AreUsed, IsOpen, AddsFirst, IsRow, still_used, IsValue, IsGrown, CostsSlots};
+ghost use Rattle.enumerate.specs.Internal.Rows.{slots_from, slot_in, ending_at, still_used, IsSlotOf, AreUsed, IsOpen, AddsFirst, IsRow, IsValue, CostsSlots, used_keys, IsGrown};
+ghost use Rattle.enumerate.specs.Internal.Lists.{AreFirst, CanFollow, IsUnusedItem, AddsItems, AreGrown};
 ghost use Rattle.enumerate.specs.Internal.Following.{Continue, MembersContinue, GrownContinue, ItemsContinue, GrownItemsContinue};
-ghost use Rattle.enumerate.specs.Internal.Lists.{AreFirst, CanFollow, IsFreshItem, AddsItems, AreGrown};
+ghost use Rattle.enumerate.specs.Internal.Steps.{KeepsMeter};
+ghost use Rattle.plan.specs.Samples.Sizes.{nothing, filled, HasMore};
+ghost use Rattle.enumerate.specs.declared.moved.Step.TheVariants as step;
+ghost use Rattle.jtree.specs.Order.{tree_cmp};
+ghost use Rattle.plan.specs.Samples.NoDeadEnd.{is_key, HasFree};
+ghost use Rattle.plan.specs.Samples.RuleOfParts.{admits_null};
+ghost use Rattle.enumerate.specs.Least.{IsLeast};
 
 use crate::before::Before;
 use crate::leaves::{first_key, first_unused};
 use crate::moved::Step;
 use crate::naming::take_name;
-use crate::splitting::least_split;
+use crate::splitting::{least_item, least_value};
 use crate::taken::{Chosen, Rows, still_used};
 use jtree::{Items, Member, Members, Text, Tree};
 use plan::{Distinct, Meter, Plan, PlanNode, SizeSet, Slot, Sort};
 use std::alloc::{AllocError, Global};
 
-/// The first part of a size that the node has.
+/// The first part of the given size, which some part of the node has.
 #[cycle(first)]
 pub(crate) fn first<'p, Z: SizeSet>(
     alloc: Global,
@@ -46,6 +46,7 @@ pub(crate) fn first<'p, Z: SizeSet>(
     ensures following { IfOk result (λ v. Continue (IsPartOf plan.now node size) (data_of v) (stack_of following.new.items)) }
     ensures steps { Costs plan.now meter.old meter.new size }
 {
+    // for their contracts alone, as with the laws and the limit in the functions below
     plan.no_dead_end();
     plan.sound_parts();
     match plan.sort(node) {
@@ -68,7 +69,7 @@ pub(crate) fn first<'p, Z: SizeSet>(
     }
 }
 
-/// The first object of a size that has not the same under all keys as a used one.
+/// The first object of a size that differs from each used row in the value of some key.
 #[cycle(first)]
 pub(crate) fn first_row<'p, Z: SizeSet>(
     alloc: Global,
@@ -111,7 +112,7 @@ pub(crate) fn first_row<'p, Z: SizeSet>(
     Ok(Tree::Object(Members { members }))
 }
 
-/// Appends the first members of `room` nodes that stand in the slots from `place` on, where `before` stands before it.
+/// Appends the first members of `room` nodes for the slots from `place` on, where `before` is what is before it.
 #[cycle(first)]
 #[inline(always)]
 pub(crate) fn first_slots<'p, Z: SizeSet>(
@@ -162,7 +163,7 @@ pub(crate) fn first_slots<'p, Z: SizeSet>(
     Ok(())
 }
 
-/// Appends the first part of the slot at `place` of a size from `from` on, and the first members behind it; or nothing, where there
+/// Appends the first part of the slot at `place` of a size from `from` on, and the first members after it; or nothing, where there
 /// is no such size.
 #[cycle(first)]
 #[inline(always)]
@@ -193,16 +194,13 @@ pub(crate) fn grow_slots<'p, Z: SizeSet>(
     ensures last { IfOk result (λ step. KeepsMeter step meter.old meter.new) }
 {
     plan.sound_parts();
-    plan.limit();
     if from > room {
         return Ok(Step::Last(room));
     }
-    let sizes = plan.sizes(slot.node);
-    let rest = before.fill(slot).rest(plan, node, place + 1);
-    let Some(size) = least_split(sizes, rest, room, from) else {
+    let Some(size) = least_value(plan, node, slot, place, before, room, from) else {
         return Ok(Step::Last(room));
     };
-    // Before the value, whose own names were kept before this one.
+    // Before the value is made: the names inside it were kept before this one, so they lie below it.
     let name = take_name(alloc, slot.name, spare)?;
     let tree = first_value(
         alloc, plan, node, slot, place, size, used, following, spare, meter,
@@ -256,7 +254,7 @@ fn first_value<'p, Z: SizeSet>(
     first(alloc, plan, slot.node, size, following, spare, meter)
 }
 
-/// Appends a member, and the first members of `room` nodes behind it.
+/// Appends a member, and the first members of `room` nodes after it.
 #[cycle(first)]
 pub(crate) fn put_member<'p, Z: SizeSet>(
     alloc: Global,
@@ -355,7 +353,7 @@ fn first_list<'p, Z: SizeSet>(
     Ok(Tree::List(Items { items }))
 }
 
-/// Appends the first items of `room` nodes behind those that are there.
+/// Appends the first items of `room` nodes after those that are there.
 #[cycle(first)]
 pub(crate) fn first_items<'p, Z: SizeSet>(
     alloc: Global,
@@ -385,7 +383,7 @@ pub(crate) fn first_items<'p, Z: SizeSet>(
     Ok(())
 }
 
-/// Appends the first item of a size from `from` on, and the first items behind it; or nothing, where there is no such size.
+/// Appends the first item of a size from `from` on, and the first items after it; or nothing, where there is no such size.
 #[cycle(first)]
 pub(crate) fn grow_items<'p, Z: SizeSet>(
     alloc: Global,
@@ -408,24 +406,15 @@ pub(crate) fn grow_items<'p, Z: SizeSet>(
     ensures steps { Costs plan.now meter.old meter.new room }
     ensures last { IfOk result (λ step. KeepsMeter step meter.old meter.new) }
 {
-    plan.limit();
     if from > room {
         return Ok(Step::Last(room));
     }
-    let more = plan.more(node, items.len() as u32 + 1);
-    let Some(size) = least_split(plan.sizes(child), more, room, from) else {
+    let others = items.as_slice();
+    let Some(size) = least_item(plan, node, child, others, room, from) else {
         return Ok(Step::Last(room));
     };
     let item = first_item(
-        alloc,
-        plan,
-        node,
-        child,
-        size,
-        items.as_slice(),
-        following,
-        spare,
-        meter,
+        alloc, plan, node, child, size, others, following, spare, meter,
     )?;
     items.push(item)?;
     first_items(
@@ -442,7 +431,7 @@ pub(crate) fn grow_items<'p, Z: SizeSet>(
     Ok(Step::Moved)
 }
 
-/// The first part of a size that an item behind the others can be.
+/// The first part of a size that can be an item after the others.
 #[cycle(first)]
 fn first_item<'p, Z: SizeSet>(
     alloc: Global,
@@ -460,9 +449,9 @@ fn first_item<'p, Z: SizeSet>(
     requires first { AreFirst plan.now node child (items_of items.now) }
     requires size { HasSizeAt plan.now child size }
     requires limit { size ≤ plan.now.limit }
-    requires fresh { (m : ℕ) × HasMore plan.now.pools plan.now.limit (site plan.now node) (length items.now + 1) m }
-    ensures ok { IfOk result (λ v. IsLeast tree_cmp (IsFreshItem plan.now node child size (items_of items.now)) (data_of v)) }
-    ensures following { IfOk result (λ v. Continue (IsFreshItem plan.now node child size (items_of items.now)) (data_of v) (stack_of following.new.items)) }
+    requires more { (m : ℕ) × HasMore plan.now.pools plan.now.limit (site plan.now node) (length items.now + 1) m }
+    ensures ok { IfOk result (λ v. IsLeast tree_cmp (IsUnusedItem plan.now node child size (items_of items.now)) (data_of v)) }
+    ensures following { IfOk result (λ v. Continue (IsUnusedItem plan.now node child size (items_of items.now)) (data_of v) (stack_of following.new.items)) }
     ensures steps { Costs plan.now meter.old meter.new size }
 {
     plan.no_dead_end();

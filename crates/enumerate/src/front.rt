@@ -99,6 +99,7 @@ pub(crate) fn front_at<'a, Z: SizeSet>(
         → IsFront (slots_from plan.now node 0) place gs (used_rows used.now) front) }
     ensures steps { meter.new ≤ meter.old + place }
 {
+    // for its contract alone, as with the law and the limit below
     plan.limit();
     if !plan.names_fields(node) && (used.is_empty() || members.is_empty()) {
         return Ok(Front {

@@ -6,9 +6,9 @@ ghost use Rattle.plan.specs.Samples.Question.{Question};
 ghost use Rattle.enumerate.specs.Limit.{at_limit, IsLastSample};
 ghost use Rattle.enumerate.specs.Page.{IsPage, IsPastSample, IsSampleOf};
 
-/// A law, and nothing that runs: a question has one page past a place with a count, so two such pages have the same items
-/// and the same end. A sample stays one at every larger limit, and past the last sample of the smaller limit stand there
-/// exactly the samples of more nodes than that limit.
+/// A law, called for its contract alone: a question has one page past a place with a count, so two such pages have the same items
+/// and the same end. A sample stays one at every larger limit, and there the samples past the last one of the smaller limit
+/// are exactly those of more nodes than that limit.
 pub fn pages_agree()
     ensures items { (q : Question) (after : Option Data) (count : ℕ) (xs ys : List Data) (d e : Bool)
         → IsPage q after count xs d → IsPage q after count ys e → xs ≡ ys }

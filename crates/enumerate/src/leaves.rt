@@ -32,7 +32,7 @@ fn is_past(after: Option<&Tree>, tree: &Tree) -> bool
     }
 }
 
-/// Whether the tree has so many nodes; those of a scalar are not counted.
+/// Whether the tree has `size` nodes. A scalar has one, which takes no count.
 #[inline(always)]
 fn has_size(tree: &Tree, size: u32) -> bool
     ensures { IsTrue result ↔ (node_count (data_of tree.now) ≡ size) }
@@ -107,8 +107,8 @@ pub(crate) fn has_later<Z: SizeSet>(
     }
 }
 
-/// Puts the last of the choices in the place of the tree, in its room, where there is one, and answers whether there is. Choices that
-/// have parts are dropped then.
+/// Replaces the tree by the last of the choices, in the memory of the tree, where there is one, and answers whether there is. Choices
+/// that have parts are dropped then.
 #[inline(always)]
 fn put_first<'p>(
     alloc: Global,
@@ -158,7 +158,7 @@ fn first_free<'p, Z: SizeSet>(
     }
 }
 
-/// The next free candidate of the same size, in the room of the tree. `following` becomes what it becomes at the first one.
+/// The next free candidate of the same size, in the memory of the tree. `following` becomes what it becomes at the first one.
 #[inline(always)]
 fn next_free<'p, Z: SizeSet>(
     alloc: Global,

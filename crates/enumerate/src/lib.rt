@@ -1,9 +1,10 @@
-//! Samples of a plan, each from the one before it.
+//! Samples of a plan, each made from the one before it.
 #![tactic(auto)]
 
 mod before;
 mod building;
 mod copying;
+mod current;
 mod fault;
 mod front;
 mod law;
@@ -15,9 +16,10 @@ mod moved;
 mod moving;
 mod naming;
 mod paging;
+mod pieces;
+mod placing;
 mod root;
 mod splitting;
-mod standing;
 mod taken;
 mod taking;
 

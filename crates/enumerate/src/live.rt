@@ -1,20 +1,20 @@
-//! An enumeration that stands at a sample.
+//! An enumeration of the samples of a plan.
 use crate::copying::copy_of;
+use crate::current::Current;
 use crate::fault::EFault;
 use crate::membership::is_part;
 use crate::root::{first_from, next_sample};
-use crate::standing::Standing;
 use crate::taking::Taker;
 use jtree::Tree;
 use plan::{Meter, Plan, SizeSet};
 use std::alloc::{AllocError, Global};
 use std::marker::Model;
 
-/// The sample at which an enumeration of a plan stands; none once it has ended.
+/// An enumeration of the samples of a plan. It has a current sample until it has ended.
 pub struct Live<'p, Z: SizeSet> {
     alloc: Global,
     plan: &'p Plan<Z>,
-    standing: Option<Standing<'p>>,
+    current: Option<Current<'p>>,
 }
 
 impl<Z: SizeSet> Drop for Live<'_, Z> {
@@ -22,7 +22,7 @@ impl<Z: SizeSet> Drop for Live<'_, Z> {
         let Live {
             alloc: _,
             plan: _,
-            standing: _,
+            current: _,
         } = self;
     }
 }
@@ -36,11 +36,11 @@ impl<'p, Z: SizeSet> Model for Live<'p, Z> {
 
     ghost use Rattle.std.specs.Prelude.{IfSome, option_map};
     ghost use Rattle.jtree.specs.View.{data_of};
-    ghost use Rattle.enumerate.specs.Internal.Standing.{IsStanding};
+    ghost use Rattle.enumerate.specs.Internal.Current.{IsCurrent};
 
-    ghost view = { λ l. record { question = l.plan.now; at = option_map (λ s. data_of s.tree) l.standing } };
+    ghost view = { λ l. record { question = l.plan.now; at = option_map (λ s. data_of s.tree) l.current } };
 
-    ghost invariant = { λ l. IfSome l.standing (IsStanding l.plan.now) };
+    ghost invariant = { λ l. IfSome l.current (IsCurrent l.plan.now) };
 }
 
 impl<'p, Z: SizeSet> Live<'p, Z> {
@@ -53,7 +53,7 @@ impl<'p, Z: SizeSet> Live<'p, Z> {
     ghost use Rattle.enumerate.specs.Live.{IsStarted, IsAdvanced, IsNextSample, IsWithinDelay, LendsPage, LendsPart};
     ghost use Rattle.enumerate.specs.declared.fault.EFault.TheVariants.{NotASample, NoMemory, Ended};
 
-    /// At the first sample; `None` exactly where there is none.
+    /// Starts at the first sample; `None` exactly where there is none.
     ///
     /// `NoMemory` where an allocation fails. It takes at most 4 * (limit + 1) * (width + 1) steps, whatever it answers.
     pub fn first(
@@ -71,13 +71,13 @@ impl<'p, Z: SizeSet> Live<'p, Z> {
             Some(tree) => Ok(Some(Live {
                 alloc,
                 plan,
-                standing: Some(Standing::at(plan, tree, following, spare)),
+                current: Some(Current::at(plan, tree, following, spare)),
             })),
             None => Ok(None),
         }
     }
 
-    /// At the first sample past the tree, which is a sample itself; `None` exactly where there is none.
+    /// Starts at the first sample past the tree, which is a sample itself; `None` exactly where there is none.
     ///
     /// `NotASample` exactly where the tree is no sample, and `NoMemory` where an allocation fails. It takes at most
     /// 4 * (limit + 1) * (width + 1) steps, whatever it answers.
@@ -103,13 +103,14 @@ impl<'p, Z: SizeSet> Live<'p, Z> {
             Some(next) => Ok(Some(Live {
                 alloc,
                 plan,
-                standing: Some(Standing::at(plan, next, following, spare)),
+                current: Some(Current::at(plan, next, following, spare)),
             })),
             None => Ok(None),
         }
     }
 
-    /// At the first sample past `after`, which is a sample itself, or at the first one of all; `None` exactly where there is none.
+    /// Starts at the first sample past `after`, which is a sample itself, or at the first one of all; `None` exactly where there is
+    /// none.
     ///
     /// `NotASample` exactly where `after` is no sample, and `NoMemory` where an allocation fails. It takes at most
     /// 4 * (limit + 1) * (width + 1) steps, whatever it answers.
@@ -133,7 +134,7 @@ impl<'p, Z: SizeSet> Live<'p, Z> {
 
     /// Moves to the next sample, and answers whether there is one. Where there is none, the enumeration has ended.
     ///
-    /// `Ended` exactly where it had ended before, and `NoMemory` where an allocation fails; it has ended then. It takes at most
+    /// `Ended` exactly where it had ended before, and `NoMemory` where an allocation fails, which ends it. It takes at most
     /// 4 * (limit + 1) * (width + 1) steps, whatever it answers.
     pub fn advance(&mut self, meter: &mut Meter) -> Result<bool, EFault>
         ensures same { self.new.question ≡ self.old.question }
@@ -142,27 +143,27 @@ impl<'p, Z: SizeSet> Live<'p, Z> {
         ensures nowhere { IfErr result (λ _. self.new.at ≡ None) }
         ensures steps { IsWithinDelay self.old.question meter.old meter.new }
     {
-        let Some(standing) = &mut self.standing else {
+        let Some(current) = &mut self.current else {
             return Err(EFault::Ended);
         };
-        match standing.step(self.alloc, self.plan, meter) {
+        match current.step(self.alloc, self.plan, meter) {
             Ok(true) => Ok(true),
             Ok(false) => {
-                self.standing = None;
+                self.current = None;
                 Ok(false)
             }
             Err(_) => {
-                self.standing = None;
+                self.current = None;
                 Err(EFault::NoMemory)
             }
         }
     }
 
-    /// Lends the taker the sample at which the enumeration stands and those after it, `count` of them, or fewer where no more are
-    /// left, and moves to the next one past them. It answers whether no further sample is left.
+    /// Lends the taker the current sample and those after it, `count` in all, or fewer where no more are left, and moves to the sample
+    /// after them. It answers whether no sample is left.
     ///
-    /// `NoMemory` where an allocation fails; the enumeration has ended then, and what was taken is a beginning of the page. Where it
-    /// answers, it takes at most 4 * (limit + 1) * (width + 1) steps for each sample that was lent.
+    /// `NoMemory` where an allocation fails, which ends the enumeration; the samples taken by then are the first ones of the page.
+    /// Where it answers, it takes at most 4 * (limit + 1) * (width + 1) steps for each sample that was lent.
     pub fn lend_page<T: Taker>(
         &mut self,
         count: u32,
@@ -178,28 +179,28 @@ impl<'p, Z: SizeSet> Live<'p, Z> {
         ensures err { IfErr result (λ e. e ≡ NoMemory) }
         ensures nowhere { IfErr result (λ _. self.new.at ≡ None) }
     {
-        let Some(standing) = &mut self.standing else {
+        let Some(current) = &mut self.current else {
             return Ok(true);
         };
-        match standing.lend(self.alloc, self.plan, count, taker, meter) {
+        match current.lend(self.alloc, self.plan, count, taker, meter) {
             Ok(false) => Ok(false),
             Ok(true) => {
-                self.standing = None;
+                self.current = None;
                 Ok(true)
             }
             Err(_) => {
-                self.standing = None;
+                self.current = None;
                 Err(EFault::NoMemory)
             }
         }
     }
 
-    /// The sample; `None` once the enumeration has ended.
+    /// The current sample; `None` once the enumeration has ended.
     pub fn tree(&self) -> Option<&Tree>
         ensures { option_map data_of (option_copied result) ≡ self.now.at }
     {
-        match &self.standing {
-            Some(standing) => Some(&standing.tree),
+        match &self.current {
+            Some(current) => Some(&current.tree),
             None => None,
         }
     }

@@ -9,8 +9,8 @@ ghost use Rattle.plan.specs.declared.sort.Sort.TheVariants as sort;
 ghost use Rattle.enumerate.specs.Internal.Nodes.{site, IsNodeOf, Costs};
 ghost use Rattle.enumerate.specs.Internal.Candidates.{used_rows};
 ghost use Rattle.enumerate.specs.Internal.Rows.{slots_from, ending_at, CostsSlots};
-ghost use Rattle.enumerate.specs.Internal.Lists.{AreFirst, IsFreshItem};
-ghost use Rattle.enumerate.specs.Internal.Membership.{StandFresh, IsFreshRow, IsListOf};
+ghost use Rattle.enumerate.specs.Internal.Lists.{AreFirst, IsUnusedItem};
+ghost use Rattle.enumerate.specs.Internal.Membership.{MakeUnusedRow, IsUnusedRow, IsListOf};
 
 use crate::before::Before;
 use crate::taken::{Chosen, Rows, still_used};
@@ -18,7 +18,7 @@ use jtree::{Member, Tree};
 use plan::{Distinct, Meter, Plan, PlanNode, SizeSet, Sort};
 use std::alloc::{AllocError, Global};
 
-/// Whether the tree is a part of the node. It is one pass over the tree.
+/// Whether the tree is a part of the node, by the rule of parts and in one pass over the tree.
 #[cycle(part)]
 pub(crate) fn is_part<Z: SizeSet>(
     alloc: Global,
@@ -32,11 +32,12 @@ pub(crate) fn is_part<Z: SizeSet>(
     ensures ok { IfOk result (λ is. IsTrue is ↔ IsPart plan.now.pools (site plan.now node) (data_of tree.now)) }
     ensures steps { Costs plan.now meter.old meter.new (node_count (data_of tree.now)) }
 {
+    // for its contract alone, as with the laws and the limit in the functions below
     plan.no_dead_end();
     match plan.sort(node) {
         Sort::Leaf => Ok(is_candidate(plan, node, tree, meter)),
         _ if is_null(tree) => Ok(plan.null_ok(node)),
-        Sort::Row => is_fresh_row(alloc, plan, node, tree, &Rows::Listed(&[]), meter),
+        Sort::Row => is_unused_row(alloc, plan, node, tree, &Rows::Listed(&[]), meter),
         Sort::List => is_list(alloc, plan, node, tree, meter),
     }
 }
@@ -70,9 +71,9 @@ fn is_candidate<Z: SizeSet>(plan: &Plan<Z>, node: PlanNode, tree: &Tree, meter: 
 
 // ---- objects and maps
 
-/// Whether the tree is an object that is a part of the row, and has not the same under all keys as a used one.
+/// Whether the tree is an object that is a part of the row, and differs from each used row in the value of some key.
 #[cycle(part)]
-fn is_fresh_row<Z: SizeSet>(
+fn is_unused_row<Z: SizeSet>(
     alloc: Global,
     plan: &Plan<Z>,
     node: PlanNode,
@@ -83,11 +84,11 @@ fn is_fresh_row<Z: SizeSet>(
     requires node { IsNodeOf plan.now node }
     requires row { sort_of (site plan.now node) ≡ sort.Row }
     requires limit { node_count (data_of tree.now) ≤ plan.now.limit }
-    ensures ok { IfOk result (λ is. IsTrue is ↔ IsFreshRow plan.now node (used_rows used.now) (data_of tree.now)) }
+    ensures ok { IfOk result (λ is. IsTrue is ↔ IsUnusedRow plan.now node (used_rows used.now) (data_of tree.now)) }
     ensures steps { Costs plan.now meter.old meter.new (node_count (data_of tree.now)) }
 {
     match tree {
-        Tree::Object(object) => stand_fresh(
+        Tree::Object(object) => make_unused_row(
             alloc,
             plan,
             node,
@@ -101,10 +102,10 @@ fn is_fresh_row<Z: SizeSet>(
     }
 }
 
-/// Whether the members stand in the slots from `place` on, where `before` stands before it, and no used row has the same
-/// under all keys.
+/// Whether the members make the rest of such a row: they are in the slots from `place` on, where `before` is what is before it, the
+/// row may end after them, and no used row has the same values under all keys.
 #[cycle(part)]
-fn stand_fresh<Z: SizeSet>(
+fn make_unused_row<Z: SizeSet>(
     alloc: Global,
     plan: &Plan<Z>,
     node: PlanNode,
@@ -119,26 +120,26 @@ fn stand_fresh<Z: SizeSet>(
     requires place { place ≤ length (slots_from plan.now node 0) }
     requires taken { before.count ≤ place }
     requires limit { before.count + members_count (members_of members.now) < plan.now.limit }
-    ensures ok { IfOk result (λ is. IsTrue is ↔ StandFresh plan.now.pools (slots_from plan.now node place) (ending_at plan.now node) before (used_rows used.now) (members_of members.now)) }
+    ensures ok { IfOk result (λ is. IsTrue is ↔ MakeUnusedRow plan.now.pools (slots_from plan.now node place) (ending_at plan.now node) before (used_rows used.now) (members_of members.now)) }
     ensures steps { CostsSlots plan.now node place meter.old meter.new (members_count (members_of members.now)) }
 {
     plan.sound_parts();
     let _most = plan.limit();
     let Some(slot) = plan.slot(node, place, meter) else {
-        return Ok(ends_fresh(plan, node, place, before, used, members));
+        return Ok(ends_unused_row(plan, node, place, before, used, members));
     };
     let Some(tree) = value_under(members, slot.name) else {
         if slot.must {
             return Ok(false);
         }
-        return stand_fresh(alloc, plan, node, place + 1, before, used, members, meter);
+        return make_unused_row(alloc, plan, node, place + 1, before, used, members, meter);
     };
     if !is_part(alloc, plan, slot.node, tree, meter)? {
         return Ok(false);
     }
     let same = still_used(alloc, &slot, tree, used)?;
-    let behind = behind_first(members);
-    stand_fresh(
+    let after = after_first(members);
+    make_unused_row(
         alloc,
         plan,
         node,
@@ -147,7 +148,7 @@ fn stand_fresh<Z: SizeSet>(
         &Rows::Chosen(Chosen {
             rows: same.as_slice(),
         }),
-        behind,
+        after,
         meter,
     )
 }
@@ -170,16 +171,17 @@ fn value_under<'a>(members: &'a [Member], name: &str) -> Option<&'a Tree>
     }
 }
 
-/// The members behind the first.
-fn behind_first(members: &[Member]) -> &[Member]
+/// The members after the first.
+fn after_first(members: &[Member]) -> &[Member]
     requires { 1 ≤ length members.now }
     ensures { result.now ≡ drop 1 members.now }
 {
     &members[1..]
 }
 
-/// Whether no member is left behind the last slot, no used row has the same under all keys, and the row may end there.
-fn ends_fresh<Z: SizeSet>(
+/// Whether such a row ends after the last slot: no member is left, no used row has the same values under all keys, and the row may
+/// end there.
+fn ends_unused_row<Z: SizeSet>(
     plan: &Plan<Z>,
     node: PlanNode,
     place: u64,
@@ -191,7 +193,7 @@ fn ends_fresh<Z: SizeSet>(
     requires row { sort_of (site plan.now node) ≡ sort.Row }
     requires place { place ≡ length (slots_from plan.now node 0) }
     requires taken { before.count ≤ place }
-    ensures { IsTrue result ↔ StandFresh plan.now.pools [] (ending_at plan.now node) before (used_rows used.now) (members_of members.now) }
+    ensures { IsTrue result ↔ MakeUnusedRow plan.now.pools [] (ending_at plan.now node) before (used_rows used.now) (members_of members.now) }
 {
     if !members.is_empty() {
         return false;
@@ -249,7 +251,7 @@ fn make_list<Z: SizeSet>(
         return Ok(false);
     };
     for place in 0..items.len() {
-        if !is_fresh_item(
+        if !is_unused_item(
             alloc,
             plan,
             node,
@@ -264,9 +266,9 @@ fn make_list<Z: SizeSet>(
     Ok(plan.more(node, items.len() as u32).has(0))
 }
 
-/// Whether the tree is a part that an item behind the others can be.
+/// Whether the tree is a part that can be an item after the others.
 #[cycle(part)]
-fn is_fresh_item<Z: SizeSet>(
+fn is_unused_item<Z: SizeSet>(
     alloc: Global,
     plan: &Plan<Z>,
     node: PlanNode,
@@ -279,7 +281,7 @@ fn is_fresh_item<Z: SizeSet>(
     requires child { child < node }
     requires first { AreFirst plan.now node child (items_of items.now) }
     requires limit { node_count (data_of item.now) ≤ plan.now.limit }
-    ensures ok { IfOk result (λ is. IsTrue is ↔ IsFreshItem plan.now node child (node_count (data_of item.now)) (items_of items.now) (data_of item.now)) }
+    ensures ok { IfOk result (λ is. IsTrue is ↔ IsUnusedItem plan.now node child (node_count (data_of item.now)) (items_of items.now) (data_of item.now)) }
     ensures steps { Costs plan.now meter.old meter.new (node_count (data_of item.now)) }
 {
     plan.no_dead_end();
@@ -292,6 +294,6 @@ fn is_fresh_item<Z: SizeSet>(
             }
             is_part(alloc, plan, child, item, meter)
         }
-        Distinct::Keys => is_fresh_row(alloc, plan, child, item, &Rows::Listed(items), meter),
+        Distinct::Keys => is_unused_row(alloc, plan, child, item, &Rows::Listed(items), meter),
     }
 }

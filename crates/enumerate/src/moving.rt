@@ -1,6 +1,14 @@
 //! The next part of as many nodes.
-ghost use Rattle.std.specs.Prelude.{◌≡◌, ◌≢◌, ◌↔◌, ◌+◌, ◌-◌, ◌*◌, ◌≤◌, ◌<◌, ◌++◌, ◌∷◌, [], ℕ, List, All, length, take, drop, IfOk, IfSome, IfNone, Option, None, Some, IsTrue};
-ghost use Rattle.jtree.specs.Data.{Data, null as null_data, object as object_data, list as list_data, Items as ItemsData, Members as MembersData};
+//!
+//! `advance` goes through the slots of an object from the last to the first. The value in a slot becomes the next one of its size, or
+//! else the first one of the least larger size that leaves a rest which the slots after it can have; an empty slot is filled likewise.
+//! What comes after the slot that moves is made by `first`, and what comes before it is left as it is. Lists go from the last item to
+//! the first. Since the tables of the plan are exact, nothing that is begun has to be given up.
+//!
+//! In a set the items that are there already are skipped. In a map list an item gets its keys one by one, each in view of the items
+//! that have the same keys so far (`taken`).
+ghost use Rattle.std.specs.Prelude.{◌≡◌, ◌≢◌, ◌+◌, ◌-◌, ◌*◌, ◌≤◌, ◌<◌, ◌++◌, ◌∷◌, [], List, length, take, drop, IfOk, Option, Some};
+ghost use Rattle.jtree.specs.Data.{Data, null as null_data, object as object_data, list as list_data};
 ghost use Rattle.jtree.specs.Nodes.{node_count, items_count, members_count};
 ghost use Rattle.jtree.specs.View.{data_of, items_of, members_of};
 ghost use Rattle.plan.specs.Samples.Part.{IsPart};
@@ -9,31 +17,31 @@ ghost use Rattle.plan.specs.Samples.Candidates.{sort_of};
 ghost use Rattle.plan.specs.declared.sort.Sort.TheVariants as sort;
 ghost use Rattle.enumerate.specs.Internal.Nodes.{site, IsNodeOf, IsPartOf, Costs};
 ghost use Rattle.enumerate.specs.Internal.Candidates.{used_rows, stack_of};
-ghost use Rattle.enumerate.specs.Internal.Rows.{slots_from, slot_in, ending_at, IsSlotOf, AreUsed, IsOpen, IsRow, IsValue, FitsSlot, CostsSlots};
-ghost use Rattle.enumerate.specs.Internal.Lists.{AreFirst, IsFreshItem};
+ghost use Rattle.enumerate.specs.Internal.Rows.{slots_from, slot_in, ending_at, IsSlotOf, AreUsed, IsOpen, IsRow, IsValue, CostsSlots};
+ghost use Rattle.enumerate.specs.Internal.Lists.{AreFirst, IsUnusedItem};
 ghost use Rattle.enumerate.specs.Internal.Following.{ContinueMoved, GrownContinue, GrownItemsContinue};
 ghost use Rattle.enumerate.specs.Internal.Steps.{CostsLast, CostsLastStep, CostsLastSlots, CostsMembers, CostsFrom};
 ghost use Rattle.plan.specs.Samples.Sizes.{nothing, filled, CanFill};
-ghost use Rattle.enumerate.specs.Internal.Moves.{IsMoved, StandIn, AreMoved, AreLastBehind, AreItemsMoved};
+ghost use Rattle.enumerate.specs.Internal.Moves.{IsMoved, AreInSlots, AreMoved, AreLastAfter, AreItemsMoved};
 ghost use Rattle.enumerate.specs.Internal.Changes.{MovesAt, StepsAt, StepsAfter};
-ghost use Rattle.enumerate.specs.Internal.Prefixes.{EndsIn};
+ghost use Rattle.enumerate.specs.declared.moved.Step.TheVariants as step;
 ghost use Rattle.enumerate.specs.Internal.Walks.{IsWalkedTo, AreWalked, AreLeft, CostsLastAt, CostsLastFrom};
 
 use crate::before::Before;
-use crate::building::{first_items, grow_items, grow_slots, put_member};
 use crate::front::front_at;
-use crate::leaves::{has_later, next_key, next_unused};
+use crate::leaves::{next_key, next_unused};
 use crate::membership::is_null;
 use crate::moved::{Moved, Step};
 use crate::naming::keep_name;
-use crate::splitting::least_split;
+use crate::pieces::{into_items, into_members, is_last_key, pop_named, slot_at};
+use crate::placing::{fill_at, grow_larger, grow_larger_item, put_next, put_next_item};
 use crate::taken::Rows;
 use jtree::{Items, Member, Members, Text, Tree};
 use plan::{Distinct, Meter, Plan, PlanNode, SizeSet, Slot, Sort};
 use std::alloc::{AllocError, Global};
 
-/// The next part of as many nodes, made out of the part. `depth` becomes how many levels down the two differ: the part that is there,
-/// by the last item or member of each level, and nothing else.
+/// Turns the part into the next one of as many nodes. `depth` becomes how many levels down the two differ: in the part that is reached
+/// there by the last item or member of each level, and nowhere else.
 #[cycle(advance)]
 #[inline(always)]
 pub(crate) fn advance<'p, Z: SizeSet>(
@@ -55,6 +63,7 @@ pub(crate) fn advance<'p, Z: SizeSet>(
     ensures last { IfOk result (λ moved. CostsLast moved plan.now meter.old meter.new (node_count (data_of tree))) }
     ensures place { IfOk result (λ moved. MovesAt depth.new (data_of tree) moved) }
 {
+    // for their contracts alone, as with the laws and the limit in the functions below
     plan.no_dead_end();
     plan.limit();
     match plan.sort(node) {
@@ -82,7 +91,7 @@ pub(crate) fn advance<'p, Z: SizeSet>(
     }
 }
 
-/// What comes after null at a row or a list: the empty one, where it may stand there.
+/// What comes after null at a row or a list: the empty one, where it is a part.
 fn past_null<Z: SizeSet>(alloc: Global, plan: &Plan<Z>, node: PlanNode) -> Moved
     requires node { IsNodeOf plan.now node }
     requires no_leaf { sort_of (site plan.now node) ≢ sort.Leaf }
@@ -103,31 +112,7 @@ fn past_null<Z: SizeSet>(alloc: Global, plan: &Plan<Z>, node: PlanNode) -> Moved
     }
 }
 
-/// The members of an object; none of another tree.
-#[inline(always)]
-fn into_members(tree: Tree) -> Option<Vec<Member>>
-    ensures some { IfSome result (λ members. data_of tree ≡ object_data (members_of members.items)) }
-    ensures none { IfNone result ((ms : MembersData) → data_of tree ≢ object_data ms) }
-{
-    match tree {
-        Tree::Object(object) => Some(object.members),
-        _other => None,
-    }
-}
-
-/// The items of a list; none of another tree.
-#[inline(always)]
-fn into_items(tree: Tree) -> Option<Vec<Tree>>
-    ensures some { IfSome result (λ items. data_of tree ≡ list_data (items_of items.items)) }
-    ensures none { IfNone result ((ds : ItemsData) → data_of tree ≢ list_data ds) }
-{
-    match tree {
-        Tree::List(list) => Some(list.items),
-        _other => None,
-    }
-}
-
-/// The next object of as many nodes that has not the same under all keys as a used one.
+/// The next object of as many nodes that differs from each used row in the value of some key.
 #[cycle(advance)]
 fn advance_row<'p, Z: SizeSet>(
     alloc: Global,
@@ -189,9 +174,9 @@ fn advance_members<'p, Z: SizeSet>(
     requires node { IsNodeOf plan.now node }
     requires row { sort_of (site plan.now node) ≡ sort.Row }
     requires used { AreUsed plan.now.pools (slots_from plan.now node 0) (used_rows used.now) }
-    requires stand { (gs : List (Option Data)) × StandIn plan.now.pools (slots_from plan.now node 0) (ending_at plan.now node) nothing (used_rows used.now) members.old.items gs }
+    requires in_slots { (gs : List (Option Data)) × AreInSlots plan.now.pools (slots_from plan.now node 0) (ending_at plan.now node) nothing (used_rows used.now) members.old.items gs }
     requires limit { members_count (members_of members.old.items) < plan.now.limit }
-    ensures moved { IfOk result (λ step. (gs : List (Option Data)) → StandIn plan.now.pools (slots_from plan.now node 0) (ending_at plan.now node) nothing (used_rows used.now) members.old.items gs
+    ensures moved { IfOk result (λ step. (gs : List (Option Data)) → AreInSlots plan.now.pools (slots_from plan.now node 0) (ending_at plan.now node) nothing (used_rows used.now) members.old.items gs
         → AreMoved step plan.now.pools (slots_from plan.now node 0) (ending_at plan.now node) nothing (used_rows used.now) gs members.new.items) }
     ensures following { IfOk result (λ step. GrownContinue step plan.now.pools (slots_from plan.now node 0) (used_rows used.now) members.new.items (stack_of following.new.items)) }
     ensures steps { CostsMembers plan.now node meter.old meter.new (members_count (members_of members.old.items)) }
@@ -259,9 +244,7 @@ fn advance_at<'p, Z: SizeSet>(
 {
     plan.sound_parts();
     plan.limit();
-    let Some(slot) = plan.slot(node, place, meter) else {
-        unreachable!()
-    };
+    let slot = slot_at(plan, node, place, meter);
     match pop_named(members, slot.name) {
         Some(member) => advance_taken(
             alloc, plan, node, &slot, place, room, before, used, member, members, following, spare,
@@ -312,8 +295,7 @@ fn advance_taken<'p, Z: SizeSet>(
 {
     plan.sound_parts();
     plan.limit();
-    // A key without a later candidate has no next value, whatever is before it.
-    if slot.key && !plan.names_fields(node) && !has_later(plan, slot.node, &member.tree, meter) {
+    if is_last_key(plan, node, slot, place, &member.tree, meter) {
         *before = Before::unnamed(members.len() as u32);
         let Member { name, tree: _ } = member;
         keep_name(spare, name);
@@ -339,85 +321,8 @@ fn advance_taken<'p, Z: SizeSet>(
     )
 }
 
-/// The same where the slot is empty: a first part that fits is put in it, and the first members after it, of `room` nodes together.
-fn fill_at<'p, Z: SizeSet>(
-    alloc: Global,
-    plan: &'p Plan<Z>,
-    node: PlanNode,
-    slot: &Slot<'_>,
-    place: u64,
-    before: Before,
-    room: u32,
-    used: &Rows<'_>,
-    members: &mut Vec<Member>,
-    following: &mut Vec<&'p Tree>,
-    spare: &mut Vec<Text>,
-    meter: &mut Meter,
-) -> Result<Step, AllocError>
-    requires node { IsNodeOf plan.now node }
-    requires row { sort_of (site plan.now node) ≡ sort.Row }
-    requires slot { IsSlotOf plan.now node place slot.now }
-    requires place { place < length (slots_from plan.now node 0) }
-    requires used { AreUsed plan.now.pools (slots_from plan.now node 0) (used_rows used.now) }
-    requires out { EndsIn (slot_in plan.now node place).name members.old.items → ⊥ }
-    requires walked { (gs : List (Option Data)) × IsWalkedTo plan.now node (place + 1) room (used_rows used.now) before members.old.items gs }
-    requires limit { members_count (members_of members.old.items) + room < plan.now.limit }
-    ensures moved { IfOk result (λ step. (gs : List (Option Data)) → IsWalkedTo plan.now node (place + 1) room (used_rows used.now) before members.old.items gs
-        → AreWalked step plan.now node place (used_rows used.now) before members.new.items gs) }
-    ensures following { IfOk result (λ step. GrownContinue step plan.now.pools (slots_from plan.now node 0) (used_rows used.now) members.new.items (stack_of following.new.items)) }
-    ensures steps { CostsSlots plan.now node 0 meter.old meter.new room }
-    ensures last { IfOk result (λ step. CostsLastFrom step plan.now room meter.old meter.new) }
-{
-    plan.sound_parts();
-    plan.limit();
-    if room == 0 || !fits(plan, node, slot, place, before, room) {
-        return Ok(Step::Last(room));
-    }
-    let front = front_at(alloc, plan, node, place, members.as_slice(), used, meter)?;
-    let step = grow_slots(
-        alloc,
-        plan,
-        node,
-        slot,
-        place,
-        before,
-        room,
-        0,
-        &front.rows(used),
-        members,
-        following,
-        spare,
-        meter,
-    )?;
-    match step {
-        Step::Moved => Ok(Step::Moved),
-        Step::Last(_) => unreachable!(),
-    }
-}
-
-/// Whether a part in the slot at `place`, and those after it, can have so many nodes together.
-fn fits<Z: SizeSet>(
-    plan: &Plan<Z>,
-    node: PlanNode,
-    slot: &Slot<'_>,
-    place: u64,
-    before: Before,
-    room: u32,
-) -> bool
-    requires node { IsNodeOf plan.now node }
-    requires row { sort_of (site plan.now node) ≡ sort.Row }
-    requires slot { IsSlotOf plan.now node place slot.now }
-    requires taken { before.count ≤ place }
-    requires limit { before.count + room < plan.now.limit }
-    ensures { IsTrue result ↔ ((n : ℕ) × FitsSlot plan.now.pools (slot_in plan.now node place) (slots_from plan.now node (place + 1)) (ending_at plan.now node) before room n) }
-{
-    plan.limit();
-    let rest = before.fill(slot).rest(plan, node, place + 1);
-    least_split(plan.sizes(slot.node), rest, room, 0).is_some()
-}
-
-/// Puts back the next value of the member that was taken off, and then the first members of `room` nodes behind it, where those that
-/// stood there have no next ones; or else a value of more nodes, and the first members behind that.
+/// Puts back the member that was taken off with its next value, and then the first members of `room` nodes after it, where those that
+/// were there have no next ones; or else a value of more nodes, and the first members after that.
 #[cycle(advance)]
 fn advance_member<'p, Z: SizeSet>(
     alloc: Global,
@@ -447,7 +352,7 @@ fn advance_member<'p, Z: SizeSet>(
     requires open { IsOpen plan.now.pools (slots_from plan.now node place) (ending_at plan.now node) before (room + node_count (data_of member.tree)) (used_rows used.now) }
     requires limit { before.count + (room + node_count (data_of member.tree)) < plan.now.limit }
     ensures kept { IfOk result (λ _. take before.count members.new.items ≡ members.old.items) }
-    ensures moved { IfOk result (λ step. (gs : List (Option Data)) (others : List Member) → AreLastBehind plan.now node place before (used_rows used.now) member others room gs
+    ensures moved { IfOk result (λ step. (gs : List (Option Data)) (others : List Member) → AreLastAfter plan.now node place before (used_rows used.now) member others room gs
         → AreMoved step plan.now.pools (slots_from plan.now node place) (ending_at plan.now node) before (used_rows used.now) gs (drop before.count members.new.items)) }
     ensures following { IfOk result (λ step. GrownContinue step plan.now.pools (slots_from plan.now node place) (used_rows used.now) (drop before.count members.new.items) (stack_of following.new.items)) }
     ensures steps { CostsSlots plan.now node (place + 1) meter.old meter.new (3 * node_count (data_of member.tree) + room) }
@@ -462,66 +367,20 @@ fn advance_member<'p, Z: SizeSet>(
         alloc, plan, node, slot, place, tree, used, following, spare, depth, meter,
     )? {
         Moved::To(tree) => {
-            *depth = below(room, *depth);
-            put_member(
-                alloc,
-                plan,
-                node,
-                slot,
-                place,
-                before,
-                room,
-                used,
-                Member { name, tree },
-                members,
-                following,
-                spare,
-                meter,
-            )?;
-            Ok(Step::Moved)
+            let member = Member { name, tree };
+            put_next(
+                alloc, plan, node, slot, place, before, room, used, member, members, following,
+                spare, depth, meter,
+            )
         }
         Moved::Last(size) => {
             *depth = 0;
             keep_name(spare, name);
-            grow_slots(
-                alloc,
-                plan,
-                node,
-                slot,
-                place,
-                before,
-                room + size,
-                size + 1,
-                used,
-                members,
-                following,
-                spare,
-                meter,
+            grow_larger(
+                alloc, plan, node, slot, place, before, room, size, used, members, following,
+                spare, meter,
             )
         }
-    }
-}
-
-/// How many levels down a list or an object differs from the one before it, where its part at some place moved, which differs so many
-/// levels down, and parts of `room` nodes after it are others.
-fn below(room: u32, depth: usize) -> usize
-    requires { depth < 4294967295 }
-    ensures last { room ≡ 0 → result ≡ depth + 1 }
-    ensures other { (room ≡ 0 → ⊥) → result ≡ 0 }
-{
-    if room == 0 { depth + 1 } else { 0 }
-}
-
-/// Takes the last member off, where it has the name.
-#[inline(always)]
-fn pop_named(members: &mut Vec<Member>, name: &str) -> Option<Member>
-    ensures some { IfSome result (λ one. (members.old.items ≡ members.new.items ++ one ∷ []) × (one.name ≡ name.now)) }
-    ensures none { IfNone result ((members.new.items ≡ members.old.items) × (EndsIn name.now members.old.items → ⊥)) }
-    ensures fewer { length members.new.items ≤ length members.old.items }
-{
-    match members.last() {
-        Some(last) if last.name.as_str() == name => members.pop(),
-        _ => None,
     }
 }
 
@@ -644,29 +503,17 @@ fn advance_items<'p, Z: SizeSet>(
             meter,
         )? {
             Moved::To(next) => {
-                items.push(next)?;
-                *depth = below(room, *depth);
-                first_items(
-                    alloc, plan, node, child, room, items, following, spare, meter,
-                )?;
-                return Ok(Step::Moved);
+                return put_next_item(
+                    alloc, plan, node, child, room, next, items, following, spare, depth, meter,
+                );
             }
             Moved::Last(size) => {
                 *depth = 0;
-                room += size;
-                if let Step::Moved = grow_items(
-                    alloc,
-                    plan,
-                    node,
-                    child,
-                    room,
-                    size + 1,
-                    items,
-                    following,
-                    spare,
-                    meter,
+                match grow_larger_item(
+                    alloc, plan, node, child, room, size, items, following, spare, meter,
                 )? {
-                    return Ok(Step::Moved);
+                    Step::Moved => return Ok(Step::Moved),
+                    Step::Last(nodes) => room = nodes,
                 }
             }
         }
@@ -674,7 +521,7 @@ fn advance_items<'p, Z: SizeSet>(
     Ok(Step::Last(room))
 }
 
-/// The next part of as many nodes that an item can be, behind the others.
+/// The next part of as many nodes that can be an item after the others.
 #[cycle(advance)]
 fn advance_item<'p, Z: SizeSet>(
     alloc: Global,
@@ -691,10 +538,10 @@ fn advance_item<'p, Z: SizeSet>(
     requires node { IsNodeOf plan.now node }
     requires child { child < node }
     requires first { AreFirst plan.now node child (items_of items.now) }
-    requires item { IsFreshItem plan.now node child (node_count (data_of item)) (items_of items.now) (data_of item) }
+    requires item { IsUnusedItem plan.now node child (node_count (data_of item)) (items_of items.now) (data_of item) }
     requires within { items_count (items_of items.now) + node_count (data_of item) < plan.now.limit }
-    ensures ok { IfOk result (λ moved. IsMoved (IsFreshItem plan.now node child (node_count (data_of item)) (items_of items.now)) (data_of item) moved) }
-    ensures following { IfOk result (λ moved. ContinueMoved (IsFreshItem plan.now node child (node_count (data_of item)) (items_of items.now)) moved (stack_of following.new.items)) }
+    ensures ok { IfOk result (λ moved. IsMoved (IsUnusedItem plan.now node child (node_count (data_of item)) (items_of items.now)) (data_of item) moved) }
+    ensures following { IfOk result (λ moved. ContinueMoved (IsUnusedItem plan.now node child (node_count (data_of item)) (items_of items.now)) moved (stack_of following.new.items)) }
     ensures steps { Costs plan.now meter.old meter.new (3 * node_count (data_of item)) }
     ensures last { IfOk result (λ moved. CostsLast moved plan.now meter.old meter.new (node_count (data_of item))) }
     ensures place { IfOk result (λ moved. MovesAt depth.new (data_of item) moved) }

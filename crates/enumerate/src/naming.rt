@@ -1,10 +1,10 @@
-//! Names of members that were taken off, whose room those that are put in later use again.
+//! Names of members that were taken off, whose memory is reused for members that are added later.
 ghost use Rattle.std.specs.Prelude.{◌≡◌, IfOk};
 
 use jtree::Text;
 use std::alloc::{AllocError, Global};
 
-/// Keeps the name. Without memory for that it is dropped, as it would be without this.
+/// Keeps the name. Where an allocation fails it is dropped, as it would be without this.
 pub(crate) fn keep_name(spare: &mut Vec<Text>, name: Text) {
     let _kept = spare.push(name);
 }

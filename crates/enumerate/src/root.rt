@@ -8,7 +8,7 @@ ghost use Rattle.enumerate.specs.Internal.Candidates.{stack_of};
 ghost use Rattle.enumerate.specs.Internal.Changes.{DiffersAt};
 ghost use Rattle.enumerate.specs.Internal.Nodes.{Costs};
 ghost use Rattle.enumerate.specs.Internal.Roots.{IsFirstFrom};
-ghost use Rattle.enumerate.specs.Internal.Standing.{ContinueSample};
+ghost use Rattle.enumerate.specs.Internal.Current.{ContinueSample};
 
 use crate::building::first;
 use crate::moved::Moved;
@@ -30,9 +30,10 @@ pub(crate) fn first_from<'p, Z: SizeSet>(
     ensures following { IfOk result (λ found. IfSome (tree_of found) (λ v. ContinueSample plan.now v (stack_of following.new.items))) }
     ensures steps { Costs plan.now meter.old meter.new plan.now.limit }
 {
+    // for its contract alone, as below
     last_node_is_replaced();
     let root = plan.root();
-    // A limit has 32 bits, so no sample has more nodes than can be counted.
+    // for its contract alone: a limit has 32 bits, so no sample has more nodes than can be counted
     let _ = plan.limit();
     match plan.sizes(root).next(from) {
         Some(size) => Ok(Some(first(alloc, plan, root, size, following, spare, meter)?)),
@@ -40,7 +41,7 @@ pub(crate) fn first_from<'p, Z: SizeSet>(
     }
 }
 
-/// The next sample, made out of the sample. `following` becomes what continues it in the place of its last node, and `depth` how many
+/// Turns the sample into the next one. `following` becomes what continues it in the place of its last node, and `depth` how many
 /// levels down it differs from the sample.
 pub(crate) fn next_sample<'p, Z: SizeSet>(
     alloc: Global,

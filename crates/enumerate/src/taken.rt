@@ -45,7 +45,7 @@ pub(crate) struct KeyRows<'a> {
     /// The key to be chosen next.
     pub name: &'a str,
     pub rows: Rows<'a>,
-    /// How many tuples of candidates the keys behind it have.
+    /// How many tuples of candidates the keys after it have.
     pub later: u64,
 }
 

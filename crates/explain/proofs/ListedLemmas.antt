@@ -1,4 +1,4 @@
--- What is listed by level are the declared paths, in order, with what is said of each.
+-- The walk by levels lists the declared paths, in order, each with its field.
 use Rattle.std.proofs.Common.{◌≡◌, ◌≢◌, ◌⊎◌, ℕ, List, [], ◌∷◌, Bool, false, Option, Some, None, map, refl, sym, ap, subst, ◌∙◌, inl, inr}
 use Rattle.std.specs.Str.{bytes_eq}
 use Rattle.std.specs.declared.cmp.Ordering.TheVariants.{Less, Equal}
@@ -17,9 +17,9 @@ use Rattle.explain.specs.Paths.FieldOrder.{step_cmp, path_cmp}
 use Rattle.explain.specs.Fields.Field.{Field, declaration, default_of, described}
 use Rattle.explain.specs.Fields.Field as fields
 use Rattle.explain.specs.Fields.Declared.{IsDeclared, AreDeclared, AreFields}
-use Rattle.explain.specs.Internal.ListedByLevel.{Entry, behind, under, whole, below, below_fields, told_at}
+use Rattle.explain.specs.Internal.ListedByLevel.{Entry, after_step, under, whole, below, below_fields, listed_at}
 
--- ---- fields stand in the order of their names
+-- ---- fields are in the order of their names
 
 before_trans : (k l : List ℕ) (fs : Fields) → text_cmp k l ≡ Less → IsBeforeFields l fs → IsBeforeFields k fs
 before_trans k l no_fields less before = tt
@@ -33,7 +33,7 @@ name_after l (nodes.field m N required default fs) k f before ordered is = elim 
   | inr o ↦ name_after l fs k f (before_trans l m fs before ordered.1) ordered.2 (rw o at is)
 ]
 
--- ---- an entry is what stands at its path
+-- ---- an entry has the node at its path
 
 record IsEntry (root : Node) (e : Entry) : Type 0 where
   node_is : node_at root (place_of e.path) ≡ Some e.node
@@ -44,9 +44,9 @@ record IsEntry (root : Node) (e : Entry) : Type 0 where
 -- that of the step itself, or one below it
 abbrev IsPart : FieldStep → Bool → Option Data → Node → Entry → Type 0
 IsPart s required default N e =
-    (e ≡ record { path = s ∷ []; required = required; default = default; node = N }) ⊎ ((f : Entry) × IsEntry N f × (e ≡ behind s f))
+    (e ≡ record { path = s ∷ []; required = required; default = default; node = N }) ⊎ ((f : Entry) × IsEntry N f × (e ≡ after_step s f))
 
-among_under : (s : FieldStep) (es : List Entry) (e : Entry) → Among (under s es) e → (f : Entry) × Among es f × (e ≡ behind s f)
+among_under : (s : FieldStep) (es : List Entry) (e : Entry) → Among (under s es) e → (f : Entry) × Among es f × (e ≡ after_step s f)
 among_under s [] e a = elim a [ ]
 among_under s (f ∷ es) e (inl h) = (f, inl refl, sym h)
 among_under s (f ∷ es) e (inr a) = let r = among_under s es e a in (r.0, inr r.1, r.2)
@@ -68,8 +68,8 @@ declared_below root (field k) N (t ∷ p) leads some = rw leads refl
 declared_below root item N (t ∷ p) leads some = rw leads refl
 declared_below root value N (t ∷ p) leads some = rw leads refl
 
--- behind a step stands what is below the node to which it leads
-deeper : (root : Node) (s : FieldStep) (N : Node) (f : Entry) → node_below root (place_step s) ≡ Some N → IsEntry N f → IsEntry root (behind s f)
+-- an entry below the node to which a step leads is an entry after the step
+deeper : (root : Node) (s : FieldStep) (N : Node) (f : Entry) → node_below root (place_step s) ≡ Some N → IsEntry N f → IsEntry root (after_step s f)
 deeper root s N f leads e = let same = declared_below root s N f.path leads e.some in record {
   node_is = rw leads e.node_is;
   required_is = rw same e.required_is;
@@ -106,9 +106,9 @@ mutual
 
 -- ---- each declared path is listed
 
-under_among : (s : FieldStep) (es : List Entry) (e : Entry) → Among es e → Among (under s es) (behind s e)
+under_among : (s : FieldStep) (es : List Entry) (e : Entry) → Among es e → Among (under s es) (after_step s e)
 under_among s [] e a = elim a [ ]
-under_among s (f ∷ es) e (inl h) = inl (ap (behind s) h)
+under_among s (f ∷ es) e (inl h) = inl (ap (after_step s) h)
 under_among s (f ∷ es) e (inr a) = inr (under_among s es e a)
 
 abbrev part : FieldStep → Bool → Option Data → Node → List Entry
@@ -124,7 +124,7 @@ field_part (nodes.field l N required default fs) k f is e a = elim (bool_cases (
   | inr h ↦ among_right (part (field l) required default N) (below_fields fs) e (field_part fs k f (rw h at is) e a)
 ]
 
--- what stands at a step, and what is below it, is listed
+-- the node at a step, and what is below it, is listed
 abbrev IsListed : Node → FieldStep → Node → Type 0
 IsListed N s L = (required : Bool) × (default : Option Data) × ((e : Entry) → Among (part s required default L) e → Among (below N) e)
 
@@ -151,7 +151,7 @@ path_listed (s ∷ t ∷ p) N M some leads = elim (option_cases (node_below N (p
       let l = step_listed N s L.0 L.1 in
       let more : t ∷ p ≢ [] = λ x. cc in
       let e = path_listed (t ∷ p) L.0 M more (rw L.1 at leads) in
-      (behind s e.0, l.2 (behind s e.0) (inr (under_among s (below L.0) e.0 e.1)), ap (λ q. s ∷ q) e.2)
+      (after_step s e.0, l.2 (after_step s e.0) (inr (under_among s (below L.0) e.0 e.1)), ap (λ q. s ∷ q) e.2)
 ]
 
 -- ---- in order
@@ -164,13 +164,13 @@ step_itself (field k) = tied_itself nat_list_cmp_total k
 step_itself item = refl
 step_itself value = refl
 
-behind_same : (s : FieldStep) (p q : FieldPath) → path_cmp (s ∷ p) (s ∷ q) ≡ path_cmp p q
-behind_same s p q = let tied = step_itself s in rw tied refl
+after_step_same : (s : FieldStep) (p q : FieldPath) → path_cmp (s ∷ p) (s ∷ q) ≡ path_cmp p q
+after_step_same s p q = let tied = step_itself s in rw tied refl
 
 rising_under : (s : FieldStep) (es : List Entry) → Rising Precedes es → Rising Precedes (under s es)
 rising_under s [] r = tt
 rising_under s (e ∷ es) r = (
-  λ v a. let x = among_under s es v a in subst (λ w. Precedes (behind s e) w) (sym x.2) (behind_same s e.path x.0.path ∙ r.0 x.0 x.1),
+  λ v a. let x = among_under s es v a in subst (λ w. Precedes (after_step s e) w) (sym x.2) (after_step_same s e.path x.0.path ∙ r.0 x.0 x.1),
   rising_under s es r.1,
 )
 
@@ -240,15 +240,15 @@ are_declared root n = record {
   ascending = all_pairs (λ p q. path_cmp p q ≡ Less) (paths (below root)) (rising_paths (below root) (node_rising root n));
 }
 
-told : (root : Node) (e : Entry) → IsEntry root e → fields.field_at root e.path ≡ Some (told_at [] e)
-told root e is = rw is.node_is (ap Some (rw (is.required_is, is.default_is) refl))
+entry_field : (root : Node) (e : Entry) → IsEntry root e → fields.field_at root e.path ≡ Some (listed_at [] e)
+entry_field root e is = rw is.node_is (ap Some (rw (is.required_is, is.default_is) refl))
 
-all_told : (root : Node) (es : List Entry) → ((e : Entry) → Among es e → IsEntry root e) → map (fields.field_at root) (paths es) ≡ map Some (map (told_at []) es)
-all_told root [] each = refl
-all_told root (e ∷ es) each =
-    let first = told root e (each e (inl refl)) in
-    let more = all_told root es (λ f a. each f (inr a)) in
+entry_fields : (root : Node) (es : List Entry) → ((e : Entry) → Among es e → IsEntry root e) → map (fields.field_at root) (paths es) ≡ map Some (map (listed_at []) es)
+entry_fields root [] each = refl
+entry_fields root (e ∷ es) each =
+    let first = entry_field root e (each e (inl refl)) in
+    let more = entry_fields root es (λ f a. each f (inr a)) in
     λ i. first i ∷ more i
 
-pub are_fields : (root : Node) → IsNode root → AreFields root (map (told_at []) (below root))
-are_fields root n = (paths (below root), are_declared root n, all_told root (below root) (each_entry root n))
+pub are_fields : (root : Node) → IsNode root → AreFields root (map (listed_at []) (below root))
+are_fields root n = (paths (below root), are_declared root n, entry_fields root (below root) (each_entry root n))

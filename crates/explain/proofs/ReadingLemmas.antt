@@ -1,4 +1,4 @@
--- The reading goes well for the texts of paths alone.
+-- The reading accepts exactly the texts of paths.
 use Rattle.std.proofs.Common.{◌≡◌, ◌≢◌, ◌+◌, ◌<◌, ◌==◌, ℕ, List, [], ◌∷◌, ◌++◌, true, false, flat_map, length, take, drop, get_or, Decides, refl, sym, ap, subst, ◌∙◌, inl, inr, append_assoc}
 use Rattle.std.proofs.lemmas.Bool.{eqb-true}
 use Rattle.std.proofs.lemmas.Grind.{flat_map-append}
@@ -160,6 +160,6 @@ other_letter text k rest i within sofar other t after =
     in
     other (others ++ t) (append_cancel_left before rest (escaped b ++ (others ++ t)) joined)
 
--- the name is read, and goes on
+-- the name is read, and the reading continues
 pub longer_name : (text k rest : List ℕ) → text ≡ step_text (field k) ++ rest → (IsEnd rest → ⊥) → (t : List ℕ) → IsAfterStep (field k) text t → ⊥
 longer_name text k rest sofar other t after = other (subst IsEnd (append_cancel_left (step_text (field k)) t rest (sym after.1 ∙ sofar)) after.0)

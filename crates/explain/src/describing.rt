@@ -1,4 +1,4 @@
-//! What is said of a field.
+//! The description of a field.
 ghost use Rattle.std.specs.Prelude.{◌≡◌, ◌++◌, OnOk, IfOk, option_map, string_bytes};
 ghost use Rattle.jtree.specs.Data.{no_items as no_items_of};
 ghost use Rattle.jtree.specs.View.{data_of};
@@ -6,7 +6,7 @@ ghost use Rattle.schema.specs.Nodes.View.{node_of, sort_of};
 ghost use Rattle.explain.specs.Fields.Field.{list_type_of, map_type_of, keys_of, items_or_none, choices_of};
 ghost use Rattle.explain.specs.Fields.TypeText.{scalar_text as scalar_text_of, type_text as type_text_of};
 ghost use Rattle.explain.specs.Fields.View.{field_of};
-ghost use Rattle.explain.specs.Internal.ListedByLevel.{told_as};
+ghost use Rattle.explain.specs.Internal.ListedByLevel.{listed_as};
 
 use crate::field::Field;
 use jtree::{Items, Text, Tree};
@@ -21,7 +21,7 @@ pub(crate) fn describe(
     required: bool,
     default: Option<Tree>,
 ) -> Result<Field, AllocError>
-    ensures { IfOk result (λ f. field_of f ≡ told_as path.now required (option_map data_of default) (node_of node.now)) }
+    ensures { IfOk result (λ f. field_of f ≡ listed_as path.now required (option_map data_of default) (node_of node.now)) }
 {
     Ok(Field {
         path: Text::from_str(alloc, path)?,

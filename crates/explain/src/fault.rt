@@ -3,7 +3,7 @@ use thiserror::Error;
 /// Why a path leads to no field. Each is displayed as its code.
 #[derive(Clone, Copy, Debug, PartialEq, Eq, Drop, Error)]
 pub enum XFault {
-    /// The text is that of no path.
+    /// The text is not that of a path.
     #[error("X1")]
     BadPath,
     /// The schema declares no such field.

@@ -18,7 +18,7 @@ pub struct Field {
     pub list_type: Option<ListType>,
     /// How the members of an object or a map merge.
     pub map_type: Option<MapType>,
-    /// The names of the fields that tell the items of a map list apart, as written.
+    /// The names of the fields that are the keys of a map list, as written.
     pub keys: Vec<Text>,
     /// The values of `enum` as written, none where it is absent.
     pub choices: Items,

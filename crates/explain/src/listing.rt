@@ -7,8 +7,8 @@ use std::alloc::{AllocError, Global};
 use std::marker::Model;
 use stored::Schema;
 
-/// The fields that a schema declares, which a contract sees as plain data: each path once, a path before those that go on
-/// from it, and siblings by the bytes of their names.
+/// The fields that a schema declares, which a contract sees as plain data: each path once, a path before those that
+/// continue it, and siblings by the bytes of their names.
 pub struct Listing {
     fields: Vec<Field>,
 }
@@ -42,13 +42,14 @@ impl Listing {
     ghost use Rattle.explain.specs.Fields.View.{field_of};
 
     /// The fields that a schema declares (OpenAPI 3.0, Schema Object; apiextensions.k8s.io/v1, JSONSchemaProps): the fields of
-    /// objects, the items of lists and the values of maps, outside junctors. Each path stands once, before those that go on
-    /// from it, and siblings stand by the bytes of their names. `AllocError` where an allocation fails. Work is linear in the
-    /// schema and in what is listed.
+    /// objects, the items of lists and the values of maps, outside junctors. Each path is listed once, before those that
+    /// continue it, and siblings by the bytes of their names. `AllocError` where an allocation fails. Work is linear in the size of
+    /// the schema and of the listing.
     pub fn new(alloc: Global, schema: &Schema) -> Result<Listing, AllocError>
         ensures { IfOk result (λ l. AreFields schema.now l) }
     {
         let root = schema.root();
+        // for its contract alone: a proof learns that declared names are in order, each once
         root.reveal_invariant();
         let mut walk = Walk {
             path: String::new(alloc),
@@ -67,10 +68,10 @@ impl Listing {
         self.fields.as_slice()
     }
 
-    /// The field at the path of this text, which is written as the paths of the fields are. It takes no memory.
+    /// The field at the path of this text, which is written as the paths of the fields are. It does not allocate.
     ///
-    /// `BadPath` where the text is that of no path. `NoSuchField` where it is, and the schema declares no field there: so for
-    /// the empty text, whose path is the root's.
+    /// `BadPath` where the text is not that of a path. `NoSuchField` where it is, but the schema declares no field there, as for
+    /// the empty text, which is the path of the root.
     pub fn field(&self, path: &str) -> Result<&Field, XFault>
         ensures found { IfOk result (λ f. (root : Node) → AreFields root self.now → IsTextOf (λ p. IsDeclared root p × (field_at root p ≡ Some (field_of f.now))) path.now) }
         ensures fault { IfErr result (λ e. (root : Node) → AreFields root self.now → IsPathFault (IsDeclared root) path.now e) }

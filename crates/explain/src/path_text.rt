@@ -18,7 +18,7 @@ pub enum Step<'a> {
     Value,
 }
 
-/// The text of the path that goes on by a step from the path of this text. `AllocError` where an allocation fails.
+/// The text of the path of this text extended by a step. `AllocError` where an allocation fails.
 pub fn path_below(alloc: Global, path: &str, step: Step<'_>) -> Result<String, AllocError>
     ensures { IfOk result (λ s. string_bytes s ≡ path.now ++ step_text (step_of step.entry)) }
 {

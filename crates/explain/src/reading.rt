@@ -1,4 +1,4 @@
-//! The one reading of the texts of paths.
+//! The reading of the texts of paths.
 ghost use Rattle.std.specs.Prelude.{◌≡◌, ◌≢◌, ◌++◌, ℕ, List, Decides, MatchOption};
 ghost use Rattle.explain.specs.Paths.FieldPath.{field};
 ghost use Rattle.explain.specs.Paths.PathText.{escaped};

@@ -12,12 +12,12 @@ use crate::reading::{after, after_name, is_path_text};
 use schema::{Fields, Node, Sort};
 use stored::Schema;
 
-/// The node at the path of this text, which is the text of its steps one after another: `/` and the name of a field with `~`,
+/// The node at the path of this text, which is the text of its steps, one after the other: `/` and the name of a field with `~`,
 /// `/`, `[` and `{` written `~0`, `~1`, `~2` and `~3`, `/[]` for the items of a list, and `/{}` for the values of a map (this
-/// project's own, after RFC 6901). It takes no memory.
+/// project's own, after RFC 6901). It does not allocate.
 ///
-/// `BadPath` where the text is that of no path. `NoSuchField` where it is, and the schema declares no field there: so for the
-/// empty text, whose path is the root's.
+/// `BadPath` where the text is not that of a path. `NoSuchField` where it is, but the schema declares no field there, as for the
+/// empty text, which is the path of the root.
 pub fn resolve<'a>(schema: &'a Schema, path: &str) -> Result<&'a Node, XFault>
     ensures node { IfOk result (λ n. IsTextOf (λ p. IsDeclared schema.now p × (node_at_of schema.now (place_of p) ≡ Some (node_of n.now))) path.now) }
     ensures fault { IfErr result (IsPathFault (IsDeclared schema.now) path.now) }

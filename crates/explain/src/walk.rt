@@ -3,7 +3,7 @@ ghost use Rattle.std.specs.Prelude.{◌≡◌, ◌∷◌, [], OnOk, option_map, 
 ghost use Rattle.jtree.specs.View.{data_of};
 ghost use Rattle.schema.specs.Nodes.View.{node_of};
 ghost use Rattle.explain.specs.Paths.FieldPath.{field as field_step};
-ghost use Rattle.explain.specs.Internal.ListedByLevel.{progress, noted, added, told_as, under, whole, below, below_fields};
+ghost use Rattle.explain.specs.Internal.ListedByLevel.{progress, noted, added, listed_as, under, whole, below, below_fields};
 ghost use Rattle.explain.specs.Paths.StepView.{step_of};
 
 use crate::describing::{copied_default, describe};
@@ -24,8 +24,13 @@ pub(crate) struct Walk {
 
 impl Walk {
     /// Lists the field at the place.
-    fn tell(&mut self, node: &Node, required: bool, default: Option<Tree>) -> Result<(), AllocError>
-        ensures { OnOk result (progress self.new ≡ noted (progress self.old) (told_as (string_bytes self.old.path) required (option_map data_of default) (node_of node.now) ∷ [])) }
+    fn push_field(
+        &mut self,
+        node: &Node,
+        required: bool,
+        default: Option<Tree>,
+    ) -> Result<(), AllocError>
+        ensures { OnOk result (progress self.new ≡ noted (progress self.old) (listed_as (string_bytes self.old.path) required (option_map data_of default) (node_of node.now) ∷ [])) }
     {
         let alloc = *self.path.allocator();
         let field = describe(alloc, self.path.as_str(), node, required, default)?;
@@ -67,7 +72,7 @@ fn list_field(walk: &mut Walk, field: &schema::Field) -> Result<(), AllocError>
     list_part(walk, step, &field.node, field.required, default)
 }
 
-/// Lists the field to which a step leads, and what is below it.
+/// Lists the field to which a step leads, and the fields below it.
 #[cycle(list)]
 fn list_part(
     walk: &mut Walk,
@@ -80,7 +85,7 @@ fn list_part(
 {
     let length = walk.path.len();
     push_step(&mut walk.path, step)?;
-    walk.tell(node, required, default)?;
+    walk.push_field(node, required, default)?;
     list_below(walk, node)?;
     walk.path.truncate(length);
     Ok(())

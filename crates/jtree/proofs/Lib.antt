@@ -1,3 +1,10 @@
+-- The lemmas of this crate, by subject.
+-- Reading: `Reading` goes from a JSON value to a tree, one part at a time; `Sources` says what was taken of a source, one piece at a
+-- time; `ReadBack` that the compact text of a tree reads back to the tree.
+-- Order: `OrderSteps` has the steps of the comparison, `OrderWords` that the comparison agrees with the order in words.
+-- The last node: `LastNode` is about the tree with its last node replaced, `LastText` says that the texts then differ only there,
+-- `PartText` is about the text from one of the last parts on.
+-- Pointers: `Escapes` is about the characters that a pointer writes unchanged.
 pub mod Escapes
 pub mod LastNode
 pub mod LastText

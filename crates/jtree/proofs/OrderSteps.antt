@@ -1,4 +1,4 @@
--- How the comparison of two lists of parts goes on by one part, and how it ends.
+-- How the comparison of two lists of parts continues by one part, and how it ends.
 use Rattle.std.proofs.Common.{◌≡◌, ◌<◌, ◌+◌, ℕ, suc, min, List, [], ◌∷◌, length, drop, get_or, true, false, refl, sym, ap, ◌∙◌, arith}
 use Rattle.std.proofs.lemmas.List.{at_drop_more, length-drop}
 use Rattle.std.specs.Cmp.{nat_cmp_is}

@@ -77,12 +77,12 @@ before_below : (k l : List ℕ) (ms : Members) → text_cmp k l ≡ Less → IsN
 before_below k l no_members p b = tt
 before_below k l (member m d ms) p b = text_total.trans k l m p b
 
--- a name that comes before all names stands for nothing
+-- there is no value under a name that comes before all names
 below_all : (k : List ℕ) (ms : Members) → AreMembers ms → IsNameBefore k ms → member_at k ms ≡ None
 below_all k no_members h b = refl
 below_all k (member l d ms) h b = at_other k l d ms (less_other k l b) ∙ below_all k ms h.2 (before_below k l ms b h.1)
 
--- what stands in an object stands after each name that comes before all names
+-- each member of an object comes after a name that comes before all names
 above : (l k : List ℕ) (ms : Members) → AreMembers ms → IsNameBefore l ms → (member_at k ms ≡ None → ⊥) → text_cmp l k ≡ Less
 above l k no_members h b s = absurd (s refl)
 above l k (member m d ms) h b s = elim (case_name k m) [

@@ -109,7 +109,7 @@ mutual
   members_same_front_last n later (member k d (member l e ms)) v inside =
       more_members_last n later k d l e ms v ∙ ap (λ s. comma_if later ++ (quoted k ++ 58 ∷ (compact d ++ s))) (members_same_front_last n true (member l e ms) v inside)
 
--- one bracket for each time that one goes down
+-- one bracket for each step down
 mutual
   pub brackets : (d : Data) → length (text_after d) ≡ last_depth d
   brackets (list no_items) = refl

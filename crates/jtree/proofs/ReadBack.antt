@@ -55,18 +55,18 @@ mutual
 
 -- ---- the tokens of a tree are those of its JSON value
 
--- some members, and others behind them
-abbrev behind : json.Members → json.Members → json.Members
-behind json.no_members ms = ms
-behind (json.member k d front) ms = json.member k d (behind front ms)
+-- some members, followed by others
+abbrev join_members : json.Members → json.Members → json.Members
+join_members json.no_members ms = ms
+join_members (json.member k d front) ms = json.member k d (join_members front ms)
 
-behind-none : (front : json.Members) → behind front json.no_members ≡ front
-behind-none json.no_members = refl
-behind-none (json.member k d front) = ap (json.member k d) (behind-none front)
+join_members-none : (front : json.Members) → join_members front json.no_members ≡ front
+join_members-none json.no_members = refl
+join_members-none (json.member k d front) = ap (json.member k d) (join_members-none front)
 
-behind_behind : (front middle ms : json.Members) → behind (behind front middle) ms ≡ behind front (behind middle ms)
-behind_behind json.no_members middle ms = refl
-behind_behind (json.member k d front) middle ms = ap (json.member k d) (behind_behind front middle ms)
+joined_assoc : (front middle ms : json.Members) → join_members (join_members front middle) ms ≡ join_members front (join_members middle ms)
+joined_assoc json.no_members middle ms = refl
+joined_assoc (json.member k d front) middle ms = ap (json.member k d) (joined_assoc front middle ms)
 
 -- all names are before this one
 abbrev AreBelow : json.Members → List ℕ → Type 0
@@ -77,26 +77,26 @@ below_trans : (front : json.Members) (k l : List ℕ) → AreBelow front k → t
 below_trans json.no_members k l h kl = tt
 below_trans (json.member m d front) k l h kl = (nat_list_cmp_total.trans m k l h.0 kl, below_trans front k l h.1 kl)
 
-below_behind : (front : json.Members) (k l : List ℕ) (d : json.Data) → AreBelow front l → text_cmp k l ≡ Less → AreBelow (behind front (json.member k d json.no_members)) l
-below_behind json.no_members k l d h kl = (kl, tt)
-below_behind (json.member m e front) k l d h kl = (h.0, below_behind front k l d h.1 kl)
+below_joined : (front : json.Members) (k l : List ℕ) (d : json.Data) → AreBelow front l → text_cmp k l ≡ Less → AreBelow (join_members front (json.member k d json.no_members)) l
+below_joined json.no_members k l d h kl = (kl, tt)
+below_joined (json.member m e front) k l d h kl = (h.0, below_joined front k l d h.1 kl)
 
-put_behind : (front : json.Members) (k : List ℕ) (d : json.Data) → AreBelow front k → json.put k d front ≡ behind front (json.member k d json.no_members)
-put_behind json.no_members k d h = refl
-put_behind (json.member l e front) k d h =
+put_last : (front : json.Members) (k : List ℕ) (d : json.Data) → AreBelow front k → json.put k d front ≡ join_members front (json.member k d json.no_members)
+put_last json.no_members k d h = refl
+put_last (json.member l e front) k d h =
     let past : text_cmp k l ≡ Greater = nat_list_cmp_total.antisymm k l ∙ ap ordering_reverse h.0 in
-    rw past (ap (json.member l e) (put_behind front k d h.1))
+    rw past (ap (json.member l e) (put_last front k d h.1))
 
 -- the name of the first member
 abbrev IsFirstName : List ℕ → Members → Type 0
 IsFirstName k no_members = ⊥
 IsFirstName k (member l d ms) = k ≡ l
 
-next_below : (front : json.Members) (k : List ℕ) (d : json.Data) (ms : Members) → AreBelow front k → IsNameBefore k ms → (l : List ℕ) → IsFirstName l ms → AreBelow (behind front (json.member k d json.no_members)) l
+next_below : (front : json.Members) (k : List ℕ) (d : json.Data) (ms : Members) → AreBelow front k → IsNameBefore k ms → (l : List ℕ) → IsFirstName l ms → AreBelow (join_members front (json.member k d json.no_members)) l
 next_below front k d no_members here before l first = absurd first
 next_below front k d (member m e ms) here before l first =
     let kl : text_cmp k l ≡ Less = subst (λ n. text_cmp k n ≡ Less) (sym first) before in
-    below_behind front k l d (below_trans front k l here kl) kl
+    below_joined front k l d (below_trans front k l here kl) kl
 
 mutual
   of_json-outline : (d : Data) → IsTree d → of_json (outline (json_of d)) ≡ Some (json_of d)
@@ -109,14 +109,14 @@ mutual
   of_items-outline no_items t = refl
   of_items-outline (item d ds) t = rw (of_json-outline d t.0, of_items-outline ds t.1) refl
 
-  -- the members go in one behind another
-  of_members-outline : (front : json.Members) (ms : Members) → ((k : List ℕ) → IsFirstName k ms → AreBelow front k) → AreMembers ms → of_members (members_outline (members_json ms)) front ≡ Some (behind front (members_json ms))
-  of_members-outline front no_members h t = ap Some (sym (behind-none front))
+  -- the members go in one after the other
+  of_members-outline : (front : json.Members) (ms : Members) → ((k : List ℕ) → IsFirstName k ms → AreBelow front k) → AreMembers ms → of_members (members_outline (members_json ms)) front ≡ Some (join_members front (members_json ms))
+  of_members-outline front no_members h t = ap Some (sym (join_members-none front))
   of_members-outline front (member k d ms) h t =
       let here = h k refl in
       let step : of_members (members_outline (members_json (member k d ms))) front ≡ of_members (members_outline (members_json ms)) (json.put k (json_of d) front) = rw (of_json-outline d t.0) refl in
-      let next = of_members-outline (behind front (json.member k (json_of d) json.no_members)) ms (next_below front k (json_of d) ms here t.1) t.2 in
-      step ∙ (ap (of_members (members_outline (members_json ms))) (put_behind front k (json_of d) here) ∙ (next ∙ ap Some (behind_behind front (json.member k (json_of d) json.no_members) (members_json ms))))
+      let next = of_members-outline (join_members front (json.member k (json_of d) json.no_members)) ms (next_below front k (json_of d) ms here t.1) t.2 in
+      step ∙ (ap (of_members (members_outline (members_json ms))) (put_last front k (json_of d) here) ∙ (next ∙ ap Some (joined_assoc front (json.member k (json_of d) json.no_members) (members_json ms))))
 
 -- ---- and nest as deep
 

@@ -13,7 +13,7 @@ use Rattle.jtree.specs.View.{data_of, items_of, members_of}
 use Rattle.jtree.specs.declared.value.Tree.{Tree}
 use Rattle.jtree.specs.declared.value.Member.{Member}
 
--- what stands under each name is a tree
+-- the value of each member is a tree
 abbrev pub HaveTrees : Members → Type 0
 HaveTrees no_members = Unit {0}
 HaveTrees (member k d ms) = IsTree d × HaveTrees ms
@@ -77,7 +77,7 @@ pub HaveTrees-push : (ms : List Member) (m : Member) → HaveTrees (members_of m
 HaveTrees-push [] m h one = (one, tt)
 HaveTrees-push (n ∷ ms) m h one = (h.0, HaveTrees-push ms m h.1 one)
 
--- ---- a part that is no tree
+-- ---- a part that is not a tree
 
 joined_items-none : (o : Option Data) → joined_items o None ≡ None
 joined_items-none None = refl
@@ -96,7 +96,7 @@ pub no_members_tree : (es : List Entry) (f : Entry) (fs : List Entry) → tree_o
 no_members_tree [] f fs h = rw h
 no_members_tree (g ∷ es) f fs h = ap (joined_members (string_bytes g.0) (tree_of (view g.1))) (no_members_tree es f fs h) ∙ joined_members-none (string_bytes g.0) (tree_of (view g.1))
 
--- ---- names stand in order
+-- ---- names are in order
 
 joined_parts : (k : List ℕ) (o : Option Data) (rest : Option Members) (ms : Members) → joined_members k o rest ≡ Some ms
     → (d : Data) × (ns : Members) × (rest ≡ Some ns) × (ms ≡ member k d ns)

@@ -18,7 +18,7 @@ AgreeBelow i ds es = (j : ℕ) → j < i → item_at j ds ≡ item_at j es
 abbrev pub AgreeBefore : List ℕ → Members → Members → Type 0
 AgreeBefore k ms ns = (l : List ℕ) → text_cmp l k ≡ Less → member_at l ms ≡ member_at l ns
 
--- The first test that tells two trees apart decides: fewer nodes; then the kind; then within the kind. Lists are decided
+-- The first test that distinguishes two trees decides: fewer nodes; then the kind; then within the kind. Lists are decided
 -- at the first index where they differ, and one that ends there comes first; objects at the least name where they differ,
 -- and one without that name comes first.
 pub data IsBefore : Data → Data → Type 0 where

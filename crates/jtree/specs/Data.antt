@@ -28,7 +28,7 @@ abbrev pub IsNameBefore : List ℕ → Members → Type 0
 IsNameBefore name no_members = Unit {0}
 IsNameBefore name (member k d ms) = slice_cmp nat_cmp name k ≡ Less
 
--- An object is a finite map from texts to trees: its members stand in the order of their names, and no name stands twice.
+-- An object is a finite map from texts to trees: its members are in the order of their names, and no name occurs twice.
 -- Integers are those of 64 bits.
 abbrev mutual
   pub IsTree : Data → Type 0

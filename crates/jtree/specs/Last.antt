@@ -1,4 +1,4 @@
--- The last node of a tree, reached by going down by the last item or member while there is one (this project's own).
+-- The last node of a tree, reached by going to the last item or member while there is one (this project's own).
 use Rattle.std.specs.Prelude.{ℕ, zero, suc}
 use Rattle.jtree.specs.Data.{Data, list, object, Items, no_items, item, Members, no_members, member}
 
@@ -38,7 +38,7 @@ abbrev mutual
   members_with_last (member k d no_members) v = member k (with_last d v) no_members
   members_with_last (member k d ms) v = member k d (members_with_last ms v)
 
--- how many times one goes down to the last node
+-- how many steps down lead to the last node
 abbrev mutual
   pub last_depth : Data → ℕ
   last_depth (list no_items) = 0
@@ -57,8 +57,8 @@ abbrev mutual
   members_last_depth (member k d no_members) = last_depth d
   members_last_depth (member k d ms) = members_last_depth ms
 
--- the tree with another one in place of the part that is reached by going down so many times by the last item or member; the tree
--- itself where there is no such part
+-- the tree with another one in place of the part that this many steps, each to the last item or member, lead to; the tree itself where
+-- there is no such part
 abbrev mutual
   pub with_part : ℕ → Data → Data → Data
   with_part zero d v = v

@@ -24,7 +24,7 @@ text_cmp = slice_cmp nat_cmp
 abbrev pub rank_cmp : Data → Data → Ordering
 rank_cmp u v = ordering_then (nat_cmp (nodes u) (nodes v)) (nat_cmp (kind u) (kind v))
 
--- `content_cmp` compares two trees of one kind. A list that ends first comes first; where a name stands on one side
+-- `content_cmp` compares two trees of one kind. A list that ends first comes first; where a name is on one side
 -- only, the side without it comes first.
 abbrev mutual
   pub content_cmp : Data → Data → Ordering

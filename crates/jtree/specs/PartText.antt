@@ -1,4 +1,5 @@
--- The compact text of a tree, before the part that is reached by going down so many times by the last item or member, and from it on.
+-- The compact text of a tree before a part and from that part on: the part that a number of steps, each to the last item
+-- or member, lead to.
 use Rattle.std.specs.Prelude.{ℕ, zero, suc, List, [], ◌∷◌, ◌++◌, Bool, true, false}
 use Rattle.json.specs.Print.{quoted}
 use Rattle.serde_json.specs.Written.{comma_if}

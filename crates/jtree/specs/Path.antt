@@ -12,12 +12,12 @@ pub data Step : Type 0 where
 abbrev pub Path : Type 0
 Path = List Step
 
--- what stands under a name
+-- the value under a name
 abbrev pub member_at : List ℕ → Members → Option Data
 member_at k no_members = None
 member_at k (member l d ms) = if bytes_eq k l then Some d else member_at k ms
 
--- what stands at an index
+-- the item at an index
 abbrev pub item_at : ℕ → Items → Option Data
 item_at i no_items = None
 item_at zero (item d ds) = Some d
@@ -34,7 +34,7 @@ abbrev pub part_at : Data → Path → Option Data
 part_at d [] = Some d
 part_at d (s ∷ path) = option_and_then (λ e. part_at e path) (part_by d s)
 
--- what stands under a name, under a name below another, and under one below these
+-- the value under a name, under a name below another, and under one below these
 abbrev pub under : Data → List ℕ → Option Data
 under d k = part_by d (name k)
 

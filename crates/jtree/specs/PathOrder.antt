@@ -1,5 +1,5 @@
--- Path order: paths compare as lists of names and indexes, names by bytes, indexes by number, and a beginning comes before
--- what goes on (this project's own). So `/a/b` comes before `/a-b`.
+-- Path order: paths compare as lists of names and indexes, names by bytes, indexes by number, and a path comes before
+-- those that continue it (this project's own). So `/a/b` comes before `/a-b`.
 use Rattle.std.specs.Prelude.{◌≢◌}
 use Rattle.std.specs.Ordering.{nat_cmp}
 use Rattle.std.specs.Cmp.Lexicographic.{slice_cmp}

@@ -9,7 +9,7 @@ use Rattle.jtree.specs.Data.{Data, null, boolean, integer, text, list, object, I
 use Rattle.jtree.specs.declared.fault.JFault.{JFault}
 use Rattle.jtree.specs.declared.fault.JFault.TheVariants.{NotAnInteger, NoMemory, NotJson, TooLong, ReadFailed}
 
--- the tree that a JSON value is, or none where some number is no integer of 64 bits
+-- the tree that a JSON value is, or none where some number is not an integer of 64 bits
 abbrev mutual
   pub tree_of : json.Data → Option Data
   tree_of json.null = Some null
@@ -43,11 +43,11 @@ Reads bytes d = (length bytes ≤ most_bytes) × (v : json.Data) × IsJson bytes
 abbrev pub IsNoJson : List ℕ → Type 0
 IsNoJson bytes = (v : json.Data) → IsJson bytes v → ⊥
 
--- `serde_json` reads a value, and some number of it is no integer of 64 bits
+-- `serde_json` reads a value, and some number of it is not an integer of 64 bits
 abbrev pub HasOtherNumber : List ℕ → Type 0
 HasOtherNumber bytes = (v : json.Data) × IsJson bytes v × (tree_of v ≡ None)
 
--- why bytes are no document; running out of memory says nothing of them, and bytes that are there were not refused by a read
+-- why bytes are not a document; running out of memory says nothing of them, and where the bytes are at hand no read has failed
 abbrev pub IsNoDocument : List ℕ → JFault → Type 0
 IsNoDocument bytes TooLong = most_bytes < length bytes
 IsNoDocument bytes NotJson = (length bytes ≤ most_bytes) × IsNoJson bytes

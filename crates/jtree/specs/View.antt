@@ -1,4 +1,4 @@
--- What a `Tree` of the code stands for.
+-- The plain data that a `Tree` of the code represents.
 use Rattle.std.specs.Prelude.{List, [], ◌∷◌}
 use Rattle.jtree.specs.Data.{Data, null, boolean, integer, text, list, object, Items, no_items, item, Members, no_members, member}
 use Rattle.jtree.specs.declared.value.Tree.{Tree}

@@ -30,8 +30,8 @@ impl Text {
         Text::from_str(alloc, self.as_str())
     }
 
-    /// Makes it this text, in the room that it has where that is enough. `AllocError` where an allocation fails, and it is
-    /// then as it was.
+    /// Makes it this text, within its capacity where that is enough. `AllocError` where an allocation fails, and it is
+    /// then unchanged.
     pub fn set(&mut self, text: &str) -> Result<(), AllocError>
         ensures ok { OnOk result (self.new ≡ text.now) }
         ensures err { OnErr result (self.new ≡ self.old) }
@@ -53,8 +53,8 @@ impl Tree {
         Ok(copy_tree(self, alloc)?)
     }
 
-    /// Makes it equal to `value`. Where both are texts, the room of the text is used again; else a copy takes its place.
-    /// `AllocError` where an allocation fails, and it is then as it was.
+    /// Makes it equal to `value`. Where both are texts, the capacity of the text is reused; else a copy replaces it.
+    /// `AllocError` where an allocation fails, and it is then unchanged.
     #[inline(always)]
     pub fn set(&mut self, alloc: Global, value: &Tree) -> Result<(), AllocError>
         ensures ok { OnOk result (data_of self.new ≡ data_of value.now) }

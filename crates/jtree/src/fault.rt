@@ -8,13 +8,13 @@ use thiserror::Error;
 /// Why a tree was not read, copied or written.
 #[derive(Debug, Drop, Clone, Copy, PartialEq, Eq, Error)]
 pub enum JFault {
-    /// A number of the document is no integer of 64 bits.
+    /// A number of the document is not an integer of 64 bits.
     #[error("J1")]
     NotAnInteger,
     /// An allocation failed.
     #[error("J2")]
     NoMemory,
-    /// The bytes are no JSON (RFC 8259).
+    /// The bytes are not JSON (RFC 8259).
     #[error("J3")]
     NotJson,
     /// The document has more than `MOST_BYTES` bytes.

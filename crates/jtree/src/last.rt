@@ -23,22 +23,24 @@ impl Tree {
         find_last(self).node
     }
 
-    /// Puts a tree in the place of the last node, in the room of a text where both are texts. It answers how many times one goes
-    /// down to that node, at most 2^64 - 1. `AllocError` where an allocation fails, and the tree is then as it was.
+    /// Replaces the last node by a tree. Where both are texts, the capacity of the old one is reused. It answers how many steps, each
+    /// to the last item or member, lead to that node, at most 2^64 - 1. `AllocError` where an allocation fails, and the tree is then
+    /// unchanged.
     pub fn set_last(&mut self, alloc: Global, value: &Tree) -> Result<usize, AllocError>
         ensures ok { OnOk result (data_of self.new ≡ with_last (data_of self.old) (data_of value.now)) }
         ensures depth { IfOk result (λ depth. depth ≡ min (last_depth (data_of self.old)) (2 ^ 64 - 1)) }
         ensures err { OnErr result (data_of self.new ≡ data_of self.old) }
     {
+        // for its contract alone: a proof learns that `value` is a tree
         value.reveal_invariant();
         set_last_node(self, alloc, value, 0)
     }
 
     /// Overwrites in `text` the text of `before`, which `after` bytes follow, by the text of this tree, where both have as many bytes,
-    /// and answers whether it did so. Where `text` has another text there, some of its bytes may be overwritten all the same. What
-    /// `scratch` holds is lost; its room is used again.
+    /// and answers whether it did so. Where `text` has another text there, some of its bytes may still be overwritten. What
+    /// `scratch` holds is lost; its capacity is reused.
     ///
-    /// `AllocError` where an allocation fails, and `text` is then as it was.
+    /// `AllocError` where an allocation fails, and `text` is then unchanged.
     pub fn overwrite(
         &self,
         before: &Tree,
@@ -65,16 +67,16 @@ impl Tree {
         Ok(done)
     }
 
-    /// How many times one goes down by the last item or member to the last node, at most 2^64 - 1.
+    /// How many steps, each to the last item or member, lead to the last node, at most 2^64 - 1.
     pub fn last_depth(&self) -> usize
         ensures { result ≡ min (last_depth (data_of self.now)) (2 ^ 64 - 1) }
     {
         find_last(self).after
     }
 
-    /// Appends what the compact text of this tree has from the part on that is reached by going down `depth` times by the last
-    /// item or member: the text of the part, and the brackets that close what is around it. Where there is no such part, the
-    /// brackets that close what is around the last node. Where an allocation fails, `out` is dropped.
+    /// Appends the compact text of this tree from one part to the end. The part is the one that `depth` steps, each to the last
+    /// item or member, lead to: its text is appended, and then the brackets that close what is around it. Where there is no such
+    /// part, the brackets that close what is around the last node. Where an allocation fails, `out` is dropped.
     pub fn append_part(&self, depth: usize, out: Vec<u8>) -> Result<Vec<u8>, AllocError>
         ensures { IfOk result (λ v. v.items ≡ out.items ++ part_text depth (data_of self.now)) }
     {
@@ -108,9 +110,9 @@ fn closing(tree: &Tree) -> u8
     }
 }
 
-/// A law, and nothing that runs: a tree's text is that before a part and that from it on, and the text before it does not depend on
-/// the part, nor on what is deeper. Around the last node's text a tree has the same text whatever that node is, and after it a bracket
-/// for each time that one goes down to it.
+/// A law, called for its contract alone: a tree's text is the text before a part followed by the text from the part on, and the
+/// text before it depends neither on the part nor on what is deeper. The text around the last node does not depend on that node, and
+/// after it is one bracket for each step to it.
 pub fn parts_have_their_text()
     ensures whole { (n : ℕ) (d : Data) → compact d ≡ front_text n d ++ part_text n d }
     ensures front { (m n : ℕ) (d v : Data) → m ≤ n → front_text m (with_part n d v) ≡ front_text m d }
@@ -118,8 +120,8 @@ pub fn parts_have_their_text()
     ensures around { (d : Data) → (front : List ℕ) × (rest : List ℕ) × (length rest ≡ last_depth d) × ((v : Data) → compact (with_last d v) ≡ front ++ (compact v ++ rest)) }
 {}
 
-/// A law, and nothing that runs: a node of count 1 in the place of the last node is itself the last node, the last node in
-/// its own place changes nothing, and a tree there adds its count to that of the others.
+/// A law, called for its contract alone: a node of count 1 that replaces the last node is itself the last node; to replace the
+/// last node by itself changes nothing; and a tree in its place adds its count to that of the other nodes.
 pub fn last_node_is_replaced()
     ensures again { (d v w : Data) → node_count v ≡ 1 → with_last (with_last d v) w ≡ with_last d w }
     ensures own { (d : Data) → with_last d (last_of d) ≡ d }
@@ -192,7 +194,7 @@ fn set_last_member(
     }
 }
 
-/// The last node of a tree, and how many bytes stand after its text in the text of the tree, at most 2^64 - 1.
+/// The last node of a tree, and how many bytes follow its text in the text of the tree, at most 2^64 - 1.
 #[derive(Clone, Copy)]
 struct Last<'a> {
     node: &'a Tree,
@@ -213,7 +215,7 @@ fn find_last(tree: &Tree) -> Last<'_>
     Last { node, after }
 }
 
-/// The last item, or what stands under the last name. `None` where there is none.
+/// The last item, or the value of the last member. `None` where there is none.
 fn last_part(tree: &Tree) -> Option<&Tree>
     ensures { option_map (λ t. data_of t.now) result ≡ last_part (data_of tree.now) }
 {

@@ -19,4 +19,4 @@ pub use order::{order_in_words, order_is_total};
 pub use pointer::{push_index, push_name};
 pub use read::MOST_BYTES;
 pub use value::{Items, Member, Members, Text, Tree};
-pub use write::texts_tell_apart;
+pub use write::texts_are_unique;

@@ -25,7 +25,7 @@ ghost use Rattle.jtree.specs.Nodes.{items_count, members_count, most_nodes};
 ghost use Rattle.jtree.specs.View.{items_of, members_of};
 
 impl Members {
-    /// How many nodes stand under the names together, and 2^64 - 1 where there are more. It visits each node once.
+    /// The number of nodes of all values together, and 2^64 - 1 where there are more. It visits each node once.
     pub fn nodes(&self) -> u64
         ensures { result ≡ min (members_count self.now) most_nodes }
     {
@@ -45,7 +45,7 @@ pub(crate) fn items_nodes(items: &[Tree]) -> u64
     sum
 }
 
-/// How many nodes stand under the names together, at most 2^64 - 1.
+/// The number of nodes of all values together, at most 2^64 - 1.
 #[cycle(nodes)]
 pub(crate) fn members_nodes(members: &[Member]) -> u64
     ensures { result ≡ min (members_count (members_of members.now)) most_nodes }

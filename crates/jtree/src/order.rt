@@ -184,18 +184,31 @@ fn is_same_member(left: &Member, right: &Member) -> bool
     left.name == right.name && is_same(&left.tree, &right.tree)
 }
 
-/// What one walk over two trees, or over the parts of two, answers.
+/// The result of one walk over two trees, or over the parts of two.
 #[derive(Drop)]
 struct Compared {
     /// The nodes on the left, at most 2^64 - 1.
     left: u64,
     /// The nodes on the right, at most 2^64 - 1.
     right: u64,
-    /// How the left stands to the right.
+    /// How the left compares with the right.
     order: Ordering,
 }
 
 impl Compared {
+    /// No parts.
+    fn nothing() -> Compared
+        ensures left { result.left ≡ 0 }
+        ensures right { result.right ≡ 0 }
+        ensures order { result.order ≡ Equal }
+    {
+        Compared {
+            left: 0,
+            right: 0,
+            order: Ordering::Equal,
+        }
+    }
+
     /// Two trees of one kind and of one node each, whose contents compare as `order` says.
     fn leaves(order: Ordering) -> Compared
         ensures left { result.left ≡ 1 }
@@ -282,11 +295,7 @@ fn compare_items(left: &[Tree], right: &[Tree]) -> Compared
     ensures order { result.order ≡ items_cmp (items_of left.now) (items_of right.now) }
 {
     let both = left.len().min(right.len());
-    let mut found = Compared {
-        left: 0,
-        right: 0,
-        order: Ordering::Equal,
-    };
+    let mut found = Compared::nothing();
     for i in 0..both {
         found = found.then(compare(&left[i], &right[i]));
     }
@@ -306,11 +315,7 @@ fn compare_members(left: &[Member], right: &[Member]) -> Compared
 {
     let both = left.len().min(right.len());
     let shorter_first = left.len().cmp(&right.len());
-    let mut found = Compared {
-        left: 0,
-        right: 0,
-        order: Ordering::Equal,
-    };
+    let mut found = Compared::nothing();
     for i in 0..both {
         let before = &left[i];
         let after = &right[i];
@@ -324,13 +329,13 @@ fn compare_members(left: &[Member], right: &[Member]) -> Compared
     })
 }
 
-/// A law, and nothing that runs: of two trees, `cmp` answers `Less` exactly where the first is before the second in the
-/// words of `IsBefore`.
+/// A law, called for its contract alone: of two trees, `cmp` answers `Less` exactly where the first is before the second by
+/// `IsBefore`.
 pub fn order_in_words()
     ensures in_words { (u v : Data) → IsTree u → IsTree v → ((tree_cmp u v ≡ Less) ↔ IsBefore u v) }
 {}
 
-/// A law, and nothing that runs: `cmp` is a total order of trees, and it answers `Equal` for the same tree alone.
+/// A law, called for its contract alone: `cmp` is a total order of trees, and it answers `Equal` only for the same tree.
 pub fn order_is_total()
     ensures total { IsTotalOrder tree_cmp }
     ensures same { (u v : Data) → (tree_cmp u v ≡ Equal) ↔ (u ≡ v) }

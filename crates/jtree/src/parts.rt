@@ -1,4 +1,4 @@
-//! What stands under a name.
+//! The value under a name.
 ghost use Rattle.std.specs.Prelude.{◌≡◌, ◌↔◌, ℕ, List, None, Some, IfSome, IsTrue, option_map};
 ghost use Rattle.jtree.specs.Data.{text as text_of};
 ghost use Rattle.jtree.specs.Path.{member_at, under};
@@ -23,8 +23,8 @@ impl Members {
 }
 
 impl Tree {
-    /// The tree under a name of an object, by the bytes of the name. `None` where no member has the name, and for what
-    /// is no object.
+    /// The tree under a name of an object, by the bytes of the name. `None` where no member has the name, and for a
+    /// tree that is not an object.
     #[inline(always)]
     pub fn get(&self, name: &str) -> Option<&Tree>
         ensures { option_map (λ t. data_of t.now) result ≡ under (data_of self.now) name.now }
@@ -34,7 +34,7 @@ impl Tree {
             _ => None,
         }
     }
-    /// The text under a name of an object. `None` where no text stands there.
+    /// The text under a name of an object. `None` where there is none.
     pub fn get_text(&self, name: &str) -> Option<&str>
         ensures some { IfSome result (λ s. under (data_of self.now) name.now ≡ Some (text_of s.now)) }
         ensures none { result ≡ None → (s : List ℕ) → under (data_of self.now) name.now ≡ Some (text_of s) → ⊥ }
@@ -45,7 +45,7 @@ impl Tree {
         }
     }
 
-    /// Whether this text stands under the name of an object.
+    /// Whether an object has this text under the name.
     pub fn has_text(&self, name: &str, text: &str) -> bool
         ensures { IsTrue result ↔ (under (data_of self.now) name.now ≡ Some (text_of text.now)) }
     {

@@ -1,4 +1,4 @@
-// The tokens of a pointer (RFC 6901), one behind another.
+// The tokens of a pointer (RFC 6901), appended one after the other.
 ghost use Rattle.std.specs.Prelude.{◌≡◌, ◌++◌, OnOk, OnErr, IfOk, IfErr, flat_map, string_bytes};
 ghost use Rattle.std.specs.Char.{encode_utf8};
 ghost use Rattle.jtree.specs.Pointer.{escaped, name_token, index_token};
@@ -9,7 +9,7 @@ use itoa::Buffer;
 use std::alloc::{AllocError, Global};
 
 /// Appends the token of a member's name to a pointer (RFC 6901): `/` and the name, where `~` is written `~0` and `/` is
-/// written `~1`. `NoMemory` where an allocation fails, and the text is then as it was.
+/// written `~1`. `NoMemory` where an allocation fails, and the text is then unchanged.
 pub fn push_name(text: &mut String, name: &str) -> Result<(), JFault>
     ensures ok { OnOk result (string_bytes text.new ≡ string_bytes text.old ++ name_token name.now) }
     ensures err { IfErr result (λ e. e ≡ NoMemory) }
@@ -21,7 +21,7 @@ pub fn push_name(text: &mut String, name: &str) -> Result<(), JFault>
 }
 
 /// Appends the token of an index, counted from 0, to a pointer (RFC 6901): `/` and the index in decimal.
-/// `NoMemory` where an allocation fails, and the text is then as it was.
+/// `NoMemory` where an allocation fails, and the text is then unchanged.
 pub fn push_index(text: &mut String, index: u64) -> Result<(), JFault>
     ensures ok { OnOk result (string_bytes text.new ≡ string_bytes text.old ++ index_token index) }
     ensures err { IfErr result (λ e. e ≡ NoMemory) }

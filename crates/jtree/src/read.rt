@@ -24,7 +24,7 @@ impl Tree {
     /// The tree that a JSON value is (RFC 8259): members in the order of the bytes of their names, and numbers as
     /// integers of 64 bits.
     ///
-    /// `NotAnInteger` where some number of the value is no integer between -2^63 and 2^63 - 1: `serde_json` holds it as
+    /// `NotAnInteger` where some number of the value is not an integer between -2^63 and 2^63 - 1: `serde_json` holds it as
     /// a larger one or as a float, as it does with `1.0`, `1e2` and `-0`. `NoMemory` where an allocation fails.
     pub fn from_value(alloc: Global, value: &Value) -> Result<Tree, JFault>
         ensures ok { IfOk result (λ t. tree_of (view value.now) ≡ Some (data_of t)) }
@@ -34,12 +34,12 @@ impl Tree {
         read_tree(alloc, value)
     }
 
-    /// The tree that the bytes are, as JSON (RFC 8259). Of members of one name the last one stays.
+    /// The tree of the bytes as JSON (RFC 8259). Of members with the same name the last one is kept.
     ///
     /// `TooLong` exactly where there are more than `MOST_BYTES` bytes, which is decided first. `NotJson` where the
-    /// bytes are no UTF-8 or no JSON, where lists and objects nest more than 127 deep, and where a number is beyond the
-    /// floats, as `1e999`. `NotAnInteger` where some number of the value is no integer between -2^63 and 2^63 - 1, as
-    /// for `from_value`. `NoMemory` where an allocation fails.
+    /// bytes are not UTF-8 or not JSON, where lists and objects nest more than 127 deep, and where a number is beyond the
+    /// range of floats, as `1e999`. `NotAnInteger` where some number of the value is not an integer between -2^63 and
+    /// 2^63 - 1, as for `from_value`. `NoMemory` where an allocation fails.
     pub fn from_bytes(alloc: Global, bytes: &[u8]) -> Result<Tree, JFault>
         ensures ok { IfOk result (λ t. Reads bytes.now (data_of t)) }
         ensures too_long { IsErrOf result TooLong ↔ most_bytes < length bytes.now }
@@ -52,10 +52,10 @@ impl Tree {
         Tree::from_value(alloc, &value)
     }
 
-    /// The tree that all bytes up to the end of input are, as `from_bytes` answers it, in whatever pieces they come.
+    /// The tree of all bytes up to the end of input, as `from_bytes` answers it, in whatever pieces they come.
     ///
-    /// `ReadFailed` where the source fails, and for nothing else, also where all bytes came before. Of a document that is
-    /// too long it takes `MOST_BYTES + 1` bytes; whatever it answers, it has taken a beginning of the bytes.
+    /// `ReadFailed` exactly where the source fails, even after the last byte. Of a document that is too long it takes
+    /// `MOST_BYTES + 1` bytes; whatever it answers, it has taken a beginning of the bytes.
     pub fn from_reader<R: Source>(alloc: Global, source: &mut R) -> Result<Tree, JFault>
         ensures ok { IfOk result (λ t. IfSome (R.remaining source.old) (λ bytes. Reads bytes (data_of t))) }
         ensures refused { IfErr result (λ e. e ≢ ReadFailed → IfSome (R.remaining source.old) (λ bytes. IsNoDocument bytes e)) }
@@ -151,6 +151,7 @@ fn read_items(alloc: Global, values: &Vec<Value>) -> Result<Items, JFault>
     let mut items = Vec::with_capacity(alloc, values.len())?;
     for value in values {
         let tree = read_tree(alloc, value)?;
+        // for its contract alone: a proof learns that it is a tree, here and for members below
         tree.reveal_invariant();
         items.push_reserved(tree);
     }

@@ -69,10 +69,10 @@ impl<T: Read> Source for Feed<T> {
     }
 }
 
-/// How often a read that a signal interrupts is made again.
+/// How often a read that a signal interrupts is repeated.
 const MOST_TRIES: u32 = 1000;
 
-/// One read, made again where a signal interrupted it.
+/// One read, repeated where a signal interrupted it.
 fn read_on<T: Read>(reader: &mut T, buffer: &mut [u8]) -> io::Result<usize>
     ensures within { ReadsAtMost result buffer.new }
     ensures gives { ReadConsumes (T.remaining reader.old) (T.remaining reader.new) result buffer.new }

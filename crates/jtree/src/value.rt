@@ -26,7 +26,7 @@ pub struct Members {
     pub members: Vec<Member>,
 }
 
-/// A name and what stands under it.
+/// A name and its value.
 #[cycle(tree)]
 #[derive(Drop)]
 pub struct Member {
@@ -99,7 +99,7 @@ impl Tree {
     ghost use Rattle.jtree.specs.Data.{IsTree};
     ghost use Rattle.jtree.specs.View.{data_of};
 
-    /// Brings to a proof that names stand in order, each once, and that integers have 64 bits. It does nothing.
+    /// Does nothing: a proof calls it to learn that names are in order, each once, and that integers have 64 bits.
     pub fn reveal_invariant(&self)
         ensures { IsTree (data_of self.now) }
     {
@@ -117,10 +117,11 @@ impl Tree {
 impl Items {
     ghost use Rattle.jtree.specs.Data.{AreTrees};
 
-    /// Brings to a proof that each item is a tree. It does nothing.
+    /// Does nothing: a proof calls it to learn that each item is a tree.
     pub fn reveal_invariant(&self)
         ensures { AreTrees self.now }
     {
+        // a proof learns what holds of a value where its field is read
         let _ = &self.items;
     }
 }
@@ -128,7 +129,7 @@ impl Items {
 impl Members {
     ghost use Rattle.jtree.specs.Data.{AreMembers};
 
-    /// Brings to a proof that names stand in order, each once. It does nothing.
+    /// Does nothing: a proof calls it to learn that names are in order, each once.
     pub fn reveal_invariant(&self)
         ensures { AreMembers self.now }
     {

@@ -1,4 +1,4 @@
-// From a tree to its text: the writer of `json` puts the tokens of the tree, and no value of `serde_json` stands between.
+// From a tree to its text: the tokens of the tree go to the writer of `json`, without a value of `serde_json` in between.
 ghost use Rattle.std.specs.Prelude.{◌≡◌, ◌++◌, OnOk, IfOk, IfErr, IsUtf8, string_bytes};
 ghost use Rattle.json.specs.Tree.{json_tokens, items_tokens, members_tokens};
 ghost use Rattle.serde_json.specs.Written.{outline, items_outline, members_outline};
@@ -27,12 +27,13 @@ impl Tree {
         Ok(String::from_utf8(text).unwrap())
     }
 
-    /// What `out` holds, and behind it the text that `to_text` gives. Where an allocation fails, `out` is dropped.
+    /// Appends to `out` the text that `to_text` gives. Where an allocation fails, `out` is dropped.
     pub fn append_text(&self, out: Vec<u8>) -> Result<Vec<u8>, AllocError>
         ensures ok { IfOk result (λ v. v.items ≡ out.items ++ compact (data_of self.now)) }
         ensures utf8 { OnOk result (IsUtf8 (compact (data_of self.now))) }
         ensures reads_back { OnOk result (ReadsBack (data_of self.now) (compact (data_of self.now))) }
     {
+        // for its contract alone: a proof learns that this is a tree
         self.reveal_invariant();
         let mut writer = Writer::new(out);
         write_tree(self, &mut writer)?;
@@ -88,7 +89,7 @@ fn write_members(members: &Members, out: &mut Writer) -> Result<(), AllocError>
     out.end_object()
 }
 
-/// A law, and nothing that runs: trees with the same compact text are the same tree, however long and deep it is.
-pub fn texts_tell_apart()
+/// A law, called for its contract alone: trees with the same compact text are the same tree, however long and deep it is.
+pub fn texts_are_unique()
     ensures { (u v : Data) → IsTree u → IsTree v → compact u ≡ compact v → u ≡ v }
 {}

@@ -1,4 +1,4 @@
--- Lists in which nothing stands twice.
+-- Lists in which no element occurs twice.
 use Rattle.std.specs.Prelude.{◌≡◌, ◌≢◌, ◌*◌, ◌≤◌, ◌<◌, ◌⊎◌, List, Bool, true, map, filter}
 use Rattle.std.specs.Bool.{Decides}
 use Rattle.std.specs.Cmp.{IsEquivalence}
@@ -26,7 +26,7 @@ missing {K} {eq} same (c ∷ cs) used =
     ]
 
 module _ {K : Type 0} {eq : K → K → Bool} (same : (a b : K) → Decides (eq a b) (a ≡ b)) (laws : IsEquivalence eq) where
-  -- what stands apart in a list is no longer than it
+  -- a list of different elements of another list is no longer than that list
   pub apart_length : (xs cs : List K) → IsApart xs → ((q : K) → Among xs q → Among cs q) → length xs ≤ length cs
   apart_length xs cs a h =
       length-le_from_is_member laws xs cs (IsDistinct-from_AllPairs same xs (all_pairs (λ x y. x ≢ y) xs a))

@@ -27,7 +27,7 @@ use Rattle.stored.specs.Objects.Becomes.{is_nullable}
 use Rattle.plan.specs.Internal.Values.{AreValues, candidates_of}
 use Rattle.plan.specs.declared.leaf.Leaf.{Leaf}
 use Rattle.plan.specs.declared.arena.Content.TheVariants as content
-use Rattle.plan.specs.Internal.Arena.{IsSlot, AreSlots, AreRight, Stand}
+use Rattle.plan.specs.Internal.Arena.{IsSlot, AreSlots, AreRight, AreSitesFrom}
 use Rattle.plan.specs.Samples.Sites.{site_at}
 use Rattle.plan.specs.Internal.Building.{IsSound, IsSortSound, AreFieldsSound, IsBuilt, AreBuilt, IsFieldSlot}
 use Rattle.plan.specs.declared.values.Values.{Values}
@@ -56,18 +56,18 @@ among_at k [] i d l same = absurd (omega arith)
 among_at k (x ∷ ws) zero d l same = rw same refl
 among_at k (x ∷ ws) (suc i) d l same = rw (among_at k ws i d (omega arith) same) (or_true (bytes_eq k x))
 
--- ---- sites that stand one behind the other
+-- ---- sites one after the other
 
-pub stand_left : (sites : List Site) (start : ℕ) (xs ys : List Site) → Stand sites start (xs ++ ys) → Stand sites start xs
-stand_left sites start xs ys h j s l = h j s (omega (arith, length-append xs ys)) ∙ get_or_append_left xs ys s j l
+pub sites_left : (sites : List Site) (start : ℕ) (xs ys : List Site) → AreSitesFrom sites start (xs ++ ys) → AreSitesFrom sites start xs
+sites_left sites start xs ys h j s l = h j s (omega (arith, length-append xs ys)) ∙ get_or_append_left xs ys s j l
 
-pub stand_right : (sites : List Site) (start : ℕ) (xs ys : List Site) → Stand sites start (xs ++ ys) → Stand sites (start + length xs) ys
-stand_right sites start xs ys h j s l =
+pub sites_right : (sites : List Site) (start : ℕ) (xs ys : List Site) → AreSitesFrom sites start (xs ++ ys) → AreSitesFrom sites (start + length xs) ys
+sites_right sites start xs ys h j s l =
     let e : start + length xs + j ≡ start + (length xs + j) = omega arith in
     rw e (h (length xs + j) s (omega (arith, length-append xs ys)) ∙ get_or-append-add xs ys j s)
 
-pub stand_last : (sites : List Site) (start : ℕ) (xs : List Site) (s : Site) → Stand sites start (xs ++ s ∷ []) → site_at sites (start + length xs) ≡ s
-stand_last sites start xs s h = h (length xs) s (omega (arith, length_push xs s)) ∙ get_or_push xs s s (length xs) refl
+pub sites_last : (sites : List Site) (start : ℕ) (xs : List Site) (s : Site) → AreSitesFrom sites start (xs ++ s ∷ []) → site_at sites (start + length xs) ≡ s
+sites_last sites start xs s h = h (length xs) s (omega (arith, length_push xs s)) ∙ get_or_push xs s s (length xs) refl
 
 -- ---- fields
 
@@ -93,12 +93,12 @@ sound_push [] x h = (tt, h.0)
 sound_push (y ∷ xs) x h = let r = sound_push xs x h.1 in ((h.0, r.0), r.1)
 
 -- the site of the node itself is the last of its sites
-pub last_site : (sites : List Site) (start n : ℕ) (path : List ℕ) (N : Node) (keys : List (List ℕ)) → n + 1 ≡ start + length (sites_from path N keys) → Stand sites start (sites_from path N keys) → site_at sites n ≡ record { node = N; keys = keys; path = path }
-last_site sites start n path (node nullable description sort) keys last stand =
+pub last_site : (sites : List Site) (start n : ℕ) (path : List ℕ) (N : Node) (keys : List (List ℕ)) → n + 1 ≡ start + length (sites_from path N keys) → AreSitesFrom sites start (sites_from path N keys) → site_at sites n ≡ record { node = N; keys = keys; path = path }
+last_site sites start n path (node nullable description sort) keys last placed =
     let under = sites_below path sort in
     let s : Site = record { node = node nullable description sort; keys = keys; path = path } in
     let e : start + length under ≡ n = omega (arith, last, length_push under s) in
-    rw e at (stand_last sites start under s stand)
+    rw e at (sites_last sites start under s placed)
 
 slots_are_push : (names : List (List ℕ)) (sites : List Site) (i : ℕ) (es : List SlotEntry) (ss : List Slot) (e : SlotEntry) (s : Slot) → AreSlots names sites i es ss → IsSlot names sites i e s → AreSlots names sites i (es ++ e ∷ []) (ss ++ s ∷ [])
 slots_are_push names sites i [] [] e s h here = (here, tt)
@@ -123,8 +123,8 @@ no_fields_built holds limit P v es path keys named = record {
   count = omega arith;
   below = λ k d l. absurd (omega arith);
   bits = λ k d l. absurd (omega arith);
-  right = λ sites values sound stand right. right;
-  slots_are = λ names sites i stand within. tt;
+  right = λ sites values sound placed right. right;
+  slots_are = λ names sites i placed within. tt;
 }
 
 pub field_built : {Z : Type 0} (holds : Z → ℕ → Type 0) (limit : ℕ) (P : Pools) (v : Values) (old mid new : List (Entry Z)) (path : List ℕ) (xs : List Field) (x : Field) (keys named : List (List ℕ)) (slots : List SlotEntry) (s : SlotEntry)
@@ -134,29 +134,29 @@ field_built holds limit P v old mid new path xs x keys named slots s a b f close
     let before = sites_of_fields path (fields_of xs) in
     let here = field_sites path x in
     let start : length old + length before ≡ length mid = sym a.count in
-    let first : (sites : List Site) → Stand sites (length old) (sites_of_fields path (fields_of (xs ++ x ∷ []))) → Stand sites (length old) before × Stand sites (length mid) here = λ sites stand.
-    let both : Stand sites (length old) (before ++ here) = rw (sites_push path xs x) at stand in
-    (stand_left sites (length old) before here both, rw start at (stand_right sites (length old) before here both))
+    let first : (sites : List Site) → AreSitesFrom sites (length old) (sites_of_fields path (fields_of (xs ++ x ∷ []))) → AreSitesFrom sites (length old) before × AreSitesFrom sites (length mid) here = λ sites placed.
+    let both : AreSitesFrom sites (length old) (before ++ here) = rw (sites_push path xs x) at placed in
+    (sites_left sites (length old) before here both, rw start at (sites_right sites (length old) before here both))
     in
     record {
       count = rw (sites_push path xs x) (omega (arith, a.count, b.count, length-append before here));
       below = each_push (λ k (e : SlotEntry). e.node < length new) slots s (λ k d l. let h = a.below k d l in omega (arith, b.count)) (omega (arith, b.last));
       bits = each_push (λ k (e : SlotEntry). IsClosed (2 ^ length named) e.bit) slots s a.bits closed;
-      right = λ sites values sound stand right.
+      right = λ sites values sound placed right.
           let parts = sound_push xs x sound in
-          let stands = first sites stand in
-          b.right sites values parts.1 stands.1 (a.right sites values parts.0 stands.0 right);
-      slots_are = λ names sites i stand within.
-          let stands = first sites stand in
-          let site = last_site sites (length mid) s.node (below path (step.field x.name)) (node_of x.node) [] (omega (arith, b.last, b.count)) stands.1 in
+          let split = first sites placed in
+          b.right sites values parts.1 split.1 (a.right sites values parts.0 split.0 right);
+      slots_are = λ names sites i placed within.
+          let split = first sites placed in
+          let site = last_site sites (length mid) s.node (below path (step.field x.name)) (node_of x.node) [] (omega (arith, b.last, b.count)) split.1 in
           rw (slots_push path keys named xs x)
-          (slots_are_push names sites i slots (field_slots path keys named (fields_of xs)) s _ (a.slots_are names sites i stands.0 (omega (arith, b.count))) (record { name = f.name_is names; below = omega (arith, b.last); node = site; must = f.must; key = f.key; bit = f.bit }));
+          (slots_are_push names sites i slots (field_slots path keys named (fields_of xs)) s _ (a.slots_are names sites i split.0 (omega (arith, b.count))) (record { name = f.name_is names; below = omega (arith, b.last); node = site; must = f.must; key = f.key; bit = f.bit }));
     }
 
 -- a node whose sites below are there
 pub node_built : {Z : Type 0} (holds : Z → ℕ → Type 0) (limit : ℕ) (P : Pools) (v : Values) (old new : List (Entry Z)) (path : List ℕ) (nullable : Bool) (description : Option (List ℕ)) (sort : Sort) (keys : List (List ℕ)) (n : ℕ)
     → n ≡ length old + length (sites_below path sort) → length new ≡ n + 1
-    → ((sites : List Site) → AreValues P v → IsSound (node nullable description sort) → Stand sites (length old) (sites_below path sort) → site_at sites n ≡ record { node = node nullable description sort; keys = keys; path = path }
+    → ((sites : List Site) → AreValues P v → IsSound (node nullable description sort) → AreSitesFrom sites (length old) (sites_below path sort) → site_at sites n ≡ record { node = node nullable description sort; keys = keys; path = path }
     → AreRight holds limit P v sites old → AreRight holds limit P v sites new)
     → IsBuilt holds limit P v old new path (node nullable description sort) keys n
 node_built holds limit P v old new path nullable description sort keys n number count right =
@@ -165,9 +165,9 @@ node_built holds limit P v old new path nullable description sort keys n number 
     record {
       count = omega (arith, length_push under s);
       last = omega arith;
-      right = λ sites values sound stand before.
-          let here : site_at sites n ≡ s = rw (← number) at (stand_last sites (length old) under s stand) in
-          right sites values sound (stand_left sites (length old) under (s ∷ []) stand) here before;
+      right = λ sites values sound placed before.
+          let here : site_at sites n ≡ s = rw (← number) at (sites_last sites (length old) under s placed) in
+          right sites values sound (sites_left sites (length old) under (s ∷ []) placed) here before;
     }
 
 -- what three clauses say of a value, if there is one
@@ -179,15 +179,15 @@ three_ok (Err e) A B C D a b c d = tt
 pub row_built : {Z : Type 0} (holds : Z → ℕ → Type 0) (limit : ℕ) (P : Pools) (v : Values) (old mid new : List (Entry Z)) (path : List ℕ) (nullable : Bool) (description : Option (List ℕ)) (sort : Sort) (keys : List (List ℕ)) (b : Bounds) (cs : Validations) (ends : List Bool) (es : List SlotEntry) (n : ℕ)
     → IsNode (node nullable description sort) → sort_at (node nullable description sort) ≡ Row → ending_at (node nullable description sort) ≡ record { bounds = b; asked = cs } → (HasSoundJunctors (node nullable description sort) → AreMet cs ends)
     → n ≡ length old + length (sites_below path sort) → length new ≡ n + 1
-    → ((sites : List Site) → AreValues P v → IsSortSound sort → Stand sites (length old) (sites_below path sort) → AreRight holds limit P v sites old → AreRight holds limit P v sites mid)
-    → ((sites : List Site) → AreValues P v → HasSoundJunctors (node nullable description sort) → Stand sites (length old) (sites_below path sort) → AreSlots v.names.items sites n es (slots_at P path (node nullable description sort) keys))
+    → ((sites : List Site) → AreValues P v → IsSortSound sort → AreSitesFrom sites (length old) (sites_below path sort) → AreRight holds limit P v sites old → AreRight holds limit P v sites mid)
+    → ((sites : List Site) → AreValues P v → HasSoundJunctors (node nullable description sort) → AreSitesFrom sites (length old) (sites_below path sort) → AreSlots v.names.items sites n es (slots_at P path (node nullable description sort) keys))
     → ((Q : Pools) (sites : List Site) (asked : Validations) → AreRight holds limit Q v sites mid → IsNode (site_at sites n).node → sort_of (site_at sites n) ≡ Row → ending_of (site_at sites n) ≡ record { bounds = b; asked = asked } → AreMet asked ends
     → admits_null (site_at sites n) ≡ nullable → AreSlots v.names.items sites n es (slots Q (site_at sites n)) → AreRight holds limit Q v sites new)
     → IsBuilt holds limit P v old new path (node nullable description sort) keys n
 row_built holds limit P v old mid new path nullable description sort keys b cs ends es n o row ending met number count under are right =
     node_built holds limit P v old new path nullable description sort keys n number count
-    (λ sites values sound stand here before.
-    right P sites cs (under sites values sound.2 stand before) (rw here o) (rw here row) (rw here ending) (met sound.1) (rw here refl) (rw here (are sites values sound.1 stand)))
+    (λ sites values sound placed here before.
+    right P sites cs (under sites values sound.2 placed before) (rw here o) (rw here row) (rw here ending) (met sound.1) (rw here refl) (rw here (are sites values sound.1 placed)))
 
 -- a list whose item is there
 pub list_built : {Z : Type 0} (holds : Z → ℕ → Type 0) (limit : ℕ) (P : Pools) (v : Values) (old mid new : List (Entry Z)) (path : List ℕ) (nullable : Bool) (description : Option (List ℕ)) (M : Node) (type : ListType) (item_names : List (List ℕ)) (b : Bounds) (keys : List (List ℕ)) (item : PlanNode) (n : ℕ)
@@ -197,9 +197,9 @@ pub list_built : {Z : Type 0} (holds : Z → ℕ → Type 0) (limit : ℕ) (P : 
     → IsBuilt holds limit P v old new path (node nullable description (list M type item_names b)) keys n
 list_built holds limit P v old mid new path nullable description M type item_names b keys item n o built number count right =
     node_built holds limit P v old new path nullable description (list M type item_names b) keys n (number ∙ built.count) count
-    (λ sites values sound stand here before.
-    let under = last_site sites (length old) item (below path step.item) M (item_keys type item_names) (omega (arith, built.last, built.count)) stand in
-    right P sites description (built.right sites values sound.2 stand before) (ap (λ s. Site.node s) here) (rw (here, under) refl) (rw here o) (rw here sound.0))
+    (λ sites values sound placed here before.
+    let under = last_site sites (length old) item (below path step.item) M (item_keys type item_names) (omega (arith, built.last, built.count)) placed in
+    right P sites description (built.right sites values sound.2 placed before) (ap (λ s. Site.node s) here) (rw (here, under) refl) (rw here o) (rw here sound.0))
 
 leaf_below : (path : List ℕ) (nullable : Bool) (description : Option (List ℕ)) (sort : Sort) → sort_at (node nullable description sort) ≡ LeafSort → length (sites_below path sort) ≡ 0
 leaf_below path n t (scalar kind cs) leaf = refl
@@ -215,5 +215,5 @@ pub leaf_built : {Z : Type 0} (holds : Z → ℕ → Type 0) (limit : ℕ) (P : 
 leaf_built holds limit P v old new path (node nullable description sort) keys l sizes n leaf is number count candidates sized =
     let none : length (sites_below path sort) ≡ 0 = leaf_below path nullable description sort leaf in
     node_built holds limit P v old new path nullable description sort keys n (omega arith) count
-    (λ sites values sound stand here right.
+    (λ sites values sound placed here right.
     right_push holds limit P v sites old new _ n right is number (record { sizes = rw here (sized values); nullable = rw here refl; content = record { sort = rw here leaf; candidates = rw here (candidates values) } }))

@@ -30,7 +30,7 @@ use Rattle.plan.specs.Internal.PartLaws.{PartLaws}
 use Rattle.plan.specs.Samples.Keys.{HasTuples}
 use Rattle.plan.specs.Internal.Tuples.{AreKeysLeaves, IsCutTo}
 use Rattle.plan.specs.declared.sort.Sort.TheVariants.{Row}
-use Rattle.plan.proofs.PartLemmas.{StoredLaw}
+use Rattle.plan.specs.Internal.Laws.{StoredLaw}
 use Rattle.plan.proofs.ListLemmas.{count_nodes}
 use Rattle.plan.proofs.SiteLemmas.{whole_up_to, list_sizes}
 use Rattle.plan.proofs.MoreLemmas.{more_parts}
@@ -93,7 +93,7 @@ map_cut stored laws P limit s M n d K keys b count room is item o h has =
     let x = more_apart k.0 limit b t m in
     ((λ a. same_cut P limit M b tuples count t m (λ i l below. omega arith) (x.0 a)), λ f. x.1 (same_cut P limit M b count tuples t m (λ i l below. omega arith) f))))
 
--- what the schema grants of the items
+-- what the schema guarantees of the items
 pub set_items : (s M : Site) (n : Bool) (d : Option (List ℕ)) (K : Node) (keys : List (List ℕ)) (b : Bounds) → s.node ≡ node n d (list K Set keys b) → item_site s ≡ Some M → HasSoundItems s.node → IsPlainScalar M.node
 set_items s M n d K keys b is item sound = subst IsPlainScalar (ap (λ x. Site.node x) (item_is s M n d K Set keys b is item)) (subst HasSoundItems is sound)
 

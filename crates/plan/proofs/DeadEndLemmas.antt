@@ -7,7 +7,7 @@ use Rattle.jtree.specs.Data.{Data, Items, no_items, item}
 use Rattle.jtree.specs.Nodes.{node_count, items_count}
 use Rattle.jtree.specs.Internal.Rising.{Among}
 use Rattle.schema.specs.Nodes.Node.{Node, node, list, IsNode}
-use Rattle.schema.specs.Nodes.Items.{HasKeys, AreToldApart, HasSoundItems}
+use Rattle.schema.specs.Nodes.Items.{HasKeys, AreDistinct, HasSoundItems}
 use Rattle.schema.specs.declared.node.ListType.{ListType}
 use Rattle.schema.specs.declared.node.ListType.TheVariants.{Atomic, Set, Map}
 use Rattle.stored.specs.Objects.Fault as fault
@@ -29,7 +29,7 @@ use Rattle.plan.proofs.KeyedLemmas.{then_are, CompletesApart, completes_free, co
 use Rattle.plan.proofs.ListLemmas.{from_count, count_nodes}
 use Rattle.plan.proofs.MapListLemmas.{map_keyed}
 use Rattle.plan.proofs.MoreLemmas.{more_parts}
-use Rattle.plan.proofs.PartLemmas.{StoredLaw}
+use Rattle.plan.specs.Internal.Laws.{StoredLaw}
 use Rattle.plan.proofs.RowLemmas.{fill_none, drop_all}
 use Rattle.plan.proofs.SetLemmas.{plain_leaf, set_keyed}
 use Rattle.plan.proofs.TupleLemmas.{free_tuples}
@@ -42,7 +42,7 @@ or_so {A = A} {B = B} {C = C} r s = (
   λ y. r.1 (elim y as (λ _. A ⊎ B) [ inl a ↦ inl a | inr c ↦ inr (s.1 c) ]),
 )
 
--- where a row may end behind its last slot
+-- where a row may end after its last slot
 row_ends : (P : Pools) (s : Site) (x : Before) → MayEnd (ending_of s) x ↔ HasRest P s (length (slots P s)) x 0
 row_ends P s x = let r = fill_none P (ending_of s) x 0 in rw (drop_all (slots P s)) ((λ w. r.1 (refl, w)), λ h. (r.0 h).1)
 
@@ -139,23 +139,23 @@ key_counts P path N keys o h c =
     counts P (filter is_key ss) (λ s a. let f = among_filter is_key ss s a in c.below (keys_row N keys h) s f.0 (keys_leaves P path N keys o h s f.0 f.1))
 
 -- no two items are alike, or each has a key
-told_apart : StoredLaw → PartLaws → (P : Pools) (path : List ℕ) (type : ListType) (keys : List (List ℕ)) (N : Node) → IsNode N → AreToldApart type keys N → HaveCandidates P (record { node = N; keys = item_keys type keys; path = path })
+apart_or_keyed : StoredLaw → PartLaws → (P : Pools) (path : List ℕ) (type : ListType) (keys : List (List ℕ)) (N : Node) → IsNode N → AreDistinct type keys N → HaveCandidates P (record { node = N; keys = item_keys type keys; path = path })
     → ((v w : Data) → are_alike type keys v w ≡ false) ⊎ Keyed P (record { node = N; keys = item_keys type keys; path = path }) (are_alike type keys)
-told_apart stored laws P path Atomic keys N o h c = inl (λ v w. refl)
-told_apart stored laws P path Set keys N o h c = let vs = c.own (plain_leaf N h) in inr (set_keyed stored P _ (length vs.0) h (record { candidates = vs.0; are = vs.1; count_is = refl })).0
-told_apart stored laws P path Map keys N o h c = let ns = key_counts P path N keys o h c in inr (map_keyed stored laws P path N keys ns.0 o h ns.1).0
+apart_or_keyed stored laws P path Atomic keys N o h c = inl (λ v w. refl)
+apart_or_keyed stored laws P path Set keys N o h c = let vs = c.own (plain_leaf N h) in inr (set_keyed stored P _ (length vs.0) h (record { candidates = vs.0; are = vs.1; count_is = refl })).0
+apart_or_keyed stored laws P path Map keys N o h c = let ns = key_counts P path N keys o h c in inr (map_keyed stored laws P path N keys ns.0 o h ns.1).0
 
-items_told : StoredLaw → PartLaws → (P : Pools) (path : List ℕ) (N : Node) (keys : List (List ℕ)) (M : Site) → item_site (record { node = N; keys = keys; path = path }) ≡ Some M → IsNode N → HasSoundItems N → HaveCandidates P M
+items_apart_or_keyed : StoredLaw → PartLaws → (P : Pools) (path : List ℕ) (N : Node) (keys : List (List ℕ)) (M : Site) → item_site (record { node = N; keys = keys; path = path }) ≡ Some M → IsNode N → HasSoundItems N → HaveCandidates P M
     → ((v w : Data) → alike_by N v w ≡ false) ⊎ Keyed P M (alike_by N)
-items_told stored laws P path (node n t (list K type ks b)) keys M is o h c = subst (λ (s : Site). HaveCandidates P s → ((v w : Data) → are_alike type ks v w ≡ false) ⊎ Keyed P s (are_alike type ks)) (same_Some _ M is) (told_apart stored laws P (below path step.item) type ks K o h) c
-items_told stored laws P path N keys M is o h c = absurd (cc)
+items_apart_or_keyed stored laws P path (node n t (list K type ks b)) keys M is o h c = subst (λ (s : Site). HaveCandidates P s → ((v w : Data) → are_alike type ks v w ≡ false) ⊎ Keyed P s (are_alike type ks)) (same_Some _ M is) (apart_or_keyed stored laws P (below path step.item) type ks K o h) c
+items_apart_or_keyed stored laws P path N keys M is o h c = absurd (cc)
 
 list_completes : StoredLaw → PartLaws → (P : Pools) (limit : ℕ) (s M : Site) → item_site s ≡ Some M → IsNode s.node → HasSoundItems s.node → HaveCandidates P M → (front : Items) (m : ℕ) → AreParts P M front → are_apart (alike_at s) front ≡ true
     → HasMore P limit s (fault.items_count front) m → ListCompletes P s front m
 list_completes stored laws P limit s M is o h c front m are apart more =
     let b = bounds_of s in
     let a = (more_parts laws P s M is limit (fault.items_count front) m).0 more in
-    let r : CompletesApart P M (alike_at s) b front m = elim (items_told stored laws P s.path s.node s.keys M is o h c) [
+    let r : CompletesApart P M (alike_at s) b front m = elim (items_apart_or_keyed stored laws P s.path s.node s.keys M is o h c) [
       | inl never ↦ completes_free P limit M (alike_at s) b front m never a
       | inr K ↦ completes_apart K limit b front m are apart a
     ] in

@@ -1,4 +1,4 @@
--- The members of an object, as what stands in slots.
+-- The members of an object, as the content of slots.
 use Rattle.std.proofs.Common.{◌≡◌, ℕ, ◌+◌, List, [], ◌∷◌, true, false, Option, Some, None, refl, ap, sym, ◌∙◌, subst, inl, inr}
 use Rattle.std.specs.Str.{bytes_eq}
 use Rattle.std.specs.declared.cmp.Ordering.TheVariants.{Less}
@@ -21,7 +21,7 @@ pub record AreInSlots (P : Pools) (ss : List Slot) (ms : Members) : Type 0 where
   pub named : (k : List ℕ) (w : Data) → member_at k ms ≡ Some w → (s : Slot) × Among ss s × (s.name ≡ k) × IsPart P s.site w
   pub present : (s : Slot) → Among ss s → s.must ≡ true → member_at s.name ms ≡ None → ⊥
 
--- ---- what stands in slots
+-- ---- the content of slots
 
 in_named : (P : Pools) (ss : List Slot) (gs : List (Option Data)) → AreFillings P ss gs → (k : List ℕ) (w : Data) → member_at k (members_in ss gs) ≡ Some w → (s : Slot) × Among ss s × (s.name ≡ k) × IsPart P s.site w
 in_named P [] [] h k w is = absurd (cc)
@@ -65,9 +65,9 @@ in_nodes P (s ∷ ss) (Some v ∷ gs) h = ap (λ n. node_count v + n) (in_nodes 
 
 -- ---- and the other way round
 
--- the slots behind the first have the members whose names they have
-behind_absent : (P : Pools) (s : Slot) (ss : List Slot) (ms : Members) → AreInSlots P (s ∷ ss) ms → member_at s.name ms ≡ None → AreInSlots P ss ms
-behind_absent P s ss ms h none = record {
+-- the slots after the first have the members whose names they have
+later_absent : (P : Pools) (s : Slot) (ss : List Slot) (ms : Members) → AreInSlots P (s ∷ ss) ms → member_at s.name ms ≡ None → AreInSlots P ss ms
+later_absent P s ss ms h none = record {
   named = λ k w is.
       let r = h.named k w is in
       elim r.1 as (λ _. (t : Slot) × Among ss t × (t.name ≡ k) × IsPart P t.site w) [
@@ -77,8 +77,8 @@ behind_absent P s ss ms h none = record {
   present = λ t a. h.present t (inr a);
 }
 
-behind_present : (P : Pools) (s : Slot) (ss : List Slot) (d : Data) (ms : Members) → AreInOrder (s ∷ ss) → AreMembers (member s.name d ms) → AreInSlots P (s ∷ ss) (member s.name d ms) → AreInSlots P ss ms
-behind_present P s ss d ms o members h = record {
+later_present : (P : Pools) (s : Slot) (ss : List Slot) (d : Data) (ms : Members) → AreInOrder (s ∷ ss) → AreMembers (member s.name d ms) → AreInSlots P (s ∷ ss) (member s.name d ms) → AreInSlots P ss ms
+later_present P s ss d ms o members h = record {
   named = λ k w is.
       let past = before_each s.name ms k w members.1 members.2 is in
       let r = h.named k w (member_tail s.name d ms k w members is) in
@@ -89,7 +89,7 @@ behind_present P s ss d ms o members h = record {
   present = λ t a must none. h.present t (inr a) must (member_later t.name s.name d ms (later_name t.name s.name (o.0 t (contains ss t a))) ∙ none);
 }
 
--- the first member stands under the name of the first slot that has one
+-- the first member has the name of the first slot that is filled
 first_name : (P : Pools) (s : Slot) (ss : List Slot) (l : List ℕ) (d : Data) (ms : Members) (w : Data) → AreInOrder (s ∷ ss) → AreMembers (member l d ms) → AreInSlots P (s ∷ ss) (member l d ms) → member_at s.name (member l d ms) ≡ Some w → l ≡ s.name
 first_name P s ss l d ms w o members h is =
     let r = h.named l d (member_first l d ms) in
@@ -102,7 +102,7 @@ first_name P s ss l d ms w o members h is =
           absurd (cc)
     ]
 
--- nothing stands in the first slot
+-- the first slot is empty
 left_out : (P : Pools) (s : Slot) (ss : List Slot) (ms : Members) → AreInSlots P (s ∷ ss) ms → member_at s.name ms ≡ None → (gs : List (Option Data)) × AreFillings P ss gs × (ms ≡ members_in ss gs)
     → (gs : List (Option Data)) × AreFillings P (s ∷ ss) gs × (ms ≡ members_in (s ∷ ss) gs)
 left_out P s ss ms h none r =
@@ -124,13 +124,13 @@ same_member k l d ms ns p q = λ i. member (p i) d (q i)
 pub fill : (P : Pools) (ss : List Slot) (ms : Members) → AreInOrder ss → AreMembers ms → AreInSlots P ss ms → (gs : List (Option Data)) × AreFillings P ss gs × (ms ≡ members_in ss gs)
 fill P [] no_members o members h = ([], tt, refl)
 fill P [] (member l d ms) o members h = absurd (h.named l d (member_first l d ms)).1
-fill P (s ∷ ss) no_members o members h = left_out P s ss no_members h refl (fill P ss no_members o.1 members (behind_absent P s ss no_members h refl))
+fill P (s ∷ ss) no_members o members h = left_out P s ss no_members h refl (fill P ss no_members o.1 members (later_absent P s ss no_members h refl))
 fill P (s ∷ ss) (member l d ms) o members h = elim (option_cases (member_at s.name (member l d ms))) [
-  | inl none ↦ left_out P s ss (member l d ms) h none (fill P ss (member l d ms) o.1 members (behind_absent P s ss (member l d ms) h none))
+  | inl none ↦ left_out P s ss (member l d ms) h none (fill P ss (member l d ms) o.1 members (later_absent P s ss (member l d ms) h none))
   | inr w ↦
       let e = first_name P s ss l d ms w.0 o members h w.1 in
       let members' : AreMembers (member s.name d ms) = rw e at members in
       let h' : AreInSlots P (s ∷ ss) (member s.name d ms) = rw e at h in
-      let r = fill P ss ms o.1 members'.2 (behind_present P s ss d ms o members' h') in
+      let r = fill P ss ms o.1 members'.2 (later_present P s ss d ms o members' h') in
       (Some d ∷ r.0, (first_part P s ss d ms o h', r.1), same_member l s.name d ms (members_in ss r.0) e r.2)
 ]

@@ -38,16 +38,16 @@ abbrev IsLeast : (ℕ → Type 0) → Option ℕ → Type 0
 IsLeast Holds None = (i : ℕ) → Holds i → ⊥
 IsLeast Holds (Some n) = Holds n × ((i : ℕ) → Holds i → n ≤ i)
 
-behind : (test : Data → Bool) (d : Data) (ds : Items) → test d ≡ true → (i : ℕ) → IsOther test (item d ds) i → (j : ℕ) × (i ≡ suc j) × IsOther test ds j
-behind test d ds passes zero o = let same = same_Some d o.value o.at in let fails = o.fails in cc
-behind test d ds passes (suc j) o = (j, refl, record { value = o.value; at = o.at; fails = o.fails })
+later_item : (test : Data → Bool) (d : Data) (ds : Items) → test d ≡ true → (i : ℕ) → IsOther test (item d ds) i → (j : ℕ) × (i ≡ suc j) × IsOther test ds j
+later_item test d ds passes zero o = let same = same_Some d o.value o.at in let fails = o.fails in cc
+later_item test d ds passes (suc j) o = (j, refl, record { value = o.value; at = o.at; fails = o.fails })
 
 item_step : (test : Data → Bool) (d : Data) (ds : Items) (b : Bool) (o : Option ℕ) → test d ≡ b → IsLeast (IsOther test ds) o
     → IsLeast (IsOther test (item d ds)) (if b then option_map suc o else Some 0)
 item_step test d ds false o fails h = (record { value = d; at = refl; fails = fails }, λ i _. omega arith)
-item_step test d ds true None passes none = λ i o. let rest = behind test d ds passes i o in none rest.0 rest.2
+item_step test d ds true None passes none = λ i o. let rest = later_item test d ds passes i o in none rest.0 rest.2
 item_step test d ds true (Some n) passes h =
-    (record { value = h.0.value; at = h.0.at; fails = h.0.fails }, λ i o. let rest = behind test d ds passes i o in omega (arith, rest.1, h.1 rest.0 rest.2))
+    (record { value = h.0.value; at = h.0.at; fails = h.0.fails }, λ i o. let rest = later_item test d ds passes i o in omega (arith, rest.1, h.1 rest.0 rest.2))
 
 other_item_least : (test : Data → Bool) (ds : Items) → IsLeast (IsOther test ds) (other_item test ds)
 other_item_least test no_items = λ i o. let at = o.at in cc
@@ -85,7 +85,7 @@ record IsBelow (Holds : List ℕ → Data → Path → Type 0) (ms : Members) (e
   pub at : member_at key ms ≡ Some value
   pub holds : Holds key value rest
 
--- below the first member, or below one of those behind it
+-- below the first member, or below a later one
 parted : (Holds : List ℕ → Data → Path → Type 0) (k : List ℕ) (d : Data) (ms : Members) (e : Path) → IsBelow Holds (member k d ms) e
     → ((path : Path) × (e ≡ name k ∷ path) × Holds k d path) ⊎ IsBelow Holds ms e
 parted Holds k d ms e b = elim (bool_cases (bytes_eq b.key k)) [

@@ -30,7 +30,7 @@ most_cut : (o : Option ℕ) (n m : ℕ) → (nat_lt (most_or o n) m ≡ false) �
 most_cut None n m = ((λ h. (refl, grind (arith, nat_tests))), λ h. grind (arith, nat_tests))
 most_cut (Some k) n m = ((λ h. (grind (arith, nat_tests), grind (arith, nat_tests))), λ h. grind (arith, nat_tests))
 
--- ---- items one after another
+-- ---- items one after the other
 
 then_none : (ds : Items) → items_then ds no_items ≡ ds
 then_none no_items = refl
@@ -48,7 +48,7 @@ then_count (item d ds) es = omega (arith, then_count ds es)
 abbrev pub CompletesApart : Pools → Site → (Data → Data → Bool) → Bounds → Items → ℕ → Type 0
 CompletesApart P M alike b front m = (back : Items) × (AreParts P M back × (are_apart alike (items_then front back) ≡ true) × IsWithin b (fault.items_count (items_then front back)) × (items_count back ≡ m))
 
--- ---- where no item is alike another
+-- ---- where no two items are alike
 
 none_alike : (alike : Data → Data → Bool) → ((v w : Data) → alike v w ≡ false) → (d : Data) (ds : Items) → any_item (alike d) ds ≡ false
 none_alike alike never d no_items = refl
@@ -106,8 +106,8 @@ module _ {P : Pools} {M : Site} {alike : Data → Data → Bool} (K : Keyed P M 
   any_alike d no_items p h = ((λ t. absurd (cc)), λ a. absurd a)
   any_alike d (item e ds) p h =
       let r = any_alike d ds p h.1 in (
-        (λ t. elim (or_cases (alike d e) (any_item (alike d) ds) t) [ inl here ↦ inl (sym (K.tells d e p h.0 here)) | inr later ↦ inr (r.0 later) ]),
-        λ a. elim a [ inl same ↦ or_left (alike d e) (any_item (alike d) ds) (K.told d e p h.0 (sym same)) | inr m ↦ or_right (alike d e) (any_item (alike d) ds) (r.1 m) ],
+        (λ t. elim (or_cases (alike d e) (any_item (alike d) ds) t) [ inl here ↦ inl (sym (K.alike_same_key d e p h.0 here)) | inr later ↦ inr (r.0 later) ]),
+        λ a. elim a [ inl same ↦ or_left (alike d e) (any_item (alike d) ds) (K.same_key_alike d e p h.0 (sym same)) | inr m ↦ or_right (alike d e) (any_item (alike d) ds) (r.1 m) ],
       )
 
   keys_apart : (ds : Items) → AreParts P M ds → are_apart alike ds ≡ true → IsApart (item_keys K.key ds)
@@ -130,10 +130,10 @@ module _ {P : Pools} {M : Site} {alike : Data → Data → Bool} (K : Keyed P M 
   one_apart no_items back w f h p a free = rw (false_from_ne_true (any_item (alike w) back) (λ t. free ((any_alike w back p h).0 t))) a
   one_apart (item d front) back w f h p a free =
       let these = and_parts (not (any_item (alike d) (items_then front back))) (are_apart alike (items_then front back)) a in
-      let other = false_from_ne_true (alike d w) (λ t. free (inl (K.tells d w f.0 p t))) in
+      let other = false_from_ne_true (alike d w) (λ t. free (inl (K.alike_same_key d w f.0 p t))) in
       rw (none_passes (alike d) front back w (not-true (any_item (alike d) (items_then front back)) these.0) other) (one_apart front back w f.1 h p these.1 (λ m. free (inr m)))
 
-  -- items of the same nodes behind others, no two alike
+  -- items of the same nodes after others, no two alike
   record Rekeyed (front ds : Items) : Type 0 where
     pub items : Items
     pub are : AreParts P M items

@@ -63,7 +63,7 @@ above p (suc x) top l =
     let b : top * suc x ≤ p * suc x = mul-le-mul_right (suc x) (let h : top ≤ p = omega arith in h) in
     omega (arith, a, b)
 
--- a product that stays at its greatest
+-- a product that saturates
 capped : (p x top : ℕ) → min (min p top * x) top ≡ min (p * x) top
 capped p x top = elim (cases_lt top p) as (λ _. min (min p top * x) top ≡ min (p * x) top) [
   | inr l ↦ let e : min p top ≡ p = omega arith in rw e refl

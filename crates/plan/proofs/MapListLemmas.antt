@@ -36,7 +36,8 @@ use Rattle.plan.proofs.ApartLemmas.{map_same, same_map, among_filter, filter_amo
 use Rattle.plan.proofs.TupleLemmas.{same_tree, all_tuples}
 use Rattle.plan.proofs.KeyedLemmas.{at_most}
 use Rattle.plan.proofs.FillingLemmas.{in_slots, in_nodes}
-use Rattle.plan.proofs.PartLemmas.{StoredLaw, slot_of_field, field_of_slot, fields_in_order, among_name, name_among}
+use Rattle.plan.specs.Internal.Laws.{StoredLaw}
+use Rattle.plan.proofs.PartLemmas.{slot_of_field, field_of_slot, fields_in_order, among_name, name_among}
 use Rattle.plan.proofs.SetLemmas.{plain_leaf, scalar_one, scalar_no_null}
 
 -- ---- the slots of keys
@@ -64,7 +65,7 @@ key_field fs [] h k a = absurd a
 key_field fs (l ∷ ls) h k (inl e) = subst (IsKey fs) e h.0
 key_field fs (l ∷ ls) h k (inr a) = key_field fs ls h.2 k a
 
--- under a key something must stand, and it is a plain scalar
+-- a key has to have a value, which is a plain scalar
 pub key_slot : (fs : Fields) (path : List ℕ) (keys names : List (List ℕ)) → AreOrdered fs → AreKeys fs keys → (s : Slot) → Among (field_slots path keys names fs) s → s.key ≡ true → Among keys s.name × (s.must ≡ true) × IsPlainScalar s.site.node
 key_slot fs path keys names o h s a key =
     let among = among_name s.name keys (sym (slot_key path keys names fs s a) ∙ key) in
@@ -86,8 +87,8 @@ have_keys stored P fs path keys names o h = record {
 
 -- ---- the key of an object
 
-behind : (s : Slot) (ss : List Slot) (v : Data) (ms : Members) → AreInOrder (s ∷ ss) → map (under (member s.name v ms)) (filter is_key ss) ≡ map (under ms) (filter is_key ss)
-behind s ss v ms o = map_same (under (member s.name v ms)) (under ms) (filter is_key ss) (λ t a. ap (λ w. unwrap_or w tree.null) (member_later t.name s.name v ms (later_name t.name s.name (o.0 t (contains ss t (among_filter is_key ss t a).0)))))
+keys_after : (s : Slot) (ss : List Slot) (v : Data) (ms : Members) → AreInOrder (s ∷ ss) → map (under (member s.name v ms)) (filter is_key ss) ≡ map (under ms) (filter is_key ss)
+keys_after s ss v ms o = map_same (under (member s.name v ms)) (under ms) (filter is_key ss) (λ t a. ap (λ w. unwrap_or w tree.null) (member_later t.name s.name v ms (later_name t.name s.name (o.0 t (contains ss t (among_filter is_key ss t a).0)))))
 
 key_other : (s : Slot) (ss : List Slot) (ms : Members) → s.key ≡ false → key_under (s ∷ ss) (tree.object ms) ≡ key_under ss (tree.object ms)
 key_other s ss ms other = rw other refl
@@ -103,8 +104,8 @@ known_key P (s ∷ ss) (Some v ∷ gs) o q h =
     let r = known_key P ss gs o.1 (later_keys P s ss q) h.1 in
     let ms = members_in ss gs in
     elim (cases_Bool s.key) [
-      | inl key ↦ rw (key, member_first s.name v ms, behind s ss v ms o) (h.0, r)
-      | inr other ↦ rw (other, behind s ss v ms o) r
+      | inl key ↦ rw (key, member_first s.name v ms, keys_after s ss v ms o) (h.0, r)
+      | inr other ↦ rw (other, keys_after s ss v ms o) r
     ]
 
 -- the slots with another key, as many nodes, and the same names in them
@@ -124,7 +125,7 @@ key_given P s ss v gs (x ∷ k) o key one p t rest =
     record {
       fillings = Some x ∷ r.fillings;
       are = (t.0, r.are);
-      key_is = rw (key, member_first s.name x ms, behind s ss x ms o, r.key_is) refl;
+      key_is = rw (key, member_first s.name x ms, keys_after s ss x ms o, r.key_is) refl;
       nodes_are = omega (arith, one x t.0, one v p, r.nodes_are);
       state_is = λ x. r.state_is (filled s.bit x);
     }
@@ -144,7 +145,7 @@ refilled P (s ∷ ss) (Some v ∷ gs) k o q h t = elim (cases_Bool s.key) [
   | inl key ↦ key_given P s ss v gs k o key (own_key P s ss q key).one h.0 (rw key at t) (λ l is. refilled P ss gs l o.1 (later_keys P s ss q) h.1 is)
   | inr other ↦
       let r = refilled P ss gs k o.1 (later_keys P s ss q) h.1 (rw other at t) in
-      record { fillings = Some v ∷ r.fillings; are = (h.0, r.are); key_is = key_other s ss (member s.name v (members_in ss r.fillings)) other ∙ behind s ss v (members_in ss r.fillings) o ∙ r.key_is; nodes_are = ap (λ n. node_count v + n) r.nodes_are; state_is = λ x. r.state_is (filled s.bit x) }
+      record { fillings = Some v ∷ r.fillings; are = (h.0, r.are); key_is = key_other s ss (member s.name v (members_in ss r.fillings)) other ∙ keys_after s ss v (members_in ss r.fillings) o ∙ r.key_is; nodes_are = ap (λ n. node_count v + n) r.nodes_are; state_is = λ x. r.state_is (filled s.bit x) }
 ]
 
 -- ---- objects that agree on all keys
@@ -158,16 +159,16 @@ agree_decides : (ms ns : Members) (keys : List (List ℕ)) → Decides (agree ke
 agree_decides ms ns keys = Decides-by_and (λ k. agree_at (member_at k ms) (member_at k ns)) (λ k. member_at k ms ≡ member_at k ns) (λ ks. agree ks ms ns) (λ k. same_at (member_at k ms) (member_at k ns)) refl (λ k ks. refl) keys
 
 module _ {P : Pools} {keys : List (List ℕ)} {ss : List Slot} (h : HaveKeys P keys ss) where
-  key_tells : (ms ns : Members) → agree keys ms ns ≡ true → key_under ss (tree.object ms) ≡ key_under ss (tree.object ns)
-  key_tells ms ns e = map_same (under ms) (under ns) (filter is_key ss) (λ s a.
+  agree_same_key : (ms ns : Members) → agree keys ms ns ≡ true → key_under ss (tree.object ms) ≡ key_under ss (tree.object ns)
+  agree_same_key ms ns e = map_same (under ms) (under ns) (filter is_key ss) (λ s a.
       let f = among_filter is_key ss s a in
       ap (λ w. unwrap_or w tree.null) (All-contains (λ k. member_at k ms ≡ member_at k ns) keys s.name ((agree_decides ms ns keys).0 e) (contains keys s.name (h.named s f.0 f.1))))
 
   found : (gs : List (Option Data)) → AreFillings P ss gs → (s : Slot) → Among ss s → s.key ≡ true → (v : Data) × (member_at s.name (members_in ss gs) ≡ Some v)
   found gs are s a key = elim (option_cases (member_at s.name (members_in ss gs))) [ inl none ↦ absurd ((in_slots P ss gs h.order are).present s a (h.are s (contains ss s a) key).must none) | inr v ↦ v ]
 
-  key_told : (gs hs : List (Option Data)) → AreFillings P ss gs → AreFillings P ss hs → key_under ss (tree.object (members_in ss gs)) ≡ key_under ss (tree.object (members_in ss hs)) → agree keys (members_in ss gs) (members_in ss hs) ≡ true
-  key_told gs hs g i e =
+  same_key_agree : (gs hs : List (Option Data)) → AreFillings P ss gs → AreFillings P ss hs → key_under ss (tree.object (members_in ss gs)) ≡ key_under ss (tree.object (members_in ss hs)) → agree keys (members_in ss gs) (members_in ss hs) ≡ true
+  same_key_agree gs hs g i e =
       let ms = members_in ss gs in
       let ns = members_in ss hs in
       (agree_decides ms ns keys).1 (each_of (λ k. member_at k ms ≡ member_at k ns) keys (λ k a.
@@ -189,12 +190,12 @@ module _ (P : Pools) (s : Site) (row : (v : Data) → IsPart P s v ↔ IsObjectP
       let part = (row w).1 (record { fillings = r.fillings; is = refl; are = r.are; ends = subst (MayEnd (ending_of s)) (sym (r.state_is nothing)) ends }) in
       (w, (part, r.key_is, ap (λ m. 1 + m) (in_nodes P (slots P s) r.fillings r.are ∙ r.nodes_are ∙ sym (in_nodes P (slots P s) gs are))))
 
-  pub objects_told : (v w : Data) → IsPart P s v → IsPart P s w → (are_alike Map keys v w ≡ true) ↔ (key_under (slots P s) v ≡ key_under (slots P s) w)
-  objects_told v w p r =
+  pub objects_alike : (v w : Data) → IsPart P s v → IsPart P s w → (are_alike Map keys v w ≡ true) ↔ (key_under (slots P s) v ≡ key_under (slots P s) w)
+  objects_alike v w p r =
       let x = (row v).0 p in
       let y = (row w).0 r in (
-        (λ e. rw (x.is, y.is) (key_tells h (members_in (slots P s) x.fillings) (members_in (slots P s) y.fillings) (rw (x.is, y.is) at e))),
-        λ e. rw (x.is, y.is) (key_told h x.fillings y.fillings x.are y.are (rw (x.is, y.is) at e)),
+        (λ e. rw (x.is, y.is) (agree_same_key h (members_in (slots P s) x.fillings) (members_in (slots P s) y.fillings) (rw (x.is, y.is) at e))),
+        λ e. rw (x.is, y.is) (same_key_agree h x.fillings y.fillings x.are y.are (rw (x.is, y.is) at e)),
       )
 
   objects_keyed : (counts : List ℕ) → AreCounts P (filter is_key (slots P s)) counts → (K : Keyed P s (are_alike Map keys)) × (length K.keys ≡ product counts)
@@ -206,30 +207,30 @@ module _ (P : Pools) (s : Site) (row : (v : Data) → IsPart P s v ↔ IsObjectP
           apart = all.1.0.apart;
           known = λ v p. let x = (row v).0 p in (all.1.0.each (key_under (slots P s) v)).1 (rw x.is (known_key P (slots P s) x.fillings h.order h.are x.are));
           given = λ v k p a. let x = (row v).0 p in rw x.is (object_given x.fillings k x.are x.ends ((all.1.0.each k).0 a));
-          tells = λ v w p r. (objects_told v w p r).0;
-          told = λ v w p r. (objects_told v w p r).1;
+          alike_same_key = λ v w p r. (objects_alike v w p r).0;
+          same_key_alike = λ v w p r. (objects_alike v w p r).1;
         },
         all.1.1,
       )
 
--- each part of an object that takes no null is an object
+-- each part at an object that does not accept null is an object
 only_objects : PartLaws → (P : Pools) (s : Site) → IsNode s.node → sort_of s ≡ Row → admits_null s ≡ false → (v : Data) → IsPart P s v ↔ IsObjectPart P s v
 only_objects laws P s o row never v = let r = laws.row P s v o row in ((λ p. elim (r.0 p) [ inl null ↦ let no = sym null.1 ∙ never in absurd (cc) | inr x ↦ x ]), λ x. r.1 (inr x))
 
 -- the items of a map list are alike exactly where they have the same under all keys
-pub map_told : StoredLaw → PartLaws → (P : Pools) (path : List ℕ) (own : List (List ℕ)) (n : Bool) (t : Option (List ℕ)) (N : Node) (keys : List (List ℕ)) (b : Bounds) → IsNode N → HasKeys N keys
+pub map_alike : StoredLaw → PartLaws → (P : Pools) (path : List ℕ) (own : List (List ℕ)) (n : Bool) (t : Option (List ℕ)) (N : Node) (keys : List (List ℕ)) (b : Bounds) → IsNode N → HasKeys N keys
     → AreMapItems P (record { node = node n t (list N Map keys b); keys = own; path = path }) (record { node = N; keys = keys; path = below path step.item })
-map_told stored laws P path own n t (node m u (object fs preserves type c cs)) keys b o h =
+map_alike stored laws P path own n t (node m u (object fs preserves type c cs)) keys b o h =
     let s : Site = record { node = node m u (object fs preserves type c cs); keys = keys; path = below path step.item } in
     let law = only_objects laws P s o refl h.0 in
     let have = have_keys stored P fs (below path step.item) keys (named cs) o h.2 in
     record {
       row = refl;
       never_null = h.0;
-      alike = objects_told P s law keys have;
+      alike = objects_alike P s law keys have;
       most = λ ds counts are apart count. let k = objects_keyed P s law keys have counts count in at_most k.0 (product counts) k.1 ds are apart;
     }
-map_told stored laws P path own n t N keys b o h = absurd h
+map_alike stored laws P path own n t N keys b o h = absurd h
 
 pub map_keyed : StoredLaw → PartLaws → (P : Pools) (path : List ℕ) (N : Node) (keys : List (List ℕ)) (counts : List ℕ) → IsNode N → HasKeys N keys → AreCounts P (filter is_key (slots P (record { node = N; keys = keys; path = path }))) counts
     → (K : Keyed P (record { node = N; keys = keys; path = path }) (are_alike Map keys)) × (length K.keys ≡ product counts)

@@ -22,7 +22,7 @@ use Rattle.schema.specs.declared.node.ListType.{ListType}
 use Rattle.stored.specs.Objects.Fault as fault
 use Rattle.stored.specs.Objects.Becomes.{IsStored}
 use Rattle.stored.specs.Objects.Tests.{has_member, meets_presence}
-use Rattle.stored.specs.Objects.StoredByParts.{StoredByParts, IsStoredField, are_apart, IsWithin}
+use Rattle.stored.specs.Objects.StoredByParts.{IsStoredField, are_apart, IsWithin}
 use Rattle.plan.specs.Pools.Pools.{Pools}
 use Rattle.explain.specs.Paths.FieldPath.{FieldStep, place_step, place_of}
 use Rattle.explain.specs.Paths.FieldPath as step
@@ -36,16 +36,12 @@ use Rattle.plan.specs.Samples.RuleOfParts.{AreParts, IsNullPart}
 use Rattle.plan.specs.Samples.Candidates.{sort_at}
 use Rattle.plan.specs.Samples.Keys.{AreInOrder}
 use Rattle.plan.specs.Samples.Sizes.{ending_of}
+use Rattle.plan.specs.Internal.Laws.{StoredLaw}
 use Rattle.plan.specs.Internal.PartLaws.{IsObjectPart, IsItemsPart, PartLaws}
 use Rattle.plan.specs.declared.sort.Sort.TheVariants.{Leaf, Row}
 use Rattle.plan.proofs.FillingLemmas.{AreInSlots, in_members, in_slots, fill}
 use Rattle.plan.proofs.NameLemmas.{AreNamesInOrder, in_order_rising, in_order_has, in_order_only}
 use Rattle.plan.proofs.SeenLemmas.{HaveBits, field_bits, value_bits, ends_in}
-
--- ---- what the crates below say
-
-abbrev pub StoredLaw : Type 0
-StoredLaw = (N : Node) (v : Data) → IsStored N v ↔ StoredByParts N v
 
 -- ---- over the pools, one level at a time
 
@@ -65,9 +61,9 @@ over_up P path N v here parts [] [] M w after there is = rw (← same_Some N M t
 over_up P path N v here parts [] (t ∷ p) M w after there is = absurd after
 over_up P path N v here parts (s ∷ rest) [] M w after there is = absurd after
 over_up P path N v here parts (s ∷ rest) (t ∷ p) M w after there is =
-    option_and_then_some (λ K. node_at K (place_of p)) (node_below N (place_step t)) M there (λ K leads there_behind.
-    option_and_then_some (λ u. part_at u rest) (part_by v s) w is (λ u found is_behind.
-    subst (λ l. is_over_here P l M w ≡ true) (append_assoc path (step_text t) (path_text p)) (parts s t K u after.0 leads found rest p M w after.1 there_behind is_behind)))
+    option_and_then_some (λ K. node_at K (place_of p)) (node_below N (place_step t)) M there (λ K leads there_rest.
+    option_and_then_some (λ u. part_at u rest) (part_by v s) w is (λ u found is_rest.
+    subst (λ l. is_over_here P l M w ≡ true) (append_assoc path (step_text t) (path_text p)) (parts s t K u after.0 leads found rest p M w after.1 there_rest is_rest)))
 
 -- ---- names
 
@@ -168,7 +164,7 @@ object_down stored P n t fs preserves type b cs path keys ms o h =
       parts.0,
     )
 
--- what stands under the name of a field is a part of its node
+-- the value under the name of a field is a part of its node
 field_part : (P : Pools) (path : List ℕ) (keys names : List (List ℕ)) (fs : Fields) (ms : Members) → AreOrdered fs → AreInSlots P (field_slots path keys names fs) ms → (k : List ℕ) (w : Data) → member_at k ms ≡ Some w → (f : Declared) × ((field_at k fs ≡ Some f) × IsPart P (plain (below path (step.field k)) f.node) w)
 field_part P path keys names fs ms o h k w is =
     let s = h.named k w is in
@@ -263,7 +259,7 @@ values_in_order path N ks = value_slots_in_order path N (in_order ks) (in_order_
 abbrev MapSlots : Pools → List ℕ → Node → List Slot
 MapSlots P path M = map (value_slot path M) (in_order P.names)
 
--- what stands under a name of the pools is a part of the site of values
+-- the value under a name of the pools is a part of the site of values
 value_part : (P : Pools) (path : List ℕ) (M : Node) (ms : Members) → AreInSlots P (MapSlots P path M) ms → (k : List ℕ) (w : Data) → member_at k ms ≡ Some w → (is_among k P.names ≡ true) × IsPart P (plain (below path step.value) M) w
 value_part P path M ms h k w is =
     let s = h.named k w is in
@@ -352,7 +348,7 @@ list_up stored P path own n t K names type keys b ds h apart within = record {
 null_part : (P : Pools) (s : Site) → IsStored s.node tree.null → is_over_here P s.path s.node tree.null ≡ true → IsPart P s tree.null
 null_part P s here over = record { tree = tt; stored = here; over = over_up P s.path s.node tree.null over (λ s t M w follows leads found. absurd (cc)) }
 
--- an object in whose slots parts stand
+-- an object whose slots hold parts
 filled_object : (P : Pools) (s : Site) (ms : Members) → AreInOrder (slots P s) → HaveBits (named (ending_of s).asked) (slots P s) → AreMembers ms → AreInSlots P (slots P s) ms
     → IsWithin (ending_of s).bounds (fault.members_count ms) × (meets_presence (ending_of s).asked (has_member ms) ≡ true) → IsObjectPart P s (tree.object ms)
 filled_object P s ms o bits members h ends =

@@ -8,7 +8,7 @@ use Rattle.schema.specs.Nodes.Node as nodes
 use Rattle.plan.specs.Pools.Pools.{Pools}
 use Rattle.plan.specs.Samples.Question.{Question}
 use Rattle.plan.specs.Samples.Sites.{Site, no_site, sites_of, item_site, item_site_at, Slot, slots, slots_at, field_slots, value_slot}
-use Rattle.plan.specs.Samples.Handed.{IsSlotAt}
+use Rattle.plan.specs.Samples.ByPlace.{IsSlotAt}
 use Rattle.plan.specs.declared.plan.Slot.{Slot as PlanSlot}
 use Rattle.plan.specs.declared.arena.SlotEntry.{SlotEntry}
 use Rattle.plan.specs.Sets.{IsEmptyFrom}
@@ -29,7 +29,7 @@ use Rattle.plan.specs.declared.leaf.Leaf.{Leaf}
 use Rattle.plan.specs.declared.arena.ListEntry.{ListEntry}
 use Rattle.plan.specs.declared.arena.Content.TheVariants as content
 use Rattle.plan.specs.declared.arena.RowEntry.{RowEntry}
-use Rattle.plan.specs.Internal.Arena.{Stand, IsEntry, IsSlot, AreSlots, name_of, IsRow, IsList, IsRight, AreRight}
+use Rattle.plan.specs.Internal.Arena.{AreSitesFrom, IsEntry, IsSlot, AreSlots, name_of, IsRow, IsList, IsRight, AreRight}
 use Rattle.plan.specs.Samples.Sites.{site_at}
 use Rattle.plan.specs.Internal.Values.{AreValues}
 use Rattle.plan.specs.Internal.Building.{IsSound, IsBuilt}
@@ -44,7 +44,7 @@ use Rattle.plan.proofs.RowLemmas.{shape_at, width_at, table_at}
 use Rattle.plan.proofs.SeenLemmas.{low_up_to}
 use Rattle.plan.proofs.ListLemmas.{count_nodes}
 
--- the entry of a number, in the words of the plan's view
+-- the entry of a number, in terms of the plan's view
 pub entry_right : {Z : Type 0} (holds : Z → ℕ → Type 0) (BITS : ℕ) (root : Node) (P : Pools) (limit : ℕ) (v : Values) (es : List (Entry Z)) (first : ℕ) (q : Question) (i : ℕ) (e : Entry Z)
     → IsPlan holds BITS root P limit v es first → record { root = root; pools = P; limit = limit } ≡ q → i < length (sites_of q.root) → IsEntry es i e → IsRight holds q.limit q.pools v (sites_of q.root) i e
 entry_right {Z = Z} holds BITS root P limit v es first q i e plan view within is =
@@ -125,7 +125,7 @@ more_ends limit P s t m l h = let c = count_nodes h.items in omega (arith, h.fit
 pub none_more : (limit : ℕ) (P : Pools) (s : Site) (t : ℕ) (S : ℕ → Type 0) → limit ≤ t → ((n : ℕ) → S n → ⊥) → IsUpTo limit S (HasMore P limit s t)
 none_more limit P s t S l none n = ((λ held. absurd (none n held)), λ h. absurd (more_ends limit P s t n l h.1))
 
--- a node of another sort is none of lists
+-- a node of another sort is not that of a list
 pub not_list : (N : Node) → (sort_at N ≡ ListSort → ⊥) → distinct_at N ≡ Free
 not_list (node n t (scalar kind cs)) h = refl
 not_list (node n t (object fs preserves type b cs)) h = refl
@@ -168,9 +168,9 @@ pub no_leaf : {Z : Type 0} (holds : Z → ℕ → Type 0) (limit : ℕ) (P : Poo
 no_leaf holds limit P v sites i e right (inl r) leaf = let s = row_sort holds limit P v sites i e r.0 right r.1 in let no = sym s ∙ leaf in cc
 no_leaf holds limit P v sites i e right (inr l) leaf = let s = list_sort holds limit P v sites i e l.0 right l.1 in let no = sym s ∙ leaf in cc
 
--- the sites stand at their own numbers
-pub stands_itself : (xs : List Site) → Stand xs 0 xs
-stands_itself xs j s l =
+-- the sites have their own numbers
+pub own_sites : (xs : List Site) → AreSitesFrom xs 0 xs
+own_sites xs j s l =
     let e : 0 + j ≡ j = omega arith in
     rw e (get_or_default xs j no_site s l)
 
@@ -182,10 +182,10 @@ plan_made holds BITS root P limit v es n within room values sound built = record
   values = values;
   count = omega (arith, built.count);
   last = built.last;
-  right = built.right (sites_of root) values sound (stands_itself (sites_of root)) (λ i e l. absurd (omega arith));
+  right = built.right (sites_of root) values sound (own_sites (sites_of root)) (λ i e l. absurd (omega arith));
 }
 
--- the number of candidates of a leaf, in the words of the plan's view
+-- the number of candidates of a leaf, in terms of the plan's view
 pub count_right : {Z : Type 0} (holds : Z → ℕ → Type 0) (BITS : ℕ) (root : Node) (P : Pools) (limit : ℕ) (v : Values) (es : List (Entry Z)) (first : ℕ) (q : Question) (i n : ℕ)
     → IsPlan holds BITS root P limit v es first → record { root = root; pools = P; limit = limit } ≡ q
     → ((Q : Pools) (sites : List Site) → AreRight holds limit Q v sites es → i < length es → sort_of (site_at sites i) ≡ LeafSort → HasCount Q (site_at sites i) n)

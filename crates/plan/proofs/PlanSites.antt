@@ -27,10 +27,10 @@ use Rattle.plan.specs.declared.arena.Content.TheVariants as content
 use Rattle.plan.specs.declared.arena.Entry.{Entry}
 use Rattle.plan.proofs.ApartLemmas.{among_filter}
 use Rattle.plan.proofs.DeadEndLemmas.{HasCandidates, HaveCandidates, counts, rule_of_parts, no_dead_end}
-use Rattle.plan.proofs.PartLemmas.{StoredLaw}
+use Rattle.plan.specs.Internal.Laws.{StoredLaw, SchemaLaws}
 use Rattle.plan.proofs.PlanLemmas.{item_sort}
 use Rattle.plan.proofs.SoundPartLemmas.{sound_parts}
-use Rattle.plan.proofs.SoundLemmas.{SchemaLaws, IsSoundSite, sites_sound, sound_here}
+use Rattle.plan.proofs.SoundLemmas.{IsSoundSite, sites_sound, sound_here}
 
 slot_entry : (names : List (List ℕ)) (sites : List Site) (i : ℕ) (es : List SlotEntry) (ss : List Slot) → AreSlots names sites i es ss → (s : Slot) → Among ss s → (e : SlotEntry) × IsSlot names sites i e s
 slot_entry names sites i [] [] h s a = absurd a
@@ -71,7 +71,7 @@ module _ {Z : Type 0} (holds : Z → ℕ → Type 0) (limit : ℕ) (P : Pools) (
           below = λ row t a. let j = k.slot row t a in subst (HasCandidates P) j.1.1 (known_at j.0 (let below = j.1.0 in omega arith)).leaf;
         })
 
--- at each site of a plan, in the words of its view
+-- at each site of a plan, in terms of its view
 pub plan_rules : StoredLaw → PartLaws → SchemaLaws → {Z : Type 0} (holds : Z → ℕ → Type 0) (BITS : ℕ) (root : Node) (P : Pools) (limit : ℕ) (v : Values) (es : List (Entry Z)) (first : ℕ) (q : Question)
     → IsSchema root → IsPlan holds BITS root P limit v es first → record { root = root; pools = P; limit = limit } ≡ q → (s : Site) → Contains (sites_of q.root) s → RuleOfParts q.pools q.limit s × NoDeadEnd q.pools q.limit s
 plan_rules stored laws schema_laws holds BITS root P limit v es first q schema plan view =

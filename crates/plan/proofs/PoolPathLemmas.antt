@@ -49,20 +49,20 @@ AreGood Good ms = (text : List ℕ) → IsNamed ms text → Good text
 abbrev pub IsFirstBad : (List ℕ → Type 0) → Members → List ℕ → Type 0
 IsFirstBad Good ms text = (IsNamed ms text × (Good text → ⊥)) × ((other : List ℕ) → IsNamed ms other × (Good other → ⊥) → text_cmp other text ≢ Less)
 
--- what is said of the rest holds of all
+-- what holds of the rest holds of all
 pub record IsAsRest (Good : List ℕ → Type 0) (rest all : Members) : Type 0 where
   pub ordered : AreMembers rest
   pub good : AreGood Good rest → AreGood Good all
   pub bad : (text : List ℕ) → IsFirstBad Good rest text → IsFirstBad Good all text
 
-named_behind : (k : List ℕ) (d : Data) (ms : Members) (text : List ℕ) → IsNamed (member k d ms) text → (text ≡ k) ⊎ IsNamed ms text
-named_behind k d ms text n = elim (bool_cases (bytes_eq text k)) [
+named_cases : (k : List ℕ) (d : Data) (ms : Members) (text : List ℕ) → IsNamed (member k d ms) text → (text ≡ k) ⊎ IsNamed ms text
+named_cases k d ms text n = elim (bool_cases (bytes_eq text k)) [
   | inl t ↦ inl (same_name text k t)
   | inr f ↦ inr (n.0, sym (member_later text k d ms f) ∙ n.1)
 ]
 
 good_passed : (Good : List ℕ → Type 0) (k : List ℕ) (d : Data) (ms : Members) → Good k → AreGood Good ms → AreGood Good (member k d ms)
-good_passed Good k d ms here good text n = elim (named_behind k d ms text n) [
+good_passed Good k d ms here good text n = elim (named_cases k d ms text n) [
   | inl same ↦ subst Good (sym same) here
   | inr later ↦ good text later
 ]
@@ -71,7 +71,7 @@ bad_passed : (Good : List ℕ → Type 0) (k : List ℕ) (d : Data) (ms : Member
     → IsFirstBad Good (member k d ms) text
 bad_passed Good k d ms o here text b = (
   ((b.0.0.0, member_tail k d ms text b.0.0.0 o b.0.0.1), b.0.1),
-  λ other bad. elim (named_behind k d ms other bad.0) [
+  λ other bad. elim (named_cases k d ms other bad.0) [
     | inl same ↦ absurd (bad.1 (subst Good (sym same) here))
     | inr later ↦ b.1 other (later, bad.1)
   ],
@@ -87,7 +87,7 @@ rest_passed Good k d rest all r here = record {
 bad_here : (Good : List ℕ → Type 0) (k : List ℕ) (d : Data) (ms : Members) → AreMembers (member k d ms) → (Good k → ⊥) → IsFirstBad Good (member k d ms) k
 bad_here Good k d ms o bad = (
   ((d, member_first k d ms), bad),
-  λ other b. elim (named_behind k d ms other b.0) [
+  λ other b. elim (named_cases k d ms other b.0) [
     | inl same ↦ not_itself other k same
     | inr later ↦ λ less. not_itself k k refl (nat_list_cmp_total.trans k other k (before_each k ms other later.0 o.1 o.2 later.1) less)
   ],

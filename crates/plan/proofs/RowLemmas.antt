@@ -125,17 +125,17 @@ tables_first holds limit e P ss table here =
     let z : length ss - 0 ≡ length ss = omega arith in
     tables_more holds limit e P ss [] table (λ k d l. absurd (omega arith)) (rw (z, drop_all ss) here)
 
--- the table of the next place, from that behind it
-pub tables_next : {Z : Type 0} (holds : Z → ℕ → Type 0) (limit : ℕ) (e : Ending) (P : Pools) (cs : List (Choice Z)) (ss : List Slot) (tables : List (Vec (Vec Z Global) Global)) (table behind : Vec (Vec Z Global) Global) (choice : Choice Z) (done i : ℕ)
-    → AreChoices holds limit P cs ss → length tables ≡ done + 1 → i + done + 1 ≡ length cs → AreTables holds limit e P ss tables → choice ≡ get_or cs i choice → behind ≡ get_or tables done behind
-    → ((s : Slot) (rest : List Slot) → IsUpTo limit (holds choice.sizes) (HasSize P s.site) → choice.must ≡ s.must → choice.bit ≡ s.bit → IsTable holds limit e P rest behind.items → IsTable holds limit e P (s ∷ rest) table.items)
+-- the table of the next place, from that after it
+pub tables_next : {Z : Type 0} (holds : Z → ℕ → Type 0) (limit : ℕ) (e : Ending) (P : Pools) (cs : List (Choice Z)) (ss : List Slot) (tables : List (Vec (Vec Z Global) Global)) (table after : Vec (Vec Z Global) Global) (choice : Choice Z) (done i : ℕ)
+    → AreChoices holds limit P cs ss → length tables ≡ done + 1 → i + done + 1 ≡ length cs → AreTables holds limit e P ss tables → choice ≡ get_or cs i choice → after ≡ get_or tables done after
+    → ((s : Slot) (rest : List Slot) → IsUpTo limit (holds choice.sizes) (HasSize P s.site) → choice.must ≡ s.must → choice.bit ≡ s.bit → IsTable holds limit e P rest after.items → IsTable holds limit e P (s ∷ rest) table.items)
     → AreTables holds limit e P ss (tables ++ table ∷ [])
-tables_next holds limit e P cs ss tables table behind choice done i h whole place before is_choice is_behind makes =
+tables_next holds limit e P cs ss tables table after choice done i h whole place before is_choice is_after makes =
     let many = as_many holds limit P cs ss h in
     let s = choice_slot holds limit P cs ss h i choice (omega arith) in
     let p : length ss - done ≡ suc i = omega arith in
     let f : length ss - length tables ≡ i = omega arith in
-    let here = rw (← is_behind, p) at (before done behind (omega arith)) in
+    let here = rw (← is_after, p) at (before done after (omega arith)) in
     let made = makes s.0 (drop (suc i) ss) (rw (← is_choice) at s.2) (rw (← is_choice) at s.3) (rw (← is_choice) at s.4) here in
     tables_more holds limit e P ss tables table before (rw (f, s.1) made)
 

@@ -1,4 +1,4 @@
--- Which of the named fields stand in slots, and what the junctors make of it.
+-- Which of the named fields are in slots, and what the junctors say of them.
 use Rattle.std.specs.Prelude.{◌≡◌, ◌≢◌, ◌↔◌, ℕ, zero, suc, ◌+◌, ◌*◌, ◌/◌, ◌%◌, ◌^◌, ◌≤◌, ◌<◌, List, Bool, true, false, Option, Some, None, IfSome, map, option_map, not, ◌&&◌, ◌||◌, if◌then◌else◌, nat_eq, bit_or}
 use Rattle.std.proofs.Common.{refl, ap, sym, ◌∙◌, subst, inl, inr, arith, [], ◌∷◌, ◌++◌, length, get_or}
 use Rattle.std.specs.Int.{bit_at}
@@ -119,7 +119,7 @@ or_all : (b : Bool) → (b || true) ≡ true
 or_all true = refl
 or_all false = refl
 
--- behind slots are seen the names that were seen before, and those of the members in them
+-- after some slots the names are seen that were seen before them, and those of the members in them
 seen_in : (names : List (List ℕ)) (k : List ℕ) → Among names k → (ss : List Slot) (gs : List (Option Data)) (x : Before) → HaveBits names ss
     → is_set (bit_of k names) (state_after ss gs x).seen ≡ (is_set (bit_of k names) x.seen || is_some (member_at k (members_in ss gs)))
 seen_in names k a [] gs x h = sym (or_none (is_set (bit_of k names) x.seen))
@@ -134,7 +134,7 @@ seen_in names k a (s ∷ ss) (Some v ∷ gs) x h =
       | inr o ↦ rest ∙ (ap (λ b. b || is_some (member_at k (members_in ss gs))) (rw o at first) ∙ rw o refl)
     ]
 
--- ---- tests that agree on the names that are asked for
+-- ---- tests that agree on the names in the junctors
 
 abbrev Agree : (List ℕ → Bool) → (List ℕ → Bool) → List (List ℕ) → Type 0
 Agree has has' ks = (k : List ℕ) → Among ks k → has k ≡ has' k
@@ -163,13 +163,13 @@ mutual
   holds_same : (has has' : List ℕ → Bool) (cs : Validations) → Agree has has' (names_in cs) → holds_by (has_names has) cs ≡ holds_by (has_names has') cs
   holds_same has has' (validations t all any one negated) h =
       let own = names_same has has' t.required (λ k a. h k (among_left t.required (names_of all ++ (names_of any ++ (names_of one ++ names_of negated))) k a)) in
-      let behind : Agree has has' (names_of all ++ (names_of any ++ (names_of one ++ names_of negated))) = λ k a. h k (among_right t.required (names_of all ++ (names_of any ++ (names_of one ++ names_of negated))) k a) in
-      let behind_all = agree_right has has' (names_of all) (names_of any ++ (names_of one ++ names_of negated)) behind in
-      let behind_any = agree_right has has' (names_of any) (names_of one ++ names_of negated) behind_all in
-      let p = all_same has has' all (agree_left has has' (names_of all) (names_of any ++ (names_of one ++ names_of negated)) behind) in
-      let q = all_same has has' any (agree_left has has' (names_of any) (names_of one ++ names_of negated) behind_all) in
-      let r = all_same has has' one (agree_left has has' (names_of one) (names_of negated) behind_any) in
-      let s = all_same has has' negated (agree_right has has' (names_of one) (names_of negated) behind_any) in
+      let rest : Agree has has' (names_of all ++ (names_of any ++ (names_of one ++ names_of negated))) = λ k a. h k (among_right t.required (names_of all ++ (names_of any ++ (names_of one ++ names_of negated))) k a) in
+      let rest_all = agree_right has has' (names_of all) (names_of any ++ (names_of one ++ names_of negated)) rest in
+      let rest_any = agree_right has has' (names_of any) (names_of one ++ names_of negated) rest_all in
+      let p = all_same has has' all (agree_left has has' (names_of all) (names_of any ++ (names_of one ++ names_of negated)) rest) in
+      let q = all_same has has' any (agree_left has has' (names_of any) (names_of one ++ names_of negated) rest_all) in
+      let r = all_same has has' one (agree_left has has' (names_of one) (names_of negated) rest_any) in
+      let s = all_same has has' negated (agree_right has has' (names_of one) (names_of negated) rest_any) in
       let same = same_junctors has has' t all any one negated p q r s in
       λ i. own i && same i
 
@@ -182,12 +182,12 @@ mutual
 
 meets_same : (has has' : List ℕ → Bool) (cs : Validations) → Agree has has' (names_in cs) → meets_presence cs has ≡ meets_presence cs has'
 meets_same has has' (validations t all any one negated) h =
-    let behind = agree_right has has' t.required (names_of all ++ (names_of any ++ (names_of one ++ names_of negated))) h in
-    let behind_all = agree_right has has' (names_of all) (names_of any ++ (names_of one ++ names_of negated)) behind in
-    let behind_any = agree_right has has' (names_of any) (names_of one ++ names_of negated) behind_all in
-    same_junctors has has' t all any one negated (all_same has has' all (agree_left has has' (names_of all) (names_of any ++ (names_of one ++ names_of negated)) behind))
-    (all_same has has' any (agree_left has has' (names_of any) (names_of one ++ names_of negated) behind_all)) (all_same has has' one (agree_left has has' (names_of one) (names_of negated) behind_any))
-    (all_same has has' negated (agree_right has has' (names_of one) (names_of negated) behind_any))
+    let rest = agree_right has has' t.required (names_of all ++ (names_of any ++ (names_of one ++ names_of negated))) h in
+    let rest_all = agree_right has has' (names_of all) (names_of any ++ (names_of one ++ names_of negated)) rest in
+    let rest_any = agree_right has has' (names_of any) (names_of one ++ names_of negated) rest_all in
+    same_junctors has has' t all any one negated (all_same has has' all (agree_left has has' (names_of all) (names_of any ++ (names_of one ++ names_of negated)) rest))
+    (all_same has has' any (agree_left has has' (names_of any) (names_of one ++ names_of negated) rest_all)) (all_same has has' one (agree_left has has' (names_of one) (names_of negated) rest_any))
+    (all_same has has' negated (agree_right has has' (names_of one) (names_of negated) rest_any))
 
 -- ---- where a row may end
 
@@ -202,7 +202,7 @@ meets_in cs ss gs h =
     meets_same (λ k. is_set (bit_of k (named cs)) (state_after ss gs nothing).seen) (has_member (members_in ss gs)) cs
     (λ k a. seen_in (named cs) k (in_order_has (names_in cs) k a) ss gs nothing h ∙ ap (λ b. b || is_some (member_at k (members_in ss gs))) (never_set (bit_of k (named cs))))
 
--- a row may end behind its slots exactly where the object of the members in them has as many as it may, and meets the junctors
+-- a row may end after its slots exactly where the object of the members in them has as many as it may, and meets the junctors
 pub ends_in : (e : Ending) (ss : List Slot) (gs : List (Option Data)) → HaveBits (named e.asked) ss
     → MayEnd e (state_after ss gs nothing) ↔ (IsWithin e.bounds (fault.members_count (members_in ss gs)) × (meets_presence e.asked (has_member (members_in ss gs)) ≡ true))
 ends_in e ss gs h =
@@ -267,11 +267,11 @@ one_met : (seen : ℕ) (b : Bool) → seen < 1 → get_or (true ∷ []) seen b �
 one_met zero b l = refl
 one_met (suc seen) b l = absurd (omega arith)
 
--- a map asks nothing
+-- a map has no junctors
 pub map_met : AreMet no_validations (true ∷ [])
 map_met = record { whole = refl; each = one_met }
 
--- an object asks its junctors
+-- an object has its own
 pub object_met : (cs : Validations) (names : List (List ℕ)) (ends : List Bool) → names ≡ named cs → length ends ≡ 2 ^ length names
     → ((seen : ℕ) (b : Bool) → seen < length ends → get_or ends seen b ≡ meets_presence cs (is_seen names seen)) → AreMet cs ends
 object_met cs names ends same whole each = record { whole = rw same at whole; each = λ seen b l. rw same at (each seen b l) }

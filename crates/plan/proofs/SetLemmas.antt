@@ -21,7 +21,7 @@ use Rattle.plan.specs.Internal.Keyed.{Keyed}
 use Rattle.plan.specs.declared.sort.Sort.TheVariants.{Leaf}
 use Rattle.plan.proofs.ApartLemmas.{map_among, among_map, map_apart}
 use Rattle.plan.proofs.TupleLemmas.{same_tree, candidates_apart}
-use Rattle.plan.proofs.PartLemmas.{StoredLaw}
+use Rattle.plan.specs.Internal.Laws.{StoredLaw}
 
 pub plain_leaf : (N : Node) → IsPlainScalar N → sort_at N ≡ Leaf
 plain_leaf (node n t (scalar kind cs)) plain = refl
@@ -71,8 +71,8 @@ set_keyed stored P M count plain h =
             let w = among_map one vs k a in
             let q = (h.are.each w.0).0 (contains vs w.0 w.1.0) in
             (w.0, (q, w.1.1, size w.0 q ∙ sym (size v p)));
-        tells = λ v w p q e. ap one ((same_tree v w).0 e);
-        told = λ v w p q e. (same_tree v w).1 (cc);
+        alike_same_key = λ v w p q e. ap one ((same_tree v w).0 e);
+        same_key_alike = λ v w p q e. (same_tree v w).1 (cc);
       },
       length-map vs one ∙ h.count_is,
     )

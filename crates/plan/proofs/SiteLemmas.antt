@@ -1,4 +1,4 @@
--- The sizes of a site, from those of what stands in it.
+-- The sizes of a site, from those of its content.
 use Rattle.std.specs.Prelude.{◌≡◌, ℕ, ◌+◌, ◌≤◌, ◌⊎◌, ◌↔◌, true, Some}
 use Rattle.std.proofs.Common.{refl, ap, sym, ◌∙◌, subst, inl, inr, arith}
 use Rattle.jtree.specs.Data.{Data, Items}
@@ -16,11 +16,11 @@ use Rattle.plan.specs.Internal.PartLaws.{PartLaws}
 use Rattle.plan.specs.declared.sort.Sort.TheVariants.{Row}
 use Rattle.plan.proofs.FillingLemmas.{in_nodes}
 
--- one node, and what stands in it; or null
+-- one node, and its content; or null
 abbrev pub IsWhole : Site → (ℕ → Type 0) → ℕ → Type 0
 IsWhole s Inside n = ((admits_null s ≡ true) × (n ≡ 1)) ⊎ IsSum (λ i. i ≡ 1) Inside n
 
--- what a set of the sizes of the whole holds, from a set of the sizes of what stands in it
+-- what a set of the sizes of the whole holds, from a set of the sizes of its content
 pub whole_up_to : (limit : ℕ) (s : Site) (P : Pools) (Inside S W : ℕ → Type 0) → 1 ≤ limit → ((n : ℕ) → n ≤ limit → HasSize P s n ↔ IsWhole s Inside n) → IsUpTo limit S Inside
     → ((n : ℕ) → W n ↔ (((admits_null s ≡ true) × (n ≡ 1)) ⊎ ((n ≤ limit) × IsSum (λ i. i ≡ 1) S n))) → IsUpTo limit W (HasSize P s)
 whole_up_to limit s P Inside S W room law inside whole n = (

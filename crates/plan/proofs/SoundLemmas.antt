@@ -1,4 +1,4 @@
--- The nodes of a schema are ordered, the items of their lists can be told apart, and the junctors of their objects name few fields.
+-- The nodes of a schema are ordered, the items of their lists can be distinguished, and the junctors of their objects name few fields.
 use Rattle.std.specs.Prelude.{◌≡◌, ◌⊎◌, ℕ, List, [], ◌∷◌, Bool, false, Option, Some, All}
 use Rattle.std.proofs.Common.{refl, subst, inl, inr}
 use Rattle.std.proofs.lemmas.Option.{same_Some}
@@ -12,7 +12,7 @@ use Rattle.schema.specs.Document.Places.{Place, property, map_value, items}
 use Rattle.schema.specs.Nodes.Node.{Node, node, Sort, scalar, object, map, list, open_, Fields, no_fields, field, IsNode, IsSort, AreOrdered}
 use Rattle.schema.specs.Nodes.ByPlace.{Declared, field_at, node_at}
 use Rattle.schema.specs.Nodes.Shape as shape
-use Rattle.schema.specs.Nodes.Items.{HasKeys, AreToldApart, HasSoundItems}
+use Rattle.schema.specs.Nodes.Items.{HasKeys, AreDistinct, HasSoundItems}
 use Rattle.schema.specs.Nodes.Junctors.{HasSoundJunctors}
 use Rattle.schema.specs.declared.node.ListType.{ListType}
 use Rattle.schema.specs.declared.node.ListType.TheVariants.{Atomic, Set, Map}
@@ -20,26 +20,17 @@ use Rattle.stored.specs.Schemas.Accepted.{IsSchema}
 use Rattle.explain.specs.Paths.FieldPath as step
 use Rattle.plan.specs.Samples.Sites.{Site, below, item_site, item_site_at, sites_from, sites_below, sites_of_fields, sites_of, item_keys, field_slots}
 use Rattle.plan.specs.Internal.Building.{IsSound, AreFieldsSound}
+use Rattle.plan.specs.Internal.Laws.{SchemaLaws}
 use Rattle.plan.proofs.PartLemmas.{slot_of_field, fields_in_order}
-
--- what the crate below says of schemas
-abbrev pub ItemsLaw : Type 0
-ItemsLaw = (raw : Data) (root : Node) → shape.IsRootOf root raw → (p : Place) (M : Node) → node_at root p ≡ Some M → HasSoundItems M
-
-abbrev pub JunctorsLaw : Type 0
-JunctorsLaw = (raw : Data) (root : Node) → shape.IsRootOf root raw → (p : Place) (M : Node) → node_at root p ≡ Some M → HasSoundJunctors M
-
-abbrev pub SchemaLaws : Type 0
-SchemaLaws = ItemsLaw × JunctorsLaw
 
 -- ---- from places to nodes
 
 abbrev IsSoundBelow : Node → Type 0
 IsSoundBelow N = (p : Place) (M : Node) → node_at N p ≡ Some M → HasSoundItems M × HasSoundJunctors M
 
--- a field behind the first has another name
-behind_first : (l : List ℕ) (N : Node) (required : Bool) (default : Option Data) (fs : Fields) → AreOrdered (field l N required default fs) → (k : List ℕ) (f : Declared) → field_at k fs ≡ Some f → bytes_eq k l ≡ false
-behind_first l N required default fs o k f is =
+-- a field after the first has another name
+later_field : (l : List ℕ) (N : Node) (required : Bool) (default : Option Data) (fs : Fields) → AreOrdered (field l N required default fs) → (k : List ℕ) (f : Declared) → field_at k fs ≡ Some f → bytes_eq k l ≡ false
+later_field l N required default fs o k f is =
     let s = slot_of_field [] [] [] fs k f is in
     later_name k l (subst (λ n. text_cmp l n ≡ Less) s.1.1.0 ((fields_in_order [] [] [] (field l N required default fs) o).0 s.0 (contains (field_slots [] [] [] fs) s.0 s.1.0)))
 
@@ -55,7 +46,7 @@ mutual
   fields_sound no_fields o h = tt
   fields_sound (field l N required default fs) o h = (
     sound_from N o.0 (h l (record { node = N; required = required; default = default }) (rw (own_name l) refl)),
-    fields_sound fs o.2 (λ k f is. h k f (rw (behind_first l N required default fs o k f is) is)),
+    fields_sound fs o.2 (λ k f is. h k f (rw (later_field l N required default fs o k f is) is)),
   )
 
 pub schema_sound : SchemaLaws → (root : Node) → IsSchema root → IsNode root × IsSound root
@@ -77,12 +68,12 @@ own_item path n t sort M is = absurd (cc)
 abbrev pub AreKeysOf : Node → List (List ℕ) → Type 0
 AreKeysOf N keys = (keys ≡ []) ⊎ HasKeys N keys
 
-keys_of_items : (type : ListType) (keys : List (List ℕ)) (N : Node) → AreToldApart type keys N → AreKeysOf N (item_keys type keys)
+keys_of_items : (type : ListType) (keys : List (List ℕ)) (N : Node) → AreDistinct type keys N → AreKeysOf N (item_keys type keys)
 keys_of_items Map keys N h = inr h
 keys_of_items Set keys N h = inl refl
 keys_of_items Atomic keys N h = inl refl
 
--- its node is ordered, its items and those below it can be told apart, the site of its items is one of all, and its keys are its own
+-- its node is ordered, its items and those below it can be distinguished, the site of its items is one of all, and its keys are its own
 abbrev pub IsSoundSite : List Site → Site → Type 0
 IsSoundSite all s = IsNode s.node × IsSound s.node × ((M : Site) → item_site s ≡ Some M → Among all M) × AreKeysOf s.node s.keys
 

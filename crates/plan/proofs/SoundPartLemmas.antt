@@ -1,4 +1,4 @@
--- What the rules of a schema make of the slots and the items of a site.
+-- What the rules of a schema say of the slots and the items of a site.
 use Rattle.std.specs.Prelude.{◌≡◌, ℕ, List, [], false, Some}
 use Rattle.std.proofs.Common.{refl, ap, sym, ◌∙◌, subst, inl, inr}
 use Rattle.std.proofs.lemmas.Option.{same_Some}
@@ -19,8 +19,9 @@ use Rattle.plan.specs.Samples.Keys.{AreInOrder, AreKeySlots, AreSetItems, AreMap
 use Rattle.plan.specs.Internal.PartLaws.{PartLaws}
 use Rattle.plan.specs.declared.sort.Distinct.TheVariants.{Free, Whole, Keys}
 use Rattle.plan.proofs.KeyedLemmas.{at_most}
-use Rattle.plan.proofs.MapListLemmas.{slot_key, have_keys, map_told}
-use Rattle.plan.proofs.PartLemmas.{StoredLaw, fields_in_order, name_of_value_slot, values_in_order}
+use Rattle.plan.proofs.MapListLemmas.{slot_key, have_keys, map_alike}
+use Rattle.plan.specs.Internal.Laws.{StoredLaw}
+use Rattle.plan.proofs.PartLemmas.{fields_in_order, name_of_value_slot, values_in_order}
 use Rattle.plan.proofs.SetLemmas.{plain_leaf, scalar_one, set_keyed}
 use Rattle.plan.proofs.SoundLemmas.{AreKeysOf}
 
@@ -67,7 +68,7 @@ set_items stored P path (node n t (list K Atomic keys b)) own M is whole h = abs
 set_items stored P path N own M is whole h = absurd (cc)
 
 map_items : StoredLaw → PartLaws → (P : Pools) (path : List ℕ) (N : Node) (own : List (List ℕ)) (M : Site) → item_site_at path N ≡ Some M → distinct_at N ≡ Keys → IsNode N → HasSoundItems N → AreMapItems P (record { node = N; keys = own; path = path }) M
-map_items stored laws P path (node n t (list K Map keys b)) own M is by o h = subst (AreMapItems P (record { node = node n t (list K Map keys b); keys = own; path = path })) (same_Some _ M is) (map_told stored laws P path own n t K keys b o h)
+map_items stored laws P path (node n t (list K Map keys b)) own M is by o h = subst (AreMapItems P (record { node = node n t (list K Map keys b); keys = own; path = path })) (same_Some _ M is) (map_alike stored laws P path own n t K keys b o h)
 map_items stored laws P path (node n t (list K Set keys b)) own M is by o h = absurd (cc)
 map_items stored laws P path (node n t (list K Atomic keys b)) own M is by o h = absurd (cc)
 map_items stored laws P path N own M is by o h = absurd (cc)

@@ -24,7 +24,7 @@ use Rattle.plan.specs.Samples.NoDeadEnd.{IsTuple, AreCounts, product, begins, Ha
 use Rattle.plan.specs.Internal.Keyed.{IsApart}
 use Rattle.plan.proofs.ApartLemmas.{each_before, among_each, each_among, each_length, each_apart, map_apart, map_among, among_map, among_filter, filter_among, apart_length, one_free}
 
--- ---- trees and tuples can be told apart
+-- ---- trees and tuples have decidable equality
 
 tree_tied : (v w : Data) → v ≡ w → tree_cmp v w ≡ Equal
 tree_tied v w e = subst (λ u. tree_cmp v u ≡ Equal) e (tied_itself tree_total v)
@@ -82,7 +82,7 @@ begins_then : (vs t : List Data) → begins vs (vs ++ t) ≡ true
 begins_then [] t = refl
 begins_then (v ∷ vs) t = and_from (is_same v v) (begins vs (vs ++ t)) ((same_tree v v).1 refl) (begins_then vs t)
 
--- what stands behind the values with which a tuple begins
+-- what follows the values with which a tuple begins
 later_of : (P : Pools) (first later : List Slot) (vs u : List Data) → IsTuple P first vs → IsTuple P (first ++ later) u → begins vs u ≡ true → (t : List Data) × (IsTuple P later t × (vs ++ t ≡ u))
 later_of P [] later [] u h k b = (u, (k, refl))
 later_of P [] later (v ∷ vs) u h k b = absurd h
@@ -97,7 +97,7 @@ later_of P (s ∷ first) later (v ∷ vs) (w ∷ u) h k b =
 used_too : (used : List (List Data)) (chosen t q : List Data) → chosen ++ t ≡ q → Contains used (chosen ++ t) → Among (filter (begins chosen) used) q
 used_too used chosen t q e c = subst (Among (filter (begins chosen) used)) e (filter_among (begins chosen) used (chosen ++ t) (contained used (chosen ++ t) c) (begins_then chosen t))
 
--- a used tuple that begins so is one of those with all that can stand behind
+-- a used tuple that begins so is one of those with each possible rest
 begin_among : (P : Pools) (first later : List Slot) (used : List (List Data)) (chosen : List Data) (ts : List (List Data)) → AreTuples P later ts → IsTuple P first chosen → All (IsTuple P (first ++ later)) used
     → (q : List Data) → Among (filter (begins chosen) used) q → Among (map (λ t. chosen ++ t) ts) q
 begin_among P first later used chosen ts all h tuples q m =

@@ -71,7 +71,7 @@ widest_all P root width h =
       ];
     }
 
--- in the words of the plan's view
+-- in terms of the plan's view
 pub width_in : {Z : Type 0} (holds : Z → ℕ → Type 0) (BITS : ℕ) (root : Node) (P : Pools) (limit : ℕ) (v : Values) (es : List (Entry Z)) (first : ℕ) (q : Question) (width : ℕ) → IsPlan holds BITS root P limit v es first → record { root = root; pools = P; limit = limit } ≡ q
     → IsWidest P (sites_of root) (length es) width → IsWidth q.pools q.root width
 width_in holds BITS root P limit v es first q width plan view h = subst (λ (x : Question). IsWidth x.pools x.root width) view (widest_all P root width (rw plan.count at h))

@@ -1,6 +1,7 @@
 -- What only private clauses cite.
 pub mod Tables
 pub mod Lists
+pub mod Laws
 pub mod PartLaws
 pub mod Values
 pub mod Arena

@@ -12,4 +12,4 @@ pub mod Sizes
 pub mod RuleOfParts
 pub mod NoDeadEnd
 pub mod Keys
-pub mod Handed
+pub mod ByPlace

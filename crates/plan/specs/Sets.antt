@@ -2,7 +2,7 @@
 use Rattle.std.specs.Prelude.{◌≡◌, ℕ, ◌+◌, ◌≤◌, ◌<◌}
 use Rattle.std.specs.Int.{bit_at}
 
--- The bit of this place is set in a word of so many bits.
+-- The bit of this place is set in a word of `bits` bits.
 abbrev pub HasBit : ℕ → ℕ → ℕ → Type 0
 HasBit bits word n = (n < bits) × (bit_at word n ≡ 1)
 

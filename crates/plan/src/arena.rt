@@ -1,4 +1,4 @@
-//! The nodes of a plan, each behind the nodes below it, with the sizes of what may stand there.
+//! The nodes of a plan, each after the nodes below it, with the sizes of its parts.
 ghost use Rattle.std.specs.Prelude.{◌≡◌, ◌<◌, ◌≤◌, ◌+◌, ◌++◌, ◌∷◌, ℕ, List, [], length, IfOk, IfSome, IfNone};
 ghost use Rattle.plan.specs.Pools.Pools.{Pools};
 ghost use Rattle.plan.specs.Samples.Sites.{Site};
@@ -15,7 +15,7 @@ use jtree::Text;
 use std::alloc::AllocError;
 use std::marker::Model;
 
-/// A node of a plan. Only a plan hands it out, and it goes back to the same plan.
+/// A node of a plan. Only a plan answers one, and it is passed back to the same plan.
 #[derive(Clone, Copy)]
 pub struct PlanNode {
     number: usize,
@@ -38,8 +38,8 @@ pub(crate) enum SlotName {
     Pool(usize),
 }
 
-/// A slot of a row: the node of what stands in it, whether something must stand there, whether its name is a key, and its place
-/// among the fields that the junctors name.
+/// A slot of a row: the node of its value, whether it has to be filled, whether its name is a key, and its place among the fields
+/// that the junctors name.
 #[derive(Drop)]
 pub(crate) struct SlotEntry {
     pub name: SlotName,
@@ -49,8 +49,8 @@ pub(crate) struct SlotEntry {
     pub bit: Option<u8>,
 }
 
-/// The slots of a row, how many tuples the keys behind each have, and the sizes that those from each place on can take: the last
-/// place first, then by the named fields that stand before it, and by the number of members there.
+/// The slots of a row, how many tuples the keys after each have, and the sizes that the slots from each place on can take: the last
+/// place first, then by the named fields before it, and by the number of members before it.
 #[derive(Drop)]
 pub(crate) struct RowEntry<Z> {
     pub slots: Vec<SlotEntry>,
@@ -58,7 +58,7 @@ pub(crate) struct RowEntry<Z> {
     pub tables: Vec<Vec<Vec<Z>>>,
 }
 
-/// The node of the items of a list, which of them may not stand together, and the sizes that items can still take after each
+/// The node of the items of a list, which of them may not be in one list, and the sizes that items can still take after each
 /// number of items.
 #[derive(Drop)]
 pub(crate) struct ListEntry<Z> {
@@ -71,7 +71,7 @@ impl<Z: SizeSet> ListEntry<Z> {
     ghost use Rattle.plan.specs.Samples.Sizes.{HasMore};
     ghost use Rattle.plan.specs.Internal.Arena.{IsList};
 
-    /// The item at a place, where some list goes on so far.
+    /// The item at a place, where some list is that long.
     pub(crate) fn item_at(&self, place: usize) -> Option<PlanNode>
         requires { place < 18446744073709551615 }
         ensures some { IfSome result (λ n. n ≡ self.now.item) }
@@ -95,7 +95,7 @@ pub(crate) enum Content<Z> {
     List(ListEntry<Z>),
 }
 
-/// A node: the sizes of its parts, whether null is accepted, and what it holds.
+/// A node: the sizes of its parts, whether null is accepted, and its leaf, row or list.
 #[derive(Drop)]
 pub(crate) struct Entry<Z> {
     pub sizes: Z,
@@ -106,7 +106,7 @@ pub(crate) struct Entry<Z> {
 impl<Z: SizeSet> Entry<Z> {
     ghost use Rattle.plan.specs.Internal.Arena.{IsRight};
 
-    /// How many candidates the leaf has; 0 where the node is no leaf.
+    /// How many candidates the leaf has; 0 where the node is not a leaf.
     fn count(&self) -> u64
         ensures { (P : Pools) (limit : ℕ) (v : Values) (sites : List Site) (i : ℕ) → IsRight Z.holds limit P v sites i self.now → sort_of (site_at sites i) ≡ LeafSort → HasCount P (site_at sites i) result }
     {
@@ -141,7 +141,7 @@ pub(crate) struct Arena<Z> {
 }
 
 impl<Z: SizeSet> Arena<Z> {
-    ghost use Rattle.plan.specs.Internal.Arena.{IsEntry};
+    ghost use Rattle.plan.specs.Internal.Arena.{IsEntry, IsKept};
 
     /// The entry of a node.
     pub(crate) fn entry(&self, node: PlanNode) -> &Entry<Z>
@@ -159,7 +159,7 @@ impl<Z: SizeSet> Arena<Z> {
         self.entries.get(node.number)
     }
 
-    /// How many candidates the leaf has; 0 where the node is no leaf of the arena.
+    /// How many candidates the leaf has; 0 where the node is not a leaf of the arena.
     pub(crate) fn count(&self, node: PlanNode) -> u64
         ensures { (P : Pools) (sites : List Site) → AreRight Z.holds self.now.limit P self.now.values sites self.now.entries.items → node < length self.now.entries.items
             → sort_of (site_at sites node) ≡ LeafSort → HasCount P (site_at sites node) result }
@@ -170,10 +170,9 @@ impl<Z: SizeSet> Arena<Z> {
         }
     }
 
-    /// Adds a node behind the others.
+    /// Adds a node after the others.
     pub(crate) fn add(&mut self, entry: Entry<Z>) -> Result<PlanNode, AllocError>
-        ensures values { self.new.values ≡ self.old.values }
-        ensures limit { self.new.limit ≡ self.old.limit }
+        ensures kept { IsKept self.old self.new }
         ensures number { IfOk result (λ n. n ≡ length self.old.entries.items) }
         ensures count { IfOk result (λ n. length self.new.entries.items ≡ n + 1) }
         ensures added { IfOk result (λ _. self.new.entries.items ≡ self.old.entries.items ++ entry ∷ []) }

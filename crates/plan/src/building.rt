@@ -9,7 +9,7 @@ ghost use Rattle.explain.specs.Paths.FieldPath.{field as field_step, value as va
 ghost use Rattle.plan.specs.Samples.Sites.{Site, plain, below, value_slot, item_keys};
 ghost use Rattle.plan.specs.Samples.Candidates.{sort_at};
 ghost use Rattle.plan.specs.declared.sort.Sort.TheVariants.{Leaf};
-ghost use Rattle.plan.specs.Internal.Arena.{AreSlots};
+ghost use Rattle.plan.specs.Internal.Arena.{AreSlots, IsLimit, IsKept};
 ghost use Rattle.plan.specs.Samples.Sites.{site_at};
 ghost use Rattle.plan.specs.declared.arena.SlotEntry.{SlotEntry as SlotDeclared};
 ghost use Rattle.schema.specs.Nodes.Junctors.{most_named};
@@ -38,10 +38,8 @@ pub(crate) fn build<Z: SizeSet>(
     node: &Node,
     keys: &[Text],
 ) -> Result<PlanNode, AllocError>
-    requires limit { arena.old.limit < Z.BITS }
-    requires room { 1 ≤ arena.old.limit }
-    ensures values { arena.new.values ≡ arena.old.values }
-    ensures limit { arena.new.limit ≡ arena.old.limit }
+    requires limit { IsLimit Z.BITS arena.old.limit }
+    ensures kept { IsKept arena.old arena.new }
     ensures built { IfOk result (λ n. IsBuilt Z.holds arena.old.limit pools.now arena.old.values arena.old.entries.items arena.new.entries.items path.now (node_of node.now) keys.now n) }
 {
     match &node.sort {
@@ -70,12 +68,11 @@ fn build_object<Z: SizeSet>(
     nullable: bool,
     keys: &[Text],
 ) -> Result<PlanNode, AllocError>
-    requires limit { arena.old.limit < Z.BITS }
-    requires room { 1 ≤ arena.old.limit }
-    ensures values { arena.new.values ≡ arena.old.values }
-    ensures limit { arena.new.limit ≡ arena.old.limit }
+    requires limit { IsLimit Z.BITS arena.old.limit }
+    ensures kept { IsKept arena.old arena.new }
     ensures built { IfOk result (λ n. (d : Option (List ℕ)) → IsBuilt Z.holds arena.old.limit pools.now arena.old.values arena.old.entries.items arena.new.entries.items path.now (node_with nullable d (object_of object.now)) keys.now n) }
 {
+    // for its contract alone, as in the functions below: a proof learns that declared names are in order, each once
     object.fields.reveal_invariant();
     let named = named_fields(alloc, &object.junctors)?;
     let slots = build_fields(arena, alloc, pools, path, &object.fields, keys, &named)?;
@@ -94,11 +91,9 @@ fn build_fields<Z: SizeSet>(
     keys: &[Text],
     named: &[Text],
 ) -> Result<Vec<SlotEntry>, AllocError>
-    requires limit { arena.old.limit < Z.BITS }
-    requires room { 1 ≤ arena.old.limit }
+    requires limit { IsLimit Z.BITS arena.old.limit }
     requires few { length named.now ≤ most_named }
-    ensures values { arena.new.values ≡ arena.old.values }
-    ensures limit { arena.new.limit ≡ arena.old.limit }
+    ensures kept { IsKept arena.old arena.new }
     ensures built { IfOk result (λ slots. AreBuilt Z.holds arena.old.limit pools.now arena.old.values arena.old.entries.items arena.new.entries.items path.now fields.now keys.now named.now slots.items) }
 {
     let mut slots = Vec::new(alloc);
@@ -119,11 +114,9 @@ fn build_field<Z: SizeSet>(
     keys: &[Text],
     named: &[Text],
 ) -> Result<SlotEntry, AllocError>
-    requires limit { arena.old.limit < Z.BITS }
-    requires room { 1 ≤ arena.old.limit }
+    requires limit { IsLimit Z.BITS arena.old.limit }
     requires few { length named.now ≤ most_named }
-    ensures values { arena.new.values ≡ arena.old.values }
-    ensures limit { arena.new.limit ≡ arena.old.limit }
+    ensures kept { IsKept arena.old arena.new }
     ensures built { IfOk result (λ s. IsBuilt Z.holds arena.old.limit pools.now arena.old.values arena.old.entries.items arena.new.entries.items (below path.now (field_step field.now.name)) (node_of field.now.node) [] s.node) }
     ensures slot { IfOk result (λ s. IsFieldSlot keys.now named.now field.now.name field.now.required (option_map data_of field.now.default) s) }
     ensures bit { IfOk result (λ s. IsClosed (2 ^ length named.now) s.bit) }
@@ -149,10 +142,8 @@ fn build_map<Z: SizeSet>(
     nullable: bool,
     keys: &[Text],
 ) -> Result<PlanNode, AllocError>
-    requires limit { arena.old.limit < Z.BITS }
-    requires room { 1 ≤ arena.old.limit }
-    ensures values { arena.new.values ≡ arena.old.values }
-    ensures limit { arena.new.limit ≡ arena.old.limit }
+    requires limit { IsLimit Z.BITS arena.old.limit }
+    ensures kept { IsKept arena.old arena.new }
     ensures built { IfOk result (λ n. (d : Option (List ℕ)) → IsBuilt Z.holds arena.old.limit pools.now arena.old.values arena.old.entries.items arena.new.entries.items path.now (node_with nullable d (map_of map.now)) keys.now n) }
 {
     map.value.reveal_invariant();
@@ -172,10 +163,8 @@ fn build_list<Z: SizeSet>(
     nullable: bool,
     keys: &[Text],
 ) -> Result<PlanNode, AllocError>
-    requires limit { arena.old.limit < Z.BITS }
-    requires room { 1 ≤ arena.old.limit }
-    ensures values { arena.new.values ≡ arena.old.values }
-    ensures limit { arena.new.limit ≡ arena.old.limit }
+    requires limit { IsLimit Z.BITS arena.old.limit }
+    ensures kept { IsKept arena.old arena.new }
     ensures built { IfOk result (λ n. (d : Option (List ℕ)) → IsBuilt Z.holds arena.old.limit pools.now arena.old.values arena.old.entries.items arena.new.entries.items path.now (node_with nullable d (list_of list.now)) keys.now n) }
 {
     list.item.reveal_invariant();
@@ -191,7 +180,7 @@ fn build_list<Z: SizeSet>(
     add_list(arena, alloc, item, list, nullable)
 }
 
-/// The names that tell the items of the list apart.
+/// The keys of the items of the list.
 fn item_keys(list: &ListNode) -> &[Text]
     ensures { result.now ≡ item_keys list.now.list_type list.now.keys.items }
 {
@@ -211,8 +200,7 @@ fn build_leaf<Z: SizeSet>(
 ) -> Result<PlanNode, AllocError>
     requires limit { arena.old.limit < Z.BITS }
     requires leaf { sort_at (node_of node.now) ≡ Leaf }
-    ensures values { arena.new.values ≡ arena.old.values }
-    ensures limit { arena.new.limit ≡ arena.old.limit }
+    ensures kept { IsKept arena.old arena.new }
     ensures built { IfOk result (λ n. (keys : List (List ℕ)) → IsBuilt Z.holds arena.old.limit pools.now arena.old.values arena.old.entries.items arena.new.entries.items path.now (node_of node.now) keys n) }
 {
     let leaf = leaf_of(alloc, pools, &arena.values, path, node)?;
@@ -225,7 +213,7 @@ fn build_leaf<Z: SizeSet>(
     Ok(node)
 }
 
-/// The node below another.
+/// The node below a map or a list.
 fn node_below(below: &Below) -> &Node
     ensures { node_of result.now ≡ below.now }
 {

@@ -1,4 +1,4 @@
-//! The entries of rows, over the nodes that are there.
+//! The entries of rows, over the nodes that were added before.
 ghost use Rattle.std.specs.Prelude.{◌≡◌, ℕ, ◌+◌, ◌≤◌, ◌<◌, List, All, length, IfOk};
 ghost use Rattle.schema.specs.Nodes.Node.{IsNode, Validations};
 ghost use Rattle.plan.specs.Pools.Pools.{Pools};
@@ -6,7 +6,7 @@ ghost use Rattle.plan.specs.Samples.Sites.{Site, Slot, slots as slots_of};
 ghost use Rattle.plan.specs.Samples.Candidates.{sort_of};
 ghost use Rattle.plan.specs.Samples.Sizes.{ending_of};
 ghost use Rattle.plan.specs.Samples.RuleOfParts.{admits_null};
-ghost use Rattle.plan.specs.Internal.Arena.{AreChosen, AreSlots, AreLater, AreRight};
+ghost use Rattle.plan.specs.Internal.Arena.{AreChosen, AreSlots, AreLater, AreRight, IsLimit, IsKept};
 ghost use Rattle.plan.specs.Samples.Sites.{site_at};
 ghost use Rattle.plan.specs.Internal.Tables.{IsClosed, AreMet};
 ghost use Rattle.plan.specs.declared.arena.SlotEntry.{SlotEntry};
@@ -21,7 +21,7 @@ use crate::sizing::whole_sizes;
 use schema::Bounds;
 use std::alloc::{AllocError, Global};
 
-/// What may stand in each slot.
+/// The choices for each slot.
 fn choices<Z: SizeSet>(
     arena: &Arena<Z>,
     alloc: Global,
@@ -41,7 +41,7 @@ fn choices<Z: SizeSet>(
     Ok(choices)
 }
 
-/// How many tuples the keys behind each slot have.
+/// The number of tuples that the keys after each slot have.
 fn later_tuples<Z: SizeSet>(
     arena: &Arena<Z>,
     alloc: Global,
@@ -67,20 +67,19 @@ pub(crate) fn add_row<Z: SizeSet>(
     ends: &[bool],
     nullable: bool,
 ) -> Result<PlanNode, AllocError>
-    requires limit { arena.old.limit < Z.BITS }
-    requires room { 1 ≤ arena.old.limit }
+    requires limit { IsLimit Z.BITS arena.old.limit }
     requires below { All (λ (s : SlotEntry). s.node < length arena.old.entries.items) slots.items }
     requires some { 0 < length ends.now }
     requires closed { All (λ (s : SlotEntry). IsClosed (length ends.now) s.bit) slots.items }
     requires few { length slots.items < 18446744073709551615 }
-    ensures values { arena.new.values ≡ arena.old.values }
-    ensures limit { arena.new.limit ≡ arena.old.limit }
+    ensures kept { IsKept arena.old arena.new }
     ensures number { IfOk result (λ n. n ≡ length arena.old.entries.items) }
     ensures count { IfOk result (λ n. length arena.new.entries.items ≡ n + 1) }
     ensures right { IfOk result (λ n. (P : Pools) (sites : List Site) (cs : Validations) → AreRight Z.holds arena.old.limit P arena.old.values sites arena.old.entries.items
         → IsNode (site_at sites n).node → sort_of (site_at sites n) ≡ Row → ending_of (site_at sites n) ≡ record { bounds = bounds; asked = cs } → AreMet cs ends.now → admits_null (site_at sites n) ≡ nullable
         → AreSlots arena.old.values.names.items sites n slots.items (slots_of P (site_at sites n)) → AreRight Z.holds arena.old.limit P arena.old.values sites arena.new.entries.items) }
 {
+    // for its contract alone
     parts_one_level();
     let choices = choices(arena, alloc, &slots)?;
     let later = later_tuples(arena, alloc, &slots)?;

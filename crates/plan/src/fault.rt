@@ -7,7 +7,7 @@ use thiserror::Error;
 /// Why a pools document, a node limit or a path of the pools was refused. Each is displayed as its code.
 #[derive(Debug, Drop, Error)]
 pub enum PFault {
-    /// What stands at the pointer (RFC 6901) has not the form that it has to have there.
+    /// The value at the pointer (RFC 6901) does not have the form that is required there.
     #[error("P1")]
     Form(String),
     /// A pool has more entries than a pool may have.
@@ -19,7 +19,7 @@ pub enum PFault {
     /// The node limit is 0, or not below the `BITS` of the plan's sets: with `u64`, not 1 to 63, and with `u128`, not 1 to 127.
     #[error("P4")]
     BadLimit,
-    /// A path of the pools leads to no scalar and no open node of the schema.
+    /// A path of the pools leads to neither a scalar nor an open node of the schema.
     #[error("P5")]
     BadPath(String),
 }

@@ -24,8 +24,8 @@ use schema::{Node, Sort};
 use std::alloc::{AllocError, Global};
 use stored::is_stored;
 
-/// Where the candidates of a leaf stand: among the values of the pools that all nodes share, or in a list of its own (`enum`, or a
-/// list for its path).
+/// The trees among which the candidates of a leaf are: the values of the pools, which all nodes share, or a list of its own (`enum`, or
+/// a list for its path).
 #[derive(Drop)]
 pub(crate) enum Base {
     Scalars,
@@ -40,7 +40,7 @@ pub(crate) struct Leaf {
     pub places: Vec<usize>,
 }
 
-/// The candidates of a node at this path: null and what is listed for it, as far as it is stored there.
+/// The candidates of a node at this path: null and what is listed for it, as far as they are stored there.
 pub(crate) fn leaf_of(
     alloc: Global,
     pools: &Pools,
@@ -50,13 +50,14 @@ pub(crate) fn leaf_of(
 ) -> Result<Leaf, AllocError>
     ensures { IfOk result (λ l. (s : Site) → AreValues pools.now values.now → s.node ≡ node_of node.now → s.path ≡ path.now → sort_of s ≡ LeafSort → AreCandidates pools.now s (candidates_of values.now l)) }
 {
+    // for its contract alone
     parts_one_level();
     let base = base_for(alloc, pools, path, node)?;
     let places = stored_places(alloc, node, base.trees(values))?;
     Ok(Leaf { base, places })
 }
 
-/// Where null and what is listed for a scalar or an open node at this path stand.
+/// The base with null and what is listed for a scalar or an open node at this path.
 fn base_for(alloc: Global, pools: &Pools, path: &str, node: &Node) -> Result<Base, AllocError>
     ensures { IfOk result (λ b. (v : Values) → AreValues pools.now v → sort_at (node_of node.now) ≡ LeafSort → IsBase (null ∷ listed pools.now path.now (node_of node.now)) (base_of v b)) }
 {
@@ -66,7 +67,7 @@ fn base_for(alloc: Global, pools: &Pools, path: &str, node: &Node) -> Result<Bas
     }
 }
 
-/// Where null and what is listed for each scalar or open node like this one stand.
+/// The base with null and what is listed for each scalar or open node like this one.
 fn base_by_node(alloc: Global, node: &Node) -> Result<Base, AllocError>
     ensures { IfOk result (λ b. (P : PoolsData) (v : Values) → AreValues P v → sort_at (node_of node.now) ≡ LeafSort → IsBase (null ∷ listed_for P (node_of node.now)) (base_of v b)) }
 {

@@ -1,4 +1,4 @@
-//! The entries of lists, over the nodes that are there.
+//! The entries of lists, over the nodes that were added before.
 ghost use Rattle.std.specs.Prelude.{◌≡◌, ◌<◌, ◌≤◌, ℕ, ◌+◌, List, Bool, Option, Some, length, IfOk};
 ghost use Rattle.schema.specs.Nodes.Node.{IsNode, node as node_with};
 ghost use Rattle.schema.specs.Nodes.Items.{HasSoundItems};
@@ -6,7 +6,7 @@ ghost use Rattle.schema.specs.Nodes.View.{list_of};
 ghost use Rattle.plan.specs.Pools.Pools.{Pools};
 ghost use Rattle.plan.specs.Samples.Sites.{Site, item_site, slots, Slot};
 ghost use Rattle.plan.specs.Samples.Candidates.{sort_of, distinct_by};
-ghost use Rattle.plan.specs.Internal.Arena.{AreSlots, AreRight};
+ghost use Rattle.plan.specs.Internal.Arena.{AreSlots, AreRight, IsLimit, IsKept};
 ghost use Rattle.plan.specs.Samples.Sites.{site_at};
 ghost use Rattle.plan.specs.Samples.Keys.{HasTuples};
 ghost use Rattle.plan.specs.Internal.Tuples.{AreKeysLeaves, IsCutTo};
@@ -30,17 +30,16 @@ pub(crate) fn add_list<Z: SizeSet>(
     list: &ListNode,
     nullable: bool,
 ) -> Result<PlanNode, AllocError>
-    requires limit { arena.old.limit < Z.BITS }
-    requires room { 1 ≤ arena.old.limit }
+    requires limit { IsLimit Z.BITS arena.old.limit }
     requires item { item < length arena.old.entries.items }
-    ensures values { arena.new.values ≡ arena.old.values }
-    ensures limit { arena.new.limit ≡ arena.old.limit }
+    ensures kept { IsKept arena.old arena.new }
     ensures number { IfOk result (λ n. n ≡ length arena.old.entries.items) }
     ensures count { IfOk result (λ n. length arena.new.entries.items ≡ n + 1) }
     ensures right { IfOk result (λ n. (P : Pools) (sites : List Site) (d : Option (List ℕ)) → AreRight Z.holds arena.old.limit P arena.old.values sites arena.old.entries.items
         → (site_at sites n).node ≡ node_with nullable d (list_of list.now) → item_site (site_at sites n) ≡ Some (site_at sites item) → IsNode (site_at sites n).node → HasSoundItems (site_at sites n).node
         → AreRight Z.holds arena.old.limit P arena.old.values sites arena.new.entries.items) }
 {
+    // for its contract alone
     parts_one_level();
     let limit = arena.limit;
     let bounds = item_bounds(arena, item, list);
@@ -58,7 +57,7 @@ pub(crate) fn add_list<Z: SizeSet>(
     Ok(node)
 }
 
-/// Which items may not stand in a list of this type.
+/// Which items may not be in one list of this type.
 fn distinct(list_type: ListType) -> Distinct
     ensures { result ≡ distinct_by list_type }
 {
@@ -83,7 +82,7 @@ pub(crate) fn tuples<Z: SizeSet>(arena: &Arena<Z>, slots: &[SlotEntry]) -> u64
     tuples
 }
 
-/// The bounds with at most so many items.
+/// The bounds, with at most this many items.
 fn cut_bounds(bounds: Bounds, most: u64) -> Bounds
     ensures { result ≡ cut most bounds }
 {
@@ -97,8 +96,8 @@ fn cut_bounds(bounds: Bounds, most: u64) -> Bounds
     }
 }
 
-/// The bounds that the items keep where no two may be alike: a set has at most as many as its items have candidates, a map list
-/// as many as there are tuples of keys.
+/// The bounds on the items where no two may be alike: a set has at most as many items as these have candidates, a map list at
+/// most as many as there are tuples of keys.
 fn item_bounds<Z: SizeSet>(arena: &Arena<Z>, item: PlanNode, list: &ListNode) -> Bounds
     requires item { item < length arena.now.entries.items }
     requires limit { arena.now.limit < 18446744073709551615 }
@@ -115,7 +114,7 @@ fn item_bounds<Z: SizeSet>(arena: &Arena<Z>, item: PlanNode, list: &ListNode) ->
     }
 }
 
-/// How many tuples of keys the row has; none where the node is no row.
+/// How many tuples of keys the row has; 0 where the node is not a row.
 fn item_tuples<Z: SizeSet>(arena: &Arena<Z>, node: PlanNode) -> u64
     requires { node < length arena.now.entries.items }
     ensures { (P : Pools) (sites : List Site) → AreRight Z.holds arena.now.limit P arena.now.values sites arena.now.entries.items

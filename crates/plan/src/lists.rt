@@ -24,11 +24,11 @@ fn least_size<Z: SizeSet>(sizes: Z, limit: u32) -> u64
 }
 
 /// What can follow `taken` items, up to `room` nodes, from what can follow one item more.
-fn following_set<Z: SizeSet>(sizes: Z, behind: Z, taken: u32, bounds: Bounds, room: u32) -> Z
+fn following_set<Z: SizeSet>(sizes: Z, after: Z, taken: u32, bounds: Bounds, room: u32) -> Z
     requires { room < Z.BITS }
-    ensures { (n : ℕ) → Z.holds result n ↔ (((n ≡ 0) × IsWithin bounds taken) ⊎ ((n ≤ room) × IsSum (Z.holds sizes) (Z.holds behind) n)) }
+    ensures { (n : ℕ) → Z.holds result n ↔ (((n ≡ 0) × IsWithin bounds taken) ⊎ ((n ≤ room) × IsSum (Z.holds sizes) (Z.holds after) n)) }
 {
-    end_sizes::<Z>(taken as u64, bounds).union(sizes.sums(behind, room))
+    end_sizes::<Z>(taken as u64, bounds).union(sizes.sums(after, room))
 }
 
 /// What can follow each number of items, the greatest number first.

@@ -1,6 +1,6 @@
 use std::marker::Model;
 
-/// Counts steps: calls of a plan for a slot, an item or a candidate, whatever is answered. It stays at 2^64 - 1 once it is there.
+/// Counts steps: calls of a plan for a slot, an item or a candidate, whatever is answered. The count saturates at 2^64 - 1.
 #[derive(Drop)]
 pub struct Meter {
     steps: u64,

@@ -4,18 +4,17 @@ ghost use Rattle.plan.specs.Internal.Plan.{IsPlan};
 
 use crate::arena::{Arena, Content, PlanNode};
 use crate::building::build;
-use crate::laws::parts_one_level;
+use crate::laws::{laws_of_plans, schemas_are_sound};
 use crate::leaf::candidate;
 use crate::pool_paths::check_paths;
 use crate::values::Values;
 use crate::{Distinct, Meter, PFault, Pools, SizeSet, Sort};
 use jtree::Tree;
-use schema::{items_told_apart, junctors_name_fields};
 use std::alloc::Global;
 use std::marker::Model;
-use stored::{Schema, stored_by_parts};
+use stored::Schema;
 
-/// A slot of a row: a name, the node of what stands under it, whether something must stand there (where it is required or has a
+/// A slot of a row: a name, the node of the value under it, whether there has to be a value (where it is required or has a
 /// default), and whether it is a key of the map list whose item the row is.
 #[derive(Clone, Copy)]
 pub struct Slot<'a> {
@@ -25,13 +24,13 @@ pub struct Slot<'a> {
     pub key: bool,
     /// The place of the name by bytes among the fields that the junctors of the object name, where it is one of them; below 4.
     pub bit: Option<u8>,
-    /// How many tuples of candidates the keys behind this slot have, at most 2^64 - 1.
+    /// How many tuples of candidates the keys after this slot have, at most 2^64 - 1.
     pub later: u64,
 }
 
-/// The nodes of a schema over pools and within a node limit, with the sizes of what may stand at each of them, as sets `Z`.
+/// The nodes of a schema over pools and within a node limit, with the sizes of the possible values of each, as sets `Z`.
 ///
-/// The calls that take a node take one that this plan has handed out.
+/// The calls that take a node require one that this plan has answered.
 pub struct Plan<Z: SizeSet> {
     schema: Schema,
     pools: Pools,
@@ -74,7 +73,7 @@ impl<Z: SizeSet> Plan<Z> {
     ghost use Rattle.jtree.specs.Data.{Data};
     ghost use Rattle.plan.specs.Samples.NoDeadEnd.{NoDeadEnd, is_key, IsTuple, AreCounts, product, HasFree};
     ghost use Rattle.plan.specs.Samples.Keys.{HasTuples, HasSoundParts};
-    ghost use Rattle.plan.specs.Samples.Handed.{IsSlotAt, IsCandidateAt};
+    ghost use Rattle.plan.specs.Samples.ByPlace.{IsSlotAt, IsCandidateAt};
     ghost use Rattle.plan.specs.Samples.Sites.{Site, Slot as SiteSlot, sites_of, root_site, item_site, slots as slots_of};
     ghost use Rattle.plan.specs.Samples.Candidates.{sort_of, distinct_of, HasCount, IsWidth};
     ghost use Rattle.plan.specs.Samples.Sizes.{HasSize, HasRest, HasMore, IsUpTo, ending_of};
@@ -87,9 +86,9 @@ impl<Z: SizeSet> Plan<Z> {
     /// leaves upward; no object is made.
     ///
     /// `BadLimit` where the limit is 0, or is not below `Z::BITS` (with `u64`: where it is not 1 to 63; with `u128`: not 1 to 127), which is decided first.
-    /// `BadPath` with the text of a path of the pools that is that of no path, or of one that the schema does not declare, or one
-    /// at which neither a scalar nor an open node stands: the first by bytes. It is decided after the limit. `NoMemory` where an
-    /// allocation fails.
+    /// `BadPath` where the pools have a list for a text that is not that of a path, or is that of a path which the schema does not
+    /// declare or which leads to neither a scalar nor an open node, with the first such text by bytes. It is decided after the
+    /// limit. `NoMemory` where an allocation fails.
     pub fn new(alloc: Global, schema: Schema, pools: Pools, limit: u32) -> Result<Plan<Z>, PFault>
         ensures ok { IfOk result (λ plan. plan ≡ record { root = schema; pools = pools; limit = limit }) }
         ensures limit { OnOk result ((1 ≤ limit) × (limit < Z.BITS)) }
@@ -111,7 +110,7 @@ impl<Z: SizeSet> Plan<Z> {
         }
     }
 
-    /// The node of the body of a resource.
+    /// The node of the root.
     pub fn root(&self) -> PlanNode
         ensures number { result < length (sites_of self.now.root) }
         ensures site { site_at (sites_of self.now.root) result ≡ root_site self.now.root }
@@ -126,7 +125,7 @@ impl<Z: SizeSet> Plan<Z> {
         self.arena.limit
     }
 
-    /// What the node holds.
+    /// The sort of the node.
     pub fn sort(&self, node: PlanNode) -> Sort
         requires { node < length (sites_of self.now.root) }
         ensures { result ≡ sort_of (site_at (sites_of self.now.root) node) }
@@ -155,8 +154,8 @@ impl<Z: SizeSet> Plan<Z> {
     }
 
     /// The sizes up to the limit that the slots of a row from `place` on can still take, where `taken` slots before it are
-    /// filled, and the named fields among them are those whose bits are set in `seen` (see [`Slot::bit`]). The caller asks at a
-    /// row, and keeps `place` at most the number of its slots and `taken` at most `place`.
+    /// filled, and the named fields among them are those whose bits are set in `seen` (see [`Slot::bit`]). Only for a
+    /// row, with `place` at most the number of its slots and `taken` at most `place`.
     pub fn rest(&self, node: PlanNode, place: u64, taken: u32, seen: u8) -> Z
         requires node { node < length (sites_of self.now.root) }
         requires row { sort_of (site_at (sites_of self.now.root) node) ≡ sort.Row }
@@ -173,7 +172,7 @@ impl<Z: SizeSet> Plan<Z> {
         }
     }
 
-    /// The sizes up to the limit that the items of a list can still take after `taken` items. The caller asks at a list.
+    /// The sizes up to the limit that the items of a list can still take after `taken` items. Only for a list.
     pub fn more(&self, node: PlanNode, taken: u32) -> Z
         requires node { node < length (sites_of self.now.root) }
         requires list { sort_of (site_at (sites_of self.now.root) node) ≡ sort.List }
@@ -191,7 +190,7 @@ impl<Z: SizeSet> Plan<Z> {
         }
     }
 
-    /// Which items may not stand in one list; `Free` where the node is no list.
+    /// Which items may not be in one list; `Free` where the node is not a list.
     pub fn distinct(&self, node: PlanNode) -> Distinct
         requires { node < length (sites_of self.now.root) }
         ensures { result ≡ distinct_of (site_at (sites_of self.now.root) node) }
@@ -202,7 +201,7 @@ impl<Z: SizeSet> Plan<Z> {
         }
     }
 
-    /// The number of candidates of a leaf. The caller asks at a leaf.
+    /// The number of candidates. Only for a leaf.
     pub fn count(&self, node: PlanNode) -> u64
         requires node { node < length (sites_of self.now.root) }
         requires leaf { sort_of (site_at (sites_of self.now.root) node) ≡ sort.Leaf }
@@ -222,7 +221,7 @@ impl<Z: SizeSet> Plan<Z> {
         width
     }
 
-    /// The number of slots of a row. The caller asks at a row.
+    /// The number of slots. Only for a row.
     pub fn slot_count(&self, node: PlanNode) -> u64
         requires node { node < length (sites_of self.now.root) }
         requires row { sort_of (site_at (sites_of self.now.root) node) ≡ sort.Row }
@@ -234,7 +233,7 @@ impl<Z: SizeSet> Plan<Z> {
         }
     }
 
-    /// Whether the junctors of an object name some of its fields. The caller asks at a row.
+    /// Whether the junctors of an object name some of its fields. Only for a row.
     pub fn names_fields(&self, node: PlanNode) -> bool
         requires node { node < length (sites_of self.now.root) }
         requires row { sort_of (site_at (sites_of self.now.root) node) ≡ sort.Row }
@@ -247,7 +246,7 @@ impl<Z: SizeSet> Plan<Z> {
         }
     }
 
-    /// Slot `place` of a row, counted from 0 in the order of names; none past the last. The caller asks at a row. It is one step.
+    /// Slot `place` of a row, counted from 0 in the order of names; none past the last. Only for a row. It is one step.
     pub fn slot(&self, node: PlanNode, place: u64, meter: &mut Meter) -> Option<Slot<'_>>
         requires node { node < length (sites_of self.now.root) }
         requires row { sort_of (site_at (sites_of self.now.root) node) ≡ sort.Row }
@@ -260,6 +259,7 @@ impl<Z: SizeSet> Plan<Z> {
         ensures none { IfNone result (length (slots_of self.now.pools (site_at (sites_of self.now.root) node)) ≤ place) }
         ensures step { meter.new ≡ counted meter.old 1 }
     {
+        // for its contract alone
         self.sound_parts();
         meter.step();
         match &self.arena.entry(node).content {
@@ -279,7 +279,7 @@ impl<Z: SizeSet> Plan<Z> {
     }
 
     /// The node of the item at `place` of a list, the same for each place; none where no list of the node within the limit has
-    /// an item there. The caller asks at a list. It is one step.
+    /// an item there. Only for a list. It is one step.
     pub fn item(&self, node: PlanNode, place: u32, meter: &mut Meter) -> Option<PlanNode>
         requires node { node < length (sites_of self.now.root) }
         requires list { sort_of (site_at (sites_of self.now.root) node) ≡ sort.List }
@@ -296,7 +296,7 @@ impl<Z: SizeSet> Plan<Z> {
         }
     }
 
-    /// Candidate `place` of a leaf, counted from 0 in the tree order; none past the last. The caller asks at a leaf. It is one
+    /// Candidate `place` of a leaf, counted from 0 in the tree order; none past the last. Only for a leaf. It is one
     /// step.
     pub fn candidate(&self, node: PlanNode, place: u64, meter: &mut Meter) -> Option<&Tree>
         requires node { node < length (sites_of self.now.root) }
@@ -311,37 +311,31 @@ impl<Z: SizeSet> Plan<Z> {
         }
     }
 
-    /// Brings to a proof what the parts of each node are, and that nothing that was begun within the tables is a dead end. It does
-    /// nothing.
+    /// Does nothing: a proof calls it to learn what the parts of each node are, and that nothing that was begun within the tables is a
+    /// dead end.
     pub fn no_dead_end(&self)
         ensures parts { (s : Site) → Contains (sites_of self.now.root) s → RuleOfParts self.now.pools self.now.limit s }
         ensures completed { (s : Site) → Contains (sites_of self.now.root) s → NoDeadEnd self.now.pools self.now.limit s }
     {
-        stored_by_parts();
-        parts_one_level();
-        items_told_apart();
-        junctors_name_fields();
+        laws_of_plans();
         let _ = self.schema.root();
     }
 
-    /// Brings to a proof what the rules of the schema make of the slots and the items of each node, and when a tuple of candidates
-    /// is left. It does nothing.
+    /// Does nothing: a proof calls it to learn what the rules of the schema say of the slots and the items of each node, and when a
+    /// tuple of candidates is left.
     pub fn sound_parts(&self)
         ensures parts { (s : Site) → Contains (sites_of self.now.root) s → HasSoundParts self.now.pools s }
         ensures items { (s M : Site) → Contains (sites_of self.now.root) s → item_site s ≡ Some M → Contains (sites_of self.now.root) M }
         ensures counts { (s : Site) → Contains (sites_of self.now.root) s → (counts : List ℕ) × AreCounts self.now.pools (filter is_key (slots_of self.now.pools s)) counts }
         ensures free { (P : Pools) (ss : List SiteSlot) (used : List (List Data)) (counts : List ℕ) → All (IsTuple P ss) used → AllPairs (λ t u. t ≢ u) used → AreCounts P ss counts → HasFree P ss used [] ↔ (length used < product counts) }
     {
-        stored_by_parts();
-        parts_one_level();
-        items_told_apart();
-        junctors_name_fields();
+        laws_of_plans();
         let _ = self.schema.root();
     }
 
-    /// A meter at 0. It takes the plan for writing, so that who is lent a plan for reading makes none.
+    /// A meter at 0. It borrows the plan mutably, so that code with a shared borrow cannot make one.
     pub fn meter(&mut self) -> Meter
-        ensures fresh { result ≡ 0 }
+        ensures zero { result ≡ 0 }
         ensures same { self.new ≡ self.old }
     {
         Meter::new()
@@ -364,8 +358,8 @@ fn entries<Z: SizeSet>(
         return Err(PFault::BadLimit);
     }
     check_paths(alloc, schema, pools)?;
-    items_told_apart();
-    junctors_name_fields();
+    // for its contract alone
+    schemas_are_sound();
     let mut arena = Arena {
         values: Values::new(alloc, pools)?,
         limit,

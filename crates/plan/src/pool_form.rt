@@ -1,4 +1,4 @@
-// The form of a pools document, asked member by member in the order of their names.
+// The form of a pools document, tested member by member in the order of their names.
 ghost use Rattle.std.specs.Prelude.{◌≡◌, ◌∷◌, [], OnOk, IfOk, IfErr, option_map, string_bytes};
 ghost use Rattle.jtree.specs.Path.{name as name_step, index as index_step};
 ghost use Rattle.jtree.specs.Pointer.{pointer as pointer_of};
@@ -11,7 +11,7 @@ use crate::fault::PFault;
 use jtree::{Items, Members, Tree, push_index, push_name};
 use std::alloc::{AllocError, Global};
 
-/// What an entry of a list has to be.
+/// The form of an entry of a list.
 #[derive(Clone, Copy)]
 enum EntryKind {
     Integer,
@@ -19,7 +19,7 @@ enum EntryKind {
     Any,
 }
 
-/// What a member has to be.
+/// The form of a member.
 #[derive(Clone, Copy)]
 enum PoolForm {
     /// A list of entries.
@@ -31,7 +31,7 @@ enum PoolForm {
 }
 
 impl PoolForm {
-    /// Of the member of this name.
+    /// The form of the member of this name.
     fn of_pool(name: &str) -> PoolForm
         ensures { form_of result ≡ pool_form name.now }
     {
@@ -62,6 +62,7 @@ pub(crate) fn check_form(alloc: Global, document: &Tree) -> Result<(), PFault>
     ensures ok { OnOk result (HasForm (data_of document.now)) }
     ensures err { IfErr result (IsPoolsFault (data_of document.now)) }
 {
+    // for its contract alone: a proof learns that it is a tree
     document.reveal_invariant();
     match first_break(alloc, document)? {
         None => Ok(()),
@@ -165,7 +166,7 @@ fn first_other(kind: EntryKind, items: &Items) -> Option<usize>
     None
 }
 
-/// The name of the first member that is no list.
+/// The name of the first member that is not a list.
 fn first_no_list(members: &Members) -> Option<&str>
     ensures { option_map (λ key. name_step key.now ∷ []) result ≡ members_break_of list_break members.now }
 {

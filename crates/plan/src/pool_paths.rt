@@ -12,8 +12,8 @@ use schema::{Node, Sort};
 use std::alloc::Global;
 use stored::Schema;
 
-/// Answers `BadPath` with the first text by bytes, among those that the pools have lists for, of no path to a scalar or an open
-/// node.
+/// Answers `BadPath` with the first text by bytes, among those that the pools have lists for, that is not the path of a scalar or an
+/// open node.
 pub(crate) fn check_paths(alloc: Global, schema: &Schema, pools: &Pools) -> Result<(), PFault>
     ensures good { OnOk result (HasGoodPaths schema.now pools.now) }
     ensures err { IfErr result (IsPathsFault schema.now pools.now) }
@@ -28,6 +28,7 @@ fn first_bad_path<'a>(schema: &Schema, pools: &'a Pools) -> Option<&'a str>
     ensures { MatchOption result (HasGoodPaths schema.now pools.now) (λ text. IsFirstBadPath schema.now pools.now text.now) }
 {
     let paths = pools.paths();
+    // for its contract alone: a proof learns that the paths are in order, each once
     paths.reveal_invariant();
     for member in &paths.members {
         if !is_leaf_path(schema, member.name.as_str()) {
@@ -41,6 +42,7 @@ fn first_bad_path<'a>(schema: &Schema, pools: &'a Pools) -> Option<&'a str>
 fn is_leaf_path(schema: &Schema, text: &str) -> bool
     ensures { IsTrue result ↔ IsLeafPath schema.now text.now }
 {
+    // for its contract alone
     paths_have_one_text();
     match resolve(schema, text) {
         Ok(node) => is_leaf(node),

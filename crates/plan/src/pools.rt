@@ -68,8 +68,8 @@ impl Pools {
     /// empty pool, or no path.
     ///
     /// `Form` with the pointer (RFC 6901) of the first place in path order that has another form, also where a pool has
-    /// too many entries: the document itself where it is no object, a member of another name, `paths` where it is no
-    /// object, a member of `paths` that is no list, any other member that is no list, an entry of another kind. `TooLarge`
+    /// too many entries: the document itself where it is not an object, a member of another name, `paths` where it is not
+    /// an object, a member of `paths` that is not a list, any other member that is not a list, an entry of another kind. `TooLarge`
     /// where the form is right and there are more than 64 integers, strings or trees, more than 32 names, more than 64
     /// paths, or more than 64 trees in the list of a path, each repeat counted. `NoMemory` where an allocation fails. Never
     /// `BadLimit` or `BadPath`, which are faults of a plan.
@@ -160,7 +160,7 @@ impl Pools {
         self.has_few_entries() && are_few_and_short(&self.paths)
     }
 
-    /// Whether the pools for all paths have not too many entries.
+    /// Whether no pool for all paths has too many entries.
     fn has_few_entries(&self) -> bool
         ensures { IsTrue result ↔ (((length self.now.integers ≤ most_entries) × (length self.now.strings ≤ most_entries)) × ((length self.now.names ≤ most_names) × (length self.now.any ≤ most_entries))) }
     {
@@ -237,7 +237,7 @@ fn paths_of(alloc: Global, document: &Tree) -> Result<Members, AllocError>
     }
 }
 
-/// The members of an object, and none of what is no object.
+/// The members of an object, and none of a tree that is not an object.
 fn members_in(alloc: Global, tree: Tree) -> Members
     ensures { result ≡ members_of (Some (data_of tree)) }
 {
@@ -255,10 +255,11 @@ fn no_members(alloc: Global) -> Members
     }
 }
 
-/// Whether there are not too many paths, and none has a list of too many trees.
+/// Whether there are not too many paths, and no list of a path has too many trees.
 fn are_few_and_short(paths: &Members) -> bool
     ensures { IsTrue result ↔ ((members_count paths.now ≤ most_paths) × AreShort paths.now) }
 {
+    // for its contract alone: a proof learns that the paths are in order, each once
     paths.reveal_invariant();
     paths.members.len() <= MOST_PATHS && are_short(paths)
 }

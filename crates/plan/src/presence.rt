@@ -1,4 +1,4 @@
-//! What the junctors of an object ask of the fields that are there.
+//! Which fields have to be there by the junctors of an object.
 ghost use Rattle.std.specs.Prelude.{◌≡◌, ℕ, ◌≤◌, ◌<◌, ◌^◌, ◌++◌, ◌+◌, Bool, List, length, get_or, IfOk, OnOk, IfSome};
 ghost use Rattle.schema.specs.Nodes.View.{validations_of};
 ghost use Rattle.schema.specs.Nodes.Junctors.{names_in, names_of, most_named};
@@ -26,7 +26,7 @@ pub(crate) fn named_fields(alloc: Global, junctors: &Validations) -> Result<Vec<
     Ok(names)
 }
 
-/// Adds the names that are asked for, as written.
+/// Adds the names that the junctors name, as written.
 #[cycle(names)]
 fn push_names(
     alloc: Global,
@@ -42,7 +42,7 @@ fn push_names(
     push_branch_names(alloc, names, &validations.negated)
 }
 
-/// Adds the names that a branch asks for itself.
+/// Adds the names that a branch itself names.
 fn push_required(alloc: Global, names: &mut Vec<Text>, required: &Names) -> Result<(), AllocError>
     ensures { OnOk result (names.new.items ≡ names.old.items ++ required.now) }
 {
@@ -80,7 +80,7 @@ pub(crate) fn bit_of(name: &Text, names: &[Text]) -> Option<u8>
     None
 }
 
-/// For each set of the named fields: whether the junctors hold where these are there.
+/// For each set of the named fields: whether the junctors hold where exactly these are there.
 pub(crate) fn ends(
     alloc: Global,
     junctors: &Validations,
@@ -97,7 +97,7 @@ pub(crate) fn ends(
     Ok(ends)
 }
 
-/// Whether the junctors hold where these of the named fields are there.
+/// Whether the junctors hold where exactly these of the named fields are there.
 #[cycle(branches)]
 fn meets_presence(validations: &Validations, names: &[Text], seen: u8) -> bool
     requires { length names.now ≤ most_named }

@@ -14,7 +14,7 @@ use crate::SizeSet;
 use schema::Bounds;
 use std::alloc::{AllocError, Global};
 
-/// What may stand in a slot: the sizes of its parts, whether one must stand there, and its place among the named fields.
+/// The choices for a slot: the sizes of its parts, whether it has to be filled, and its place among the named fields.
 #[derive(Clone, Copy)]
 pub(crate) struct Choice<Z> {
     pub sizes: Z,
@@ -22,7 +22,7 @@ pub(crate) struct Choice<Z> {
     pub bit: Option<u8>,
 }
 
-/// The set of 0 where the bounds let through so many, else the empty one.
+/// The set of 0 where the bounds admit this number of members, else the empty set.
 pub(crate) fn end_sizes<Z: SizeSet>(count: u64, bounds: Bounds) -> Z
     requires { 0 < Z.BITS }
     ensures { (n : ℕ) → Z.holds result n ↔ ((n ≡ 0) × IsWithin bounds count) }
@@ -34,7 +34,7 @@ pub(crate) fn end_sizes<Z: SizeSet>(count: u64, bounds: Bounds) -> Z
     }
 }
 
-/// Whether there are neither too few nor too many.
+/// Whether this number is neither too small nor too great.
 fn is_within(bounds: Bounds, count: u64) -> bool
     ensures { Decides result (IsWithin bounds count) }
 {
@@ -54,7 +54,7 @@ fn slot_sizes<Z: SizeSet>(choice: &Choice<Z>, without: Z, with: Z, limit: u32) -
     }
 }
 
-/// The set of 0 where a row may end with so many members, else the empty one; `holds` is whether its junctors hold.
+/// The set of 0 where a row may end with this number of members, else the empty set; `holds` is whether its junctors hold.
 fn row_end<Z: SizeSet>(count: u64, bounds: Bounds, holds: bool) -> Z
     requires { 0 < Z.BITS }
     ensures { (n : ℕ) → Z.holds result n ↔ ((n ≡ 0) × (IsWithin bounds count × (holds ≡ true))) }
@@ -108,7 +108,7 @@ fn last_table<Z: SizeSet>(
     Ok(table)
 }
 
-/// The sizes from a slot on, at each number of members before it, from those behind it without and with a part in the slot.
+/// The sizes from a slot on, at each number of members before it, from those after it without and with a part in the slot.
 fn slot_level<Z: SizeSet>(
     alloc: Global,
     choice: &Choice<Z>,
@@ -130,7 +130,7 @@ fn slot_level<Z: SizeSet>(
     Ok(level)
 }
 
-/// The named fields that are there where one more is.
+/// The named fields that are there, with one more.
 fn seen_with(bit: Option<u8>, seen: usize) -> usize
     requires { IfSome bit (λ j. j < most_named) }
     ensures { result ≡ with_bit bit seen }
@@ -141,31 +141,31 @@ fn seen_with(bit: Option<u8>, seen: usize) -> usize
     }
 }
 
-/// The sizes from a slot on, for each set of the named fields, from those behind it.
+/// The sizes from a slot on, for each set of the named fields, from those after it.
 fn slot_table<Z: SizeSet>(
     alloc: Global,
     choice: &Choice<Z>,
     before: usize,
-    behind: &[Vec<Z>],
+    after: &[Vec<Z>],
     limit: u32,
 ) -> Result<Vec<Vec<Z>>, AllocError>
     requires limit { limit < Z.BITS }
-    requires closed { IsClosed (length behind.now) choice.now.bit }
-    requires shape { HasShape (length behind.now) (before + 2) behind.now }
-    ensures shape { IfOk result (λ table. HasShape (length behind.now) (before + 1) table.items) }
-    ensures table { IfOk result (λ table. (P : Pools) (s : Slot) (ss : List Slot) (e : Ending) → IsUpTo limit (Z.holds choice.now.sizes) (HasSize P s.site) → choice.now.must ≡ s.must → choice.now.bit ≡ s.bit → IsTable Z.holds limit e P ss behind.now → IsTable Z.holds limit e P (s ∷ ss) table.items) }
+    requires closed { IsClosed (length after.now) choice.now.bit }
+    requires shape { HasShape (length after.now) (before + 2) after.now }
+    ensures shape { IfOk result (λ table. HasShape (length after.now) (before + 1) table.items) }
+    ensures table { IfOk result (λ table. (P : Pools) (s : Slot) (ss : List Slot) (e : Ending) → IsUpTo limit (Z.holds choice.now.sizes) (HasSize P s.site) → choice.now.must ≡ s.must → choice.now.bit ≡ s.bit → IsTable Z.holds limit e P ss after.now → IsTable Z.holds limit e P (s ∷ ss) table.items) }
 {
     let mut table = Vec::new(alloc);
-    for seen in 0..behind.len() {
+    for seen in 0..after.len() {
         let with = seen_with(choice.bit, seen);
-        let level = slot_level(alloc, choice, &behind[seen], &behind[with], limit)?;
+        let level = slot_level(alloc, choice, &after[seen], &after[with], limit)?;
         table.push(level)?;
     }
     Ok(table)
 }
 
-/// The sizes from each place on, the last place first: for each set of the named fields, at each number of members that may stand
-/// before it. `ends` has whether the junctors hold for each such set.
+/// The sizes from each place on, the last place first: for each set of the named fields, at each number of members that there may
+/// be before it. `ends` has whether the junctors hold for each such set.
 pub(crate) fn tables<Z: SizeSet>(
     alloc: Global,
     choices: &[Choice<Z>],

@@ -1,7 +1,7 @@
 //! Sets of sizes, in numbers of nodes.
 
 /// A set of sizes: whole numbers of nodes, 0 among them, each below `BITS`. A `u64` holds sizes up to 63, a `u128` up to
-/// 127. No call takes memory.
+/// 127. No call allocates.
 pub trait SizeSet: Copy {
     ghost use Rattle.std.specs.Prelude.{◌≡◌, ℕ, ◌≤◌, ◌<◌, ◌⊎◌, ◌↔◌, IsTrue, MatchOption};
     ghost use Rattle.plan.specs.Sets.{IsSum, IsLeastFrom, IsEmptyFrom};
@@ -18,7 +18,7 @@ pub trait SizeSet: Copy {
     fn empty() -> Self
         ensures { (n : ℕ) → ¬ holds result n };
 
-    /// The set of `n` alone, which is below `BITS`.
+    /// The set with the one member `n`, which is below `BITS`.
     fn one(n: u32) -> Self
         requires { n < BITS }
         ensures { (m : ℕ) → holds result m ↔ (m ≡ n) };

@@ -1,10 +1,10 @@
-//! The sizes of a row or a list, from those of what stands in it.
+//! The sizes of a row or a list, from those of its content.
 ghost use Rattle.std.specs.Prelude.{◌≡◌, ℕ, ◌≤◌, ◌<◌, ◌↔◌, ◌⊎◌, true};
 ghost use Rattle.plan.specs.Sets.{IsSum};
 
 use crate::SizeSet;
 
-/// One node, that of the row or the list, and the sizes of what stands in it; and 1 for null where it is accepted.
+/// One node, that of the row or the list, plus the sizes of its content; and 1 for null where it is accepted.
 pub(crate) fn whole_sizes<Z: SizeSet>(inside: Z, nullable: bool, limit: u32) -> Z
     requires limit { limit < Z.BITS }
     requires room { 1 ≤ limit }

@@ -9,7 +9,7 @@ pub enum Sort {
     List,
 }
 
-/// Which items may not stand in one list.
+/// Which items may not be in one list.
 #[derive(Clone, Copy, Debug, PartialEq, Eq, Drop)]
 pub enum Distinct {
     /// Any may.

@@ -14,7 +14,7 @@ use std::alloc::{AllocError, Global};
 /// The values of the pools, in order, each once; null is among the trees.
 #[derive(Drop)]
 pub(crate) struct Values {
-    /// Null, for which a place past the last tree stands.
+    /// Null, which is the tree of a place past the last one.
     pub null: Tree,
     /// Null, both truth values, the integers and the texts.
     pub scalars: Vec<Tree>,

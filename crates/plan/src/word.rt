@@ -16,7 +16,7 @@ macro_rules! word_sums {
     }};
 }
 
-// The body of `next`: behind the shift, the least member is how many zeros the word ends in.
+// The body of `next`: after the shift, the least member is the number of zeros that the word ends in.
 macro_rules! word_next {
     ($set:expr, $n:expr) => {
         if $n >= Self::BITS {

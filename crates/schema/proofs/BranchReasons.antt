@@ -16,7 +16,7 @@ use Rattle.schema.specs.Rules.Junctors.{has_bad_junctor, has_junctor, declares_f
 use Rattle.schema.specs.Rules.Reasons.{is_junctor_reason, is_inside_reason, is_presence_reason, is_value_reason, is_misplaced_reason}
 use Rattle.schema.specs.declared.reason.Reason.{Reason}
 use Rattle.schema.specs.declared.reason.Reason.TheVariants.{MisplacedJunctor, NotInScalarBranches, NotInPresenceBranches, EmptyEnum, EnumNotScalars, UndeclaredField}
-use Rattle.schema.proofs.ReasonWords.{Found, either_true, listed_there, choices_told, empty_bad, other_bad, some_keyword, keyword_found}
+use Rattle.schema.proofs.ReasonWords.{Found, either_true, listed_there, choices_explained, empty_bad, other_bad, some_keyword, keyword_found}
 
 -- ---- branches
 
@@ -24,10 +24,10 @@ value_to : (s : Data) → is_bad_branch s ≡ true → Found is_value_reason s
 value_to s h = elim (or_cases (has_keyword (λ k. not (is_branch_keyword k)) s) _ h) [
   | inl other ↦ let f = some_keyword (λ k. not (is_branch_keyword k)) s other in (f.0, NotInScalarBranches, f.1, f.2)
   | inr bad ↦
-      let told = choices_told is_scalar_value (under s (codes "enum")) bad in
-      elim told.1 [
-        | inl empty ↦ (codes "enum", EmptyEnum, told.0, empty)
-        | inr values ↦ (codes "enum", EnumNotScalars, told.0, values)
+      let reported = choices_explained is_scalar_value (under s (codes "enum")) bad in
+      elim reported.1 [
+        | inl empty ↦ (codes "enum", EmptyEnum, reported.0, empty)
+        | inr values ↦ (codes "enum", EnumNotScalars, reported.0, values)
       ]
 ]
 

@@ -14,7 +14,7 @@ use Rattle.jtree.specs.declared.value.Member.{Member}
 use Rattle.schema.specs.Document.Places.{Step, property, map_value, items, all_of, any_of, Place, schema_by, schema_at, is_junctor, is_inside, core}
 use Rattle.schema.specs.Internal.Events.{Junctor, all, any, one, branch, Part, a_schema, properties, branches, part_of}
 use Rattle.schema.specs.Rules.Broken.{At, IsPatternBranch, of_any, of_all, HasAnyPattern, HasAllPattern}
-use Rattle.schema.specs.Internal.Contexts.{is_any, is_first_of_all, outer_by, IsContext, StandsAs}
+use Rattle.schema.specs.Internal.Contexts.{is_any, is_first_of_all, outer_by, IsContext, HasPart}
 use Rattle.schema.specs.Internal.PlaceView.{place_of}
 use Rattle.schema.specs.Internal.Subschemas.{IsSubschema}
 use Rattle.schema.specs.declared.listing.Context.{Context}
@@ -235,44 +235,44 @@ context_subschema raw p c v same outer in_pattern h = record {
   );
 }
 
--- ---- what stands as a part
+-- ---- the values of parts
 
 one_on : (d : Data) (k : List ℕ) (e : Data) → under d k ≡ Some e → part_at d (name k ∷ []) ≡ Some e
 one_on d k e h = part_join d (name k) [] e e h refl
 
-keyword_stands : (ms : Members) (k : List ℕ) (part : Part) (d : Data) → PartIs k part → member_at k ms ≡ Some d → StandsAs (object ms) part d
-keyword_stands ms k part d is_map_value h = one_on (object ms) k d h
-keyword_stands ms k part d is_items h = one_on (object ms) k d h
-keyword_stands ms k part d is_negation h = one_on (object ms) k d h
-keyword_stands ms k part d (is_none l) h = tt
-keyword_stands ms k part d _ h = h
+keyword_part : (ms : Members) (k : List ℕ) (part : Part) (d : Data) → PartIs k part → member_at k ms ≡ Some d → HasPart (object ms) part d
+keyword_part ms k part d is_map_value h = one_on (object ms) k d h
+keyword_part ms k part d is_items h = one_on (object ms) k d h
+keyword_part ms k part d is_negation h = one_on (object ms) k d h
+keyword_part ms k part d (is_none l) h = tt
+keyword_part ms k part d _ h = h
 
 -- the value of a keyword
-pub part_stands : (ms : Members) (k : List ℕ) (d : Data) → member_at k ms ≡ Some d → StandsAs (object ms) (part_of k) d
-part_stands ms k d h = keyword_stands ms k (part_of k) d (part_is k) h
+pub part_at_keyword : (ms : Members) (k : List ℕ) (d : Data) → member_at k ms ≡ Some d → HasPart (object ms) (part_of k) d
+part_at_keyword ms k d h = keyword_part ms k (part_of k) d (part_is k) h
 
 -- the value of a name under `properties`
-pub property_stands : (s : Data) (ps : Members) (k : List ℕ) (d : Data) → StandsAs s properties (object ps) → member_at k ps ≡ Some d → StandsAs s (a_schema (property k)) d
-property_stands s ps k d found h = part_join s (name (codes "properties")) (name k ∷ []) d (object ps) found (one_on (object ps) k d h)
+pub property_part : (s : Data) (ps : Members) (k : List ℕ) (d : Data) → HasPart s properties (object ps) → member_at k ps ≡ Some d → HasPart s (a_schema (property k)) d
+property_part s ps k d found h = part_join s (name (codes "properties")) (name k ∷ []) d (object ps) found (one_on (object ps) k d h)
 
 -- an entry of a junctor
-pub branch_stands : (s : Data) (j : Junctor) (ds : Items) (i : ℕ) (d : Data) → StandsAs s (branches j) (list ds) → item_at i ds ≡ Some d → StandsAs s (a_schema (branch j i)) d
-branch_stands s all ds i d found h = part_join s (name (codes "allOf")) (index i ∷ []) d (list ds) found (part_join (list ds) (index i) [] d d h refl)
-branch_stands s any ds i d found h = part_join s (name (codes "anyOf")) (index i ∷ []) d (list ds) found (part_join (list ds) (index i) [] d d h refl)
-branch_stands s one ds i d found h = part_join s (name (codes "oneOf")) (index i ∷ []) d (list ds) found (part_join (list ds) (index i) [] d d h refl)
+pub branch_part : (s : Data) (j : Junctor) (ds : Items) (i : ℕ) (d : Data) → HasPart s (branches j) (list ds) → item_at i ds ≡ Some d → HasPart s (a_schema (branch j i)) d
+branch_part s all ds i d found h = part_join s (name (codes "allOf")) (index i ∷ []) d (list ds) found (part_join (list ds) (index i) [] d d h refl)
+branch_part s any ds i d found h = part_join s (name (codes "anyOf")) (index i ∷ []) d (list ds) found (part_join (list ds) (index i) [] d d h refl)
+branch_part s one ds i d found h = part_join s (name (codes "oneOf")) (index i ∷ []) d (list ds) found (part_join (list ds) (index i) [] d d h refl)
 
 -- ---- the members and items of the code
 
-pub member_stands : (xs ys : List Member) (i : ℕ) (m : Member) → AreMembers (members_of xs) → drop i xs ≡ m ∷ ys → member_at m.name (members_of xs) ≡ Some (data_of m.tree)
-member_stands [] ys zero m o h = cc
-member_stands [] ys (suc i) m o h = cc
-member_stands (x ∷ xs) ys zero m o h =
+pub member_found : (xs ys : List Member) (i : ℕ) (m : Member) → AreMembers (members_of xs) → drop i xs ≡ m ∷ ys → member_at m.name (members_of xs) ≡ Some (data_of m.tree)
+member_found [] ys zero m o h = cc
+member_found [] ys (suc i) m o h = cc
+member_found (x ∷ xs) ys zero m o h =
     let same : x ≡ m = cc in
     subst (λ (n : Member). member_at n.name (members_of (x ∷ xs)) ≡ Some (data_of n.tree)) same (member_first x.name (data_of x.tree) (members_of xs))
-member_stands (x ∷ xs) ys (suc i) m o h = member_tail x.name (data_of x.tree) (members_of xs) m.name (data_of m.tree) o (member_stands xs ys i m o.2 h)
+member_found (x ∷ xs) ys (suc i) m o h = member_tail x.name (data_of x.tree) (members_of xs) m.name (data_of m.tree) o (member_found xs ys i m o.2 h)
 
-pub item_stands : (xs ys : List Tree) (i : ℕ) (t : Tree) → drop i xs ≡ t ∷ ys → item_at i (items_of xs) ≡ Some (data_of t)
-item_stands [] ys zero t h = cc
-item_stands [] ys (suc i) t h = cc
-item_stands (x ∷ xs) ys zero t h = let same : x ≡ t = cc in ap (λ y. Some (data_of y)) same
-item_stands (x ∷ xs) ys (suc i) t h = item_stands xs ys i t h
+pub item_found : (xs ys : List Tree) (i : ℕ) (t : Tree) → drop i xs ≡ t ∷ ys → item_at i (items_of xs) ≡ Some (data_of t)
+item_found [] ys zero t h = cc
+item_found [] ys (suc i) t h = cc
+item_found (x ∷ xs) ys zero t h = let same : x ≡ t = cc in ap (λ y. Some (data_of y)) same
+item_found (x ∷ xs) ys (suc i) t h = item_found xs ys i t h

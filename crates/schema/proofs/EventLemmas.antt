@@ -19,9 +19,9 @@ use Rattle.schema.proofs.EventPlaces.{keyword_down, member_tree, item_tree, part
 
 -- ---- paths
 
-path_behind : (r p q : Path) → path_cmp (r ++ p) (r ++ q) ≡ path_cmp p q
-path_behind [] p q = refl
-path_behind (s ∷ r) p q = same_step s (r ++ p) (r ++ q) ∙ path_behind r p q
+path_after : (r p q : Path) → path_cmp (r ++ p) (r ++ q) ≡ path_cmp p q
+path_after [] p q = refl
+path_after (s ∷ r) p q = same_step s (r ++ p) (r ++ q) ∙ path_after r p q
 
 name_before : (k l : List ℕ) (p q : Path) → text_cmp k l ≡ Less → path_cmp (name k ∷ p) (name l ∷ q) ≡ Less
 name_before k l p q e = rw e refl
@@ -30,12 +30,12 @@ index_before : (i j : ℕ) (p q : Path) → i < j → path_cmp (index i ∷ p) (
 index_before i j p q before = let less : Less ≡ nat_cmp i j = nat_cmp_is i j Less before in rw (← less) refl
 
 -- paths that begin alike compare by what follows
-behind_both : (r p q x y : Path) → x ≡ r ++ p → y ≡ r ++ q → path_cmp p q ≡ Less → path_cmp x y ≡ Less
-behind_both r p q x y a b less = ap (λ z. path_cmp z y) a ∙ (ap (λ z. path_cmp (r ++ p) z) b ∙ (path_behind r p q ∙ less))
+after_both : (r p q x y : Path) → x ≡ r ++ p → y ≡ r ++ q → path_cmp p q ≡ Less → path_cmp x y ≡ Less
+after_both r p q x y a b less = ap (λ z. path_cmp z y) a ∙ (ap (λ z. path_cmp (r ++ p) z) b ∙ (path_after r p q ∙ less))
 
 -- a beginning comes first
 beginning_first : (r p : Path) (y : Path) (k : List ℕ) → y ≡ r ++ (name k ∷ p) → path_cmp r y ≡ Less
-beginning_first r p y k b = behind_both r [] (name k ∷ p) r y (sym (append-nil r)) b refl
+beginning_first r p y k b = after_both r [] (name k ∷ p) r y (sym (append-nil r)) b refl
 
 place_path_join : (p r : Place) → place_path (p ++ r) ≡ place_path p ++ place_path r
 place_path_join [] r = refl
@@ -89,7 +89,7 @@ properties_rest s t (to_property l) = (l, refl)
 nothing_leads : (s : Step) (t : Path) → Leads no_schema s t → ⊥
 nothing_leads s t h = elim h [ ]
 
--- a keyword that is too long comes before what stands in it
+-- a keyword that is too long comes before what is in it
 keyword_first : (p : Place) (k : List ℕ) (part : Part) (d : Data) (m n : Event) → PartIs k part → IsTree d → IsIn m (keyword_event p k d) → IsIn n (part_events p part d)
     → path_cmp (event_path m) (event_path n) ≡ Less
 keyword_first p k part d m n is_properties o h i =
@@ -97,7 +97,7 @@ keyword_first p k part d m n is_properties o h i =
     let found = key_parts p keyword properties d n is_properties o i in
     let rest = properties_rest found.0 found.1 found.3 in
     let path : event_path n ≡ place_path p ++ (name keyword ∷ (name rest.0 ∷ found.2)) = found.4 ∙ ap (λ x. place_path p ++ (name keyword ∷ (x ++ found.2))) rest.1 in
-    behind_both (place_path p) (name keyword ∷ []) (name keyword ∷ (name rest.0 ∷ found.2)) (event_path m) (event_path n)
+    after_both (place_path p) (name keyword ∷ []) (name keyword ∷ (name rest.0 ∷ found.2)) (event_path m) (event_path n)
     (ap event_path (keyword_down p keyword d m h).0) path (same_step (name keyword) [] (name rest.0 ∷ found.2))
 keyword_first p k part d m n (is_none l) o h i = let found = key_parts p k no_schema d n (is_none k) o i in absurd (nothing_leads found.0 found.1 found.3)
 keyword_first p k part d m n _ o h i = elim h [ ]
@@ -108,7 +108,7 @@ key_first : (p : Place) (k : List ℕ) (d : Data) (ms : Members) (m n : Event) �
 key_first p k d ms m n o h i =
     let here = key_path p k d m o.0 h in
     let later = keys_path p ms n o.2 i in
-    behind_both (place_path p) (name k ∷ here.0) (name later.0 ∷ later.2) (event_path m) (event_path n) here.1 later.4
+    after_both (place_path p) (name k ∷ here.0) (name later.0 ∷ later.2) (event_path m) (event_path n) here.1 later.4
     (name_before k later.0 here.0 later.2 (before_each k ms later.0 later.1 o.1 o.2 later.3))
 
 -- ---- below a name, and below an entry
@@ -124,7 +124,7 @@ property_first p k d ms m n o h i =
     let later = names_down p ms n o.2 i in
     let below : AreMembers later.1 = member_tree ms later.0 (object later.1) o.2 later.2 in
     let there = schema_goes p (property later.0) later.1 n below later.3 in
-    behind_both (place_path p) (keyword ∷ (name k ∷ here.0)) (keyword ∷ (name later.0 ∷ there.0)) (event_path m) (event_path n) here.1 there.1
+    after_both (place_path p) (keyword ∷ (name k ∷ here.0)) (keyword ∷ (name later.0 ∷ there.0)) (event_path m) (event_path n) here.1 there.1
     (same_step keyword (name k ∷ here.0) (name later.0 ∷ there.0) ∙ name_before k later.0 here.0 there.0 (before_each k ms later.0 (object later.1) o.1 o.2 later.2))
 
 branch_before : (j : Junctor) (i x : ℕ) (p q : Path) → i < x → path_cmp (step_path (branch j i) ++ p) (step_path (branch j x) ++ q) ≡ Less
@@ -140,10 +140,10 @@ branch_first p j i d ds m n o h l =
     let below : AreMembers later.1 = item_tree later.0 ds (object later.1) o.1 later.2 in
     let there = schema_goes p (branch j (suc i + later.0)) later.1 n below later.3 in
     let before : i < suc i + later.0 = omega arith in
-    behind_both (place_path p) (step_path (branch j i) ++ here.0) (step_path (branch j (suc i + later.0)) ++ there.0) (event_path m) (event_path n) here.1 there.1
+    after_both (place_path p) (step_path (branch j i) ++ here.0) (step_path (branch j (suc i + later.0)) ++ there.0) (event_path m) (event_path n) here.1 there.1
     (branch_before j i (suc i + later.0) here.0 there.0 before)
 
--- a schema comes before what stands in it
+-- a schema comes before what is in it
 schema_first : (p : Place) (ms : Members) (m : Event) → AreMembers ms → IsIn m (member_events p true ms) → path_cmp (place_path p) (event_path m) ≡ Less
 schema_first p ms m o h = let found = keys_path p ms m o h in beginning_first (place_path p) found.2 (event_path m) found.0 found.4
 

@@ -1,4 +1,4 @@
--- Which events stand below a place: those of the schemas one step on, and those of the keywords.
+-- Which events are below a place: those of the schemas one step on, and those of the keywords.
 use Rattle.std.proofs.Common.{◌≡◌, ◌⊎◌, ℕ, zero, suc, ◌+◌, List, [], ◌∷◌, ◌++◌, true, false, Some, refl, sym, ap, ◌∙◌, subst, inl, inr, arith}
 use Rattle.std.specs.Prelude.{if◌then◌else◌, option_and_then, codes}
 use Rattle.std.specs.Str.{bytes_eq}

@@ -137,7 +137,7 @@ event_below raw e s p (too_long q k) found h = (
     schema = h.2.schema;
     is = at_below raw e h.2.schema s h.0 found h.2.is;
     value = h.2.value;
-    stands = h.2.stands;
+    is_there = h.2.is_there;
     most = h.2.most;
     limit = h.2.limit;
     past = h.2.past;
@@ -180,7 +180,7 @@ here_keyword p ms m w =
         schema = object ms;
         is = refl;
         value = w.value;
-        stands = w.at;
+        is_there = w.at;
         most = keyword.1.0;
         limit = keyword.1.1;
         past = keyword.1.2;
@@ -233,7 +233,7 @@ schema_entered ms r s h =
 pub keyword_recorded : (ms : Members) (r : Place) (k : List ℕ) → IsTooLong (object ms) r k → IsIn (too_long r k) (schema_events [] ms)
 keyword_recorded ms r k long =
     let on : Reached ms [] r long.schema = reached r ms [] long.schema long.is in
-    let at : member_at k on.below ≡ Some long.value = subst (λ d. under d k ≡ Some long.value) on.is long.stands in
+    let at : member_at k on.below ≡ Some long.value = subst (λ d. under d k ≡ Some long.value) on.is long.is_there in
     on.each (too_long r k) (inr (members_up r on.below (too_long r k) k long.value at (inl (keyword_up r k long.value long.most long.limit long.past))))
 
 pub entered_schema : (ms : Members) → AreMembers ms → (p : Place) (s : Data) → IsIn (entered p s) (schema_events [] ms) → schema_at (object ms) p ≡ Some s

@@ -29,7 +29,7 @@ use Rattle.schema.specs.declared.violation.Rule.{Rule}
 use Rattle.schema.specs.declared.reason.Reason.{Reason}
 use Rattle.schema.specs.declared.reason.Reason.TheVariants.{NotInBranches, TypeInBranch, NotSupported, KeysOfOtherList, NoKeys, NoItems, ItemsNotObjects, ItemsNotScalars, NullableItems, RepeatedKey, UndeclaredKey, KeyNotScalar, NullableKey, OptionalKey, MisplacedJunctor, NotInScalarBranches, NotInPresenceBranches, TooManyNames, EmptyEnum, EnumNotScalars, EnumOfOtherKind, UndeclaredField, RootNotObject, NotAtRoot, UnknownType, NotWithPreserving, NotOfScalars, NotOfLists, NotOfObjects, NotOfOpenPlaces, AdditionalPropertiesTrue}
 use Rattle.schema.specs.declared.reason.Finding.{Finding}
-use Rattle.schema.proofs.TakenLemmas.{Same, same_each, same_all, same_rising, adds_join, adds_one, adds_nothing}
+use Rattle.schema.proofs.TakenLemmas.{Same, Chained, chain_first, chain_tail, same_each, same_all, same_rising, adds_join, adds_one, adds_nothing}
 
 -- ---- one more reason, and one more keyword
 
@@ -98,24 +98,7 @@ listed NotOfObjects = (28, omega arith, refl)
 listed NotOfOpenPlaces = (29, omega arith, refl)
 listed AdditionalPropertiesTrue = (30, omega arith, refl)
 
-abbrev IsLower : Reason → Reason → Type 0
-IsLower c d = position c < position d
-
-abbrev Chained : List Reason → Type 0
-Chained [] = Unit {0}
-Chained (c ∷ []) = Unit {0}
-Chained (c ∷ d ∷ reasons) = IsLower c d × Chained (d ∷ reasons)
-
-chain_first : (c : Reason) (reasons : List Reason) → Chained (c ∷ reasons) → (d : Reason) → Among reasons d → IsLower c d
-chain_first c [] h d a = elim a [ ]
-chain_first c (e ∷ reasons) h d (inl same) = subst (IsLower c) same h.0
-chain_first c (e ∷ reasons) h d (inr a) = let later = chain_first e reasons h.1 d a in omega (arith, h.0, later)
-
-chain_tail : (c : Reason) (reasons : List Reason) → Chained (c ∷ reasons) → Chained reasons
-chain_tail c [] h = tt
-chain_tail c (d ∷ reasons) h = h.1
-
-all_chained : Chained all_reasons
+all_chained : Chained position all_reasons
 all_chained = (omega arith, (omega arith, (omega arith, (omega arith, (omega arith, (omega arith, (omega arith, (omega arith, (omega arith, (omega arith, (omega arith, (omega arith, (omega arith, (omega arith, (omega arith, (omega arith, (omega arith, (omega arith, (omega arith, (omega arith, (omega arith, (omega arith, (omega arith, (omega arith, (omega arith, (omega arith, (omega arith, (omega arith, (omega arith, (omega arith, tt))))))))))))))))))))))))))))))
 
 abbrev IsLess : Finding → Finding → Type 0
@@ -131,17 +114,17 @@ from_findings k [] f a = elim a [ ]
 from_findings k (d ∷ reasons) f (inl e) = (d, inl refl, e)
 from_findings k (d ∷ reasons) f (inr a) = let g = from_findings k reasons f a in (g.0, inr g.1, g.2)
 
-reason_before : (k : List ℕ) (c d : Reason) → IsLower c d → IsLess (finding k c) (finding k d)
+reason_before : (k : List ℕ) (c d : Reason) → position c < position d → IsLess (finding k c) (finding k d)
 reason_before k c d lower =
     let tied = tied_itself nat_list_cmp_total k in
     let less : Less ≡ nat_cmp (position c) (position d) = nat_cmp_is (position c) (position d) Less lower in
     rw (tied, ← less) refl
 
-reasons_rising : (k : List ℕ) (reasons : List Reason) → Chained reasons → Rising IsLess (findings_at k reasons)
+reasons_rising : (k : List ℕ) (reasons : List Reason) → Chained position reasons → Rising IsLess (findings_at k reasons)
 reasons_rising k [] h = tt
 reasons_rising k (c ∷ reasons) h = (
-  λ g a. let f = from_findings k reasons g a in subst (IsLess (finding k c)) f.2 (reason_before k c f.0 (chain_first c reasons h f.0 f.1)),
-  reasons_rising k reasons (chain_tail c reasons h),
+  λ g a. let f = from_findings k reasons g a in subst (IsLess (finding k c)) f.2 (reason_before k c f.0 (chain_first position c reasons h f.0 f.1)),
+  reasons_rising k reasons (chain_tail position c reasons h),
 )
 
 -- ---- the keywords of a place

@@ -63,16 +63,17 @@ pub record ItemBreaks (f : Form) (i : ℕ) (ds : Items) (path : Path) : Type 0 w
 member_up : (f : Form) (k : List ℕ) (d : Data) (ms : Members) → AreMembers (member k d ms) → (p : Path) → MemberBreaks f ms p → MemberBreaks f (member k d ms) p
 member_up f k d ms o p b = record { key = b.key; rest = b.rest; value = b.value; path_is = b.path_is; at = member_tail k d ms b.key b.value o b.at; breaks = b.breaks }
 
+-- where the first member is the one that breaks the form, its value does
+first_breaks : (f : Form) (k : List ℕ) (d : Data) (ms : Members) (p : Path) (b : MemberBreaks f (member k d ms) p) → bytes_eq b.key k ≡ true → BreaksForm (form_below f (name k)) d b.rest
+first_breaks f k d ms p b t =
+    let at = rw t at b.at in
+    let value : d ≡ b.value = same_Some d b.value at in
+    subst (λ n. BreaksForm (form_below f (name n)) d b.rest) (same_name b.key k t) (subst (λ v. BreaksForm (form_below f (name b.key)) v b.rest) (sym value) b.breaks)
+
 member_down : (f : Form) (k : List ℕ) (d : Data) (ms : Members) → ((p : Path) → BreaksForm (form_below f (name k)) d p → ⊥)
     → (p : Path) → MemberBreaks f (member k d ms) p → MemberBreaks f ms p
 member_down f k d ms none p b = elim (bool_cases (bytes_eq b.key k)) [
-  | inl t ↦
-      let same : b.key ≡ k = same_name b.key k t in
-      let at = rw t at b.at in
-      let value : d ≡ b.value = same_Some d b.value at in
-      let breaks : BreaksForm (form_below f (name k)) d b.rest =
-      subst (λ n. BreaksForm (form_below f (name n)) d b.rest) same (subst (λ v. BreaksForm (form_below f (name b.key)) v b.rest) (sym value) b.breaks) in
-      absurd (none b.rest breaks)
+  | inl t ↦ absurd (none b.rest (first_breaks f k d ms p b t))
   | inr other ↦ record { key = b.key; rest = b.rest; value = b.value; path_is = b.path_is; at = sym (member_later b.key k d ms other) ∙ b.at; breaks = b.breaks }
 ]
 
@@ -82,13 +83,8 @@ member_here f k d ms p o first = record {
   here = record { key = k; rest = p; value = d; path_is = refl; at = member_first k d ms; breaks = first.here };
   none_before = λ e b. elim (bool_cases (bytes_eq b.key k)) [
     | inl t ↦
-        let same : b.key ≡ k = same_name b.key k t in
-        let at = rw t at b.at in
-        let value : d ≡ b.value = same_Some d b.value at in
-        let breaks : BreaksForm (form_below f (name k)) d b.rest =
-        subst (λ n. BreaksForm (form_below f (name n)) d b.rest) same (subst (λ v. BreaksForm (form_below f (name b.key)) v b.rest) (sym value) b.breaks) in
-        let path : e ≡ name k ∷ b.rest = b.path_is ∙ ap (λ n. name n ∷ b.rest) same in
-        subst (λ x. path_cmp x (name k ∷ p) ≢ Less) (sym path) (subst (λ order. order ≢ Less) (sym (same_step (name k) b.rest p)) (first.none_before b.rest breaks))
+        let path : e ≡ name k ∷ b.rest = b.path_is ∙ ap (λ n. name n ∷ b.rest) (same_name b.key k t) in
+        subst (λ x. path_cmp x (name k ∷ p) ≢ Less) (sym path) (subst (λ order. order ≢ Less) (sym (same_step (name k) b.rest p)) (first.none_before b.rest (first_breaks f k d ms e b t)))
     | inr other ↦
         let at = sym (member_later b.key k d ms other) ∙ b.at in
         let before = before_each k ms b.key b.value o.1 o.2 at in

@@ -1,4 +1,4 @@
--- Where no rule is broken the items of sets and map lists can be told apart.
+-- Where no rule is broken the items of sets and map lists can be distinguished.
 use Rattle.std.proofs.Common.{◌≡◌, ◌≢◌, ℕ, List, [], ◌∷◌, ◌++◌, Bool, true, false, Option, Some, None, refl, sym, ◌∙◌, subst, arith}
 use Rattle.std.specs.Prelude.{option_and_then, codes, ◌||◌, ◌&&◌}
 use Rattle.std.proofs.lemmas.Bool.{and_parts, not-true, true_from_ne_false}
@@ -24,7 +24,7 @@ use Rattle.schema.proofs.ByPlaceLemmas.{step_part}
 
 -- ---- the schema of a node
 
--- each keyword has its form, and so has all that stands below it
+-- each keyword has its form, and so has all that is below it
 abbrev pub HaveForms : Data → Type 0
 HaveForms s = (k : List ℕ) (path : Path) → BreaksForm object_form s (name k ∷ path) → ⊥
 
@@ -80,8 +80,8 @@ key_below : (N : Node) (d : Data) (k : List ℕ) (o : Option Data) → AreNodesO
 key_below (node n x (object fs p t b cs)) d k (Some e) h by plain given =
     let M = node_of_below false _ d e (property k) h (refl, λ is e. absurd (cc)) by in
     let f = found_node (field_at k fs) M.0 M.1 in
-    let told = (here false _ d h).1 k f.0 f.1 in
-    (f.0, f.1, subst IsPlainScalar (sym f.2) (plain_scalar M.0 e M.2 plain), rw (told.0, told.1, by) given)
+    let reported = (here false _ d h).1 k f.0 f.1 in
+    (f.0, f.1, subst IsPlainScalar (sym f.2) (plain_scalar M.0 e M.2 plain), rw (reported.0, reported.1, by) given)
 key_below (node n x A) d k (Some e) h by plain given = let M = node_of_below false _ d e (property k) h (refl, λ is e. absurd (cc)) by in absurd (none-some M.0 M.1)
 key_below N d k None h by plain given = absurd (cc)
 

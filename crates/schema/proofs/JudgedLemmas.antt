@@ -13,10 +13,10 @@ use Rattle.schema.specs.Document.Places.{Place, place_path, place_pointer, IsPla
 use Rattle.schema.specs.Internal.PlaceView.{place_of, subschema_of}
 use Rattle.schema.specs.Internal.Events.{Event, entered, too_long, IsIn, Ascend, subschemas_of, schema_events}
 use Rattle.schema.specs.Rules.Broken.{Broken, metadata_keyword, metadata_type, metadata_field}
-use Rattle.schema.specs.Rules.Breaks.{Break, number, break_cmp, Told, told, told_of, AreBreaks, AreViolations}
+use Rattle.schema.specs.Rules.Breaks.{Break, number, break_cmp, Reported, reported, reported_of, AreBreaks, AreViolations}
 use Rattle.schema.specs.Rules.Explained.{OneByOne}
 use Rattle.schema.specs.Internal.Subschemas.{IsSubschema, AreSubschemas}
-use Rattle.schema.specs.Internal.Judged.{judged, pair, pairs_at, pairs_of, AddsBreaks, IsTold}
+use Rattle.schema.specs.Internal.Judged.{judged, pair, pairs_at, pairs_of, AddsBreaks, IsReported}
 use Rattle.schema.specs.declared.listing.Subschema.{Subschema}
 use Rattle.schema.specs.declared.violation.Rule.{Rule}
 use Rattle.schema.specs.declared.violation.Rule.TheVariants.{V01, V02, V03, V04, V05, V06, V07, V08, V09, V10, V11, V12, V13, V15, V16, V17}
@@ -24,7 +24,7 @@ use Rattle.schema.specs.declared.violation.Violation.{Violation}
 use Rattle.jtree.specs.Internal.Rising.{Among, Rising, contains, each_of, all_pairs, among_left, among_right, among_parts, rising_join}
 use Rattle.schema.proofs.LimitLemmas.{path_total}
 use Rattle.schema.proofs.EventLemmas.{schema_events_are}
-use Rattle.schema.proofs.TakenLemmas.{same_each, same_all, same_rising, taken_split, adds_join, adds_one, adds_nothing}
+use Rattle.schema.proofs.TakenLemmas.{Chained, chain_first, chain_tail, same_each, same_all, same_rising, taken_split, adds_join, adds_one, adds_nothing}
 
 -- ---- one more rule, and one more place
 
@@ -32,23 +32,23 @@ more_pairs : (p : Place) (rules : List Rule) (i : ℕ) (d : Rule) → i < length
     → pairs_at p (take (i + 1) rules) ≡ pairs_at p (take i rules) ++ (pair p (get_or rules i d) ∷ [])
 more_pairs p rules i d within = ap (pairs_at p) (take_more rules i d within) ∙ map-append (pair p) (take i rules) (get_or rules i d ∷ [])
 
--- a violation with the pointer of the place tells the break there
-pub is_told : (p : Place) (r : Rule) (w : Violation) → w.rule ≡ r → string_bytes w.pointer ≡ place_pointer p → told w ≡ told_of (pair p r)
-is_told p r w rule_is pointer_is =
-    let as_told : List ℕ → Rule → Told = λ bytes rule. record { pointer = bytes; rule = rule } in
-    ap (λ bytes. as_told bytes w.rule) pointer_is ∙ ap (as_told (place_pointer p)) rule_is
+-- a violation with the pointer of the place reports the break there
+pub is_reported : (p : Place) (r : Rule) (w : Violation) → w.rule ≡ r → string_bytes w.pointer ≡ place_pointer p → reported w ≡ reported_of (pair p r)
+is_reported p r w rule_is pointer_is =
+    let as_reported : List ℕ → Rule → Reported = λ bytes rule. record { pointer = bytes; rule = rule } in
+    ap (λ bytes. as_reported bytes w.rule) pointer_is ∙ ap (as_reported (place_pointer p)) rule_is
 
 pub found_rule : {Y : Type 0} (T : Data → Break → Y → Type 0) (v : Subschema) (rules : List Rule) (i : ℕ) (d : Rule) (old mid : List Y) (y : Y) → i < length rules
     → ((raw : Data) → IsSubschema raw v → T raw (pair (place_of v.place.items) (get_or rules i d)) y)
     → ((raw : Data) → IsSubschema raw v → IsTrue true ↔ Broken raw (place_of v.place.items) (get_or rules i d))
     → AddsBreaks T (λ raw. IsSubschema raw v) (pairs_at (place_of v.place.items) (take i rules)) old mid
     → AddsBreaks T (λ raw. IsSubschema raw v) (pairs_at (place_of v.place.items) (take (i + 1) rules)) old (mid ++ (y ∷ []))
-found_rule T v rules i d old mid y within tells is f =
+found_rule T v rules i d old mid y within reports is f =
     let p = place_of v.place.items in
     let b = pair p (get_or rules i d) in
     subst (λ ps. AddsBreaks T (λ raw. IsSubschema raw v) ps old (mid ++ (y ∷ []))) (sym (more_pairs p rules i d within))
     (adds_join (pairs_at p (take i rules)) (b ∷ []) old mid (mid ++ (y ∷ [])) (λ raw known. known) f
-    (adds_one b y mid (λ raw known. ((is raw known).0 refl, tells raw known))))
+    (adds_one b y mid (λ raw known. ((is raw known).0 refl, reports raw known))))
 
 pub kept_rule : {Y : Type 0} (T : Data → Break → Y → Type 0) (v : Subschema) (rules : List Rule) (i : ℕ) (d : Rule) (old mid : List Y) → i < length rules
     → ((raw : Data) → IsSubschema raw v → IsTrue false ↔ Broken raw (place_of v.place.items) (get_or rules i d))
@@ -146,37 +146,20 @@ all_place (w ∷ subschemas) b a = elim (among_parts (pairs_at (place_of w.place
   | inr h ↦ let f = all_place subschemas b h in (f.0, f.1, inr f.2, f.3)
 ]
 
-abbrev IsLower : Rule → Rule → Type 0
-IsLower r s = number r < number s
-
-abbrev Chained : List Rule → Type 0
-Chained [] = Unit {0}
-Chained (r ∷ []) = Unit {0}
-Chained (r ∷ s ∷ rules) = IsLower r s × Chained (s ∷ rules)
-
-chain_first : (r : Rule) (rules : List Rule) → Chained (r ∷ rules) → (s : Rule) → Among rules s → IsLower r s
-chain_first r [] h s a = elim a [ ]
-chain_first r (t ∷ rules) h s (inl e) = subst (IsLower r) e h.0
-chain_first r (t ∷ rules) h s (inr a) = let later = chain_first t rules h.1 s a in omega (arith, h.0, later)
-
-chain_tail : (r : Rule) (rules : List Rule) → Chained (r ∷ rules) → Chained rules
-chain_tail r [] h = tt
-chain_tail r (s ∷ rules) h = h.1
-
-rule_before : (p : Place) (r s : Rule) → IsLower r s → IsLess (pair p r) (pair p s)
+rule_before : (p : Place) (r s : Rule) → number r < number s → IsLess (pair p r) (pair p s)
 rule_before p r s lower =
     let tied = tied_itself path_total (place_path p) in
     let less : Less ≡ nat_cmp (number r) (number s) = nat_cmp_is (number r) (number s) Less lower in
     rw (tied, ← less) refl
 
-pairs_rising : (p : Place) (rules : List Rule) → Chained rules → Rising IsLess (pairs_at p rules)
+pairs_rising : (p : Place) (rules : List Rule) → Chained number rules → Rising IsLess (pairs_at p rules)
 pairs_rising p [] h = tt
 pairs_rising p (r ∷ rules) h = (
-  λ b a. let f = pairs_place p rules b a in subst (IsLess (pair p r)) f.2 (rule_before p r f.0 (chain_first r rules h f.0 f.1)),
-  pairs_rising p rules (chain_tail r rules h),
+  λ b a. let f = pairs_place p rules b a in subst (IsLess (pair p r)) f.2 (rule_before p r f.0 (chain_first number r rules h f.0 f.1)),
+  pairs_rising p rules (chain_tail number r rules h),
 )
 
-judged_chain : Chained judged
+judged_chain : Chained number judged
 judged_chain = (omega arith, (omega arith, (omega arith, (omega arith, (omega arith, (omega arith, (omega arith, (omega arith, (omega arith, (omega arith, (omega arith, (omega arith, (omega arith, (omega arith, (omega arith, tt)))))))))))))))
 
 abbrev pub Earlier : Subschema → Subschema → Type 0
@@ -242,11 +225,11 @@ place_entered ms subschemas o are p at =
 subschemas_earlier : (ms : Members) (subschemas : List Subschema) → AreMembers ms → AreSubschemas ms subschemas → Rising Earlier subschemas
 subschemas_earlier ms subschemas o are = subschemas_rising subschemas (subst Ascend (sym are.whole) (subschemas_ascend (schema_events [] ms) (schema_events_are ms o).ascending))
 
--- what is told of the pairs are the breaks, one by one
-pub breaks_told : {Y : Type 0} (T : Data → Break → Y → Type 0) (ms : Members) (subschemas : List Subschema) (ys : List Y) → AreMembers ms → AreSubschemas ms subschemas
+-- what is reported of the pairs are the breaks, one by one
+pub breaks_reported : {Y : Type 0} (T : Data → Break → Y → Type 0) (ms : Members) (subschemas : List Subschema) (ys : List Y) → AreMembers ms → AreSubschemas ms subschemas
     → AddsBreaks T (λ raw. All (IsSubschema raw) subschemas) (pairs_of subschemas) [] ys
     → (breaks : List Break) × AreBreaks (Broken (object ms)) breaks × OneByOne (T (object ms)) breaks ys
-breaks_told T ms subschemas ys o are f =
+breaks_reported T ms subschemas ys o are f =
     let raw = object ms in
     let P = λ (b : Break). Broken raw b.place b.rule in
     let split = taken_split P (T raw) (pairs_of subschemas) f.more (f.are raw are.each) in
@@ -263,14 +246,14 @@ breaks_told T ms subschemas ys o are f =
       subst (OneByOne (T raw) breaks) (sym f.grown) split.2,
     )
 
-told_one_by_one : (raw : Data) (breaks : List Break) (violations : List Violation) → OneByOne (IsTold raw) breaks violations → map told violations ≡ map told_of breaks
-told_one_by_one raw [] [] h = refl
-told_one_by_one raw (b ∷ breaks) (v ∷ violations) h = ap (λ t. t ∷ map told violations) h.0 ∙ ap (λ ts. told_of b ∷ ts) (told_one_by_one raw breaks violations h.1)
-told_one_by_one raw [] (v ∷ violations) h = absurd h
-told_one_by_one raw (b ∷ breaks) [] h = absurd h
+reported_one_by_one : (raw : Data) (breaks : List Break) (violations : List Violation) → OneByOne (IsReported raw) breaks violations → map reported violations ≡ map reported_of breaks
+reported_one_by_one raw [] [] h = refl
+reported_one_by_one raw (b ∷ breaks) (v ∷ violations) h = ap (λ t. t ∷ map reported violations) h.0 ∙ ap (λ ts. reported_of b ∷ ts) (reported_one_by_one raw breaks violations h.1)
+reported_one_by_one raw [] (v ∷ violations) h = absurd h
+reported_one_by_one raw (b ∷ breaks) [] h = absurd h
 
 pub violations_of : (ms : Members) (subschemas : List Subschema) (violations : List Violation) → AreMembers ms → AreSubschemas ms subschemas
-    → AddsBreaks IsTold (λ raw. All (IsSubschema raw) subschemas) (pairs_of subschemas) [] violations → AreViolations (Broken (object ms)) violations
+    → AddsBreaks IsReported (λ raw. All (IsSubschema raw) subschemas) (pairs_of subschemas) [] violations → AreViolations (Broken (object ms)) violations
 violations_of ms subschemas violations o are f =
-    let b = breaks_told IsTold ms subschemas violations o are f in
-    (b.0, b.1, told_one_by_one (object ms) b.0 violations b.2)
+    let b = breaks_reported IsReported ms subschemas violations o are f in
+    (b.0, b.1, reported_one_by_one (object ms) b.0 violations b.2)

@@ -207,9 +207,9 @@ some_value None h = cc
 sound_junctors : (M : Node) (raw : Data) (root : Node) → IsRootOf root raw → (p : Place) (s : Data) → schema_at raw p ≡ Some s → is_inside p ≡ false → HaveForms s
     → AreNodesOf (is_root p && true) M s → HasSoundJunctors M
 sound_junctors (node n x (object_node fs pr t b cs)) raw root is p s at out forms h =
-    let told = (here (is_root p && true) _ s h).0 in
-    let kind = told.2.is in
-    let junctors = told.3.3 in
+    let reported = (here (is_root p && true) _ s h).0 in
+    let kind = reported.2.is in
+    let junctors = reported.3.3 in
     let named = λ (k : List ℕ) (c : Contains (names_in cs) k). object_named cs s k junctors (contained (names_in cs) k c) in
     record {
       declared = λ k c.

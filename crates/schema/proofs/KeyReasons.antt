@@ -22,9 +22,9 @@ use Rattle.schema.proofs.ReasonWords.{Found, either_true, text_there, some_there
 listed : (t : List ℕ) (s : Data) → is_of_list_type t s ≡ true → has s list_type ≡ true
 listed t s h = text_there (t ∷ []) (under s list_type) h
 
-set_told : (s : Data) (o : Option Data) → schema_by s items ≡ o → is_list_kind (kind_of s) ≡ true → is_of_list_type (codes "set") s ≡ true → not (is_plain_scalar o) ≡ true → Found is_set_reason s
-set_told s None by is_list set bad = (list_type, NoItems, listed (codes "set") s set, rw (is_list, set, by) refl)
-set_told s (Some t) by is_list set bad = elim (bool_cases (is_scalar_kind (kind_of t))) [
+set_explained : (s : Data) (o : Option Data) → schema_by s items ≡ o → is_list_kind (kind_of s) ≡ true → is_of_list_type (codes "set") s ≡ true → not (is_plain_scalar o) ≡ true → Found is_set_reason s
+set_explained s None by is_list set bad = (list_type, NoItems, listed (codes "set") s set, rw (is_list, set, by) refl)
+set_explained s (Some t) by is_list set bad = elim (bool_cases (is_scalar_kind (kind_of t))) [
   | inl is ↦ (codes "items", NullableItems, items_there s t by, rw (is_list, set, by) (grind arith))
   | inr other ↦ (codes "items", ItemsNotScalars, items_there s t by, rw (is_list, set, by, other) refl)
 ]
@@ -55,7 +55,7 @@ set_reasons s = (
   λ h.
       let a = and_parts _ _ h in
       let b = and_parts _ _ a.1 in
-      set_told s (schema_by s items) refl a.0 b.0 b.1,
+      set_explained s (schema_by s items) refl a.0 b.0 b.1,
   λ f.
       let a = and_parts _ _ f.3 in
       let b = and_parts _ _ a.1 in
@@ -94,17 +94,17 @@ never_any : (ks : List (List ℕ)) → any_text (λ k. false) ks ≡ true → �
 never_any [] h = cc
 never_any (k ∷ ks) h = never_any ks h
 
-key_told : (c : Reason) (s t : Data) → schema_by s items ≡ Some t → any_text (is_key_reason c t) (texts_under s map_keys) ≡ true → is_map_list_reason c map_keys s ≡ true
-key_told UndeclaredKey s t by h = rw by h
-key_told KeyNotScalar s t by h = rw by h
-key_told NullableKey s t by h = rw by h
-key_told OptionalKey s t by h = rw by h
-key_told _ s t by h = absurd (never_any (texts_under s map_keys) h)
+key_explained : (c : Reason) (s t : Data) → schema_by s items ≡ Some t → any_text (is_key_reason c t) (texts_under s map_keys) ≡ true → is_map_list_reason c map_keys s ≡ true
+key_explained UndeclaredKey s t by h = rw by h
+key_explained KeyNotScalar s t by h = rw by h
+key_explained NullableKey s t by h = rw by h
+key_explained OptionalKey s t by h = rw by h
+key_explained _ s t by h = absurd (never_any (texts_under s map_keys) h)
 
-keys_told : (s : Data) (o : Option Data) → schema_by s items ≡ o → is_of_list_type (codes "map") s ≡ true → is_list_kind (kind_of s) ≡ true
+keys_explained : (s : Data) (o : Option Data) → schema_by s items ≡ o → is_of_list_type (codes "map") s ≡ true → is_list_kind (kind_of s) ≡ true
     → not (have_keys o (items_under s map_keys)) ≡ true → Found is_keys_reason s
-keys_told s None by is_map is_list bad = (list_type, NoItems, listed (codes "map") s is_map, rw (is_map, is_list, by) refl)
-keys_told s (Some t) by is_map is_list bad = elim (bool_cases (is_object_kind (kind_of t))) [
+keys_explained s None by is_map is_list bad = (list_type, NoItems, listed (codes "map") s is_map, rw (is_map, is_list, by) refl)
+keys_explained s (Some t) by is_map is_list bad = elim (bool_cases (is_object_kind (kind_of t))) [
   | inr other ↦ (codes "items", ItemsNotObjects, items_there s t by, rw (is_map, is_list, by, other) refl)
   | inl is ↦ elim (bool_cases (flag t (codes "nullable"))) [
     | inl nullable ↦ (codes "items", NullableItems, items_there s t by, rw (is_map, is_list, by, nullable) refl)
@@ -114,7 +114,7 @@ keys_told s (Some t) by is_map is_list bad = elim (bool_cases (is_object_kind (k
           let left : not (are_keys t (texts_under s map_keys)) ≡ true = rw (is, never, some) at bad in
           elim (keys_bad t (texts_under s map_keys) (not-true _ left)) [
             | inl repeated ↦ (map_keys, RepeatedKey, some_there _ some, rw (is_map, is_list, repeated) refl)
-            | inr key ↦ (map_keys, key.0, some_there _ some, rw (is_map, is_list) (key_told key.0 s t by key.1))
+            | inr key ↦ (map_keys, key.0, some_there _ some, rw (is_map, is_list) (key_explained key.0 s t by key.1))
           ]
     ]
   ]
@@ -182,7 +182,7 @@ other_list _ k h = absurd (cc)
 pub keys_reasons : (s : Data) → has_bad_keys s ≡ true ↔ Found is_keys_reason s
 keys_reasons s = (
   λ h. elim (either_true (is_of_list_type (codes "map") s) _ _ h) [
-    | inl is ↦ let a = and_parts _ _ is.1 in keys_told s (schema_by s items) refl is.0 a.0 a.1
+    | inl is ↦ let a = and_parts _ _ is.1 in keys_explained s (schema_by s items) refl is.0 a.0 a.1
     | inr other ↦ (map_keys, KeysOfOtherList, other.1, rw other.0 refl)
   ],
   λ f. elim (either_true (is_of_list_type (codes "map") s) _ _ f.3) [

@@ -35,7 +35,7 @@ limit_past n (entered p s ∷ xs) ys h = elim (bool_cases (nat_le most_places n)
   ]
 ]
 
--- the first limit that is passed stays the first, whatever comes behind
+-- the first limit that is passed stays the first, whatever comes after it
 pub limit_stays : (n : ℕ) (xs ys : List Event) (path : Path) → limit_break n xs ≡ Some path → limit_break n (xs ++ ys) ≡ Some path
 limit_stays n [] ys path h = cc
 limit_stays n (too_long p k ∷ xs) ys path h = h

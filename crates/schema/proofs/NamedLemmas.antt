@@ -67,7 +67,7 @@ other_none known (l ∷ ks) k h a = elim (bool_cases (is_among l known)) [
 abbrev Apart : List (List ℕ) → Type 0
 Apart ks = Rising (λ k l. k ≢ l) ks
 
--- so many names stand apart from one another and from those that are known
+-- so many names, which differ from one another and from those that are known
 record Others (n : ℕ) (known ks : List (List ℕ)) : Type 0 where
   others : List (List ℕ)
   many : length others ≡ n
@@ -121,7 +121,7 @@ few_others (suc n) known ks h = elim (option_cases (other_of known ks)) [
       record { others = o.0 ∷ rest.others; few = omega (arith, rest.few); all = λ l a. known_or l o.0 known rest.others (rest.all l a) }
 ]
 
--- what stands apart in a list is no longer than it
+-- entries of a list that differ from one another are no more than the list has
 apart_length : (xs ys : List (List ℕ)) → Apart xs → ((k : List ℕ) → Among xs k → Among ys k) → length xs ≤ length ys
 apart_length xs ys a h =
     length-le_from_is_member nat_list_eq_equiv xs ys (IsDistinct-from_AllPairs bytes_eq-Decides xs (all_pairs (λ k l. k ≢ l) xs a))
@@ -312,12 +312,12 @@ pub all_among : (P : List ℕ → Type 0) (ks : List (List ℕ)) → All P ks �
 all_among P ks h k a = let c = contains ks k a in subst P c.2 (h c.0 k c.1)
 
 pub too_many : (ms : Members) (b : Bool) → AreMembers ms → b ≡ has_others 5 [] (member_names false ms) → IsTrue b ↔ NamesTooMany (object ms)
-too_many ms b o told = (
+too_many ms b o reported = (
   λ t.
-      let five = some_others 5 [] (member_names false ms) (sym told ∙ t) in
+      let five = some_others 5 [] (member_names false ms) (sym reported ∙ t) in
       (five.others, all_pairs (λ k l. k ≢ l) five.others five.apart, each_of (NamesField (object ms)) five.others (λ k a. are_names ms k o (five.are k a).0), omega (arith, five.many)),
   λ n. elim (bool_cases (has_others 5 [] (member_names false ms))) [
-    | inl t ↦ told ∙ t
+    | inl t ↦ reported ∙ t
     | inr f ↦
         let within = no_more 5 (member_names false ms) n.0 f (rising (λ k l. k ≢ l) n.0 n.1) (λ k a. names_are ms k (all_among (NamesField (object ms)) n.0 n.2 k a)) in
         absurd (omega (arith, n.3, within))

@@ -1,4 +1,4 @@
--- What stands under a name is less deep than the whole, and branches grow at their end.
+-- What is under a name is less deep than the whole, and branches grow at their end.
 use Rattle.std.proofs.Common.{◌≡◌, ◌≤◌, ℕ, suc, List, [], ◌∷◌, ◌++◌, Some, ap, inl, inr, arith}
 use Rattle.std.specs.Str.{bytes_eq}
 use Rattle.std.proofs.lemmas.Option.{same_Some}

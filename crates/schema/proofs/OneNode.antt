@@ -35,7 +35,7 @@ pub scalar_kind_is : (A : Sort) → scalar_of (sort_kind A) ≡ scalar_in A
 scalar_kind_is (scalar kind cs) = refl
 scalar_kind_is _ = refl
 
--- ---- keywords tell what is asked of a value
+-- ---- keywords say what is asked of a value
 
 same_bounds : (b c : Bounds) (s : Data) (least most : List ℕ) → AreBoundsOf b s least most → AreBoundsOf c s least most → b ≡ c
 same_bounds b c s least most h k = λ i. record { least = (h.0 ∙ sym k.0) i; most = (h.1 ∙ sym k.1) i }

@@ -1,4 +1,4 @@
--- Where no rule is broken, keywords that hold schemas stand in schemas of their kind alone.
+-- Where no rule is broken, keywords that hold schemas are in schemas of their kind alone.
 use Rattle.std.proofs.Common.{◌≡◌, ◌≢◌, ℕ, List, Bool, true, false, Some, None, refl, subst, inl, inr}
 use Rattle.std.specs.Prelude.{◌&&◌, not, codes}
 use Rattle.std.specs.Str.{bytes_eq}
@@ -30,8 +30,8 @@ keyword_named test s w ms has is = absurd (cc)
 
 foreign : (root : Bool) (s : Data) (kind : Kind) (w : List ℕ) → kind_of s ≡ Some kind → is_keyword_of kind w ≡ false → HasObject s w → is_outside_profile root s ≡ true
 foreign root s kind w is none at =
-    let stands : has_foreign_keyword (kind_of s) s ≡ true = rw is (keyword_named (λ k. not (is_keyword_of kind k)) s w at.0 at.1 (rw none refl)) in
-    or_left _ _ (or_right (root && is_bad_root s) _ (or_right _ _ (or_right (is_bad_preserving s) _ stands)))
+    let foreign : has_foreign_keyword (kind_of s) s ≡ true = rw is (keyword_named (λ k. not (is_keyword_of kind k)) s w at.0 at.1 (rw none refl)) in
+    or_left _ _ (or_right (root && is_bad_root s) _ (or_right _ _ (or_right (is_bad_preserving s) _ foreign)))
 
 module _ (raw : Data) (none : BreaksNone raw) (p : Place) (s : Data) (outside : is_inside p ≡ false) (at : schema_at raw p ≡ Some s) where
   no_foreign : (kind : Kind) (w : List ℕ) → kind_of s ≡ Some kind → is_keyword_of kind w ≡ false → HasObject s w → ⊥

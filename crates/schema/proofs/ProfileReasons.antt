@@ -16,7 +16,7 @@ use Rattle.schema.specs.Rules.Profile.{types, is_keyword_of, has_foreign_keyword
 use Rattle.schema.specs.Rules.Reasons.{is_profile_reason, is_other_root, is_no_root_keyword, is_no_preserving, is_foreign, has_no_choice, has_other_choice}
 use Rattle.schema.specs.declared.reason.Reason.{Reason}
 use Rattle.schema.specs.declared.reason.Reason.TheVariants.{NoItems, EmptyEnum, EnumOfOtherKind, UndeclaredField, RootNotObject, NotAtRoot, UnknownType, NotWithPreserving, NotOfScalars, NotOfLists, NotOfObjects, NotOfOpenPlaces, AdditionalPropertiesTrue}
-use Rattle.schema.proofs.ReasonWords.{Found, flag_there, listed_there, choices_told, empty_bad, other_bad, some_keyword, keyword_found}
+use Rattle.schema.proofs.ReasonWords.{Found, flag_there, listed_there, choices_explained, empty_bad, other_bad, some_keyword, keyword_found}
 
 -- ---- eight tests, of which one passes
 
@@ -79,12 +79,12 @@ root_by_type s h = (codes "type", (and_parts (has s (codes "type")) _ h).0, or_l
 root_by_open : (s : Data) → preserves s ≡ true → is_untyped (under s (codes "type")) ≡ true → OtherRoot s
 root_by_open s h untyped = (codes "x-kubernetes-preserve-unknown-fields", flag_there _ h, rw (h, untyped) refl)
 
-root_told : (s : Data) (o : Option Data) → under s (codes "type") ≡ o → is_int_or_string s ≡ false → not (lacks_type s) ≡ true → not (is_object_kind (kind_of s)) ≡ true → OtherRoot s
-root_told s None at several typed other = elim (bool_cases (preserves s)) [
+root_explained : (s : Data) (o : Option Data) → under s (codes "type") ≡ o → is_int_or_string s ≡ false → not (lacks_type s) ≡ true → not (is_object_kind (kind_of s)) ≡ true → OtherRoot s
+root_explained s None at several typed other = elim (bool_cases (preserves s)) [
   | inl kept ↦ root_by_open s kept (rw at refl)
   | inr closed ↦ absurd (let never : false ≡ true = rw (at, several, closed) at typed in cc)
 ]
-root_told s (Some (text t)) at several typed other = elim (bool_cases (bytes_eq t [])) [
+root_explained s (Some (text t)) at several typed other = elim (bool_cases (bytes_eq t [])) [
   | inl e ↦ elim (bool_cases (preserves s)) [
     | inl kept ↦ root_by_open s kept (rw (at, e) refl)
     | inr closed ↦ absurd (let never : false ≡ true = rw (at, e, several, closed) at typed in cc)
@@ -97,14 +97,14 @@ root_told s (Some (text t)) at several typed other = elim (bool_cases (bytes_eq 
     | inr f ↦ root_by_type s (rw (at, e, f) refl)
   ]
 ]
-root_told s (Some _) at several typed other = root_by_type s (rw at refl)
+root_explained s (Some _) at several typed other = root_by_type s (rw at refl)
 
 root_to : (s : Data) → (not (lacks_type s) && not (is_object_kind (kind_of s))) ≡ true → OtherRoot s
 root_to s h =
     let parts = and_parts (not (lacks_type s)) _ h in
     elim (bool_cases (is_int_or_string s)) [
       | inl single ↦ (codes "x-kubernetes-int-or-string", flag_there _ single, rw single refl)
-      | inr several ↦ root_told s (under s (codes "type")) refl several parts.0 parts.1
+      | inr several ↦ root_explained s (under s (codes "type")) refl several parts.0 parts.1
     ]
 
 root_typed : (s : Data) (o : Option Data) → under s (codes "type") ≡ o → has_other_text empty_or_object s (codes "type") ≡ true → (lacks_type s ≡ false) × (is_object_kind (typed_kind s o) ≡ false)
@@ -133,8 +133,8 @@ root_from s k h =
     elim (or_cases (bytes_eq k (codes "type") && has_other_text empty_or_object s k) _ h) [
       | inl typed ↦
           let parts = and_parts (bytes_eq k (codes "type")) _ typed in
-          let told = root_typed s (under s (codes "type")) refl (subst (λ l. has_other_text empty_or_object s l ≡ true) (same_name k (codes "type") parts.0) parts.1) in
-          never told.0 (kind_other s told.1)
+          let reported = root_typed s (under s (codes "type")) refl (subst (λ l. has_other_text empty_or_object s l ≡ true) (same_name k (codes "type") parts.0) parts.1) in
+          never reported.0 (kind_other s reported.1)
       | inr rest ↦ elim (or_cases (bytes_eq k (codes "x-kubernetes-int-or-string") && is_int_or_string s) _ rest) [
         | inl single ↦
             let is = (and_parts (bytes_eq k (codes "x-kubernetes-int-or-string")) _ single).1 in
@@ -196,9 +196,9 @@ bad_preserving root s h =
       ]
     ]
 
-foreign_told : (o : Option Kind) (s : Data) → has_foreign_keyword o s ≡ true → (k : List ℕ) × (has s k ≡ true) × (is_foreign o k ≡ true)
-foreign_told (Some kind) s h = some_keyword (λ k. not (is_keyword_of kind k)) s h
-foreign_told None s h = absurd (cc)
+foreign_explained : (o : Option Kind) (s : Data) → has_foreign_keyword o s ≡ true → (k : List ℕ) × (has s k ≡ true) × (is_foreign o k ≡ true)
+foreign_explained (Some kind) s h = some_keyword (λ k. not (is_keyword_of kind k)) s h
+foreign_explained None s h = absurd (cc)
 
 -- each kind has its reason
 abbrev AnyKind : Option Kind → List ℕ → Type 0
@@ -216,7 +216,7 @@ of_kind None k h = absurd (cc)
 
 bad_keyword : (root : Bool) (s : Data) → has_foreign_keyword (kind_of s) s ≡ true → HasProfileReason root s
 bad_keyword root s h =
-    let f = foreign_told (kind_of s) s h in
+    let f = foreign_explained (kind_of s) s h in
     elim (of_kind (kind_of s) f.0 f.2) [
       | inl is ↦ (f.0, NotOfScalars, f.1, is)
       | inr (inl is) ↦ (f.0, NotOfLists, f.1, is)
@@ -225,16 +225,16 @@ bad_keyword root s h =
     ]
 
 choices_of : (o : Option Kind) (s : Data) → has_bad_choices o s ≡ true → (has s (codes "enum") ≡ true) × ((has_no_choice o s ≡ true) ⊎ (has_other_choice o s ≡ true))
-choices_of (Some (scalar k)) s h = choices_told (accepts k) (under s (codes "enum")) h
+choices_of (Some (scalar k)) s h = choices_explained (accepts k) (under s (codes "enum")) h
 choices_of (Some _) s h = absurd (cc)
 choices_of None s h = absurd (cc)
 
 bad_choices : (root : Bool) (s : Data) → has_bad_choices (kind_of s) s ≡ true → HasProfileReason root s
 bad_choices root s h =
-    let told = choices_of (kind_of s) s h in
-    elim told.1 [
-      | inl empty ↦ (codes "enum", EmptyEnum, told.0, empty)
-      | inr other ↦ (codes "enum", EnumOfOtherKind, told.0, other)
+    let reported = choices_of (kind_of s) s h in
+    elim reported.1 [
+      | inl empty ↦ (codes "enum", EmptyEnum, reported.0, empty)
+      | inr other ↦ (codes "enum", EnumOfOtherKind, reported.0, other)
     ]
 
 profile_to : (root : Bool) (s : Data) → is_outside_profile root s ≡ true → HasProfileReason root s
@@ -280,14 +280,14 @@ none_among P h = absurd (cc)
 
 no_root : (s : Data) (k : List ℕ) → has s k ≡ true → is_no_root_keyword k s ≡ true → is_bad_root s ≡ true
 no_root s k there h =
-    let behind = λ (rest : (flag s (codes "nullable") || (has s (codes "additionalProperties") || (has s (codes "minProperties") || has s (codes "maxProperties")))) ≡ true).
+    let after = λ (rest : (flag s (codes "nullable") || (has s (codes "additionalProperties") || (has s (codes "minProperties") || has s (codes "maxProperties")))) ≡ true).
     or_right (not (lacks_type s) && not (is_object_kind (kind_of s))) _ rest in
-    let bounds = λ (rest : (has s (codes "additionalProperties") || (has s (codes "minProperties") || has s (codes "maxProperties"))) ≡ true). behind (or_right (flag s (codes "nullable")) _ rest) in
+    let bounds = λ (rest : (has s (codes "additionalProperties") || (has s (codes "minProperties") || has s (codes "maxProperties"))) ≡ true). after (or_right (flag s (codes "nullable")) _ rest) in
     let counts = λ (rest : (has s (codes "minProperties") || has s (codes "maxProperties")) ≡ true). bounds (or_right (has s (codes "additionalProperties")) _ rest) in
     elim (or_cases (bytes_eq k (codes "nullable") && flag s k) _ h) [
       | inl nullable ↦
           let parts = and_parts (bytes_eq k (codes "nullable")) _ nullable in
-          behind (or_left (flag s (codes "nullable")) _ (subst (λ l. flag s l ≡ true) (same_name k (codes "nullable") parts.0) parts.1))
+          after (or_left (flag s (codes "nullable")) _ (subst (λ l. flag s l ≡ true) (same_name k (codes "nullable") parts.0) parts.1))
       | inr among ↦
           let P = is_bad_root s ≡ true in
           among_there s k (codes "additionalProperties") (codes "minProperties" ∷ codes "maxProperties" ∷ []) P there among (λ at. bounds (or_left (has s (codes "additionalProperties")) _ at))
@@ -297,7 +297,7 @@ no_root s k there h =
 
 no_preserving : (s : Data) (k : List ℕ) → has s k ≡ true → preserves s ≡ true → is_no_preserving k s ≡ true → is_bad_preserving s ≡ true
 no_preserving s k there kept h =
-    let behind = λ (rest : (is_int_or_string s || (has s (codes "additionalProperties") || (is_open_kind (kind_of s) && (has s (codes "properties") || has s (codes "items"))))) ≡ true).
+    let after = λ (rest : (is_int_or_string s || (has s (codes "additionalProperties") || (is_open_kind (kind_of s) && (has s (codes "properties") || has s (codes "items"))))) ≡ true).
     and_from (preserves s) _ kept (or_right (has_other_text empty_or_object s (codes "type")) _ rest) in
     elim (or_cases (bytes_eq k (codes "type") && has_other_text empty_or_object s k) _ h) [
       | inl typed ↦
@@ -305,9 +305,9 @@ no_preserving s k there kept h =
           and_from (preserves s) _ kept
           (or_left (has_other_text empty_or_object s (codes "type")) _ (subst (λ l. has_other_text empty_or_object s l ≡ true) (same_name k (codes "type") parts.0) parts.1))
       | inr rest ↦ elim (or_cases (bytes_eq k (codes "x-kubernetes-int-or-string") && is_int_or_string s) _ rest) [
-        | inl single ↦ behind (or_left (is_int_or_string s) _ (and_parts (bytes_eq k (codes "x-kubernetes-int-or-string")) _ single).1)
+        | inl single ↦ after (or_left (is_int_or_string s) _ (and_parts (bytes_eq k (codes "x-kubernetes-int-or-string")) _ single).1)
         | inr same ↦
-            behind (or_right (is_int_or_string s) _ (or_left (has s (codes "additionalProperties")) _ (subst (λ l. has s l ≡ true) (same_name k (codes "additionalProperties") same) there)))
+            after (or_right (is_int_or_string s) _ (or_left (has s (codes "additionalProperties")) _ (subst (λ l. has s l ≡ true) (same_name k (codes "additionalProperties") same) there)))
       ]
     ]
 

@@ -1,4 +1,4 @@
--- What reasons are told by: tests of truth values, and keywords that are there.
+-- What reasons are found by: tests of truth values, and keywords that are there.
 use Rattle.std.proofs.Common.{◌≡◌, ◌⊎◌, ℕ, List, Bool, true, false, Option, Some, None, refl, subst, inl, inr}
 use Rattle.std.specs.Prelude.{not, if◌then◌else◌, option_and_then, codes}
 use Rattle.std.specs.Option.{is_some}
@@ -50,9 +50,9 @@ items_there s t h = object_there (under s (codes "items")) t h
 
 -- ---- the values of `enum`
 
-pub choices_told : (test : Data → Bool) (o : Option Data) → are_bad_choices test o ≡ true → (is_some o ≡ true) × ((is_empty_enum o ≡ true) ⊎ (lists_other test o ≡ true))
-choices_told test (Some (list ds)) h = (refl, or_cases (is_empty ds) (any_item (λ d. not (test d)) ds) h)
-choices_told test _ h = absurd (cc)
+pub choices_explained : (test : Data → Bool) (o : Option Data) → are_bad_choices test o ≡ true → (is_some o ≡ true) × ((is_empty_enum o ≡ true) ⊎ (lists_other test o ≡ true))
+choices_explained test (Some (list ds)) h = (refl, or_cases (is_empty ds) (any_item (λ d. not (test d)) ds) h)
+choices_explained test _ h = absurd (cc)
 
 pub empty_bad : (test : Data → Bool) (o : Option Data) → is_empty_enum o ≡ true → are_bad_choices test o ≡ true
 empty_bad test (Some (list ds)) h = or_left (is_empty ds) _ h

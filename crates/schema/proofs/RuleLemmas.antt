@@ -82,15 +82,15 @@ restricts raw p s b is h = (λ t. restricts_to raw p s is (h.0 t), λ r. h.1 (re
 -- ---- a test that the schema at a place passes
 
 pub passes : (raw : Data) (p : Place) (s : Data) (test : Data → Bool) (b : Bool) → schema_at raw p ≡ Some s → b ≡ test s → IsTrue b ↔ Passes raw p test
-passes raw p s test b is told = (λ t. (s, is, sym told ∙ t), λ at. told ∙ passes_here raw p s test is at)
+passes raw p s test b is reported = (λ t. (s, is, sym reported ∙ t), λ at. reported ∙ passes_here raw p s test is at)
 
 pub passes_there : (raw : Data) (p : Place) (s : Data) (test : Data → Bool) (b : Bool) → schema_at raw p ≡ Some s → is_inside p ≡ false → b ≡ test s
     → IsTrue b ↔ PassesOutside raw p test
-passes_there raw p s test b is out told = (λ t. (out, (passes raw p s test b is told).0 t), λ at. (passes raw p s test b is told).1 at.1)
+passes_there raw p s test b is out reported = (λ t. (out, (passes raw p s test b is reported).0 t), λ at. (passes raw p s test b is reported).1 at.1)
 
 -- ---- junctors
 
--- where no junctor is bad the names tell
+-- where no junctor is bad the names decide
 pub too_many_there : (raw : Data) (p : Place) (s : Data) (many : Bool) → schema_at raw p ≡ Some s → false ≡ has_bad_junctor p (schema_at raw (core p)) s
     → IsTrue many ↔ HasTooManyNames p s → IsTrue many ↔ At raw p (λ t. (has_bad_junctor p (schema_at raw (core p)) t ≡ true) ⊎ HasTooManyNames p t)
 too_many_there raw p s many is good h = (

@@ -102,7 +102,7 @@ index_push xs t s look more h is none updated = record {
   ];
 }
 
--- a name stands twice
+-- a name occurs twice
 pub repeated : (xs ys : List Tree) (t : Tree) (s : List ℕ) (v : Data) (look : List ℕ → Option Data) → IsIndex xs look → IsNamed (data_of t) s → look s ≡ Some v
     → AreVersions (items_of (xs ++ t ∷ ys)) → ⊥
 repeated xs ys t s v look h is found all =

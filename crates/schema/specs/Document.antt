@@ -1,4 +1,4 @@
--- What stands in a document: the definition that it is, the schema of a version with its places, forms and limits, and
+-- What is in a document: the definition that it is, the schema of a version with its places, forms and limits, and
 -- what a fault says.
 pub mod Texts
 pub mod Crd

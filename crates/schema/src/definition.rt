@@ -111,6 +111,7 @@ fn check_schema(alloc: Global, schema: &Tree) -> Result<(), SFault>
     ensures ok { OnOk result (IsSound (data_of schema.now)) }
     ensures err { IfErr result (IsSchemaFault (data_of schema.now)) }
 {
+    // for its contract alone: a proof learns that it is a tree
     schema.reveal_invariant();
     match check_form(alloc, Form::Object, schema) {
         Ok(()) => {}
@@ -155,7 +156,7 @@ fn has_header(document: &Tree) -> bool
         && document.has_text("kind", "CustomResourceDefinition")
 }
 
-/// What stands under a name below another.
+/// What is under a name below another.
 fn part_below<'a>(tree: &'a Tree, outer: &str, inner: &str) -> Option<&'a Tree>
     ensures { option_map (λ t. data_of t.now) result ≡ under2 (data_of tree.now) outer.now inner.now }
 {
@@ -165,7 +166,7 @@ fn part_below<'a>(tree: &'a Tree, outer: &str, inner: &str) -> Option<&'a Tree>
     }
 }
 
-/// What stands at `spec.names.kind`.
+/// What is at `spec.names.kind`.
 fn kind_part(document: &Tree) -> Option<&Tree>
     ensures { option_map (λ t. data_of t.now) result ≡ under3 (data_of document.now) (codes "spec") (codes "names") (codes "kind") }
 {

@@ -1,11 +1,11 @@
 // All breaks of the rules at the places of a schema.
-ghost use Rattle.std.specs.Prelude.{◌≡◌, OnOk, IfOk, IfErr};
+ghost use Rattle.std.specs.Prelude.{◌≡◌, [], All, OnOk, IfOk, IfErr};
 ghost use Rattle.jtree.specs.Data.{object, Members as MembersData, AreMembers};
 ghost use Rattle.schema.specs.Internal.PlaceView.{place_of};
 ghost use Rattle.schema.specs.Internal.Subschemas.{IsSubschema, AreSubschemas};
 ghost use Rattle.schema.specs.Rules.Broken.{Broken};
 ghost use Rattle.schema.specs.Rules.Breaks.{AreViolations};
-ghost use Rattle.schema.specs.Internal.Judged.{judged, pairs_at, AddsBreaks, IsTold};
+ghost use Rattle.schema.specs.Internal.Judged.{judged, pairs_at, pairs_of, AddsBreaks, IsReported};
 ghost use Rattle.schema.specs.declared.fault.SFault.TheVariants.{NoMemory};
 
 use crate::fault::SFault;
@@ -24,32 +24,64 @@ pub fn breaks(alloc: Global, raw: &RawSchema) -> Result<Vec<Violation>, SFault>
     ensures ok { IfOk result (λ found. AreViolations (Broken raw.now) found.items) }
     ensures err { IfErr result (λ e. e ≡ NoMemory) }
 {
+    match subschemas_of(alloc, raw) {
+        Ok(subschemas) => Ok(reports_of(alloc, subschemas.as_slice())?),
+        Err(fault) => Err(fault),
+    }
+}
+
+/// The places of a schema in path order, each once.
+pub(crate) fn subschemas_of<'a>(
+    alloc: Global,
+    raw: &'a RawSchema,
+) -> Result<Vec<Subschema<'a>>, SFault>
+    ensures subschemas { IfOk result (λ v. (ms : MembersData) × (raw.now ≡ object ms) × AreMembers ms × AreSubschemas ms v.items) }
+    ensures err { IfErr result (λ e. e ≡ NoMemory) }
+{
     match raw.tree() {
         Tree::Object(members) => {
+            // for its contract alone: a proof learns that the names are in order, each once
             members.reveal_invariant();
-            match list_places(alloc, members) {
-                Ok(subschemas) => Ok(breaks_of(alloc, subschemas.as_slice())?),
-                Err(fault) => Err(fault),
-            }
+            list_places(alloc, members)
         }
         // no schema whose keywords have their forms
         _ => Ok(Vec::new(alloc)),
     }
 }
 
-/// All breaks of the rules at these places, in their order and then by number.
-fn breaks_of(alloc: Global, subschemas: &[Subschema<'_>]) -> Result<Vec<Violation>, AllocError>
-    ensures { IfOk result (λ found. (ms : MembersData) → AreMembers ms → AreSubschemas ms subschemas.now → AreViolations (Broken (object ms)) found.items) }
+/// What is answered of a break.
+pub(crate) trait Report: Drop {
+    ghost use Rattle.std.specs.Prelude.{IfOk};
+    ghost use Rattle.jtree.specs.Data.{Data};
+    ghost use Rattle.schema.specs.Internal.PlaceView.{place_of};
+    ghost use Rattle.schema.specs.Internal.Subschemas.{IsSubschema};
+    ghost use Rattle.schema.specs.Internal.Judged.{pair};
+    ghost use Rattle.schema.specs.Rules.Breaks.{Break};
+
+    // of this break in this schema
+    ghost reports: { Data → Break → Self → Type 0 };
+
+    /// What is answered of the break of a rule at a place.
+    fn of_break(alloc: Global, subschema: &Subschema<'_>, rule: Rule) -> Result<Self, AllocError>
+        ensures { IfOk result (λ report. (raw : Data) → IsSubschema raw subschema.now → reports raw (pair (place_of subschema.now.place.items) rule) report) };
+}
+
+/// Of all breaks of the rules at these places, in their order and then by number.
+pub(crate) fn reports_of<R: Report>(
+    alloc: Global,
+    subschemas: &[Subschema<'_>],
+) -> Result<Vec<R>, AllocError>
+    ensures { IfOk result (λ found. AddsBreaks R.reports (λ raw. All (IsSubschema raw) subschemas.now) (pairs_of subschemas.now) [] found.items) }
 {
-    let mut violations = Vec::new(alloc);
+    let mut reports = Vec::new(alloc);
     for subschema in subschemas {
-        judge(alloc, subschema, &judged_rules(), &mut violations)?;
+        judge(alloc, subschema, &judged_rules(), &mut reports)?;
     }
-    Ok(violations)
+    Ok(reports)
 }
 
 /// The rules that are judged, in order.
-pub(crate) fn judged_rules() -> [Rule; 16]
+fn judged_rules() -> [Rule; 16]
     ensures { result ≡ judged }
 {
     [
@@ -72,22 +104,34 @@ pub(crate) fn judged_rules() -> [Rule; 16]
     ]
 }
 
-/// Adds the breaks of these rules at a place.
-fn judge(
+/// Adds what is answered of the breaks of these rules at a place.
+fn judge<R: Report>(
     alloc: Global,
     subschema: &Subschema<'_>,
     rules: &[Rule],
-    violations: &mut Vec<Violation>,
+    reports: &mut Vec<R>,
 ) -> Result<(), AllocError>
-    ensures { OnOk result (AddsBreaks IsTold (λ raw. IsSubschema raw subschema.now) (pairs_at (place_of subschema.now.place.items) rules.now) violations.old.items violations.new.items) }
+    ensures { OnOk result (AddsBreaks R.reports (λ raw. IsSubschema raw subschema.now) (pairs_at (place_of subschema.now.place.items) rules.now) reports.old.items reports.new.items) }
 {
     for rule in rules {
         if is_broken(subschema, *rule) {
-            violations.push(Violation {
-                pointer: pointer_of(alloc, subschema.place.as_slice())?,
-                rule: *rule,
-            })?;
+            reports.push(R::of_break(alloc, subschema, *rule)?)?;
         }
     }
     Ok(())
+}
+
+impl Report for Violation {
+    ghost reports = { IsReported };
+
+    fn of_break(
+        alloc: Global,
+        subschema: &Subschema<'_>,
+        rule: Rule,
+    ) -> Result<Violation, AllocError> {
+        Ok(Violation {
+            pointer: pointer_of(alloc, subschema.place.as_slice())?,
+            rule,
+        })
+    }
 }

@@ -106,7 +106,7 @@ pub(crate) fn is_presence_keyword(keyword: &str) -> bool
     (keyword == "required" || is_junctor_keyword(keyword)) || is_judged_elsewhere(keyword)
 }
 
-/// Whether other rules say where the keyword may stand.
+/// Whether other rules say where the keyword may be.
 fn is_judged_elsewhere(keyword: &str) -> bool
     ensures { result ≡ is_judged_elsewhere_of keyword.now }
 {
@@ -257,7 +257,7 @@ pub(crate) fn has_other_text(schema: &Members, keyword: &str, values: &[&str]) -
     has(schema, keyword) && !has_text_among(schema, keyword, values)
 }
 
-/// Whether a text stands in the list under a keyword.
+/// Whether a text is in the list under a keyword.
 pub(crate) fn lists_text(schema: &Members, keyword: &str, text: &str) -> bool
     ensures { result ≡ is_among text.now (texts_under (object schema.now) keyword.now) }
 {

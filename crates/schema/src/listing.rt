@@ -8,7 +8,7 @@ ghost use Rattle.schema.specs.Internal.Events.{Event, entered, part_of as part_o
 ghost use Rattle.schema.specs.Internal.Faults.{IsLimitRefusal, IsLimitFaultOf};
 ghost use Rattle.schema.specs.Document.Places.{Place, only_object, schema_by};
 ghost use Rattle.schema.specs.Rules.Broken.{pattern, holder, typed, HasAnyPattern, HasAllPattern};
-ghost use Rattle.schema.specs.Internal.Contexts.{is_any as is_any_step, is_first_of_all as is_first_of_all_step, outer_by, IsContext, StandsAs};
+ghost use Rattle.schema.specs.Internal.Contexts.{is_any as is_any_step, is_first_of_all as is_first_of_all_step, outer_by, IsContext, HasPart};
 ghost use Rattle.schema.specs.Internal.Subschemas.{IsSubschema, AreSubschemas};
 ghost use Rattle.schema.specs.Internal.PlaceView.{step_of, place_of, junctor_of, part_view, subschema_of};
 
@@ -58,7 +58,7 @@ enum Junctor {
     One,
 }
 
-/// What a value is among the schemas, by the keyword or the name that it stands under.
+/// What a value is among the schemas, by the keyword or the name that it is under.
 #[derive(Clone, Copy, Drop)]
 enum Part<'a> {
     Schema(Step<'a>),
@@ -253,7 +253,7 @@ fn below<'a>(alloc: Global, place: &[Step<'a>], step: Step<'a>) -> Result<Vec<St
     Ok(below)
 }
 
-/// Refuses a place behind so many others, or with so many steps, that a limit is passed.
+/// Refuses a place after so many others, or with so many steps, that a limit is passed.
 fn check_place(alloc: Global, place: &[Step<'_>], count: usize) -> Result<(), SFault>
     ensures ok { OnOk result ((s : Data) (events : List Event) → limit_break count (entered (place_of place.now) s ∷ events) ≡ limit_break (suc count) events) }
     ensures err { IfErr result (λ e. (s : Data) (events : List Event) → IsLimitRefusal (limit_break count (entered (place_of place.now) s ∷ events)) e) }
@@ -273,15 +273,14 @@ pub(crate) fn list_places<'a>(
     ensures within { OnOk result (IsWithinLimits (object schema.now)) }
     ensures err { IfErr result (IsLimitFaultOf (object schema.now)) }
 {
+    // for its contract alone: a proof learns that the names are in order, each once, here and below
     schema.reveal_invariant();
     let mut subschemas = Vec::new(alloc);
-    match list_schema(alloc, &[], schema, root_context(schema), &mut subschemas) {
-        Ok(()) => Ok(subschemas),
-        Err(fault) => Err(fault),
-    }
+    list_schema(alloc, &[], schema, root_context(schema), &mut subschemas)?;
+    Ok(subschemas)
 }
 
-/// Lists a place and those below it behind the places that are listed already.
+/// Lists a place and those below it, after the places that are listed already.
 #[cycle(listing)]
 fn list_schema<'a>(
     alloc: Global,
@@ -295,10 +294,7 @@ fn list_schema<'a>(
     ensures err { IfErr result (IsLimitRefusal (limit_break (length subschemas.old.items) (schema_events (place_of place.now) members.now))) }
     ensures contexts { OnOk result ((raw : Data) → IsContext raw (place_of place.now) (object members.now) context.entry → All (IsSubschema raw) subschemas.old.items → All (IsSubschema raw) subschemas.new.items) }
 {
-    match check_place(alloc, place, subschemas.len()) {
-        Ok(()) => {}
-        Err(fault) => return Err(fault),
-    }
+    check_place(alloc, place, subschemas.len())?;
     subschemas.push(Subschema {
         place: copied(alloc, place)?,
         schema: members,
@@ -328,17 +324,14 @@ fn list_keywords<'a>(
         if is_too_long(keyword, &member.tree) {
             return Err(SFault::TooLarge(keyword_pointer(alloc, place, keyword)?));
         }
-        match list_part(
+        list_part(
             alloc,
             place,
             context,
             part_of(keyword),
             &member.tree,
             subschemas,
-        ) {
-            Ok(()) => {}
-            Err(fault) => return Err(fault),
-        }
+        )?;
     }
     Ok(())
 }
@@ -355,22 +348,19 @@ fn list_properties<'a>(
     ensures subschemas { OnOk result (map subschema_of subschemas.new.items ≡ map subschema_of subschemas.old.items ++ subschemas_of (member_events (place_of place.now) false properties.now)) }
     ensures ok { OnOk result (limit_break (length subschemas.old.items) (member_events (place_of place.now) false properties.now) ≡ None) }
     ensures err { IfErr result (IsLimitRefusal (limit_break (length subschemas.old.items) (member_events (place_of place.now) false properties.now))) }
-    ensures contexts { OnOk result ((raw s : Data) → IsContext raw (place_of place.now) s context.entry → StandsAs s (properties_part) (object properties.now) → All (IsSubschema raw) subschemas.old.items → All (IsSubschema raw) subschemas.new.items) }
+    ensures contexts { OnOk result ((raw s : Data) → IsContext raw (place_of place.now) s context.entry → HasPart s (properties_part) (object properties.now) → All (IsSubschema raw) subschemas.old.items → All (IsSubschema raw) subschemas.new.items) }
 {
     properties.reveal_invariant();
     for property in &properties.members {
         let step = Step::Property(property.name.as_str());
-        match list_part(
+        list_part(
             alloc,
             place,
             context,
             Part::Schema(step),
             &property.tree,
             subschemas,
-        ) {
-            Ok(()) => {}
-            Err(fault) => return Err(fault),
-        }
+        )?;
     }
     Ok(())
 }
@@ -388,19 +378,16 @@ fn list_branches<'a>(
     ensures subschemas { OnOk result (map subschema_of subschemas.new.items ≡ map subschema_of subschemas.old.items ++ subschemas_of (item_events (place_of place.now) (junctor_of junctor) 0 items.now)) }
     ensures ok { OnOk result (limit_break (length subschemas.old.items) (item_events (place_of place.now) (junctor_of junctor) 0 items.now) ≡ None) }
     ensures err { IfErr result (IsLimitRefusal (limit_break (length subschemas.old.items) (item_events (place_of place.now) (junctor_of junctor) 0 items.now))) }
-    ensures contexts { OnOk result ((raw s : Data) → IsContext raw (place_of place.now) s context.entry → StandsAs s (branches (junctor_of junctor)) (list items.now) → All (IsSubschema raw) subschemas.old.items → All (IsSubschema raw) subschemas.new.items) }
+    ensures contexts { OnOk result ((raw s : Data) → IsContext raw (place_of place.now) s context.entry → HasPart s (branches (junctor_of junctor)) (list items.now) → All (IsSubschema raw) subschemas.old.items → All (IsSubschema raw) subschemas.new.items) }
 {
     for (i, item) in items.items.iter().enumerate() {
         let step = branch(junctor, i as u64);
-        match list_part(alloc, place, context, Part::Schema(step), item, subschemas) {
-            Ok(()) => {}
-            Err(fault) => return Err(fault),
-        }
+        list_part(alloc, place, context, Part::Schema(step), item, subschemas)?;
     }
     Ok(())
 }
 
-/// Lists the places in a value that stands below a place.
+/// Lists the places in a value that is below a place.
 #[cycle(listing)]
 fn list_part<'a>(
     alloc: Global,
@@ -413,7 +400,7 @@ fn list_part<'a>(
     ensures subschemas { OnOk result (map subschema_of subschemas.new.items ≡ map subschema_of subschemas.old.items ++ subschemas_of (part_events (place_of place.now) (part_view part.entry) (data_of tree.now))) }
     ensures ok { OnOk result (limit_break (length subschemas.old.items) (part_events (place_of place.now) (part_view part.entry) (data_of tree.now)) ≡ None) }
     ensures err { IfErr result (IsLimitRefusal (limit_break (length subschemas.old.items) (part_events (place_of place.now) (part_view part.entry) (data_of tree.now)))) }
-    ensures contexts { OnOk result ((raw s : Data) → IsContext raw (place_of place.now) s context.entry → StandsAs s (part_view part.entry) (data_of tree.now) → All (IsSubschema raw) subschemas.old.items → All (IsSubschema raw) subschemas.new.items) }
+    ensures contexts { OnOk result ((raw s : Data) → IsContext raw (place_of place.now) s context.entry → HasPart s (part_view part.entry) (data_of tree.now) → All (IsSubschema raw) subschemas.old.items → All (IsSubschema raw) subschemas.new.items) }
 {
     match part {
         Part::Schema(step) => match tree {

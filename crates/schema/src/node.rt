@@ -11,7 +11,7 @@ pub enum ScalarKind {
     IntOrString,
 }
 
-/// How the items of a list merge, and which may stand beside one another (`x-kubernetes-list-type`).
+/// How the items of a list merge, and which may be in one list (`x-kubernetes-list-type`).
 #[derive(Clone, Copy, Debug, PartialEq, Eq, Drop)]
 pub enum ListType {
     Atomic,
@@ -48,7 +48,7 @@ pub struct Constraints {
     pub required: Names,
 }
 
-/// The constraints of a node, or of a branch of a junctor, and the junctors that stand beside them.
+/// The constraints of a node, or of a branch of a junctor, and the junctors beside them.
 #[cycle(validations)]
 #[derive(Drop)]
 pub struct Validations {
@@ -124,7 +124,7 @@ pub struct ListNode {
     /// The node of each item (`items`).
     pub item: Below,
     pub list_type: ListType,
-    /// The names of the fields that tell the items of a map list apart (`x-kubernetes-list-map-keys`), as written.
+    /// The names of the fields that distinguish the items of a map list (`x-kubernetes-list-map-keys`), as written.
     pub keys: Vec<Text>,
     /// On the number of items (`minItems`, `maxItems`).
     pub bounds: Bounds,
@@ -219,7 +219,7 @@ impl Node {
     ghost use Rattle.schema.specs.Nodes.Node.{IsNode};
     ghost use Rattle.schema.specs.Nodes.View.{node_of};
 
-    /// Brings to a proof that declared names stand in order, each once. It does nothing.
+    /// Brings to a proof that declared names are in order, each once. It does nothing.
     pub fn reveal_invariant(&self)
         ensures { IsNode (node_of self.now) }
     {
@@ -235,7 +235,7 @@ impl Node {
 impl Below {
     ghost use Rattle.schema.specs.Nodes.Node.{IsNode};
 
-    /// Brings to a proof that declared names stand in order, each once. It does nothing.
+    /// Brings to a proof that declared names are in order, each once. It does nothing.
     pub fn reveal_invariant(&self)
         ensures { IsNode self.now }
     {
@@ -246,7 +246,7 @@ impl Below {
 impl Fields {
     ghost use Rattle.schema.specs.Nodes.Node.{AreOrdered};
 
-    /// Brings to a proof that declared names stand in order, each once. It does nothing.
+    /// Brings to a proof that declared names are in order, each once. It does nothing.
     pub fn reveal_invariant(&self)
         ensures { AreOrdered self.now }
     {

@@ -1,7 +1,7 @@
 use jtree::Tree;
 use std::marker::Model;
 
-/// The schema of a version as it stands in the document, which a contract sees as its data: each keyword has its form, and
+/// The schema of a version as it is in the document, which a contract sees as its data: each keyword has its form, and
 /// no limit is passed.
 pub struct RawSchema {
     tree: Tree,

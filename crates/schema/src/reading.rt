@@ -7,7 +7,7 @@ use crate::node::Bounds;
 use jtree::{Items, Text, Tree};
 use std::alloc::{AllocError, Global};
 
-/// Whether true stands under a keyword.
+/// Whether true is under a keyword.
 pub(crate) fn flag(schema: &Tree, keyword: &str) -> bool
     ensures { result ≡ flag_of (data_of schema.now) keyword.now }
 {

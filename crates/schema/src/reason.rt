@@ -2,7 +2,7 @@
 use crate::violation::Violation;
 use jtree::Text;
 
-/// Why a place breaks one of the rules V03, V05, V11, V12, V16 and V17. Each reason is about a keyword that stands at the
+/// Why a place breaks one of the rules V03, V05, V11, V12, V16 and V17. Each reason is about a keyword that is at the
 /// place.
 #[derive(Clone, Copy, Debug, PartialEq, Eq, Drop)]
 pub enum Reason {
@@ -34,7 +34,7 @@ pub enum Reason {
     NullableKey,
     /// V11: the property of a key is neither required nor has a default.
     OptionalKey,
-    /// V16: a junctor stands at a place that is neither a scalar nor an object with declared fields.
+    /// V16: a junctor is at a place that is neither a scalar nor an object with declared fields.
     MisplacedJunctor,
     /// V16: a branch that restricts a scalar may not have the keyword.
     NotInScalarBranches,

@@ -19,7 +19,7 @@ use crate::reasons::profile::is_profile_reason;
 use crate::rules::{is_inside, is_root};
 use crate::violation::Rule;
 
-/// Whether a rule is broken at a place for a reason, by a keyword that stands there.
+/// Whether a rule is broken at a place for a reason, by a keyword that is there.
 pub(crate) fn is_reason(
     subschema: &Subschema<'_>,
     rule: Rule,

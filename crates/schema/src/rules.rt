@@ -84,7 +84,7 @@ fn restricts_metadata(subschema: &Subschema<'_>) -> bool
     is_other_field(place)
 }
 
-/// V15: a default stands where no field of the body does.
+/// V15: a default is where no field of the body is.
 fn has_misplaced_default(place: &[Step<'_>], schema: &Members) -> bool
     ensures { result ≡ has_misplaced_default_at (place_of place.now) (object schema.now) }
 {

@@ -12,7 +12,7 @@ use crate::reading::{bounds, copy_list, copy_texts, flag, integer};
 use jtree::{Items, Tree};
 use std::alloc::{AllocError, Global};
 
-/// The validations of a schema, as its keywords stand there.
+/// The validations of a schema, as its keywords are there.
 #[cycle(validations)]
 pub(crate) fn read_validations(alloc: Global, schema: &Tree) -> Result<Validations, AllocError>
     ensures { IfOk result (λ c. AreValidationsOf (validations_of c) (data_of schema.now)) }
@@ -48,7 +48,7 @@ fn read_constraints(alloc: Global, schema: &Tree) -> Result<Constraints, AllocEr
     })
 }
 
-/// The junctors of an object, as its keywords stand there.
+/// The junctors of an object, as its keywords are there.
 pub(crate) fn read_object_junctors(alloc: Global, schema: &Tree) -> Result<Validations, AllocError>
     ensures { IfOk result (λ c. AreObjectJunctorsOf (validations_of c) (data_of schema.now)) }
 {

@@ -10,7 +10,7 @@ use jtree::{Items, Tree};
 use std::alloc::Global;
 use std::collections::BTreeMap;
 
-/// The version of a name, where each version has a text `name` and no name stands twice. `NotACrd` where this is not so.
+/// The version of a name, where each version has a text `name` and no name occurs twice. `NotACrd` where this is not so.
 pub(crate) fn select<'a>(
     alloc: Global,
     versions: &'a Items,
@@ -26,7 +26,7 @@ pub(crate) fn select<'a>(
             return Err(SFault::NotACrd);
         };
         if by_name.insert(name, item)?.is_some() {
-            return Err(SFault::NotACrd); // the name stands twice
+            return Err(SFault::NotACrd); // the name occurs twice
         }
     }
     Ok(by_name.get(version).copied())

@@ -21,7 +21,7 @@ use Rattle.schema.specs.Document.Places as places
 use Rattle.schema.specs.Document.Texts.{is_among}
 use Rattle.schema.specs.Nodes.Node.{Node, node, object, map as map_of, list}
 use Rattle.schema.specs.Nodes.ByPlace.{node_below, node_at}
-use Rattle.schema.specs.Nodes.Items.{AreToldApart, HasKeys, HasSoundItems}
+use Rattle.schema.specs.Nodes.Items.{AreDistinct, HasKeys, HasSoundItems}
 use Rattle.schema.specs.declared.node.Bounds.{Bounds}
 use Rattle.schema.specs.declared.node.ListType.{ListType}
 use Rattle.schema.specs.declared.node.ListType.TheVariants as list_type
@@ -37,11 +37,11 @@ use Rattle.stored.proofs.PrunedAgain.{below_place}
 use Rattle.stored.proofs.LeafLemmas.{members_of_some}
 use Rattle.stored.proofs.LeafLevelLemmas.{mapped, among_map, undivided, down}
 
--- compact texts tell trees apart
-abbrev pub TextsTellApart : Type 0
-TextsTellApart = (u v : Data) → IsTree u → IsTree v → compact u ≡ compact v → u ≡ v
+-- compact texts distinguish trees
+abbrev pub TextsAreUnique : Type 0
+TextsAreUnique = (u v : Data) → IsTree u → IsTree v → compact u ≡ compact v → u ≡ v
 
--- ---- items that are told apart
+-- ---- items that can be distinguished
 
 same_itself : (v : Data) → is_same v v ≡ true
 same_itself v = let tied = tied_itself tree_total v in rw tied refl
@@ -74,16 +74,16 @@ keyed_object (node nullable t (object fs preserves type bounds cs)) keys tree.nu
 keyed_object (node nullable t (object fs preserves type bounds cs)) keys _ h here = elim here [ ]
 keyed_object _ keys v h here = elim h [ ]
 
--- items with the same element may not stand in one list
-alike_by_element : TextsTellApart → (type : ListType) (keys : List (List ℕ)) (N : Node) (v w : Data) → (type ≡ list_type.Atomic → ⊥) → AreToldApart type keys N
+-- items with the same element may not be in one list
+alike_by_element : TextsAreUnique → (type : ListType) (keys : List (List ℕ)) (N : Node) (v w : Data) → (type ≡ list_type.Atomic → ⊥) → AreDistinct type keys N
     → IsValidHere N v → IsValidHere N w → IsTree v → IsTree w → item_element type keys v ≡ item_element type keys w → are_alike type keys v w ≡ true
-alike_by_element same list_type.Atomic keys N v w other told hv hw tv tw e = absurd (other refl)
-alike_by_element same list_type.Set keys N v w other told hv hw tv tw e =
+alike_by_element same list_type.Atomic keys N v w other reported hv hw tv tw e = absurd (other refl)
+alike_by_element same list_type.Set keys N v w other reported hv hw tv tw e =
     let texts : compact v ≡ compact w = cc in
     subst (λ u. is_same v u ≡ true) (same v w tv tw texts) (same_itself v)
-alike_by_element same list_type.Map keys N v w other told hv hw tv tw e =
-    let ms = keyed_object N keys v told hv in
-    let ns = keyed_object N keys w told hw in
+alike_by_element same list_type.Map keys N v w other reported hv hw tv tw e =
+    let ms = keyed_object N keys v reported hv in
+    let ns = keyed_object N keys w reported hw in
     let mv : AreMembers ms.0 = subst IsTree ms.1 tv in
     let mw : AreMembers ns.0 = subst IsTree ns.1 tw in
     let f : codes "k:" ++ compact (tree.object (members_among keys ms.0)) ≡ codes "k:" ++ compact (tree.object (members_among keys ns.0)) = rw (ms.1, ns.1) at e in
@@ -104,7 +104,7 @@ one_item alike (item d ds) (suc i) (suc j) v w apart e f h g = ap suc (one_item 
 
 -- ---- what holds of each part
 
--- the items at this node and below it can be told apart, and the value is valid
+-- the items at this node and below it can be distinguished, and the value is valid
 pub record IsSound (N : Node) (v : Data) : Type 0 where
   pub items : (p : Place) (M : Node) → node_at N p ≡ Some M → HasSoundItems M
   pub valid : IsValid N v
@@ -148,23 +148,23 @@ sound_below root p N h there q M e = h (p ++ q) M (below_place root p N q there 
 here_valid : (N : Node) (v : Data) → IsSound N v → IsValidHere N v
 here_valid N v h = here_from N v (faultless N v h.valid)
 
-one_place : TextsTellApart → (n : Bool) (d : Option (List ℕ)) (M : Node) (type : ListType) (keys : List (List ℕ)) (bounds : Bounds) (ds : Items) (i j : ℕ) (q r : Part)
+one_place : TextsAreUnique → (n : Bool) (d : Option (List ℕ)) (M : Node) (type : ListType) (keys : List (List ℕ)) (bounds : Bounds) (ds : Items) (i j : ℕ) (q r : Part)
     → (type ≡ list_type.Atomic → ⊥) → IsSound (node n d (list M type keys bounds)) (tree.list ds)
     → option_map (at M) (item_at i ds) ≡ Some q → option_map (at M) (item_at j ds) ≡ Some r → item_element type keys (value_of q) ≡ item_element type keys (value_of r) → i ≡ j
 one_place same n d M type keys bounds ds i j q r other h e f eq =
     let N = node n d (list M type keys bounds) in
     let v = mapped (at M) (item_at i ds) q e in
     let w = mapped (at M) (item_at j ds) r f in
-    let told : AreToldApart type keys M = h.items [] N refl in
+    let reported : AreDistinct type keys M = h.items [] N refl in
     let sv : IsSound M v.0 = sound_part N (tree.list ds) (index i) M v.0 h (ap (option_map (at M)) v.1) in
     let sw : IsSound M w.0 = sound_part N (tree.list ds) (index j) M w.0 h (ap (option_map (at M)) w.1) in
     let elements : item_element type keys v.0 ≡ item_element type keys w.0 = ap (λ p. item_element type keys (value_of p)) v.2 ∙ (eq ∙ ap (λ p. item_element type keys (value_of p)) (sym w.2)) in
     let here = here_valid N (tree.list ds) h in
     one_item (are_alike type keys) ds i j v.0 w.0 here.1 v.1 w.1
-    (alike_by_element same type keys M v.0 w.0 other told (here_valid M v.0 sv) (here_valid M w.0 sw) sv.tree sw.tree elements)
-    (alike_by_element same type keys M w.0 v.0 other told (here_valid M w.0 sw) (here_valid M v.0 sv) sw.tree sv.tree (sym elements))
+    (alike_by_element same type keys M v.0 w.0 other reported (here_valid M v.0 sv) (here_valid M w.0 sw) sv.tree sw.tree elements)
+    (alike_by_element same type keys M w.0 v.0 other reported (here_valid M w.0 sw) (here_valid M v.0 sv) sw.tree sv.tree (sym elements))
 
-one_step : TextsTellApart → (N : Node) (v : Data) (s t : Step) (q r : Part) → is_divided N v ≡ true → IsSound N v → leads N v s ≡ Some q → leads N v t ≡ Some r
+one_step : TextsAreUnique → (N : Node) (v : Data) (s t : Step) (q r : Part) → is_divided N v ≡ true → IsSound N v → leads N v s ≡ Some q → leads N v t ≡ Some r
     → element N s (value_of q) ≡ element N t (value_of r) → s ≡ t
 one_step same (node n d (list M type keys bounds)) (tree.list ds) (index i) (index j) q r divided h e f eq =
     ap index (one_place same n d M type keys bounds ds i j q r (λ atomic. let g = rw atomic at divided in cc) h e f eq)
@@ -177,7 +177,7 @@ one_step same N v s t q r divided h e f eq = absurd (undivided N v refl divided)
 
 -- ---- one path for each list of elements
 
-one_path : TextsTellApart → (p q : Path) (a : Part) (es fs rest : List (List ℕ)) → IsSoundPart a → leaf_at a p ≡ Some es → leaf_at a q ≡ Some fs → es ++ rest ≡ fs → p ≡ q
+one_path : TextsAreUnique → (p q : Path) (a : Part) (es fs rest : List (List ℕ)) → IsSoundPart a → leaf_at a p ≡ Some es → leaf_at a q ≡ Some fs → es ++ rest ≡ fs → p ≡ q
 one_path same [] [] a es fs rest h e f eq = refl
 one_path same [] (t ∷ q) (free v) es fs rest h e f eq = cc
 one_path same (s ∷ p) q (free v) es fs rest h e f eq = cc
@@ -209,7 +209,7 @@ never_itself (s ∷ p) less = never_itself p (sym (same_step s p p) ∙ less)
 
 -- ---- all leaves
 
-apart : TextsTellApart → (N : Node) (v : Data) (ls : List LeafAt) → IsSound N v → ((l : LeafAt) → Among ls l → leaf_at (at N v) l.path ≡ Some l.elements)
+apart : TextsAreUnique → (N : Node) (v : Data) (ls : List LeafAt) → IsSound N v → ((l : LeafAt) → Among ls l → leaf_at (at N v) l.path ≡ Some l.elements)
     → Rising (λ l m. path_cmp l.path m.path ≡ Less) ls → Rising BeginsNone (map (λ l. l.elements) ls)
 apart same N v [] h each r = tt
 apart same N v (l ∷ ls) h each r = (
@@ -224,7 +224,7 @@ apart same N v (l ∷ ls) h each r = (
   apart same N v ls h (λ m a. each m (inr a)) r.1,
 )
 
-pub leaves_apart : (N : Node) (v : Data) (leaves : List (List (List ℕ))) → TextsTellApart → IsSound N v → AreLeaves N v leaves → AreApart leaves
+pub leaves_apart : (N : Node) (v : Data) (leaves : List (List (List ℕ))) → TextsAreUnique → IsSound N v → AreLeaves N v leaves → AreApart leaves
 leaves_apart N v leaves same h a =
     let ls = a.0 in
     subst AreApart a.2 (all_pairs BeginsNone (map (λ l. l.elements) ls) (apart same N v ls h (λ l b. All-contains (λ m. leaf_at (at N v) m.path ≡ Some m.elements) ls l a.1.each (contains ls l b)) (rising (λ l m. path_cmp l.path m.path ≡ Less) ls a.1.ascending)))

@@ -1,4 +1,4 @@
--- Items that are alike tie in the order of what tells items apart, so items that ascend are apart.
+-- Items that are alike tie in the order of what distinguishes items, so items that ascend are apart.
 use Rattle.std.specs.Prelude.{◌≡◌, ℕ, List, [], ◌∷◌, map, true, false, Option, Some, None, not, ◌&&◌}
 use Rattle.std.proofs.Common.{refl, sym, ap, ◌∙◌}
 use Rattle.std.specs.Cmp.{IsTotalOrder, on_total}

@@ -8,48 +8,48 @@ use Rattle.jtree.specs.Pointer.{token, name_token, pointer}
 use Rattle.schema.specs.Document.Places.{Step, Place, property, map_value, items, step_path, place_path, place_pointer}
 use Rattle.schema.specs.Nodes.Node.{Node}
 use Rattle.schema.specs.Nodes.View.{fields_of}
-use Rattle.schema.specs.Rules.Breaks.{Told}
+use Rattle.schema.specs.Rules.Breaks.{Reported}
 use Rattle.schema.specs.declared.node.Field.{Field}
 use Rattle.schema.specs.declared.violation.Rule.TheVariants.{V14}
 use Rattle.stored.specs.Schemas.Defaults.{IsGoodDefault}
-use Rattle.stored.specs.Internal.DefaultList.{Default, behind, own_default, defaults_in_fields, defaults_in_field, AreBadOf, told_below, AreAdded}
+use Rattle.stored.specs.Internal.DefaultList.{Default, after_step, own_default, defaults_in_fields, defaults_in_field, AreBadOf, reported_below, AreAdded}
 
 bad_join : (xs ys us vs : List Default) → AreBadOf xs us → AreBadOf ys vs → AreBadOf (xs ++ ys) (us ++ vs)
 bad_join [] ys us vs s t = subst (λ ws. AreBadOf ys (ws ++ vs)) (sym s) t
 bad_join (x ∷ xs) ys us vs (inl s) t = inl (s.0, s.1 ++ vs, ap (λ ws. ws ++ vs) s.2, bad_join xs ys s.1 vs s.3 t)
 bad_join (x ∷ xs) ys us vs (inr s) t = inr (s.0, bad_join xs ys us vs s.1 t)
 
-pub added_join : (pointer : List ℕ) (xs ys : List Default) (before between after : List Told) → AreAdded pointer xs before between → AreAdded pointer ys between after
+pub added_join : (pointer : List ℕ) (xs ys : List Default) (before between after : List Reported) → AreAdded pointer xs before between → AreAdded pointer ys between after
     → AreAdded pointer (xs ++ ys) before after
 added_join pointer xs ys before between after a b = record {
   bad = a.bad ++ b.bad;
   are_bad = bad_join xs ys a.bad b.bad a.are_bad b.are_bad;
-  told = b.told ∙ (ap (λ ts. ts ++ told_below pointer b.bad) a.told ∙ (append_assoc before (told_below pointer a.bad) (told_below pointer b.bad)
+  reported = b.reported ∙ (ap (λ ts. ts ++ reported_below pointer b.bad) a.reported ∙ (append_assoc before (reported_below pointer a.bad) (reported_below pointer b.bad)
       ∙ ap (λ ts. before ++ ts) (sym (map-append (λ d. record { pointer = pointer ++ place_pointer d.place; rule = V14 }) a.bad b.bad))));
 }
 
--- ---- behind a step
+-- ---- after a step
 
-bad_behind : (s : Step) (xs ys : List Default) → AreBadOf xs ys → AreBadOf (map (behind s) xs) (map (behind s) ys)
-bad_behind s [] ys e = ap (map (behind s)) e
-bad_behind s (x ∷ xs) ys (inl h) = inl (h.0, map (behind s) h.1, ap (map (behind s)) h.2, bad_behind s xs h.1 h.3)
-bad_behind s (x ∷ xs) ys (inr h) = inr (h.0, bad_behind s xs ys h.1)
+bad_after_step : (s : Step) (xs ys : List Default) → AreBadOf xs ys → AreBadOf (map (after_step s) xs) (map (after_step s) ys)
+bad_after_step s [] ys e = ap (map (after_step s)) e
+bad_after_step s (x ∷ xs) ys (inl h) = inl (h.0, map (after_step s) h.1, ap (map (after_step s)) h.2, bad_after_step s xs h.1 h.3)
+bad_after_step s (x ∷ xs) ys (inr h) = inr (h.0, bad_after_step s xs ys h.1)
 
-pointer_behind : (s : Step) (p : Place) → place_pointer (s ∷ p) ≡ pointer (step_path s) ++ place_pointer p
-pointer_behind s p = flat_map-append token (step_path s) (place_path p)
+pointer_after : (s : Step) (p : Place) → place_pointer (s ∷ p) ≡ pointer (step_path s) ++ place_pointer p
+pointer_after s p = flat_map-append token (step_path s) (place_path p)
 
-told_behind : (before text : List ℕ) (s : Step) (ds : List Default) → text ≡ pointer (step_path s) → told_below (before ++ text) ds ≡ told_below before (map (behind s) ds)
-told_behind before text s [] is = refl
-told_behind before text s (d ∷ ds) is = λ i.
-    record { pointer = (append_assoc before text (place_pointer d.place) ∙ ap (λ t. before ++ t) (ap (λ t. t ++ place_pointer d.place) is ∙ sym (pointer_behind s d.place))) i; rule = V14 }
-    ∷ told_behind before text s ds is i
+reported_after_step : (before text : List ℕ) (s : Step) (ds : List Default) → text ≡ pointer (step_path s) → reported_below (before ++ text) ds ≡ reported_below before (map (after_step s) ds)
+reported_after_step before text s [] is = refl
+reported_after_step before text s (d ∷ ds) is = λ i.
+    record { pointer = (append_assoc before text (place_pointer d.place) ∙ ap (λ t. before ++ t) (ap (λ t. t ++ place_pointer d.place) is ∙ sym (pointer_after s d.place))) i; rule = V14 }
+    ∷ reported_after_step before text s ds is i
 
-pub added_behind : (before text : List ℕ) (s : Step) (ds : List Default) (old now : List Told) → text ≡ pointer (step_path s)
-    → AreAdded (before ++ text) ds old now → AreAdded before (map (behind s) ds) old now
-added_behind before text s ds old now is a = record {
-  bad = map (behind s) a.bad;
-  are_bad = bad_behind s ds a.bad a.are_bad;
-  told = a.told ∙ ap (λ ts. old ++ ts) (told_behind before text s a.bad is);
+pub added_after : (before text : List ℕ) (s : Step) (ds : List Default) (old now : List Reported) → text ≡ pointer (step_path s)
+    → AreAdded (before ++ text) ds old now → AreAdded before (map (after_step s) ds) old now
+added_after before text s ds old now is a = record {
+  bad = map (after_step s) a.bad;
+  are_bad = bad_after_step s ds a.bad a.are_bad;
+  reported = a.reported ∙ ap (λ ts. old ++ ts) (reported_after_step before text s a.bad is);
 }
 
 pub values_token : name_token (codes "additionalProperties") ≡ pointer (step_path map_value)
@@ -63,12 +63,12 @@ property_tokens k = ap (λ t. name_token (codes "properties") ++ t) (sym (append
 
 -- ---- of a field, and of one more field
 
-pub added_field : (before k text more : List ℕ) (own ds : List Default) (old between now : List Told)
+pub added_field : (before k text more : List ℕ) (own ds : List Default) (old between now : List Reported)
     → text ≡ (before ++ name_token (codes "properties")) ++ name_token k → more ≡ text
     → AreAdded text own old between → AreAdded more ds between now
-    → AreAdded before (map (behind (property k)) (own ++ ds)) old now
+    → AreAdded before (map (after_step (property k)) (own ++ ds)) old now
 added_field before k text more own ds old between now is same first then =
-    added_behind before (name_token (codes "properties") ++ name_token k) (property k) (own ++ ds) old now (property_tokens k)
+    added_after before (name_token (codes "properties") ++ name_token k) (property k) (own ++ ds) old now (property_tokens k)
     (subst (λ t. AreAdded t (own ++ ds) old now) (is ∙ append_assoc before (name_token (codes "properties")) (name_token k))
     (added_join text own ds old between now first (subst (λ t. AreAdded t ds between now) same then)))
 
@@ -77,7 +77,7 @@ in_more_fields [] f = append-nil (defaults_in_field f)
 in_more_fields (g ∷ fs) f =
     ap (λ ds. defaults_in_field g ++ ds) (in_more_fields fs f) ∙ sym (append_assoc (defaults_in_field g) (defaults_in_fields (fields_of fs)) (defaults_in_field f))
 
-pub added_more : (before : List ℕ) (fs : List Field) (i : ℕ) (f : Field) (old between now : List Told) → i < length fs → f ≡ get_or fs i f
+pub added_more : (before : List ℕ) (fs : List Field) (i : ℕ) (f : Field) (old between now : List Reported) → i < length fs → f ≡ get_or fs i f
     → AreAdded before (defaults_in_fields (fields_of (take i fs))) old between → AreAdded before (defaults_in_field f) between now
     → AreAdded before (defaults_in_fields (fields_of (take (i + 1) fs))) old now
 added_more before fs i f old between now within is first then =
@@ -87,17 +87,17 @@ added_more before fs i f old between now within is first then =
 
 -- ---- one default
 
-pub bad_added : (pointer : List ℕ) (N : Node) (o : Option Data) (d : Data) (old now : List Told) → o ≡ Some d → (IsGoodDefault N d → ⊥)
+pub bad_added : (pointer : List ℕ) (N : Node) (o : Option Data) (d : Data) (old now : List Reported) → o ≡ Some d → (IsGoodDefault N d → ⊥)
     → now ≡ old ++ record { pointer = pointer; rule = V14 } ∷ [] → AreAdded pointer (own_default N o) old now
-bad_added pointer N o d old now is bad told = subst (λ x. AreAdded pointer (own_default N x) old now) (sym is) (record {
+bad_added pointer N o d old now is bad reported = subst (λ x. AreAdded pointer (own_default N x) old now) (sym is) (record {
   bad = record { place = []; node = N; value = d } ∷ [];
   are_bad = inl (bad, [], refl, refl);
-  told = told ∙ ap (λ t. old ++ record { pointer = t; rule = V14 } ∷ []) (sym (append-nil pointer));
+  reported = reported ∙ ap (λ t. old ++ record { pointer = t; rule = V14 } ∷ []) (sym (append-nil pointer));
 })
 
-pub good_passed : (pointer : List ℕ) (N : Node) (o : Option Data) (d : Data) (ts : List Told) → o ≡ Some d → IsGoodDefault N d → AreAdded pointer (own_default N o) ts ts
+pub good_passed : (pointer : List ℕ) (N : Node) (o : Option Data) (d : Data) (ts : List Reported) → o ≡ Some d → IsGoodDefault N d → AreAdded pointer (own_default N o) ts ts
 good_passed pointer N o d ts is good = subst (λ x. AreAdded pointer (own_default N x) ts ts) (sym is) (record {
   bad = [];
   are_bad = inr (good, refl);
-  told = sym (append-nil ts);
+  reported = sym (append-nil ts);
 })

@@ -14,7 +14,7 @@ use Rattle.jtree.specs.Internal.Rising.{Among, Rising, among_left, among_right, 
 use Rattle.schema.specs.Document.Places.{Step, Place, property, map_value, items, all_of, any_of, one_of, negation, step_path, place_path, place_pointer}
 use Rattle.schema.specs.Nodes.Node.{Node, node, scalar, object, map as map_node, list, open_, Fields, no_fields, field, IsNode, AreOrdered, IsBeforeFields}
 use Rattle.schema.specs.Nodes.ByPlace.{Declared, field_at, node_below, node_at, AreNodesOf}
-use Rattle.schema.specs.Rules.Breaks.{Break, BreaksNone, AreBreaks, AreViolations, break_cmp, told, told_of}
+use Rattle.schema.specs.Rules.Breaks.{Break, BreaksNone, AreBreaks, AreViolations, break_cmp, reported, reported_of}
 use Rattle.schema.specs.Document.ReadFault.{IsSound}
 use Rattle.schema.specs.Nodes.Shape.{IsShapeRefusal}
 use Rattle.schema.specs.declared.refused.Refused.{Refused}
@@ -24,7 +24,7 @@ use Rattle.schema.specs.declared.violation.Violation.{Violation}
 use Rattle.schema.specs.declared.violation.Rule.TheVariants.{V14}
 use Rattle.stored.specs.Schemas.Defaults.{HasDefault, HasGoodDefaults, field_of}
 use Rattle.stored.specs.Schemas.Accepted.{IsBroken, IsRootOf, IsRefusal}
-use Rattle.stored.specs.Internal.DefaultList.{Default, behind, own_default, defaults_of, defaults_in_fields, IsGood, AreBadOf, told_below, AreAdded}
+use Rattle.stored.specs.Internal.DefaultList.{Default, after_step, own_default, defaults_of, defaults_in_fields, IsGood, AreBadOf, reported_below, AreAdded}
 use Rattle.stored.proofs.FieldLemmas.{fields_before, later_field}
 
 -- what is listed is a default of the nodes
@@ -52,7 +52,7 @@ rising_image R S f keeps (x ∷ xs) r = (
 
 -- ---- what is listed is there
 
-below : (N M : Node) (s : Step) (x : Default) → node_below N s ≡ Some M → IsListed M x → IsListed N (behind s x)
+below : (N M : Node) (s : Step) (x : Default) → node_below N s ≡ Some M → IsListed M x → IsListed N (after_step s x)
 below N M s x is h = record {
   before = s ∷ h.before;
   name = h.name;
@@ -70,10 +70,10 @@ field_below (node nullable description (object fs preserves type bounds cs)) k f
 field_below N k f is = absurd (none-some f is)
 
 own_listed : (N : Node) (k : List ℕ) (f : Declared) → field_of N k ≡ Some f → (default : Option Data) → f.default ≡ default → (x : Default)
-    → Among (own_default f.node default) x → IsListed N (behind (property k) x)
+    → Among (own_default f.node default) x → IsListed N (after_step (property k) x)
 own_listed N k f is None same x a = elim a [ ]
 own_listed N k f is (Some d) same x (inr a) = elim a [ ]
-own_listed N k f is (Some d) same x (inl e) = subst (λ y. IsListed N (behind (property k) y)) e (record {
+own_listed N k f is (Some d) same x (inl e) = subst (λ y. IsListed N (after_step (property k) y)) e (record {
   before = [];
   name = k;
   place_is = refl;
@@ -89,9 +89,9 @@ mutual
   node_listed : (N : Node) → IsNode N → (x : Default) → Among (defaults_of N) x → IsListed N x
   node_listed (node nullable description (object fs preserves type bounds cs)) ordered x a =
       fields_listed (node nullable description (object fs preserves type bounds cs)) fs ordered (λ k f is. is) x a
-  node_listed (node nullable description (map_node M type bounds)) ordered x a = let r = image (behind map_value) (defaults_of M) x a in
+  node_listed (node nullable description (map_node M type bounds)) ordered x a = let r = image (after_step map_value) (defaults_of M) x a in
       subst (IsListed (node nullable description (map_node M type bounds))) (sym r.1) (below _ M map_value r.0 refl (node_listed M ordered r.0 r.2))
-  node_listed (node nullable description (list M type keys bounds)) ordered x a = let r = image (behind items) (defaults_of M) x a in
+  node_listed (node nullable description (list M type keys bounds)) ordered x a = let r = image (after_step items) (defaults_of M) x a in
       subst (IsListed (node nullable description (list M type keys bounds))) (sym r.1) (below _ M items r.0 refl (node_listed M ordered r.0 r.2))
   node_listed (node nullable description (scalar kind cs)) ordered x a = elim a [ ]
   node_listed (node nullable description open_) ordered x a = elim a [ ]
@@ -100,9 +100,9 @@ mutual
   fields_listed : (N : Node) (fs : Fields) → AreOrdered fs → ((k : List ℕ) (f : Declared) → field_at k fs ≡ Some f → field_of N k ≡ Some f) → (x : Default)
       → Among (defaults_in_fields fs) x → IsListed N x
   fields_listed N no_fields ordered of x a = elim a [ ]
-  fields_listed N (field k M required default fs) ordered of x a = elim (among_parts (map (behind (property k)) (own_default M default ++ defaults_of M)) (defaults_in_fields fs) x a) [
+  fields_listed N (field k M required default fs) ordered of x a = elim (among_parts (map (after_step (property k)) (own_default M default ++ defaults_of M)) (defaults_in_fields fs) x a) [
     | inl here ↦
-        let r = image (behind (property k)) (own_default M default ++ defaults_of M) x here in
+        let r = image (after_step (property k)) (own_default M default ++ defaults_of M) x here in
         let f : Declared = record { node = M; required = required; default = default } in
         let is : field_of N k ≡ Some f = of k f (rw (own_name k) refl) in
         subst (IsListed N) (sym r.1) (elim (among_parts (own_default M default) (defaults_of M) r.0 r.2) [
@@ -115,19 +115,19 @@ mutual
 -- ---- what is there is listed
 
 field_among : (fs : Fields) (k : List ℕ) (f : Declared) (x : Default) → field_at k fs ≡ Some f → Among (own_default f.node f.default ++ defaults_of f.node) x
-    → Among (defaults_in_fields fs) (behind (property k) x)
+    → Among (defaults_in_fields fs) (after_step (property k) x)
 field_among no_fields k f x is a = cc
 field_among (field l M required default fs) k f x is a = elim (bool_cases (bytes_eq k l)) [
   | inl t ↦
       let same : record { node = M; required = required; default = default } ≡ f = same_Some _ f (rw t at is) in
-      among_left _ (defaults_in_fields fs) (behind (property k) x)
-      (subst (λ n. Among (map (behind (property l)) (own_default M default ++ defaults_of M)) (behind (property n) x)) (sym (same_name k l t))
-      (among_image (behind (property l)) (own_default M default ++ defaults_of M) x (subst (λ g. Among (own_default g.node g.default ++ defaults_of g.node) x) (sym same) a)))
-  | inr o ↦ among_right _ (defaults_in_fields fs) (behind (property k) x) (field_among fs k f x (rw o at is) a)
+      among_left _ (defaults_in_fields fs) (after_step (property k) x)
+      (subst (λ n. Among (map (after_step (property l)) (own_default M default ++ defaults_of M)) (after_step (property n) x)) (sym (same_name k l t))
+      (among_image (after_step (property l)) (own_default M default ++ defaults_of M) x (subst (λ g. Among (own_default g.node g.default ++ defaults_of g.node) x) (sym same) a)))
+  | inr o ↦ among_right _ (defaults_in_fields fs) (after_step (property k) x) (field_among fs k f x (rw o at is) a)
 ]
 
 field_found : (N : Node) (k : List ℕ) (f : Declared) (x : Default) → field_of N k ≡ Some f → Among (own_default f.node f.default ++ defaults_of f.node) x
-    → Among (defaults_of N) (behind (property k) x)
+    → Among (defaults_of N) (after_step (property k) x)
 field_found (node nullable description (object fs preserves type bounds cs)) k f x is a = field_among fs k f x is a
 field_found N k f x is a = absurd (none-some f is)
 
@@ -137,13 +137,13 @@ field_cases fs k M is = elim (option_cases (field_at k fs)) [
   | inr f ↦ (f.0, f.1, same_Some f.0.node M (rw f.1 at is))
 ]
 
-below_found : (N : Node) (s : Step) (M : Node) (x : Default) → node_below N s ≡ Some M → Among (defaults_of M) x → Among (defaults_of N) (behind s x)
+below_found : (N : Node) (s : Step) (M : Node) (x : Default) → node_below N s ≡ Some M → Among (defaults_of M) x → Among (defaults_of N) (after_step s x)
 below_found (node nullable description (object fs preserves type bounds cs)) (property k) M x is a = let f = field_cases fs k M is in
     field_among fs k f.0 x f.1 (among_right (own_default f.0.node f.0.default) (defaults_of f.0.node) x (subst (λ K. Among (defaults_of K) x) (sym f.2) a))
 below_found (node nullable description (map_node M' type bounds)) map_value M x is a =
-    among_image (behind map_value) (defaults_of M') x (subst (λ K. Among (defaults_of K) x) (sym (same_Some M' M is)) a)
+    among_image (after_step map_value) (defaults_of M') x (subst (λ K. Among (defaults_of K) x) (sym (same_Some M' M is)) a)
 below_found (node nullable description (list M' type keys bounds)) items M x is a =
-    among_image (behind items) (defaults_of M') x (subst (λ K. Among (defaults_of K) x) (sym (same_Some M' M is)) a)
+    among_image (after_step items) (defaults_of M') x (subst (λ K. Among (defaults_of K) x) (sym (same_Some M' M is)) a)
 below_found N s M x is a = absurd (none-some M is)
 
 found_from : (before : Place) (N O : Node) (k : List ℕ) (f : Declared) (d : Data) → node_at N before ≡ Some O → field_of O k ≡ Some f → f.default ≡ Some d
@@ -169,8 +169,8 @@ same_prefix : (a p q : Path) → path_cmp (a ++ p) (a ++ q) ≡ path_cmp p q
 same_prefix [] p q = refl
 same_prefix (s ∷ a) p q = same_step s (a ++ p) (a ++ q) ∙ same_prefix a p q
 
-rising_behind : (s : Step) (xs : List Default) → Rising IsEarlier xs → Rising IsEarlier (map (behind s) xs)
-rising_behind s xs r = rising_image IsEarlier IsEarlier (behind s) (λ x y e. same_prefix (step_path s) (place_path x.place) (place_path y.place) ∙ e) xs r
+rising_after_step : (s : Step) (xs : List Default) → Rising IsEarlier xs → Rising IsEarlier (map (after_step s) xs)
+rising_after_step s xs r = rising_image IsEarlier IsEarlier (after_step s) (λ x y e. same_prefix (step_path s) (place_path x.place) (place_path y.place) ∙ e) xs r
 
 first_of_all : (s : Step) (p : Place) → path_cmp [] (place_path (s ∷ p)) ≡ Less
 first_of_all (property k) p = refl
@@ -190,8 +190,8 @@ after_own N x h = subst (λ p. path_cmp [] (place_path p) ≡ Less) (sym h.place
 later_names : (fs : Fields) (k : List ℕ) → IsBeforeFields k fs → AreOrdered fs → (x : Default) → Among (defaults_in_fields fs) x
     → (l : List ℕ) × (q : Place) × (x.place ≡ property l ∷ q) × (text_cmp k l ≡ Less)
 later_names no_fields k before ordered x a = elim a [ ]
-later_names (field l M required default fs) k before ordered x a = elim (among_parts (map (behind (property l)) (own_default M default ++ defaults_of M)) (defaults_in_fields fs) x a) [
-  | inl here ↦ let m = image (behind (property l)) (own_default M default ++ defaults_of M) x here in (l, m.0.place, ap (λ y. y.place) m.1, before)
+later_names (field l M required default fs) k before ordered x a = elim (among_parts (map (after_step (property l)) (own_default M default ++ defaults_of M)) (defaults_in_fields fs) x a) [
+  | inl here ↦ let m = image (after_step (property l)) (own_default M default ++ defaults_of M) x here in (l, m.0.place, ap (λ y. y.place) m.1, before)
   | inr later ↦ later_names fs k (fields_before k l fs before ordered.1) ordered.2 x later
 ]
 
@@ -205,19 +205,19 @@ rising_own M (Some d) ordered r = (λ v a. after_own M v (node_listed M ordered 
 mutual
   rising_node : (N : Node) → IsNode N → Rising IsEarlier (defaults_of N)
   rising_node (node nullable description (object fs preserves type bounds cs)) ordered = rising_fields fs ordered
-  rising_node (node nullable description (map_node M type bounds)) ordered = rising_behind map_value (defaults_of M) (rising_node M ordered)
-  rising_node (node nullable description (list M type keys bounds)) ordered = rising_behind items (defaults_of M) (rising_node M ordered)
+  rising_node (node nullable description (map_node M type bounds)) ordered = rising_after_step map_value (defaults_of M) (rising_node M ordered)
+  rising_node (node nullable description (list M type keys bounds)) ordered = rising_after_step items (defaults_of M) (rising_node M ordered)
   rising_node (node nullable description (scalar kind cs)) ordered = tt
   rising_node (node nullable description open_) ordered = tt
 
   rising_fields : (fs : Fields) → AreOrdered fs → Rising IsEarlier (defaults_in_fields fs)
   rising_fields no_fields ordered = tt
   rising_fields (field k M required default fs) ordered =
-      rising_join IsEarlier (map (behind (property k)) (own_default M default ++ defaults_of M)) (defaults_in_fields fs)
-      (rising_behind (property k) (own_default M default ++ defaults_of M) (rising_own M default ordered.0 (rising_node M ordered.0)))
+      rising_join IsEarlier (map (after_step (property k)) (own_default M default ++ defaults_of M)) (defaults_in_fields fs)
+      (rising_after_step (property k) (own_default M default ++ defaults_of M) (rising_own M default ordered.0 (rising_node M ordered.0)))
       (rising_fields fs ordered.2)
       (λ v w a b.
-      let here = image (behind (property k)) (own_default M default ++ defaults_of M) v a in
+      let here = image (after_step (property k)) (own_default M default ++ defaults_of M) v a in
       let later = later_names fs k ordered.1 ordered.2 w b in
       subst (λ p. path_cmp p (place_path w.place) ≡ Less) (sym (ap (λ y. place_path y.place) here.1))
       (subst (λ q. path_cmp (place_path (property k ∷ here.0.place)) (place_path q) ≡ Less) (sym later.2) (earlier_field k later.0 here.0.place later.1 later.3)))
@@ -255,16 +255,16 @@ all_good (y ∷ xs) (inr s) x (inr a) = all_good xs s.1 x a
 abbrev break_of : Default → Break
 break_of x = record { place = x.place; rule = V14 }
 
-told_places : (bad : List Default) → told_below [] bad ≡ map told_of (map break_of bad)
-told_places [] = refl
-told_places (x ∷ bad) = ap (λ ts. record { pointer = place_pointer x.place; rule = V14 } ∷ ts) (told_places bad)
+reported_places : (bad : List Default) → reported_below [] bad ≡ map reported_of (map break_of bad)
+reported_places [] = refl
+reported_places (x ∷ bad) = ap (λ ts. record { pointer = place_pointer x.place; rule = V14 } ∷ ts) (reported_places bad)
 
 earlier_break : (x y : Default) → IsEarlier x y → break_cmp (break_of x) (break_of y) ≡ Less
 earlier_break x y e = rw e refl
 
 -- the bad defaults are all that is broken where none of the sixteen other rules is
 bad_violations : (raw : Data) (N : Node) (bad : List Default) (found : List Violation) → BreaksNone raw → AreNodesOf true N raw
-    → ((M : Node) → AreNodesOf true M raw → M ≡ N) → AreBadOf (defaults_of N) bad → map told found ≡ told_below [] bad → AreViolations (IsBroken raw) found
+    → ((M : Node) → AreNodesOf true M raw → M ≡ N) → AreBadOf (defaults_of N) bad → map reported found ≡ reported_below [] bad → AreViolations (IsBroken raw) found
 bad_violations raw N bad found unbroken nodes only are_bad is = (
   map break_of bad,
   record {
@@ -287,7 +287,7 @@ bad_violations raw N bad found unbroken nodes only are_bad is = (
     ascending = all_pairs (λ b c. break_cmp b c ≡ Less) (map break_of bad) (rising_image IsEarlier (λ b c. break_cmp b c ≡ Less) break_of earlier_break bad
         (rising_bad (defaults_of N) bad are_bad (rising_node N nodes.ordered)));
   },
-  is ∙ told_places bad,
+  is ∙ reported_places bad,
 )
 
 -- where none is bad, the schema is accepted
@@ -326,18 +326,18 @@ nothing_broken raw N root = ([], record { each = λ k d within. absurd (omega ar
 
 -- ---- what is answered
 
-empty_bad : (bad : List Default) (found : List Violation) → found ≡ [] → map told found ≡ told_below [] bad → bad ≡ []
+empty_bad : (bad : List Default) (found : List Violation) → found ≡ [] → map reported found ≡ reported_below [] bad → bad ≡ []
 empty_bad [] found none is = refl
 empty_bad (x ∷ bad) found none is = let e = rw none at is in cc
 
 pub is_accepted : (raw : Data) (N : Node) (found : List Violation) → IsSound raw → BreaksNone raw → AreNodesOf true N raw → ((M : Node) → AreNodesOf true M raw → M ≡ N)
-    → AreAdded [] (defaults_of N) [] (map told found) → found ≡ [] → IsRootOf N raw
+    → AreAdded [] (defaults_of N) [] (map reported found) → found ≡ [] → IsRootOf N raw
 is_accepted raw N found sound unbroken nodes only a none =
-    none_bad raw N sound unbroken nodes only (subst (AreBadOf (defaults_of N)) (empty_bad a.bad found none a.told) a.are_bad)
+    none_bad raw N sound unbroken nodes only (subst (AreBadOf (defaults_of N)) (empty_bad a.bad found none a.reported) a.are_bad)
 
 pub is_refused : (raw : Data) (N : Node) (found : List Violation) → BreaksNone raw → AreNodesOf true N raw → ((M : Node) → AreNodesOf true M raw → M ≡ N)
-    → AreAdded [] (defaults_of N) [] (map told found) → AreViolations (IsBroken raw) found
-is_refused raw N found unbroken nodes only a = bad_violations raw N a.bad found unbroken nodes only a.are_bad a.told
+    → AreAdded [] (defaults_of N) [] (map reported found) → AreViolations (IsBroken raw) found
+is_refused raw N found unbroken nodes only a = bad_violations raw N a.bad found unbroken nodes only a.are_bad a.reported
 
 pub refusal_from : (raw : Data) (r : Refused) → IsShapeRefusal raw r → IsRefusal raw r
 refusal_from raw (Violations vs) h = (other_violations raw vs.items h.0 h.1, h.1)

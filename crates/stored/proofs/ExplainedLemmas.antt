@@ -4,7 +4,7 @@ use Rattle.std.specs.Prelude.{map, All, IfOk, Result, Ok, Err}
 use Rattle.std.proofs.lemmas.List.Elements.{All-head, All-tail}
 use Rattle.jtree.specs.Data.{Data}
 use Rattle.jtree.specs.Internal.Rising.{contained}
-use Rattle.schema.specs.Rules.Breaks.{Break, AreViolations, told, told_of, BreaksNone}
+use Rattle.schema.specs.Rules.Breaks.{Break, AreViolations, reported, reported_of, BreaksNone}
 use Rattle.schema.specs.Rules.Broken.{Broken}
 use Rattle.schema.specs.Rules.Explained.{IsExplained, AreExplained, OneByOne}
 use Rattle.schema.specs.declared.reason.Explained.{Explained}
@@ -26,7 +26,7 @@ none_explained raw ([], are, each) = λ p r broken. contained [] _ (are.all p r 
 none_explained raw (b ∷ breaks, are, each) = absurd each
 
 -- V14 has no reasons
-explained_default : (raw : Data) (b : Break) (e : Explained) → BreaksNone raw → IsBroken raw b.place b.rule → IsWithoutReasons e → told e.violation ≡ told_of b → IsExplained raw b e
+explained_default : (raw : Data) (b : Break) (e : Explained) → BreaksNone raw → IsBroken raw b.place b.rule → IsWithoutReasons e → reported e.violation ≡ reported_of b → IsExplained raw b e
 explained_default raw b e unbroken (inl other) none is = absurd (unbroken b.place b.rule other)
 explained_default raw b e unbroken (inr own) none is = (
   is,
@@ -35,7 +35,7 @@ explained_default raw b e unbroken (inr own) none is = (
 
 -- so the breaks are explained one by one
 defaults_explained : (raw : Data) (breaks : List Break) (found : List Explained) → BreaksNone raw → All (λ b. IsBroken raw b.place b.rule) breaks → All IsWithoutReasons found
-    → map (λ e. told e.violation) found ≡ map told_of breaks → OneByOne (IsExplained raw) breaks found
+    → map (λ e. reported e.violation) found ≡ map reported_of breaks → OneByOne (IsExplained raw) breaks found
 defaults_explained raw [] [] unbroken each none is = tt
 defaults_explained raw [] (e ∷ found) unbroken each none is = cc
 defaults_explained raw (b ∷ breaks) [] unbroken each none is = cc
@@ -46,7 +46,7 @@ defaults_explained raw (b ∷ breaks) (e ∷ found) unbroken each none is = (
 
 -- violations of V14 alone, and what is made of them, if it is made
 pub violations_explained : {V E : Type 0} (items : V → List Explained) (raw : Data) (violations : List Violation) (r : Result V E) → BreaksNone raw → AreViolations (IsBroken raw) violations
-    → IfOk r (λ v. map (λ e. told e.violation) (items v) ≡ map told violations) → IfOk r (λ v. All IsWithoutReasons (items v)) → IfOk r (λ v. AreExplained (IsBroken raw) raw (items v))
-violations_explained items raw violations (Ok v) unbroken (breaks, are, told_so) is none =
-    (breaks, are, defaults_explained raw breaks (items v) unbroken are.each none (is ∙ told_so))
+    → IfOk r (λ v. map (λ e. reported e.violation) (items v) ≡ map reported violations) → IfOk r (λ v. All IsWithoutReasons (items v)) → IfOk r (λ v. AreExplained (IsBroken raw) raw (items v))
+violations_explained items raw violations (Ok v) unbroken (breaks, are, reported_so) is none =
+    (breaks, are, defaults_explained raw breaks (items v) unbroken are.each none (is ∙ reported_so))
 violations_explained items raw violations (Err e) unbroken are is none = tt

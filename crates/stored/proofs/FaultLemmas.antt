@@ -15,7 +15,7 @@ use Rattle.stored.specs.Objects.AllFaults.{Failure, AreFailures}
 use Rattle.stored.specs.Internal.FailuresByLevel.{asks, here, own, Below, joined, value_parts, item_parts, parts, field_parts, found}
 use Rattle.stored.proofs.FieldLemmas.{field_node}
 use Rattle.stored.proofs.PartLemmas.{stays_free}
-use Rattle.stored.proofs.JoinedLemmas.{failure, Precedes, lookup, standing}
+use Rattle.stored.proofs.JoinedLemmas.{failure, Precedes, lookup, joined_failure}
 use Rattle.stored.proofs.LevelLemmas.{among_whole, own_among, repeat_or, or_repeat, member_tree, of_field, lookup_fields, lookup_values, lookup_items, no_index_of_fields, no_index_of_values, no_name_of_items, parts_rising, found_rising}
 
 -- ---- a value beside its node
@@ -243,15 +243,15 @@ is_fault (q ∷ p) t N v n i a = elim (among_whole false N v (parts N v) (parts_
       ]
 ]
 
-stand : (N : Node) (v : Data) (s : Step) (p : Path) (t : Test) → Led (pair N v) (repeats N v) s p t → Among (found false N v) (failure (s ∷ p) t)
-stand N v s p t l =
+found_below : (N : Node) (v : Data) (s : Step) (p : Path) (t : Test) → Led (pair N v) (repeats N v) s p t → Among (found false N v) (failure (s ∷ p) t)
+found_below N v s p t l =
     among_right (own false N v) (joined (parts N v)) (failure (s ∷ p) t)
-    (standing (parts N v) s p t l.0 (subst (λ bs. lookup s bs ≡ Some l.0) (sym (parts_are N v)) l.1) l.2)
+    (joined_failure (parts N v) s p t l.0 (subst (λ bs. lookup s bs ≡ Some l.0) (sym (parts_are N v)) l.1) l.2)
 
 here_found : (N : Node) (v : Data) → IsNode N → IsTree v → (last : Path) (t : Test) → finds N v last t ≡ true → Among (found false N v) (failure last t)
 here_found N v n i [] t e = own_among false N v (parts N v) t (asked N v t e)
-here_found N v n i (name k ∷ []) F12 e = stand N v (name k) [] F12 (lacking (pair N v) (repeats N v) (sound N v n i) k e)
-here_found N v n i (index j ∷ []) F13 e = let r = repeated_there N v j e in stand N v (index j) [] F13 (repeating (pair N v) (repeats N v) j r.0 r.1 r.2 r.3 e)
+here_found N v n i (name k ∷ []) F12 e = found_below N v (name k) [] F12 (lacking (pair N v) (repeats N v) (sound N v n i) k e)
+here_found N v n i (index j ∷ []) F13 e = let r = repeated_there N v j e in found_below N v (index j) [] F13 (repeating (pair N v) (repeats N v) j r.0 r.1 r.2 r.3 e)
 here_found N v n i _ _ e = cc
 
 fault_found : (b last : Path) (t : Test) (N : Node) (v : Data) (M : Node) (w : Data) → IsNode N → IsTree v
@@ -265,7 +265,7 @@ fault_found (s ∷ b) last t N v M w n i e f =
     let both = leads_both N v s l.0 l.1 l.2 in
     let u = sound_below (pair N v) (sound N v n i) s l.0 l.1 both.0 both.1 in
     let g = leading (pair N v) (repeats N v) (sound N v n i) s l.0 l.1 both.0 both.1 in
-    stand N v s (b ++ last) t (g.0, g.1, g.2 (failure (b ++ last) t) (fault_found b last t l.0 l.1 M w u.0 u.1 l.3 f))
+    found_below N v s (b ++ last) t (g.0, g.1, g.2 (failure (b ++ last) t) (fault_found b last t l.0 l.1 M w u.0 u.1 l.3 f))
 
 pub all_failures : (N : Node) (v : Data) → IsNode N → IsTree v → AreFailures N v (found false N v)
 all_failures N v n i = record {

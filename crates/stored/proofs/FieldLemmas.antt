@@ -1,4 +1,4 @@
--- Declared fields stand in the order of their names, each once.
+-- Declared fields are in the order of their names, each once.
 use Rattle.std.proofs.Common.{◌≡◌, ℕ, List, Bool, Option, Some, ap, sym, subst, inl, inr}
 use Rattle.std.specs.Str.{bytes_eq}
 use Rattle.std.specs.declared.cmp.Ordering.TheVariants.{Less}

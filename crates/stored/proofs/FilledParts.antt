@@ -27,10 +27,10 @@ use Rattle.schema.specs.declared.node.ListNode.{ListNode}
 use Rattle.stored.specs.Objects.Parts.{Part, pair, whole, at}
 use Rattle.stored.specs.Objects.Becomes.{leads_filled, filled_under, IsFilled, admitted}
 use Rattle.stored.specs.Internal.Becoming.{PartBecomes}
-use Rattle.stored.specs.Internal.Filling.{joined_items, AreFilledItems, joined, in_front, AreFilled, field_parts, AreFilledFields, value_parts, AreFilledValues, tree_in}
+use Rattle.stored.specs.Internal.Defaulting.{joined_items, AreFilledItems, joined, in_front, AreFilled, field_parts, AreFilledFields, value_parts, AreFilledValues, tree_in}
 use Rattle.stored.proofs.BecomingLemmas.{free_stays, by_steps}
 
--- ---- values without parts that nodes stand for
+-- ---- values without parts that have nodes
 
 pub whole_filled : (N : Node) (v : Data) → pair N v ≡ whole → IsFilled N v v
 whole_filled N v e = by_steps leads_filled N v v refl (λ s. rw (e, e) (free_stays leads_filled (part_by v s)))
@@ -71,21 +71,20 @@ item_filled N d e ds es t here rest = record { trees = (t, rest.trees); each = i
 
 -- ---- objects and maps
 
-field_steps : (n : Bool) (d : Option (List ℕ)) (o : ObjectNode) (ms ns : Members) → AreFilledFields o.fields ms ns
-    → (s : Step) → PartBecomes leads_filled (leads_filled (node n d (sort_of (sort.Object o))) (tree.object ms) s) (part_by (tree.object ns) s)
-field_steps n d o ms ns f (name k) path = f.each k path
-field_steps n d o ms ns f (index i) path = refl
+member_steps : (N : Node) (parts : List ℕ → Option Part) (ms ns : Members) → ((k : List ℕ) → leads_filled N (tree.object ms) (name k) ≡ parts k) → ((i : ℕ) → leads_filled N (tree.object ms) (index i) ≡ None)
+    → ((k : List ℕ) → PartBecomes leads_filled (parts k) (member_at k ns)) → (s : Step) → PartBecomes leads_filled (leads_filled N (tree.object ms) s) (part_by (tree.object ns) s)
+member_steps N parts ms ns named indexed each (name k) = subst (λ q. PartBecomes leads_filled q (member_at k ns)) (sym (named k)) (each k)
+member_steps N parts ms ns named indexed each (index i) = subst (λ q. PartBecomes leads_filled q None) (sym (indexed i)) (λ path. refl)
 
 pub fields_filled : (n : Bool) (d : Option (List ℕ)) (o : ObjectNode) (ms ns : Members) → AreFilledFields o.fields ms ns → IsFilled (node n d (sort_of (sort.Object o))) (tree.object ms) (tree.object ns)
-fields_filled n d o ms ns f = by_steps leads_filled (node n d (sort_of (sort.Object o))) (tree.object ms) (tree.object ns) refl (field_steps n d o ms ns f)
-
-value_steps : (n : Bool) (d : Option (List ℕ)) (m : MapNode) (ms ns : Members) → AreFilledValues m.value ms ns
-    → (s : Step) → PartBecomes leads_filled (leads_filled (node n d (sort_of (sort.Map m))) (tree.object ms) s) (part_by (tree.object ns) s)
-value_steps n d m ms ns f (name k) path = f.each k path
-value_steps n d m ms ns f (index i) path = refl
+fields_filled n d o ms ns f =
+    let N = node n d (sort_of (sort.Object o)) in
+    by_steps leads_filled N (tree.object ms) (tree.object ns) refl (member_steps N (field_parts o.fields ms) ms ns (λ k. refl) (λ i. refl) f.each)
 
 pub values_filled : (n : Bool) (d : Option (List ℕ)) (m : MapNode) (ms ns : Members) → AreFilledValues m.value ms ns → IsFilled (node n d (sort_of (sort.Map m))) (tree.object ms) (tree.object ns)
-values_filled n d m ms ns f = by_steps leads_filled (node n d (sort_of (sort.Map m))) (tree.object ms) (tree.object ns) refl (value_steps n d m ms ns f)
+values_filled n d m ms ns f =
+    let N = node n d (sort_of (sort.Map m)) in
+    by_steps leads_filled N (tree.object ms) (tree.object ns) refl (member_steps N (value_parts m.value ms) ms ns (λ k. refl) (λ i. refl) f.each)
 
 -- ---- one name more
 
@@ -170,7 +169,7 @@ passed_stay k f fs (x ∷ xs) ys ns ordered sorted less rest =
     (All-head (λ m. text_cmp m.name k ≡ Less) x xs less)
     (passed_stay k f fs xs ys ns ordered sorted.2 (All-tail (λ m. text_cmp m.name k ≡ Less) x xs less) rest)
 
--- ---- what is behind what there is
+-- ---- what comes after what there is
 
 pub joined_item : (xs : List Tree) (t : Tree) (es : Items) → joined_items (items_of (xs ++ t ∷ [])) es ≡ joined_items (items_of xs) (item (data_of t) es)
 joined_item [] t es = refl

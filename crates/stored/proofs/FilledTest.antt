@@ -1,4 +1,4 @@
--- The test by levels says whether filling leaves a value as it is.
+-- The test by levels says whether defaulting leaves a value as it is.
 use Rattle.std.proofs.Common.{◌≡◌, ℕ, zero, suc, List, [], ◌∷◌, true, Option, Some, None, refl, sym, subst, inl, inr}
 use Rattle.std.specs.Prelude.{option_map, option_and_then}
 use Rattle.std.specs.Str.{bytes_eq}
@@ -18,11 +18,11 @@ use Rattle.stored.proofs.BecomingLemmas.{free_stays}
 use Rattle.stored.proofs.FilledParts.{whole_filled}
 use Rattle.stored.proofs.FieldLemmas.{later_field}
 
--- the value stands at the path as it is to be
+-- the value is at the path as it is to be
 abbrev StaysAt : Node → Data → Path → Type 0
 StaysAt N v path = option_map label (part_at v path) ≡ option_map (λ q. label (value_of q)) (part_by_path leads_filled (at N v) path)
 
--- and so does what stands under a name, with a default there
+-- and so is what is under a name, with a default there
 abbrev StaysUnder : Node → Option Data → Option Data → Path → Type 0
 StaysUnder N default y path =
     option_map label (option_and_then (λ d. part_at d path) y) ≡ option_map (λ q. label (value_of q)) (option_and_then (λ q. part_by_path leads_filled q path) (option_map (at N) (or_default (admitted N y) default)))

@@ -12,7 +12,7 @@ use Rattle.schema.specs.declared.node.Field.{Field}
 use Rattle.stored.specs.Objects.Parts.{at}
 use Rattle.stored.specs.Objects.Becomes.{IsFilled, admitted, filled_under}
 use Rattle.stored.specs.Internal.Fields.{declared_of}
-use Rattle.stored.specs.Internal.Filling.{AreFilledItems, joined, in_front, AreFilledFields, AreFilledValues, tree_in, IsFilledAt, IsPassed, FillsItems, FillsValues, FillsFields}
+use Rattle.stored.specs.Internal.Defaulting.{AreFilledItems, joined, in_front, AreFilledFields, AreFilledValues, tree_in, IsFilledAt, IsPassed, FillsItems, FillsValues, FillsFields}
 use Rattle.stored.proofs.FilledParts.{item_filled, joined_item, joined_end, joined_members, joined_none, joined_some, some_tree, no_values, value_filled, no_more_fields, field_filled, passed_stay}
 
 -- a list of no length is over
@@ -79,16 +79,16 @@ fields_more fs ms f later fields all rest filled passed more found o is p here p
     let ys = option_to_list found ++ rest in
     let ordered = rw is at fills.ordered in
     let sorted : AreMembers (members_of (xs ++ ys)) = subst (λ zs. AreMembers (members_of zs)) p.left fills.sorted in
-    let behind : AreMembers (members_of ys) = sorted_rest xs ys sorted in
-    let before = found_before f.name found rest p.named behind in
+    let later_sorted : AreMembers (members_of ys) = sorted_rest xs ys sorted in
+    let before = found_before f.name found rest p.named later_sorted in
     record {
       ordered = ordered.2;
-      sorted = found_sorted found rest behind;
+      sorted = found_sorted found rest later_sorted;
       onward = λ ns g.
           let front_of = in_front f.name (tree_in o) ns in
           let field_is : AreFilledFields (fields_of (f ∷ later)) (members_of ys) front_of =
           rw (found_members f.name found rest p.named)
-          (field_filled f.name (declared_of f) (fields_of later) (tree_in found) (tree_in o) (members_of rest) ns ordered before (found_sorted found rest behind) (some_tree f.name o here.member) here.becomes g)
+          (field_filled f.name (declared_of f) (fields_of later) (tree_in found) (tree_in o) (members_of rest) ns ordered before (found_sorted found rest later_sorted) (some_tree f.name o here.member) here.becomes g)
           in
           let whole_is : AreFilledFields (fields_of fields) (members_of all) (joined (members_of xs) front_of) =
           rw (is, p.left) (passed_stay f.name (declared_of f) (fields_of later) xs ys front_of ordered sorted p.are_before field_is)

@@ -98,8 +98,8 @@ rising_under s (f ∷ fs) r = (
 
 -- ---- all parts
 
--- a failure stands at a part
-pub record Stands (bs : List Below) (f : Failure) : Type 0 where
+-- a failure is at a part
+pub record IsJoined (bs : List Below) (f : Failure) : Type 0 where
   pub step : Step
   pub rest : Path
   pub failures : List Failure
@@ -107,24 +107,24 @@ pub record Stands (bs : List Below) (f : Failure) : Type 0 where
   pub there : lookup step bs ≡ Some failures
   pub among : Among failures (failure rest f.test)
 
-pub stands : (bs : List Below) → AreRising bs → (f : Failure) → Among (joined bs) f → Stands bs f
-stands [] r f a = elim a [ ]
-stands (b ∷ bs) r f a = elim (among_parts (under b.step b.failures) (joined bs) f a) [
+pub is_joined : (bs : List Below) → AreRising bs → (f : Failure) → Among (joined bs) f → IsJoined bs f
+is_joined [] r f a = elim a [ ]
+is_joined (b ∷ bs) r f a = elim (among_parts (under b.step b.failures) (joined bs) f a) [
   | inl u ↦ let x = among_under b.step b.failures f u in record { step = b.step; rest = x.0; failures = b.failures; is = x.1; there = rw (itself b.step) refl; among = x.2 }
   | inr u ↦
-      let x = stands bs r.2 f u in
+      let x = is_joined bs r.2 f u in
       let other = later x.step b.step (after b.step bs r.1 r.2 x.step x.failures x.there) in
       record { step = x.step; rest = x.rest; failures = x.failures; is = x.is; there = rw other x.there; among = x.among }
 ]
 
-pub standing : (bs : List Below) (s : Step) (p : Path) (t : Test) (fs : List Failure) → lookup s bs ≡ Some fs → Among fs (failure p t) → Among (joined bs) (failure (s ∷ p) t)
-standing [] s p t fs e a = cc
-standing (b ∷ bs) s p t fs e a = elim (bool_cases (is_step s b.step)) [
+pub joined_failure : (bs : List Below) (s : Step) (p : Path) (t : Test) (fs : List Failure) → lookup s bs ≡ Some fs → Among fs (failure p t) → Among (joined bs) (failure (s ∷ p) t)
+joined_failure [] s p t fs e a = cc
+joined_failure (b ∷ bs) s p t fs e a = elim (bool_cases (is_step s b.step)) [
   | inl h ↦
       let own : b.failures ≡ fs = let found = rw h at e in cc in
       among_left (under b.step b.failures) (joined bs) (failure (s ∷ p) t)
       (subst (λ q. Among (under q b.failures) (failure (s ∷ p) t)) (same s b.step h) (under_among s b.failures p t (subst (λ gs. Among gs (failure p t)) (sym own) a)))
-  | inr h ↦ among_right (under b.step b.failures) (joined bs) (failure (s ∷ p) t) (standing bs s p t fs (rw h at e) a)
+  | inr h ↦ among_right (under b.step b.failures) (joined bs) (failure (s ∷ p) t) (joined_failure bs s p t fs (rw h at e) a)
 ]
 
 earlier : (f g : Failure) (s t : Step) (p q : Path) → f.path ≡ s ∷ p → g.path ≡ t ∷ q → step_cmp s t ≡ Less → Precedes f g
@@ -135,5 +135,5 @@ rising_joined [] r = tt
 rising_joined (b ∷ bs) r = rising_join Precedes (under b.step b.failures) (joined bs) (rising_under b.step b.failures r.0) (rising_joined bs r.2)
     (λ v w a c.
     let x = among_under b.step b.failures v a in
-    let y = stands bs r.2 w c in
+    let y = is_joined bs r.2 w c in
     earlier v w b.step y.step x.0 y.rest x.1 y.is (after b.step bs r.1 r.2 y.step y.failures y.there))

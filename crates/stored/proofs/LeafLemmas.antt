@@ -1,4 +1,4 @@
--- Which values are divided, and what tells their parts apart.
+-- Which values are divided, and what distinguishes their parts.
 use Rattle.std.specs.Prelude.{◌≡◌, ◌==◌, ℕ, List, [], ◌∷◌, length, not}
 use Rattle.std.specs.List.{filter}
 use Rattle.std.proofs.Common.{◌⊎◌, refl, inl, inr, arith}

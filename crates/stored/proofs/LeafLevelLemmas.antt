@@ -142,8 +142,8 @@ placed_among N element_of i (suc n) j (item c ds) d l sum e a =
     among_right (map (below (index i) (element_of c)) (leaves_by_level N c)) (of_items N element_of (suc i) ds) (below (index j) (element_of d) l)
     (placed_among N element_of (suc i) n j ds d l (omega arith) e a)
 
--- a leaf stands below a step
-record Stands (N : Node) (v : Data) (l : LeafAt) : Type 0 where
+-- a leaf is below a step
+record IsLedTo (N : Node) (v : Data) (l : LeafAt) : Type 0 where
   step : Step
   part : Part
   rest : LeafAt
@@ -152,9 +152,9 @@ record Stands (N : Node) (v : Data) (l : LeafAt) : Type 0 where
   tree : IsTree (value_of part)
   among : Among (leaves_in part) rest
 
-named_stands : (N : Node) (ms : Members) (nodes : List ℕ → Option Node) → ((k : List ℕ) → node_by (pair N (tree.object ms)) (name k) ≡ nodes k) → AreMembers ms
-    → (l : LeafAt) → IsNamed nodes ms l → Stands N (tree.object ms) l
-named_stands N ms nodes by o l x = record {
+named_led_to : (N : Node) (ms : Members) (nodes : List ℕ → Option Node) → ((k : List ℕ) → node_by (pair N (tree.object ms)) (name k) ≡ nodes k) → AreMembers ms
+    → (l : LeafAt) → IsNamed nodes ms l → IsLedTo N (tree.object ms) l
+named_led_to N ms nodes by o l x = record {
   step = name x.key;
   part = part_of (nodes x.key) x.value;
   rest = x.rest;
@@ -164,11 +164,11 @@ named_stands N ms nodes by o l x = record {
   among = subst (λ ls. Among ls x.rest) (in_part (nodes x.key) x.value) x.among;
 }
 
-stands : (N : Node) (v : Data) → IsTree v → (l : LeafAt) → Among (leaves_below N v) l → Stands N v l
-stands (node n t (object fs preserves type bounds cs)) (tree.object ms) o l a =
-    named_stands (node n t (object fs preserves type bounds cs)) ms (field_node fs) (λ k. refl) o l (named (field_node fs) ms o l a)
-stands (node n t (map_of M type bounds)) (tree.object ms) o l a = named_stands (node n t (map_of M type bounds)) ms (λ k. Some M) (λ k. refl) o l (named (λ k. Some M) ms o l a)
-stands (node n t (list M type keys bounds)) (tree.list ds) o l a =
+led_to : (N : Node) (v : Data) → IsTree v → (l : LeafAt) → Among (leaves_below N v) l → IsLedTo N v l
+led_to (node n t (object fs preserves type bounds cs)) (tree.object ms) o l a =
+    named_led_to (node n t (object fs preserves type bounds cs)) ms (field_node fs) (λ k. refl) o l (named (field_node fs) ms o l a)
+led_to (node n t (map_of M type bounds)) (tree.object ms) o l a = named_led_to (node n t (map_of M type bounds)) ms (λ k. Some M) (λ k. refl) o l (named (λ k. Some M) ms o l a)
+led_to (node n t (list M type keys bounds)) (tree.list ds) o l a =
     let x = placed M (item_element type keys) 0 ds l a in
     let there : item_at x.place ds ≡ Some x.value = let same : x.from ≡ x.place = omega (arith, x.sum) in subst (λ m. item_at m ds ≡ Some x.value) same x.there in
     record {
@@ -180,7 +180,7 @@ stands (node n t (list M type keys bounds)) (tree.list ds) o l a =
       tree = item_tree x.place ds x.value o there;
       among = x.among;
     }
-stands _ _ o l a = elim a [ ]
+led_to _ _ o l a = elim a [ ]
 
 named_standing : (N : Node) (ms : Members) (nodes : List ℕ → Option Node) → ((k : List ℕ) → node_by (pair N (tree.object ms)) (name k) ≡ nodes k)
     → (k : List ℕ) (q : Part) (l : LeafAt) → leads N (tree.object ms) (name k) ≡ Some q → Among (leaves_in q) l → Among (of_members nodes ms) (below (name k) (codes "f:" ++ k) l)
@@ -216,12 +216,12 @@ is_leaf [] es (free v) t (inr a) = elim a [ ]
 is_leaf (s ∷ p) es (free v) t (inl e) = let path = ap (λ l. l.path) e in cc
 is_leaf (s ∷ p) es (free v) t (inr a) = elim a [ ]
 is_leaf [] es (at N v) t a = elim (bool_cases (is_divided N v)) [
-  | inl divided ↦ let x = stands N v t (leaf [] es) (rw divided at a) in let path = ap (λ l. l.path) x.is in cc
+  | inl divided ↦ let x = led_to N v t (leaf [] es) (rw divided at a) in let path = ap (λ l. l.path) x.is in cc
   | inr single ↦ let b : (here ≡ leaf [] es) ⊎ ⊥ = rw single at a in elim b [ inl e ↦ rw single (ap (λ l. Some l.elements) e) | inr none ↦ elim none [ ] ]
 ]
 is_leaf (s ∷ p) es (at N v) t a = elim (bool_cases (is_divided N v)) [
   | inl divided ↦
-      let x = stands N v t (leaf (s ∷ p) es) (rw divided at a) in
+      let x = led_to N v t (leaf (s ∷ p) es) (rw divided at a) in
       let path : x.step ∷ x.rest.path ≡ s ∷ p = ap (λ l. l.path) x.is in
       let step : x.step ≡ s = cc in
       let rest : x.rest.path ≡ p = cc in

@@ -22,7 +22,7 @@ use Rattle.stored.specs.Objects.AllFaults.{Failure}
 use Rattle.stored.specs.Internal.FailuresByLevel.{asks, own_tests, here, failing, own, Below, joined, value_parts, item_parts, members_from, first_at, at_field, whole, parts, field_parts, found}
 use Rattle.stored.proofs.AscendingLemmas.{less_from}
 use Rattle.stored.proofs.FieldLemmas.{field_after}
-use Rattle.stored.proofs.JoinedLemmas.{failure, Precedes, lookup, IsStepBefore, AreRising, Stands, stands, rising_joined}
+use Rattle.stored.proofs.JoinedLemmas.{failure, Precedes, lookup, IsStepBefore, AreRising, IsJoined, is_joined, rising_joined}
 
 -- ---- of the value itself
 
@@ -68,10 +68,10 @@ listed repeated N v _ e = search rules depth 20
 -- ---- of the value and its parts
 
 pub among_whole : (repeated : Bool) (N : Node) (v : Data) (bs : List Below) → AreRising bs → (f : Failure) → Among (whole repeated N v bs) f
-    → ((f.path ≡ []) × (asks repeated f.test N v ≡ true)) ⊎ Stands bs f
+    → ((f.path ≡ []) × (asks repeated f.test N v ≡ true)) ⊎ IsJoined bs f
 among_whole repeated N v bs r f a = elim (among_parts (own repeated N v) (joined bs) f a) [
   | inl o ↦ let x = among_failing (λ t. asks repeated t N v) own_tests f o in inl (x.0, x.1)
-  | inr b ↦ inr (stands bs r f b)
+  | inr b ↦ inr (is_joined bs r f b)
 ]
 
 pub own_among : (repeated : Bool) (N : Node) (v : Data) (bs : List Below) (t : Test) → asks repeated t N v ≡ true → Among (whole repeated N v bs) (here t)
@@ -105,7 +105,7 @@ or_repeat true N v bs f a = elim (among_parts (own false N v) (joined bs) f a) [
 
 rising_whole : (repeated : Bool) (N : Node) (v : Data) (bs : List Below) → AreRising bs → Rising Precedes (whole repeated N v bs)
 rising_whole repeated N v bs r = rising_join Precedes (own repeated N v) (joined bs) (rising_failing (λ t. asks repeated t N v) 0 own_tests in_order) (rising_joined bs r)
-    (λ f g a b. let x = among_failing (λ t. asks repeated t N v) own_tests f a in let y = stands bs r g b in rw (x.0, y.is) refl)
+    (λ f g a b. let x = among_failing (λ t. asks repeated t N v) own_tests f a in let y = is_joined bs r g b in rw (x.0, y.is) refl)
 
 -- ---- members from a name on
 

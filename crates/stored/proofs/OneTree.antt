@@ -1,4 +1,4 @@
--- A tree is known by what stands at its paths, so a value becomes one tree alone.
+-- A tree is known by what is at its paths, so a value becomes one tree alone.
 use Rattle.std.proofs.Common.{◌≡◌, ℕ, suc, List, [], ◌∷◌, false, Some, refl, ap, sym, ◌∙◌, subst, inl, inr}
 use Rattle.std.specs.Prelude.{option_map, option_and_then}
 use Rattle.std.specs.Str.{bytes_eq}
@@ -18,7 +18,7 @@ use Rattle.stored.specs.Objects.Becomes.{label, Becomes}
 turned_names : (k l : List ℕ) → text_cmp k l ≡ Greater → text_cmp l k ≡ Less
 turned_names k l after = nat_list_cmp_total.antisymm l k ∙ ap ordering_reverse after
 
--- behind equal first names, the other members agree where the whole objects do
+-- after equal first names, the other members agree where the whole objects do
 same_rest : (k l : List ℕ) (d e : Data) (ms ns : Members) → k ≡ l → AreMembers (member k d ms) → AreMembers (member l e ns) → (m : List ℕ) (path : Path)
     → option_map label (option_and_then (λ x. part_at x path) (member_at m (member k d ms))) ≡ option_map label (option_and_then (λ x. part_at x path) (member_at m (member l e ns)))
     → option_map label (option_and_then (λ x. part_at x path) (member_at m ms)) ≡ option_map label (option_and_then (λ x. part_at x path) (member_at m ns))

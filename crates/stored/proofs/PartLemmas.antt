@@ -7,7 +7,7 @@ use Rattle.jtree.specs.Internal.Lookups.{option_cases}
 use Rattle.schema.specs.Nodes.Node.{Node}
 use Rattle.stored.specs.Objects.Parts.{Part, at, free, part_of, part_by_path, leads}
 
--- something holds of each part for which a node stands, and of that node
+-- something holds of each part that has a node, and of that node
 abbrev pub Everywhere : (Node → Data → Type 0) → Node → Data → Type 0
 Everywhere Holds N v = (path : Path) (M : Node) (w : Data) → part_by_path leads (at N v) path ≡ Some (at M w) → Holds M w
 
@@ -20,7 +20,7 @@ same_value N M v w e = cc
 pub same_part : (Holds : Node → Data → Type 0) (N : Node) (v : Data) → Holds N v → (M : Node) (w : Data) → ◌≡◌ {A = Option Part} (Some (at N v)) (Some (at M w)) → Holds M w
 same_part Holds N v h M w e = subst (λ K. Holds K w) (same_node N M v w e) (subst (Holds N) (same_value N M v w e) h)
 
--- no node stands for a free part
+-- a free part has no node
 pub never_free : (o : Option Data) (M : Node) (w : Data) → option_map (part_of None) o ≡ Some (at M w) → ⊥
 never_free None M w e = cc
 never_free (Some v) M w e = cc

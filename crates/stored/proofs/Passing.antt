@@ -8,7 +8,7 @@ use Rattle.std.proofs.lemmas.Cmp.{nat_list_cmp_total}
 use Rattle.std.proofs.lemmas.Map.Lookups.{exact_bytes}
 use Rattle.jtree.specs.Order.{text_cmp}
 use Rattle.jtree.specs.declared.value.Member.{Member}
-use Rattle.stored.specs.Internal.Filling.{IsPassed}
+use Rattle.stored.specs.Internal.Defaulting.{IsPassed}
 
 pub pass_found : (k : List ℕ) (m : Member) (ms passed : List Member) → text_cmp m.name k ≡ Equal → IsPassed k (m ∷ ms) ms passed passed (Some m)
 pass_found k m ms passed same = record { passed = []; are_before = search rules; out = sym (append-nil passed); left = refl; named = exact_bytes m.name k same }

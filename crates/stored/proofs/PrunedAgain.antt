@@ -19,7 +19,7 @@ use Rattle.stored.specs.Objects.Becomes.{label, Becomes, leads_uncut, leads_fill
 use Rattle.stored.specs.Schemas.Defaults.{IsGoodDefault, HasGoodDefaults, field_of}
 use Rattle.stored.specs.Internal.Becoming.{PartBecomes}
 use Rattle.stored.proofs.BecomingLemmas.{free_stays}
-use Rattle.stored.proofs.Again.{same_label, list_only, object_only, absent}
+use Rattle.stored.proofs.FilledAgain.{same_label, list_only, object_only, absent}
 
 abbrev IsPrunedAgain : Node → Data → Path → Type 0
 IsPrunedAgain N w path = option_map label (part_at w path) ≡ option_map (λ q. label (value_of q)) (part_by_path leads_uncut (at N w) path)
@@ -34,7 +34,7 @@ each : (N : Node) (y : Option Data) (path : Path) → ((e : Data) → y ≡ Some
 each N None path h = refl
 each N (Some e) path h = h e refl
 
--- ---- by what stands under each name and index
+-- ---- by what is under each name and index
 
 -- Two values with the same kind are related so that each part of the second, at its node, is related to some value, and that
 -- names that are cut are absent from it. Then pruning the second changes nothing.
@@ -104,13 +104,13 @@ uncut_below = record {
 pub pruned_again : (N : Node) (v w : Data) → IsPruned N v w → IsPruned N w w
 pruned_again N v w b = prunes IsPruned uncut_below N v w b
 
--- ---- pruned after filling
+-- ---- pruned after defaulting
 
 -- each field of each object has a good default, where it has one
 abbrev AreGood : Node → Type 0
 AreGood N = (p : Place) (M : Node) (k : List ℕ) (f : Declared) (d : Data) → node_at N p ≡ Some M → field_of M k ≡ Some f → f.default ≡ Some d → IsGoodDefault f.node d
 
-pub record IsGoodFilling (N : Node) (v w : Data) : Type 0 where
+pub record IsGoodDefaulting (N : Node) (v w : Data) : Type 0 where
   pub good : AreGood N
   pub pruned : IsPruned N v v
   pub filled : IsFilled N v w
@@ -119,18 +119,18 @@ admitted_only : (N : Node) (v : Option Data) (d : Data) → admitted N v ≡ Som
 admitted_only N (Some tree.null) d e = elim (bool_cases (is_nullable N)) [ inl t ↦ rw t at e | inr f ↦ let g = rw f at e in absurd (cc) ]
 admitted_only N v d e = e
 
--- what is filled under a declared name stands there already, and is pruned, or is the default
+-- what is filled under a declared name is there already, and is pruned, or is the default
 filled_from : (N : Node) (v default : Option Data) (d : Data) → or_default (admitted N v) default ≡ Some d → (v ≡ Some d → IsPruned N d d) → (default ≡ Some d → IsPruned N d d) → IsPruned N d d
-filled_from N v default d e stands by_default = elim (option_cases (admitted N v)) [
+filled_from N v default d e is_default by_default = elim (option_cases (admitted N v)) [
   | inl none ↦ by_default (rw none at e)
-  | inr a ↦ stands (admitted_only N v d (a.1 ∙ rw a.1 at e))
+  | inr a ↦ is_default (admitted_only N v d (a.1 ∙ rw a.1 at e))
 ]
 
--- a value that stands there is pruned, where the whole is
+-- a value that is there is pruned, where the whole is
 pub pruned_part : (N : Node) (v : Option Data) (d : Data) → PartBecomes leads_uncut (option_map (at N) v) v → v ≡ Some d → IsPruned N d d
 pruned_part N v d b is = rw is at b
 
-filled_below : Prunes IsGoodFilling
+filled_below : Prunes IsGoodDefaulting
 filled_below = record {
   alike = λ N v w b. same_label leads_filled N v w b.filled;
   cut = λ n t fs type bounds cs ms ns k b none.
@@ -163,7 +163,7 @@ filled_below = record {
 
 -- what was pruned, and then filled with good defaults, is pruned
 pub filled_pruned : (N : Node) (u v w : Data) → HasGoodDefaults N → IsPruned N u v → IsFilled N v w → IsPruned N w w
-filled_pruned N u v w good pruned filled = prunes IsGoodFilling filled_below N v w (record {
+filled_pruned N u v w good pruned filled = prunes IsGoodDefaulting filled_below N v w (record {
   good = λ p M k f d there is has. good (p ++ (places.property k ∷ [])) f.node d
       (record { before = p; name = k; place_is = refl; object = M; object_is = there; field = f; field_is = is; node_is = refl; default_is = has });
   pruned = pruned_again N u v pruned;

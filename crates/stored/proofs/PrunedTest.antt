@@ -13,7 +13,7 @@ use Rattle.schema.specs.declared.node.Bounds.{Bounds}
 use Rattle.schema.specs.declared.node.MapType.{MapType}
 use Rattle.stored.specs.Objects.Becomes.{leads_uncut, label, IsPruned}
 use Rattle.stored.specs.Internal.Pruning.{field_node, by_node, is_pruned, are_pruned, are_items_pruned}
-use Rattle.stored.proofs.Again.{absent}
+use Rattle.stored.proofs.FilledAgain.{absent}
 use Rattle.stored.proofs.PrunedAgain.{Prunes, prunes, uncut, pruned_part}
 
 both : (a b : Bool) → (a && b) ≡ true → (a ≡ true) × (b ≡ true)

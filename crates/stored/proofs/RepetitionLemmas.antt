@@ -1,4 +1,4 @@
--- Items that may not stand in one list have the same key.
+-- Items that may not be in one list have the same key.
 use Rattle.std.specs.Prelude.{◌≡◌, ◌+◌, ◌<◌, ℕ, zero, suc, List, [], ◌∷◌, ◌++◌, length, Bool, true, false, Option, Some, None, option_map, ◌||◌, cond, not}
 use Rattle.std.proofs.Common.{refl, sym, ap, subst, ◌∙◌, arith, get_or, below_more}
 use Rattle.std.proofs.Math.ListN.{get_or-append}

@@ -16,16 +16,16 @@ use Rattle.stored.specs.Internal.Becoming.{PartBecomes}
 use Rattle.stored.proofs.PartLemmas.{same_part, never_free, everywhere_up}
 use Rattle.stored.proofs.BecomingLemmas.{free_stays, by_steps}
 use Rattle.stored.proofs.ValidLemmas.{FindsNothing, faultless, no_fault, faultless_below, here_from, none_found}
-use Rattle.stored.proofs.Again.{absent}
+use Rattle.stored.proofs.FilledAgain.{absent}
 
--- what a step leads to is valid, and stands there once it is pruned, and once it is filled
+-- what a step leads to is valid, and is there once it is pruned, and once it is filled
 abbrev Stays : Option Part → Option Part → Option Part → Option Data → Type 0
 Stays part uncut filled y = ((M : Node) (w : Data) → part ≡ Some (at M w) → IsValid M w) × PartBecomes leads_uncut uncut y × PartBecomes leads_filled filled y
 
 abbrev StaysBy : Node → Data → Step → Type 0
 StaysBy N v s = Stays (leads N v s) (leads_uncut N v s) (leads_filled N v s) (part_by v s)
 
--- what stands at a node, where it is filled from z
+-- what is at a node, where it is filled from z
 abbrev StaysAt : Node → Option Data → Option Data → Type 0
 StaysAt M y z = Stays (option_map (at M) y) (option_map (at M) y) (option_map (at M) z) y
 
@@ -87,17 +87,17 @@ stays_by (node n t (map M type bounds)) (tree.object ms) h (name k) = part_stays
 stays_by (node n t (list M type keys bounds)) (tree.list ds) h (index i) = part_stays M (item_at i ds) (item_at i ds) (h i) (λ same. refl)
 stays_by N v h s = (λ M w e. absurd (never_free (part_by v s) M w e), free_stays leads_uncut (part_by v s), free_stays leads_filled (part_by v s))
 
-field_stands : (f : Declared) (y : Option Data) → IsStoredField f y → (f.required && is_none y) ≡ false
-field_stands f None h = rw h.0 refl
-field_stands f (Some w) h = and_right f.required false refl
+field_lacks_none : (f : Declared) (y : Option Data) → IsStoredField f y → (f.required && is_none y) ≡ false
+field_lacks_none f None h = rw h.0 refl
+field_lacks_none f (Some w) h = and_right f.required false refl
 
-names_stand : (p : Pair) → ArePartsStored p → (k : List ℕ) → lacks_name p k ≡ false
-names_stand (fields fs preserves ms) h k = elim (option_cases (field_at k fs)) [ inl none ↦ rw none refl | inr f ↦ rw f.1 (field_stands f.0 (member_at k ms) (h.1 k f.0 f.1)) ]
-names_stand p h k = refl
+lacks_no_name : (p : Pair) → ArePartsStored p → (k : List ℕ) → lacks_name p k ≡ false
+lacks_no_name (fields fs preserves ms) h k = elim (option_cases (field_at k fs)) [ inl none ↦ rw none refl | inr f ↦ rw f.1 (field_lacks_none f.0 (member_at k ms) (h.1 k f.0 f.1)) ]
+lacks_no_name p h k = refl
 
 pub from_parts : (N : Node) (v : Data) → StoredByParts N v → IsStored N v
 from_parts N v h = let stays = stays_by N v h.1 in record {
-  valid = no_fault N v (everywhere_up FindsNothing N v (none_found N v h.0 (names_stand (pair N v) h.1), λ s M w e. faultless M w ((stays s).0 M w e)));
+  valid = no_fault N v (everywhere_up FindsNothing N v (none_found N v h.0 (lacks_no_name (pair N v) h.1), λ s M w e. faultless M w ((stays s).0 M w e)));
   pruned = by_steps leads_uncut N v v refl (λ s. (stays s).1);
   filled = by_steps leads_filled N v v refl (λ s. (stays s).2);
 }

@@ -6,6 +6,6 @@ pub mod DefaultList
 pub mod Becoming
 pub mod Fields
 pub mod Pruning
-pub mod Filling
+pub mod Defaulting
 pub mod FilledTest
 pub mod LeavesByLevel

@@ -2,7 +2,7 @@
 ghost use Rattle.std.specs.Prelude.{◌≡◌, [], true, OnOk, IfOk, IfErr, map};
 ghost use Rattle.schema.specs.Nodes.View.{node_of};
 ghost use Rattle.schema.specs.Nodes.ByPlace.{AreNodesOf};
-ghost use Rattle.schema.specs.Rules.Breaks.{BreaksNone, IsUnbroken, AreViolations, told};
+ghost use Rattle.schema.specs.Rules.Breaks.{BreaksNone, IsUnbroken, AreViolations, reported};
 ghost use Rattle.stored.specs.Schemas.Accepted.{IsBroken, IsRootOf, IsSchema, IsRefusal};
 ghost use Rattle.stored.specs.Internal.DefaultList.{defaults_of, AreAdded};
 
@@ -95,6 +95,7 @@ fn judge_defaults(alloc: Global, raw: &RawSchema, shape: Shape) -> Result<Shape,
     ensures accepted { IfOk result (λ s. IsRootOf s raw.now) }
     ensures refused { IfErr result (IsRefusal raw.now) }
 {
+    // for their contracts alone: the schema is sound, and has one tree of nodes
     raw.tree();
     nodes_are_unique();
     let found = match bad_defaults(alloc, shape.root()) {
@@ -114,7 +115,7 @@ fn judge_defaults(alloc: Global, raw: &RawSchema, shape: Shape) -> Result<Shape,
 
 /// The places below a node whose defaults are not good, as violations.
 fn bad_defaults(alloc: Global, node: &Node) -> Result<Vec<Violation>, AllocError>
-    ensures { IfOk result (λ found. AreAdded [] (defaults_of (node_of node.now)) [] (map told found.items)) }
+    ensures { IfOk result (λ found. AreAdded [] (defaults_of (node_of node.now)) [] (map reported found.items)) }
 {
     let mut found = Vec::new(alloc);
     find_bad(alloc, node, "", &mut found)?;

@@ -1,4 +1,4 @@
-//! The order of the items of a list by what tells them apart.
+//! The order of the items of a list by what distinguishes them.
 ghost use Rattle.std.specs.Prelude.{◌≡◌, map};
 ghost use Rattle.std.specs.Cmp.Lexicographic.{slice_cmp};
 ghost use Rattle.std.specs.Option.{option_cmp};
@@ -46,7 +46,7 @@ fn is_before_first(list: &ListNode, item: &Tree, later: &[Tree]) -> bool
     }
 }
 
-/// Two items in the order of what tells them apart: in a set the items themselves, in a map list the values under the keys,
+/// Two items in the order of what distinguishes them: in a set the items themselves, in a map list the values under the keys,
 /// after all items that are no objects.
 fn compare_items(list: &ListNode, item: &Tree, other: &Tree) -> Ordering
     ensures { result ≡ item_cmp list.now.list_type list.now.keys.items (data_of item.now) (data_of other.now) }

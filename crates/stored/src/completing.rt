@@ -10,28 +10,29 @@ ghost use Rattle.stored.specs.Objects.Parts.{Leading};
 ghost use Rattle.stored.specs.Objects.Becomes.{Becomes, IsPruned, IsFilled, IsCompleted};
 ghost use Rattle.stored.specs.Schemas.Defaults.{HasGoodDefaults};
 
-use crate::filling::{copy_tree, fill};
+use crate::defaulting::{copy_tree, fill};
 use crate::pruning::prune;
 use jtree::Tree;
 use schema::Node;
 use std::alloc::{AllocError, Global};
 
 /// What becomes of a value at its node where nothing refuses it: a copy, pruned as by `prune` and then filled with defaults
-/// ("field pruning", "defaulting" and "nullable" of apiextensions.k8s.io/v1). A declared name under which nothing stands, or
-/// a null that its node does not accept, has its default there, which is filled in turn. A null that is not accepted goes
-/// where there is no default for it, and so it does from a map. At each node of a schema whose defaults are good, pruning and
-/// filling leave the answer as it is. An `Err` says that an allocation failed.
+/// ("field pruning", "defaulting" and "nullable" of apiextensions.k8s.io/v1). A declared field that is absent, or a null that
+/// its node does not accept, gets its default, which is filled in turn. A null that is not accepted is dropped where it has no
+/// default, and from a map. At each node of a schema whose defaults are good, pruning and defaulting leave the answer as it
+/// is. An `Err` says that an allocation failed.
 pub fn complete(alloc: Global, node: &Node, tree: &Tree) -> Result<Tree, AllocError>
     ensures completed { IfOk result (λ t. IsCompleted (node_of node.now) (data_of tree.now) (data_of t)) }
     ensures stays { IfOk result (λ t. (root : NodeData) (p : Place) → HasGoodDefaults root → node_at root p ≡ Some (node_of node.now) → IsPruned (node_of node.now) (data_of t) (data_of t) × IsFilled (node_of node.now) (data_of t) (data_of t)) }
 {
     let mut pruned = copy_tree(alloc, tree)?;
     prune(node, &mut pruned);
+    // for its contract alone: a proof learns that it is a tree
     pruned.reveal_invariant();
     fill(alloc, node, pruned)
 }
 
-/// A law, and nothing that runs: a value becomes at most one tree, by pruning, by filling, and by both. So completing a value
+/// A law, and nothing that runs: a value becomes at most one tree, by pruning, by defaulting, and by both. So completing a value
 /// that `complete` answered gives the same value again.
 pub fn becomes_one_tree()
     ensures becomes { (lead : Leading) (N : NodeData) (v u w : Data) → IsTree u → IsTree w → Becomes lead N v u → Becomes lead N v w → u ≡ w }

@@ -3,14 +3,14 @@ ghost use Rattle.std.specs.Prelude.{◌≡◌, ◌++◌, Decides, OnOk, IfOk, ma
 ghost use Rattle.jtree.specs.Pointer.{name_token};
 ghost use Rattle.jtree.specs.View.{data_of};
 ghost use Rattle.schema.specs.Nodes.View.{node_of};
-ghost use Rattle.schema.specs.Rules.Breaks.{told};
+ghost use Rattle.schema.specs.Rules.Breaks.{reported};
 ghost use Rattle.stored.specs.Objects.Fault.{IsValid};
 ghost use Rattle.stored.specs.Schemas.Defaults.{IsGoodDefault};
 ghost use Rattle.stored.specs.Internal.DefaultList.{own_default, defaults_of, defaults_in_fields, defaults_in_field, AreAdded};
 
-use crate::filling::{copy_tree, fill};
-use crate::finding::faults;
-use crate::pruned::is_pruned;
+use crate::all_faults::faults;
+use crate::defaulting::{copy_tree, fill};
+use crate::is_pruned::is_pruned;
 use jtree::{Tree, push_name};
 use schema::{Below, Field, Fields, Node, Rule, Sort, Violation};
 use std::alloc::{AllocError, Global};
@@ -23,7 +23,7 @@ pub(crate) fn find_bad(
     pointer: &str,
     found: &mut Vec<Violation>,
 ) -> Result<(), AllocError>
-    ensures { OnOk result (AreAdded pointer.now (defaults_of (node_of node.now)) (map told found.old.items) (map told found.new.items)) }
+    ensures { OnOk result (AreAdded pointer.now (defaults_of (node_of node.now)) (map reported found.old.items) (map reported found.new.items)) }
 {
     match &node.sort {
         Sort::Object(object) => find_bad_fields(alloc, &object.fields, pointer, found),
@@ -44,7 +44,7 @@ fn find_bad_below(
     keyword: &str,
     found: &mut Vec<Violation>,
 ) -> Result<(), AllocError>
-    ensures { OnOk result (AreAdded (pointer.now ++ name_token keyword.now) (defaults_of node.now) (map told found.old.items) (map told found.new.items)) }
+    ensures { OnOk result (AreAdded (pointer.now ++ name_token keyword.now) (defaults_of node.now) (map reported found.old.items) (map reported found.new.items)) }
 {
     let place = below(alloc, pointer, keyword)?;
     find_bad(alloc, &node.node, place.as_str(), found)
@@ -57,7 +57,7 @@ fn find_bad_fields(
     pointer: &str,
     found: &mut Vec<Violation>,
 ) -> Result<(), AllocError>
-    ensures { OnOk result (AreAdded pointer.now (defaults_in_fields fields.now) (map told found.old.items) (map told found.new.items)) }
+    ensures { OnOk result (AreAdded pointer.now (defaults_in_fields fields.now) (map reported found.old.items) (map reported found.new.items)) }
 {
     for field in &fields.fields {
         find_bad_field(alloc, field, pointer, found)?;
@@ -72,7 +72,7 @@ fn find_bad_field(
     pointer: &str,
     found: &mut Vec<Violation>,
 ) -> Result<(), AllocError>
-    ensures { OnOk result (AreAdded pointer.now (defaults_in_field field.now) (map told found.old.items) (map told found.new.items)) }
+    ensures { OnOk result (AreAdded pointer.now (defaults_in_field field.now) (map reported found.old.items) (map reported found.new.items)) }
 {
     let properties = below(alloc, pointer, "properties")?;
     let place = below(alloc, properties.as_str(), field.name.as_str())?;
@@ -87,7 +87,7 @@ fn add_bad(
     pointer: &str,
     found: &mut Vec<Violation>,
 ) -> Result<(), AllocError>
-    ensures { OnOk result (AreAdded pointer.now (own_default (node_of field.now.node) (option_map data_of field.now.default)) (map told found.old.items) (map told found.new.items)) }
+    ensures { OnOk result (AreAdded pointer.now (own_default (node_of field.now.node) (option_map data_of field.now.default)) (map reported found.old.items) (map reported found.new.items)) }
 {
     if let Some(default) = &field.default {
         if !is_good(alloc, &field.node, default)? {
@@ -108,6 +108,7 @@ fn is_good(alloc: Global, node: &Node, default: &Tree) -> Result<bool, AllocErro
         return Ok(false);
     }
     let value = fill(alloc, node, copy_tree(alloc, default)?)?;
+    // for its contract alone: a proof learns that it is a tree
     value.reveal_invariant();
     Ok(is_faultless(alloc, node, &value)?)
 }

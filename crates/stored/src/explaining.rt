@@ -1,6 +1,6 @@
 // All that is broken in a schema, with the reasons.
 ghost use Rattle.std.specs.Prelude.{◌≡◌, [], All, IfOk, map};
-ghost use Rattle.schema.specs.Rules.Breaks.{told};
+ghost use Rattle.schema.specs.Rules.Breaks.{reported};
 ghost use Rattle.schema.specs.Rules.Explained.{AreExplained};
 ghost use Rattle.stored.specs.Schemas.Accepted.{IsBroken};
 
@@ -27,7 +27,7 @@ pub fn explained(alloc: Global, raw: &RawSchema) -> Result<Vec<Explained>, Alloc
 
 /// These violations, of a rule that has no reasons.
 fn without_reasons(alloc: Global, violations: Vec<Violation>) -> Result<Vec<Explained>, AllocError>
-    ensures violations { IfOk result (λ es. map (λ e. told e.violation) es.items ≡ map told violations.items) }
+    ensures violations { IfOk result (λ es. map (λ e. reported e.violation) es.items ≡ map reported violations.items) }
     ensures findings { IfOk result (λ es. All (λ e. e.findings.items ≡ []) es.items) }
 {
     let mut explained = Vec::new(alloc);

@@ -5,7 +5,7 @@ ghost use Rattle.jtree.specs.View.{data_of};
 ghost use Rattle.schema.specs.Document.Texts.{is_among};
 ghost use Rattle.stored.specs.Objects.Leaves.{item_element as item_element_of, members_among};
 
-use crate::filling::copy_tree;
+use crate::defaulting::copy_tree;
 use jtree::{Member, Members, Text, Tree};
 use schema::{ListNode, ListType};
 use std::alloc::{AllocError, Global};
@@ -54,6 +54,7 @@ pub(crate) fn text_element(alloc: Global, prefix: &str, rest: &str) -> Result<Te
 fn members_among(alloc: Global, names: &[Text], members: &Members) -> Result<Members, AllocError>
     ensures { IfOk result (λ m. m ≡ members_among names.now members.now) }
 {
+    // for its contract alone: a proof learns that the names are in order, each once
     members.reveal_invariant();
     let mut copies = Vec::new(alloc);
     for member in &members.members {

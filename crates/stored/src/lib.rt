@@ -2,19 +2,19 @@
 #![tactic(auto)]
 
 mod accepting;
+mod all_faults;
 mod ascending;
 mod by_parts;
 mod completing;
+mod defaulting;
 mod defaults;
 mod explaining;
 mod fault;
 mod fields;
-mod filled;
-mod filling;
-mod finding;
+mod is_filled;
+mod is_pruned;
 mod leaf;
 mod listing;
-mod pruned;
 mod pruning;
 mod repetition;
 mod storing;
@@ -22,11 +22,11 @@ mod tests;
 mod validity;
 
 pub use accepting::{Schema, accept, violations};
+pub use all_faults::faults;
 pub use by_parts::stored_by_parts;
 pub use completing::{becomes_one_tree, complete};
 pub use explaining::explained;
 pub use fault::{Fault, LFault};
-pub use finding::faults;
 pub use leaf::Leaf;
 pub use listing::leaves;
 pub use pruning::prune;

@@ -18,14 +18,14 @@ use crate::fault::LFault;
 use crate::fields::field_named;
 use crate::leaf::{Leaf, copy_texts, item_element, text_element};
 use crate::storing::check_stored;
-use jtree::{Items, Member, Members, Text, Tree, texts_tell_apart};
-use schema::{Fields, ListNode, ListType, MapNode, MapType, Node, Sort, items_told_apart};
+use jtree::{Items, Member, Members, Text, Tree, texts_are_unique};
+use schema::{Fields, ListNode, ListType, MapNode, MapType, Node, Sort, items_are_distinct};
 use std::alloc::{AllocError, Global};
 
 /// The leaves of a stored object at its node: what an applier owns of it, each as the elements of its path (apiextensions.k8s.io/v1,
 /// merge markers; Server-Side Apply, FieldsV1). A granular object or map has the leaves of each member, after `f:` and the name. A
 /// set has one leaf for each item, `v:` and its compact JSON text. A map list has the leaves of each item, after `k:` and the
-/// compact JSON text of its keys. Everything else is one leaf as a whole, and so is what is empty. The leaves stand in the order of
+/// compact JSON text of its keys. Everything else is one leaf as a whole, and so is what is empty. The leaves are in the order of
 /// members by the bytes of their names and of items by index. Each scalar and null belongs to exactly one, and at a node of a
 /// schema that breaks no rule no leaf begins another.
 ///
@@ -38,9 +38,10 @@ pub fn leaves(alloc: Global, node: &Node, tree: &Tree) -> Result<Vec<Leaf>, LFau
     ensures apart { IfOk result (λ ls. (raw : Data) (root : NodeData) (p : Place) → IsRootOf root raw → node_at root p ≡ Some (node_of node.now) → AreApart (map elements_of ls.items)) }
     ensures covered { OnOk result (IsCovered (node_of node.now) (data_of tree.now)) }
 {
+    // for their contracts alone: it is a tree, and two laws
     tree.reveal_invariant();
-    items_told_apart();
-    texts_tell_apart();
+    items_are_distinct();
+    texts_are_unique();
     if !check_stored(alloc, node, tree)? {
         return Err(LFault::NotStored);
     }
@@ -227,7 +228,7 @@ fn list_items(
     Ok(())
 }
 
-/// Adds the leaves of an item, which may stand at any index.
+/// Adds the leaves of an item, which may be at any index.
 #[cycle(list)]
 fn list_item(alloc: Global, walk: &mut Walk, item: &Tree, list: &ListNode) -> Result<(), AllocError>
     ensures { OnOk result ((i : ℕ) → walked walk.new ≡ added (walked walk.old)

@@ -1,4 +1,4 @@
-//! Pruning: members that no node declares go.
+//! Pruning: members that no node declares are dropped.
 ghost use Rattle.std.specs.Prelude.{◌≡◌, Some, map, filter};
 ghost use Rattle.jtree.specs.Data as tree;
 ghost use Rattle.jtree.specs.View.{data_of};
@@ -11,8 +11,8 @@ use jtree::{Items, Member, Members, Tree};
 use schema::{Fields, Node, Sort};
 
 /// Prunes a value at its node, in place ("field pruning" of apiextensions.k8s.io/v1): from an object at an object node that
-/// does not keep undeclared fields the members that are not declared go, at each level down to where no node stands for a
-/// part. It takes no memory.
+/// does not keep undeclared fields the members that are not declared are dropped, at each level that has a node. It takes no
+/// memory.
 pub fn prune(node: &Node, tree: &mut Tree)
     ensures { IsPruned (node_of node.now) (data_of tree.old) (data_of tree.new) }
 {

@@ -13,7 +13,7 @@ use schema::{ListNode, ListType};
 use std::alloc::{AllocError, Global};
 use std::collections::BTreeSet;
 
-/// Of each item of a list whether it may not stand beside one before it. Items that ascend are told apart in one pass; of
+/// Of each item of a list whether it may not be in one list with one before it. Items that ascend are compared in one pass; of
 /// others the keys are kept in a sorted set.
 pub(crate) fn repeats(
     alloc: Global,
@@ -29,7 +29,7 @@ pub(crate) fn repeats(
     repeats_by_keys(alloc, list, items)
 }
 
-/// The same where the items may stand in any order.
+/// The same where the items may be in any order.
 fn repeats_by_keys(alloc: Global, list: &ListNode, items: &Items) -> Result<Vec<bool>, AllocError>
     ensures count { IfOk result (λ v. length v.items ≡ items_count_of items.now) }
     ensures each { IfOk result (λ v. (i : ℕ) (b : Bool) → i < items_count_of items.now → get_or v.items i b ≡ has_alike_before (are_alike list.now.list_type list.now.keys.items) i items.now (item_at i items.now)) }
@@ -58,7 +58,7 @@ fn is_seen<'a>(
     }
 }
 
-/// What tells an item apart: in a set the item itself, in a map list the values of an object under the keys.
+/// What distinguishes an item: in a set the item itself, in a map list the values of an object under the keys.
 fn key_of<'a>(
     alloc: Global,
     list: &ListNode,

@@ -5,8 +5,8 @@ ghost use Rattle.schema.specs.Nodes.View.{node_of};
 ghost use Rattle.stored.specs.Objects.Becomes.{IsStored};
 
 use crate::defaults::is_faultless;
-use crate::filled::is_filled;
-use crate::pruned::is_pruned;
+use crate::is_filled::is_filled;
+use crate::is_pruned::is_pruned;
 use crate::validity::valid;
 use jtree::Tree;
 use schema::Node;

@@ -21,6 +21,7 @@ use schema::{Bounds, Fields, ListNode, ListType, Node, Sort};
 pub fn valid(node: &Node, tree: &Tree) -> bool
     ensures { Decides result (IsValid (node_of node.now) (data_of tree.now)) }
 {
+    // for their contracts alone: a proof learns that they are a node of a schema and a tree
     node.reveal_invariant();
     tree.reveal_invariant();
     is_valid(node, tree)
@@ -134,14 +135,14 @@ fn are_items_valid(node: &Node, items: &Items) -> bool
     true
 }
 
-/// Whether no two items may not stand in one list.
+/// Whether any two items may be in one list.
 fn are_apart(list: &ListNode, items: &Items) -> bool
     ensures { result ≡ are_apart_of (are_alike_of list.now.list_type list.now.keys.items) items.now }
 {
     are_ordered(list, items) || are_apart_in_pairs(list, items)
 }
 
-/// The same where the items may stand in any order.
+/// The same where the items may be in any order.
 fn are_apart_in_pairs(list: &ListNode, items: &Items) -> bool
     ensures { result ≡ are_apart_of (are_alike_of list.now.list_type list.now.keys.items) items.now }
 {
@@ -155,7 +156,7 @@ fn are_apart_in_pairs(list: &ListNode, items: &Items) -> bool
     true
 }
 
-/// Whether an item may not stand beside one of those that follow.
+/// Whether an item may not be in one list with one of those that follow.
 fn is_repeated(list: &ListNode, item: &Tree, later: &[Tree]) -> bool
     ensures { result ≡ any_item (are_alike_of list.now.list_type list.now.keys.items (data_of item.now)) (items_of later.now) }
 {
@@ -167,7 +168,7 @@ fn is_repeated(list: &ListNode, item: &Tree, later: &[Tree]) -> bool
     false
 }
 
-/// Whether two items may not stand in one list: in a set equal ones, in a map list objects that agree on all keys.
+/// Whether two items may not be in one list: in a set equal ones, in a map list objects that agree on all keys.
 fn are_alike(list: &ListNode, item: &Tree, other: &Tree) -> bool
     ensures { result ≡ are_alike_of list.now.list_type list.now.keys.items (data_of item.now) (data_of other.now) }
 {

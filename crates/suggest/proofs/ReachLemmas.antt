@@ -152,7 +152,7 @@ high (Some m) true z f h = let most = above m z h in elim (bool_cases (fits_64_b
   | inr n ↦ inr (λ w g. no_more m w (elim (narrow (m -ℤ pos 1) n) [ inl under ↦ absurd (omega (arith, ints, (within z f).0)) | inr past ↦ omega (arith, ints, (within w g).1) ]))
 ]
 
--- what is less passes the upper bound too
+-- a lesser value passes the upper bound too
 falls : (max : Option ℤ) (e : Bool) (z w : ℤ) → w ≤ℤ z → is_above_maximum max e (tree.integer z) ≡ false → is_above_maximum max e (tree.integer w) ≡ false
 falls None e z w le h = refl
 falls (Some m) false z w le h = let most = at_least m z h in no_less m w (omega (arith, ints))
@@ -267,7 +267,7 @@ over root n d kind t all any one negated at v none there [] (s ∷ p) M w follow
 over root n d kind t all any one negated at v none there (s ∷ path) [] M w follows node_is is = absurd follows
 over root n d kind t all any one negated at v none there (s ∷ path) (q ∷ p) M w follows node_is is = absurd (none-some M (rw (no_below n d kind (validations t all any one negated) (place_step q)) at node_is))
 
--- ---- what is asked of a scalar
+-- ---- the constraints of a scalar
 
 and_true : (b : Bool) → (b && true) ≡ b
 and_true true = refl

@@ -16,13 +16,13 @@ use schema::Node;
 use std::alloc::{AllocError, Global};
 use stored::Schema;
 
-/// A pools document to start with, which `Pools::read` takes and `Plan::new` takes for the schema. It has four members.
+/// A pools document to start with, which `Pools::read` and, for the schema, `Plan::new` accept. It has four members.
 ///
 /// `integers` are 0 and 1, and each `minimum` and `maximum` of scalars, in branches of their junctors too, with the integer before
-/// and the one after it, as far as they have 64 bits. `strings` are texts of so many letters `a`: one, and as many as each
-/// `minLength` and `maxLength` up to 64 of scalars says, in branches too. Both are in ascending order, each value once, and end after
-/// 64. `names` are `a` and `b`, and `any` has the text `a` and the empty object. The document's text is short enough to be read, and the
-/// document nests no deeper than what is read.
+/// and the one after it, as far as they have 64 bits. `strings` are texts of letters `a`: one of a single letter, and one for each
+/// `minLength` and `maxLength` of scalars, in branches too, that is at most 64. Both are in ascending order, each value once, and are
+/// cut after 64 values. `names` are `a` and `b`, and `any` has the text `a` and the empty object. The text is not longer, and the
+/// document not deeper, than what is read.
 ///
 /// `AllocError` where an allocation fails.
 pub fn suggested_pools(alloc: Global, schema: &Schema) -> Result<Tree, AllocError>
@@ -55,6 +55,7 @@ fn list_member(alloc: Global, name: &str, items: Items) -> Result<Member, AllocE
     ensures tree { IfOk result (λ m. data_of m.tree ≡ list_of items) }
     ensures sound { IfOk result (λ m. IsTree (data_of m.tree)) }
 {
+    // for its contract alone: a proof learns that each item is a tree
     items.reveal_invariant();
     Ok(Member {
         name: Text::from_str(alloc, name)?,

@@ -1,4 +1,4 @@
-//! The integers and the lengths that the scalars of a schema ask for.
+//! The integers and the lengths in the constraints of a schema's scalars.
 ghost use Rattle.std.specs.Prelude.{◌≡◌, ◌++◌, IfOk, OnOk, take};
 ghost use Rattle.schema.specs.Nodes.View.{node_of, validations_of};
 ghost use Rattle.plan.specs.Pools.Pools.{most_entries};

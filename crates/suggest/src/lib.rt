@@ -1,4 +1,4 @@
-//! A pools document to start with, made of what a schema asks of its scalars.
+//! A pools document to start with, made from the constraints of a schema's scalars.
 #![tactic(auto)]
 
 mod document;

@@ -9,11 +9,12 @@ ghost use Rattle.suggest.specs.Suggested.Reached.{IsBounded, IsWithinReach, HasC
 
 use stored::stored_by_parts;
 
-/// A law, and nothing that runs: where a scalar without `enum` and junctors takes some truth value, some integer, or some text of at
-/// most 64 characters, a value of that kind is a candidate for its node over the suggested pools. Of integers and of texts this is
-/// said where the suggested document leaves none of them out for want of room.
+/// A law, called for its contract alone: where a scalar without `enum` and junctors accepts some truth value, some integer, or some
+/// text of at most 64 characters, a value of that kind is a candidate for its node over the suggested pools. For integers and texts
+/// this holds where the suggested document was not cut after 64 of them.
 pub fn suggested_values_reach_scalars()
     ensures { (root : Node) (p : FieldPath) (N : Node) (v : Data) → node_at root (place_of p) ≡ Some N → IsBounded N → IsTree v → IsStored N v → IsWithinReach root v → HasCandidateLike root p N v }
 {
+    // for its contract alone
     stored_by_parts();
 }

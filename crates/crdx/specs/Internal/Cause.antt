@@ -31,14 +31,14 @@ use Rattle.crdx.specs.declared.running.causes.Input.{Input}
 use Rattle.crdx.specs.declared.running.causes.Input.TheVariants as input
 use Rattle.crdx.specs.declared.running.causes.PlaceCode.TheVariants as code
 use Rattle.crdx.specs.declared.running.causes.Cause.{Cause}
-use Rattle.crdx.specs.declared.running.causes.Cause.TheVariants.{Unread, Document, Crd, Pools, Place, Violations, NoField, NotStored, NotASample, Write, NoMemory}
+use Rattle.crdx.specs.declared.running.causes.Cause.TheVariants.{Read, Document, Crd, Pools, Place, Violations, NoField, NotStored, NotASample, Write, NoMemory}
 
 -- why an input gives no document
-abbrev pub IsUnreadCause : Documents → ℕ → ℕ → Input → Option (List ℕ) → Cause → Type 0
-IsUnreadCause has before now input name (Unread i) = (i ≡ input) × HasFailed before now
-IsUnreadCause has before now input name (Document i fault) = (i ≡ input) × IsOfBytes fault × has name (Err fault)
-IsUnreadCause has before now input name NoMemory = Unit {0}
-IsUnreadCause has before now input name _ = ⊥
+abbrev pub IsReadFailure : Documents → ℕ → ℕ → Input → Option (List ℕ) → Cause → Type 0
+IsReadFailure has before now input name (Read i) = (i ≡ input) × HasFailed before now
+IsReadFailure has before now input name (Document i fault) = (i ≡ input) × IsOfBytes fault × has name (Err fault)
+IsReadFailure has before now input name NoMemory = Unit {0}
+IsReadFailure has before now input name _ = ⊥
 
 -- why a schema that was read is refused: it breaks rules
 abbrev pub IsBrokenCause : Data → Cause → Type 0
@@ -48,7 +48,7 @@ IsBrokenCause raw _ = ⊥
 
 -- why no schema is read
 abbrev pub IsReadCause : Documents → ℕ → ℕ → Option (List ℕ) → List ℕ → Cause → Type 0
-IsReadCause has before now crd version (Unread i) = (i ≡ input.Crd) × HasFailed before now
+IsReadCause has before now crd version (Read i) = (i ≡ input.Crd) × HasFailed before now
 IsReadCause has before now crd version (Document i fault) = (i ≡ input.Crd) × IsOfBytes fault × has crd (Err fault)
 IsReadCause has before now crd version (Crd fault) = HasReadFault has crd version fault
 IsReadCause has before now crd version (Place input.Crd code.KeywordForm p) = HasReadFault has crd version (s.KeywordForm p)
@@ -63,7 +63,7 @@ IsSchemaCause has before now crd version cause =
 
 -- why there are no pools
 abbrev pub IsPoolsCause : Documents → ℕ → ℕ → Option (Option (Bor (List ℕ))) → Cause → Type 0
-IsPoolsCause has before now pools (Unread i) = (i ≡ input.Pools) × HasFailed before now
+IsPoolsCause has before now pools (Read i) = (i ≡ input.Pools) × HasFailed before now
 IsPoolsCause has before now pools (Document i fault) = (i ≡ input.Pools) × IsOfBytes fault × IsSomeAnd pools (λ name. has (file_name name) (Err fault))
 IsPoolsCause has before now pools (Pools fault) = HasPoolsFault has pools fault
 IsPoolsCause has before now pools (Place input.Pools code.Form p) = HasPoolsFault has pools (Form p)
@@ -104,12 +104,12 @@ IsObjectCause N document command _ = ⊥
 
 -- why nothing is printed of the document that is asked about
 abbrev pub IsDocumentCause : Documents → ℕ → ℕ → Node → ObjectArguments → Cause → Type 0
-IsDocumentCause has before now N arguments cause = IsUnreadCause has before now input.Object (file_name arguments.object) cause
+IsDocumentCause has before now N arguments cause = IsReadFailure has before now input.Object (file_name arguments.object) cause
     ⊎ ((document : Data) × has (file_name arguments.object) (Ok document) × IsObjectCause N document arguments.command cause)
 
 -- why a request has no answer before anything is written, or why it is answered with 1 and nothing on standard output
 abbrev pub IsInputCause : Documents → ℕ → ℕ → Request → Cause → Type 0
-IsInputCause has before now request (Unread i) = HasFailed before now
+IsInputCause has before now request (Read i) = HasFailed before now
 IsInputCause has before now request (Violations vs) = IsAnswer has request 1 []
 IsInputCause has before now request (NoField fault) = IsAnswer has request 1 []
 IsInputCause has before now request NotStored = IsAnswer has request 1 []

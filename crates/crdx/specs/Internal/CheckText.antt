@@ -1,14 +1,15 @@
 -- What `check` prints of all that is broken in a schema.
-use Rattle.std.specs.Prelude.{◌≡◌, ℕ, List, Bool, true, false, map}
+use Rattle.std.specs.Prelude.{◌≡◌, ℕ, List, Bool, true, false}
+use Rattle.std.specs.List.{flat_map}
 use Rattle.jtree.specs.Data.{Data}
-use Rattle.schema.specs.Rules.Breaks.{AreViolations, told}
+use Rattle.schema.specs.Rules.Breaks.{AreViolations, reported}
 use Rattle.schema.specs.Rules.Explained.{AreExplained}
 use Rattle.schema.specs.declared.reason.Explained.{Explained}
 use Rattle.schema.specs.declared.violation.Violation.{Violation}
 use Rattle.stored.specs.Schemas.Accepted.{IsBroken}
-use Rattle.crdx.specs.Program.ViolationLines.{violation_lines, explained_lines}
+use Rattle.crdx.specs.Program.ViolationLines.{violation_line, explained_lines}
 
 -- with the reasons where they are asked for
 abbrev pub IsCheckText : Data → Bool → List ℕ → Type 0
 IsCheckText raw true said = (found : List Explained) × AreExplained (IsBroken raw) raw found × (said ≡ explained_lines found)
-IsCheckText raw false said = (found : List Violation) × AreViolations (IsBroken raw) found × (said ≡ violation_lines (map told found))
+IsCheckText raw false said = (found : List Violation) × AreViolations (IsBroken raw) found × (said ≡ flat_map (λ v. violation_line (reported v)) found)

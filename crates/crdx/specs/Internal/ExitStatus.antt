@@ -63,7 +63,7 @@ cause_of_walk (w.Write n) = cause.Write n
 
 -- 1 the answer is no, 3 an input is no such document, 4 a read or a write failed, 5 out of memory
 abbrev pub status : Cause → ℕ
-status (cause.Unread i) = 4
+status (cause.Read i) = 4
 status (cause.Document i fault) = 3
 status (cause.Crd fault) = 3
 status (cause.Pools fault) = 3
@@ -76,7 +76,7 @@ status (cause.Write n) = 4
 status cause.NoMemory = 5
 
 -- what comes of an answer: all of it is out, or standard output failed after a beginning of it
-abbrev pub IsGiven : Answer → Option (List ℕ) → Option (List ℕ) → ℕ → ℕ → ℕ → Type 0
-IsGiven answer old new before now code =
+abbrev pub IsWritten : Answer → Option (List ℕ) → Option (List ℕ) → ℕ → ℕ → ℕ → Type 0
+IsWritten answer old new before now code =
     ((code ≡ answer.status) × Appends old new (string_bytes answer.text) × (now ≡ before))
     ⊎ (((code ≡ 4) ⊎ (code ≡ 5)) × HasFailed before now × ((n : ℕ) × Appends old new (take n (string_bytes answer.text))))

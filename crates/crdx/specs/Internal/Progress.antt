@@ -11,7 +11,7 @@ use Rattle.crdx.specs.declared.walk.line.Envelope.{Envelope}
 use Rattle.crdx.specs.declared.walk.fault.WFault.{WFault}
 use Rattle.crdx.specs.declared.walk.fault.WFault.TheVariants.{NoMemory}
 
--- the page past a place was written after `before` lines: so many lines are there now, and the enumeration stands there
+-- the page past a place was written after `before` lines: so many lines are there now, and the enumeration is there
 pub record AddsBlock (q : Question) (place : Option Data) (count : ℕ) (e : Option Envelope) (before lines_now : ℕ) (end : Bool) (at : Option Data) (old new : Option (List ℕ)) : Type 0 where
   pub items : List Data
   pub page : IsPage q place count items end
@@ -19,13 +19,13 @@ pub record AddsBlock (q : Question) (place : Option Data) (count : ℕ) (e : Opt
   pub next : IsNextSample q (place_after place items) at
   pub written : Appends old new (lines e items)
 
--- what is out where the page after `before` lines was not written whole: nothing of it, for want of memory, or a part
+-- what is out where the page after `before` lines was not written whole: nothing of it, out of memory, or a part
 abbrev pub IsPartialBlock : Question → Option Data → ℕ → Option Envelope → ℕ → Option (List ℕ) → Option (List ℕ) → ℕ → ℕ → WFault → Type 0
 IsPartialBlock q place count e before old new unfailed failed fault =
     ((fault ≡ NoMemory before) × Keeps old new × (failed ≡ unfailed))
     ⊎ ((items : List Data) × (end : Bool) × IsPage q place count items end × ArePartialLines e items before old new unfailed failed fault)
 
--- so far a page is written, with so many lines, of as much as there may be in all; the enumeration stands at the next sample
+-- so far a page is written, with so many lines, of as much as there may be in all; the enumeration is at the next sample
 pub record IsSoFar (q : Question) (after : Option Data) (total : ℕ) (e : Option Envelope) (lines_now : ℕ) (end : Bool) (at : Option Data) (old new : Option (List ℕ)) : Type 0 where
   pub items : List Data
   pub page : IsPage q after (length items) items end

@@ -31,7 +31,7 @@ pub record IsCutWithinLine (e : Option Envelope) (items : List Data) (n : ℕ) (
 abbrev pub IsCutByFailure : Option Envelope → List Data → Option (List ℕ) → Option (List ℕ) → Type 0
 IsCutByFailure e items old new = ((n : ℕ) × IsCutWithinLine e items n old new) ⊎ Appends old new (lines e items)
 
--- what a walk past this place leaves behind where it fails: what the sink held and holds, and its failures then and now; lines are
+-- what a walk past this place leaves where it fails: what the sink held and holds, and its failures then and now; lines are
 -- out only past a sample, or past nothing
 abbrev pub IsPartialOutput : Question → Option Data → ℕ → Option Envelope → Option (List ℕ) → Option (List ℕ) → ℕ → ℕ → WFault → Type 0
 IsPartialOutput q after total e old new before now NotASample = IsSomeAnd after (λ a. IsSampleOf q a → ⊥) × Keeps old new × (now ≡ before)

@@ -62,7 +62,7 @@ crdx_app = with_subcommand (with_subcommand (with_subcommand (with_subcommand (w
     check_app.top) explain_app.top) (object_app (codes "validate")).top) (object_app (codes "prune")).top) (object_app (codes "default")).top)
     (object_app (codes "leaves")).top) (crd_app (codes "pools")).top) sample_app.top
 
--- what `clap` refuses of the arguments after the program's name, and the command that they name with what stands for each of its arguments
+-- what `clap` refuses of the arguments after the program's name, and the command that they name with the value of each of its arguments
 unfoldable pub faults : List Text → Kinds
 faults arguments = fault_of crdx_app arguments
 

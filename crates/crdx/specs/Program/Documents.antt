@@ -4,7 +4,7 @@ use Rattle.std.specs.Borrow.{Bor}
 use Rattle.jtree.specs.Data.{Data}
 use Rattle.jtree.specs.declared.fault.JFault.{JFault}
 
--- by the name of a file, or by none for the standard input: the document that stands there, or why there is none
+-- by the name of a file, or by none for the standard input: the document that is there, or why there is none
 abbrev pub Documents : Type 1
 Documents = Option (List ℕ) → Result Data JFault → Type 0
 

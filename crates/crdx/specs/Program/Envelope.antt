@@ -24,7 +24,7 @@ abbrev pub first_of : Option Data → Option Data → Option Data
 first_of None v = v
 first_of (Some d) v = Some d
 
--- an object joined with an envelope: under each name stands what the envelope has there, or else what the object has; another
+-- an object joined with an envelope: under each name is what the envelope has there, or else what the object has; another
 -- tree is as it was
 abbrev pub IsJoined : Data → Members → Data → Type 0
 IsJoined (object ms) ps w = (ns : Members) × (w ≡ object ns) × AreMembers ns × ((k : List ℕ) → member_at k ns ≡ first_of (member_at k ps) (member_at k ms))

@@ -28,7 +28,7 @@ abbrev pub IsFaultOf : List ℕ → InFault → Type 0
 IsFaultOf bytes Failed = Unit {0}
 IsFaultOf bytes (Document fault) = IsNoDocument bytes fault
 
--- what stands under the name is no document; where it could not be read or memory ran out, nothing is said of it
+-- the file of this name is no document; where it could not be read or memory ran out, nothing is said of it
 abbrev pub IsInputFault : Documents → Option (List ℕ) → InFault → Type 0
 IsInputFault has name Failed = Unit {0}
 IsInputFault has name (Document NotAnInteger) = has name (Err NotAnInteger)

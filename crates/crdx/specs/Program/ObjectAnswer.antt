@@ -4,7 +4,7 @@ use Rattle.jtree.specs.Data.{Data, IsTree, text, list}
 use Rattle.jtree.specs.Text.{compact}
 use Rattle.schema.specs.Nodes.Node.{Node}
 use Rattle.stored.specs.Objects.Fault.{IsValid}
-use Rattle.stored.specs.Objects.AllFaults.{Failure, AreFailures, Told, told_of}
+use Rattle.stored.specs.Objects.AllFaults.{Failure, AreFailures, Reported, reported_of}
 use Rattle.stored.specs.Objects.Becomes.{IsPruned, IsCompleted, IsStored}
 use Rattle.stored.specs.Objects.Leaves.{AreLeaves}
 use Rattle.crdx.specs.Output.Line.{line}
@@ -15,10 +15,10 @@ use Rattle.crdx.specs.declared.arguments.request.ObjectCommand.{ObjectCommand}
 use Rattle.crdx.specs.declared.arguments.request.ObjectCommand.TheVariants.{Validate, Prune, Default, Leaves}
 
 -- the line of a fault: its number in two digits, the path of the place as a JSON text, and what is wrong there
-abbrev pub fault_line : Told → List ℕ
+abbrev pub fault_line : Reported → List ℕ
 fault_line t = codes "F" ++ (decimal (t.number / 10) ++ (decimal (t.number % 10) ++ (codes " " ++ (compact (text t.path) ++ (codes " " ++ (fault_phrase_of t.number ++ codes "\n"))))))
 
-abbrev pub fault_lines : List Told → List ℕ
+abbrev pub fault_lines : List Reported → List ℕ
 fault_lines ts = flat_map fault_line ts
 
 -- the line of a leaf: the JSON list of its elements
@@ -31,7 +31,7 @@ leaf_lines leaves = flat_map leaf_line leaves
 -- the exit status, and the whole text on standard output
 pub data IsObjectAnswer (N : Node) (document : Data) : ObjectCommand → ℕ → List ℕ → Type 0 where
   valid : IsValid N (body_of document) → IsObjectAnswer N document Validate 0 (codes "valid\n")
-  faulty : (fs : List Failure) → AreFailures N (body_of document) fs → fs ≢ [] → IsObjectAnswer N document Validate 1 (fault_lines (map told_of fs))
+  faulty : (fs : List Failure) → AreFailures N (body_of document) fs → fs ≢ [] → IsObjectAnswer N document Validate 1 (fault_lines (map reported_of fs))
   pruned : (body whole : Data) → IsPruned N (body_of document) body → IsTree body → IsJoined body (envelope_in document) whole → IsObjectAnswer N document Prune 0 (line None whole)
   completed : (body whole : Data) → IsCompleted N (body_of document) body → IsTree body → IsJoined body (envelope_in document) whole → IsObjectAnswer N document Default 0 (line None whole)
   owned : (leaves : List (List (List ℕ))) → IsStored N (body_of document) → AreLeaves N (body_of document) leaves → IsObjectAnswer N document Leaves 0 (leaf_lines leaves)

@@ -28,7 +28,7 @@ use Rattle.crdx.specs.declared.arguments.request.ObjectArguments.{ObjectArgument
 use Rattle.crdx.specs.declared.arguments.request.SampleArguments.{SampleArguments}
 use Rattle.crdx.specs.declared.walk.line.Envelope.{Envelope}
 
--- the group, the kind and the schema of this version of the CustomResourceDefinition that stands under this name
+-- the group, the kind and the schema of this version of the CustomResourceDefinition of this name
 pub record IsRequestedCrd (has : Documents) (crd : Option (List ℕ)) (version group kind : List ℕ) (raw : Data) : Type 0 where
   pub document : Data
   pub at_hand : has crd (Ok document)

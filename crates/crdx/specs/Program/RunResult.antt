@@ -4,7 +4,7 @@ use Rattle.std.specs.Global.{Global}
 use Rattle.std.specs.Io.KnownBytes.{Appends, Keeps}
 use Rattle.jtree.specs.Data.{Data}
 use Rattle.schema.specs.Nodes.Node.{Node}
-use Rattle.schema.specs.Rules.Breaks.{Break, AreBreaks, told_of}
+use Rattle.schema.specs.Rules.Breaks.{Break, AreBreaks, reported_of}
 use Rattle.schema.specs.Rules.Explained.{AreExplained}
 use Rattle.schema.specs.declared.reason.Explained.{Explained}
 use Rattle.stored.specs.Schemas.Accepted.{IsBroken}
@@ -38,7 +38,7 @@ HasBreaks has crd version breaks = (raw : Data) × IsRequestedSchema has crd ver
 pub data IsAnswer (has : Documents) : Request → ℕ → List ℕ → Type 0 where
   structural : (arguments : CheckArguments) → HasAcceptedSchema has (file_name arguments.crd) arguments.version.now → IsAnswer has (Check arguments) 0 (codes "structural\n")
   violations : (arguments : CheckArguments) (breaks : List Break) → arguments.why ≡ false → HasBreaks has (file_name arguments.crd) arguments.version.now breaks
-      → IsAnswer has (Check arguments) 1 (violation_lines (map told_of breaks))
+      → IsAnswer has (Check arguments) 1 (violation_lines (map reported_of breaks))
   -- the violations with their reasons
   explained : (arguments : CheckArguments) (raw : Data) (found : List Explained) → arguments.why ≡ true → IsRequestedSchema has (file_name arguments.crd) arguments.version.now raw
       → AreExplained (IsBroken raw) raw found → found ≢ [] → IsAnswer has (Check arguments) 1 (explained_lines found)
@@ -105,11 +105,11 @@ IsCutByMemory run (Sample arguments) = Keeps run.output_before run.output
 IsCutByMemory run request = Keeps run.output_before run.output
 
 -- The exit status of a run with these effects: 3 an input is refused, 4 a read or a write failed, 5 out of memory, if only for
--- the line that tells of a failed write.
+-- the line on a failed write.
 pub data IsRunResult (run : Effects) (request : Request) : ℕ → Type 0 where
   answered : (status : ℕ) (answer : List ℕ) → IsAnswer run.documents request status answer → Appends run.output_before run.output answer → run.failed_writes ≡ run.failed_writes_before
       → IsRunResult run request status
   refused : IsInputRefused run.documents request → WritesNothing run → IsRunResult run request 3
-  unread_input : HasFailed run.failed_reads_before run.failed_reads → WritesNothing run → IsRunResult run request 4
-  unwritten : (status : ℕ) → (status ≡ 4) ⊎ (status ≡ 5) → HasFailed run.failed_writes_before run.failed_writes → IsCutByWrite run request → IsRunResult run request status
+  read_failed : HasFailed run.failed_reads_before run.failed_reads → WritesNothing run → IsRunResult run request 4
+  write_failed : (status : ℕ) → (status ≡ 4) ⊎ (status ≡ 5) → HasFailed run.failed_writes_before run.failed_writes → IsCutByWrite run request → IsRunResult run request status
   no_memory : IsCutByMemory run request → run.failed_writes ≡ run.failed_writes_before → IsRunResult run request 5

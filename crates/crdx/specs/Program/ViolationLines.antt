@@ -3,16 +3,16 @@
 use Rattle.std.specs.Prelude.{ℕ, List, ◌++◌, flat_map, codes}
 use Rattle.jtree.specs.Data.{text}
 use Rattle.jtree.specs.Text.{compact}
-use Rattle.schema.specs.Rules.Breaks.{Told, told, rule_name}
+use Rattle.schema.specs.Rules.Breaks.{Reported, reported, rule_name}
 use Rattle.schema.specs.declared.reason.Finding.{Finding}
 use Rattle.schema.specs.declared.reason.Explained.{Explained}
 use Rattle.crdx.specs.Program.Phrases.{phrase_of, reason_phrase_of}
 
 -- the rule, the pointer of the place as a JSON text, and what is wrong there
-abbrev pub violation_line : Told → List ℕ
+abbrev pub violation_line : Reported → List ℕ
 violation_line t = rule_name t.rule ++ (codes " " ++ (compact (text t.pointer) ++ (codes " " ++ (phrase_of t.rule ++ codes "\n"))))
 
-abbrev pub violation_lines : List Told → List ℕ
+abbrev pub violation_lines : List Reported → List ℕ
 violation_lines ts = flat_map violation_line ts
 
 -- by four spaces, the keyword as a JSON text, and what is wrong with it and what can be done
@@ -23,7 +23,7 @@ abbrev pub reason_lines : List Finding → List ℕ
 reason_lines fs = flat_map reason_line fs
 
 abbrev pub explained_line : Explained → List ℕ
-explained_line e = violation_line (told e.violation) ++ reason_lines e.findings.items
+explained_line e = violation_line (reported e.violation) ++ reason_lines e.findings.items
 
 abbrev pub explained_lines : List Explained → List ℕ
 explained_lines es = flat_map explained_line es

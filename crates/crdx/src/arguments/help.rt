@@ -1,4 +1,14 @@
-// The texts of help: a short one for `-h` and a longer one for `--help`. clap prints their lines as they stand here.
+// The texts of help: a short one for `-h` and a longer one for `--help`. clap prints their lines as they are here.
+
+/// The texts of the help of a command.
+pub(super) struct CommandHelp {
+    /// what `-h` says, and the list of commands
+    pub(super) about: &'static str,
+    /// what `--help` says
+    pub(super) long_about: &'static str,
+    /// what is at the end of `--help`
+    pub(super) end: &'static str,
+}
 
 /// The version, which `--version` prints after the program's name.
 pub(super) const VERSION: &str = "0.1.0";
@@ -21,7 +31,7 @@ document, and `crdx pools` prints one to start with.
 In place of the name of a file, `-` is the standard input, for one input of a
 command; `./-` is the file of that name.";
 
-/// What stands at the end of `crdx --help`.
+/// What is at the end of `crdx --help`.
 pub(super) const PROGRAM_END: &str = r#"Examples, at the top of the repository:
   ./crdx check --why examples/workflow/crd.json v1
   ./crdx validate examples/issuer/crd.json v1 examples/issuer/faulty.json
@@ -130,11 +140,9 @@ A rule, a fault, S3, S4 and P1 come with a JSON pointer to the place. Of a
 schema it begins at openAPIV3Schema, of an object at the object, and "" is the
 whole. P5 comes with the path, as the pools have it."#;
 
-pub(super) const CHECK: &str =
-    "Says which rules a schema breaks and where, or that it is structural";
-
-pub(super) const CHECK_LONG: &str =
-    r#"Says which rules a schema breaks and where, or that it is structural.
+pub(super) const CHECK: CommandHelp = CommandHelp {
+    about: "Says which rules a schema breaks and where, or that it is structural",
+    long_about: r#"Says which rules a schema breaks and where, or that it is structural.
 
 Of a schema that breaks rules it prints a line for each rule and place: the
 rule, a JSON pointer to the place, and what is wrong there, such as
@@ -149,19 +157,18 @@ as
     V17 "/properties/spec/properties/name" outside the profile
         "pattern": not a keyword of scalars for crdx; crdx-relax drops it
 
-V03, V05, V11, V12, V16 and V17 have reasons; the other rules say it all."#;
-
-pub(super) const CHECK_END: &str = "Examples, at the top of the repository:
+V03, V05, V11, V12, V16 and V17 have reasons; the other rules say it all."#,
+    end: "Examples, at the top of the repository:
   ./crdx check examples/widget/crd.json v1
   ./crdx check --why examples/workflow/crd.json v1
 
 `crdx --help` explains the rules, the codes of inputs that are refused, and the
-exit status.";
+exit status.",
+};
 
-pub(super) const EXPLAIN: &str = "Lists the fields of a schema, or says all about one of them";
-
-pub(super) const EXPLAIN_LONG: &str =
-    r#"Lists the fields of a schema, one on each line, or says all about one of them.
+pub(super) const EXPLAIN: CommandHelp = CommandHelp {
+    about: "Lists the fields of a schema, or says all about one of them",
+    long_about: r#"Lists the fields of a schema, one on each line, or says all about one of them.
 
 A line has the path of the field as a JSON text and its type. Then come, where
 they apply, `required`, `nullable`, `list-type=set` or `list-type=map`, the keys
@@ -180,18 +187,18 @@ field, its description, and the values of its enum, where it has them.
 
 Paths are written with a / before each step: the name of a field, [] for the
 items of a list, or {} for the values of a map. In a name ~ is written ~0, / is
-written ~1, [ is written ~2, and { is written ~3."#;
-
-pub(super) const EXPLAIN_END: &str = "Examples, at the top of the repository:
+written ~1, [ is written ~2, and { is written ~3."#,
+    end: "Examples, at the top of the repository:
   ./crdx explain examples/issuer/crd.json v1
   ./crdx explain examples/issuer/crd.json v1 '/spec/acme/solvers/[]/http01'
 
 `crdx --help` explains the codes of paths that lead to no field, the codes of
-inputs that are refused, and the exit status.";
+inputs that are refused, and the exit status.",
+};
 
-pub(super) const VALIDATE: &str = "Says what is wrong with an object, or that it is valid";
-
-pub(super) const VALIDATE_LONG: &str = r#"Says what is wrong with an object, or that it is valid.
+pub(super) const VALIDATE: CommandHelp = CommandHelp {
+    about: "Says what is wrong with an object, or that it is valid",
+    long_about: r#"Says what is wrong with an object, or that it is valid.
 
 Of an object with faults it prints a line for each: the number, a JSON pointer
 to the place, and which keyword fails there, such as
@@ -200,50 +207,47 @@ to the place, and which keyword fails there, such as
 
 Of an object without faults it prints `valid`. The apiVersion, kind and metadata
 of the object are not judged, and neither are members that the schema does not
-declare. The object is judged as it is, and not completed with defaults first."#;
-
-pub(super) const VALIDATE_END: &str = "Example, at the top of the repository:
+declare. The object is judged as it is, and not completed with defaults first."#,
+    end: "Example, at the top of the repository:
   ./crdx validate examples/issuer/crd.json v1 examples/issuer/faulty.json
 
 `crdx --help` explains the faults, the codes of inputs that are refused, and the
-exit status.";
+exit status.",
+};
 
-pub(super) const PRUNE: &str = "Prints an object without the members that pruning drops";
-
-pub(super) const PRUNE_LONG: &str =
-    "Prints an object without the members that pruning drops, as one line of JSON.
+pub(super) const PRUNE: CommandHelp = CommandHelp {
+    about: "Prints an object without the members that pruning drops",
+    long_about: "Prints an object without the members that pruning drops, as one line of JSON.
 
 The API server drops the members that the schema does not declare, but for those
 of objects with x-kubernetes-preserve-unknown-fields. The apiVersion, kind and
-metadata of the object stay as they are.";
-
-pub(super) const PRUNE_END: &str = "Example, at the top of the repository:
+metadata of the object stay as they are.",
+    end: "Example, at the top of the repository:
   ./crdx prune examples/issuer/crd.json v1 examples/issuer/object.json
 
 `crdx --help` explains the codes of inputs that are refused, and the exit
-status.";
+status.",
+};
 
-pub(super) const DEFAULT: &str = "Prints an object as it is stored: pruned, and with its defaults";
-
-pub(super) const DEFAULT_LONG: &str =
-    "Prints an object as it is stored: pruned, and with its defaults, as one line of
+pub(super) const DEFAULT: CommandHelp = CommandHelp {
+    about: "Prints an object as it is stored: pruned, and with its defaults",
+    long_about: "Prints an object as it is stored: pruned, and with its defaults, as one line of
 JSON.
 
 A member that is missing, or is null where the schema is not nullable, becomes
 the default of its schema, which is completed in turn. Such a null goes where
 there is no default. The apiVersion, kind and metadata of the object stay as
-they are. Whether the object is valid is not asked.";
-
-pub(super) const DEFAULT_END: &str = "Example, at the top of the repository:
+they are. Whether the object is valid is not asked.",
+    end: "Example, at the top of the repository:
   ./crdx default examples/issuer/crd.json v1 examples/issuer/object.json
 
 `crdx --help` explains the codes of inputs that are refused, and the exit
-status.";
+status.",
+};
 
-pub(super) const LEAVES: &str = "Lists the parts of a stored object that can have owners";
-
-pub(super) const LEAVES_LONG: &str =
-    r#"Lists the parts of a stored object that can have owners under Server-Side Apply.
+pub(super) const LEAVES: CommandHelp = CommandHelp {
+    about: "Lists the parts of a stored object that can have owners",
+    long_about: r#"Lists the parts of a stored object that can have owners under Server-Side Apply.
 
 Each is a leaf of the object, and has a line: the JSON list of the elements of
 its path, which are written as in managedFields, such as
@@ -259,18 +263,17 @@ it does not declare.
 
 The object has to be stored: valid, and as pruning and defaulting leave it, such
 as `crdx default` prints a valid object. Its apiVersion, kind and metadata are
-left out."#;
-
-pub(super) const LEAVES_END: &str = "Example, at the top of the repository:
+left out."#,
+    end: "Example, at the top of the repository:
   ./crdx leaves examples/issuer/crd.json v1 examples/issuer/object.default.json
 
 `crdx --help` explains L1, the codes of inputs that are refused, and the exit
-status.";
+status.",
+};
 
-pub(super) const POOLS: &str = "Prints a pools document to start with";
-
-pub(super) const POOLS_LONG: &str =
-    r#"Prints a pools document to start with, for `crdx sample`, as one line of JSON.
+pub(super) const POOLS: CommandHelp = CommandHelp {
+    about: "Prints a pools document to start with",
+    long_about: r#"Prints a pools document to start with, for `crdx sample`, as one line of JSON.
 
 Its integers are 0 and 1, and each minimum and maximum of the schema with the
 integers beside it. Its strings are texts of so many letters: one, and as many
@@ -278,18 +281,18 @@ as each minLength and maxLength up to 64 says. Its names are two, and there are
 a text and {} for places that the schema leaves open. A list ends after 64.
 
 Then change it: put in the values that tell your controller's cases apart, and
-take out those that do not."#;
-
-pub(super) const POOLS_END: &str = "Example, at the top of the repository:
+take out those that do not."#,
+    end: "Example, at the top of the repository:
   ./crdx pools examples/issuer/crd.json v1 > pools.json
   ./crdx sample examples/issuer/crd.json v1 --pools pools.json
 
 `crdx --help` explains the rules, the codes of inputs that are refused, and the
-exit status.";
+exit status.",
+};
 
-pub(super) const SAMPLE: &str = "Lists sample objects of a schema, one on each line";
-
-pub(super) const SAMPLE_LONG: &str = r#"Lists sample objects of a schema, one on each line, as JSON.
+pub(super) const SAMPLE: CommandHelp = CommandHelp {
+    about: "Lists sample objects of a schema, one on each line",
+    long_about: r#"Lists sample objects of a schema, one on each line, as JSON.
 
 A sample is an object that the schema accepts and that pruning and defaulting
 leave unchanged. Its integers and texts are among those of an `enum` or of the
@@ -311,9 +314,8 @@ last line, given back by --after, goes on from there.
 `crdx: end` alone is the whole answer where there is no sample: where a required
 field has no value in the pools that is valid, such as a text without --pools,
 or where the least object has more nodes than the limit. `crdx pools` prints
-values to start with."#;
-
-pub(super) const SAMPLE_END: &str = r#"Examples, at the top of the repository:
+values to start with."#,
+    end: r#"Examples, at the top of the repository:
   ./crdx sample examples/widget/crd.json v1 \
       --pools examples/widget/pools.json --limit 4
   ./crdx sample examples/issuer/crd.json v1 \
@@ -322,7 +324,8 @@ pub(super) const SAMPLE_END: &str = r#"Examples, at the top of the repository:
 The first lists ten objects, from {} to {"spec":{"a":1,"b":true}}.
 
 `crdx --help` explains the rules, the codes of inputs that are refused, and the
-exit status."#;
+exit status."#,
+};
 
 pub(super) const CRD: &str = "A JSON file with a CustomResourceDefinition; - is standard input";
 

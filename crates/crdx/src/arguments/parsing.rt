@@ -11,6 +11,7 @@ ghost use Rattle.crdx.specs.Program.Documents.{file_name};
 ghost use Rattle.crdx.specs.Program.CommandLine.{required_rule, option_rule, flag_rule, number_rule, top_app, crd_app, check_app, explain_app, object_app, sample_app, crdx_app, faults, entered, input_of, crd_input, object_input, pools_input, object_command_name, IsCommand, AreCheckArguments, AreExplainArguments, AreObjectArguments, ArePoolsArguments, AreSampleArguments, Asks, IsRequestOf, IsUsageErrorOrMemory, IsNumberOf};
 
 use crate::arguments::help;
+use crate::arguments::help::CommandHelp;
 use crate::arguments::request::{
     CheckArguments, ExplainArguments, ObjectArguments, ObjectCommand, PoolsArguments, Request,
     SampleArguments,
@@ -121,45 +122,15 @@ fn crdx_command<'a>(alloc: Global) -> Result<Command<'a>, AllocError>
     let command = top_command(alloc);
     let command = add_command(command, check_command(alloc));
     let command = add_command(command, explain_command(alloc));
-    let validate = object_command(
-        alloc,
-        "validate",
-        help::VALIDATE,
-        help::VALIDATE_LONG,
-        help::VALIDATE_END,
-    );
+    let validate = object_command(alloc, "validate", help::VALIDATE);
     let command = add_command(command, validate);
-    let prune = object_command(
-        alloc,
-        "prune",
-        help::PRUNE,
-        help::PRUNE_LONG,
-        help::PRUNE_END,
-    );
+    let prune = object_command(alloc, "prune", help::PRUNE);
     let command = add_command(command, prune);
-    let default = object_command(
-        alloc,
-        "default",
-        help::DEFAULT,
-        help::DEFAULT_LONG,
-        help::DEFAULT_END,
-    );
+    let default = object_command(alloc, "default", help::DEFAULT);
     let command = add_command(command, default);
-    let leaves = object_command(
-        alloc,
-        "leaves",
-        help::LEAVES,
-        help::LEAVES_LONG,
-        help::LEAVES_END,
-    );
+    let leaves = object_command(alloc, "leaves", help::LEAVES);
     let command = add_command(command, leaves);
-    let pools = crd_command(
-        alloc,
-        "pools",
-        help::POOLS,
-        help::POOLS_LONG,
-        help::POOLS_END,
-    );
+    let pools = crd_command(alloc, "pools", help::POOLS);
     let command = add_command(command, pools);
     add_command(command, sample_command(alloc))
 }
@@ -206,19 +177,25 @@ fn add_command<'a>(
 fn crd_command<'a>(
     alloc: Global,
     name: &'a str,
-    about: &'a str,
-    long_about: &'a str,
-    end: &'a str,
+    help: CommandHelp,
 ) -> Result<Command<'a>, AllocError>
     ensures app { IfOk result (λ c. app_of c ≡ crd_app name.now) }
     ensures local { IfOk result (λ c. (out-Command c).has_globals ≡ false) }
 {
+    let CommandHelp {
+        about,
+        long_about,
+        end,
+    } = help;
     let command = Command::new(alloc, name)
         .about(about)
         .long_about(long_about)
         .after_long_help(end)
-        .arg(crd_argument(alloc));
-    add_argument(command, version_argument(alloc))
+        .arg(required_argument(alloc, "CRD", help::CRD));
+    add_argument(
+        command,
+        required_argument(alloc, "VERSION", help::CRD_VERSION),
+    )
 }
 
 /// The command with one more argument, where it has been made.
@@ -239,20 +216,38 @@ fn add_argument<'a>(
     }
 }
 
-fn crd_argument<'a>(alloc: Global) -> Arg<'a>
-    ensures rule { rule_of result ≡ required_rule (codes "CRD") }
+/// An argument that cannot be left out.
+fn required_argument<'a>(alloc: Global, name: &'a str, help: &'a str) -> Arg<'a>
+    ensures rule { rule_of result ≡ required_rule name.now }
     ensures local { result.global ≡ false }
 {
-    Arg::new(alloc, "CRD").required(true).help(help::CRD)
+    Arg::new(alloc, name).required(true).help(help)
 }
 
-fn version_argument<'a>(alloc: Global) -> Arg<'a>
-    ensures rule { rule_of result ≡ required_rule (codes "VERSION") }
+/// An argument that can be left out.
+fn optional_argument<'a>(alloc: Global, name: &'a str, help: &'a str) -> Arg<'a>
+    ensures rule { rule_of result ≡ new_rule name.now }
     ensures local { result.global ≡ false }
 {
-    Arg::new(alloc, "VERSION")
-        .required(true)
-        .help(help::CRD_VERSION)
+    Arg::new(alloc, name).help(help)
+}
+
+/// An option with a text.
+fn text_option<'a>(
+    alloc: Global,
+    name: &'a str,
+    value_name: &'a str,
+    help: &'a str,
+    long_help: &'a str,
+) -> Arg<'a>
+    ensures rule { rule_of result ≡ option_rule name.now }
+    ensures local { result.global ≡ false }
+{
+    Arg::new(alloc, name)
+        .long(name)
+        .value_name(value_name)
+        .help(help)
+        .long_help(long_help)
 }
 
 /// The arguments that `check` takes.
@@ -260,13 +255,7 @@ fn check_command<'a>(alloc: Global) -> Result<Command<'a>, AllocError>
     ensures app { IfOk result (λ c. app_of c ≡ check_app) }
     ensures local { IfOk result (λ c. (out-Command c).has_globals ≡ false) }
 {
-    let command = crd_command(
-        alloc,
-        "check",
-        help::CHECK,
-        help::CHECK_LONG,
-        help::CHECK_END,
-    );
+    let command = crd_command(alloc, "check", help::CHECK);
     add_argument(command, why_option(alloc))
 }
 
@@ -286,43 +275,21 @@ fn explain_command<'a>(alloc: Global) -> Result<Command<'a>, AllocError>
     ensures app { IfOk result (λ c. app_of c ≡ explain_app) }
     ensures local { IfOk result (λ c. (out-Command c).has_globals ≡ false) }
 {
-    let command = crd_command(
-        alloc,
-        "explain",
-        help::EXPLAIN,
-        help::EXPLAIN_LONG,
-        help::EXPLAIN_END,
-    );
-    add_argument(command, path_argument(alloc))
-}
-
-fn path_argument<'a>(alloc: Global) -> Arg<'a>
-    ensures rule { rule_of result ≡ new_rule (codes "PATH") }
-    ensures local { result.global ≡ false }
-{
-    Arg::new(alloc, "PATH").help(help::PATH)
+    let command = crd_command(alloc, "explain", help::EXPLAIN);
+    add_argument(command, optional_argument(alloc, "PATH", help::PATH))
 }
 
 /// The command of this name, with the arguments that `validate`, `prune`, `default` and `leaves` take.
 fn object_command<'a>(
     alloc: Global,
     name: &'a str,
-    about: &'a str,
-    long_about: &'a str,
-    end: &'a str,
+    help: CommandHelp,
 ) -> Result<Command<'a>, AllocError>
     ensures app { IfOk result (λ c. app_of c ≡ object_app name.now) }
     ensures local { IfOk result (λ c. (out-Command c).has_globals ≡ false) }
 {
-    let command = crd_command(alloc, name, about, long_about, end);
-    add_argument(command, object_argument(alloc))
-}
-
-fn object_argument<'a>(alloc: Global) -> Arg<'a>
-    ensures rule { rule_of result ≡ new_rule (codes "OBJECT") }
-    ensures local { result.global ≡ false }
-{
-    Arg::new(alloc, "OBJECT").help(help::OBJECT)
+    let command = crd_command(alloc, name, help);
+    add_argument(command, optional_argument(alloc, "OBJECT", help::OBJECT))
 }
 
 /// The arguments that `sample` takes.
@@ -330,29 +297,21 @@ fn sample_command<'a>(alloc: Global) -> Result<Command<'a>, AllocError>
     ensures app { IfOk result (λ c. app_of c ≡ sample_app) }
     ensures local { IfOk result (λ c. (out-Command c).has_globals ≡ false) }
 {
-    let command = crd_command(
+    let command = crd_command(alloc, "sample", help::SAMPLE);
+    let pools = text_option(
         alloc,
-        "sample",
-        help::SAMPLE,
-        help::SAMPLE_LONG,
-        help::SAMPLE_END,
+        "pools",
+        "FILE",
+        help::POOLS_OPTION,
+        help::POOLS_OPTION_LONG,
     );
-    let command = add_argument(command, pools_option(alloc));
+    let command = add_argument(command, pools);
     let command = add_argument(command, limit_option(alloc));
     let command = add_argument(command, count_option(alloc));
-    let command = add_argument(command, after_option(alloc));
-    add_argument(command, name_option(alloc))
-}
-
-fn pools_option<'a>(alloc: Global) -> Arg<'a>
-    ensures rule { rule_of result ≡ option_rule (codes "pools") }
-    ensures local { result.global ≡ false }
-{
-    Arg::new(alloc, "pools")
-        .long("pools")
-        .value_name("FILE")
-        .help(help::POOLS_OPTION)
-        .long_help(help::POOLS_OPTION_LONG)
+    let after = text_option(alloc, "after", "JSON", help::AFTER, help::AFTER_LONG);
+    let command = add_argument(command, after);
+    let name = text_option(alloc, "name", "NAME", help::NAME, help::NAME_LONG);
+    add_argument(command, name)
 }
 
 fn limit_option<'a>(alloc: Global) -> Arg<'a>
@@ -378,28 +337,6 @@ fn count_option<'a>(alloc: Global) -> Arg<'a>
         .help(help::COUNT)
         .value_parser(clap::value_parser!(u32).range(1..=10_000))
         .default_value("100")
-}
-
-fn after_option<'a>(alloc: Global) -> Arg<'a>
-    ensures rule { rule_of result ≡ option_rule (codes "after") }
-    ensures local { result.global ≡ false }
-{
-    Arg::new(alloc, "after")
-        .long("after")
-        .value_name("JSON")
-        .help(help::AFTER)
-        .long_help(help::AFTER_LONG)
-}
-
-fn name_option<'a>(alloc: Global) -> Arg<'a>
-    ensures rule { rule_of result ≡ option_rule (codes "name") }
-    ensures local { result.global ≡ false }
-{
-    Arg::new(alloc, "name")
-        .long("name")
-        .value_name("NAME")
-        .help(help::NAME)
-        .long_help(help::NAME_LONG)
 }
 
 fn check_arguments<'a>(matches: &ArgMatches<'a>) -> CheckArguments<'a>

@@ -65,7 +65,7 @@ impl fmt::Display for PlaceCode {
 #[derive(Drop)]
 pub(crate) enum Cause {
     /// An input could not be opened or read.
-    Unread(Input),
+    Read(Input),
     /// An input is no document.
     Document(Input, JFault),
     /// The CustomResourceDefinition has no such version or schema.
@@ -96,7 +96,7 @@ impl Cause {
         match self {
             Cause::Violations(_) | Cause::NoField(_) | Cause::NotStored | Cause::NotASample => 1,
             Cause::Document(_, _) | Cause::Crd(_) | Cause::Pools(_) | Cause::Place(_, _, _) => 3,
-            Cause::Unread(_) | Cause::Write(_) => 4,
+            Cause::Read(_) | Cause::Write(_) => 4,
             Cause::NoMemory => 5,
         }
     }

@@ -6,7 +6,7 @@ ghost use Rattle.jtree.specs.View.{data_of};
 ghost use Rattle.schema.specs.Nodes.ByPlace.{AreNodesOf};
 ghost use Rattle.schema.specs.Rules.Breaks.{IsUnbroken};
 ghost use Rattle.stored.specs.Schemas.Accepted.{IsBroken};
-ghost use Rattle.crdx.specs.Internal.Cause.{IsUnreadCause, IsReadCause, IsSchemaCause, IsPoolsCause, IsAfterCause, IsTextCause};
+ghost use Rattle.crdx.specs.Internal.Cause.{IsReadFailure, IsReadCause, IsSchemaCause, IsPoolsCause, IsAfterCause, IsTextCause};
 ghost use Rattle.crdx.specs.Program.Requested.{IsRequestedCrd, ArePools, IsAfter};
 ghost use Rattle.crdx.specs.Program.Documents.{AreAmong, file_name};
 ghost use Rattle.crdx.specs.Program.Envelope.{body_of as body};
@@ -28,7 +28,7 @@ pub(crate) struct Accepted {
     pub schema: Schema,
 }
 
-/// The schema of a version of the CustomResourceDefinition that stands under this name, where it breaks no rule.
+/// The schema of a version of the CustomResourceDefinition of this name, where it breaks no rule.
 pub(crate) fn accepted_schema<I: Inputs>(
     alloc: Global,
     crd: Option<&str>,
@@ -49,7 +49,7 @@ pub(crate) fn accepted_schema<I: Inputs>(
     })
 }
 
-/// What is read of the CustomResourceDefinition that stands under this name.
+/// What is read of the CustomResourceDefinition of this name.
 pub(crate) fn crd_of<I: Inputs>(
     alloc: Global,
     crd: Option<&str>,
@@ -87,13 +87,13 @@ pub(crate) fn document<I: Inputs>(
     name: Option<&str>,
 ) -> Result<Tree, Cause>
     ensures ok { IfOk result (λ t. I.has inputs.old (file_name name.entry) (Ok (data_of t))) }
-    ensures cause { IfErr result (IsUnreadCause (I.has inputs.old) (I.failures inputs.old) (I.failures inputs.new) input (file_name name.entry)) }
+    ensures cause { IfErr result (IsReadFailure (I.has inputs.old) (I.failures inputs.old) (I.failures inputs.new) input (file_name name.entry)) }
     ensures stays { AreAmong (I.has inputs.new) (I.has inputs.old) }
     ensures unfailed { OnOk result (I.failures inputs.new ≡ I.failures inputs.old) }
 {
     match inputs.tree(name) {
         Ok(tree) => Ok(tree),
-        Err(InFault::Failed) => Err(Cause::Unread(input)),
+        Err(InFault::Failed) => Err(Cause::Read(input)),
         Err(InFault::Document(JFault::NoMemory)) => Err(Cause::NoMemory),
         Err(InFault::Document(fault)) => Err(Cause::Document(input, fault)),
     }

@@ -1,10 +1,10 @@
 // What `explain` answers.
-ghost use Rattle.std.specs.Prelude.{◌≡◌, None, Some, map, option_map, IfOk, IfErr, string_bytes};
+ghost use Rattle.std.specs.Prelude.{◌≡◌, None, Some, option_map, IfOk, IfErr, string_bytes};
 ghost use Rattle.jtree.specs.View.{data_of};
 ghost use Rattle.explain.specs.Fields.View.{field_of};
 ghost use Rattle.crdx.specs.Internal.Cause.{IsInputCause, IsFieldCause};
 ghost use Rattle.crdx.specs.Program.FieldAnswer.{IsFieldAnswer};
-ghost use Rattle.crdx.specs.Program.FieldLines.{word_if as word_if_of, list_type_word as list_type_word_of, keys_word as keys_word_of, map_type_word as map_type_word_of, default_word as default_word_of, field_line as field_line_of, field_lines as field_lines_of, description_line as description_line_of, enum_line as enum_line_of, all_of_field as all_of_field_of};
+ghost use Rattle.crdx.specs.Program.FieldLines.{word_if as word_if_of, list_type_word as list_type_word_of, keys_word as keys_word_of, map_type_word as map_type_word_of, default_word as default_word_of, field_line, description_line as description_line_of, enum_line as enum_line_of, all_of_field as all_of_field_of};
 ghost use Rattle.crdx.specs.Program.RunResult.{IsAnswer};
 ghost use Rattle.crdx.specs.declared.arguments.request.Request.TheVariants.{Explain};
 ghost use Rattle.crdx.specs.declared.running.causes.Cause.TheVariants.{NoMemory};
@@ -14,6 +14,7 @@ use crate::inputs::Inputs;
 use crate::running::answer::{Answer, json_items, json_text, json_texts, json_tree};
 use crate::running::causes::Cause;
 use crate::running::documents::accepted_schema;
+use crate::running::lines::{Lines, all_lines};
 use explain::{Field, Listing, resolve};
 use jtree::{Items, Text};
 use schema::{ListType, MapType};
@@ -53,7 +54,7 @@ fn explain_fields(alloc: Global, schema: &Schema) -> Result<Answer, Cause>
     let listing = Listing::new(alloc, schema)?;
     Ok(Answer {
         status: 0,
-        text: field_lines(alloc, listing.fields())?,
+        text: all_lines(alloc, listing.fields())?,
     })
 }
 
@@ -71,41 +72,33 @@ fn explain_field(alloc: Global, schema: &Schema, path: &str) -> Result<Answer, C
     })
 }
 
-fn field_lines(alloc: Global, fields: &[Field]) -> Result<String, AllocError>
-    ensures { IfOk result (λ s. string_bytes s ≡ field_lines_of (map field_of fields.now)) }
-{
-    let mut lines = String::new(alloc);
-    for field in fields {
-        lines.push_str(field_line(alloc, field)?.as_str())?;
-    }
-    Ok(lines)
-}
-
 /// The line of a field, and a line each for its description and its values where it has them.
 fn all_of_field(alloc: Global, field: &Field) -> Result<String, AllocError>
     ensures { IfOk result (λ s. string_bytes s ≡ all_of_field_of (field_of field.now)) }
 {
-    let line = field_line(alloc, field)?;
+    let line = field.lines(alloc)?;
     let description = description_line(alloc, field)?;
     let choices = enum_line(alloc, &field.choices)?;
     format!(in alloc; "{line}{description}{choices}")
 }
 
 /// The path as a JSON text, the type, and what else applies.
-fn field_line(alloc: Global, field: &Field) -> Result<String, AllocError>
-    ensures { IfOk result (λ s. string_bytes s ≡ field_line_of (field_of field.now)) }
-{
-    let path = json_text(alloc, field.path.as_str())?;
-    let keys = keys_word(alloc, field.keys.as_slice())?;
-    let default = default_word(alloc, field)?;
-    format!(in alloc;
-        "{path} <{}>{}{}{}{keys}{}{default}\n",
-        field.type_text.as_str(),
-        word_if(field.required, " required"),
-        word_if(field.nullable, " nullable"),
-        list_type_word(field.list_type),
-        map_type_word(field.map_type)
-    )
+impl Lines for Field {
+    ghost text = { λ field. field_line (field_of field) };
+
+    fn lines(&self, alloc: Global) -> Result<String, AllocError> {
+        let path = json_text(alloc, self.path.as_str())?;
+        let keys = keys_word(alloc, self.keys.as_slice())?;
+        let default = default_word(alloc, self)?;
+        format!(in alloc;
+            "{path} <{}>{}{}{}{keys}{}{default}\n",
+            self.type_text.as_str(),
+            word_if(self.required, " required"),
+            word_if(self.nullable, " nullable"),
+            list_type_word(self.list_type),
+            map_type_word(self.map_type)
+        )
+    }
 }
 
 fn word_if(applies: bool, word: &'static str) -> &'static str

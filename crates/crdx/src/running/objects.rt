@@ -1,15 +1,15 @@
 // What `validate`, `prune`, `default` and `leaves` answer.
-ghost use Rattle.std.specs.Prelude.{◌≡◌, None, map, Ok, IfOk, IfErr, string_bytes};
+ghost use Rattle.std.specs.Prelude.{◌≡◌, None, Ok, IfOk, IfErr, string_bytes};
 ghost use Rattle.jtree.specs.Data.{Data, IsTree};
 ghost use Rattle.jtree.specs.View.{data_of};
 ghost use Rattle.schema.specs.Nodes.View.{node_of};
-ghost use Rattle.stored.specs.Objects.AllFaults.{told};
+ghost use Rattle.stored.specs.Objects.AllFaults.{reported};
 ghost use Rattle.stored.specs.Objects.Leaves.{elements_of};
 ghost use Rattle.crdx.specs.Internal.Cause.{IsInputCause, IsDocumentCause, IsObjectCause};
 ghost use Rattle.crdx.specs.Output.Line.{line};
 ghost use Rattle.crdx.specs.Program.Documents.{file_name};
 ghost use Rattle.crdx.specs.Program.Envelope.{body_of, IsJoined};
-ghost use Rattle.crdx.specs.Program.ObjectAnswer.{IsObjectAnswer, fault_line as fault_line_of, fault_lines as fault_lines_of, leaf_line as leaf_line_of, leaf_lines as leaf_lines_of};
+ghost use Rattle.crdx.specs.Program.ObjectAnswer.{IsObjectAnswer, fault_line, leaf_line};
 ghost use Rattle.crdx.specs.Program.RunResult.{IsAnswer};
 ghost use Rattle.crdx.specs.declared.arguments.request.ObjectCommand.TheVariants.{Validate, Leaves};
 ghost use Rattle.crdx.specs.declared.running.causes.Cause.TheVariants.{NoMemory};
@@ -22,6 +22,7 @@ use crate::phrases::fault_phrase;
 use crate::running::answer::{Answer, json_line, json_text, json_texts};
 use crate::running::causes::{Cause, Input};
 use crate::running::documents::{accepted_schema, document};
+use crate::running::lines::{Lines, all_lines};
 use jtree::Tree;
 use schema::Node;
 use std::alloc::{AllocError, Global};
@@ -114,7 +115,7 @@ fn validate(alloc: Global, node: &Node, body: &Tree) -> Result<Answer, Cause>
     } else {
         Ok(Answer {
             status: 1,
-            text: fault_lines(alloc, found.as_slice())?,
+            text: all_lines(alloc, found.as_slice())?,
         })
     }
 }
@@ -124,6 +125,7 @@ fn print(alloc: Global, mut body: Tree, envelope: Parts) -> Result<Answer, Cause
     ensures answer { IfOk result (λ a. (a.status ≡ 0) × IsTree (data_of body) × ((whole : Data) × IsJoined (data_of body) envelope whole × (string_bytes a.text ≡ line None whole))) }
     ensures memory { IfErr result (λ cause. cause ≡ NoMemory) }
 {
+    // for its contract alone: a proof learns that it is a tree
     body.reveal_invariant();
     join(&mut body, envelope)?;
     Ok(Answer {
@@ -132,28 +134,20 @@ fn print(alloc: Global, mut body: Tree, envelope: Parts) -> Result<Answer, Cause
     })
 }
 
-/// A line for each fault: its number, the path of the place as a JSON text, and what is wrong there.
-fn fault_lines(alloc: Global, faults: &[Fault]) -> Result<String, AllocError>
-    ensures { IfOk result (λ s. string_bytes s ≡ fault_lines_of (map told faults.now)) }
-{
-    let mut lines = String::new(alloc);
-    for fault in faults {
-        lines.push_str(fault_line(alloc, fault)?.as_str())?;
-    }
-    Ok(lines)
-}
+/// The number, the path of the place as a JSON text, and what is wrong there.
+impl Lines for Fault {
+    ghost text = { λ fault. fault_line (reported fault) };
 
-fn fault_line(alloc: Global, fault: &Fault) -> Result<String, AllocError>
-    ensures { IfOk result (λ s. string_bytes s ≡ fault_line_of (told fault.now)) }
-{
-    let path = json_text(alloc, fault.path.as_str())?;
-    let number = fault.number;
-    format!(in alloc;
-        "F{}{} {path} {}\n",
-        number / 10,
-        number % 10,
-        fault_phrase(number)
-    )
+    fn lines(&self, alloc: Global) -> Result<String, AllocError> {
+        let path = json_text(alloc, self.path.as_str())?;
+        let number = self.number;
+        format!(in alloc;
+            "F{}{} {path} {}\n",
+            number / 10,
+            number % 10,
+            fault_phrase(number)
+        )
+    }
 }
 
 /// A line for each leaf, where the body is stored.
@@ -164,25 +158,17 @@ fn list_leaves(alloc: Global, node: &Node, body: &Tree) -> Result<Answer, Cause>
     let leaves = leaves(alloc, node, body)?;
     Ok(Answer {
         status: 0,
-        text: leaf_lines(alloc, leaves.as_slice())?,
+        text: all_lines(alloc, leaves.as_slice())?,
     })
 }
 
-fn leaf_lines(alloc: Global, leaves: &[Leaf]) -> Result<String, AllocError>
-    ensures { IfOk result (λ s. string_bytes s ≡ leaf_lines_of (map elements_of leaves.now)) }
-{
-    let mut lines = String::new(alloc);
-    for leaf in leaves {
-        lines.push_str(leaf_line(alloc, leaf)?.as_str())?;
-    }
-    Ok(lines)
-}
+/// The JSON list of the elements.
+impl Lines for Leaf {
+    ghost text = { λ leaf. leaf_line (elements_of leaf) };
 
-/// The JSON list of the elements of a leaf.
-fn leaf_line(alloc: Global, leaf: &Leaf) -> Result<String, AllocError>
-    ensures { IfOk result (λ s. string_bytes s ≡ leaf_line_of (elements_of leaf.now)) }
-{
-    let mut line = json_texts(alloc, leaf.elements.as_slice())?;
-    line.push_str("\n")?;
-    Ok(line)
+    fn lines(&self, alloc: Global) -> Result<String, AllocError> {
+        let mut line = json_texts(alloc, self.elements.as_slice())?;
+        line.push_str("\n")?;
+        Ok(line)
+    }
 }

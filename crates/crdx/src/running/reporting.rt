@@ -1,11 +1,11 @@
 // What is said on the standard streams, and the exit status.
 ghost use Rattle.std.specs.Prelude.{◌≡◌, ◌⊎◌, IfOk, IfErr, OnOk, OnErr};
 ghost use Rattle.std.specs.Io.KnownBytes.{Keeps};
-ghost use Rattle.crdx.specs.Internal.ExitStatus.{status, IsGiven};
+ghost use Rattle.crdx.specs.Internal.ExitStatus.{status, IsWritten};
 
 use crate::running::answer::{Answer, json_text};
 use crate::running::causes::Cause;
-use crate::running::checking::violation_lines;
+use crate::running::lines::all_lines;
 use crate::sink::{Sink, put_all};
 use crate::walk::Walked;
 use std::alloc::{AllocError, Global};
@@ -18,20 +18,25 @@ pub(crate) fn finish<W: Sink, E: Sink>(
     out: &mut W,
     err: &mut E,
 ) -> u8
-    ensures given { IfOk answer.now (λ a. IsGiven a (W.taken out.old) (W.taken out.new) (W.failures out.old) (W.failures out.new) result) }
+    ensures written { IfOk answer.now (λ a. IsWritten a (W.taken out.old) (W.taken out.new) (W.failures out.old) (W.failures out.new) result) }
     ensures said { IfErr answer.now (λ cause. (result ≡ status cause) ⊎ (result ≡ 5)) }
     ensures kept { OnErr answer.now (Keeps (W.taken out.old) (W.taken out.new)) }
     ensures unfailed { OnErr answer.now (W.failures out.new ≡ W.failures out.old) }
 {
     match answer {
-        Ok(answer) => give(alloc, answer, out, err),
+        Ok(answer) => write_answer(alloc, answer, out, err),
         Err(cause) => report(alloc, cause, err),
     }
 }
 
 /// Writes an answer and answers its status; where standard output fails, the status of that.
-pub(crate) fn give<W: Sink, E: Sink>(alloc: Global, answer: &Answer, out: &mut W, err: &mut E) -> u8
-    ensures { IsGiven answer.now (W.taken out.old) (W.taken out.new) (W.failures out.old) (W.failures out.new) result }
+pub(crate) fn write_answer<W: Sink, E: Sink>(
+    alloc: Global,
+    answer: &Answer,
+    out: &mut W,
+    err: &mut E,
+) -> u8
+    ensures { IsWritten answer.now (W.taken out.old) (W.taken out.new) (W.failures out.old) (W.failures out.new) result }
 {
     let text = answer.text.as_bytes();
     let taken = match put_all(out, text) {
@@ -95,7 +100,7 @@ fn say_end<E: Sink>(walked: &Walked, err: &mut E) {
 /// The line, or the lines, of a cause.
 fn line_of(alloc: Global, cause: &Cause) -> Result<String, AllocError> {
     match cause {
-        Cause::Unread(input) => format!(in alloc; "crdx: {input}: read failed\n"),
+        Cause::Read(input) => format!(in alloc; "crdx: {input}: read failed\n"),
         Cause::Document(input, fault) => format!(in alloc; "crdx: {input}: {fault}\n"),
         Cause::Crd(fault) => format!(in alloc; "crdx: crd: {fault}\n"),
         Cause::Pools(fault) => format!(in alloc; "crdx: pools: {fault}\n"),
@@ -103,7 +108,7 @@ fn line_of(alloc: Global, cause: &Cause) -> Result<String, AllocError> {
             let pointer = json_text(alloc, pointer.as_str())?;
             format!(in alloc; "crdx: {input}: {code} {pointer}\n")
         }
-        Cause::Violations(violations) => violation_lines(alloc, violations),
+        Cause::Violations(violations) => all_lines(alloc, violations),
         Cause::NoField(fault) => format!(in alloc; "crdx: explain: {fault}\n"),
         Cause::NotStored => format!(in alloc; "crdx: object: {}\n", LFault::NotStored),
         Cause::NotASample => format!(in alloc; "crdx: after: not a sample\n"),

@@ -104,6 +104,7 @@ fn write_samples<Z: SizeSet, W: Sink>(
     ensures cause { IfErr result (IsWalkCause inputs.old.plan (option_map data_of inputs.old.after) count inputs.old.envelope
         (W.taken out.old) (W.taken out.new) (W.failures out.old) (W.failures out.new)) }
 {
+    // for its contract alone
     pages_agree();
     let mut meter = inputs.plan.meter();
     let walked = walk(

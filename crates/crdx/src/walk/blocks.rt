@@ -110,6 +110,7 @@ impl<'a> Block<'a> {
         ensures line { IfOk result (λ done. done ≡ true → IsLineOf None (data_of sample.now) self.new.line.items self.new.front) }
         ensures known { self.new.known ≡ self.old.known }
     {
+        // for their contracts alone, as with the laws in the functions below
         parts_have_their_text();
         last_node_is_replaced();
         self.front = deep_front(self.front, change.depth);

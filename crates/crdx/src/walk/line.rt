@@ -38,6 +38,7 @@ pub(crate) fn append_line(
 fn with_envelope(alloc: Global, tree: &Tree, envelope: &Envelope) -> Result<Tree, AllocError>
     ensures { IfOk result (λ t. data_of t ≡ in_envelope envelope.now (data_of tree.now)) }
 {
+    // for its contract alone: a proof learns that it is a tree
     tree.reveal_invariant();
     let mut whole = match tree.copy(alloc) {
         Ok(whole) => whole,

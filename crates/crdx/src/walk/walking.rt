@@ -19,7 +19,7 @@ use jtree::Tree;
 use plan::{Meter, Plan, SizeSet};
 use std::alloc::Global;
 
-/// The most lines that one call of the sink is handed.
+/// The most lines that are given to the sink in one call.
 const BLOCK_LINES: u32 = 64;
 
 /// What a walk wrote.
@@ -42,7 +42,7 @@ struct Progress {
 
 /// Writes the first `total` samples past `after`, or from the first sample on, in the tree order: for each its compact
 /// JSON, in the envelope where there is one, and a newline. The lines of at most `page` samples are held at a time, which makes no
-/// difference to what is written. The sink is handed many lines at a time, and is not flushed. The caller keeps `page` and
+/// difference to what is written. The sink is given many lines at a time, and is not flushed. The caller keeps `page` and
 /// `total` from 1 to 10,000.
 ///
 /// `NotASample` exactly where `after` is no sample of the plan, `NoMemory` where an allocation fails, and `Write` where
@@ -70,6 +70,7 @@ pub fn walk<Z: SizeSet, W: Sink>(
     ensures goes_on { IfErr result (CanGoOn plan.now (resume_point after.entry) total) }
     ensures unfailed { OnOk result (W.failures out.new ≡ W.failures out.old) }
 {
+    // for its contract alone
     pages_agree();
     let live = match Live::past(alloc, plan, after, meter) {
         Ok(live) => live,
@@ -101,7 +102,7 @@ pub fn walk<Z: SizeSet, W: Sink>(
     })
 }
 
-/// Writes the samples from the one on at which the enumeration stands, `count` at most, after `before` lines that are out.
+/// Writes the samples from the current one of the enumeration on, `count` at most, after `before` lines that are out.
 fn write_block<Z: SizeSet, W: Sink>(
     live: &mut Live<'_, Z>,
     count: u32,

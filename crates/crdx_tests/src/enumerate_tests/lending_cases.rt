@@ -6,6 +6,7 @@ ghost use Rattle.enumerate.specs.View.{trees_of};
 
 use crate::support::documents::{SPEC, ZERO_AND_ONE};
 use crate::support::harness::{is_said, is_value, made};
+use crate::support::pages::place_of;
 use enumerate::{Change, EFault, Live, Taker};
 use jtree::Tree;
 use plan::Meter;
@@ -78,16 +79,18 @@ fn copied(alloc: Global, tree: &Tree) -> Result<Tree, AllocError>
 }
 
 // A name, the place to go on from, how much room the taker has, the sizes of two pages, what it has taken of both, what the
-// second answers, and where the enumeration stands then.
-static LENT: [(
-    &str,
-    Option<&str>,
+// second answers, and where the enumeration is then.
+type LentRow = (
+    &'static str,
+    Option<&'static str>,
     usize,
     (u32, u32),
-    &str,
+    &'static str,
     Result<bool, EFault>,
-    &str,
-); 6] = [
+    &'static str,
+);
+
+static LENT: [LentRow; 6] = [
     (
         "two pages",
         None,
@@ -144,7 +147,7 @@ static LENT: [(
     ),
 ];
 
-/// The texts of the trees, each with a space behind it.
+/// The texts of the trees, each with a space after it.
 fn texts(alloc: Global, trees: &[Tree]) -> Result<String, Fail> {
     let mut all = String::new(alloc);
     for tree in trees {
@@ -165,18 +168,10 @@ fn lends(
     rt: &impl Abort,
     alloc: Global,
     live: &mut Live<'_, u64>,
-    row: &(
-        &str,
-        Option<&str>,
-        usize,
-        (u32, u32),
-        &str,
-        Result<bool, EFault>,
-        &str,
-    ),
+    row: &LentRow,
     meter: &mut Meter,
 ) -> Result<(), Fail> {
-    let (name, _place, room, (first, second), taken, answer, standing) = *row;
+    let (name, _place, room, (first, second), taken, answer, at) = *row;
     let mut copies = Copies {
         alloc,
         room,
@@ -187,34 +182,13 @@ fn lends(
     let found = live.lend_page(second, &mut copies, meter);
     is_value(rt, &found, &answer, "the second answer", name);
     is_said(rt, texts(alloc, &copies.trees), taken, "taken", name)?;
-    is_said(
-        rt,
-        said_of_tree(alloc, live.tree()),
-        standing,
-        "the place",
-        name,
-    )
+    is_said(rt, said_of_tree(alloc, live.tree()), at, "the place", name)
 }
 
-fn try_lent(
-    rt: &impl Abort,
-    alloc: Global,
-    row: &(
-        &str,
-        Option<&str>,
-        usize,
-        (u32, u32),
-        &str,
-        Result<bool, EFault>,
-        &str,
-    ),
-) -> Result<(), Fail> {
+fn try_lent(rt: &impl Abort, alloc: Global, row: &LentRow) -> Result<(), Fail> {
     let mut plan = made(alloc, (SPEC, ZERO_AND_ONE, 4))?;
     let mut meter = plan.meter();
-    let place = match row.1 {
-        Some(text) => Some(Tree::from_bytes(alloc, text.as_bytes())?),
-        None => None,
-    };
+    let place = place_of(alloc, row.1)?;
     match Live::past(alloc, &plan, place.as_ref(), &mut meter)? {
         Some(mut live) => lends(rt, alloc, &mut live, row, &mut meter),
         None => Err(Fail::from("no sample")),

@@ -1,10 +1,10 @@
 //! Pages and walks from place to place, and enumerations step by step.
 use crate::support::documents::{
-    DEFAULTED, FIFTEEN, MAP_LIST, REPEATED, SET, SPEC, TEN_LINES, TWO_TEXTS, ZERO_AND_ONE,
-    ZERO_AND_SEVEN,
+    DEFAULTED, FIFTEEN, LAST_LINES, MAP_LIST, REPEATED, SET, SIX_SETS, SPEC, TEN_LINES, TWO_TEXTS,
+    ZERO_AND_ONE, ZERO_AND_SEVEN,
 };
 use crate::support::fakes::FailingSink;
-use crate::support::harness::{holds, is_number, is_said, is_text, is_value, made};
+use crate::support::harness::{holds, is_number, is_said, is_same, is_text, is_value, made};
 use crate::support::pages::{lines_of, place_of, walked};
 use crdx::walk::{WFault, Walked};
 use enumerate::{EFault, Live, page, pages_agree};
@@ -24,28 +24,10 @@ const SEVEN_LINES: &str = r#"{}
 {"spec":{"a":0,"b":false}}
 "#;
 
-/// The lines past the third one.
-const LAST_LINES: &str = r#"{"spec":{"b":true}}
-{"spec":{"a":0}}
-{"spec":{"a":1}}
-{"spec":{"a":0,"b":false}}
-{"spec":{"a":0,"b":true}}
-{"spec":{"a":1,"b":false}}
-{"spec":{"a":1,"b":true}}
-"#;
-
-const SIX_SETS: &str = r#"{}
-{"s":[]}
-{"s":[1]}
-{"s":[2]}
-{"s":[1,2]}
-{"s":[2,1]}
-"#;
-
 // A name, a schema with its pools and limit, the place that a page of three items goes on from, its lines, whether it is the
 // last, and the most steps that it takes.
 //
-// The last one stands amid 8^15 samples.
+// The last one is amid 8^15 samples.
 static PAGES: [(&str, (&str, &str, u32), Option<&str>, &str, bool, u64); 6] = [
     (
         "the first page",
@@ -209,7 +191,7 @@ static PLACES: [(&str, (&str, &str, u32), &str, u64, &str); 13] = [
         "no sample",
     ),
     (
-        "another member behind a map list",
+        "another member after a map list",
         (MAP_LIST, TWO_TEXTS, 8),
         r#"{"m":[],"z":1}"#,
         108,
@@ -292,13 +274,6 @@ static ENUMERATIONS: [(&str, (&str, &str, u32), u32, u64, u64); 2] = [
     ("a map list", (MAP_LIST, TWO_TEXTS, 8), 14, 108, 1620),
 ];
 
-fn stands_at(live: &Live<'_, u64>, wanted: &Tree) -> bool {
-    match live.tree() {
-        Some(tree) => *tree == *wanted,
-        None => false,
-    }
-}
-
 fn moves(
     rt: &impl Abort,
     live: &mut Live<'_, u64>,
@@ -323,7 +298,7 @@ fn goes_through(
 ) {
     let (name, _given, count, steps, _most) = *row;
     for (place, sample) in samples.iter().enumerate() {
-        holds(rt, stands_at(live, sample), "a sample", name);
+        holds(rt, is_same(live.tree(), sample), "a sample", name);
         let more = place.saturating_add(1) < count as usize;
         moves(rt, live, Ok(more), steps, meter, name);
     }
@@ -396,16 +371,18 @@ fn enumerations(rt: HostRuntime) -> Result<(), Fail> {
 
 // A name, a schema with its pools and limit, a place to go on from, the size of a page and the number of lines that are asked
 // for, how many bytes there is room for, what is out, and what is answered.
-static WALKS: [(
-    &str,
-    (&str, &str, u32),
-    Option<&str>,
+type WalkRow = (
+    &'static str,
+    (&'static str, &'static str, u32),
+    Option<&'static str>,
     u32,
     u32,
     usize,
-    &str,
+    &'static str,
     Result<Walked, WFault>,
-); 14] = [
+);
+
+static WALKS: [WalkRow; 14] = [
     (
         "pages of one",
         (SPEC, ZERO_AND_ONE, 4),
@@ -587,20 +564,7 @@ static WALKS: [(
     ),
 ];
 
-fn try_walk(
-    rt: &impl Abort,
-    alloc: Global,
-    row: &(
-        &str,
-        (&str, &str, u32),
-        Option<&str>,
-        u32,
-        u32,
-        usize,
-        &str,
-        Result<Walked, WFault>,
-    ),
-) -> Result<(), Fail> {
+fn try_walk(rt: &impl Abort, alloc: Global, row: &WalkRow) -> Result<(), Fail> {
     let (name, given, place, page, total, room, wanted, answer) = *row;
     let mut sink = FailingSink::new(alloc, room, usize::MAX, false);
     let page = page.clamp(1, 10000);

@@ -2,7 +2,7 @@
 use crate::support::comparison::try_plan;
 use crate::support::documents::{
     DEFAULTED, LABELS, LONG_MAP_LIST, MAP_LIST, NAMES, NULLABLE, OPEN, OPEN_NULLABLE, REPEATED,
-    REQUIRED_LONG_MAP_LIST, SET, SPEC, TEN_LINES, TRUTHS, TWO_INTEGER_KEYS, TWO_TEXTS,
+    REQUIRED_LONG_MAP_LIST, SET, SIX_SETS, SPEC, TEN_LINES, TRUTHS, TWO_INTEGER_KEYS, TWO_TEXTS,
     ZERO_AND_ONE, ZERO_AND_SEVEN,
 };
 use crate::support::fakes::FailingSink;
@@ -40,17 +40,7 @@ static SAMPLES: [(&str, (&str, &str, u32), &str); 16] = [
 {"n":{}}
 "#,
     ),
-    (
-        "a set",
-        (SET, REPEATED, 4),
-        r#"{}
-{"s":[]}
-{"s":[1]}
-{"s":[2]}
-{"s":[1,2]}
-{"s":[2,1]}
-"#,
-    ),
+    ("a set", (SET, REPEATED, 4), SIX_SETS),
     (
         "a map list",
         (MAP_LIST, TWO_TEXTS, 8),
@@ -205,13 +195,12 @@ fn samples(rt: HostRuntime) -> Result<(), Fail> {
 fn is_plain(
     rt: &impl Abort,
     alloc: Global,
-    schema: &str,
-    pools: &str,
-    limit: u32,
+    given: (&str, &str, u32),
     name: &str,
 ) -> Result<(), Fail> {
+    let (_schema, _pools, limit) = given;
     let name = format!(in alloc; "{name}, of at most {limit} nodes")?;
-    try_plan(rt, alloc, schema, pools, limit, name.as_str())
+    try_plan(rt, alloc, given, name.as_str())
 }
 
 fn are_plain(
@@ -222,7 +211,7 @@ fn are_plain(
     name: &str,
 ) -> Result<(), Fail> {
     for limit in 1..9 {
-        is_plain(rt, alloc, schema, pools, limit, name)?;
+        is_plain(rt, alloc, (schema, pools, limit), name)?;
     }
     Ok(())
 }
@@ -253,7 +242,7 @@ fn of_nodes(samples: &[Tree], nodes: u64) -> u64 {
     count
 }
 
-/// Of 74 samples 48 have nine nodes, and stand behind the others.
+/// Of 74 samples 48 have nine nodes, and come after the others.
 fn are_many(rt: &impl Abort, alloc: Global, samples: &[Tree], name: &str) -> Result<(), Fail> {
     is_number(rt, samples.len() as u64, 74, "the number", name);
     is_number(rt, of_nodes(samples, 9), 48, "nine nodes", name);
@@ -266,14 +255,8 @@ fn are_many(rt: &impl Abort, alloc: Global, samples: &[Tree], name: &str) -> Res
 
 #[test]
 fn many_samples(rt: HostRuntime) -> Result<(), Fail> {
-    let samples = listed(rt.alloc(), (TWO_INTEGER_KEYS, ZERO_AND_ONE, 9))?;
+    let given = (TWO_INTEGER_KEYS, ZERO_AND_ONE, 9);
+    let samples = listed(rt.alloc(), given)?;
     are_many(&rt, rt.alloc(), &samples, "many samples")?;
-    is_plain(
-        &rt,
-        rt.alloc(),
-        TWO_INTEGER_KEYS,
-        ZERO_AND_ONE,
-        9,
-        "many samples",
-    )
+    is_plain(&rt, rt.alloc(), given, "many samples")
 }

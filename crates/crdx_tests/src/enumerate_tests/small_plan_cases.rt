@@ -4,7 +4,7 @@ use std::alloc::Global;
 use std::process::Abort;
 use std::test::Fail;
 
-// Names of ways to hold a node, each with what stands before it and behind it, and the path of the node.
+// Names of ways to hold a node, each with the text before it and after it, and the path of the node.
 static HOLDERS: [(&str, &str, &str, &str); 6] = [
     (
         "a field",
@@ -44,7 +44,7 @@ static HOLDERS: [(&str, &str, &str, &str); 6] = [
     ),
 ];
 
-// The same for nodes of which two values can be told apart by a list.
+// The same for nodes of which a list can distinguish two values.
 static HOLDERS_OF_SCALARS: [(&str, &str, &str, &str); 5] = [
     (
         "a set",
@@ -271,7 +271,7 @@ fn all_nodes(
     for (node, schema) in nodes {
         let name = format!(in alloc; "{holder} of {node}, of at most {limit} nodes")?;
         let schema = format!(in alloc; "{head}{schema}{tail}")?;
-        try_plan(rt, alloc, schema.as_str(), pools, limit, name.as_str())?;
+        try_plan(rt, alloc, (schema.as_str(), pools, limit), name.as_str())?;
     }
     Ok(())
 }

@@ -1,7 +1,7 @@
 //! Plans over words of 128 bits: limits above 63, and the same pages as over words of 64 bits below.
 use crate::support::documents::{
-    DEFAULTED, FIFTEEN, LABELS, MAP_LIST, NAMES, ONE_OF_TWO, OPEN, REPEATED, SET, SPEC, TWO_TEXTS,
-    ZERO_AND_ONE, ZERO_AND_SEVEN,
+    DEFAULTED, FIFTEEN, LABELS, MAP_LIST, NAMES, ONE_OF_TWO, OPEN, REPEATED, SET, SPEC, THIRTY_ONE,
+    TWO_TEXTS, ZERO_AND_ONE, ZERO_AND_SEVEN,
 };
 use crate::support::harness::{holds, is_number, is_said, made, pools_of, schema_of};
 use crate::support::pages::lines_of;
@@ -11,10 +11,6 @@ use plan::{Meter, Plan};
 use std::alloc::{AllocError, Global};
 use std::process::Abort;
 use std::test::Fail;
-
-/// Thirty-one objects of three truth values.
-const THIRTY_ONE: &str =
-    r#"{"type":"object","required":["t"],"properties":{"t":{"type":"array","minItems":31,"maxItems":31,"items":{"type":"object","required":["a","b","c"],"properties":{"a":{"type":"boolean"},"b":{"type":"boolean"},"c":{"type":"boolean"}}}}}}"#;
 
 const ALL_TRUE: &str = r#"{"a":true,"b":true,"c":true}"#;
 

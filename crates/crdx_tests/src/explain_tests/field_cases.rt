@@ -1,7 +1,7 @@
 //! The fields of a listing, and the field and the node of a path.
 use crate::support::documents::MAP_LIST;
 use crate::support::harness::{holds, is_number, is_said, schema_of};
-use crate::support::nodes::node_text;
+use crate::support::nodes::{node_text, push_flag, push_keyword};
 use explain::{Field, Listing, XFault, paths_have_one_text, resolve};
 use schema::{ListType, MapType};
 use std::alloc::Global;
@@ -9,21 +9,16 @@ use std::process::Abort;
 use std::test::Fail;
 use stored::Schema;
 
-/// The type of the field and what stands beside it, without its texts.
+/// The type of the field and its markers, without its texts.
 fn field_text(alloc: Global, field: &Field) -> Result<String, Fail> {
     let mut text = String::from_str(alloc, field.type_text.as_str())?;
-    if field.required {
-        text.push_str(" required")?;
-    }
-    if field.list_type == Some(ListType::Map) {
-        text.push_str(" map list")?;
-    }
-    if field.map_type == Some(MapType::Granular) {
-        text.push_str(" granular")?;
-    }
+    push_flag(&mut text, field.required, "required")?;
+    let is_map_list = field.list_type == Some(ListType::Map);
+    push_flag(&mut text, is_map_list, "map list")?;
+    let is_granular = field.map_type == Some(MapType::Granular);
+    push_flag(&mut text, is_granular, "granular")?;
     for key in &field.keys {
-        text.push_str(" key=")?;
-        text.push_str(key.as_str())?;
+        push_keyword(&mut text, "key", key.as_str())?;
     }
     Ok(text)
 }
@@ -32,7 +27,7 @@ fn fault_text(alloc: Global, fault: &XFault) -> Result<String, Fail> {
     Ok(fault.to_string(alloc)?)
 }
 
-// A path of a map list, what is said of its field, and its node; or the code of the fault of both.
+// A path, the text of its field, and its node; or the code of the fault of both.
 static PATHS: [(&str, &str, &str); 9] = [
     ("/m", "[]Object map list key=k", "list of=object map key=k"),
     (

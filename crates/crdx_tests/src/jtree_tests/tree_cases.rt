@@ -1,9 +1,9 @@
-//! Trees: reading and writing, their order, pointers and what stands under a name.
+//! Trees: reading and writing, their order, pointers and the value under a name.
 use crate::support::harness::{holds, is_number, is_said, is_text, is_tree};
 use crate::support::texts::nested;
 use jtree::{
     Text, Tree, last_node_is_replaced, order_in_words, order_is_total, push_index, push_name,
-    texts_tell_apart,
+    texts_are_unique,
 };
 use serde_json::Value;
 use std::alloc::Global;
@@ -16,6 +16,16 @@ fn outcome(alloc: Global, bytes: &[u8]) -> Result<String, Fail> {
         Ok(tree) => Ok(tree.to_text(alloc)?),
         Err(fault) => Ok(fault.to_string(alloc)?),
     }
+}
+
+fn is_outcome(
+    rt: &impl Abort,
+    alloc: Global,
+    bytes: &[u8],
+    wanted: &str,
+    name: &str,
+) -> Result<(), Fail> {
+    is_said(rt, outcome(alloc, bytes), wanted, "what is read", name)
 }
 
 // A document, and its compact text or the fault.
@@ -65,27 +75,15 @@ static NO_TEXTS: [(&[u8], &str, &str); 2] = [
 #[test]
 fn documents(rt: HostRuntime) -> Result<(), Fail> {
     for (document, wanted) in &DOCUMENTS {
-        is_said(
-            &rt,
-            outcome(rt.alloc(), document.as_bytes()),
-            wanted,
-            "what is read",
-            document,
-        )?;
+        is_outcome(&rt, rt.alloc(), document.as_bytes(), wanted, document)?;
     }
     for (bytes, name, wanted) in &NO_TEXTS {
-        is_said(
-            &rt,
-            outcome(rt.alloc(), bytes),
-            wanted,
-            "what is read",
-            name,
-        )?;
+        is_outcome(&rt, rt.alloc(), bytes, wanted, name)?;
     }
     Ok(())
 }
 
-// A name, a text that is repeated, how often, a text behind that, a text that is repeated as often, and what is read.
+// A name, a text that is repeated, how often, a text after that, a text that is repeated as often, and what is read.
 static BORDERS: [(&str, &str, usize, &str, &str, &str); 4] = [
     ("128 lists", "[", 128, "", "]", "J3"),
     ("1,048,576 bytes", " ", 1_048_575, "7", "", "7"),
@@ -98,15 +96,9 @@ fn try_border(
     alloc: Global,
     row: &(&str, &str, usize, &str, &str, &str),
 ) -> Result<(), Fail> {
-    let (name, before, times, middle, behind, wanted) = *row;
-    let text = nested(alloc, before, times, middle, behind)?;
-    is_said(
-        rt,
-        outcome(alloc, text.as_bytes()),
-        wanted,
-        "what is read",
-        name,
-    )
+    let (name, before, times, middle, after, wanted) = *row;
+    let text = nested(alloc, before, times, middle, after)?;
+    is_outcome(rt, alloc, text.as_bytes(), wanted, name)
 }
 
 #[test]
@@ -122,23 +114,23 @@ fn tree_of_value(alloc: Global, document: &str) -> Result<Tree, Fail> {
     Ok(Tree::from_value(alloc, &value)?)
 }
 
-// The text of a tree behind other bytes.
+// The text of a tree after other bytes.
 fn appended(alloc: Global, tree: &Tree, before: &str) -> Result<String, Fail> {
     let bytes = Vec::from_slice(alloc, before.as_bytes())?;
     Ok(String::from_utf8(tree.append_text(bytes)?)?)
 }
 
 #[test]
-fn behind_others(rt: HostRuntime) -> Result<(), Fail> {
+fn after_others(rt: HostRuntime) -> Result<(), Fail> {
     let document = r#"{"a":[1,null,true,"x"],"b":{"c":-5}}"#;
-    let behind = r#"> {"a":[1,null,true,"x"],"b":{"c":-5}}"#;
+    let wanted = r#"> {"a":[1,null,true,"x"],"b":{"c":-5}}"#;
     let tree = tree_of_value(rt.alloc(), document)?;
     is_said(
         &rt,
         appended(rt.alloc(), &tree, "> "),
-        behind,
+        wanted,
         "the text",
-        "a tree behind others",
+        "a tree after others",
     )
 }
 
@@ -233,7 +225,7 @@ fn token(alloc: Global, name: &str) -> Result<String, Fail> {
     Ok(text)
 }
 
-fn behind_x(alloc: Global) -> Result<String, Fail> {
+fn below_x(alloc: Global) -> Result<String, Fail> {
     let mut text = String::from_str(alloc, "/x")?;
     push_index(&mut text, 0)?;
     push_name(&mut text, "y")?;
@@ -248,7 +240,7 @@ fn pointers(rt: HostRuntime) -> Result<(), Fail> {
     }
     is_said(
         &rt,
-        behind_x(rt.alloc()),
+        below_x(rt.alloc()),
         "/x/0/y/18446744073709551615",
         "the pointer",
         "names and indices",
@@ -311,7 +303,7 @@ fn is_before(rt: &impl Abort, alloc: Global, row: &str, later: &str) -> Result<(
 fn order(rt: HostRuntime) -> Result<(), Fail> {
     order_is_total();
     order_in_words();
-    texts_tell_apart();
+    texts_are_unique();
     last_node_is_replaced();
     for (earlier, later) in &ORDERED {
         is_before(&rt, rt.alloc(), earlier, later)?;
@@ -319,7 +311,7 @@ fn order(rt: HostRuntime) -> Result<(), Fail> {
     Ok(())
 }
 
-// A document, how many nodes it has, a name, what stands there, its text if it is one, and whether that is `x`.
+// A document, how many nodes it has, a name, the value there, its text if it is one, and whether that is `x`.
 static PARTS: [(&str, u64, &str, &str, Option<&str>, bool); 10] = [
     ("null", 1, "a", "none", None, false),
     ("[]", 1, "a", "none", None, false),

@@ -1,4 +1,4 @@
-//! Plans: their nodes, the sizes of what may stand there and of what can follow, and what is handed out step by step.
+//! Plans: their nodes, the sizes of what may be there and of what can follow, their candidates and their slots.
 ghost use Rattle.std.specs.Prelude.{◌<◌, length, IfSome};
 ghost use Rattle.plan.specs.Samples.Sites.{sites_of};
 
@@ -9,7 +9,7 @@ use crate::support::documents::{
 use crate::support::harness::{holds, is_number, is_said, is_value, made, pools_of, schema_of};
 use crate::support::plans::{are_sizes, item_of, more_of, place_of, rest_of, slot_of};
 use plan::{Distinct, Meter, PFault, Plan, PlanNode, Sort};
-use schema::{items_told_apart, junctors_name_fields};
+use schema::{items_are_distinct, junctors_name_fields};
 use std::alloc::{AllocError, Global};
 use std::process::Abort;
 use std::test::Fail;
@@ -60,8 +60,8 @@ fn node_at(plan: &Plan<u64>, at: At, meter: &mut Meter) -> Option<PlanNode>
     }
 }
 
-// What is asked of a node: its sizes, what the slots from a place on can take behind so many filled ones with these named fields
-// among them, or what can follow behind so many items.
+// What is asked of a node: its sizes, what the slots from a place on can take after so many filled ones with these named fields
+// among them, or what can follow after so many items.
 #[derive(Clone, Copy)]
 enum Asked {
     Sizes,
@@ -149,77 +149,77 @@ static SIZES: [(&str, (&str, &str, u32), At, Asked, &[u32]); 30] = [
         &[],
     ),
     (
-        "the rest behind no slot",
+        "the rest after no slot",
         (TRUTHS, "{}", 4),
         At::First,
         Asked::Rest(0, 0, 0),
         &[2, 3],
     ),
     (
-        "the rest behind an empty slot",
+        "the rest after an empty slot",
         (TRUTHS, "{}", 4),
         At::First,
         Asked::Rest(1, 0, 0),
         &[2],
     ),
     (
-        "the rest behind a filled slot",
+        "the rest after a filled slot",
         (TRUTHS, "{}", 4),
         At::First,
         Asked::Rest(1, 1, 0),
         &[1, 2],
     ),
     (
-        "the rest behind two empty slots",
+        "the rest after two empty slots",
         (TRUTHS, "{}", 4),
         At::First,
         Asked::Rest(2, 0, 0),
         &[],
     ),
     (
-        "the rest behind a filled slot of two",
+        "the rest after a filled slot of two",
         (TRUTHS, "{}", 4),
         At::First,
         Asked::Rest(2, 1, 0),
         &[1],
     ),
     (
-        "the rest behind two filled slots of three",
+        "the rest after two filled slots of three",
         (TRUTHS, "{}", 4),
         At::First,
         Asked::Rest(3, 2, 0),
         &[0],
     ),
     (
-        "the rest behind a filled slot of three",
+        "the rest after a filled slot of three",
         (TRUTHS, "{}", 4),
         At::First,
         Asked::Rest(3, 1, 0),
         &[],
     ),
     (
-        "what can follow behind no item",
+        "what can follow after no item",
         (MAP_LIST, TWO_TEXTS, 8),
         At::First,
         Asked::More(0),
         &[0, 2, 3, 4, 5, 6],
     ),
     (
-        "what can follow behind one item",
+        "what can follow after one item",
         (MAP_LIST, TWO_TEXTS, 8),
         At::First,
         Asked::More(1),
         &[0, 2, 3],
     ),
     (
-        "what can follow behind two items",
+        "what can follow after two items",
         (MAP_LIST, TWO_TEXTS, 8),
         At::First,
         Asked::More(2),
         &[0],
     ),
     (
-        "what can follow behind three items",
+        "what can follow after three items",
         (MAP_LIST, TWO_TEXTS, 8),
         At::First,
         Asked::More(3),
@@ -240,42 +240,42 @@ static SIZES: [(&str, (&str, &str, u32), At, Asked, &[u32]); 30] = [
         &[1, 3, 4],
     ),
     (
-        "the rest behind no slot where one of two fields is asked for",
+        "the rest after no slot where one of two fields is asked for",
         (ONE_OF_TWO, "{}", 4),
         At::First,
         Asked::Rest(0, 0, 0),
         &[1, 2],
     ),
     (
-        "the rest behind the first of two named fields",
+        "the rest after the first of two named fields",
         (ONE_OF_TWO, "{}", 4),
         At::First,
         Asked::Rest(2, 1, 1),
         &[0, 1],
     ),
     (
-        "the rest behind both named fields",
+        "the rest after both named fields",
         (ONE_OF_TWO, "{}", 4),
         At::First,
         Asked::Rest(2, 2, 3),
         &[],
     ),
     (
-        "the rest behind no named field",
+        "the rest after no named field",
         (ONE_OF_TWO, "{}", 4),
         At::First,
         Asked::Rest(2, 0, 0),
         &[],
     ),
     (
-        "the rest at the second of two named fields, behind the first",
+        "the rest at the second of two named fields, after the first",
         (ONE_OF_TWO, "{}", 4),
         At::First,
         Asked::Rest(1, 1, 1),
         &[0, 1],
     ),
     (
-        "the rest behind the second of two named fields, and bits of none",
+        "the rest after the second of two named fields, and bits of none",
         (ONE_OF_TWO, "{}", 4),
         At::First,
         Asked::Rest(2, 1, 254),
@@ -326,7 +326,7 @@ fn sizes(rt: HostRuntime) -> Result<(), Fail> {
 }
 
 // A name, a schema with its pools and limit, a node, its sort, whether null is accepted there, and, of a list, which items may
-// not stand together.
+// not be in it together.
 static SORTS: [(&str, (&str, &str, u32), At, Sort, bool, Option<Distinct>); 6] = [
     (
         "an integer",
@@ -416,15 +416,17 @@ fn sorts(rt: HostRuntime) -> Result<(), Fail> {
 }
 
 // A name, a schema with its pools and limit, a node, whether its junctors name some of its fields, and the names of its slots,
-// each with whether something must stand there, whether it is a key, its place among the named fields, and how many tuples the
-// keys behind it have.
-static SLOTS: [(
-    &str,
-    (&str, &str, u32),
+// each with whether it must be filled, whether it is a key, its place among the named fields, and how many tuples the
+// keys after it have.
+type SlotsRow = (
+    &'static str,
+    (&'static str, &'static str, u32),
     At,
     bool,
-    &[(&str, bool, bool, Option<u8>, u64)],
-); 4] = [
+    &'static [(&'static str, bool, bool, Option<u8>, u64)],
+);
+
+static SLOTS: [SlotsRow; 4] = [
     (
         "an item of a map list with three keys",
         (THREE_KEYS, TWO_TEXTS, 8),
@@ -466,8 +468,8 @@ static SLOTS: [(
     ),
 ];
 
-// The name of a slot, whether something must stand there, whether it is a key, its place among the named fields, and the tuples
-// of the keys behind it.
+// The name of a slot, whether it must be filled, whether it is a key, its place among the named fields, and the tuples
+// of the keys after it.
 fn slot_parts<'a>(
     plan: &'a Plan<u64>,
     node: PlanNode,
@@ -495,18 +497,7 @@ fn row_parts(plan: &Plan<u64>, node: PlanNode) -> Option<(u64, bool)>
     }
 }
 
-fn try_slots(
-    rt: &impl Abort,
-    plan: &Plan<u64>,
-    meter: &mut Meter,
-    row: &(
-        &str,
-        (&str, &str, u32),
-        At,
-        bool,
-        &[(&str, bool, bool, Option<u8>, u64)],
-    ),
-) {
+fn try_slots(rt: &impl Abort, plan: &Plan<u64>, meter: &mut Meter, row: &SlotsRow) {
     let (name, _given, at, named, wanted) = *row;
     let Some(node) = node_at(plan, at, meter) else {
         holds(rt, false, "a node", name);
@@ -519,21 +510,11 @@ fn try_slots(
         let found = slot_parts(plan, node, place_of(place), meter);
         is_value(rt, &found, &Some(*slot), "a slot", name);
     }
-    let behind = slot_of(plan, node, place_of(wanted.len()), meter);
-    holds(rt, behind.is_none(), "no slot behind the last", name);
+    let after = slot_of(plan, node, place_of(wanted.len()), meter);
+    holds(rt, after.is_none(), "no slot after the last", name);
 }
 
-fn have_slots(
-    rt: &impl Abort,
-    alloc: Global,
-    row: &(
-        &str,
-        (&str, &str, u32),
-        At,
-        bool,
-        &[(&str, bool, bool, Option<u8>, u64)],
-    ),
-) -> Result<(), Fail> {
+fn have_slots(rt: &impl Abort, alloc: Global, row: &SlotsRow) -> Result<(), Fail> {
     let mut plan = plan_of(rt, alloc, row.1, row.0)?;
     let mut meter = plan.meter();
     try_slots(rt, &plan, &mut meter, row);
@@ -619,7 +600,7 @@ fn limits(rt: HostRuntime) -> Result<(), Fail> {
 /// The laws that nothing runs for end, and leave the plan as it is.
 #[test]
 fn laws(rt: HostRuntime) -> Result<(), Fail> {
-    items_told_apart();
+    items_are_distinct();
     junctors_name_fields();
     stored_by_parts();
     let plan = plan_of(&rt, rt.alloc(), (MAP_LIST, TWO_TEXTS, 8), "a map list")?;

@@ -169,7 +169,7 @@ static DOCUMENTS: [(&str, &str, &str); 28] = [
     ),
 ];
 
-// A name, the beginning of a document, an entry with its comma, how many there are, what stands behind them, and what is
+// A name, the beginning of a document, an entry with its comma, how many there are, the text after them, and what is
 // answered. Each repeat counts, and the form is judged before the limits.
 static LONG: [(&str, &str, &str, usize, &str, &str); 14] = [
     (
@@ -225,7 +225,7 @@ static LONG: [(&str, &str, &str, usize, &str, &str); 14] = [
         "P2",
     ),
     (
-        "an integer for a path behind 65 integers",
+        "an integer for a path after 65 integers",
         r#"{"integers":["#,
         "0,",
         64,
@@ -233,7 +233,7 @@ static LONG: [(&str, &str, &str, usize, &str, &str); 14] = [
         r#"P1 "/paths/~1a""#,
     ),
     (
-        "a text for strings behind 65 integers",
+        "a text for strings after 65 integers",
         r#"{"integers":["#,
         "0,",
         64,
@@ -241,7 +241,7 @@ static LONG: [(&str, &str, &str, usize, &str, &str); 14] = [
         r#"P1 "/strings""#,
     ),
     (
-        "another name behind 33 names",
+        "another name after 33 names",
         r#"{"names":["#,
         r#""n","#,
         32,

@@ -1,5 +1,6 @@
 //! Sets of sizes: their members, sums up to a limit, and the next member.
 use crate::support::harness::is_value;
+use crate::support::plans::are_sizes;
 use plan::SizeSet;
 use std::alloc::Global;
 use std::process::Abort;
@@ -12,23 +13,6 @@ fn set_of<S: SizeSet>(rt: &impl Abort, members: &[u32], name: &str) -> S {
         set = set.union(S::one(*n));
     }
     set
-}
-
-fn has_members<S: SizeSet>(
-    rt: &impl Abort,
-    alloc: Global,
-    set: S,
-    wanted: &[u32],
-    name: &str,
-) -> Result<(), Fail> {
-    let mut members = Vec::new(alloc);
-    for n in 0..S::BITS {
-        if set.has(n) {
-            members.push(n)?;
-        }
-    }
-    is_value(rt, &members.as_slice(), &wanted, "the members", name);
-    Ok(())
 }
 
 // A name, the members of two sets, a limit, and the sums up to it.
@@ -58,7 +42,7 @@ fn has_sums<S: SizeSet>(rt: &impl Abort, alloc: Global, rows: &[SumsRow]) -> Res
     for (name, left, right, limit, wanted) in rows {
         assert!(rt; *limit < S::BITS, "the limit of {name}");
         let sums = set_of::<S>(rt, left, name).sums(set_of(rt, right, name), *limit);
-        has_members(rt, alloc, sums, wanted, name)?;
+        are_sizes(rt, alloc, sums, wanted, "the members", name)?;
     }
     Ok(())
 }

@@ -348,7 +348,7 @@ static NUMBERS: [&str; 31] = [
     "F10", "F11", "F12", "F13", "F14",
 ];
 
-/// The name of a file, or what stands for the standard input.
+/// The name of a file, or `(input)` for the standard input.
 fn input_text(name: Option<&str>) -> &str {
     name.unwrap_or("(input)")
 }
@@ -489,24 +489,16 @@ fn is_explained(text: &str, answer: &str) -> bool {
     false
 }
 
+fn are_explained(rt: &impl Abort, text: &str, answers: &[&str]) {
+    for answer in answers {
+        holds(rt, is_explained(text, answer), "the line", answer);
+    }
+}
+
 #[test]
 fn help_explains_each_answer(rt: HostRuntime) -> Result<(), Fail> {
     let output = run_of(rt.alloc(), "crdx --help")?;
-    for answer in &ANSWERS {
-        holds(
-            &rt,
-            is_explained(output.out.text(), answer),
-            "the line",
-            answer,
-        );
-    }
-    for answer in &NUMBERS {
-        holds(
-            &rt,
-            is_explained(output.out.text(), answer),
-            "the line",
-            answer,
-        );
-    }
+    are_explained(&rt, output.out.text(), &ANSWERS);
+    are_explained(&rt, output.out.text(), &NUMBERS);
     Ok(())
 }

@@ -1,7 +1,7 @@
 //! Sinks that fail: what is out by then, and what is said of it.
 use crate::support::documents::{BROKEN, BROKEN_LINES, TEN_LINES, WIDGET, ZERO_AND_ONE};
 use crate::support::fakes::{FailingSink, FakeInputs};
-use crate::support::harness::{Output, is_answer, is_text, is_value, run_on};
+use crate::support::harness::{Output, has_failed, is_answer, is_text, is_value, run_on};
 use crate::support::texts::beginning;
 use crdx::sink::{Plain, Sink, SinkFault};
 use crdx::walk::WFault;
@@ -110,21 +110,7 @@ fn run_row(
     run_on(alloc, row.1, inputs, sink)
 }
 
-/// The sink has failed when so much was out.
-fn has_failed(
-    rt: &impl Abort,
-    alloc: Global,
-    output: &Output,
-    out: &str,
-    name: &str,
-) -> Result<(), AllocError> {
-    let lines = count_lines(out);
-    let err = format!(in alloc; "crdx: write failed after {lines} lines\n")?;
-    is_answer(rt, output, out, err.as_str(), 4, name);
-    Ok(())
-}
-
-/// The sink takes at most so many bytes a call, and is full behind so many: then it fails, or answers 0.
+/// The sink takes at most `step` bytes a call, and is full after `room` bytes: then it fails, or answers 0.
 fn try_room(
     rt: &impl Abort,
     alloc: Global,
@@ -137,13 +123,14 @@ fn try_room(
     let sink = FailingSink::new(alloc, room, step, answers_zero);
     let output = run_row(alloc, row, sink)?;
     if room < out.len() {
-        return has_failed(rt, alloc, &output, beginning(out, room), name);
+        let out = beginning(out, room);
+        return has_failed(rt, alloc, &output, out, count_lines(out), name);
     }
     is_answer(rt, &output, out, err, status, name);
     Ok(())
 }
 
-/// The sink is full behind each byte in turn; then it takes all.
+/// The sink is full after each byte in turn; then it takes all.
 fn try_step(
     rt: &impl Abort,
     alloc: Global,
@@ -157,7 +144,7 @@ fn try_step(
     Ok(())
 }
 
-/// All is taken, but the flush behind it fails.
+/// All is taken, but the flush after it fails.
 fn try_unflushed(
     rt: &impl Abort,
     alloc: Global,
@@ -166,10 +153,10 @@ fn try_unflushed(
     let mut sink = FailingSink::endless(alloc);
     sink.flush_fails = true;
     let output = run_row(alloc, row, sink)?;
-    has_failed(rt, alloc, &output, row.3, row.0)
+    has_failed(rt, alloc, &output, row.3, count_lines(row.3), row.0)
 }
 
-/// Standard output fails behind each byte in turn, whole and in pieces, and behind all.
+/// Standard output fails after each byte in turn, whole and in pieces, and after all.
 #[test]
 fn cut_runs(rt: HostRuntime) -> Result<(), Fail> {
     for row in &RUNS {

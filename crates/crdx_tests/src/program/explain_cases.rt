@@ -1,7 +1,6 @@
 //! `explain`: the fields of a schema, one of them, and paths that lead to none.
 use crate::support::documents::{BROKEN, BROKEN_LINES, MAP_LIST};
-use crate::support::fakes::{FailingSink, FakeInputs};
-use crate::support::harness::{definition, is_answer, run_on};
+use crate::support::harness::{try_run, try_run_by_schema};
 use std::alloc::{AllocError, Global};
 use std::process::Abort;
 use std::test::Fail;
@@ -163,37 +162,12 @@ enum [3]
     ("/e~0~1~2~3", "", "crdx: explain: X2\n", 1),
 ];
 
-fn try_run(
-    rt: &impl Abort,
-    alloc: Global,
-    crd: &str,
-    command: &str,
-    answer: (&str, &str, u8),
-    name: &str,
-) -> Result<(), AllocError> {
-    let (out, err, status) = answer;
-    let inputs = FakeInputs::new(alloc, crd, "");
-    let output = run_on(alloc, command, inputs, FailingSink::endless(alloc))?;
-    is_answer(rt, &output, out, err, status, name);
-    Ok(())
-}
-
-fn try_listing(
-    rt: &impl Abort,
-    alloc: Global,
-    name: &str,
-    schema: &str,
-    lines: &str,
-) -> Result<(), AllocError> {
-    let crd = definition(alloc, schema)?;
-    let command = "crdx explain crd.json v1";
-    try_run(rt, alloc, crd.as_str(), command, (lines, "", 0), name)
-}
-
 #[test]
 fn listings(rt: HostRuntime) -> Result<(), Fail> {
-    for (name, schema, lines) in &LISTINGS {
-        try_listing(&rt, rt.alloc(), name, schema, lines)?;
+    for row in &LISTINGS {
+        let (name, schema, lines) = *row;
+        let row = (name, "crdx explain crd.json v1", schema, "", lines, "", 0);
+        try_run_by_schema(&rt, rt.alloc(), &row)?;
     }
     Ok(())
 }
@@ -204,10 +178,12 @@ fn try_path(
     row: &(&str, &str, &str, u8),
 ) -> Result<(), AllocError> {
     let (path, out, err, status) = *row;
-    let crd = definition(alloc, SAID)?;
     let command = format!(in alloc; "crdx explain crd.json v1 {path}")?;
-    let answer = (out, err, status);
-    try_run(rt, alloc, crd.as_str(), command.as_str(), answer, path)
+    try_run_by_schema(
+        rt,
+        alloc,
+        &(path, command.as_str(), SAID, "", out, err, status),
+    )
 }
 
 #[test]
@@ -220,7 +196,8 @@ fn paths(rt: HostRuntime) -> Result<(), Fail> {
 
 #[test]
 fn a_schema_that_breaks_rules_is_said_before_the_path_is_read(rt: HostRuntime) -> Result<(), Fail> {
+    let name = "a broken schema";
     let command = "crdx explain crd.json v1 ~";
-    let answer = ("", BROKEN_LINES, 1);
-    Ok(try_run(&rt, rt.alloc(), BROKEN, command, answer, "a broken schema")?)
+    let row = (name, command, BROKEN, "", "", BROKEN_LINES, 1);
+    Ok(try_run(&rt, rt.alloc(), &row)?)
 }

@@ -1,7 +1,7 @@
 //! Documents that are cut, nested deep or long, and trees to go on from that are no samples.
 use crate::support::documents::{MAP_LIST, TWO_TEXTS, WIDGET, ZERO_AND_ONE};
 use crate::support::fakes::{FailingSink, FakeInputs};
-use crate::support::harness::{definition, is_answer, run_on};
+use crate::support::harness::{definition, is_answer, run_on, try_run};
 use crate::support::texts::{beginning, nested, padded};
 use std::alloc::{AllocError, Global};
 use std::process::Abort;
@@ -16,10 +16,7 @@ fn is_refused(
     name: &str,
 ) -> Result<(), AllocError> {
     let command = "crdx sample crd.json v1 --pools pools.json";
-    let inputs = FakeInputs::new(alloc, crd, pools);
-    let output = run_on(alloc, command, inputs, FailingSink::endless(alloc))?;
-    is_answer(rt, &output, "", err, 3, name);
-    Ok(())
+    try_run(rt, alloc, &(name, command, crd, pools, "", err, 3))
 }
 
 /// Each proper beginning of a definition and of pools.
@@ -104,10 +101,8 @@ fn try_place(
     let command = format!(in alloc;
         "crdx sample crd.json v1 --pools pools.json --limit {limit} --after {place}"
     )?;
-    let inputs = FakeInputs::new(alloc, crd, TWO_TEXTS);
-    let output = run_on(alloc, command.as_str(), inputs, FailingSink::endless(alloc))?;
-    is_answer(rt, &output, "", err, status, place);
-    Ok(())
+    let row = (place, command.as_str(), crd, TWO_TEXTS, "", err, status);
+    try_run(rt, alloc, &row)
 }
 
 #[test]

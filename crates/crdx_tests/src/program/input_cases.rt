@@ -1,9 +1,9 @@
 //! Documents in files, and which inputs a run reads.
 use crate::support::documents::{BROKEN, WIDGET, ZERO_AND_ONE};
 use crate::support::fakes::{FailingSink, FakeInputs, Reads};
-use crate::support::harness::{is_answer, is_number, is_said, run_on};
+use crate::support::harness::{is_answer, is_number, is_said, run_on, try_run};
 use crate::support::texts::padded;
-use crdx::inputs::{InFault, Inputs, Outside};
+use crdx::inputs::{HostInputs, InFault, Inputs};
 use std::alloc::{AllocError, Global};
 use std::env::Env;
 use std::process::Abort;
@@ -22,7 +22,7 @@ static FILES: [(&str, &str, usize, &str); 3] = [
 static NO_FILES: [&str; 2] = ["no such file", "/"];
 
 fn said_of_file(rt: &(impl Files + Input + AllocGlobal), path: &str) -> Result<String, Fail> {
-    match Outside::new(rt).tree(Some(path)) {
+    match HostInputs::new(rt).tree(Some(path)) {
         Ok(tree) => Ok(tree.to_text(rt.alloc())?),
         Err(InFault::Document(fault)) => Ok(fault.to_string(rt.alloc())?),
         Err(InFault::Failed) => Ok(String::from_str(rt.alloc(), "read failed")?),
@@ -263,22 +263,12 @@ static STANDARD_INPUTS: [(&str, &str, &str, &str, &str, u8); 6] = [
     ),
 ];
 
-fn try_standard_input(
-    rt: &impl Abort,
-    alloc: Global,
-    row: &(&str, &str, &str, &str, &str, u8),
-) -> Result<(), AllocError> {
-    let (name, line, input, out, err, status) = *row;
-    let inputs = FakeInputs::new(alloc, WIDGET, input);
-    let output = run_on(alloc, line, inputs, FailingSink::endless(alloc))?;
-    is_answer(rt, &output, out, err, status, name);
-    Ok(())
-}
-
 #[test]
 fn standard_inputs(rt: HostRuntime) -> Result<(), Fail> {
     for row in &STANDARD_INPUTS {
-        try_standard_input(&rt, rt.alloc(), row)?;
+        let (name, line, input, out, err, status) = *row;
+        let row = (name, line, WIDGET, input, out, err, status);
+        try_run(&rt, rt.alloc(), &row)?;
     }
     Ok(())
 }

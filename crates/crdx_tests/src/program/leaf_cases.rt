@@ -1,10 +1,9 @@
 //! `leaves`: the leaves of an object that is as it is stored, and objects that are not.
 use crate::support::documents::MAP_LIST;
-use crate::support::fakes::{FailingSink, FakeInputs};
-use crate::support::harness::{definition, is_answer, run_on};
-use std::alloc::{AllocError, Global};
-use std::process::Abort;
+use crate::support::harness::try_run_by_schema;
 use std::test::Fail;
+
+const COMMAND: &str = "crdx leaves crd.json v1";
 
 const SPEC: &str =
     r#"{"type":"object","properties":{"spec":{"type":"object","properties":{"args":{"type":"array","items":{"type":"string"}},"ports":{"type":"array","x-kubernetes-list-type":"map","x-kubernetes-list-map-keys":["port"],"items":{"type":"object","required":["port"],"properties":{"name":{"type":"string"},"port":{"type":"integer"}}}},"sel":{"type":"object","additionalProperties":{"type":"string"}},"tags":{"type":"array","x-kubernetes-list-type":"set","items":{"type":"string"}}}}}}"#;
@@ -198,36 +197,22 @@ static OTHERS: [(&str, &str, &str); 9] = [
     ("a body that is null", SPEC, "null"),
 ];
 
-fn try_leaves(
-    rt: &impl Abort,
-    alloc: Global,
-    case: (&str, &str),
-    answer: (&str, &str, u8),
-    name: &str,
-) -> Result<(), AllocError> {
-    let (schema, object) = case;
-    let (out, err, status) = answer;
-    let crd = definition(alloc, schema)?;
-    let inputs = FakeInputs::new(alloc, crd.as_str(), object);
-    let command = "crdx leaves crd.json v1";
-    let output = run_on(alloc, command, inputs, FailingSink::endless(alloc))?;
-    is_answer(rt, &output, out, err, status, name);
-    Ok(())
-}
-
 #[test]
 fn leaves(rt: HostRuntime) -> Result<(), Fail> {
-    for (name, schema, object, lines) in &LEAVES {
-        try_leaves(&rt, rt.alloc(), (schema, object), (lines, "", 0), name)?;
+    for row in &LEAVES {
+        let (name, schema, object, lines) = *row;
+        let row = (name, COMMAND, schema, object, lines, "", 0);
+        try_run_by_schema(&rt, rt.alloc(), &row)?;
     }
     Ok(())
 }
 
 #[test]
 fn objects_that_are_not_stored(rt: HostRuntime) -> Result<(), Fail> {
-    for (name, schema, object) in &OTHERS {
-        let answer = ("", "crdx: object: L1\n", 1);
-        try_leaves(&rt, rt.alloc(), (schema, object), answer, name)?;
+    for row in &OTHERS {
+        let (name, schema, object) = *row;
+        let row = (name, COMMAND, schema, object, "", "crdx: object: L1\n", 1);
+        try_run_by_schema(&rt, rt.alloc(), &row)?;
     }
     Ok(())
 }

@@ -1,23 +1,12 @@
 //! `sample` with limits up to 127.
 use crate::support::documents::{
-    MAP_LIST, REPEATED, SET, SPEC, TEN_LINES, TWO_TEXTS, ZERO_AND_ONE,
+    MAP_LIST, REPEATED, SET, SIX_SETS, SPEC, TEN_LINES, THIRTY_ONE, TWO_TEXTS, ZERO_AND_ONE,
 };
-use crate::support::harness::try_samples;
+use crate::support::harness::try_run_by_schema;
 use std::test::Fail;
-
-const THIRTY_ONE: &str =
-    r#"{"type":"object","required":["t"],"properties":{"t":{"type":"array","minItems":31,"maxItems":31,"items":{"type":"object","required":["a","b","c"],"properties":{"a":{"type":"boolean"},"b":{"type":"boolean"},"c":{"type":"boolean"}}}}}}"#;
 
 const THIRTY_ONE_FALSE: &str =
     r#"{"t":[{"a":false,"b":false,"c":false},{"a":false,"b":false,"c":false},{"a":false,"b":false,"c":false},{"a":false,"b":false,"c":false},{"a":false,"b":false,"c":false},{"a":false,"b":false,"c":false},{"a":false,"b":false,"c":false},{"a":false,"b":false,"c":false},{"a":false,"b":false,"c":false},{"a":false,"b":false,"c":false},{"a":false,"b":false,"c":false},{"a":false,"b":false,"c":false},{"a":false,"b":false,"c":false},{"a":false,"b":false,"c":false},{"a":false,"b":false,"c":false},{"a":false,"b":false,"c":false},{"a":false,"b":false,"c":false},{"a":false,"b":false,"c":false},{"a":false,"b":false,"c":false},{"a":false,"b":false,"c":false},{"a":false,"b":false,"c":false},{"a":false,"b":false,"c":false},{"a":false,"b":false,"c":false},{"a":false,"b":false,"c":false},{"a":false,"b":false,"c":false},{"a":false,"b":false,"c":false},{"a":false,"b":false,"c":false},{"a":false,"b":false,"c":false},{"a":false,"b":false,"c":false},{"a":false,"b":false,"c":false},{"a":false,"b":false,"c":false}]}
-"#;
-
-const SIX_SETS: &str = r#"{}
-{"s":[]}
-{"s":[1]}
-{"s":[2]}
-{"s":[1,2]}
-{"s":[2,1]}
 "#;
 
 const LONGER_MAP_LISTS: &str = r#"{"m":[{"k":"a"},{"k":"b","v":0}]}
@@ -101,7 +90,7 @@ fn limits(rt: HostRuntime) -> Result<(), Fail> {
     for row in &ROWS {
         let (name, command, schema, pools, out, err) = *row;
         let row = (name, command, schema, pools, out, err, 0);
-        try_samples(&rt, rt.alloc(), &row)?;
+        try_run_by_schema(&rt, rt.alloc(), &row)?;
     }
     Ok(())
 }

@@ -3,7 +3,7 @@ use crate::support::documents::{
     DEFAULTED, LABELS, LONG_MAP_LIST, MAP_LIST, OPEN, OPEN_NULLABLE, REQUIRED_LONG_MAP_LIST, SET,
     SPEC, TEN_LINES,
 };
-use crate::support::harness::try_samples;
+use crate::support::harness::all_runs_by_schema;
 use std::test::Fail;
 
 // A name, a command line, a schema with its pools, standard output, standard error and the status.
@@ -426,8 +426,5 @@ static ROWS: [(&str, &str, &str, &str, &str, &str, u8); 35] = [
 
 #[test]
 fn paths(rt: HostRuntime) -> Result<(), Fail> {
-    for row in &ROWS {
-        try_samples(&rt, rt.alloc(), row)?;
-    }
-    Ok(())
+    Ok(all_runs_by_schema(&rt, rt.alloc(), &ROWS)?)
 }

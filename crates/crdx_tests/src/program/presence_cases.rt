@@ -1,6 +1,6 @@
-//! Junctors that ask which fields an object has: where they may stand, what objects meet them, and what is listed.
+//! Junctors that ask which fields an object has: where they are allowed, what objects meet them, and what is listed.
 use crate::support::documents::ONE_OF_TWO;
-use crate::support::harness::{all_fields, all_judged, try_object, try_samples};
+use crate::support::harness::{all_fields, all_judged, all_validated, try_run_by_schema};
 use std::test::Fail;
 
 // A name, the schema of a field, and standard output of `check`.
@@ -523,12 +523,7 @@ fn roots(rt: HostRuntime) -> Result<(), Fail> {
 
 #[test]
 fn objects(rt: HostRuntime) -> Result<(), Fail> {
-    for (name, schema, object, out) in &OBJECTS {
-        let status = if *out == "valid\n" { 0 } else { 1 };
-        let command = "crdx validate crd.json v1";
-        try_object(&rt, rt.alloc(), name, command, schema, object, out, status)?;
-    }
-    Ok(())
+    Ok(all_validated(&rt, rt.alloc(), &OBJECTS)?)
 }
 
 #[test]
@@ -536,7 +531,7 @@ fn samples(rt: HostRuntime) -> Result<(), Fail> {
     for row in &SAMPLES {
         let (name, schema, pools, command, out) = *row;
         let row = (name, command, schema, pools, out, "crdx: end\n", 0);
-        try_samples(&rt, rt.alloc(), &row)?;
+        try_run_by_schema(&rt, rt.alloc(), &row)?;
     }
     Ok(())
 }

@@ -1,5 +1,5 @@
 //! `prune` and `default`: what they print of an object.
-use crate::support::harness::try_object;
+use crate::support::harness::try_run_by_schema;
 use std::alloc::{AllocError, Global};
 use std::process::Abort;
 use std::test::Fail;
@@ -120,9 +120,13 @@ fn try_row(
 ) -> Result<(), AllocError> {
     let (name, schema, object, pruned, completed) = *row;
     let command = "crdx prune crd.json v1";
-    try_object(rt, alloc, name, command, schema, object, pruned, 0)?;
+    try_run_by_schema(rt, alloc, &(name, command, schema, object, pruned, "", 0))?;
     let command = "crdx default crd.json v1";
-    try_object(rt, alloc, name, command, schema, object, completed, 0)
+    try_run_by_schema(
+        rt,
+        alloc,
+        &(name, command, schema, object, completed, "", 0),
+    )
 }
 
 #[test]

@@ -1,9 +1,8 @@
 //! `explain`, `validate`, `prune`, `default` and `leaves`: what is said of inputs that are refused, and which of them is judged first.
 use crate::support::documents::{BROKEN, BROKEN_LINES, WIDGET};
-use crate::support::fakes::{FailingSink, FakeInputs};
-use crate::support::harness::{is_answer, run_on};
+use crate::support::harness::{all_runs, try_run};
 use crate::support::texts::padded;
-use std::alloc::{AllocError, Global};
+use std::alloc::Global;
 use std::process::Abort;
 use std::test::Fail;
 
@@ -180,24 +179,9 @@ static ROWS: [(&str, &str, &str, &str, &str, &str, u8); 18] = [
     ),
 ];
 
-fn try_row(
-    rt: &impl Abort,
-    alloc: Global,
-    row: &(&str, &str, &str, &str, &str, &str, u8),
-) -> Result<(), AllocError> {
-    let (name, command, crd, object, out, err, status) = *row;
-    let inputs = FakeInputs::new(alloc, crd, object);
-    let output = run_on(alloc, command, inputs, FailingSink::endless(alloc))?;
-    is_answer(rt, &output, out, err, status, name);
-    Ok(())
-}
-
 #[test]
 fn inputs(rt: HostRuntime) -> Result<(), Fail> {
-    for row in &ROWS {
-        try_row(&rt, rt.alloc(), row)?;
-    }
-    Ok(())
+    Ok(all_runs(&rt, rt.alloc(), &ROWS)?)
 }
 
 // A name, how many spaces follow an empty object, standard output, standard error and the status.
@@ -221,8 +205,7 @@ fn try_long(
     let object = padded(alloc, "{}", spaces)?;
     let command = "crdx prune crd.json v1";
     let row = (name, command, WIDGET, object.as_str(), out, err, status);
-    try_row(rt, alloc, &row)?;
-    Ok(())
+    Ok(try_run(rt, alloc, &row)?)
 }
 
 #[test]

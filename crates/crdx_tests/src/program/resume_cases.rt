@@ -1,7 +1,7 @@
 //! Walks that stop, and the walks that go on there: both together write what one whole walk does.
 use crate::support::documents::{TEN_LINES, WIDGET, ZERO_AND_ONE};
 use crate::support::fakes::{FailingSink, FakeInputs};
-use crate::support::harness::{Output, is_answer, is_text, run_on};
+use crate::support::harness::{Output, has_failed, is_text, run_on};
 use crate::support::texts::beginning;
 use std::alloc::{AllocError, Global};
 use std::process::Abort;
@@ -66,10 +66,8 @@ fn stops(
     let command = format!(in alloc; "{COMMAND} 10{option}")?;
     let sink = FailingSink::new(alloc, room, usize::MAX, false);
     let output = run_walk(alloc, command.as_str(), sink)?;
-    let lines = whole_lines(ends, room);
-    let err = format!(in alloc; "crdx: write failed after {lines} lines\n")?;
-    is_answer(rt, &output, beginning(whole, room), err.as_str(), 4, name);
-    Ok(())
+    let lines = whole_lines(ends, room) as u64;
+    has_failed(rt, alloc, &output, beginning(whole, room), lines, name)
 }
 
 /// The walk past the last of so many whole lines, or the same walk again where there is none, writes the others.

@@ -1,10 +1,9 @@
 //! `sample`: what is listed, and what is said of the inputs that are refused.
 use crate::support::documents::{
-    BROKEN, BROKEN_LINES, LONG_MAP_LIST, REQUIRED_LONG_MAP_LIST, TEN_LINES, TWO_INTEGER_KEYS,
-    TWO_TEXTS, WIDGET, ZERO_AND_ONE,
+    BROKEN, BROKEN_LINES, LAST_LINES, LONG_MAP_LIST, REQUIRED_LONG_MAP_LIST, TEN_LINES,
+    TWO_INTEGER_KEYS, TWO_TEXTS, WIDGET, ZERO_AND_ONE,
 };
-use crate::support::fakes::{FailingSink, FakeInputs};
-use crate::support::harness::{definition, is_answer, run_on};
+use crate::support::harness::{all_runs, try_run_by_schema};
 use crate::support::pages::plain_lines;
 use std::alloc::{AllocError, Global};
 use std::process::Abort;
@@ -92,15 +91,6 @@ const SIX_LINES: &str = r#"{}
 {"spec":{"b":true}}
 {"spec":{"a":0}}
 {"spec":{"a":1}}
-"#;
-
-const SEVEN_LINES: &str = r#"{"spec":{"b":true}}
-{"spec":{"a":0}}
-{"spec":{"a":1}}
-{"spec":{"a":0,"b":false}}
-{"spec":{"a":0,"b":true}}
-{"spec":{"a":1,"b":false}}
-{"spec":{"a":1,"b":true}}
 "#;
 
 const NEGATIVE_LINES: &str = r#"{}
@@ -205,7 +195,7 @@ static SAMPLES: [(&str, &str, &str, &str, &str, &str, u8); 15] = [
         0,
     ),
     (
-        "numbers behind a property of texts",
+        "numbers after a property of texts",
         "crdx sample crd.json v1 --pools pools.json",
         TEXT_AND_NUMBER,
         FRACTION,
@@ -285,7 +275,7 @@ static RESUMES: [(&str, &str, &str, &str, &str, &str, u8); 7] = [
         "crdx sample crd.json v1 --pools pools.json --limit 4 --after {\"spec\":{\"b\":false}}",
         WIDGET,
         ZERO_AND_ONE,
-        SEVEN_LINES,
+        LAST_LINES,
         "crdx: end\n",
         0,
     ),
@@ -448,40 +438,19 @@ static REFUSALS: [(&str, &str, &str, &str, &str, &str, u8); 14] = [
     ),
 ];
 
-fn try_row(
-    rt: &impl Abort,
-    alloc: Global,
-    row: &(&str, &str, &str, &str, &str, &str, u8),
-) -> Result<(), AllocError> {
-    let (name, command, crd, pools, out, err, status) = *row;
-    let inputs = FakeInputs::new(alloc, crd, pools);
-    let output = run_on(alloc, command, inputs, FailingSink::endless(alloc))?;
-    is_answer(rt, &output, out, err, status, name);
-    Ok(())
-}
-
 #[test]
 fn samples(rt: HostRuntime) -> Result<(), Fail> {
-    for row in &SAMPLES {
-        try_row(&rt, rt.alloc(), row)?;
-    }
-    Ok(())
+    Ok(all_runs(&rt, rt.alloc(), &SAMPLES)?)
 }
 
 #[test]
 fn resumes(rt: HostRuntime) -> Result<(), Fail> {
-    for row in &RESUMES {
-        try_row(&rt, rt.alloc(), row)?;
-    }
-    Ok(())
+    Ok(all_runs(&rt, rt.alloc(), &RESUMES)?)
 }
 
 #[test]
 fn refusals(rt: HostRuntime) -> Result<(), Fail> {
-    for row in &REFUSALS {
-        try_row(&rt, rt.alloc(), row)?;
-    }
-    Ok(())
+    Ok(all_runs(&rt, rt.alloc(), &REFUSALS)?)
 }
 
 // A name, a schema, pools, and standard output.
@@ -514,11 +483,10 @@ fn try_whole(
     row: &(&str, &str, &str, &str),
 ) -> Result<(), AllocError> {
     let (name, schema, pools, out) = *row;
-    let crd = definition(alloc, schema)?;
-    try_row(
+    try_run_by_schema(
         rt,
         alloc,
-        &(name, command, crd.as_str(), pools, out, "crdx: end\n", 0),
+        &(name, command, schema, pools, out, "crdx: end\n", 0),
     )
 }
 

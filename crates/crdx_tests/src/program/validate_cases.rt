@@ -1,7 +1,5 @@
 //! `validate`: all faults of an object, or that it is valid.
-use crate::support::harness::try_object;
-use std::alloc::{AllocError, Global};
-use std::process::Abort;
+use crate::support::harness::all_validated;
 use std::test::Fail;
 
 // A name, a schema, an object, and standard output: `valid` and the status 0, or the lines of all faults and the status 1.
@@ -82,7 +80,7 @@ F14 "/l/4" junctor
         "F14 \"/l/1\" junctor\n",
     ),
     (
-        "the int-or-string pattern, and a bound behind it",
+        "the int-or-string pattern, and a bound after it",
         r#"{"type":"object","properties":{"l":{"type":"array","items":{"x-kubernetes-int-or-string":true,"anyOf":[{"type":"integer"},{"type":"string"}]}},"m":{"type":"array","items":{"x-kubernetes-int-or-string":true,"allOf":[{"anyOf":[{"type":"integer"},{"type":"string"}]},{"minimum":1}]}}}}"#,
         r#"{"l":[1,"1",true],"m":[0,1,"0"]}"#,
         r#"F01 "/l/2" kind
@@ -224,37 +222,17 @@ F01 "/x~1\"~0" kind
     ),
 ];
 
-fn try_row(
-    rt: &impl Abort,
-    alloc: Global,
-    row: &(&str, &str, &str, &str),
-) -> Result<(), AllocError> {
-    let (name, schema, object, out) = *row;
-    let status = if out == "valid\n" { 0 } else { 1 };
-    let command = "crdx validate crd.json v1";
-    try_object(rt, alloc, name, command, schema, object, out, status)
-}
-
 #[test]
 fn values(rt: HostRuntime) -> Result<(), Fail> {
-    for row in &VALUES {
-        try_row(&rt, rt.alloc(), row)?;
-    }
-    Ok(())
+    Ok(all_validated(&rt, rt.alloc(), &VALUES)?)
 }
 
 #[test]
 fn kinds(rt: HostRuntime) -> Result<(), Fail> {
-    for row in &KINDS {
-        try_row(&rt, rt.alloc(), row)?;
-    }
-    Ok(())
+    Ok(all_validated(&rt, rt.alloc(), &KINDS)?)
 }
 
 #[test]
 fn items_and_members(rt: HostRuntime) -> Result<(), Fail> {
-    for row in &ITEMS_AND_MEMBERS {
-        try_row(&rt, rt.alloc(), row)?;
-    }
-    Ok(())
+    Ok(all_validated(&rt, rt.alloc(), &ITEMS_AND_MEMBERS)?)
 }

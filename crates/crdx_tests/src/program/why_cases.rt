@@ -1,8 +1,5 @@
 //! `check --why`: the reasons below the lines of rules.
-use crate::support::fakes::{FailingSink, FakeInputs};
-use crate::support::harness::{definition, is_answer, run_on};
-use std::alloc::{AllocError, Global};
-use std::process::Abort;
+use crate::support::harness::try_run_by_schema;
 use std::test::Fail;
 
 // A name, a schema, standard output and the status.
@@ -75,20 +72,13 @@ V16 "/properties/x/anyOf/0" junctor outside the profile
     ),
 ];
 
-fn try_why(rt: &impl Abort, alloc: Global, row: &(&str, &str, &str, u8)) -> Result<(), AllocError> {
-    let (name, schema, out, status) = *row;
-    let crd = definition(alloc, schema)?;
-    let inputs = FakeInputs::new(alloc, crd.as_str(), "");
-    let line = "crdx check crd.json v1 --why";
-    let output = run_on(alloc, line, inputs, FailingSink::endless(alloc))?;
-    is_answer(rt, &output, out, "", status, name);
-    Ok(())
-}
-
 #[test]
 fn reasons(rt: HostRuntime) -> Result<(), Fail> {
     for row in &JUDGED {
-        try_why(&rt, rt.alloc(), row)?;
+        let (name, schema, out, status) = *row;
+        let command = "crdx check crd.json v1 --why";
+        let row = (name, command, schema, "", out, "", status);
+        try_run_by_schema(&rt, rt.alloc(), &row)?;
     }
     Ok(())
 }

@@ -28,7 +28,7 @@ fn repeated(
     Ok(text)
 }
 
-// A name, what stands before the entries, an entry, how many there are, what stands behind them, and what is answered.
+// A name, the text before the entries, an entry, how many there are, the text after them, and what is answered.
 //
 // Forms are judged before limits, and the first limit in path order is named.
 static LISTS: [(&str, &str, &str, usize, &str, &str); 12] = [

@@ -102,7 +102,7 @@ static MAP_LISTS: [(&str, &str, &str); 8] = [
         "V11 \"/properties/x\" bad map keys\n",
     ),
     (
-        "a key that stands twice",
+        "a key that occurs twice",
         r#"{"type":"array","x-kubernetes-list-map-keys":["k","k"],"x-kubernetes-list-type":"map","items":{"type":"object","properties":{"k":{"type":"string"}},"required":["k"]}}"#,
         "V11 \"/properties/x\" bad map keys\n",
     ),

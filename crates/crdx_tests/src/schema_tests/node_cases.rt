@@ -1,5 +1,5 @@
 //! The node of a schema, or why it has none.
-use crate::support::harness::{crd_of, is_said};
+use crate::support::harness::{crd_of, is_said, object_with_field};
 use crate::support::nodes::{first_field, node_text};
 use schema::{Shape, nodes_are_unique, shape};
 use std::alloc::Global;
@@ -114,7 +114,7 @@ static ROOTS: [(&str, &str, &str); 6] = [
     ),
     ("an integer", r#"{"type":"integer"}"#, "violations"),
     (
-        "a violation behind a default",
+        "a violation after a default",
         r#"{"type":"object","properties":{"x":{"type":"integer","default":1},"y":{"type":"array"}}}"#,
         "violations",
     ),
@@ -127,7 +127,7 @@ static ROOTS: [(&str, &str, &str); 6] = [
 
 fn try_field(rt: &impl Abort, alloc: Global, row: &(&str, &str, &str)) -> Result<(), Fail> {
     let (name, schema, wanted) = *row;
-    let root = format!(in alloc; r#"{{"type":"object","properties":{{"x":{schema}}}}}"#)?;
+    let root = object_with_field(alloc, schema)?;
     is_said(
         rt,
         said(alloc, root.as_str(), true),

@@ -403,7 +403,7 @@ static REQUIRED: [(&str, &str, &str); 7] = [
         "V17 \"/properties/x\" outside the profile\n",
     ),
     (
-        "a required field that stands twice",
+        "a required field that occurs twice",
         r#"{"type":"object","properties":{"a":{"type":"string"}},"required":["a","a"]}"#,
         "structural\n",
     ),

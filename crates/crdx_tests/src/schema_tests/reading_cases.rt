@@ -23,7 +23,7 @@ static DEFINITIONS: [(&str, &str, &str); 13] = [
         "S1",
     ),
     (
-        "a name that stands twice",
+        "a name that occurs twice",
         r#"{"apiVersion":"apiextensions.k8s.io/v1","kind":"CustomResourceDefinition","spec":{"group":"example.com","names":{"kind":"Widget"},"versions":[{"name":"v1","schema":{"openAPIV3Schema":{}}},{"name":"v0"},{"name":"v1"}]}}"#,
         "S1",
     ),
@@ -53,7 +53,7 @@ static DEFINITIONS: [(&str, &str, &str); 13] = [
         "S2",
     ),
     (
-        "no such version, and a name that stands twice",
+        "no such version, and a name that occurs twice",
         r#"{"apiVersion":"apiextensions.k8s.io/v1","kind":"CustomResourceDefinition","spec":{"group":"example.com","names":{"kind":"Widget"},"versions":[{"name":"v2"},{"name":"v2"}]}}"#,
         "S1",
     ),
@@ -130,7 +130,7 @@ static FORMS: [(&str, &str, &str); 6] = [
         "read",
     ),
     (
-        "what stands in values and unknown keywords",
+        "what is in values and unknown keywords",
         r#"{"additionalProperties":{},"enum":[1,null,{"type":1}],"example":{"type":1},"x":[{"items":1}]}"#,
         "read",
     ),

@@ -185,7 +185,7 @@ static OBJECTS: [(&str, &str, &str, &str, &str, &str); 12] = [
         "",
     ),
     (
-        "names between, before and behind the fields",
+        "names between, before and after the fields",
         r#"{"type":"object","properties":{"spec":{"type":"object","x-kubernetes-preserve-unknown-fields":true,"properties":{"b":{"type":"integer","default":2},"d":{"type":"integer","default":4},"f":{"type":"integer"}}}}}"#,
         r#"{"spec":{"a":0,"c":0,"d":null,"e":0,"f":null,"g":0}}"#,
         r#"{"spec":{"a":0,"c":0,"d":null,"e":0,"f":null,"g":0}}"#,

@@ -4,7 +4,7 @@ ghost use Rattle.plan.specs.Samples.Sites.{site_at, sites_of};
 ghost use Rattle.plan.specs.Samples.Candidates.{sort_of};
 ghost use Rattle.plan.specs.declared.sort.Sort.TheVariants as sort;
 
-use crate::support::harness::{holds, is_number, made, pools_of, schema_of};
+use crate::support::harness::{holds, is_number, is_same, made, pools_of, schema_of};
 use crate::support::plans::{are_sizes, item_of, more_of, place_of, rest_of, slot_of};
 use crate::support::reference::{
     Before, Choice, Ending, node_below, plain_more, plain_named, plain_parts, plain_rest,
@@ -19,13 +19,6 @@ use std::alloc::Global;
 use std::process::Abort;
 use std::test::Fail;
 use stored::Schema;
-
-fn is_same(found: Option<&Tree>, wanted: &Tree) -> bool {
-    match found {
-        Some(tree) => *tree == *wanted,
-        None => false,
-    }
-}
 
 fn are_candidates(
     rt: &impl Abort,
@@ -44,8 +37,8 @@ fn are_candidates(
         let found = plan.candidate(node, place_of(place), meter);
         holds(rt, is_same(found, tree), "a candidate", name);
     }
-    let behind = plan.candidate(node, place_of(count), meter);
-    holds(rt, behind.is_none(), "no candidate behind the last", name);
+    let after = plan.candidate(node, place_of(count), meter);
+    holds(rt, after.is_none(), "no candidate after the last", name);
 }
 
 /// The candidates of a leaf are all parts, also those of more nodes than the limit.
@@ -87,7 +80,7 @@ fn is_size(
     are_sizes(rt, alloc, sizes, &wanted, "the sizes", name)
 }
 
-/// What can follow behind so many items, up to more than a list within the limit has.
+/// What can follow after so many items, up to more than a list within the limit has.
 fn try_more(
     rt: &impl Abort,
     alloc: Global,
@@ -135,7 +128,7 @@ fn all_rests(
     let named = plain_named(alloc, ending)?;
     holds(rt, named.len() <= 4, "few named fields", name);
     for place in 0..=slots.len() {
-        let (_, behind) = slots.split_at(place);
+        let (_, after) = slots.split_at(place);
         rests_at(
             rt,
             alloc,
@@ -143,7 +136,7 @@ fn all_rests(
             number,
             ending,
             &named,
-            behind,
+            after,
             place_of(place),
             meter,
             name,
@@ -152,7 +145,7 @@ fn all_rests(
     Ok(())
 }
 
-/// From one place on, behind each number of members and each choice of the named fields.
+/// From one place on, after each number of members and each choice of the named fields.
 fn rests_at(
     rt: &impl Abort,
     alloc: Global,
@@ -160,7 +153,7 @@ fn rests_at(
     number: PlanNode,
     ending: Ending<'_>,
     named: &[Text],
-    behind: &[Choice],
+    after: &[Choice],
     place: u64,
     meter: &mut Meter,
     name: &str,
@@ -175,7 +168,7 @@ fn rests_at(
                 seen,
             };
             is_rest(
-                rt, alloc, plan, number, ending, before, behind, place, meter, name,
+                rt, alloc, plan, number, ending, before, after, place, meter, name,
             )?;
         }
     }
@@ -200,7 +193,7 @@ fn is_rest(
     number: PlanNode,
     ending: Ending<'_>,
     before: Before<'_>,
-    behind: &[Choice],
+    after: &[Choice],
     place: u64,
     meter: &mut Meter,
     name: &str,
@@ -211,7 +204,7 @@ fn is_rest(
     let Some(rest) = rest_of(plan, number, place, taken, before.seen, meter) else {
         return Err(Fail::from("no place"));
     };
-    let wanted = plain_rest(alloc, behind, u64::from(plan.limit()), ending, before)?;
+    let wanted = plain_rest(alloc, after, u64::from(plan.limit()), ending, before)?;
     are_sizes(rt, alloc, rest, &wanted, "the rest", name)
 }
 
@@ -488,26 +481,24 @@ fn try_made(
     rt: &impl Abort,
     alloc: Global,
     plan: &Plan<u64>,
-    schema: &str,
-    pools: &str,
+    given: (&str, &str, u32),
     meter: &mut Meter,
     name: &str,
 ) -> Result<(), Fail> {
+    let (schema, pools, _limit) = given;
     let schema = schema_of(alloc, schema)?;
     let pools = pools_of(alloc, pools)?;
     try_given(rt, alloc, plan, &schema, &pools, meter, name)
 }
 
-/// What a plan says of its nodes, against the plain reference.
+/// What the plan of a schema, pools and a node limit says of its nodes, against the plain reference.
 pub fn try_plan(
     rt: &impl Abort,
     alloc: Global,
-    schema: &str,
-    pools: &str,
-    limit: u32,
+    given: (&str, &str, u32),
     name: &str,
 ) -> Result<(), Fail> {
-    let mut plan = made(alloc, (schema, pools, limit))?;
+    let mut plan = made(alloc, given)?;
     let mut meter = plan.meter();
-    try_made(rt, alloc, &plan, schema, pools, &mut meter, name)
+    try_made(rt, alloc, &plan, given, &mut meter, name)
 }

@@ -20,6 +20,16 @@ pub const TEN_LINES: &str = r#"{}
 {"spec":{"a":1,"b":true}}
 "#;
 
+/// The lines of `TEN_LINES` past the third one.
+pub const LAST_LINES: &str = r#"{"spec":{"b":true}}
+{"spec":{"a":0}}
+{"spec":{"a":1}}
+{"spec":{"a":0,"b":false}}
+{"spec":{"a":0,"b":true}}
+{"spec":{"a":1,"b":false}}
+{"spec":{"a":1,"b":true}}
+"#;
+
 /// An object with at least two of three truth values.
 pub const TRUTHS: &str =
     r#"{"type":"object","properties":{"o":{"type":"object","minProperties":2,"properties":{"a":{"type":"boolean"},"b":{"type":"boolean"},"c":{"type":"boolean"}}}}}"#;
@@ -47,12 +57,25 @@ pub const SPEC: &str =
 pub const FIFTEEN: &str =
     r#"{"type":"object","required":["t"],"properties":{"t":{"type":"array","minItems":15,"maxItems":15,"items":{"type":"object","required":["a","b","c"],"properties":{"a":{"type":"boolean"},"b":{"type":"boolean"},"c":{"type":"boolean"}}}}}}"#;
 
+/// Thirty-one objects of three truth values.
+pub const THIRTY_ONE: &str =
+    r#"{"type":"object","required":["t"],"properties":{"t":{"type":"array","minItems":31,"maxItems":31,"items":{"type":"object","required":["a","b","c"],"properties":{"a":{"type":"boolean"},"b":{"type":"boolean"},"c":{"type":"boolean"}}}}}}"#;
+
 /// A set of integers.
 pub const SET: &str =
     r#"{"type":"object","properties":{"s":{"type":"array","x-kubernetes-list-type":"set","items":{"type":"integer"}}}}"#;
 
 /// Pools of two integers, one of them twice.
 pub const REPEATED: &str = r#"{"integers":[2,1,2]}"#;
+
+/// The samples of `SET` over `REPEATED` of at most four nodes, which are all.
+pub const SIX_SETS: &str = r#"{}
+{"s":[]}
+{"s":[1]}
+{"s":[2]}
+{"s":[1,2]}
+{"s":[2,1]}
+"#;
 
 /// An object without properties, or null.
 pub const NULLABLE: &str =

@@ -125,18 +125,76 @@ pub fn definition(alloc: Global, schema: &str) -> Result<String, AllocError> {
     Ok(document)
 }
 
-/// A run of `sample`: a name, a command line, a schema with its pools, standard output, standard error and the status.
-pub fn try_samples(
+/// A run over two documents: a name, a command line, a definition, the second document, standard output, standard error and
+/// the status.
+pub fn try_run(
     rt: &impl Abort,
     alloc: Global,
     row: &(&str, &str, &str, &str, &str, &str, u8),
 ) -> Result<(), AllocError> {
-    let (name, command, schema, pools, out, err, status) = *row;
-    let crd = definition(alloc, schema)?;
-    let inputs = FakeInputs::new(alloc, crd.as_str(), pools);
+    let (name, command, crd, second, out, err, status) = *row;
+    let inputs = FakeInputs::new(alloc, crd, second);
     let output = run_on(alloc, command, inputs, FailingSink::endless(alloc))?;
     is_answer(rt, &output, out, err, status, name);
     Ok(())
+}
+
+/// As `try_run`, of each row.
+pub fn all_runs(
+    rt: &impl Abort,
+    alloc: Global,
+    rows: &[(&str, &str, &str, &str, &str, &str, u8)],
+) -> Result<(), AllocError> {
+    for row in rows {
+        try_run(rt, alloc, row)?;
+    }
+    Ok(())
+}
+
+/// As `try_run`, with a schema in place of the definition that has it.
+pub fn try_run_by_schema(
+    rt: &impl Abort,
+    alloc: Global,
+    row: &(&str, &str, &str, &str, &str, &str, u8),
+) -> Result<(), AllocError> {
+    let (name, command, schema, second, out, err, status) = *row;
+    let crd = definition(alloc, schema)?;
+    let row = (name, command, crd.as_str(), second, out, err, status);
+    try_run(rt, alloc, &row)
+}
+
+/// As `try_run_by_schema`, of each row.
+pub fn all_runs_by_schema(
+    rt: &impl Abort,
+    alloc: Global,
+    rows: &[(&str, &str, &str, &str, &str, &str, u8)],
+) -> Result<(), AllocError> {
+    for row in rows {
+        try_run_by_schema(rt, alloc, row)?;
+    }
+    Ok(())
+}
+
+/// Fails unless a sink failed when this was out, with so many whole lines in it, and the run says so.
+pub fn has_failed(
+    rt: &impl Abort,
+    alloc: Global,
+    output: &Output,
+    out: &str,
+    lines: u64,
+    name: &str,
+) -> Result<(), AllocError> {
+    let err = format!(in alloc; "crdx: write failed after {lines} lines\n")?;
+    is_answer(rt, output, out, err.as_str(), 4, name);
+    Ok(())
+}
+
+/// Whether there is a tree, and it is the one that is wanted.
+pub fn is_same(found: Option<&Tree>, wanted: &Tree) -> bool {
+    match found {
+        Some(tree) => *tree == *wanted,
+        None => false,
+    }
 }
 
 /// The accepted schema of a definition with this schema.
@@ -170,9 +228,14 @@ pub fn crd_of(alloc: Global, schema: &str) -> Result<Result<Crd, SFault>, Fail> 
     read(alloc, definition(alloc, schema)?.as_str())
 }
 
+/// The schema of an object with one field, `x`, of this schema.
+pub fn object_with_field(alloc: Global, field: &str) -> Result<String, AllocError> {
+    format!(in alloc; r#"{{"type":"object","properties":{{"x":{field}}}}}"#)
+}
+
 /// As `schema_of`, of an object with one field, `x`, of this schema.
 pub fn schema_of_field(alloc: Global, field: &str) -> Result<Schema, Fail> {
-    let schema = format!(in alloc; r#"{{"type":"object","properties":{{"x":{field}}}}}"#)?;
+    let schema = object_with_field(alloc, field)?;
     schema_of(alloc, schema.as_str())
 }
 
@@ -215,20 +278,12 @@ pub fn try_check(
     err: &str,
     status: u8,
 ) -> Result<(), AllocError> {
-    let crd = definition(alloc, schema)?;
-    let inputs = FakeInputs::new(alloc, crd.as_str(), "");
-    let output = run_on(
-        alloc,
-        "crdx check crd.json v1",
-        inputs,
-        FailingSink::endless(alloc),
-    )?;
-    is_answer(rt, &output, out, err, status, name);
-    Ok(())
+    let row = (name, "crdx check crd.json v1", schema, "", out, err, status);
+    try_run_by_schema(rt, alloc, &row)
 }
 
 /// Fails unless `check` judges a schema so: `structural`, or the lines of all that is broken.
-pub fn try_judged(
+fn try_judged(
     rt: &impl Abort,
     alloc: Global,
     name: &str,
@@ -240,32 +295,39 @@ pub fn try_judged(
 }
 
 /// As `try_judged`, of an object with one field, `x`, of this schema.
-pub fn try_field(
+fn try_field(
     rt: &impl Abort,
     alloc: Global,
     name: &str,
     schema: &str,
     out: &str,
 ) -> Result<(), AllocError> {
-    let root = format!(in alloc; r#"{{"type":"object","properties":{{"x":{schema}}}}}"#)?;
+    let root = object_with_field(alloc, schema)?;
     try_judged(rt, alloc, name, root.as_str(), out)
 }
 
-/// Fails unless a command says so of an object on the standard input, by a schema, and ends with this status.
-pub fn try_object(
+/// Fails unless `validate` says so of an object by a schema: `valid` and the status 0, or the lines of all faults and the
+/// status 1.
+fn try_validated(
     rt: &impl Abort,
     alloc: Global,
-    name: &str,
-    command: &str,
-    schema: &str,
-    object: &str,
-    out: &str,
-    status: u8,
+    row: &(&str, &str, &str, &str),
 ) -> Result<(), AllocError> {
-    let crd = definition(alloc, schema)?;
-    let inputs = FakeInputs::new(alloc, crd.as_str(), object);
-    let output = run_on(alloc, command, inputs, FailingSink::endless(alloc))?;
-    is_answer(rt, &output, out, "", status, name);
+    let (name, schema, object, out) = *row;
+    let status = if out == "valid\n" { 0 } else { 1 };
+    let command = "crdx validate crd.json v1";
+    try_run_by_schema(rt, alloc, &(name, command, schema, object, out, "", status))
+}
+
+/// As `try_validated`, of each row: a name, a schema, an object, and standard output.
+pub fn all_validated(
+    rt: &impl Abort,
+    alloc: Global,
+    rows: &[(&str, &str, &str, &str)],
+) -> Result<(), AllocError> {
+    for row in rows {
+        try_validated(rt, alloc, row)?;
+    }
     Ok(())
 }
 

@@ -36,7 +36,8 @@ fn sort_keyword(sort: &Sort) -> &str {
     }
 }
 
-fn push_flag(out: &mut String, is: bool, keyword: &str) -> Result<(), Fail> {
+/// A space and a keyword, where it holds.
+pub fn push_flag(out: &mut String, is: bool, keyword: &str) -> Result<(), Fail> {
     if is {
         out.push_str(" ")?;
         out.push_str(keyword)?;
@@ -44,7 +45,8 @@ fn push_flag(out: &mut String, is: bool, keyword: &str) -> Result<(), Fail> {
     Ok(())
 }
 
-fn push_keyword(out: &mut String, name: &str, keyword: &str) -> Result<(), Fail> {
+/// A space, a name, and what it equals.
+pub fn push_keyword(out: &mut String, name: &str, keyword: &str) -> Result<(), Fail> {
     out.push_str(" ")?;
     out.push_str(name)?;
     out.push_str("=")?;

@@ -39,16 +39,17 @@ pub fn item_of(plan: &Plan<u64>, node: PlanNode, place: u32, meter: &mut Meter) 
     }
 }
 
-pub fn are_sizes(
+/// Fails unless a set has these sizes, and no other.
+pub fn are_sizes<S: SizeSet>(
     rt: &impl Abort,
     alloc: Global,
-    set: u64,
+    set: S,
     wanted: &[u32],
     what: &str,
     name: &str,
 ) -> Result<(), Fail> {
     let mut sizes = Vec::new(alloc);
-    for n in 0..64 {
+    for n in 0..S::BITS {
         if set.has(n) {
             sizes.push(n)?;
         }

@@ -1,4 +1,4 @@
-//! All samples of a small plan, by the definitions alone: every value that can stand at a node is made, and what is stored is kept.
+//! All samples of a small plan, by the definitions alone: every value that can be at a node is made, and what is stored is kept.
 //! It is slow, and of `plan` it uses nothing but the pools.
 ghost use Rattle.std.specs.Prelude.{◌≡◌, IsTrue, IfOk};
 ghost use Rattle.jtree.specs.Data.{IsNameBefore};
@@ -7,7 +7,9 @@ ghost use Rattle.schema.specs.Nodes.View.{node_of};
 use explain::{Step, path_below};
 use jtree::{Items, Member, Members, Text, Tree};
 use plan::Pools;
-use schema::{Below, Bounds, Branches, Fields, Node, ScalarKind, ScalarNode, Sort, Validations};
+use schema::{
+    Below, Bounds, Branches, Field, Fields, Node, ScalarKind, ScalarNode, Sort, Validations,
+};
 use std::alloc::{AllocError, Global};
 use stored::is_stored;
 
@@ -30,7 +32,7 @@ pub fn plain_parts(
     Ok(parts)
 }
 
-/// The values over pools of at most `limit` nodes that can stand at a node, stored or not.
+/// The values over pools of at most `limit` nodes that can be at a node, stored or not.
 #[cycle(values)]
 fn values_at(
     alloc: Global,
@@ -95,7 +97,7 @@ pub fn node_below(below: &Below) -> &Node
     &below.node
 }
 
-/// A name, whether something must stand under it, and what may.
+/// A name, whether there must be a value under it, and the values that may be there.
 #[derive(Drop)]
 pub struct Choice {
     name: Text,
@@ -118,7 +120,6 @@ pub fn plain_slots(
     }
 }
 
-/// Something must stand under a field that is required or has a default.
 fn field_slots(
     alloc: Global,
     fields: &Fields,
@@ -130,11 +131,16 @@ fn field_slots(
     for field in &fields.fields {
         let below = path_below(alloc, path, Step::Field(field.name.as_str()))?;
         let values = plain_parts(alloc, &field.node, &below, pools, limit)?;
-        let name = field.name.copy(alloc)?;
-        let must = field.required || field.default.is_some();
-        slots.push(Choice { name, must, values })?;
+        slots.push(choice_of_field(alloc, field, values)?)?;
     }
     Ok(slots)
+}
+
+/// There must be a value under a field that is required or has a default.
+fn choice_of_field(alloc: Global, field: &Field, values: Vec<Tree>) -> Result<Choice, AllocError> {
+    let name = field.name.copy(alloc)?;
+    let must = field.required || field.default.is_some();
+    Ok(Choice { name, must, values })
 }
 
 fn name_slots(
@@ -145,13 +151,23 @@ fn name_slots(
     limit: u64,
 ) -> Result<Vec<Choice>, AllocError> {
     let below = path_below(alloc, path, Step::Value)?;
-    let mut slots = Vec::new(alloc);
+    let values = plain_parts(alloc, node, &below, pools, limit)?;
+    choices_of_names(alloc, pools, &values)
+}
+
+/// A choice for each name of the pools: one of these values, or none.
+fn choices_of_names(
+    alloc: Global,
+    pools: &Pools,
+    values: &[Tree],
+) -> Result<Vec<Choice>, AllocError> {
+    let mut choices = Vec::new(alloc);
     for name in names_of(alloc, pools)? {
-        let values = plain_parts(alloc, node, &below, pools, limit)?;
+        let values = copies(alloc, values)?;
         let must = false;
-        slots.push(Choice { name, must, values })?;
+        choices.push(Choice { name, must, values })?;
     }
-    Ok(slots)
+    Ok(choices)
 }
 
 /// What is asked of an object or a map where it ends: bounds, and of an object its junctors.
@@ -161,7 +177,7 @@ pub struct Ending<'a> {
     pub junctors: Option<&'a Validations>,
 }
 
-/// What stands before a place: how many members, and which of the named fields, the first of them at the lowest bit.
+/// What is before a place: how many members, and which of the named fields, the first of them at the lowest bit.
 #[derive(Clone, Copy)]
 pub struct Before<'a> {
     pub taken: u64,
@@ -169,8 +185,8 @@ pub struct Before<'a> {
     pub seen: u8,
 }
 
-/// The numbers of nodes of what may stand in these slots, of at most `limit` nodes together: none is left empty that must be
-/// filled, and with what stands before them the whole may end.
+/// The numbers of nodes of what may be in these slots, of at most `limit` nodes together: none is left empty that must be
+/// filled, and with what is before them the whole may end.
 pub fn plain_rest(
     alloc: Global,
     slots: &[Choice],
@@ -244,7 +260,7 @@ fn push_named_in(
     Ok(())
 }
 
-/// Whether junctors hold of a row with what stands before it, by how many of their branches do.
+/// Whether junctors hold of a row with what is before it, by how many of their branches do.
 #[cycle(met)]
 fn is_met(validations: &Validations, row: &Members, before: Before<'_>) -> bool {
     let all = &validations.all_of;
@@ -294,13 +310,13 @@ fn is_within(row: &Members, bounds: Bounds, taken: u64) -> bool {
     bounds.least.unwrap_or(0) <= count && count <= bounds.most.unwrap_or(u64::MAX)
 }
 
-/// The numbers of nodes of the items behind the first `taken`, over the lists among these parts that have so many.
+/// The numbers of nodes of the items after the first `taken`, over the lists among these parts that have so many.
 pub fn plain_more(alloc: Global, parts: &[Tree], taken: u32) -> Result<Vec<u32>, AllocError> {
     let mut counts = Vec::new(alloc);
     for part in parts {
         if let Tree::List(list) = part {
-            if let Some(behind) = list.items.get(taken as usize..) {
-                counts.push(items_nodes(behind).min(99) as u32)?;
+            if let Some(after) = list.items.get(taken as usize..) {
+                counts.push(items_nodes(after).min(99) as u32)?;
             }
         }
     }
@@ -372,9 +388,7 @@ fn field_choices(
     for field in &fields.fields {
         let below = path_below(alloc, path, Step::Field(field.name.as_str()))?;
         let values = values_at(alloc, &field.node, &below, pools, room)?;
-        let name = field.name.copy(alloc)?;
-        let must = false;
-        choices.push(Choice { name, must, values })?;
+        choices.push(choice_of_field(alloc, field, values)?)?;
     }
     Ok(choices)
 }
@@ -388,13 +402,8 @@ fn name_choices(
     room: u64,
 ) -> Result<Vec<Choice>, AllocError> {
     let below = path_below(alloc, path, Step::Value)?;
-    let mut choices = Vec::new(alloc);
-    for name in names_of(alloc, pools)? {
-        let values = values_at(alloc, node, &below, pools, room)?;
-        let must = false;
-        choices.push(Choice { name, must, values })?;
-    }
-    Ok(choices)
+    let values = values_at(alloc, node, &below, pools, room)?;
+    choices_of_names(alloc, pools, &values)
 }
 
 /// The names of the pools, by bytes, each once.

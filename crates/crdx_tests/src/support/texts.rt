@@ -15,16 +15,16 @@ pub fn nested(
     before: &str,
     times: usize,
     middle: &str,
-    behind: &str,
+    after: &str,
 ) -> Result<String, AllocError> {
     let mut text = String::new(alloc);
     push_times(&mut text, before, times)?;
     text.push_str(middle)?;
-    push_times(&mut text, behind, times)?;
+    push_times(&mut text, after, times)?;
     Ok(text)
 }
 
-/// A text with so many spaces behind it.
+/// A text with so many spaces after it.
 pub fn padded(alloc: Global, head: &str, spaces: usize) -> Result<String, Fail> {
     let mut text = String::from_str(alloc, head)?;
     for _ in 0..spaces {

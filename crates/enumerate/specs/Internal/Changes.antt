@@ -9,7 +9,7 @@ use Rattle.enumerate.specs.declared.moved.Moved.TheVariants as moved
 use Rattle.enumerate.specs.declared.moved.Step.{Step}
 use Rattle.enumerate.specs.declared.moved.Step.TheVariants as step
 
--- in the part that is reached by going down n times by the last item or member, and nowhere else
+-- in the part n levels down, by the last item or member of each level, and nowhere else
 pub record DiffersAt (n : ℕ) (old new : Data) : Type 0 where
   pub few : n < node_count old
   pub part : Data

@@ -14,7 +14,7 @@ use Rattle.plan.specs.Samples.NoDeadEnd.{items_then}
 use Rattle.plan.specs.Samples.Question.{Question}
 use Rattle.enumerate.specs.Internal.Rows.{still_used, IsValue}
 use Rattle.enumerate.specs.Least.{IsLeast, IsNext}
-use Rattle.enumerate.specs.Internal.Lists.{IsFreshItem}
+use Rattle.enumerate.specs.Internal.Lists.{IsUnusedItem}
 use Rattle.enumerate.specs.declared.moved.Moved.{Moved}
 use Rattle.enumerate.specs.declared.moved.Moved.TheVariants as moved
 use Rattle.enumerate.specs.declared.moved.Step.{Step}
@@ -25,7 +25,7 @@ abbrev pub Follow : (Data → Type 0) → Data → List Data → Type 0
 Follow C v [] = Unit {0}
 Follow C v (c ∷ cs) = IsNext tree_cmp C v (Some (with_last v c)) × Follow C (with_last v c) cs
 
--- The first value is what stands there, and the others follow on it; or there is none.
+-- The first value is the last node, and the others follow on it; or there is none.
 abbrev pub Continue : (Data → Type 0) → Data → List Data → Type 0
 Continue C v [] = Unit {0}
 Continue C v (u ∷ cs) = (with_last v u ≡ v) × Follow C v cs
@@ -45,28 +45,28 @@ abbrev pub ContinueMoved : (Data → Type 0) → Moved → List Data → Type 0
 ContinueMoved C (moved.To t) cs = Continue C (data_of t) cs
 ContinueMoved C (moved.Last n) cs = Unit {0}
 
--- The last value of a row is this one, in this slot with those behind it; there these used rows have the same under all keys so far.
+-- The last value of a row is this one, in this slot with those after it; these used rows have the same values under all keys so far.
 abbrev pub EndsAt : List Slot → List Data → List (Option Data) → ℕ → Slot → List Slot → List Data → Data → Type 0
-EndsAt (s ∷ ss) used (Some u ∷ gs) zero here behind rows v = (s ≡ here) × (ss ≡ behind) × (used ≡ rows) × (u ≡ v) × (filled_nodes gs ≡ 0)
-EndsAt (s ∷ ss) used (Some u ∷ gs) (suc place) here behind rows v = EndsAt ss (still_used s u used) gs place here behind rows v
-EndsAt (s ∷ ss) used (None ∷ gs) (suc place) here behind rows v = EndsAt ss used gs place here behind rows v
-EndsAt _ used _ place here behind rows v = ⊥
+EndsAt (s ∷ ss) used (Some u ∷ gs) zero here after rows v = (s ≡ here) × (ss ≡ after) × (used ≡ rows) × (u ≡ v) × (filled_nodes gs ≡ 0)
+EndsAt (s ∷ ss) used (Some u ∷ gs) (suc place) here after rows v = EndsAt ss (still_used s u used) gs place here after rows v
+EndsAt (s ∷ ss) used (None ∷ gs) (suc place) here after rows v = EndsAt ss used gs place here after rows v
+EndsAt _ used _ place here after rows v = ⊥
 
 -- these values continue the last one of the row
 pub record ContinueRow (P : Pools) (ss : List Slot) (used : List Data) (gs : List (Option Data)) (cs : List Data) : Type 0 where
   pub place : ℕ
   pub here : Slot
-  pub behind : List Slot
+  pub after : List Slot
   pub rows : List Data
   pub value : Data
-  pub ends : EndsAt ss used gs place here behind rows value
-  pub continue : Continue (IsValue P here behind rows (node_count value)) value cs
+  pub ends : EndsAt ss used gs place here after rows value
+  pub continue : Continue (IsValue P here after rows (node_count value)) value cs
 
 -- there are none, or these values continue the last one of the row
 abbrev pub MayContinue : Pools → List Slot → List Data → List (Option Data) → List Data → Type 0
 MayContinue P ss used gs cs = (cs ≡ []) ⊎ ContinueRow P ss used gs cs
 
--- Members stand in the slots, and these values continue the last one.
+-- The members are in the slots, and these values continue the last one.
 pub record MembersContinue (P : Pools) (ss : List Slot) (used : List Data) (members : List Member) (cs : List Data) : Type 0 where
   pub fillings : List (Option Data)
   pub are : members_of members ≡ members_in ss fillings
@@ -83,7 +83,7 @@ pub record ContinueItem (q : Question) (i c : ℕ) (items : Items) (cs : List Da
   pub front : Items
   pub one : Data
   pub is : items ≡ items_then front (item one no_items)
-  pub continue : Continue (IsFreshItem q i c (node_count one) front) one cs
+  pub continue : Continue (IsUnusedItem q i c (node_count one) front) one cs
 
 -- there are none, or these values continue the last item
 abbrev pub ItemsContinue : Question → ℕ → ℕ → Items → List Data → Type 0

@@ -1,4 +1,4 @@
--- What stands in a list behind the items that are there.
+-- What can be in a list after the items that are there.
 use Rattle.std.specs.Prelude.{◌≡◌, ℕ, ◌+◌, ◌≤◌, ◌-◌, ◌++◌, ◌∷◌, [], List, length, true, false, Some}
 use Rattle.jtree.specs.Data.{Data, Items}
 use Rattle.jtree.specs.Data as tree
@@ -39,26 +39,26 @@ pub record CanFollow (q : Question) (i c m : ℕ) (used : Items) : Type 0 where
   pub within : 1 + items_count used + m ≤ q.limit
 
 -- a part of so many nodes that is alike none of the items
-pub record IsFreshItem (q : Question) (i c n : ℕ) (used : Items) (v : Data) : Type 0 where
+pub record IsUnusedItem (q : Question) (i c n : ℕ) (used : Items) (v : Data) : Type 0 where
   pub part : IsPartOf q c n v
-  pub fresh : any_item (λ u. alike_at (site q i) u v) used ≡ false
+  pub unused : any_item (λ u. alike_at (site q i) u v) used ≡ false
 
--- the first items of m nodes stand behind those that were there
+-- the first items of m nodes come after those that were there
 pub record AddsItems (q : Question) (i m : ℕ) (old new : List Tree) : Type 0 where
   pub added : List Tree
   pub is : new ≡ old ++ added
   pub least : IsLeast items_cmp (AreItems q i m (items_of old)) (items_of added)
 
--- a size for an item that leaves those behind it the rest of m nodes
+-- a size for an item that leaves those after it the rest of m nodes
 abbrev pub FitsItem : Question → ℕ → ℕ → ℕ → ℕ → ℕ → Type 0
 FitsItem q i c t m n = IsSplit (HasSizeAt q c) (HasMore q.pools q.limit (site q i) (t + 1)) m n
 
--- behind the items that were there stands the first fresh item of the least size from `from` on, and then the first items behind it
+-- after the items that were there comes the first unused item of the least size from `from` on, and then the first items after it
 pub record GrowsItems (q : Question) (i c m from : ℕ) (old new : List Tree) : Type 0 where
   pub size : ℕ
   pub one : Tree
   pub least : IsLeastFrom (FitsItem q i c (length old) m) from size
-  pub first : IsLeast tree_cmp (IsFreshItem q i c size (items_of old)) (data_of one)
+  pub first : IsLeast tree_cmp (IsUnusedItem q i c size (items_of old)) (data_of one)
   pub rest : AddsItems q i (m - size) (old ++ one ∷ []) new
 
 abbrev pub AreGrown : Step → Question → ℕ → ℕ → ℕ → ℕ → List Tree → List Tree → Type 0

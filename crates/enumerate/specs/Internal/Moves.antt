@@ -28,8 +28,8 @@ abbrev pub Begins : List ℕ → Members → Type 0
 Begins k no_members = ⊥
 Begins k (member l d ms) = l ≡ k
 
--- the members that stand in the slots are these fillings
-pub record StandIn (P : Pools) (ss : List Slot) (end : Ending) (x : Before) (used : List Data) (members : List Member) (gs : List (Option Data)) : Type 0 where
+-- the members are in the slots, with these fillings
+pub record AreInSlots (P : Pools) (ss : List Slot) (end : Ending) (x : Before) (used : List Data) (members : List Member) (gs : List (Option Data)) : Type 0 where
   pub are : members_of members ≡ members_in ss gs
   pub rest : IsRest P ss end x (filled_nodes gs) used gs
 
@@ -38,28 +38,28 @@ pub record AreNext (P : Pools) (ss : List Slot) (end : Ending) (x : Before) (use
   pub are : members_of members ≡ members_in ss fillings
   pub next : IsNext fill_cmp (IsRest P ss end x (filled_nodes old) used) old (Some fillings)
 
--- the members are the next ones for the slots, behind those before them; or there are none
+-- the members are the next ones for the slots, after those before them; or there are none
 abbrev pub AreMoved : Step → Pools → List Slot → Ending → Before → List Data → List (Option Data) → List Member → Type 0
 AreMoved step.Moved P ss end x used old members = AreNext P ss end x used old members
 AreMoved (step.Last n) P ss end x used old members = IsNext fill_cmp (IsRest P ss end x (filled_nodes old) used) old None × (filled_nodes old ≡ n)
 
--- the items are the next ones, behind the same beginning or another; or there are none
+-- the items are the next ones, after the same beginning or another; or there are none
 abbrev pub AreItemsMoved : Step → Question → ℕ → Items → Items → Type 0
 AreItemsMoved step.Moved q i old new = IsNext items_cmp (AreItems q i (items_count old) no_items) old (Some new)
 AreItemsMoved (step.Last n) q i old new = IsNext items_cmp (AreItems q i (items_count old) no_items) old None × (items_count old ≡ n)
 
--- a member stands in the slot, and others in those behind it
+-- a member is in the slot, and others in those after it
 pub record IsFilled (q : Question) (i place : ℕ) (x : Before) (used : List Data) (one : Member) (others : List Member) (gs : List (Option Data)) : Type 0 where
   pub rest : List (Option Data)
   pub is : gs ≡ Some (data_of one.tree) ∷ rest
   pub name : one.name ≡ (slot_in q i place).name
   pub value : IsValue q.pools (slot_in q i place) (slots_from q i (place + 1)) used (node_count (data_of one.tree)) (data_of one.tree)
-  pub stand : StandIn q.pools (slots_from q i (place + 1)) (ending_at q i) (filled (slot_in q i place).bit x) (still_used (slot_in q i place) (data_of one.tree) used) others rest
+  pub in_slots : AreInSlots q.pools (slots_from q i (place + 1)) (ending_at q i) (filled (slot_in q i place).bit x) (still_used (slot_in q i place) (data_of one.tree) used) others rest
   pub whole : IsRest q.pools (slot_in q i place ∷ slots_from q i (place + 1)) (ending_at q i) x (filled_nodes (Some (data_of one.tree) ∷ rest)) used (Some (data_of one.tree) ∷ rest)
 
--- those behind the member, of so many nodes, have no next ones with it
-pub record AreLastBehind (q : Question) (i place : ℕ) (x : Before) (used : List Data) (one : Member) (others : List Member) (room : ℕ) (gs : List (Option Data)) : Type 0 where
+-- those after the member, of so many nodes, have no next ones with it
+pub record AreLastAfter (q : Question) (i place : ℕ) (x : Before) (used : List Data) (one : Member) (others : List Member) (room : ℕ) (gs : List (Option Data)) : Type 0 where
   pub small : filled_nodes gs ≤ most_nodes
-  pub stood : IsFilled q i place x used one others gs
-  pub room_is : filled_nodes stood.rest ≡ room
-  pub last : IsNext fill_cmp (IsRest q.pools (slots_from q i (place + 1)) (ending_at q i) (filled (slot_in q i place).bit x) (filled_nodes stood.rest) (still_used (slot_in q i place) (data_of one.tree) used)) stood.rest None
+  pub are_filled : IsFilled q i place x used one others gs
+  pub room_is : filled_nodes are_filled.rest ≡ room
+  pub last : IsNext fill_cmp (IsRest q.pools (slots_from q i (place + 1)) (ending_at q i) (filled (slot_in q i place).bit x) (filled_nodes are_filled.rest) (still_used (slot_in q i place) (data_of one.tree) used)) are_filled.rest None

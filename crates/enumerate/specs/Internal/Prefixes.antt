@@ -1,4 +1,4 @@
--- What stands before a place of a row, of which the slots are filled so.
+-- What is before a place of a row whose slots are filled so.
 use Rattle.std.specs.Prelude.{◌≡◌, ℕ, suc, List, [], ◌∷◌, Option, Some, None}
 use Rattle.jtree.specs.Data.{Data, Members, no_members, member}
 use Rattle.jtree.specs.declared.value.Member.{Member}
@@ -18,7 +18,7 @@ before_at (suc place) (s ∷ ss) (None ∷ gs) x = before_at place ss gs x
 before_at (suc place) (s ∷ ss) (Some v ∷ gs) x = before_at place ss gs (filled s.bit x)
 before_at _ _ _ x = x
 
--- the used rows that agree with what stands there
+-- the used rows that agree with what is there
 abbrev pub used_at : ℕ → List Slot → List (Option Data) → List Data → List Data
 used_at (suc place) (s ∷ ss) (None ∷ gs) used = used_at place ss gs used
 used_at (suc place) (s ∷ ss) (Some v ∷ gs) used = used_at place ss gs (still_used s v used)

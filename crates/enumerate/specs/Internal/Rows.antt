@@ -1,4 +1,4 @@
--- What stands in the slots of a row from a place on, where some rows are used already: none of them may have the same under all keys.
+-- What is in the slots of a row from a place on, where some rows are used already: none of them may have the same values under all keys.
 use Rattle.std.specs.Prelude.{◌≡◌, ◌≢◌, ℕ, ◌+◌, ◌-◌, ◌*◌, ◌≤◌, ◌<◌, ◌++◌, List, [], ◌∷◌, Bool, true, false, Option, Some, None, IfSome, map, filter, drop, length, get_or, All, AllPairs, Contains}
 use Rattle.std.specs.Cmp.Lexicographic.{slice_cmp}
 use Rattle.std.specs.declared.cmp.Ordering.{Ordering}
@@ -19,7 +19,7 @@ use Rattle.plan.specs.Samples.NoDeadEnd.{is_key, IsTuple, HasFree}
 use Rattle.plan.specs.Samples.Keys.{key_under, HasTuples}
 use Rattle.plan.specs.Samples.Candidates.{IsWidth}
 use Rattle.plan.specs.Samples.Question.{Question}
-use Rattle.plan.specs.declared.plan.Slot as handed
+use Rattle.plan.specs.declared.plan.Slot as answer
 use Rattle.enumerate.specs.Least.{IsLeast}
 use Rattle.enumerate.specs.Internal.Nodes.{site, IsSplit}
 use Rattle.enumerate.specs.Internal.Candidates.{agreeing_if}
@@ -36,8 +36,8 @@ slot_in q i place = get_or (slots q.pools (site q i)) place no_slot
 abbrev pub ending_at : Question → ℕ → Ending
 ending_at q i = ending_of (site q i)
 
--- a slot that was handed out is the one at this place
-pub record IsSlotOf (q : Question) (i place : ℕ) (t : handed.Slot) : Type 0 where
+-- a slot that the plan answers is the one at this place
+pub record IsSlotOf (q : Question) (i place : ℕ) (t : answer.Slot) : Type 0 where
   pub first : slots_from q i place ≡ slot_in q i place ∷ slots_from q i (place + 1)
   pub name : t.name.now ≡ (slot_in q i place).name
   pub node : site q t.node ≡ (slot_in q i place).site
@@ -49,7 +49,7 @@ pub record IsSlotOf (q : Question) (i place : ℕ) (t : handed.Slot) : Type 0 wh
   pub later : HasTuples q.pools (slots_from q i (place + 1)) t.later
   pub followed : place < 18446744073709551615
 
--- what is left out comes before what stands there
+-- an empty slot comes before a filled one
 abbrev pub option_cmp : Option Data → Option Data → Ordering
 option_cmp None None = Equal
 option_cmp None (Some v) = Less
@@ -77,12 +77,12 @@ used_keys ss used = map (key_under ss) used
 abbrev pub IsUnused : List Slot → List Data → List Data → Type 0
 IsUnused ss used key = Contains (used_keys ss used) key → ⊥
 
--- the slots filled with m nodes, so that the row may end behind them, where this stands before them
+-- the slots filled with m nodes, so that the row may end after them, where this is before them
 pub record IsRest (P : Pools) (ss : List Slot) (end : Ending) (x : Before) (m : ℕ) (used : List Data) (gs : List (Option Data)) : Type 0 where
   pub are : AreFillings P ss gs
   pub ends : MayEnd end (state_after ss gs x)
   pub nodes_are : filled_nodes gs ≡ m
-  pub fresh : IsUnused ss used (key_values ss gs)
+  pub unused : IsUnused ss used (key_values ss gs)
 
 -- used rows have all keys, and no two have the same
 pub record AreUsed (P : Pools) (ss : List Slot) (used : List Data) : Type 0 where
@@ -96,7 +96,7 @@ pub record IsOpen (P : Pools) (ss : List Slot) (end : Ending) (x : Before) (m : 
   pub rest : CanFill P ss end x m
   pub free : HasFree P (filter is_key ss) (used_keys ss used) []
 
--- the first members of m nodes for the slots stand behind those that were there
+-- the first members of m nodes for the slots come after those that were there
 pub record AddsFirst (P : Pools) (ss : List Slot) (end : Ending) (x : Before) (m : ℕ) (used : List Data) (old new : List Member) : Type 0 where
   pub added : List Member
   pub is : new ≡ old ++ added
@@ -104,23 +104,23 @@ pub record AddsFirst (P : Pools) (ss : List Slot) (end : Ending) (x : Before) (m
   pub are : members_of added ≡ members_in ss fillings
   pub least : IsLeast fill_cmp (IsRest P ss end x m used) fillings
 
--- ---- a slot, and those behind it
+-- ---- a slot, and those after it
 
 -- the used rows that agree so far with a value in a slot
 abbrev pub still_used : Slot → Data → List Data → List Data
 still_used s v used = agreeing_if s.key s.name v used
 
--- a part of n nodes for the slot that leaves those behind it some key
+-- a part of n nodes for the slot that leaves those after it some key
 pub record IsValue (P : Pools) (s : Slot) (ss : List Slot) (used : List Data) (n : ℕ) (v : Data) : Type 0 where
   pub part : IsPart P s.site v
   pub nodes_are : node_count v ≡ n
   pub free : HasFree P (filter is_key ss) (used_keys ss (still_used s v used)) []
 
--- a size for the slot that leaves those behind it the rest of m nodes
+-- a size for the slot that leaves those after it the rest of m nodes
 abbrev pub FitsSlot : Pools → Slot → List Slot → Ending → Before → ℕ → ℕ → Type 0
 FitsSlot P s ss end x m n = IsSplit (HasSize P s.site) (CanFill P ss end (filled s.bit x)) m n
 
--- behind the members that were there stands the first value of the least size from `from` on, and then the first members behind it
+-- after the members that were there comes the first value of the least size from `from` on, and then the first members after it
 pub record Grows (P : Pools) (s : Slot) (ss : List Slot) (end : Ending) (x : Before) (m from : ℕ) (used : List Data) (old new : List Member) : Type 0 where
   pub size : ℕ
   pub one : Member

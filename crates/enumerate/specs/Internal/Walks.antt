@@ -22,8 +22,8 @@ pub record IsWalkedTo (q : Question) (i place room : ℕ) (used : List Data) (be
   pub whole : IsRest q.pools (slots_from q i 0) (ending_at q i) nothing (filled_nodes gs) used gs
   pub front : members_of members ≡ members_to place (slots_from q i 0) gs
   pub room_is : filled_nodes (drop place gs) ≡ room
-  pub behind : List Member
-  pub behind_are : members_of behind ≡ members_in (slots_from q i place) (drop place gs)
+  pub after : List Member
+  pub after_are : members_of after ≡ members_in (slots_from q i place) (drop place gs)
   pub last : IsNext fill_cmp (IsRest q.pools (slots_from q i place) (ending_at q i) (before_at place (slots_from q i 0) gs nothing) (filled_nodes (drop place gs)) (used_at place (slots_from q i 0) gs used)) (drop place gs) None
   pub known : (room ≡ 0 → ⊥) → before ≡ before_at place (slots_from q i 0) gs nothing
 

@@ -7,7 +7,7 @@ use Rattle.explain.specs.Paths.FieldPath.{FieldPath, place_of}
 use Rattle.explain.specs.Paths.FieldOrder.{path_cmp}
 use Rattle.explain.specs.Fields.Field.{Field, field_at}
 
--- a node stands at the path, which is not that of the root
+-- there is a node at the path, which is not that of the root
 abbrev pub IsDeclared : Node → FieldPath → Type 0
 IsDeclared root p = (p ≢ []) × ((N : Node) × (node_at root (place_of p) ≡ Some N))
 

@@ -1,4 +1,4 @@
--- What is said of a field: the node at its path, and whether the object above requires it and has a default for it
+-- What a field has: the node at its path, and whether the object above requires it and has a default for it
 -- (OpenAPI 3.0, Schema Object; apiextensions.k8s.io/v1, JSONSchemaProps).
 use Rattle.std.specs.Prelude.{ℕ, List, [], ◌∷◌, Bool, Option, Some, None, option_map, option_and_then}
 use Rattle.jtree.specs.Data.{Data, Items, no_items}
@@ -86,6 +86,6 @@ described root p N = record {
   description = description_of N;
 }
 
--- the field at a path, where a node stands there
+-- the field at a path, where there is a node
 abbrev pub field_at : Node → FieldPath → Option Field
 field_at root p = option_map (described root p) (node_at root (place_of p))

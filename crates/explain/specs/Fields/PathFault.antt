@@ -9,7 +9,7 @@ use Rattle.explain.specs.declared.fault.XFault.TheVariants.{BadPath, NoSuchField
 abbrev pub IsTextOf : (FieldPath → Type 0) → List ℕ → Type 0
 IsTextOf Holds text = (p : FieldPath) × (path_text p ≡ text) × Holds p
 
--- it is the text of no path, or that of one that is not declared
+-- it is not the text of a path, or is that of a path that is not declared
 abbrev pub IsPathFault : (FieldPath → Type 0) → List ℕ → XFault → Type 0
 IsPathFault Declares text BadPath = (p : FieldPath) → path_text p ≢ text
 IsPathFault Declares text NoSuchField = IsTextOf (λ p. Declares p → ⊥) text

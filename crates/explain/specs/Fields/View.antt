@@ -1,4 +1,4 @@
--- What a field of the code stands for.
+-- The plain data that a field of the code represents.
 use Rattle.std.specs.Prelude.{option_map}
 use Rattle.jtree.specs.View.{data_of}
 use Rattle.explain.specs.Fields.Field.{Field}

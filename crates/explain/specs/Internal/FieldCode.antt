@@ -1,4 +1,4 @@
--- Fields as the tuple of what they say, one to one: what a proof needs to tell two of them apart.
+-- Fields as tuples of their parts, one to one: what a proof needs to distinguish two of them.
 use Rattle.std.specs.Prelude.{ℕ, List, Bool, Option, refl}
 use Rattle.std.specs.Coded.{Coded, code_by, coded×, coded_bool, coded_list, coded_option}
 use Rattle.jtree.specs.Data.{Data, Items}

@@ -1,4 +1,4 @@
--- For private contracts: the fields below a node in order, level by level, and how a walk tells them.
+-- For private contracts: the fields below a node in order, level by level, and how a walk lists them.
 use Rattle.std.specs.Prelude.{ℕ, List, [], ◌∷◌, ◌++◌, Bool, false, Option, None, string_bytes}
 use Rattle.std.specs.Prelude as prelude
 use Rattle.jtree.specs.Data.{Data}
@@ -14,18 +14,18 @@ use Rattle.explain.specs.declared.walk.Walk.{Walk}
 
 -- ---- the fields below a node
 
--- what stands at a path, and what the object above says of it
+-- the node at a path, and what the object above says of it
 pub record Entry : Type 0 where
   pub path : FieldPath
   pub required : Bool
   pub default : Option Data
   pub node : Node
 
-abbrev pub behind : FieldStep → Entry → Entry
-behind s e = record { path = s ∷ e.path; required = e.required; default = e.default; node = e.node }
+abbrev pub after_step : FieldStep → Entry → Entry
+after_step s e = record { path = s ∷ e.path; required = e.required; default = e.default; node = e.node }
 
 abbrev pub under : FieldStep → List Entry → List Entry
-under s es = prelude.map (behind s) es
+under s es = prelude.map (after_step s) es
 
 -- the node itself, before what is below it
 abbrev pub whole : Bool → Option Data → Node → List Entry → List Entry
@@ -45,10 +45,10 @@ abbrev mutual
   below_fields no_fields = []
   below_fields (nodes.field k N required default fs) = under (field k) (whole required default N (below N)) ++ below_fields fs
 
--- ---- as it is told
+-- ---- as a field is listed
 
-abbrev pub told_as : List ℕ → Bool → Option Data → Node → Field
-told_as path required default N = record {
+abbrev pub listed_as : List ℕ → Bool → Option Data → Node → Field
+listed_as path required default N = record {
   path = path;
   type_text = type_text N;
   required = required;
@@ -61,20 +61,20 @@ told_as path required default N = record {
   description = description_of N;
 }
 
--- from the place of this text
-abbrev pub told_at : List ℕ → Entry → Field
-told_at at e = told_as (at ++ path_text e.path) e.required e.default e.node
+-- the entry of a node whose path has this text
+abbrev pub listed_at : List ℕ → Entry → Field
+listed_at at e = listed_as (at ++ path_text e.path) e.required e.default e.node
 
--- the text of the place that a walk has come to, and what is told so far
+-- the text of the place that a walk has come to, and what is listed so far
 pub record Progress : Type 0 where
   pub path : List ℕ
-  pub told : List Field
+  pub listed : List Field
 
 abbrev pub progress : Walk → Progress
-progress w = record { path = string_bytes w.path; told = prelude.map field_of w.fields.items }
+progress w = record { path = string_bytes w.path; listed = prelude.map field_of w.fields.items }
 
 abbrev pub noted : Progress → List Field → Progress
-noted p fs = record { path = p.path; told = p.told ++ fs }
+noted p fs = record { path = p.path; listed = p.listed ++ fs }
 
 abbrev pub added : Progress → List Entry → Progress
-added p es = noted p (prelude.map (told_at p.path) es)
+added p es = noted p (prelude.map (listed_at p.path) es)

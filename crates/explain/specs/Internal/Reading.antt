@@ -29,7 +29,7 @@ may_end Step = true
 may_end Name = true
 may_end _ = false
 
--- the rest of the text goes well from a stage
+-- the rest of the text is read without a fault from a stage on
 abbrev pub is_read : Stage → List ℕ → Bool
 is_read stage [] = may_end stage
 is_read stage (b ∷ bs) = is_read (after_byte stage b) bs

@@ -1,4 +1,4 @@
--- The order of fields: a path comes before those that go on from it, and siblings by the bytes of their names (this project's
+-- The order of fields: a path comes before those that continue it, and siblings by the bytes of their names (this project's
 -- own). Items and values have no siblings.
 use Rattle.std.specs.Cmp.Lexicographic.{slice_cmp}
 use Rattle.std.specs.declared.cmp.Ordering.{Ordering}

@@ -1,4 +1,4 @@
--- What a step of the code stands for.
+-- The step that a step of the code represents.
 use Rattle.explain.specs.Paths.FieldPath.{FieldStep, field, item, value}
 use Rattle.explain.specs.declared.path_text.Step.{Step}
 use Rattle.explain.specs.declared.path_text.Step.TheVariants as step

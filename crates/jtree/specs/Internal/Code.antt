@@ -1,4 +1,4 @@
--- Trees as trees of numbers, one to one: what a proof needs to tell two of them apart.
+-- Trees as trees of numbers, one to one: what a proof needs to distinguish two of them.
 use Rattle.std.specs.Prelude.{◌≡◌, ℕ, List}
 use Rattle.std.specs.Coded.{Coded, coded_ℕ, coded_ℤ, coded_bool, coded_list}
 use Rattle.std.proofs.Common.{ap, refl}

@@ -1,4 +1,4 @@
--- The way to the last node of a tree, and what stands before and after its text in the compact text of the tree.
+-- The way to the last node of a tree, and what precedes and follows its text in the compact text of the tree.
 use Rattle.std.specs.Prelude.{◌-◌, ◌^◌, ℕ, List, [], ◌∷◌, ◌++◌, length, min, Bool, true, false, Option, Some, None}
 use Rattle.json.specs.Print.{quoted}
 use Rattle.serde_json.specs.Written.{comma_if}

@@ -1,4 +1,4 @@
--- The laws of lookups: by name in members that stand in order, and of parts at joined paths.
+-- The laws of lookups: by name in members that are in order, and of parts at joined paths.
 use Rattle.std.proofs.Common.{◌≡◌, ◌⊎◌, ℕ, List, [], ◌∷◌, ◌++◌, Bool, true, false, Option, Some, None, refl, sym, ◌∙◌, subst, inl, inr}
 use Rattle.std.specs.Str.{bytes_eq}
 use Rattle.std.specs.declared.cmp.Ordering.TheVariants.{Less, Equal, Greater}
@@ -70,14 +70,14 @@ before_each k (member m e ms) l d before object found = elim (bool_cases (bytes_
   | inr f ↦ before_each k ms l d (IsNameBefore-trans k m ms before object.1) object.2 (sym (member_later l m e ms f) ∙ found)
 ]
 
--- and is no name of them
+-- and is not among their names
 pub before_none : (k : List ℕ) (ms : Members) → IsNameBefore k ms → AreMembers ms → member_at k ms ≡ None
 before_none k ms before object = elim (option_cases (member_at k ms)) [
   | inl none ↦ none
   | inr found ↦ absurd (not_itself k k refl (before_each k ms k found.0 before object found.1))
 ]
 
--- what stands under a name further on stands under it in the whole
+-- a lookup that finds a name among the later members finds it among all
 pub member_tail : (l : List ℕ) (e : Data) (ms : Members) (k : List ℕ) (d : Data) → AreMembers (member l e ms) → member_at k ms ≡ Some d → member_at k (member l e ms) ≡ Some d
 member_tail l e ms k d object found = member_later k l e ms (later_name k l (before_each l ms k d object.1 object.2 found)) ∙ found
 

@@ -29,7 +29,7 @@ rank_total = then_total (on_total nodes nat_cmp_total) (on_total kind nat_cmp_to
 pub text_total : IsTotalOrder text_cmp
 text_total = nat_list_cmp_total
 
--- names compare turned round
+-- names compared the other way round
 pub name_total : IsTotalOrder (flip_args text_cmp)
 name_total = back_total text_total
 
@@ -47,7 +47,7 @@ bool_same true true p = refl
 bool_same false false p = refl
 bool_same _ _ p = cc
 
--- ---- turned round
+-- ---- the other way round
 
 then_turn : (a b c d : Ordering) → a ≡ ordering_reverse c → (a ≡ Equal → b ≡ ordering_reverse d)
     → ordering_then a b ≡ ordering_reverse (ordering_then c d)
@@ -87,7 +87,7 @@ mutual
       (λ (p : text_cmp l k ≡ Equal). then_turn (tree_cmp d e) (members_cmp ms ns) (tree_cmp e d) (members_cmp ns ms)
       (ranked_turn d e (content_turn d e)) (λ (q : tree_cmp d e ≡ Equal). members_turn ms ns))
 
--- ---- in a row: what an order answers at x and y, y and z, and x and z
+-- ---- transitivity: what an order answers at x and y, y and z, and x and z
 
 pub record Chains (a b c : Ordering) : Type 0 where
   pub less : a ≡ Less → b ≡ Less → c ≡ Less
@@ -187,7 +187,7 @@ tree_total = record {
   congr = λ u v w. (tree_chains u v w).left;
 }
 
--- ---- who ties
+-- ---- what ties
 
 ranked_same : (u v : Data) → (kind u ≡ kind v → content_cmp u v ≡ Equal → u ≡ v) → tree_cmp u v ≡ Equal → u ≡ v
 ranked_same u v h p =

@@ -1,5 +1,5 @@
--- What the entries of a plan stand for: each for the site of its number.
-use Rattle.std.specs.Prelude.{◌≡◌, ℕ, ◌+◌, ◌^◌, ◌<◌, List, [], ◌∷◌, length, get_or, drop, Some, All, IfSome}
+-- What the entries of a plan represent: each the site of its number.
+use Rattle.std.specs.Prelude.{◌≡◌, ℕ, ◌+◌, ◌^◌, ◌≤◌, ◌<◌, List, [], ◌∷◌, length, get_or, drop, Some, All, IfSome}
 use Rattle.schema.specs.Nodes.Junctors.{most_named}
 use Rattle.plan.specs.Pools.Pools.{Pools}
 use Rattle.plan.specs.Samples.Sites.{Site, site_at, item_site, Slot, slots}
@@ -23,6 +23,15 @@ use Rattle.plan.specs.declared.arena.ListEntry.{ListEntry}
 use Rattle.plan.specs.declared.arena.Content.{Content}
 use Rattle.plan.specs.declared.arena.Content.TheVariants as content
 use Rattle.plan.specs.declared.arena.Entry.{Entry}
+use Rattle.plan.specs.declared.arena.Arena.{Arena}
+
+-- a limit that a plan can have, where sets of sizes hold numbers below `bits`
+abbrev pub IsLimit : ℕ → ℕ → Type 0
+IsLimit bits limit = (1 ≤ limit) × (limit < bits)
+
+-- the values and the limit are the same
+abbrev pub IsKept : {Z : Type 0} → Arena Z → Arena Z → Type 0
+IsKept old new = (new.values ≡ old.values) × (new.limit ≡ old.limit)
 
 -- the entry of a number
 abbrev pub IsEntry : {Z : Type 0} → List (Entry Z) → ℕ → Entry Z → Type 0
@@ -59,7 +68,7 @@ AreChosen es [] [] = Unit {0}
 AreChosen es (c ∷ cs) (x ∷ xs) = IsChosen es c x × AreChosen es cs xs
 AreChosen es _ _ = ⊥
 
--- how many tuples the keys behind each slot have, where keys are leaves
+-- how many tuples the keys after each slot have, where keys are leaves
 abbrev pub AreLater : Pools → List Slot → List ℕ → Type 0
 AreLater P ss ns = (k n : ℕ) → k < length ns → AreKeysLeaves (drop (k + 1) ss) → HasTuples P (drop (k + 1) ss) (get_or ns k n)
 
@@ -94,10 +103,10 @@ pub record IsRight {Z : Type 0} (holds : Z → ℕ → Type 0) (limit : ℕ) (P 
   pub nullable : e.nullable ≡ admits_null (site_at sites i)
   pub content : HasContent holds limit P v sites i e.content
 
--- the entries stand for the first of these sites
+-- the entries represent the first of these sites
 abbrev pub AreRight : {Z : Type 0} → (Z → ℕ → Type 0) → ℕ → Pools → Values → List Site → List (Entry Z) → Type 0
 AreRight {Z} holds limit P v sites es = (i : ℕ) (e : Entry Z) → i < length es → IsRight holds limit P v sites i (get_or es i e)
 
--- these sites stand from a number on
-abbrev pub Stand : List Site → ℕ → List Site → Type 0
-Stand sites start xs = (j : ℕ) (s : Site) → j < length xs → site_at sites (start + j) ≡ get_or xs j s
+-- these sites have the numbers from `start` on
+abbrev pub AreSitesFrom : List Site → ℕ → List Site → Type 0
+AreSitesFrom sites start xs = (j : ℕ) (s : Site) → j < length xs → site_at sites (start + j) ≡ get_or xs j s

@@ -1,4 +1,4 @@
--- What is added to a plan for a node: entries for its sites, each behind those below it.
+-- What is added to a plan for a node: entries for its sites, each after those below it.
 use Rattle.std.specs.Prelude.{◌≡◌, ℕ, ◌+◌, ◌^◌, ◌≤◌, ◌<◌, List, length, Bool, Option, All, ◌||◌, is_some}
 use Rattle.jtree.specs.Data.{Data}
 use Rattle.schema.specs.Document.Texts.{is_among}
@@ -10,12 +10,12 @@ use Rattle.plan.specs.Samples.Presence.{bit_of}
 use Rattle.plan.specs.Samples.Sites.{Site, sites_from, sites_of_fields, field_slots}
 use Rattle.plan.specs.Internal.Tables.{IsClosed}
 use Rattle.plan.specs.Internal.Values.{AreValues}
-use Rattle.plan.specs.Internal.Arena.{Stand, AreRight, AreSlots, name_of}
+use Rattle.plan.specs.Internal.Arena.{AreSitesFrom, AreRight, AreSlots, name_of}
 use Rattle.plan.specs.declared.values.Values.{Values}
 use Rattle.plan.specs.declared.arena.Entry.{Entry}
 use Rattle.plan.specs.declared.arena.SlotEntry.{SlotEntry}
 
--- the items of each list can be told apart where that is asked, and the junctors of each object name few fields
+-- the items of each list can be distinguished where that is required, and the junctors of each object name few fields
 abbrev mutual
   pub IsSound : Node → Type 0
   IsSound (node nullable description sort) = HasSoundItems (node nullable description sort) × HasSoundJunctors (node nullable description sort) × IsSortSound sort
@@ -34,7 +34,7 @@ abbrev mutual
 pub record IsBuilt {Z : Type 0} (holds : Z → ℕ → Type 0) (limit : ℕ) (P : Pools) (v : Values) (old new : List (Entry Z)) (path : List ℕ) (N : Node) (keys : List (List ℕ)) (n : ℕ) : Type 0 where
   pub count : length new ≡ length old + length (sites_from path N keys)
   pub last : n + 1 ≡ length new
-  pub right : (sites : List Site) → AreValues P v → IsSound N → Stand sites (length old) (sites_from path N keys)
+  pub right : (sites : List Site) → AreValues P v → IsSound N → AreSitesFrom sites (length old) (sites_from path N keys)
       → AreRight holds limit P v sites old → AreRight holds limit P v sites new
 
 -- the slot of a field
@@ -49,6 +49,6 @@ pub record AreBuilt {Z : Type 0} (holds : Z → ℕ → Type 0) (limit : ℕ) (P
   pub count : length new ≡ length old + length (sites_of_fields path fs)
   pub below : All (λ (s : SlotEntry). s.node < length new) slots
   pub bits : All (λ (s : SlotEntry). IsClosed (2 ^ length named) s.bit) slots
-  pub right : (sites : List Site) → AreValues P v → AreFieldsSound fs → Stand sites (length old) (sites_of_fields path fs)
+  pub right : (sites : List Site) → AreValues P v → AreFieldsSound fs → AreSitesFrom sites (length old) (sites_of_fields path fs)
       → AreRight holds limit P v sites old → AreRight holds limit P v sites new
-  pub slots_are : (names : List (List ℕ)) (sites : List Site) (i : ℕ) → Stand sites (length old) (sites_of_fields path fs) → length new ≤ i → AreSlots names sites i slots (field_slots path keys named fs)
+  pub slots_are : (names : List (List ℕ)) (sites : List Site) (i : ℕ) → AreSitesFrom sites (length old) (sites_of_fields path fs) → length new ≤ i → AreSlots names sites i slots (field_slots path keys named fs)

@@ -17,7 +17,7 @@ pub record CanFollow (P : Pools) (M : Site) (b : Bounds) (t m : ℕ) : Type 0 wh
   pub within : IsWithin b (t + fault.items_count items)
   pub nodes_are : items_count items ≡ m
 
--- some list of parts with at most as many nodes as the limit has at least t items, and those behind the first t have m nodes
+-- some list of parts with at most as many nodes as the limit has at least t items, and those after the first t have m nodes
 pub record HasMoreFree (P : Pools) (limit : ℕ) (M : Site) (b : Bounds) (t m : ℕ) : Type 0 where
   pub items : Items
   pub are : AreParts P M items
@@ -36,7 +36,7 @@ pub record HasMoreApart (P : Pools) (limit : ℕ) (M : Site) (alike : Data → D
   pub many : t ≤ fault.items_count items
   pub nodes_are : items_count (items_from t items) ≡ m
 
--- at most so many, where there are no more to be had
+-- at most this many, where there are no more
 abbrev pub most_or : Option ℕ → ℕ → ℕ
 most_or None n = n
 most_or (Some m) n = min m n

@@ -1,4 +1,4 @@
--- The entries of a plan stand for the sites of its schema.
+-- The entries of a plan represent the sites of its schema.
 use Rattle.std.specs.Prelude.{◌≡◌, ℕ, ◌+◌, ◌≤◌, ◌<◌, List, length}
 use Rattle.schema.specs.Nodes.Node.{Node}
 use Rattle.plan.specs.Pools.Pools.{Pools}

@@ -9,13 +9,13 @@ use Rattle.plan.specs.declared.pool_form.EntryKind.TheVariants as code
 use Rattle.plan.specs.declared.pool_form.PoolForm.{PoolForm as CodeForm}
 use Rattle.plan.specs.declared.pool_form.PoolForm.TheVariants as form
 
--- what a kind of the code asks of an entry
+-- the test of an entry for a kind of the code
 abbrev pub test_of : EntryKind → Data → Bool
 test_of code.Integer = is_integer
 test_of code.Text = is_text
 test_of code.Any = λ d. true
 
--- what a form of the code asks of a member
+-- the form of a member for a form of the code
 abbrev pub form_of : CodeForm → PoolForm
 form_of (form.Entries kind) = entries (test_of kind)
 form_of form.Lists = lists
@@ -38,7 +38,7 @@ abbrev pub other_item : (Data → Bool) → Items → Option ℕ
 other_item test no_items = None
 other_item test (item d ds) = if test d then option_map suc (other_item test ds) else Some 0
 
--- at its name, where a member is no list
+-- at its name, where a member is not a list
 abbrev pub list_break : List ℕ → Data → Option Path
 list_break k d = below_name k (if is_list d then None else Some [])
 

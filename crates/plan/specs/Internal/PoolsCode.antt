@@ -1,4 +1,4 @@
--- Pools as the tuple of their lists, one to one: what a proof needs to tell two of them apart.
+-- Pools as the tuple of their lists, one to one: what a proof needs to distinguish two of them.
 use Rattle.std.specs.Prelude.{ℤ, ℕ, List, refl}
 use Rattle.std.specs.Coded.{Coded, code_by, coded×, coded_list, coded_ℤ}
 use Rattle.jtree.specs.Data.{Data, Members}

@@ -1,4 +1,4 @@
--- What the tables of a plan hold. A set stands for the numbers that it holds.
+-- What the tables of a plan hold. A set represents the numbers that it holds.
 use Rattle.std.specs.Prelude.{◌≡◌, ℕ, ◌+◌, ◌-◌, ◌^◌, ◌<◌, List, [], ◌∷◌, length, get_or, drop, Bool, Option, IfSome}
 use Rattle.std.specs.declared.vec.Vec.{Vec}
 use Rattle.std.specs.declared.alloc.Global.{Global}
@@ -23,7 +23,7 @@ pub record AreMet (cs : Validations) (ends : List Bool) : Type 0 where
   pub whole : length ends ≡ 2 ^ length (named cs)
   pub each : (seen : ℕ) (b : Bool) → seen < length ends → get_or ends seen b ≡ meets_seen cs seen
 
--- the choices have the sizes of the slots' sites, say under which something must stand, and which named field each is
+-- the choices have the sizes of the slots' sites, say which of them have to be filled, and which named field each is
 abbrev pub AreChoices : {Z : Type 0} → (Z → ℕ → Type 0) → ℕ → Pools → List (Choice Z) → List Slot → Type 0
 AreChoices holds limit P [] [] = Unit {0}
 AreChoices holds limit P (c ∷ cs) (s ∷ ss) = IsUpTo limit (holds c.sizes) (HasSize P s.site) × (c.must ≡ s.must) × (c.bit ≡ s.bit) × AreChoices holds limit P cs ss
@@ -33,16 +33,16 @@ AreChoices holds limit P _ _ = ⊥
 abbrev pub IsLevel : {Z : Type 0} → (Z → ℕ → Type 0) → ℕ → Ending → Pools → List Slot → ℕ → List Z → Type 0
 IsLevel {Z} holds limit e P ss seen level = (t : ℕ) (z : Z) → t < length level → IsUpTo limit (holds (get_or level t z)) (CanFill P ss e (record { count = t; seen = seen }))
 
--- so it is for each set of the named fields
+-- the same for each set of the named fields
 abbrev pub IsTable : {Z : Type 0} → (Z → ℕ → Type 0) → ℕ → Ending → Pools → List Slot → List (Vec Z Global) → Type 0
 IsTable {Z} holds limit e P ss table = (seen : ℕ) (d : Vec Z Global) → seen < length table → IsLevel holds limit e P ss seen (get_or table seen d).items
 
--- a table has a level for each set of the named fields, with a set for each of so many numbers of members
+-- a table has a level for each of `kinds` sets of the named fields, with a set for each of `width` numbers of members
 pub record HasShape {Z : Type 0} (kinds width : ℕ) (table : List (Vec Z Global)) : Type 0 where
   pub whole : length table ≡ kinds
   pub wide : (seen : ℕ) (d : Vec Z Global) → seen < length table → length (get_or table seen d).items ≡ width
 
--- the tables, that of the last place first, have a set for each number of members that may stand before the place
+-- the tables, that of the last place first, have a set for each number of members that there may be before the place
 abbrev pub AreShaped : {Z : Type 0} → ℕ → ℕ → List (Vec (Vec Z Global) Global) → Type 0
 AreShaped {Z} count kinds tables = (k : ℕ) (d : Vec (Vec Z Global) Global) → k < length tables → HasShape kinds (count + 1 - k) (get_or tables k d).items
 

@@ -7,7 +7,7 @@ use Rattle.jtree.specs.Kind.{is_integer, is_text, is_list, is_object}
 use Rattle.jtree.specs.Path.{name, index, Path, item_at, member_at, under}
 use Rattle.plan.specs.Pools.Pools.{Pools, items_list}
 
--- what a member has to be: a list of entries that pass a test, or an object of lists; no pool has another name
+-- the form of a member: a list of entries that pass a test, or an object of lists; no pool has another name
 pub data PoolForm : Type 0 where
   entries : (Data → Bool) → PoolForm
   lists : PoolForm
@@ -22,8 +22,8 @@ pool_form k =
     if bytes_eq k (codes "any") then entries (λ d. true) else
     if bytes_eq k (codes "paths") then lists else unknown
 
--- where a member breaks the form, counted from the member: at itself where its name is no pool's or it is no list, or no object of
--- lists, and at each entry of another kind
+-- where a member breaks the form, counted from the member: at itself where its name is not that of a pool or it is not a list, or
+-- not an object of lists, and at each entry of another kind
 pub data BreaksPool : PoolForm → Data → Path → Type 0 where
   other_name : (d : Data) → BreaksPool unknown d []
   no_list : (test : Data → Bool) (d : Data) → is_list d ≡ false → BreaksPool (entries test) d []
@@ -31,7 +31,7 @@ pub data BreaksPool : PoolForm → Data → Path → Type 0 where
   no_lists : (d : Data) → is_object d ≡ false → BreaksPool lists d []
   no_list_at : (ms : Members) (k : List ℕ) (v : Data) → member_at k ms ≡ Some v → is_list v ≡ false → BreaksPool lists (object ms) (name k ∷ [])
 
--- where a document breaks the form: at itself where it is no object, and where its members do
+-- where a document breaks the form: at itself where it is not an object, and where its members do
 pub data BreaksForm : Data → Path → Type 0 where
   no_object : (d : Data) → is_object d ≡ false → BreaksForm d []
   in_member : (ms : Members) (k : List ℕ) (v : Data) (path : Path) → member_at k ms ≡ Some v → BreaksPool (pool_form k) v path → BreaksForm (object ms) (name k ∷ path)

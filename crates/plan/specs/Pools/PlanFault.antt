@@ -1,5 +1,5 @@
--- Why there is no plan: a node limit that sets of sizes have no room for, or a path of the pools that leads to no scalar and no open
--- node of the schema (this project's own).
+-- Why there is no plan: a node limit that is too great for the sets of sizes, or a path of the pools that leads to neither a scalar nor
+-- an open node of the schema (this project's own).
 use Rattle.std.specs.Prelude.{◌≡◌, ◌≢◌, ◌≤◌, ◌<◌, ◌⊎◌, ℕ, List, Some, string_bytes}
 use Rattle.std.specs.declared.cmp.Ordering.TheVariants.{Less}
 use Rattle.jtree.specs.Data.{Data}
@@ -16,7 +16,7 @@ use Rattle.plan.specs.declared.sort.Sort.TheVariants.{Leaf}
 use Rattle.plan.specs.declared.fault.PFault.{PFault}
 use Rattle.plan.specs.declared.fault.PFault.TheVariants.{BadLimit, BadPath, NoMemory}
 
--- the text is that of a declared path at which a scalar or an open node stands
+-- the text is that of a declared path at which there is a scalar or an open node
 abbrev pub IsLeafPath : Node → List ℕ → Type 0
 IsLeafPath root text = IsTextOf (λ p. IsDeclared root p × ((N : Node) × ((node_at root (place_of p) ≡ Some N) × (sort_at N ≡ Leaf)))) text
 

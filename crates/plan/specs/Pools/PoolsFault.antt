@@ -1,4 +1,4 @@
--- What a fault says of a pools document: its first break, or that a pool has too many entries. A bad limit is none of its faults
+-- What a fault says of a pools document: its first break, or that a pool has too many entries. A bad limit is not one of its faults
 -- (this project's own).
 use Rattle.std.specs.Prelude.{◌≡◌, string_bytes}
 use Rattle.jtree.specs.Data.{Data}

@@ -24,7 +24,7 @@ sort_at _ = Row
 abbrev pub sort_of : Site → Sort
 sort_of s = sort_at s.node
 
--- which items may not stand in one list (`x-kubernetes-list-type`)
+-- which items may not be in one list (`x-kubernetes-list-type`)
 abbrev pub distinct_by : ListType → Distinct
 distinct_by list_type.Set = Whole
 distinct_by list_type.Map = Keys
@@ -42,7 +42,7 @@ pub record AreCandidates (P : Pools) (s : Site) (vs : List Data) : Type 0 where
   pub each : (v : Data) → Contains vs v ↔ IsPart P s v
   pub ascending : AllPairs (λ u v. tree_cmp u v ≡ Less) vs
 
--- the site has so many candidates
+-- the site has this many candidates
 pub record HasCount (P : Pools) (s : Site) (count : ℕ) : Type 0 where
   pub candidates : List Data
   pub are : AreCandidates P s candidates

@@ -1,5 +1,5 @@
--- What the rules of a schema make of the slots and the items of a site: slots stand in the order of their names, keys are always
--- there, and the items of sets and map lists can be told apart (apiextensions.k8s.io/v1, merge strategies).
+-- What the rules of a schema make of the slots and the items of a site: slots are in the order of their names, keys are always
+-- there, and the items of sets and map lists can be distinguished (apiextensions.k8s.io/v1, merge strategies).
 use Rattle.std.specs.Prelude.{◌≡◌, ℕ, ◌-◌, ◌^◌, ◌≤◌, ◌↔◌, List, [], ◌∷◌, true, false, Some, map, filter, min, unwrap_or, Contains}
 use Rattle.std.specs.declared.cmp.Ordering.TheVariants.{Less}
 use Rattle.jtree.specs.Data.{Data, Items, Members}
@@ -24,7 +24,7 @@ abbrev pub AreInOrder : List Slot → Type 0
 AreInOrder [] = Unit {0}
 AreInOrder (s ∷ ss) = ((t : Slot) → Contains ss t → text_cmp s.name t.name ≡ Less) × AreInOrder ss
 
--- something must stand under a key: a scalar, and no null
+-- a key has to have a value: a scalar, and not null
 pub record IsKeySlot (P : Pools) (s : Slot) : Type 0 where
   pub must : s.must ≡ true
   pub leaf : sort_of s.site ≡ Leaf
@@ -34,7 +34,7 @@ pub record IsKeySlot (P : Pools) (s : Slot) : Type 0 where
 abbrev pub AreKeySlots : Pools → List Slot → Type 0
 AreKeySlots P ss = (s : Slot) → Contains ss s → s.key ≡ true → IsKeySlot P s
 
--- how many tuples of candidates the keys among the slots have; the number stays at its greatest
+-- how many tuples of candidates the keys among the slots have; the number saturates
 abbrev pub HasTuples : Pools → List Slot → ℕ → Type 0
 HasTuples P ss n = (counts : List ℕ) × (AreCounts P (filter is_key ss) counts × (n ≡ min (product counts) (2 ^ 64 - 1)))
 

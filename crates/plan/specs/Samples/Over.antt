@@ -32,7 +32,7 @@ listed_for P (node nullable description (scalar kind cs)) = choices_or (constrai
 listed_for P (node nullable description open_) = P.any
 listed_for P _ = []
 
--- what is listed for a scalar or an open node at a path, besides null: a list for the path stands in place of all else
+-- what is listed for a scalar or an open node at a path, besides null: a list for the path replaces all else
 abbrev pub listed : Pools → List ℕ → Node → List Data
 listed P path N = unwrap_or (list_at path P) (listed_for P N)
 
@@ -55,8 +55,8 @@ is_over_here P path N v = true
 
 -- ---- and with its parts
 
--- the step to a field's node leads to the node of what this step leads to: under a name stands the field of the name, or a value of a
--- map, and at an index an item
+-- the step to a field's node leads to the node of what this step leads to: under a name there is the field of the name, or a value of
+-- a map, and at an index an item
 abbrev pub StepFollows : Step → FieldStep → Type 0
 StepFollows (part.name k) (field l) = k ≡ l
 StepFollows (part.name k) value = Unit {0}

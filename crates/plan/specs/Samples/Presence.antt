@@ -30,6 +30,6 @@ with_bit (Some j) seen = bit_or seen (2 ^ j)
 abbrev pub meets_seen : Validations → ℕ → Bool
 meets_seen cs seen = meets_presence cs (λ k. is_set (bit_of k (named cs)) seen)
 
--- nothing is asked
+-- no constraints
 abbrev pub no_validations : Validations
 no_validations = validations (presence []) no_branches no_branches no_branches no_branches

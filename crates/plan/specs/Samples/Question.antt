@@ -1,4 +1,4 @@
--- What a plan stands for: a schema's root, pools and a node limit (this project's own).
+-- The question that a plan answers: a schema's root, pools and a node limit (this project's own).
 use Rattle.std.specs.Prelude.{ℕ, refl}
 use Rattle.std.specs.Coded.{Coded, code_by, coded×, coded_ℕ}
 use Rattle.schema.specs.Nodes.Node.{Node}

@@ -1,4 +1,4 @@
--- What the parts of a site are, by what the slots of a row and the items of a list can take (this project's own).
+-- What the parts of a site are, by the content of the slots of a row and of the items of a list (this project's own).
 use Rattle.std.specs.Prelude.{◌≡◌, ◌≤◌, ◌⊎◌, ◌↔◌, ℕ, List, ◌∷◌, length, Bool, true, false, Option, Some, None, Contains}
 use Rattle.jtree.specs.Data.{Data, Items, no_items, item, Members, no_members, member}
 use Rattle.jtree.specs.Data as tree
@@ -15,7 +15,7 @@ use Rattle.plan.specs.Samples.Candidates.{sort_of, AreCandidates}
 use Rattle.plan.specs.Samples.Sizes.{AreFillings, nothing, state_after, HasRest, HasMore}
 use Rattle.plan.specs.declared.sort.Sort.TheVariants.{Leaf, Row, List as ListSort}
 
--- the members that stand in the slots
+-- the members in the slots
 abbrev pub members_in : List Slot → List (Option Data) → Members
 members_in (s ∷ ss) (None ∷ gs) = members_in ss gs
 members_in (s ∷ ss) (Some v ∷ gs) = member s.name v (members_in ss gs)
@@ -26,7 +26,7 @@ abbrev pub AreParts : Pools → Site → Items → Type 0
 AreParts P s no_items = Unit {0}
 AreParts P s (item d ds) = IsPart P s d × AreParts P s ds
 
--- two items that may not stand in one list: in a set equal ones, in a map list those that agree on all keys
+-- two items that may not be in one list: in a set equal ones, in a map list those that agree on all keys
 abbrev pub alike_by : Node → Data → Data → Bool
 alike_by (node nullable description (list N type keys bounds)) v w = are_alike type keys v w
 alike_by N v w = false
@@ -41,7 +41,7 @@ admits_null s = is_nullable s.node
 abbrev pub IsNullPart : Site → Data → Type 0
 IsNullPart s v = (v ≡ tree.null) × (admits_null s ≡ true)
 
--- an object in whose slots parts stand, and which may end behind them
+-- an object whose slots hold parts, and which may end after them
 pub record IsRowPart (P : Pools) (s : Site) (v : Data) : Type 0 where
   pub fillings : List (Option Data)
   pub is : v ≡ tree.object (members_in (slots P s) fillings)
@@ -56,8 +56,8 @@ pub record IsListPart (P : Pools) (limit : ℕ) (s M : Site) (v : Data) : Type 0
   pub apart : are_apart (alike_at s) items ≡ true
   pub ends : HasMore P limit s (fault.items_count items) 0
 
--- A value is a part exactly: at a leaf, where it is a candidate; at a row, where it is null and that is accepted, or where parts
--- stand in its slots; at a list, whose items have one site, where it is null and that is accepted, or a list of parts. A list has
+-- A value is a part exactly: at a leaf, where it is a candidate; at a row, where it is null and that is accepted, or where its
+-- slots hold parts; at a list, whose items have one site, where it is null and that is accepted, or a list of parts. A list has
 -- at most as many nodes as the limit.
 pub record RuleOfParts (P : Pools) (limit : ℕ) (s : Site) : Type 0 where
   pub leaf : (v : Data) → sort_of s ≡ Leaf → IsPart P s v ↔ ((vs : List Data) × (AreCandidates P s vs × Contains vs v))

@@ -18,6 +18,6 @@ plain path N = record { node = N; keys = []; path = path }
 abbrev pub root_site : Node → Site
 root_site N = plain [] N
 
--- the path that goes on by a step
+-- the path extended by a step
 abbrev pub below : List ℕ → FieldStep → List ℕ
 below path s = path ++ step_text s

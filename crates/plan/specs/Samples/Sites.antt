@@ -11,11 +11,11 @@ use Rattle.plan.specs.Samples.Names.{in_order}
 use Rattle.plan.specs.Samples.Presence.{named, bit_of}
 pub use Rattle.plan.specs.Samples.Site.{Site, plain, root_site, below}
 
--- what stands for a site where there is none
+-- a site to answer where there is none
 abbrev pub no_site : Site
 no_site = plain [] (node false None open_)
 
--- the names that tell the items of a list apart
+-- the keys of the items of a list
 abbrev pub item_keys : ListType → List (List ℕ) → List (List ℕ)
 item_keys Map keys = keys
 item_keys _ keys = []
@@ -47,14 +47,14 @@ abbrev mutual
 abbrev pub sites_of : Node → List Site
 sites_of root = sites_from [] root []
 
--- the site of a number: a node of a plan is a number, and stands for this site
+-- the site of a number: a node of a plan is a number, and represents this site
 abbrev pub site_at : List Site → ℕ → Site
 site_at sites i = get_or sites i no_site
 
 -- ---- slots
 
--- a name under which a member may stand: the site of what stands there, whether something must stand there, whether the name is a
--- key, and its place among the fields that the junctors name
+-- a name under which there may be a member: the site of its value, whether it has to be there, whether the name is a key, and its
+-- place among the fields that the junctors name
 pub record Slot : Type 0 where
   pub name : List ℕ
   pub site : Site
@@ -62,11 +62,11 @@ pub record Slot : Type 0 where
   pub key : Bool
   pub bit : Option ℕ
 
--- what stands for a slot where there is none
+-- a slot to answer where there is none
 abbrev pub no_slot : Slot
 no_slot = record { name = []; site = no_site; must = false; key = false; bit = None }
 
--- something must stand under a field that is required or has a default
+-- a field that is required or has a default has to be there
 abbrev pub field_slots : List ℕ → List (List ℕ) → List (List ℕ) → Fields → List Slot
 field_slots path keys names no_fields = []
 field_slots path keys names (field k N required default fs) =

@@ -25,20 +25,20 @@ pub record HasSize (P : Pools) (s : Site) (n : ℕ) : Type 0 where
 
 -- ---- objects and maps
 
--- what stands in each slot: nothing where nothing must, or a part of the slot's site
+-- the content of each slot: nothing, where the slot may stay empty, or a part of the slot's site
 abbrev pub AreFillings : Pools → List Slot → List (Option Data) → Type 0
 AreFillings P [] [] = Unit {0}
 AreFillings P (s ∷ ss) (None ∷ gs) = (s.must ≡ false) × AreFillings P ss gs
 AreFillings P (s ∷ ss) (Some v ∷ gs) = IsPart P s.site v × AreFillings P ss gs
 AreFillings P _ _ = ⊥
 
--- how many nodes stand in the slots
+-- the number of nodes in the slots
 abbrev pub filled_nodes : List (Option Data) → ℕ
 filled_nodes [] = 0
 filled_nodes (None ∷ gs) = filled_nodes gs
 filled_nodes (Some v ∷ gs) = node_count v + filled_nodes gs
 
--- what stands before a place: how many slots are filled, and which named fields are among them
+-- the state before a place: how many slots are filled, and which named fields are among them
 pub record Before : Type 0 where
   pub count : ℕ
   pub seen : ℕ
@@ -50,7 +50,7 @@ nothing = record { count = 0; seen = 0 }
 abbrev pub filled : Option ℕ → Before → Before
 filled bit x = record { count = x.count + 1; seen = with_bit bit x.seen }
 
--- what stands behind the slots
+-- the state after the slots
 abbrev pub state_after : List Slot → List (Option Data) → Before → Before
 state_after (s ∷ ss) (None ∷ gs) x = state_after ss gs x
 state_after (s ∷ ss) (Some v ∷ gs) x = state_after ss gs (filled s.bit x)
@@ -66,7 +66,7 @@ bounds_at _ = record { least = None; most = None }
 abbrev pub bounds_of : Site → Bounds
 bounds_of s = bounds_at s.node
 
--- what is asked of a row where it ends: bounds on the number of its members, and its junctors
+-- the conditions on a row where it ends: bounds on the number of its members, and its junctors
 pub record Ending : Type 0 where
   pub bounds : Bounds
   pub asked : Validations
@@ -78,18 +78,18 @@ ending_at N = record { bounds = bounds_at N; asked = no_validations }
 abbrev pub ending_of : Site → Ending
 ending_of s = ending_at s.node
 
--- a row may end behind this
+-- a row may end in this state
 abbrev pub MayEnd : Ending → Before → Type 0
 MayEnd e x = IsWithin e.bounds x.count × (meets_seen e.asked x.seen ≡ true)
 
--- the slots can be filled so that m nodes stand in them, and that the row may end behind them where this stands before them
+-- the slots can be filled with m nodes in all, so that the row, with this state before them, may end after them
 pub record CanFill (P : Pools) (ss : List Slot) (e : Ending) (x : Before) (m : ℕ) : Type 0 where
   pub fillings : List (Option Data)
   pub are : AreFillings P ss fillings
   pub ends : MayEnd e (state_after ss fillings x)
   pub nodes_are : filled_nodes fillings ≡ m
 
--- the slots from a place on can so be filled with m nodes
+-- the slots from a place on can be filled with m nodes so that the row may end
 abbrev pub HasRest : Pools → Site → ℕ → Before → ℕ → Type 0
 HasRest P s place x m = CanFill P (drop place (slots P s)) (ending_of s) x m
 
@@ -101,7 +101,7 @@ items_from zero ds = ds
 items_from (suc i) no_items = no_items
 items_from (suc i) (item d ds) = items_from i ds
 
--- Some list that is a part of the site, with at most as many nodes as the limit, has at least t items, and those behind the first
+-- Some list that is a part of the site, with at most as many nodes as the limit, has at least t items, and those after the first
 -- t have m nodes.
 pub record HasMore (P : Pools) (limit : ℕ) (s : Site) (t m : ℕ) : Type 0 where
   pub items : Items

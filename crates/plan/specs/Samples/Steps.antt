@@ -1,7 +1,7 @@
 -- Steps: calls for a slot, an item or a candidate, whatever is answered (this project's own).
 use Rattle.std.specs.Prelude.{ℕ, ◌+◌, ◌*◌, ◌-◌, ◌^◌, min}
 
--- so many steps more; the count stays at its greatest
+-- this many steps more; the count saturates
 abbrev pub counted : ℕ → ℕ → ℕ
 counted before n = min (before + n) (2 ^ 64 - 1)
 

@@ -97,7 +97,7 @@ has_form list d = is_list d
 has_form integer d = is_integer d
 has_form count d = is_count d
 
--- what stands at the path, in a value that has to have a form, has not the form that it has to have there
+-- what is at the path, in a value that has to have a form, has not the form that it has to have there
 abbrev pub BreaksForm : Form → Data → Path → Type 0
 BreaksForm f d path = (v : Data) × (part_at d path ≡ Some v) × (has_form (form_at f path) v ≡ false)
 

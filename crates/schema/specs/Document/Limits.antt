@@ -42,7 +42,7 @@ pub record IsTooLong (raw : Data) (at : Place) (keyword : List ℕ) : Type 0 whe
   pub schema : Data
   pub is : schema_at raw at ≡ Some schema
   pub value : Data
-  pub stands : under schema keyword ≡ Some value
+  pub is_there : under schema keyword ≡ Some value
   pub most : ℕ
   pub limit : most_of keyword ≡ Some most
   pub past : most < size value

@@ -37,7 +37,7 @@ pub record IsFieldOf (f : Field) (schema : Data) (property : Member) : Type 0 wh
 abbrev pub HasObject : Data → List ℕ → Type 0
 HasObject s k = (ms : Members) × (under s k ≡ Some (object ms))
 
--- keywords that hold schemas stand where the kind has them: `properties` in objects, a schema of values in maps, `items` in
+-- keywords that hold schemas are where the kind has them: `properties` in objects, a schema of values in maps, `items` in
 -- lists
 pub record HasOwnParts (s : Data) : Type 0 where
   pub properties : HasObject s (codes "properties") → IsOfKind s kinds.object

@@ -34,9 +34,9 @@ junctor_keyword all = codes "allOf"
 junctor_keyword any = codes "anyOf"
 junctor_keyword one = codes "oneOf"
 
--- the value stands in the schema as this part
-abbrev pub StandsAs : Data → Part → Data → Type 0
-StandsAs s (a_schema step) d = part_at s (step_path step) ≡ Some d
-StandsAs s properties d = under s (codes "properties") ≡ Some d
-StandsAs s (branches j) d = under s (junctor_keyword j) ≡ Some d
-StandsAs s no_schema d = Unit {0}
+-- the schema has the value as this part
+abbrev pub HasPart : Data → Part → Data → Type 0
+HasPart s (a_schema step) d = part_at s (step_path step) ≡ Some d
+HasPart s properties d = under s (codes "properties") ≡ Some d
+HasPart s (branches j) d = under s (junctor_keyword j) ≡ Some d
+HasPart s no_schema d = Unit {0}

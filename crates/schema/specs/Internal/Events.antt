@@ -29,7 +29,7 @@ branch all i = all_of i
 branch any i = any_of i
 branch one i = one_of i
 
--- what a value is among the schemas, by the keyword or the name that it stands under
+-- what a value is among the schemas, by the keyword or the name that it is under
 pub data Part : Type 0 where
   a_schema : Step → Part
   properties : Part
@@ -94,7 +94,7 @@ pub record AreEventsOf (raw : Data) (events : List Event) : Type 0 where
   pub subschemas : (p : Place) (s : Data) → (schema_at raw p ≡ Some s) ↔ IsIn (entered p s) events
   pub keywords : (p : Place) (k : List ℕ) → IsTooLong raw p k ↔ IsIn (too_long p k) events
 
--- the first path at which a limit is passed, behind so many places
+-- the first path at which a limit is passed, after so many places
 abbrev pub limit_break : ℕ → List Event → Option Path
 limit_break n [] = None
 limit_break n (entered p s ∷ events) =

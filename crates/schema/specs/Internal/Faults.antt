@@ -1,4 +1,4 @@
--- For private contracts: what a fault says of the part that was read, or that memory is wanting.
+-- For private contracts: what a fault says of the part that was read, or that an allocation failed.
 use Rattle.std.specs.Prelude.{◌≡◌, ℕ, List, Option, Some, string_bytes}
 use Rattle.jtree.specs.Data.{Data, Items}
 use Rattle.jtree.specs.Path.{Path}

@@ -1,4 +1,4 @@
--- Nodes as trees of numbers, one to one: what a proof needs to tell two of them apart.
+-- Nodes as trees of numbers, one to one: what a proof needs to distinguish two of them.
 use Rattle.std.specs.Prelude.{◌≡◌, ℕ, zero, suc, ℤ, List, Bool, Option}
 use Rattle.std.specs.Coded.{Coded, code_by, coded×, coded_ℕ, coded_ℤ, coded_bool, coded_list, coded_option}
 use Rattle.std.proofs.Common.{ap, refl}

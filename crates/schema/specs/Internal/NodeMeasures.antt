@@ -1,4 +1,4 @@
--- What stands below a node or a branch nests less deep than the whole: the measure of recursions over a schema.
+-- What is below a node or a branch nests less deep than the whole: the measure of recursions over a schema.
 use Rattle.std.specs.Prelude.{◌≤◌, max, List, [], ◌∷◌}
 use Rattle.std.proofs.Common.{arith}
 use Rattle.schema.specs.Nodes.Node.{branches_depth, node_depth, sort_depth, fields_depth}

@@ -103,7 +103,7 @@ IsNodePlace root p = (is_inside p ≡ false) × (root ≡ true → IsEnvelope p 
 
 -- N is the tree of the nodes of a schema
 pub record AreNodesOf (root : Bool) (N : Node) (s : Data) : Type 0 where
-  -- fields stand in the order of their names, each once
+  -- fields are in the order of their names, each once
   pub ordered : IsNode N
   -- each place that is to have a node has one, as its schema says
   pub each : (p : Place) (t : Data) → IsNodePlace root p → schema_at s p ≡ Some t → (M : Node) × (node_at N p ≡ Some M) × IsNodeHere M t × AreFieldsHere M t

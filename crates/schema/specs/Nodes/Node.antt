@@ -44,7 +44,7 @@ abbrev pub IsBeforeFields : List ℕ → Fields → Type 0
 IsBeforeFields k no_fields = Unit {0}
 IsBeforeFields k (field l N required default fs) = text_cmp k l ≡ Less
 
--- fields stand in the order of their names, and no name stands twice
+-- fields are in the order of their names, and no name occurs twice
 abbrev mutual
   pub IsNode : Node → Type 0
   IsNode (node nullable description sort) = IsSort sort

@@ -19,7 +19,7 @@ pub record IsRootOf (N : Node) (raw : Data) : Type 0 where
 abbrev pub IsShape : Node → Type 0
 IsShape N = (raw : Data) × IsRootOf N raw
 
--- What a refusal says of a schema: all that is broken in it, and at least one rule; or that memory is wanting.
+-- What a refusal says of a schema: all that is broken in it, and at least one rule; or that an allocation failed.
 abbrev pub IsShapeRefusal : Data → Refused → Type 0
 IsShapeRefusal raw (Violations vs) = AreViolations (Broken raw) vs.items × (vs.items ≢ [])
 IsShapeRefusal raw NoMemory = Unit {0}

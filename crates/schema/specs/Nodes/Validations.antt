@@ -1,4 +1,4 @@
--- What is asked at a place, outside or in a branch of a junctor: its keywords, as they stand there (OpenAPI 3.0, Schema Object).
+-- What is asked at a place, outside or in a branch of a junctor: its keywords, as they are there (OpenAPI 3.0, Schema Object).
 use Rattle.std.specs.Prelude.{◌≡◌, ℕ, List, [], false, Option, Some, None, codes}
 use Rattle.jtree.specs.Data.{Data, Items, no_items, item}
 use Rattle.jtree.specs.Path.{under}
@@ -39,7 +39,7 @@ abbrev pub presence : List (List ℕ) → Constraints
 presence names =
     record { choices = None; minimum = None; maximum = None; exclusive_minimum = false; exclusive_maximum = false; lengths = record { least = None; most = None }; required = names }
 
--- The junctors of an object, as they stand at its place, beside which they ask nothing: what its own `required` names is said of
+-- The junctors of an object, as they are at its place, beside which they ask nothing: what its own `required` names is said of
 -- each field.
 abbrev pub AreObjectJunctorsOf : Validations → Data → Type 0
 AreObjectJunctorsOf (validations constraints all any one negated) s =

@@ -76,16 +76,16 @@ abbrev pub BreaksNone : Data → Type 0
 BreaksNone raw = IsUnbroken (Broken raw)
 
 -- a violation as its pointer and its rule
-pub record Told : Type 0 where
+pub record Reported : Type 0 where
   pub pointer : List ℕ
   pub rule : Rule
 
-abbrev pub told : Violation → Told
-told v = record { pointer = string_bytes v.pointer; rule = v.rule }
+abbrev pub reported : Violation → Reported
+reported v = record { pointer = string_bytes v.pointer; rule = v.rule }
 
-abbrev pub told_of : Break → Told
-told_of b = record { pointer = place_pointer b.place; rule = b.rule }
+abbrev pub reported_of : Break → Reported
+reported_of b = record { pointer = place_pointer b.place; rule = b.rule }
 
 -- the violations are all that is broken, in order
 abbrev pub AreViolations : Breaking → List Violation → Type 0
-AreViolations IsBroken violations = (breaks : List Break) × AreBreaks IsBroken breaks × (map told violations ≡ map told_of breaks)
+AreViolations IsBroken violations = (breaks : List Break) × AreBreaks IsBroken breaks × (map reported violations ≡ map reported_of breaks)

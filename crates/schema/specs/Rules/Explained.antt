@@ -7,7 +7,7 @@ use Rattle.std.specs.declared.cmp.Ordering.TheVariants.{Less}
 use Rattle.jtree.specs.Data.{Data}
 use Rattle.jtree.specs.Order.{text_cmp}
 use Rattle.schema.specs.Document.Places.{Place}
-use Rattle.schema.specs.Rules.Breaks.{Break, Breaking, AreBreaks, told, told_of}
+use Rattle.schema.specs.Rules.Breaks.{Break, Breaking, AreBreaks, reported, reported_of}
 use Rattle.schema.specs.Rules.Reasons.{HasReason}
 use Rattle.schema.specs.declared.violation.Rule.{Rule}
 use Rattle.schema.specs.declared.reason.Reason.{Reason}
@@ -61,9 +61,9 @@ pub record AreFindings (raw : Data) (p : Place) (r : Rule) (findings : List Find
   pub all : (k : List ℕ) (c : Reason) → HasReason raw p r k c → Contains findings (finding k c)
   pub ascending : AllPairs (λ f g. finding_cmp f g ≡ Less) findings
 
--- a break is told, with its reasons
+-- a break is reported, with its reasons
 abbrev pub IsExplained : Data → Break → Explained → Type 0
-IsExplained raw b e = (told e.violation ≡ told_of b) × AreFindings raw b.place b.rule e.findings.items
+IsExplained raw b e = (reported e.violation ≡ reported_of b) × AreFindings raw b.place b.rule e.findings.items
 
 -- the lists are as long as each other, and this holds of their elements one by one
 abbrev pub OneByOne : {X Y : Type 0} → (X → Y → Type 0) → List X → List Y → Type 0

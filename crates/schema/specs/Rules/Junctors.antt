@@ -1,4 +1,4 @@
--- Where junctors may stand, and what their branches may say (OpenAPI 3.0, `allOf`, `anyOf`, `oneOf` and `not`): at a scalar
+-- Where junctors may be, and what their branches may say (OpenAPI 3.0, `allOf`, `anyOf`, `oneOf` and `not`): at a scalar
 -- the branches ask of the value, at an object with declared fields they ask which of these are present. This project's own.
 use Rattle.std.specs.Prelude.{◌≡◌, ◌≢◌, ◌<◌, ℕ, List, [], length, Bool, true, false, Option, Some, None, if◌then◌else◌, not, ◌&&◌, ◌||◌, codes, All, AllPairs}
 use Rattle.std.specs.Option.{is_some}

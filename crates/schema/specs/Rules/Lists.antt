@@ -1,5 +1,5 @@
 -- The rules on list types and map types: `x-kubernetes-list-type`, `x-kubernetes-list-map-keys` and `x-kubernetes-map-type`
--- (apiextensions.k8s.io/v1, merge strategies). Items and keys have to be such that two items can be told apart.
+-- (apiextensions.k8s.io/v1, merge strategies). Items and keys have to be such that two items can be distinguished.
 use Rattle.std.specs.Prelude.{ℕ, List, [], ◌∷◌, Bool, true, false, Option, Some, None, if◌then◌else◌, not, ◌&&◌, ◌||◌, codes}
 use Rattle.jtree.specs.Data.{Data, Items}
 use Rattle.schema.specs.Document.Texts.{is_among}
@@ -16,11 +16,11 @@ map_types = codes "granular" ∷ codes "atomic" ∷ []
 abbrev pub is_of_list_type : List ℕ → Data → Bool
 is_of_list_type t s = has_text_among (t ∷ []) s (codes "x-kubernetes-list-type")
 
--- a list type stands at a place that is no list, or is another text
+-- a list type is at a place that is no list, or is another text
 abbrev pub has_bad_list_type : Data → Bool
 has_bad_list_type s = has s (codes "x-kubernetes-list-type") && (not (is_list_kind (kind_of s)) || has_other_text list_types s (codes "x-kubernetes-list-type"))
 
--- a map type stands at a place that is neither an object nor a map, or is another text
+-- a map type is at a place that is neither an object nor a map, or is another text
 abbrev pub has_bad_map_type : Data → Bool
 has_bad_map_type s = has s (codes "x-kubernetes-map-type") && (not (is_object_kind (kind_of s)) || has_other_text map_types s (codes "x-kubernetes-map-type"))
 
@@ -41,7 +41,7 @@ has_default (Some s) = has s (codes "default")
 abbrev pub is_key : Data → List ℕ → Bool
 is_key item k = is_plain_scalar (schema_by item (property k)) && (is_among k (texts_under item (codes "required")) || has_default (schema_by item (property k)))
 
--- each is a key of the items, and none stands twice
+-- each is a key of the items, and none occurs twice
 abbrev pub are_keys : Data → List (List ℕ) → Bool
 are_keys item [] = true
 are_keys item (k ∷ ks) = is_key item k && (not (is_among k ks) && are_keys item ks)

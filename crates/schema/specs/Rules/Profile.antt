@@ -1,4 +1,4 @@
--- The rules that are this project's own: where a default may stand, and which keywords a place of each kind may have.
+-- The rules that are this project's own: where a default may be, and which keywords a place of each kind may have.
 -- Keywords without effect are among them.
 use Rattle.std.specs.Prelude.{ℕ, List, [], ◌∷◌, Bool, true, false, Option, Some, None, not, ◌&&◌, ◌||◌, codes}
 use Rattle.std.specs.Option.{is_some}
@@ -19,7 +19,7 @@ abbrev pub is_property : Step → Bool
 is_property (property k) = true
 is_property _ = false
 
--- a default stands where no field of the body does
+-- a default is where no field of the body is
 abbrev pub has_misplaced_default : Place → Data → Bool
 has_misplaced_default p s = has s (codes "default") && (not (ends_with is_property p) || is_envelope p)
 
@@ -47,7 +47,7 @@ keywords_of_objects = codes "properties" ∷ codes "additionalProperties" ∷ co
 abbrev pub keywords_of_lists : List (List ℕ)
 keywords_of_lists = codes "items" ∷ codes "minItems" ∷ codes "maxItems" ∷ []
 
--- The keywords of places of every kind, with those that no place may have: of these, and of where each may stand, other
+-- The keywords of places of every kind, with those that no place may have: of these, and of where each may be, other
 -- rules speak.
 abbrev pub keywords_of_all : List (List ℕ)
 keywords_of_all = codes "type" ∷ codes "description" ∷ codes "title" ∷ codes "format" ∷ codes "example" ∷ codes "externalDocs"

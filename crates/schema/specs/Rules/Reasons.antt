@@ -66,7 +66,7 @@ abbrev pub any_text : (List ℕ → Bool) → List (List ℕ) → Bool
 any_text test [] = false
 any_text test (t ∷ ts) = test t || any_text test ts
 
--- one of them stands there twice
+-- one of them occurs twice
 abbrev pub has_repeated : List (List ℕ) → Bool
 has_repeated [] = false
 has_repeated (t ∷ ts) = is_among t ts || has_repeated ts
@@ -161,7 +161,7 @@ abbrev pub is_no_root_keyword : List ℕ → Data → Bool
 is_no_root_keyword k s = (bytes_eq k (codes "nullable") && flag s k) || is_among k not_at_root
 
 -- it does not go with `x-kubernetes-preserve-unknown-fields`: another type than `object`, int-or-string, and a map; what an
--- open place may not have is told by its kind
+-- open place may not have depends on its kind
 abbrev pub is_no_preserving : List ℕ → Data → Bool
 is_no_preserving k s =
     (bytes_eq k (codes "type") && has_other_text ([] ∷ codes "object" ∷ []) s k)
@@ -211,7 +211,7 @@ Explains raw p s V16 k c =
 Explains raw p s V17 k c = (is_inside p ≡ false) × (is_profile_reason (is_root p) c k s ≡ true)
 Explains raw p s _ k c = ⊥
 
--- the rule is broken at the place for this reason, by this keyword, which stands there
+-- the rule is broken at the place for this reason, by this keyword, which is there
 abbrev pub HasReason : Data → Place → Rule → List ℕ → Reason → Type 0
 HasReason raw p r k c = At raw p (λ s. (has s k ≡ true) × Explains raw p s r k c)
 

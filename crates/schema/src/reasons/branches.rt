@@ -16,7 +16,7 @@ use crate::rules::is_inside;
 use crate::rules::junctors::{has_too_many_names, is_in_root, requires_no_field};
 use jtree::Members;
 
-/// V16: a junctor where none may stand, a branch with what it may not have, or junctors that name too many fields.
+/// V16: a junctor where none may be, a branch with what it may not have, or junctors that name too many fields.
 pub(crate) fn breaks_junctors_by(subschema: &Subschema<'_>, keyword: &str, reason: Reason) -> bool
     ensures { (raw : Data) → IsSubschema raw subschema.now → IsTrue result ↔ Explains raw (place_of subschema.now.place.items) (object subschema.now.schema.now) V16 keyword.now reason }
 {

@@ -1,4 +1,4 @@
-// Where junctors may stand, what their branches may say, and how many fields they may name.
+// Where junctors may be, what their branches may say, and how many fields they may name.
 ghost use Rattle.std.specs.Prelude.{◌≡◌, ◌↔◌, [], true, false, map, option_map, IsTrue, codes};
 ghost use Rattle.jtree.specs.Data.{Data, object, item, no_items};
 ghost use Rattle.jtree.specs.View.{data_of, items_of};
@@ -126,6 +126,7 @@ pub(crate) fn has_too_many_names(place: &[Step<'_>], schema: &Members) -> bool
 fn names_too_many(schema: &Members) -> bool
     ensures { IsTrue result ↔ NamesTooMany (object schema.now) }
 {
+    // for its contract alone: a proof learns that the names are in order, each once
     schema.reveal_invariant();
     has_fifth_name(schema)
 }

@@ -12,7 +12,7 @@ use crate::keywords::{
 use crate::kinds::{is_list, is_object, is_scalar};
 use jtree::{Items, Members, Tree};
 
-/// V10: a list type stands at a place that is no list, or is none of the three.
+/// V10: a list type is at a place that is no list, or is none of the three.
 pub(crate) fn bad_list_type(schema: &Members) -> bool
     ensures { result ≡ has_bad_list_type (object schema.now) }
 {
@@ -41,7 +41,7 @@ pub(crate) fn bad_set_items(schema: &Members) -> bool
         && !is_plain_scalar(object_under(schema, "items"))
 }
 
-/// V13: a map type stands at a place that is neither an object nor a map, or is none of the two.
+/// V13: a map type is at a place that is neither an object nor a map, or is none of the two.
 pub(crate) fn bad_map_type(schema: &Members) -> bool
     ensures { result ≡ has_bad_map_type (object schema.now) }
 {
@@ -91,7 +91,7 @@ fn have_keys(items: Option<&Members>, keys: &[Tree]) -> bool
     }
 }
 
-/// Whether each of these is a key of the items, and none stands twice. There are at most four.
+/// Whether each of these is a key of the items, and none occurs twice. There are at most four.
 fn are_keys(items: &Members, keys: &[Tree]) -> bool
     ensures { result ≡ are_keys_of (object items.now) (texts_of (items_of keys.now)) }
 {

@@ -1,4 +1,4 @@
--- What stands at each path below a part, where there is one.
+-- What is at each path below a part, where there is one.
 use Rattle.std.specs.Prelude.{◌≡◌, Option, option_map, option_and_then}
 use Rattle.jtree.specs.Data.{Data}
 use Rattle.jtree.specs.Path.{Path, part_at}

@@ -1,4 +1,4 @@
--- For private contracts: all failures of a value at its node in order, level by level, and how a walk tells them.
+-- For private contracts: all failures of a value at its node in order, level by level, and how a walk reports them.
 use Rattle.std.specs.Prelude.{ℕ, suc, List, [], ◌∷◌, ◌++◌, map, Bool, false, Option, Some, None, if◌then◌else◌, string_bytes}
 use Rattle.std.specs.Str.{bytes_eq}
 use Rattle.std.specs.Ordering.{is_lt}
@@ -9,8 +9,8 @@ use Rattle.jtree.specs.Path.{Step, name, index, item_at}
 use Rattle.jtree.specs.Pointer.{pointer}
 use Rattle.schema.specs.Nodes.Node.{Node, node, object, map as map_of, list, Fields, no_fields, field}
 use Rattle.stored.specs.Objects.Fault.{Test, F01, F02, F03, F04, F05, F06, F07, F08, F09, F10, F11, F12, F13, F14, number, fails, are_alike, has_alike_before}
-use Rattle.stored.specs.Objects.AllFaults.{Failure, Told, told}
-use Rattle.stored.specs.declared.finding.Report.{Report}
+use Rattle.stored.specs.Objects.AllFaults.{Failure, Reported, reported}
+use Rattle.stored.specs.declared.all_faults.Report.{Report}
 
 -- ---- of the value itself
 
@@ -92,30 +92,30 @@ abbrev mutual
 abbrev pub found : Bool → Node → Data → List Failure
 found repeated N v = whole repeated N v (parts N v)
 
--- ---- as it is told
+-- ---- as it is reported
 
--- the pointer of the place that a walk has come to, and what is told so far
+-- the pointer of the place that a walk has come to, and what is reported so far
 pub record Progress : Type 0 where
   pub pointer : List ℕ
-  pub told : List Told
+  pub reported : List Reported
 
 abbrev pub progress : Report → Progress
-progress r = record { pointer = string_bytes r.pointer; told = map told r.faults.items }
+progress r = record { pointer = string_bytes r.pointer; reported = map reported r.faults.items }
 
-abbrev pub noted : Progress → List Told → Progress
-noted p ts = record { pointer = p.pointer; told = p.told ++ ts }
+abbrev pub noted : Progress → List Reported → Progress
+noted p ts = record { pointer = p.pointer; reported = p.reported ++ ts }
 
-abbrev pub told_at : List ℕ → Failure → Told
-told_at at f = record { path = at ++ pointer f.path; number = number f.test }
+abbrev pub reported_at : List ℕ → Failure → Reported
+reported_at at f = record { path = at ++ pointer f.path; number = number f.test }
 
 abbrev pub added : Progress → List Failure → Progress
-added p fs = noted p (map (told_at p.pointer) fs)
+added p fs = noted p (map (reported_at p.pointer) fs)
 
 -- tests by number, and whether they fail
 abbrev pub outcomes : (Test → Bool) → List Test → List (ℕ × Bool)
 outcomes test ts = map (λ t. (number t, test t)) ts
 
 -- those that fail, at one place
-abbrev pub failed : List ℕ → List (ℕ × Bool) → List Told
+abbrev pub failed : List ℕ → List (ℕ × Bool) → List Reported
 failed at [] = []
 failed at (t ∷ ts) = (if t.1 then record { path = at; number = t.0 } ∷ [] else []) ++ failed at ts

@@ -1,4 +1,4 @@
--- Whether filling leaves a value as it is, level by level.
+-- Whether defaulting leaves a value as it is, level by level.
 use Rattle.std.specs.Prelude.{Bool, true, false, Option, Some, None, ◌&&◌, ◌||◌, is_none}
 use Rattle.jtree.specs.Data.{Data, Items, no_items, item, Members, no_members, member}
 use Rattle.jtree.specs.Data as tree
@@ -10,7 +10,7 @@ abbrev pub is_null_default : Option Data → Bool
 is_null_default (Some tree.null) = true
 is_null_default _ = false
 
--- What stands under a name stays: where nothing does, there is no default; a null that is not accepted gives way to a default,
+-- What is under a name stays: where nothing is, there is no default; a null that is not accepted gives way to a default,
 -- unless that is null too; and any other value passes a test.
 abbrev pub stays : Bool → Option Data → (Data → Bool) → Option Data → Bool
 stays nullable default test None = is_none default

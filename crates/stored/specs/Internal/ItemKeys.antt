@@ -1,4 +1,4 @@
--- For private contracts: what tells the items of a list apart, and the order by it, in which items that ascend are apart.
+-- For private contracts: what distinguishes the items of a list, and the order by it, in which items that ascend are apart.
 use Rattle.std.specs.Prelude.{◌≡◌, ◌<◌, ℕ, List, [], ◌∷◌, Bool, true, false, Option, Some, None, option_map, map, length, ◌&&◌}
 use Rattle.std.proofs.Common.{get_or}
 use Rattle.std.specs.Borrow.{Bor}
@@ -75,7 +75,7 @@ key_cmp k l = slice_cmp (option_cmp (λ t u. tree_cmp (data_of t.now) (data_of u
 abbrev pub HasKeys : BTreeSet CodeKey → (ItemKey → Bool) → Type 0
 HasKeys seen test = (k : CodeKey) → contains key_cmp seen k ≡ test (key_of k)
 
--- of the items so far it is told whether they repeat another, and the set has their keys
+-- of the items so far it is known whether they repeat another, and the set has their keys
 pub record AreSeen (type : ListType) (keys : List (List ℕ)) (ds : Items) (i : ℕ) (repeated : List Bool) (seen : BTreeSet CodeKey) : Type 0 where
   pub count : length repeated ≡ i
   pub each : (j : ℕ) (b : Bool) → j < i → get_or repeated j b ≡ has_alike_before (are_alike type keys) j ds (item_at j ds)

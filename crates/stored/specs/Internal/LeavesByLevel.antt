@@ -57,7 +57,7 @@ abbrev mutual
 abbrev pub leaves_by_level : Node → Data → List LeafAt
 leaves_by_level N v = whole N v (leaves_below N v)
 
--- and where no node stands for it, the value as a whole
+-- and where it has no node, the value as a whole
 abbrev pub part_leaves : Option Node → Data → List LeafAt
 part_leaves o v = by_node o (λ N. leaves_by_level N v) (here ∷ [])
 

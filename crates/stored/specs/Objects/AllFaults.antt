@@ -26,16 +26,16 @@ pub record AreFailures (N : Node) (v : Data) (fs : List Failure) : Type 0 where
   pub ascending : AllPairs (λ f g. failure_cmp f g ≡ Less) fs
 
 -- a fault as the pointer of its path and its number
-pub record Told : Type 0 where
+pub record Reported : Type 0 where
   pub path : List ℕ
   pub number : ℕ
 
-abbrev pub told : Fault → Told
-told f = record { path = string_bytes f.path; number = f.number }
+abbrev pub reported : Fault → Reported
+reported f = record { path = string_bytes f.path; number = f.number }
 
-abbrev pub told_of : Failure → Told
-told_of f = record { path = pointer f.path; number = number f.test }
+abbrev pub reported_of : Failure → Reported
+reported_of f = record { path = pointer f.path; number = number f.test }
 
 -- the faults are all that is wrong, in order
 abbrev pub AreFaults : Node → Data → List Fault → Type 0
-AreFaults N v faults = (fs : List Failure) × AreFailures N v fs × (map told faults ≡ map told_of fs)
+AreFaults N v faults = (fs : List Failure) × AreFailures N v fs × (map reported faults ≡ map reported_of fs)

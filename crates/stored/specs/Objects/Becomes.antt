@@ -1,5 +1,5 @@
 -- What becomes of an object: pruned, filled with defaults, stored (apiextensions.k8s.io/v1, "field pruning", "defaulting" and
--- "nullable"). Each is said by what stands at each path of the result.
+-- "nullable"). Each is said by what is at each path of the result.
 use Rattle.std.specs.Prelude.{◌≡◌, ℕ, ℤ, List, Bool, false, Option, Some, None, option_map, if◌then◌else◌, not, ◌&&◌, is_none}
 use Rattle.jtree.specs.Data.{Data, IsTree}
 use Rattle.jtree.specs.Data as tree
@@ -49,7 +49,7 @@ IsPruned N v w = Becomes leads_uncut N v w
 abbrev pub is_nullable : Node → Bool
 is_nullable (node nullable description sort) = nullable
 
--- nothing stands for a null that the node does not accept
+-- nothing is left of a null that the node does not accept
 abbrev pub admitted : Node → Option Data → Option Data
 admitted N (Some tree.null) = if is_nullable N then Some tree.null else None
 admitted N v = v
@@ -58,7 +58,7 @@ abbrev pub or_default : Option Data → Option Data → Option Data
 or_default None default = default
 or_default (Some v) default = Some v
 
--- under a name: a declared one has its default where nothing stands there, and others stay
+-- under a name: a declared one has its default where nothing is there, and others stay
 abbrev pub filled_under : Option Declared → Option Data → Option Part
 filled_under None v = option_map free v
 filled_under (Some f) v = option_map (at f.node) (or_default (admitted f.node v) f.default)
@@ -68,7 +68,7 @@ leads_by (fields fs preserves ms) N v (name k) = filled_under (field_at k fs) (m
 leads_by (values M ms) N v (name k) = option_map (at M) (admitted M (member_at k ms))
 leads_by _ N v s = leads N v s
 
--- what stands there after defaults are filled in: so a default is filled by the defaults below it
+-- what is there after defaults are filled in: so a default is filled by the defaults below it
 abbrev pub leads_filled : Leading
 leads_filled N v s = leads_by (pair N v) N v s
 
@@ -84,7 +84,7 @@ pub record IsCompleted (N : Node) (v w : Data) : Type 0 where
   pub pruned : IsPruned N v between
   pub filled : IsFilled N between w
 
--- valid, and neither pruning nor filling changes it
+-- valid, and neither pruning nor defaulting changes it
 pub record IsStored (N : Node) (v : Data) : Type 0 where
   pub valid : IsValid N v
   pub pruned : IsPruned N v v

@@ -128,7 +128,7 @@ abbrev pub agree : List (List ℕ) → Members → Members → Bool
 agree [] ms ns = true
 agree (k ∷ keys) ms ns = agree_at (member_at k ms) (member_at k ns) && agree keys ms ns
 
--- Two items that may not stand in one list: in a set equal ones, in a map list objects that agree on all keys.
+-- Two items that may not be in one list: in a set equal ones, in a map list objects that agree on all keys.
 abbrev pub are_alike : ListType → List (List ℕ) → Data → Data → Bool
 are_alike Set keys v w = is_same v w
 are_alike Map keys (tree.object ms) (tree.object ns) = agree keys ms ns
@@ -151,7 +151,7 @@ repeats _ _ i = false
 
 -- ---- all faults
 
--- What a node finds wrong with the value that it stands for, at a path from there: with the value itself, at the path of a name
+-- What a node finds wrong with the value that has it, at a path from there: with the value itself, at the path of a name
 -- that is missing, or at that of an item.
 abbrev pub finds : Node → Data → Path → Test → Bool
 finds N v [] t = fails t N v

@@ -1,4 +1,4 @@
--- Which node of a schema stands for a part of an object. Where none does the part is free: under a name that is not declared,
+-- Which node of a schema a part of an object has. Where it has none the part is free: under a name that is not declared,
 -- below an open node, and where a value is not of its node's kind (apiextensions.k8s.io/v1, structural schemas).
 use Rattle.std.specs.Prelude.{[], ◌∷◌, Bool, Option, Some, None, option_map, option_and_then}
 use Rattle.jtree.specs.Data.{Data, Items, Members}
@@ -7,7 +7,7 @@ use Rattle.jtree.specs.Path.{Step, name, index, Path, part_by}
 use Rattle.schema.specs.Nodes.Node.{Node, node, object, map, list, Fields}
 use Rattle.schema.specs.Nodes.ByPlace.{field_at}
 
--- A value beside its node, as far as it has parts that a node stands for: an object with declared fields, a map or a list.
+-- A value beside its node, as far as it has parts with nodes: an object with declared fields, a map or a list.
 pub data Pair : Type 0 where
   -- the fields, whether others are kept, and the members
   fields : Fields → Bool → Members → Pair
@@ -31,7 +31,7 @@ node_by (values N ms) (name k) = Some N
 node_by (items N ds) (index i) = Some N
 node_by _ _ = None
 
--- a part of an object, with the node that stands for it, or free
+-- a part of an object, with its node, or free
 pub data Part : Type 0 where
   at : Node → Data → Part
   free : Data → Part

@@ -37,7 +37,7 @@ abbrev pub IsStoredField : Declared → Option Data → Type 0
 IsStoredField f None = (f.required ≡ false) × (f.default ≡ None)
 IsStoredField f (Some w) = IsStored f.node w
 
--- each part for which a node stands is stored, and a name that is not declared stands only where such names are kept
+-- each part that has a node is stored, and a name that is not declared is there only where such names are kept
 abbrev pub ArePartsStored : Pair → Type 0
 ArePartsStored (fields fs preserves ms) =
     ((k : List ℕ) → field_at k fs ≡ None → preserves ≡ false → member_at k ms ≡ None)

@@ -38,7 +38,7 @@ pub record IsRootOf (N : Node) (raw : Data) : Type 0 where
 abbrev pub IsSchema : Node → Type 0
 IsSchema N = (raw : Data) × IsRootOf N raw
 
--- What a refusal says of a schema: all that is broken in it, and at least one rule; or that memory is wanting.
+-- What a refusal says of a schema: all that is broken in it, and at least one rule; or that an allocation failed.
 abbrev pub IsRefusal : Data → Refused → Type 0
 IsRefusal raw (Violations vs) = AreViolations (IsBroken raw) vs.items × (vs.items ≢ [])
 IsRefusal raw NoMemory = Unit {0}

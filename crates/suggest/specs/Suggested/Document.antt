@@ -10,7 +10,7 @@ abbrev pub items_of : List Data → Items
 items_of [] = no_items
 items_of (d ∷ ds) = item d (items_of ds)
 
--- a text of so many letters
+-- a text of this many letters
 abbrev pub letters : ℕ → List ℕ
 letters n = repeat n (codes "a")
 

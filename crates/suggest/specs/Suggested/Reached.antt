@@ -1,5 +1,5 @@
--- Which scalars the suggested values reach: each without `enum` and junctors that takes a truth value, an integer or a text that is not
--- too long has a candidate of that kind (this project's own).
+-- Which scalars the suggested values reach: each without `enum` and junctors that accepts a truth value, an integer or a text that is
+-- not too long has a candidate of that kind (this project's own).
 use Rattle.std.specs.Prelude.{◌≡◌, ◌≤◌, None, length, chars}
 use Rattle.jtree.specs.Data.{Data, boolean, integer, text}
 use Rattle.jtree.specs.Order.{kind}
@@ -13,11 +13,11 @@ use Rattle.plan.specs.Samples.Site.{plain}
 use Rattle.suggest.specs.Suggested.Values.{longest, all_integers, all_lengths}
 use Rattle.suggest.specs.Suggested.Document.{suggested_document}
 
--- bounds and lengths are all that is asked
+-- it has no constraints but bounds and lengths
 abbrev pub HasBoundsAlone : Validations → Type 0
 HasBoundsAlone (validations t all any one negated) = (t.choices ≡ None) × (all ≡ no_branches) × (any ≡ no_branches) × (one ≡ no_branches) × (negated ≡ no_branches)
 
--- a scalar of which no more is asked
+-- a scalar with no other constraints
 abbrev pub IsBounded : Node → Type 0
 IsBounded (node nullable description (scalar kind cs)) = HasBoundsAlone cs
 IsBounded _ = ⊥

@@ -20,7 +20,7 @@ around (Some z) = filter fits_64_bits ((z -ℤ pos 1) ∷ z ∷ (z +ℤ pos 1) �
 abbrev pub around_bounds : Constraints → List ℤ
 around_bounds t = around t.minimum ++ around t.maximum
 
--- the longest text has so many characters
+-- the number of characters of the longest text
 abbrev pub longest : ℕ
 longest = 64
 

@@ -2,7 +2,7 @@ use Rattle.std.proofs.Common.{◌≡◌, [], refl, inl, inr}
 use Rattle.std.proofs.KnownBytes.{Keeps-refl, Appends-nil}
 use Rattle.crdx.specs.Program.RunResult.{answered, help, usage_error}
 use Rattle.crdx.specs.declared.arguments.request.Request.TheVariants.{Check, Explain, Object, SuggestPools, Sample, Help, UsageError, NoMemory}
-use Rattle.crdx.proofs.RunLemmas.{result_of_finished, result_of_given, result_of_sample, result_of_nothing}
+use Rattle.crdx.proofs.RunLemmas.{result_of_finished, result_of_written, result_of_sample, result_of_nothing}
 use Rattle.crdx.proofs.running.run.Goals as goal
 
 pub returns-in-Check : goal.returns-in-Check
@@ -11,7 +11,7 @@ returns-in-Check g c =
       request,
       c.in-Check.ensures,
       result_of_finished _ request c.check.result c.finish.result c.check.ensures.answer c.check.ensures.cause (λ status text is n out. (status, text, is, n, out))
-          c.finish.ensures.given c.finish.ensures.said c.finish.ensures.kept c.finish.ensures.unfailed,
+          c.finish.ensures.written c.finish.ensures.said c.finish.ensures.kept c.finish.ensures.unfailed,
     )
 
 pub returns-in-Explain : goal.returns-in-Explain
@@ -20,7 +20,7 @@ returns-in-Explain g c =
       request,
       c.in-Explain.ensures,
       result_of_finished _ request c.explain.result c.finish-in-Explain.result c.explain.ensures.answer c.explain.ensures.cause (λ status text is n out. (status, text, is, n, out))
-          c.finish-in-Explain.ensures.given c.finish-in-Explain.ensures.said c.finish-in-Explain.ensures.kept c.finish-in-Explain.ensures.unfailed,
+          c.finish-in-Explain.ensures.written c.finish-in-Explain.ensures.said c.finish-in-Explain.ensures.kept c.finish-in-Explain.ensures.unfailed,
     )
 
 pub returns-in-Object : goal.returns-in-Object
@@ -29,7 +29,7 @@ returns-in-Object g c =
       request,
       c.in-Object.ensures,
       result_of_finished _ request c.judge_object.result c.finish-in-Object.result c.judge_object.ensures.answer c.judge_object.ensures.cause (λ status text is n out. (status, text, is, n, out))
-          c.finish-in-Object.ensures.given c.finish-in-Object.ensures.said c.finish-in-Object.ensures.kept c.finish-in-Object.ensures.unfailed,
+          c.finish-in-Object.ensures.written c.finish-in-Object.ensures.said c.finish-in-Object.ensures.kept c.finish-in-Object.ensures.unfailed,
     )
 
 pub returns-in-SuggestPools : goal.returns-in-SuggestPools
@@ -38,7 +38,7 @@ returns-in-SuggestPools g c =
       request,
       c.in-SuggestPools.ensures,
       result_of_finished _ request c.suggest_pools.result c.finish-in-SuggestPools.result c.suggest_pools.ensures.answer c.suggest_pools.ensures.cause (λ status text is n out. (status, text, is, n, out))
-          c.finish-in-SuggestPools.ensures.given c.finish-in-SuggestPools.ensures.said c.finish-in-SuggestPools.ensures.kept c.finish-in-SuggestPools.ensures.unfailed,
+          c.finish-in-SuggestPools.ensures.written c.finish-in-SuggestPools.ensures.said c.finish-in-SuggestPools.ensures.kept c.finish-in-SuggestPools.ensures.unfailed,
     )
 
 pub returns-in-Sample : goal.returns-in-Sample
@@ -53,7 +53,7 @@ returns-in-Sample g c =
 pub returns-in-Help : goal.returns-in-Help
 returns-in-Help g c =
     let said = c.in-Help.text in
-    (Help said, c.in-Help.ensures, result_of_given _ (Help said) (record { status = 0; text = said }) c.give.result (help said) (λ status text is n out. (status, text, is, n, out)) c.give.ensures)
+    (Help said, c.in-Help.ensures, result_of_written _ (Help said) (record { status = 0; text = said }) c.write_answer.result (help said) (λ status text is n out. (status, text, is, n, out)) c.write_answer.ensures)
 
 pub returns-in-UsageError : goal.returns-in-UsageError
 returns-in-UsageError g c =

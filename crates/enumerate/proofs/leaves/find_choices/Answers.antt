@@ -4,12 +4,12 @@ use Rattle.jtree.specs.View.{data_of}
 use Rattle.jtree.specs.declared.value.Tree.{Tree}
 use Rattle.std.specs.Borrow.{Bor}
 use Rattle.plan.specs.Samples.Question.{Question}
-use Rattle.plan.specs.Samples.Handed.{IsCandidateAt}
+use Rattle.plan.specs.Samples.ByPlace.{IsCandidateAt}
 use Rattle.enumerate.specs.View.{resume_point}
 use Rattle.enumerate.specs.Internal.Nodes.{site}
 use Rattle.enumerate.specs.Internal.Candidates.{IsChoice, stack_of}
 use Rattle.enumerate.proofs.FollowingLemmas.{Chosen, none_chosen, chosen_more, chosen_same, all_chosen, none_at_first, none_to, stack_pushed}
-use Rattle.enumerate.proofs.LeafLemmas.{handed_part, some_candidate, count_within}
+use Rattle.enumerate.proofs.LeafLemmas.{candidate_part, some_candidate, count_within}
 use Rattle.enumerate.proofs.leaves.find_choices.Goals as goal
 
 pub loop-place-init : goal.loop-place-init
@@ -21,8 +21,8 @@ loop-place-init g c =
     record { chosen = subst (λ l. Chosen q i C (λ u h. h.part.part) (stack_of l) c.count-place.result) (sym c.clear.ensures.items) none; within = omega arith; steps = omega arith }
 
 -- the candidate at the place
-handed_here : (q : Question) (i place : ℕ) (o : Option (Bor Tree)) (x : Bor Tree) → o ≡ Some x → IsCandidateAt q.pools (site q i) place (option_map data_of (option_copied o)) → IsCandidateAt q.pools (site q i) place (Some (data_of x.now))
-handed_here q i place o x is at = subst (λ r. IsCandidateAt q.pools (site q i) place (option_map data_of (option_copied r))) is at
+candidate_here : (q : Question) (i place : ℕ) (o : Option (Bor Tree)) (x : Bor Tree) → o ≡ Some x → IsCandidateAt q.pools (site q i) place (option_map data_of (option_copied o)) → IsCandidateAt q.pools (site q i) place (Some (data_of x.now))
+candidate_here q i place o x is at = subst (λ r. IsCandidateAt q.pools (site q i) place (option_map data_of (option_copied r))) is at
 
 pub loop-place-preserved : goal.loop-place-preserved
 loop-place-preserved g c =
@@ -33,9 +33,9 @@ loop-place-preserved g c =
     let vs = stack_of c.loop-place.found.items in
     let x = data_of c.in-Some.tree.now in
     let back : c.loop-place.place ≡ place + 1 = omega (arith, c.loop-place-test.true) in
-    let handed = handed_here q i place c.candidate.result c.in-Some.tree c.in-Some.is c.candidate.ensures.candidate in
+    let candidate = candidate_here q i place c.candidate.result c.in-Some.tree c.in-Some.is c.candidate.ensures.candidate in
     record {
-      chosen = chosen_same q i C (λ u h. h.part.part) vs x place handed (λ h. let yes = c.is_choice.ensures.1 (h.part.nodes_are, h.free) in let no = c.if-is_choice.false in cc) (subst (Chosen q i C (λ u h. h.part.part) vs) back c.loop-place.invariant.chosen);
+      chosen = chosen_same q i C (λ u h. h.part.part) vs x place candidate (λ h. let yes = c.is_choice.ensures.1 (h.part.nodes_are, h.free) in let no = c.if-is_choice.false in cc) (subst (Chosen q i C (λ u h. h.part.part) vs) back c.loop-place.invariant.chosen);
       within = omega (arith, c.loop-place.invariant.within);
       steps = omega (arith, c.loop-place.invariant.steps, c.candidate.ensures.step, c.loop-place-test.true);
     }
@@ -49,13 +49,13 @@ loop-place-preserved-in-Continue-1 g c =
     let vs = stack_of c.loop-place.found.items in
     let x = data_of c.in-Some.tree.now in
     let back : c.loop-place.place ≡ place + 1 = omega (arith, c.loop-place-test.true) in
-    let handed = handed_here q i place c.candidate.result c.in-Some.tree c.in-Some.is c.candidate.ensures.candidate in
+    let candidate = candidate_here q i place c.candidate.result c.in-Some.tree c.in-Some.is c.candidate.ensures.candidate in
     let is = c.is_choice.ensures.0 c.if-is_choice.true in
     let past = c.is_past.ensures.0 c.if-not-is_past.false in
-    let choice : C x = record { part = record { part = handed_part q i place x handed; nodes_are = is.0 }; past = past; free = is.1 } in
+    let choice : C x = record { part = record { part = candidate_part q i place x candidate; nodes_are = is.0 }; past = past; free = is.1 } in
     let pushed : stack_of c.push.new.self.items ≡ x ∷ vs = ap stack_of c.in_ok-push.ensures.items ∙ stack_pushed c.loop-place.found.items c.in-Some.tree in
     record {
-      chosen = subst (λ us. Chosen q i C (λ u h. h.part.part) us place) (sym pushed) (chosen_more q i C (λ u h. h.part.part) vs x place choice handed (subst (Chosen q i C (λ u h. h.part.part) vs) back c.loop-place.invariant.chosen));
+      chosen = subst (λ us. Chosen q i C (λ u h. h.part.part) us place) (sym pushed) (chosen_more q i C (λ u h. h.part.part) vs x place choice candidate (subst (Chosen q i C (λ u h. h.part.part) vs) back c.loop-place.invariant.chosen));
       within = omega (arith, c.loop-place.invariant.within);
       steps = omega (arith, c.loop-place.invariant.steps, c.candidate.ensures.step, c.loop-place-test.true);
     }
@@ -74,9 +74,9 @@ returns-then-not-is_past-clause-ok g c =
     let place = c.loop-place.place - 1 in
     let x = data_of c.in-Some.tree.now in
     let back : c.loop-place.place ≡ place + 1 = omega (arith, c.loop-place-test.true) in
-    let handed = handed_here q i place c.candidate.result c.in-Some.tree c.in-Some.is c.candidate.ensures.candidate in
-    let before = none_to q i C (λ u h. h.part.part) after x place (λ u h. h.past) (λ h. let yes = c.is_past.ensures.1 h in let no = c.if-not-is_past.true in cc) handed in
-    all_chosen q i C (λ u h. h.part.part) (stack_of c.loop-place.found.items) (place + 1) before (subst (Chosen q i C (λ u h. h.part.part) (stack_of c.loop-place.found.items)) back c.loop-place.invariant.chosen) handed.candidates handed.are
+    let candidate = candidate_here q i place c.candidate.result c.in-Some.tree c.in-Some.is c.candidate.ensures.candidate in
+    let before = none_to q i C (λ u h. h.part.part) after x place (λ u h. h.past) (λ h. let yes = c.is_past.ensures.1 h in let no = c.if-not-is_past.true in cc) candidate in
+    all_chosen q i C (λ u h. h.part.part) (stack_of c.loop-place.found.items) (place + 1) before (subst (Chosen q i C (λ u h. h.part.part) (stack_of c.loop-place.found.items)) back c.loop-place.invariant.chosen) candidate.candidates candidate.are
 
 pub returns-clause-ok : goal.returns-clause-ok
 returns-clause-ok g c =

@@ -9,11 +9,11 @@ use Rattle.enumerate.proofs.membership.+part.Given as goal
 abbrev pub decreases-is_part : goal.decreases-is_part
 decreases-is_part g l = weight l.plan.now (l.node + 1)
 
-abbrev pub decreases-is_fresh_row : goal.decreases-is_fresh_row
-decreases-is_fresh_row g l = weight l.plan.now l.node + (4 * length (slots_from l.plan.now l.node 0) + 5)
+abbrev pub decreases-is_unused_row : goal.decreases-is_unused_row
+decreases-is_unused_row g l = weight l.plan.now l.node + (4 * length (slots_from l.plan.now l.node 0) + 5)
 
-abbrev pub decreases-stand_fresh : goal.decreases-stand_fresh
-decreases-stand_fresh g l = weight l.plan.now l.node + (4 * length (slots_from l.plan.now l.node l.place) + 4)
+abbrev pub decreases-make_unused_row : goal.decreases-make_unused_row
+decreases-make_unused_row g l = weight l.plan.now l.node + (4 * length (slots_from l.plan.now l.node l.place) + 4)
 
 abbrev pub decreases-is_list : goal.decreases-is_list
 decreases-is_list g l = weight l.plan.now l.node + 5
@@ -21,8 +21,8 @@ decreases-is_list g l = weight l.plan.now l.node + 5
 abbrev pub decreases-make_list : goal.decreases-make_list
 decreases-make_list g l = weight l.plan.now l.node + 4
 
-abbrev pub decreases-is_fresh_item : goal.decreases-is_fresh_item
-decreases-is_fresh_item g l = weight l.plan.now l.node + 3
+abbrev pub decreases-is_unused_item : goal.decreases-is_unused_item
+decreases-is_unused_item g l = weight l.plan.now l.node + 3
 
 abbrev pub invariant-make_list-loop-place : goal.invariant-make_list-loop-place
 invariant-make_list-loop-place g l = record {

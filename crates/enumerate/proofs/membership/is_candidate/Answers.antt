@@ -8,7 +8,7 @@ use Rattle.plan.specs.Samples.Part.{IsPart}
 use Rattle.plan.specs.Samples.Candidates.{HasCount}
 use Rattle.enumerate.specs.Internal.Nodes.{site}
 use Rattle.enumerate.proofs.LeastLemmas.{tree_order}
-use Rattle.enumerate.proofs.LeafLemmas.{handed_part, count_within, none_after, none_at_all}
+use Rattle.enumerate.proofs.LeafLemmas.{candidate_part, count_within, none_after, none_at_all}
 use Rattle.enumerate.proofs.membership.is_candidate.Goals as goal
 use Rattle.enumerate.proofs.membership.is_candidate.Goals.{in-Some+else-eq, in_default}
 
@@ -18,7 +18,7 @@ returns-then-eq-clause-is g c =
     let i = c.args.node in
     let v = data_of c.in-Some.candidate.now in
     let is : v ≡ data_of c.args.tree.now = tree_same v (data_of c.args.tree.now) ((Equal-is (tree_cmp v (data_of c.args.tree.now))).0 (sym c.eq.ensures ∙ c.if-eq.true)) in
-    (λ _. subst (IsPart q.pools (site q i)) is (handed_part q i c.loop-place.place v c.in-Some.ensures.candidate), λ _. refl)
+    (λ _. subst (IsPart q.pools (site q i)) is (candidate_part q i c.loop-place.place v c.in-Some.ensures.candidate), λ _. refl)
 
 pub returns-then-eq-clause-steps : goal.returns-then-eq-clause-steps
 returns-then-eq-clause-steps g c w width =

@@ -2,7 +2,7 @@ use Rattle.std.proofs.Common.{◌+◌, ◌*◌, ◌≤◌, ℕ, List, Option, le
 use Rattle.jtree.specs.Data.{Data}
 use Rattle.plan.specs.Samples.Candidates.{IsWidth}
 use Rattle.plan.specs.Samples.Sizes.{nothing}
-use Rattle.enumerate.specs.Internal.Moves.{StandIn}
+use Rattle.enumerate.specs.Internal.Moves.{AreInSlots}
 use Rattle.enumerate.specs.Internal.Walks.{IsWalkedTo}
 use Rattle.jtree.specs.View.{items_of}
 use Rattle.enumerate.specs.Internal.Candidates.{used_rows}
@@ -32,7 +32,7 @@ decreases-advance_taken g l = weight l.plan.now l.node + 3
 abbrev pub invariant-advance_members-loop-place : goal.invariant-advance_members-loop-place
 invariant-advance_members-loop-place g l = record {
   within : l.place ≤ length (slots_from l.plan l.node 0);
-  walked : (gs : List (Option Data)) → StandIn l.plan.pools (slots_from l.plan l.node 0) (ending_at l.plan l.node) nothing (used_rows l.used) l.initial.members.items gs → IsWalkedTo l.plan l.node l.place l.room (used_rows l.used) l.before l.members.items gs;
+  walked : (gs : List (Option Data)) → AreInSlots l.plan.pools (slots_from l.plan l.node 0) (ending_at l.plan l.node) nothing (used_rows l.used) l.initial.members.items gs → IsWalkedTo l.plan l.node l.place l.room (used_rows l.used) l.before l.members.items gs;
   steps : (w : ℕ) → IsWidth l.plan.pools l.plan.root w → l.meter + l.place ≤ l.initial.meter + length (slots_from l.plan l.node 0) + (w + 1) * (2 * l.room);
 }
 

@@ -2,7 +2,7 @@ use Rattle.std.proofs.Common.{◌<◌, arith, subst, sym}
 use Rattle.enumerate.specs.Internal.Candidates.{stack_of}
 use Rattle.enumerate.specs.Internal.Following.{Continue}
 use Rattle.enumerate.specs.Internal.Nodes.{IsPartOf}
-use Rattle.enumerate.proofs.StandingLemmas.{continue_sample}
+use Rattle.enumerate.proofs.CurrentLemmas.{continue_sample}
 use Rattle.jtree.specs.View.{data_of}
 use Rattle.enumerate.proofs.MoveCosts.{costs_within}
 use Rattle.enumerate.proofs.RootLemmas.{found_from, none_from}

@@ -6,7 +6,7 @@ use Rattle.enumerate.specs.View.{tree_of}
 use Rattle.enumerate.specs.Internal.Candidates.{stack_of}
 use Rattle.enumerate.specs.Internal.Following.{Continue, ContinueMoved}
 use Rattle.enumerate.specs.Internal.Moves.{IsMoved}
-use Rattle.enumerate.proofs.StandingLemmas.{continue_sample}
+use Rattle.enumerate.proofs.CurrentLemmas.{continue_sample}
 use Rattle.enumerate.specs.Internal.Nodes.{IsPartOf}
 use Rattle.enumerate.specs.Internal.Roots.{IsFirstFrom}
 use Rattle.enumerate.specs.Internal.Steps.{CostsLast}

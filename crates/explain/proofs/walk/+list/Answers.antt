@@ -2,7 +2,7 @@ use Rattle.std.proofs.Common.{◌≡◌, [], ◌∷◌, ◌∙◌, arith, ap, su
 use Rattle.jtree.specs.View.{data_of}
 use Rattle.schema.specs.Nodes.View.{node_of}
 use Rattle.explain.specs.Fields.View.{field_of}
-use Rattle.explain.specs.Internal.ListedByLevel.{progress, noted, told_as, below}
+use Rattle.explain.specs.Internal.ListedByLevel.{progress, noted, listed_as, below}
 use Rattle.explain.specs.Paths.StepView.{step_of}
 use Rattle.explain.proofs.WalkLemmas.{left}
 use Rattle.explain.proofs.walk.+list.Goals as goal
@@ -14,7 +14,7 @@ list_part-returns t c =
     let default = option_map data_of c.args.default in
     let ts = map field_of old.fields.items in
     let len : c.len-length.result ≡ length (string_bytes old.path) = omega (arith, c.len-length.ensures) in
-    left (string_bytes old.path) ts (step_of c.args.step) c.args.required default N (below N) (progress c.tell.new.self) (progress c.list_below.new.walk) (string_bytes c.truncate.new.self)
-    (subst (λ at. progress c.tell.new.self ≡ noted (record { path = at; told = ts }) (told_as at c.args.required default N ∷ [])) c.in_ok-push_step.ensures c.in_ok-tell.ensures)
+    left (string_bytes old.path) ts (step_of c.args.step) c.args.required default N (below N) (progress c.push_field.new.self) (progress c.list_below.new.walk) (string_bytes c.truncate.new.self)
+    (subst (λ at. progress c.push_field.new.self ≡ noted (record { path = at; listed = ts }) (listed_as at c.args.required default N ∷ [])) c.in_ok-push_step.ensures c.in_ok-push_field.ensures)
     c.in_ok-list_below.ensures
     (c.truncate.ensures.bytes ∙ ap (λ n. take n (string_bytes c.list_below.new.walk.path)) len)

@@ -18,10 +18,9 @@ build_fields-loop-field-preserved g t c =
     let items = c.deref-field-items.result.now in
     let i = c.loop-field.field-index in
     let field = c.field-item.result in
-    let built = rw (inv.limit, inv.values) at c.in_ok-slot.ensures.built in
+    let built = rw (inv.kept.1, inv.kept.0) at c.in_ok-slot.ensures.built in
     record {
-      values = c.in_ok-slot.ensures.values ∙ inv.values;
-      limit = c.in_ok-slot.ensures.limit ∙ inv.limit;
+      kept = (c.in_ok-slot.ensures.kept.0 ∙ inv.kept.0, c.in_ok-slot.ensures.kept.1 ∙ inv.kept.1);
       built = rw (c.in_ok-push.ensures.items, take_more items i field c.loop-field-test.true, ← c.field-item.is)
           (field_built holds c.args.arena.now.limit c.args.pools.now c.args.arena.now.values c.args.arena.now.entries.items c.loop-field.arena.entries.items c.build_field.new.arena.entries.items c.args.path.now (take i items) field c.args.keys.now c.args.named.now c.loop-field.slots.items c.in_ok-slot.slot inv.built built c.in_ok-slot.ensures.slot c.in_ok-slot.ensures.bit);
     }
@@ -36,12 +35,12 @@ build_object-returns-clause-built g t c =
     let b = rw c.deref.ensures.value at c.in_ok-slots.ensures.built in
     let ends = c.in_ok-ends.ends.items in
     let added = rw c.deref-3.ensures.value at c.add_row.ensures in
-    three_ok c.add_row.result _ _ _ _ added.number added.count (rw (c.in_ok-slots.ensures.limit, c.in_ok-slots.ensures.values) at added.right)
+    three_ok c.add_row.result _ _ _ _ added.number added.count (rw (c.in_ok-slots.ensures.kept.1, c.in_ok-slots.ensures.kept.0) at added.right)
     (λ n number count right d. row_built g.Z.SizeSet.holds c.args.arena.now.limit c.args.pools.now v c.args.arena.now.entries.items mid c.add_row.new.arena.entries.items c.args.path.now c.args.nullable d (object o.fields o.preserves o.map_type o.bounds cs) c.args.keys.now o.bounds cs ends c.in_ok-slots.slots.items n
     c.reveal_invariant.ensures refl refl
     (λ sound. object_met cs names ends (c.in_ok-named.ensures.names (few_named o.fields cs sound)) (rw c.deref-2.ensures.value at c.in_ok-ends.ensures.whole) (rw c.deref-2.ensures.value at c.in_ok-ends.ensures.each))
     (number ∙ b.count) count b.right
-    (λ sites values sound stand. subst (λ ns. AreSlots v.names.items sites n c.in_ok-slots.slots.items (field_slots c.args.path.now c.args.keys.now ns o.fields)) (c.in_ok-named.ensures.names (few_named o.fields cs sound)) (b.slots_are v.names.items sites n stand (omega arith))) right)
+    (λ sites values sound placed. subst (λ ns. AreSlots v.names.items sites n c.in_ok-slots.slots.items (field_slots c.args.path.now c.args.keys.now ns o.fields)) (c.in_ok-named.ensures.names (few_named o.fields cs sound)) (b.slots_are v.names.items sites n placed (omega arith))) right)
 
 pub build_map-returns-clause-built : goal.build_map-returns-clause-built
 build_map-returns-clause-built g t c =
@@ -51,19 +50,19 @@ build_map-returns-clause-built g t c =
     let mid = c.build.new.arena.entries.items in
     let p = c.in_ok-value.value in
     let b = rw (c.node_below.ensures, c.deref.ensures, c.in_ok-below.ensures) at c.in_ok-value.ensures.built in
-    let names = rw c.in_ok-value.ensures.values at c.len.ensures in
+    let names = rw c.in_ok-value.ensures.kept.0 at c.len.ensures in
     let added = c.add_row.ensures in
-    three_ok c.add_row.result _ _ _ _ added.number added.count (rw (c.in_ok-value.ensures.limit, c.in_ok-value.ensures.values) at added.right)
+    three_ok c.add_row.result _ _ _ _ added.number added.count (rw (c.in_ok-value.ensures.kept.1, c.in_ok-value.ensures.kept.0) at added.right)
     (λ n number count right d. row_built g.Z.SizeSet.holds c.args.arena.now.limit c.args.pools.now v old mid c.add_row.new.arena.entries.items c.args.path.now c.args.nullable d (map_sort m.value m.map_type m.bounds) c.args.keys.now m.bounds no_validations _ c.in_ok-slots.slots.items n
     c.reveal_invariant.ensures refl refl (λ sound. map_met) (number ∙ b.count) count b.right
-    (λ sites values sound stand. rw (← values.names) (c.in_ok-slots.ensures.slots v.names.items sites n c.args.path.now m.value (omega (arith, names)) (omega (arith, b.last, number)) (last_site sites (length old) p (below c.args.path.now value) m.value [] (omega (arith, b.last, b.count)) stand))) right)
+    (λ sites values sound placed. rw (← values.names) (c.in_ok-slots.ensures.slots v.names.items sites n c.args.path.now m.value (omega (arith, names)) (omega (arith, b.last, number)) (last_site sites (length old) p (below c.args.path.now value) m.value [] (omega (arith, b.last, b.count)) placed))) right)
 
 pub build_list-returns-clause-built : goal.build_list-returns-clause-built
 build_list-returns-clause-built g t c =
     let l = c.args.list.now in
     let b = rw (c.node_below.ensures, c.item_keys.ensures, c.deref.ensures, c.in_ok-below.ensures) at c.in_ok-item.ensures.built in
     let added = c.add_list.ensures in
-    three_ok c.add_list.result _ _ _ _ added.number added.count (rw (c.in_ok-item.ensures.limit, c.in_ok-item.ensures.values) at added.right)
+    three_ok c.add_list.result _ _ _ _ added.number added.count (rw (c.in_ok-item.ensures.kept.1, c.in_ok-item.ensures.kept.0) at added.right)
     (λ n number count right d. list_built g.Z.SizeSet.holds c.args.arena.now.limit c.args.pools.now c.args.arena.now.values c.args.arena.now.entries.items c.build.new.arena.entries.items c.add_list.new.arena.entries.items c.args.path.now c.args.nullable d l.item l.list_type l.keys.items l.bounds c.args.keys.now
     c.in_ok-item.item n c.reveal_invariant.ensures b number count right)
 
@@ -73,7 +72,7 @@ build_field-returns-clause-slot g t c = record { name_is = λ names. c.in_ok-cop
 pub build_fields-loop-field-init : goal.build_fields-loop-field-init
 build_fields-loop-field-init g t c =
     let a = c.args.arena.now in
-    record { values = refl; limit = refl; built = rw c.new-slots.ensures.items (no_fields_built g.Z.SizeSet.holds a.limit c.args.pools.now a.values a.entries.items c.args.path.now c.args.keys.now c.args.named.now) }
+    record { kept = (refl, refl); built = rw c.new-slots.ensures.items (no_fields_built g.Z.SizeSet.holds a.limit c.args.pools.now a.values a.entries.items c.args.path.now c.args.keys.now c.args.named.now) }
 
 pub build_map-add_row-requires-clause-below : goal.build_map-add_row-requires-clause-below
 build_map-add_row-requires-clause-below g t c = λ k d l. let h = c.in_ok-slots.ensures.below k d l in omega (arith, c.in_ok-value.ensures.built.last)

@@ -61,5 +61,5 @@ returns-clause-right g c = λ P sites cs right o sort ending met null are.
     let inside : i ≤ length entries = omega (arith, number) in
     right_push holds limit P values sites entries c.add.new.self.entries.items _ i right c.in_ok-node.ensures.added number
     (row_right holds limit P values sites i c.args.slots c.in_ok-later.later c.in_ok-tables.tables e c.args.ends.now c.args.nullable c.index.result.now c.index-2.result.now c.index-3.result.now c.whole_sizes-sizes.result
-    c.parts_one_level.ensures c.requires.room o sort ending met null are c.requires.closed (rw c.deref-2.ensures.value at c.in_ok-later.ensures.whole) (c.in_ok-later.ensures.later P sites i (slots_of P (site_at sites i)) right inside (rw c.deref-2.ensures.value are))
+    c.parts_one_level.ensures c.requires.limit.0 o sort ending met null are c.requires.closed (rw c.deref-2.ensures.value at c.in_ok-later.ensures.whole) (c.in_ok-later.ensures.later P sites i (slots_of P (site_at sites i)) right inside (rw c.deref-2.ensures.value are))
     (rw count at c.in_ok-tables.ensures.whole) (rw count at c.in_ok-tables.ensures.shaped) (c.in_ok-tables.ensures.tables P (slots_of P (site_at sites i)) e refl met choices) (rw place at c.index.ensures) c.index-2.ensures c.index-3.ensures c.whole_sizes-sizes.ensures)

@@ -22,5 +22,5 @@ returns-clause-right g c = λ P sites d right is item o sound.
     let r : IsRight holds limit P v sites c.args.item c.entry.result.now = rw (← c.entry.ensures) at (right c.args.item c.entry.result.now c.requires.item) in
     let are = c.in_ok-more.ensures.sets P (site_at sites c.args.item) r.sizes in
     right_push holds limit P v sites c.args.arena.now.entries.items c.add.new.self.entries.items _ i right c.in_ok-node.ensures.added number
-    (list_right holds limit P v sites i c.args.item c.distinct.result c.in_ok-more.more b c.args.nullable c.index.result.now c.whole_sizes-sizes.result c.parts_one_level.ensures c.requires.room item below
+    (list_right holds limit P v sites i c.args.item c.distinct.result c.in_ok-more.more b c.args.nullable c.index.result.now c.whole_sizes-sizes.result c.parts_one_level.ensures c.requires.limit.0 item below
     (c.distinct.ensures ∙ sym (ap distinct_at is)) (ap is_nullable is) cut_to c.in_ok-more.ensures.whole are c.index.ensures c.whole_sizes-sizes.ensures)

@@ -26,7 +26,7 @@ loop-done-preserved g c =
     let k = c.loop-done.done in
     let whole = c.loop-done.invariant.whole in
     let set = c.following_set-set.result in
-    let behind = c.index.result.now in
+    let after = c.index.result.now in
     let test = c.loop-done-test.true in
     let next : limit - k ≡ limit - 1 - k + 1 = omega arith in
     let here : limit - (k + 1) ≡ limit - 1 - k = omega arith in
@@ -34,8 +34,8 @@ loop-done-preserved g c =
     (record {
       whole = length_push c.loop-done.sets.items set ∙ ap (λ n. n + 1) whole;
       sets = λ P M h.
-          let before = c.loop-done.invariant.sets P M h k behind (omega arith) in
+          let before = c.loop-done.invariant.sets P M h k after (omega arith) in
           let b = rw (← c.index.ensures, next) at before in
           each_push (λ i x. IsUpTo i (holds x) (CanFollow P M c.args.bounds (limit - i))) c.loop-done.sets.items set (c.loop-done.invariant.sets P M h)
-          (rw (whole, here) (follow_up_to limit k P M c.args.bounds (limit - 1 - k) (holds c.args.sizes) (holds behind) (holds set) (omega arith) h b c.following_set-set.ensures));
+          (rw (whole, here) (follow_up_to limit k P M c.args.bounds (limit - 1 - k) (holds c.args.sizes) (holds after) (holds set) (omega arith) h b c.following_set-set.ensures));
     })

@@ -11,7 +11,7 @@ use Rattle.plan.specs.Pools.Document.{integer_of}
 use Rattle.plan.proofs.pools.integers_of.Goals as goal
 use Rattle.plan.proofs.pools.integers_of.Goals.{in-Int+in_ok-push, in_default}
 
--- what is no integer is passed over
+-- entries that are not integers are skipped
 passed : (t : Tree) (ds : List Data) → ((z : ℤ) → t ≡ tree.Int z → ⊥) → filter_map integer_of (data_of t ∷ ds) ≡ filter_map integer_of ds
 passed tree.Null ds h = refl
 passed (tree.Bool b) ds h = refl

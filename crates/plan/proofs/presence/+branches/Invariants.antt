@@ -4,7 +4,7 @@ use Rattle.stored.specs.Objects.Tests.{has_names, all_hold, any_holds, holding}
 use Rattle.plan.specs.Internal.Tables.{is_seen}
 use Rattle.plan.proofs.presence.+branches.Given as goal
 
--- what is asked of all branches is what is asked of those that are left
+-- the result for all branches is that for the branches that are left
 abbrev pub invariant-all_hold-loop-branch : goal.invariant-all_hold-loop-branch
 invariant-all_hold-loop-branch l = all_hold (has_names (is_seen l.names l.seen)) (branches_of (drop l.branch-index l.branch-items)) ≡ all_hold (has_names (is_seen l.names l.seen)) l.branches
 

@@ -11,5 +11,5 @@ invariant-loop-seen g l = record {
   whole : length l.table.items ≡ l.seen;
   wide : AreWide (l.before + 1) l.table.items;
   table : (P : Pools) (s : Slot) (ss : List Slot) (e : Ending) → IsUpTo l.limit (g.Z.SizeSet.holds l.choice.sizes) (HasSize P s.site) → l.choice.must ≡ s.must → l.choice.bit ≡ s.bit
-      → IsTable g.Z.SizeSet.holds l.limit e P ss l.behind → IsTable g.Z.SizeSet.holds l.limit e P (s ∷ ss) l.table.items;
+      → IsTable g.Z.SizeSet.holds l.limit e P ss l.after → IsTable g.Z.SizeSet.holds l.limit e P (s ∷ ss) l.table.items;
 }

@@ -24,9 +24,9 @@ loop-done-preserved g c =
     let done = c.loop-done.done in
     let test = c.loop-done-test.true in
     let kinds = length c.args.ends.now in
-    let behind = shape_at (length cs) kinds tables done c.index.result.now c.deref.result.now inv.shaped (omega (arith, inv.whole)) c.index.ensures c.deref.ensures.value in
+    let after = shape_at (length cs) kinds tables done c.index.result.now c.deref.result.now inv.shaped (omega (arith, inv.whole)) c.index.ensures c.deref.ensures.value in
     let width : length cs - 1 - done + 1 ≡ length cs + 1 - length tables = omega (arith, inv.whole) in
-    let shape : HasShape kinds (length cs + 1 - length tables) table.items = rw (behind.whole, width) at c.in_ok-table.ensures.shape in
+    let shape : HasShape kinds (length cs + 1 - length tables) table.items = rw (after.whole, width) at c.in_ok-table.ensures.shape in
     rw c.in_ok-push-2.ensures.items
     (record {
       whole = length_push tables table ∙ ap (λ n. n + 1) inv.whole;

@@ -1,10 +1,12 @@
-use Rattle.std.proofs.Common.{sym, subst, rules}
-use Rattle.schema.specs.Document.Forms.{HasForms}
-use Rattle.schema.proofs.SchemaFaults.{no_other}
+use Rattle.std.proofs.Common.{[], subst}
+use Rattle.std.specs.Prelude.{All}
+use Rattle.schema.specs.Internal.Judged.{pairs_of, AddsBreaks, IsReported}
+use Rattle.schema.specs.Internal.Subschemas.{IsSubschema}
+use Rattle.schema.proofs.JudgedLemmas.{violations_of}
 use Rattle.schema.proofs.judging.breaks.Goals as goal
 
-pub returns-in_default : goal.returns-in_default
-returns-in_default c = absurd (no_other c.tree.result.now (subst HasForms (sym c.tree.ensures.data) c.tree.ensures.sound.forms) c.in_default.not-Object)
-
-pub returns-in_ok-breaks_of-in-Ok-clause-ok : goal.returns-in_ok-breaks_of-in-Ok-clause-ok
-returns-in_ok-breaks_of-in-Ok-clause-ok c = search rules
+pub returns-in_ok-reports_of-in-Ok-clause-ok : goal.returns-in_ok-reports_of-in-Ok-clause-ok
+returns-in_ok-reports_of-in-Ok-clause-ok c =
+    let s = c.in-Ok.ensures.subschemas in
+    let found = c.in_ok-reports_of-in-Ok.field-0.items in
+    rw s.1 (violations_of s.0 c.in-Ok.subschemas.items found s.2 s.3 (subst (λ vs. AddsBreaks IsReported (λ raw. All (IsSubschema raw) vs) (pairs_of vs) [] found) c.as_slice.ensures.value c.in_ok-reports_of-in-Ok.ensures))

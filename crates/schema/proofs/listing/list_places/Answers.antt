@@ -1,6 +1,7 @@
 use Rattle.std.proofs.Common.{[], length, ap, sym, ◌∙◌, subst}
 use Rattle.std.specs.Prelude.{◌++◌, map, All}
 use Rattle.std.proofs.lemmas.List.Elements.{All-nil}
+use Rattle.std.proofs.lemmas.Result.{err_from_is_err_and}
 use Rattle.jtree.specs.Data.{object}
 use Rattle.schema.specs.Internal.PlaceView.{subschema_of}
 use Rattle.schema.specs.Internal.Subschemas.{IsSubschema}
@@ -11,24 +12,26 @@ use Rattle.schema.proofs.LimitLemmas.{within}
 use Rattle.schema.proofs.ListingLemmas.{refusal_names}
 use Rattle.schema.proofs.listing.list_places.Goals as goal
 
-pub returns-in-Ok-clause-within : goal.returns-in-Ok-clause-within
-returns-in-Ok-clause-within c =
+pub returns-clause-within : goal.returns-clause-within
+returns-clause-within c =
     let ms = c.args.schema.now in
     let events = schema_events [] ms in
-    within (object ms) events (schema_events_are ms c.reveal_invariant.ensures) (ap (λ vs. limit_break (length vs) events) (sym c.new-subschemas.ensures.items) ∙ c.in-Ok.ensures.ok)
+    within (object ms) events (schema_events_are ms c.reveal_invariant.ensures) (ap (λ vs. limit_break (length vs) events) (sym c.new-subschemas.ensures.items) ∙ c.in_ok-list_schema.ensures.ok)
 
-pub returns-clause-err : goal.returns-clause-err
-returns-clause-err c =
+pub returns-in_err-list_schema-clause-err : goal.returns-in_err-list_schema-clause-err
+returns-in_err-list_schema-clause-err c =
     let ms = c.args.schema.now in
     let events = schema_events [] ms in
-    refusal_names (object ms) events (schema_events_are ms c.reveal_invariant.ensures) c.in-Err.fault
-    (subst (λ vs. IsLimitRefusal (limit_break (length vs) events) c.in-Err.fault) c.new-subschemas.ensures.items c.in-Err.ensures.err)
+    let e = c.in_err-list_schema.field-0.0 in
+    let p = err_from_is_err_and c.from_residual.result c.from_residual.ensures.1 in
+    rw (p.1, p.2) (refusal_names (object ms) events (schema_events_are ms c.reveal_invariant.ensures) e
+    (subst (λ vs. IsLimitRefusal (limit_break (length vs) events) e) c.new-subschemas.ensures.items c.in_err-list_schema.ensures.err))
 
-pub returns-in-Ok-clause-subschemas : goal.returns-in-Ok-clause-subschemas
-returns-in-Ok-clause-subschemas c =
+pub returns-clause-subschemas : goal.returns-clause-subschemas
+returns-clause-subschemas c =
     let ms = c.args.schema.now in
     let none = c.new-subschemas.ensures.items in
     record {
-      each = c.in-Ok.ensures.contexts (object ms) c.root_context.ensures (subst (All (IsSubschema (object ms))) (sym none) (All-nil (IsSubschema (object ms))));
-      whole = c.in-Ok.ensures.subschemas ∙ ap (λ vs. map subschema_of vs ++ subschemas_of (schema_events [] ms)) none;
+      each = c.in_ok-list_schema.ensures.contexts (object ms) c.root_context.ensures (subst (All (IsSubschema (object ms))) (sym none) (All-nil (IsSubschema (object ms))));
+      whole = c.in_ok-list_schema.ensures.subschemas ∙ ap (λ vs. map subschema_of vs ++ subschemas_of (schema_events [] ms)) none;
     }

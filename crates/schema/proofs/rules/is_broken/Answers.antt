@@ -22,6 +22,6 @@ returns-then-not-is_inside-8 c = λ raw is.
     let b = c.is_outside_profile.result in
     let same = c.as_slice-place.ensures.value in
     let root = c.is_root.ensures ∙ ap (λ steps. is_root (place_of steps)) same in
-    let told = c.is_outside_profile.ensures ∙ ap (λ r. is_outside_profile r s) root in
+    let reported = c.is_outside_profile.ensures ∙ ap (λ r. is_outside_profile r s) root in
     let out = sym (c.if-not-is_inside-8.ensures ∙ ap (λ steps. is_inside (place_of steps)) same) in
-    subst (λ r. IsTrue b ↔ Broken raw p r) (sym c.in-V17.is) (passes_there raw p s (is_outside_profile (is_root p)) b is.is out told)
+    subst (λ r. IsTrue b ↔ Broken raw p r) (sym c.in-V17.is) (passes_there raw p s (is_outside_profile (is_root p)) b is.is out reported)

@@ -1,7 +1,7 @@
 use Rattle.std.proofs.lemmas.Result.{IfOk-weaker}
 use Rattle.jtree.specs.View.{data_of}
 use Rattle.schema.specs.Nodes.View.{node_of}
-use Rattle.stored.proofs.Again.{filled_again}
+use Rattle.stored.proofs.FilledAgain.{filled_again}
 use Rattle.stored.proofs.PrunedAgain.{filled_pruned, good_below}
 use Rattle.stored.proofs.completing.complete.Goals as goal
 

@@ -4,21 +4,21 @@ use Rattle.std.proofs.lemmas.Result.{on_ok_weaker}
 use Rattle.jtree.specs.Pointer.{name_token}
 use Rattle.schema.specs.Document.Places.{map_value, items}
 use Rattle.schema.specs.Nodes.View.{node_of}
-use Rattle.schema.specs.Rules.Breaks.{told}
+use Rattle.schema.specs.Rules.Breaks.{reported}
 use Rattle.stored.specs.Internal.DefaultList.{defaults_of, AreAdded}
-use Rattle.stored.proofs.DefaultLemmas.{added_behind, values_token, items_token, added_field, added_more}
+use Rattle.stored.proofs.DefaultLemmas.{added_after, values_token, items_token, added_field, added_more}
 use Rattle.stored.proofs.defaults.+defaults.Goals as goal
 
 pub find_bad-returns-in-Map : goal.find_bad-returns-in-Map
-find_bad-returns-in-Map t c = rw c.in-Map.is (on_ok_weaker c.find_bad_below.result (added_behind _ _ map_value _ _ _ values_token) c.find_bad_below.ensures)
+find_bad-returns-in-Map t c = rw c.in-Map.is (on_ok_weaker c.find_bad_below.result (added_after _ _ map_value _ _ _ values_token) c.find_bad_below.ensures)
 
 pub find_bad-returns-in-List : goal.find_bad-returns-in-List
-find_bad-returns-in-List t c = rw c.in-List.is (on_ok_weaker c.find_bad_below-in-List.result (added_behind _ _ items _ _ _ items_token) c.find_bad_below-in-List.ensures)
+find_bad-returns-in-List t c = rw c.in-List.is (on_ok_weaker c.find_bad_below-in-List.result (added_after _ _ items _ _ _ items_token) c.find_bad_below-in-List.ensures)
 
 pub find_bad_below-returns : goal.find_bad_below-returns
 find_bad_below-returns t c = on_ok_weaker c.find_bad.result
-    (λ a. subst (λ N. AreAdded (c.args.pointer.now ++ name_token c.args.keyword.now) (defaults_of N) (map told c.args.found.now.items) (map told c.find_bad.new.found.items)) (ap node_of c.deref.ensures ∙ c.node.view_is)
-    (subst (λ text. AreAdded text (defaults_of (node_of c.deref.result.now)) (map told c.args.found.now.items) (map told c.find_bad.new.found.items)) (c.as_str.ensures.value ∙ c.in_ok-place.ensures) a))
+    (λ a. subst (λ N. AreAdded (c.args.pointer.now ++ name_token c.args.keyword.now) (defaults_of N) (map reported c.args.found.now.items) (map reported c.find_bad.new.found.items)) (ap node_of c.deref.ensures ∙ c.node.view_is)
+    (subst (λ text. AreAdded text (defaults_of (node_of c.deref.result.now)) (map reported c.args.found.now.items) (map reported c.find_bad.new.found.items)) (c.as_str.ensures.value ∙ c.in_ok-place.ensures) a))
     c.find_bad.ensures
 
 pub find_bad_field-returns : goal.find_bad_field-returns

@@ -24,8 +24,8 @@ returns-clause-apart c =
     let N = node_of c.args.node.now in
     let v = data_of c.args.tree.now in
     let stored = c.in_ok-check_stored.ensures.0 c.if-not-branch.false in
-    λ raw root p sound there. leaves_apart N v (map elements_of c.list_tree.new.walk.leaves.items) c.texts_tell_apart.ensures
-    (record { items = sound_below root p N (c.items_told_apart.ensures raw root sound) there; valid = stored.valid; tree = c.reveal_invariant.ensures })
+    λ raw root p sound there. leaves_apart N v (map elements_of c.list_tree.new.walk.leaves.items) c.texts_are_unique.ensures
+    (record { items = sound_below root p N (c.items_are_distinct.ensures raw root sound) there; valid = stored.valid; tree = c.reveal_invariant.ensures })
     (returns-clause-leaves c)
 
 pub returns-clause-covered : goal.returns-clause-covered

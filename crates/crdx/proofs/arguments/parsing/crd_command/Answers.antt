@@ -7,11 +7,11 @@ pub returns-clause-app : goal.returns-clause-app
 returns-clause-app c =
     let about : app_of c.about.result ≡ new_app c.args.name.now = ap app_of_fields c.about.ensures ∙ c.new.ensures.app in
     let texts : app_of c.after_long_help.result ≡ new_app c.args.name.now = ap app_of_fields c.after_long_help.ensures ∙ (ap app_of_fields c.long_about.ensures ∙ about) in
-    let first = IfOk-weaker c.arg-command.result _ _ (λ r adds. adds.shape c.crd_argument.ensures.local ∙ ap₂ with_rule texts c.crd_argument.ensures.rule) c.arg-command.ensures in
-    c.add_argument.ensures.app _ _ first c.version_argument.ensures.rule
+    let first = IfOk-weaker c.arg-command.result _ _ (λ r adds. adds.shape c.required_argument.ensures.local ∙ ap₂ with_rule texts c.required_argument.ensures.rule) c.arg-command.ensures in
+    c.add_argument.ensures.app _ _ first c.required_argument-2.ensures.rule
 
 pub returns-clause-local : goal.returns-clause-local
 returns-clause-local c =
     let about = ap (λ f. f.has_globals) c.about.ensures ∙ c.new.ensures.local in
     let texts = ap (λ f. f.has_globals) c.after_long_help.ensures ∙ (ap (λ f. f.has_globals) c.long_about.ensures ∙ about) in
-    c.add_argument.ensures.local (IfOk-weaker c.arg-command.result _ _ (λ r adds. adds.globals ∙ ap₂ (λ g h. g || h) texts c.crd_argument.ensures.local) c.arg-command.ensures)
+    c.add_argument.ensures.local (IfOk-weaker c.arg-command.result _ _ (λ r adds. adds.globals ∙ ap₂ (λ g h. g || h) texts c.required_argument.ensures.local) c.arg-command.ensures)

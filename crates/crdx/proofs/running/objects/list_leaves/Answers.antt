@@ -1,9 +1,10 @@
-use Rattle.std.proofs.Common.{map, ap, ◌∙◌}
+use Rattle.std.proofs.Common.{map, ap, sym, ◌∙◌}
+use Rattle.std.proofs.lemmas.List.Folds.{flat_map-map}
 use Rattle.std.proofs.lemmas.Result.{err_from_is_err_and}
 use Rattle.jtree.specs.View.{data_of}
 use Rattle.schema.specs.Nodes.View.{node_of}
 use Rattle.stored.specs.Objects.Leaves.{elements_of}
-use Rattle.crdx.specs.Program.ObjectAnswer.{leaf_lines}
+use Rattle.crdx.specs.Program.ObjectAnswer.{leaf_line, leaf_lines}
 use Rattle.crdx.proofs.ObjectLemmas.{owned_answer, leaves_cause}
 use Rattle.crdx.proofs.running.objects.list_leaves.Goals as goal
 
@@ -16,4 +17,4 @@ pub returns-clause-answer : goal.returns-clause-answer
 returns-clause-answer c = λ document is.
     let leaves = c.in_ok-leaves.leaves.items in
     owned_answer (node_of c.args.node.now) document (data_of c.args.body.now) leaves _ is c.in_ok-leaves.ensures.stored c.in_ok-leaves.ensures.leaves
-    (c.in_ok-leaf_lines.ensures ∙ ap (λ ls. leaf_lines (map elements_of ls)) c.as_slice.ensures.value)
+    (c.in_ok-all_lines.ensures ∙ (sym (flat_map-map leaf_line elements_of _) ∙ ap (λ ls. leaf_lines (map elements_of ls)) c.as_slice.ensures.value))

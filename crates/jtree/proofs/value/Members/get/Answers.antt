@@ -1,10 +1,15 @@
-use Rattle.std.proofs.Common.{◌≡◌, ◌+◌, ◌<◌, true, false, length, drop, ap, sym, ◌∙◌, arith}
+use Rattle.std.proofs.Common.{◌≡◌, ℕ, List, ◌+◌, ◌<◌, true, false, length, drop, get_or, ap, sym, ◌∙◌, arith}
 use Rattle.std.specs.Str.{bytes_eq}
 use Rattle.std.proofs.lemmas.List.{at_drop_more, at_drop_all}
 use Rattle.jtree.specs.Data.{member}
 use Rattle.jtree.specs.Path.{member_at}
 use Rattle.jtree.specs.View.{data_of, members_of}
+use Rattle.jtree.specs.declared.value.Member.{Member}
 use Rattle.jtree.proofs.value.Members.get.Goals as goal
+
+-- the members from a place on are the one there and those after it
+next_member : (ms : List Member) (i : ℕ) (m : Member) → i < length ms → m ≡ get_or ms i m → members_of (drop i ms) ≡ member m.name (data_of m.tree) (members_of (drop (i + 1) ms))
+next_member ms i m within is = at_drop_more members_of ms i m within ∙ ap (λ z. member z.name (data_of z.tree) (members_of (drop (i + 1) ms))) (sym is)
 
 pub returns-then-eq : goal.returns-then-eq
 returns-then-eq c =
@@ -12,8 +17,7 @@ returns-then-eq c =
     let ms = c.deref-member-items.result.now in
     let m = c.member-item.result in
     let k = c.args.name.now in
-    let within : i < length ms = omega arith in
-    let split = at_drop_more members_of ms i m within ∙ ap (λ z. member z.name (data_of z.tree) (members_of (drop (i + 1) ms))) (sym c.member-item.is) in
+    let split = next_member ms i m (omega arith) c.member-item.is in
     let same : bytes_eq k m.name ≡ true = cc in
     let here = ap (member_at k) split in
     let whole : members_of ms ≡ c.args.self.now = ap members_of c.deref-member-items.ensures.value ∙ c.self.view_is in
@@ -25,8 +29,7 @@ loop-member-preserved c =
     let ms = c.deref-member-items.result.now in
     let m = c.member-item.result in
     let k = c.args.name.now in
-    let within : i < length ms = omega arith in
-    let split = at_drop_more members_of ms i m within ∙ ap (λ z. member z.name (data_of z.tree) (members_of (drop (i + 1) ms))) (sym c.member-item.is) in
+    let split = next_member ms i m (omega arith) c.member-item.is in
     let other : bytes_eq k m.name ≡ false = cc in
     let here = rw other at (ap (member_at k) split) in
     sym here ∙ c.loop-member.invariant

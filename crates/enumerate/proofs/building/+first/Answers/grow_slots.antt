@@ -1,0 +1,86 @@
+use Rattle.enumerate.specs.Internal.Following.{Continue}
+use Rattle.enumerate.specs.Internal.Rows.{IsValue, slots_from, slot_in}
+use Rattle.enumerate.proofs.MoveCosts.{part_within, costs_slots, costs_both_slots}
+use Rattle.plan.specs.Samples.Sizes.{HasSize}
+use Rattle.enumerate.proofs.RowSteps.{after_open}
+use Rattle.std.proofs.Common.{refl, sym, subst, ◌∙◌, arith, ◌+◌, ◌≤◌}
+use Rattle.enumerate.proofs.ListLemmas.{some_nodes, site_among}
+use Rattle.jtree.specs.View.{data_of}
+use Rattle.enumerate.specs.Internal.Candidates.{stack_of, used_rows}
+use Rattle.enumerate.proofs.building.+first.Goals as goal
+
+pub returns-in_default : goal.grow_slots-returns-in_default
+returns-in_default g t c =
+    record {
+      ok = (refl, c.in_default.ensures, refl);
+      following = tt;
+      steps = λ w wide. omega arith;
+      last = refl;
+    }
+
+pub first_value-requires : goal.grow_slots-first_value-requires
+first_value-requires g t c κs within =
+    let sum = c.in-Some.ensures.1.1.1.1 in
+    (omega (arith, c.decreases), (within, (c.requires.node, (c.requires.slot, (subst (λ s. HasSize c.args.plan.now.pools s c.in-Some.size) (sym c.requires.slot.node) c.in-Some.ensures.1.0, (omega (arith, sum, c.requires.limit), (c.requires.open.known, c.requires.open.free)))))))
+
+pub put_member-requires : goal.grow_slots-put_member-requires
+put_member-requires g t c κs within =
+    let q = c.args.plan.now in
+    let sound = c.sound_parts.ensures.parts _ (site_among q c.args.node c.requires.node) in
+    let value = c.in_ok-tree.ensures.ok.is in
+    let some : 1 ≤ c.in-Some.size = omega (arith, some_nodes (data_of c.in_ok-tree.tree), value.nodes_are) in
+    let few : c.in-Some.size ≤ c.args.room = omega (arith, c.in-Some.ensures.1.1.1.1) in (
+      omega (arith, c.decreases),
+      (
+        within,
+        (
+          c.requires.node,
+          (
+            c.requires.row,
+            (
+              c.requires.slot,
+              (
+                c.requires.taken,
+                (
+                  omega (arith, c.requires.limit, some, few),
+                  (
+                    c.in_ok-name.ensures ∙ c.requires.slot.name,
+                    (
+                      value.part,
+                      (
+                        subst (λ n. Continue (IsValue q.pools (slot_in q c.args.node c.args.place) (slots_from q c.args.node (c.args.place + 1)) (used_rows c.args.used.now) n) (data_of c.in_ok-tree.tree) (stack_of c.first_value.new.following.items)) (sym value.nodes_are) c.in_ok-tree.ensures.following,
+                        after_open q c.args.node c.args.place sound c.requires.slot.first c.args.before c.args.room (used_rows c.args.used.now) c.in-Some.size (data_of c.in_ok-tree.tree) c.requires.open.known c.in-Some.ensures.1 value,
+                      ),
+                    ),
+                  ),
+                ),
+              ),
+            ),
+          ),
+        ),
+      ),
+    )
+
+pub returns : goal.grow_slots-returns
+returns g t c =
+    record {
+      ok = record {
+        size = c.in-Some.size;
+        one = record { name = c.in_ok-name.name; tree = c.in_ok-tree.tree };
+        name = c.in_ok-name.ensures ∙ c.requires.slot.name;
+        least = c.in-Some.ensures;
+        first = c.in_ok-tree.ensures.ok;
+        rest = c.in_ok-put_member.ensures.ok;
+      };
+      following = c.in_ok-put_member.ensures.following;
+      steps = costs_both_slots c.args.plan.now c.args.node (c.args.place + 1) c.args.meter.now c.first_value.new.meter c.put_member.new.meter c.in-Some.size c.args.room (part_within c.in-Some.size c.in-Some.ensures.1.1.0 c.args.room c.in-Some.ensures.1.1.1.1) c.first_value.ensures.steps c.put_member.ensures.steps;
+      last = tt;
+    }
+
+pub returns-in_err-tree-clause-steps : goal.grow_slots-returns-in_err-tree-clause-steps
+returns-in_err-tree-clause-steps g t c =
+    costs_slots c.args.plan.now c.args.node (c.args.place + 1) c.args.meter.now c.first_value.new.meter c.in-Some.size c.args.room (part_within c.in-Some.size c.in-Some.ensures.1.1.0 c.args.room c.in-Some.ensures.1.1.1.1) c.first_value.ensures.steps
+
+pub returns-in_err-put_member-clause-steps : goal.grow_slots-returns-in_err-put_member-clause-steps
+returns-in_err-put_member-clause-steps g t c =
+    costs_both_slots c.args.plan.now c.args.node (c.args.place + 1) c.args.meter.now c.first_value.new.meter c.put_member.new.meter c.in-Some.size c.args.room (part_within c.in-Some.size c.in-Some.ensures.1.1.0 c.args.room c.in-Some.ensures.1.1.1.1) c.first_value.ensures.steps c.put_member.ensures.steps

@@ -1,0 +1,20 @@
+use Rattle.std.proofs.Common.{◌+◌, ◌*◌, ◌-◌, ◌≤◌, ℕ, Some}
+use Rattle.jtree.specs.View.{data_of}
+use Rattle.plan.specs.Samples.Candidates.{IsWidth}
+use Rattle.plan.specs.Samples.Steps.{delay}
+use Rattle.enumerate.specs.Internal.Current.{IsCurrent}
+use Rattle.enumerate.proofs.PageLemmas.{IsLent}
+use Rattle.enumerate.proofs.CurrentLemmas.{CanChange}
+use Rattle.enumerate.proofs.current.Current.lend.Given as goal
+
+abbrev pub invariant-samples : goal.invariant-samples
+invariant-samples g l = record {
+  current : IsCurrent l.plan l.self;
+  lent : IsLent l.plan (Some (data_of l.initial.self.tree)) l.count l.lent (g.T.Taker.has_taken l.initial.taker l.taker) (Some (data_of l.self.tree));
+  before : CanChange (g.T.Taker.has_taken l.initial.taker l.taker) (data_of l.self.tree) l.change;
+  short : l.lent ≤ l.count;
+  steps : (w : ℕ) → IsWidth l.plan.pools l.plan.root w → l.meter ≤ l.initial.meter + l.lent * delay l.plan.limit w;
+}
+
+abbrev pub decreases-samples : goal.decreases-samples
+decreases-samples g l = l.count - l.lent

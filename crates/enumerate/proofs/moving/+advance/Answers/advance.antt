@@ -1,0 +1,83 @@
+use Rattle.std.proofs.Common.{refl, sym, ap, subst, arith, []}
+use Rattle.std.proofs.lemmas.Result.{IfOk-weaker}
+use Rattle.jtree.specs.Nodes.{node_count}
+use Rattle.jtree.specs.Internal.Rising.{contained}
+use Rattle.enumerate.specs.Internal.Nodes.{IsPartOf}
+use Rattle.enumerate.specs.Internal.Candidates.{stack_of, IsUnusedPart}
+use Rattle.enumerate.proofs.MoveCosts.{costs_thrice, costs_less, costs_last}
+use Rattle.enumerate.proofs.ChangeLemmas.{moves}
+use Rattle.enumerate.proofs.FollowingLemmas.{if_both, moved_continues_same, none_continues, row_moved_continues}
+use Rattle.enumerate.proofs.ListLemmas.{some_nodes, site_among}
+use Rattle.enumerate.proofs.MoveLemmas.{moved_same}
+use Rattle.enumerate.proofs.NullMoves.{row_moved}
+use Rattle.enumerate.proofs.PartRows.{weight_next, row_unless_null}
+use Rattle.jtree.specs.View.{data_of}
+use Rattle.enumerate.specs.Internal.Moves.{IsMoved}
+use Rattle.enumerate.proofs.moving.+advance.Goals as goal
+
+pub advance_row-requires : goal.advance-advance_row-requires
+advance_row-requires g t c κs within =
+    let q = c.args.plan.now in
+    let there = site_among q c.args.node c.requires.node in
+    let row = sym c.in-Row.ensures in (
+      omega (arith, c.decreases, weight_next q c.args.node),
+      (
+        within,
+        (
+          c.requires.node,
+          (
+            row,
+            (
+              record { few = omega arith; tuples = λ k d lt. absurd (omega (arith, lt)); apart = λ a b d lt inside. absurd (omega (arith, lt, inside)) },
+              (
+                row_unless_null q c.args.node (c.no_dead_end.ensures.parts _ there) row (node_count (data_of c.args.tree)) (data_of c.args.tree) (record { part = c.requires.part; nodes_are = refl })
+                    (λ is nullable. let yes = c.is_null.ensures.1 is in let no = c.if-is_null.false in cc),
+                c.requires.limit,
+              ),
+            ),
+          ),
+        ),
+      ),
+    )
+
+pub advance_list-requires : goal.advance-advance_list-requires
+advance_list-requires g t c κs within =
+    let q = c.args.plan.now in
+    (omega (arith, c.decreases, weight_next q c.args.node), (within, (c.requires.node, (sym c.in-List.ensures, (c.requires.part, (λ is. let yes = c.is_null.ensures.1 is in let no = c.if-is_null.false in cc, c.requires.limit))))))
+
+pub returns-in_default : goal.advance-returns-in_default
+returns-in_default g t c =
+    let q = c.args.plan.now in
+    let null = c.is_null.ensures.0 c.if-is_null.true in
+    record {
+      ok = subst (λ v. IsMoved (IsPartOf q c.args.node (node_count v)) v c.past_null.result) (sym null) c.past_null.ensures;
+      following = none_continues (IsPartOf q c.args.node (node_count (data_of c.args.tree))) c.past_null.result (stack_of c.clear.new.self.items) (ap stack_of c.clear.ensures.items);
+      steps = λ w wide. omega arith;
+      last = costs_last c.past_null.result q c.args.meter.now c.args.meter.now (node_count (data_of c.args.tree)) (λ w wide. omega arith);
+      place = moves (data_of c.args.tree) c.past_null.result;
+    }
+
+pub returns-in-Row : goal.advance-returns-in-Row
+returns-in-Row g t c =
+    let q = c.args.plan.now in
+    let there = site_among q c.args.node c.requires.node in
+    let row = sym c.in-Row.ensures in
+    record {
+      ok = IfOk-weaker c.advance_row.result _ _ (λ m h. row_moved q c.args.node (c.no_dead_end.ensures.parts _ there) row (data_of c.args.tree) m h) c.advance_row.ensures.ok;
+      following = if_both c.advance_row.result _ _ _ (λ m h k. row_moved_continues q c.args.node (c.no_dead_end.ensures.parts _ there) row (node_count (data_of c.args.tree)) (data_of c.args.tree) m (stack_of c.advance_row.new.following.items) (some_nodes (data_of c.args.tree)) h k) c.advance_row.ensures.ok c.advance_row.ensures.following;
+      steps = c.advance_row.ensures.steps;
+      last = c.advance_row.ensures.last;
+      place = c.advance_row.ensures.place;
+    }
+
+pub returns-in-Leaf : goal.advance-returns-in-Leaf
+returns-in-Leaf g t c =
+    let q = c.args.plan.now in
+    let n = node_count (data_of c.args.tree) in
+    record {
+      ok = IfOk-weaker c.next_unused.result _ _ (λ m h. moved_same (IsUnusedPart q c.args.node n []) (IsPartOf q c.args.node n) (data_of c.args.tree) m (λ u p. p.0) (λ u p. (p, λ k. contained [] _ k)) h) c.next_unused.ensures.ok;
+      following = IfOk-weaker c.next_unused.result _ _ (λ m h. moved_continues_same (IsUnusedPart q c.args.node n []) (IsPartOf q c.args.node n) m (stack_of c.next_unused.new.following.items) (λ u p. p.0) (λ u p. (p, λ k. contained [] _ k)) h) c.next_unused.ensures.following;
+      steps = costs_thrice c.args.plan.now c.args.meter.now c.next_unused.new.meter (node_count (data_of c.args.tree)) (some_nodes (data_of c.args.tree)) c.next_unused.ensures.steps;
+      last = IfOk-weaker c.next_unused.result _ _ (λ m h. costs_less c.args.plan.now m c.args.meter.now c.next_unused.new.meter (node_count (data_of c.args.tree)) (some_nodes (data_of c.args.tree)) c.next_unused.ensures.steps) c.next_unused.ensures.ok;
+      place = IfOk-weaker c.next_unused.result _ _ (λ m h. moves (data_of c.args.tree) m) c.next_unused.ensures.ok;
+    }

@@ -1,4 +1,0 @@
-use Rattle.enumerate.proofs.standing.change_at.Goals as goal
-
-pub returns-then-depth-gt0 : goal.returns-then-depth-gt0
-returns-then-depth-gt0 c = λ old new h. (h.part, h.is)

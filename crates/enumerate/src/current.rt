@@ -1,0 +1,137 @@
+//! The current sample of an enumeration, and the candidates that make the next ones in the place of its last node.
+ghost use Rattle.std.specs.Prelude.{◌≡◌, ◌≤◌, ◌*◌, List, length, Option, Some, false, IfOk, OnErr};
+ghost use Rattle.jtree.specs.Data.{Data};
+ghost use Rattle.jtree.specs.View.{data_of};
+ghost use Rattle.enumerate.specs.Live.{IsNextSample, LendsPage, LendsPart};
+ghost use Rattle.enumerate.specs.Page.{IsSampleOf};
+ghost use Rattle.enumerate.specs.Internal.Nodes.{Costs};
+ghost use Rattle.enumerate.specs.Internal.Candidates.{stack_of};
+ghost use Rattle.enumerate.specs.Internal.Changes.{DiffersAt};
+ghost use Rattle.enumerate.specs.Internal.Current.{ContinueSample, ChangesIf, IsCurrent, IsStep, unless_ended};
+
+use crate::root::next_sample;
+use crate::taking::{Change, Replaced, Taker};
+use jtree::{Text, Tree, last_node_is_replaced};
+use plan::{Meter, Plan, SizeSet};
+use std::alloc::{AllocError, Global};
+use std::mem;
+
+/// How a sample differs from the one before it, where it does so in the part `depth` levels down alone; `None` at depth 0.
+fn change_at<'p>(depth: usize) -> Option<Change<'p>>
+    ensures { (old new : Data) → DiffersAt depth old new → ChangesIf result old new }
+{
+    if depth > 0 {
+        Some(Change::Part(depth))
+    } else {
+        None
+    }
+}
+
+#[derive(Drop)]
+pub(crate) struct Current<'p> {
+    pub tree: Tree,
+    /// On top the candidate that is the last node, and below it those that make the next samples in its place.
+    following: Vec<&'p Tree>,
+    /// Names of members that were taken off, at most as many as a sample had members.
+    spare: Vec<Text>,
+    /// How the sample differs from the one before it, where that is known.
+    change: Option<Change<'p>>,
+}
+
+impl<'p> Current<'p> {
+    /// The sample, with the candidates that continue it in the place of its last node.
+    pub(crate) fn at<Z: SizeSet>(
+        plan: &'p Plan<Z>,
+        tree: Tree,
+        following: Vec<&'p Tree>,
+        spare: Vec<Text>,
+    ) -> Current<'p>
+        requires sample { IsSampleOf plan.now (data_of tree) }
+        requires following { ContinueSample plan.now (data_of tree) (stack_of following.items) }
+        ensures tree { result.tree ≡ tree }
+        ensures current { IsCurrent plan.now result }
+    {
+        let _ = plan;
+        Current {
+            tree,
+            following,
+            spare,
+            change: None,
+        }
+    }
+
+    /// Moves to the next sample, and answers whether there is one.
+    pub(crate) fn step<Z: SizeSet>(
+        &mut self,
+        alloc: Global,
+        plan: &'p Plan<Z>,
+        meter: &mut Meter,
+    ) -> Result<bool, AllocError>
+        requires { IsCurrent plan.now self.old }
+        ensures ok { IfOk result (λ more. IsStep plan.now self.old self.new more) }
+        ensures steps { Costs plan.now meter.old meter.new (3 * plan.now.limit) }
+    {
+        // for its contract alone
+        last_node_is_replaced();
+        if let Some(replaced) = self.following.pop() {
+            if let Some(next) = self.following.last() {
+                let depth = self.tree.set_last(alloc, *next)?;
+                self.change = Some(Change::Node(Replaced {
+                    before: replaced,
+                    node: *next,
+                    depth,
+                }));
+                return Ok(true);
+            }
+        }
+        let mut depth = 0;
+        let tree = mem::replace(&mut self.tree, Tree::Null);
+        match next_sample(
+            alloc,
+            plan,
+            tree,
+            &mut self.following,
+            &mut self.spare,
+            &mut depth,
+            meter,
+        )? {
+            Some(next) => {
+                self.tree = next;
+                self.change = change_at(depth);
+                Ok(true)
+            }
+            None => Ok(false),
+        }
+    }
+
+    /// Lends the taker the sample and those after it, `count` in all, or fewer where no more are left, and moves to the sample after
+    /// them. It answers whether no sample is left.
+    pub(crate) fn lend<Z: SizeSet, T: Taker>(
+        &mut self,
+        alloc: Global,
+        plan: &'p Plan<Z>,
+        count: u32,
+        taker: &mut T,
+        meter: &mut Meter,
+    ) -> Result<bool, AllocError>
+        requires { IsCurrent plan.now self.old }
+        ensures page { IfOk result (λ end. (after : Option Data) → IsNextSample plan.now after (Some (data_of self.old.tree))
+            → LendsPage plan.now after count end (T.has_taken taker.old taker.new) (unless_ended end self.new.tree) meter.old meter.new) }
+        ensures part { OnErr result ((after : Option Data) → IsNextSample plan.now after (Some (data_of self.old.tree))
+            → LendsPart plan.now after count (T.has_taken taker.old taker.new)) }
+        ensures taken { (items : List Data) × T.has_taken taker.old taker.new items × (length items ≤ count) }
+        ensures current { IfOk result (λ end. end ≡ false → IsCurrent plan.now self.new) }
+    {
+        let mut lent = 0;
+        let mut change = None;
+        'samples: while lent < count {
+            taker.take(&self.tree, change)?;
+            if !self.step(alloc, plan, meter)? {
+                return Ok(true);
+            }
+            change = self.change;
+            lent += 1;
+        }
+        Ok(false)
+    }
+}

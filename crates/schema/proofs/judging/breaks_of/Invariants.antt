@@ -1,9 +1,0 @@
-use Rattle.std.proofs.Common.{[], take}
-use Rattle.std.specs.Prelude.{All}
-use Rattle.schema.specs.Internal.Subschemas.{IsSubschema}
-use Rattle.schema.specs.Internal.Judged.{pairs_of, AddsBreaks, IsTold}
-use Rattle.schema.proofs.judging.breaks_of.Given as goal
-
--- the breaks of the places so far are found
-abbrev pub invariant-loop-subschema : goal.invariant-loop-subschema
-invariant-loop-subschema l = AddsBreaks IsTold (λ raw. All (IsSubschema raw) l.subschemas) (pairs_of (take l.subschema-index l.subschemas)) [] l.violations.items

@@ -1,9 +1,0 @@
-use Rattle.std.proofs.Common.{◌≡◌, drop, string_bytes}
-use Rattle.stored.specs.Internal.FailuresByLevel.{progress, noted, failed}
-use Rattle.stored.proofs.finding.Report.tell_failed.Given as goal
-
--- with the tests that are left, all is told
-abbrev pub invariant-loop-number : goal.invariant-loop-number
-invariant-loop-number l =
-    noted (progress l.self) (failed (string_bytes l.self.pointer) (drop l.number-index l.tests))
-    ≡ noted (progress l.initial.self) (failed (string_bytes l.initial.self.pointer) l.tests)
