@@ -90,6 +90,7 @@ pub(crate) fn is_last_key<Z: SizeSet>(
     ensures none { result ≡ true → (u : Data) → IsPart plan.now.pools (slot_in plan.now node place).site u → IsPast (Some (data_of tree.now)) u → ⊥ }
     ensures steps { meter.new ≤ meter.old + 1 }
 {
+    // for its contract alone
     plan.sound_parts();
     if !slot.key {
         return false;

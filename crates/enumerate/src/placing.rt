@@ -56,6 +56,7 @@ pub(crate) fn fill_at<'p, Z: SizeSet>(
     ensures steps { CostsSlots plan.now node 0 meter.old meter.new room }
     ensures last { IfOk result (λ step. CostsLastFrom step plan.now room meter.old meter.new) }
 {
+    // for their contracts alone, as with the laws and the limit in the functions below
     plan.sound_parts();
     plan.limit();
     if room == 0 || !fits(plan, node, slot, place, before, room) {

@@ -45,6 +45,7 @@ pub(crate) fn least_value<Z: SizeSet>(
     ensures { MatchOption result (IsEmptyFrom (FitsSlot plan.now.pools (slot_in plan.now node place) (slots_from plan.now node (place + 1)) (ending_at plan.now node) before room) from)
         (IsLeastFrom (FitsSlot plan.now.pools (slot_in plan.now node place) (slots_from plan.now node (place + 1)) (ending_at plan.now node) before room) from) }
 {
+    // for its contract alone, as below
     plan.limit();
     let rest = before.fill(slot).rest(plan, node, place + 1);
     least_split(plan.sizes(slot.node), rest, room, from)
