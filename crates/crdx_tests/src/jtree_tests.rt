@@ -1,2 +1,3 @@
+mod refusal_cases;
 mod source_cases;
 mod tree_cases;

@@ -3,6 +3,7 @@
 //! | File | What is tested |
 //! |---|---|
 //! | `jtree_tests/tree_cases` | trees: read and written, their order, pointers, the value under a name, the last node |
+//! | `jtree_tests/refusal_cases` | why bytes are no document: a number and where it is, a line and a column, a length |
 //! | `jtree_tests/source_cases` | documents in pieces, sources that fail, and readers that are interrupted |
 //! | `schema_tests/reading_cases` | definitions that are read or refused, and the form of each keyword |
 //! | `schema_tests/limit_cases` | schemas at each limit and past it |

@@ -10,7 +10,6 @@ use Rattle.jtree.specs.declared.value.Tree.{Tree}
 use Rattle.jtree.specs.declared.value.Member.{Member}
 use Rattle.jtree.specs.Text.{items_json, members_json, compact}
 use Rattle.jtree.specs.Last.{last_of, last_of_items, last_of_members, with_last, items_with_last, members_with_last}
-use Rattle.jtree.proofs.LastNode.{with_own_last}
 use Rattle.jtree.specs.Internal.LastText.{last_item, last_member, last_part, text_before, items_before, members_before, text_after, items_after, members_after}
 
 regroup_last : (c p v a : List ℕ) (b : ℕ) → c ++ ((p ++ (v ++ a)) ++ b ∷ []) ≡ (c ++ p) ++ (v ++ (a ++ b ∷ []))
@@ -59,9 +58,6 @@ mutual
   members_text_with_last later (member k d (member l e ms)) some v =
       ap (λ s. comma_if later ++ (quoted k ++ 58 ∷ (compact d ++ s))) (members_text_with_last true (member l e ms) tt v)
       ∙ regroup_member (comma_if later) (quoted k) (compact d) (members_before true (member l e ms)) (compact v ++ members_after (member l e ms))
-
-pub text_by_last : (d : Data) → compact d ≡ text_before d ++ (compact (last_of d) ++ text_after d)
-text_by_last d = ap compact (sym (with_own_last d)) ∙ text_with_last d (last_of d)
 
 -- ---- one step of the way
 

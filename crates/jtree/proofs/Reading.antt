@@ -20,10 +20,10 @@ HaveTrees (member k d ms) = IsTree d × HaveTrees ms
 
 -- ---- one more part
 
-abbrev joined_items : Option Data → Option Items → Option Items
+abbrev pub joined_items : Option Data → Option Items → Option Items
 joined_items o rest = option_and_then (λ d. option_map (item d) rest) o
 
-abbrev joined_members : List ℕ → Option Data → Option Members → Option Members
+abbrev pub joined_members : List ℕ → Option Data → Option Members → Option Members
 joined_members k o rest = option_and_then (λ d. option_map (member k d) rest) o
 
 -- the last of the parts that were read
@@ -43,11 +43,11 @@ joined_members-and : (k : List ℕ) (o : Option Data) (rest : Option Members) (l
 joined_members-and k (Some d) (Some ms) l e = refl
 joined_members-and k _ _ l e = refl
 
-items_read : (vs : List Value) (v : Value) (e : Data) → tree_of (view v) ≡ Some e → items_tree (items_view (vs ++ v ∷ [])) ≡ option_map (λ ds. and_item ds e) (items_tree (items_view vs))
+pub items_read : (vs : List Value) (v : Value) (e : Data) → tree_of (view v) ≡ Some e → items_tree (items_view (vs ++ v ∷ [])) ≡ option_map (λ ds. and_item ds e) (items_tree (items_view vs))
 items_read [] v e h = rw h
 items_read (w ∷ vs) v e h = ap (joined_items (tree_of (view w))) (items_read vs v e h) ∙ joined_items-and (tree_of (view w)) (items_tree (items_view vs)) e
 
-members_read : (es : List Entry) (f : Entry) (e : Data) → tree_of (view f.1) ≡ Some e → members_tree (members_view (es ++ f ∷ [])) ≡ option_map (λ ms. and_member ms (string_bytes f.0) e) (members_tree (members_view es))
+pub members_read : (es : List Entry) (f : Entry) (e : Data) → tree_of (view f.1) ≡ Some e → members_tree (members_view (es ++ f ∷ [])) ≡ option_map (λ ms. and_member ms (string_bytes f.0) e) (members_tree (members_view es))
 members_read [] f e h = rw h
 members_read (g ∷ es) f e h = ap (joined_members (string_bytes g.0) (tree_of (view g.1))) (members_read es f e h) ∙ joined_members-and (string_bytes g.0) (tree_of (view g.1)) (members_tree (members_view es)) (string_bytes f.0) e
 
@@ -79,11 +79,11 @@ HaveTrees-push (n ∷ ms) m h one = (h.0, HaveTrees-push ms m h.1 one)
 
 -- ---- a part that is not a tree
 
-joined_items-none : (o : Option Data) → joined_items o None ≡ None
+pub joined_items-none : (o : Option Data) → joined_items o None ≡ None
 joined_items-none None = refl
 joined_items-none (Some d) = refl
 
-joined_members-none : (k : List ℕ) (o : Option Data) → joined_members k o None ≡ None
+pub joined_members-none : (k : List ℕ) (o : Option Data) → joined_members k o None ≡ None
 joined_members-none k None = refl
 joined_members-none k (Some d) = refl
 

@@ -6,3 +6,4 @@ pub mod OrderLaws
 pub mod Code
 pub mod Measures
 pub mod LastText
+pub mod Steps

@@ -14,4 +14,5 @@ pub mod Overwriting
 pub mod Failures
 pub mod Reads
 pub mod Pointer
+pub mod Refusal
 pub mod Internal

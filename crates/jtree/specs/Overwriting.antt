@@ -1,8 +1,8 @@
--- A part of a text is overwritten in place by another one.
-use Rattle.std.specs.Prelude.{◌≡◌, ◌++◌, ◌↔◌, ℕ, List, length, Bool, true, false, IsTrue}
+-- A part of a text is overwritten in place by another text of the same length (this project's own).
+use Rattle.std.specs.Prelude.{◌≡◌, ◌+◌, ◌-◌, ◌≤◌, ◌↔◌, ℕ, List, length, Bool, IsTrue, if◌then◌else◌}
+use Rattle.std.specs.List.{splice}
 
--- the part `old` with `after` bytes after it was overwritten by `new`, exactly where both have as many bytes
-pub record Overwrites (done : Bool) (after : ℕ) (old new before now : List ℕ) : Type 0 where
-  pub overwritten : done ≡ true → (front rest : List ℕ) → before ≡ front ++ (old ++ rest) → length rest ≡ after → now ≡ front ++ (new ++ rest)
-  pub same_length : (front rest : List ℕ) → before ≡ front ++ (old ++ rest) → length rest ≡ after → (IsTrue done ↔ (length old ≡ length new))
-  pub unchanged : done ≡ false → now ≡ before
+-- the `size` bytes before the last `after` ones are replaced by `new`, exactly where that has as many and there are so many before them
+pub record Overwrites (done : Bool) (after size : ℕ) (new before now : List ℕ) : Type 0 where
+  pub fits : IsTrue done ↔ (length new ≡ size) × (size + after ≤ length before)
+  pub text : let end = length before - after in now ≡ (if done then splice before (end - size) end new else before)

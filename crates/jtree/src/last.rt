@@ -36,9 +36,9 @@ impl Tree {
         set_last_node(self, alloc, value, 0)
     }
 
-    /// Overwrites in `text` the text of `before`, which `after` bytes follow, by the text of this tree, where both have as many bytes,
-    /// and answers whether it did so. Where `text` has another text there, some of its bytes may still be overwritten. What
-    /// `scratch` holds is lost; its capacity is reused.
+    /// Overwrites as many bytes of `text` as the text of `before` has, those before the last `after` bytes, by the text of this tree,
+    /// and answers whether it did so. `false`, with `text` unchanged, where the two texts differ in length or `text` is too short.
+    /// It does not read the bytes that it overwrites. What `scratch` holds is lost; its capacity is reused.
     ///
     /// `AllocError` where an allocation fails, and `text` is then unchanged.
     pub fn overwrite(
@@ -48,7 +48,7 @@ impl Tree {
         text: &mut Vec<u8>,
         scratch: &mut Vec<u8>,
     ) -> Result<bool, AllocError>
-        ensures ok { IfOk result (λ done. Overwrites done after (compact (data_of before.now)) (compact (data_of self.now)) text.old.items text.new.items) }
+        ensures ok { IfOk result (λ done. Overwrites done after (length (compact (data_of before.now))) (compact (data_of self.now)) text.old.items text.new.items) }
         ensures err { OnErr result (text.new.items ≡ text.old.items) }
     {
         if let (Tree::Int(old), Tree::Int(new)) = (before, self) {
@@ -229,10 +229,9 @@ fn last_part(tree: &Tree) -> Option<&Tree>
     }
 }
 
-/// Overwrites the `size` bytes before the last `after` bytes by `new`, where that has as many. Whether it did so.
+/// Overwrites the `size` bytes before the last `after` ones by `new`, where that has as many. Whether it did so.
 fn overwrite_bytes(text: &mut Vec<u8>, after: usize, size: usize, new: &[u8]) -> bool
-    ensures { (old : List ℕ) → length old ≡ size
-        → Overwrites result after old new.now text.old.items text.new.items }
+    ensures { Overwrites result after size new.now text.old.items text.new.items }
 {
     if size != new.len() {
         return false;

@@ -1,24 +1,20 @@
 // From bytes to a tree: `serde_json` reads the value, and the tree is made of it.
-ghost use Rattle.std.specs.Prelude.{◌≡◌, ◌≢◌, ◌<◌, ◌≤◌, ◌⊎◌, ◌↔◌, length, Some, None, Err, IfOk, IfErr, IfSome, OnOk, IsErrOf};
-ghost use Rattle.std.specs.Io.KnownBytes.{Consumes, IsAtEnd, ReadConsumes};
-ghost use Rattle.std.specs.Io.{ReadsAtMost};
+ghost use Rattle.std.specs.Prelude.{◌≡◌, ◌≢◌, ◌<◌, ◌⊎◌, ◌↔◌, length, Some, None, Err, IfOk, IfErr, IfSome, OnOk, IsErrOf};
+ghost use Rattle.std.specs.Io.KnownBytes.{IsAtEnd};
 ghost use Rattle.serde_json.specs.View.{view, items_view, members_view};
 ghost use Rattle.jtree.specs.Reads.{tree_of, items_tree, members_tree, most_bytes, IsJson, IsNoJson, Reads, IsNoDocument, HasTaken};
-ghost use Rattle.jtree.specs.Failures.{one_more, HasFailed};
+ghost use Rattle.jtree.specs.Failures.{HasFailed};
 ghost use Rattle.jtree.specs.View.{data_of};
 ghost use Rattle.jtree.specs.declared.fault.JFault.TheVariants.{NotAnInteger, NoMemory, NotJson, TooLong, ReadFailed};
 
 use crate::fault::JFault;
-use crate::source::{Source, SourceFault};
+use crate::source::{Source, read_bytes};
 use crate::value::{Items, Member, Members, Text, Tree};
 use serde_json::{Category, Map, Value};
 use std::alloc::Global;
 
 /// The length of the longest document that is read, in bytes.
 pub const MOST_BYTES: usize = 1_048_576;
-
-/// How many bytes a source is asked for at a time.
-const PIECE: usize = 8192;
 
 impl Tree {
     /// The tree that a JSON value is (RFC 8259): members in the order of the bytes of their names, and numbers as
@@ -67,45 +63,6 @@ impl Tree {
         let bytes = read_bytes(alloc, source)?;
         Tree::from_bytes(alloc, bytes.as_slice())
     }
-}
-
-/// All bytes up to the end of input; of more than a document has, one more than that.
-fn read_bytes<R: Source>(alloc: Global, source: &mut R) -> Result<Vec<u8>, JFault>
-    ensures taken { HasTaken (R.remaining source.old) (R.remaining source.new) }
-    ensures all { IfOk result (λ bytes. Consumes (R.remaining source.old) (R.remaining source.new) bytes.items) }
-    ensures end { IfOk result (λ bytes. length bytes.items ≤ most_bytes → IsAtEnd (R.remaining source.new)) }
-    ensures failed { result ≡ Err ReadFailed → HasFailed (R.failures source.old) (R.failures source.new) }
-    ensures unfailed { result ≢ Err ReadFailed → R.failures source.new ≡ R.failures source.old }
-    ensures err { IfErr result (λ e. (e ≡ ReadFailed) ⊎ (e ≡ NoMemory)) }
-{
-    let mut bytes = Vec::new(alloc);
-    let mut piece = [0; PIECE];
-    'read: while bytes.len() <= MOST_BYTES {
-        let n = get_at_most(source, MOST_BYTES + 1 - bytes.len(), &mut piece)?;
-        if n == 0 {
-            return Ok(bytes);
-        }
-        bytes.extend_from_slice(&piece[..n])?;
-    }
-    Ok(bytes)
-}
-
-/// A beginning of the bytes still to come, at most as many as this.
-fn get_at_most<R: Source>(
-    source: &mut R,
-    most: usize,
-    buffer: &mut [u8],
-) -> Result<usize, SourceFault>
-    requires some { 1 ≤ most }
-    requires room { 1 ≤ length buffer.old }
-    ensures within { IfOk result (λ n. n ≤ most) }
-    ensures room { ReadsAtMost result buffer.new }
-    ensures gives { ReadConsumes (R.remaining source.old) (R.remaining source.new) result buffer.new }
-    ensures ok { OnOk result (R.failures source.new ≡ R.failures source.old) }
-    ensures err { IfErr result (λ _. R.failures source.new ≡ one_more (R.failures source.old)) }
-{
-    let most = most.min(buffer.len());
-    source.get(&mut buffer[..most])
 }
 
 fn read_value(alloc: Global, bytes: &[u8]) -> Result<Value, JFault>

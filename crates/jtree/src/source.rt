@@ -1,10 +1,15 @@
 //! Where bytes come from, and what is known of them.
 
-ghost use Rattle.std.specs.Prelude.{◌≡◌, ℕ, List, Option, IfErr, OnOk};
+ghost use Rattle.std.specs.Prelude.{◌≡◌, ◌≢◌, ◌≤◌, ◌⊎◌, ℕ, List, length, Option, Err, IfOk, IfErr, OnOk};
 ghost use Rattle.std.specs.Io.{ReadsAtMost};
-ghost use Rattle.std.specs.Io.KnownBytes.{ReadConsumes};
-ghost use Rattle.jtree.specs.Failures.{one_more};
+ghost use Rattle.std.specs.Io.KnownBytes.{Consumes, IsAtEnd, ReadConsumes};
+ghost use Rattle.jtree.specs.Failures.{one_more, HasFailed};
+ghost use Rattle.jtree.specs.Reads.{most_bytes, HasTaken};
+ghost use Rattle.jtree.specs.declared.fault.JFault.TheVariants.{NoMemory, ReadFailed};
 
+use crate::fault::JFault;
+use crate::read::MOST_BYTES;
+use std::alloc::Global;
 use std::io::{self, ErrorKind, Read};
 use thiserror::Error;
 
@@ -88,4 +93,49 @@ fn read_on<T: Read>(reader: &mut T, buffer: &mut [u8]) -> io::Result<usize>
         }
     }
     reader.read(buffer)
+}
+
+/// How many bytes a source is asked for at a time.
+const PIECE: usize = 8192;
+
+/// All bytes up to the end of input, in whatever pieces they come; of more than `MOST_BYTES`, the first `MOST_BYTES + 1`.
+///
+/// `ReadFailed` exactly where the source fails, `NoMemory` where an allocation fails. After either, a beginning of the bytes is taken,
+/// and lost.
+pub fn read_bytes<R: Source>(alloc: Global, source: &mut R) -> Result<Vec<u8>, JFault>
+    ensures taken { HasTaken (R.remaining source.old) (R.remaining source.new) }
+    ensures all { IfOk result (λ bytes. Consumes (R.remaining source.old) (R.remaining source.new) bytes.items) }
+    ensures end { IfOk result (λ bytes. length bytes.items ≤ most_bytes → IsAtEnd (R.remaining source.new)) }
+    ensures failed { result ≡ Err ReadFailed → HasFailed (R.failures source.old) (R.failures source.new) }
+    ensures unfailed { result ≢ Err ReadFailed → R.failures source.new ≡ R.failures source.old }
+    ensures err { IfErr result (λ e. (e ≡ ReadFailed) ⊎ (e ≡ NoMemory)) }
+{
+    let mut bytes = Vec::new(alloc);
+    let mut piece = [0; PIECE];
+    'read: while bytes.len() <= MOST_BYTES {
+        let n = get_at_most(source, MOST_BYTES + 1 - bytes.len(), &mut piece)?;
+        if n == 0 {
+            return Ok(bytes);
+        }
+        bytes.extend_from_slice(&piece[..n])?;
+    }
+    Ok(bytes)
+}
+
+/// A beginning of the bytes still to come, at most as many as this.
+fn get_at_most<R: Source>(
+    source: &mut R,
+    most: usize,
+    buffer: &mut [u8],
+) -> Result<usize, SourceFault>
+    requires some { 1 ≤ most }
+    requires room { 1 ≤ length buffer.old }
+    ensures within { IfOk result (λ n. n ≤ most) }
+    ensures room { ReadsAtMost result buffer.new }
+    ensures gives { ReadConsumes (R.remaining source.old) (R.remaining source.new) result buffer.new }
+    ensures ok { OnOk result (R.failures source.new ≡ R.failures source.old) }
+    ensures err { IfErr result (λ _. R.failures source.new ≡ one_more (R.failures source.old)) }
+{
+    let most = most.min(buffer.len());
+    source.get(&mut buffer[..most])
 }

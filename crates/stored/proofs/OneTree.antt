@@ -13,7 +13,7 @@ use Rattle.jtree.specs.Path.{name, index, Path, member_at, item_at, part_at}
 use Rattle.jtree.specs.Internal.Lookups.{bool_cases, ordering_cases, same_name, member_first, member_later, before_none}
 use Rattle.schema.specs.Nodes.Node.{Node}
 use Rattle.stored.specs.Objects.Parts.{Leading}
-use Rattle.stored.specs.Objects.Becomes.{label, Becomes}
+use Rattle.stored.specs.Objects.Becomes.{label, Becomes, leads_uncut, leads_filled, IsFilled, IsCompleted}
 
 turned_names : (k l : List ℕ) → text_cmp k l ≡ Greater → text_cmp l k ≡ Less
 turned_names k l after = nat_list_cmp_total.antisymm l k ∙ ap ordering_reverse after
@@ -66,3 +66,8 @@ mutual
 
 pub becomes_one : (lead : Leading) (N : Node) (v w u : Data) → IsTree w → IsTree u → Becomes lead N v w → Becomes lead N v u → w ≡ u
 becomes_one lead N v w u t s a b = same_tree w u t s (λ path. a path ∙ sym (b path))
+
+pub completed_one : (N : Node) (v w u : Data) → IsTree w → IsTree u → IsCompleted N v w → IsCompleted N v u → w ≡ u
+completed_one N v w u t s a b =
+    let between = becomes_one leads_uncut N v a.between b.between a.tree b.tree a.pruned b.pruned in
+    becomes_one leads_filled N b.between w u t s (subst (λ d. IsFilled N d w) between a.filled) b.filled

@@ -1,5 +1,5 @@
 //! Completing: pruning, and then defaulting.
-ghost use Rattle.std.specs.Prelude.{◌≡◌, Some, IfOk};
+ghost use Rattle.std.specs.Prelude.{◌≡◌, ◌↔◌, Some, IfOk};
 ghost use Rattle.jtree.specs.Data.{Data, IsTree};
 ghost use Rattle.jtree.specs.View.{data_of};
 ghost use Rattle.schema.specs.Document.Places.{Place};
@@ -7,7 +7,7 @@ ghost use Rattle.schema.specs.Nodes.Node.{Node as NodeData};
 ghost use Rattle.schema.specs.Nodes.ByPlace.{node_at};
 ghost use Rattle.schema.specs.Nodes.View.{node_of};
 ghost use Rattle.stored.specs.Objects.Parts.{Leading};
-ghost use Rattle.stored.specs.Objects.Becomes.{Becomes, IsPruned, IsFilled, IsCompleted};
+ghost use Rattle.stored.specs.Objects.Becomes.{Becomes, IsPruned, IsCompleted};
 ghost use Rattle.stored.specs.Schemas.Defaults.{HasGoodDefaults};
 
 use crate::defaulting::{copy_tree, fill};
@@ -19,21 +19,23 @@ use std::alloc::{AllocError, Global};
 /// What becomes of a value at its node where nothing refuses it: a copy, pruned as by `prune` and then filled with defaults
 /// ("field pruning", "defaulting" and "nullable" of apiextensions.k8s.io/v1). A declared field that is absent, or a null that
 /// its node does not accept, gets its default, which is filled in turn. A null that is not accepted is dropped where it has no
-/// default, and from a map. At each node of a schema whose defaults are good, pruning and defaulting leave the answer as it
-/// is. An `Err` says that an allocation failed.
+/// default, and from a map. Where the node is one of a schema whose defaults are good, as those of a `Schema` are, pruning or
+/// completing the answer again gives the same value; below a bad default it can give another one. An `Err` says that an
+/// allocation failed.
 pub fn complete(alloc: Global, node: &Node, tree: &Tree) -> Result<Tree, AllocError>
     ensures completed { IfOk result (λ t. IsCompleted (node_of node.now) (data_of tree.now) (data_of t)) }
-    ensures stays { IfOk result (λ t. (root : NodeData) (p : Place) → HasGoodDefaults root → node_at root p ≡ Some (node_of node.now) → IsPruned (node_of node.now) (data_of t) (data_of t) × IsFilled (node_of node.now) (data_of t) (data_of t)) }
+    ensures again { let N = node_of node.now in IfOk result (λ t. (root : NodeData) (p : Place) (w : Data) → HasGoodDefaults root → node_at root p ≡ Some N → IsTree w → (IsPruned N (data_of t) w ↔ (w ≡ data_of t)) × (IsCompleted N (data_of t) w ↔ (w ≡ data_of t))) }
 {
     let mut pruned = copy_tree(alloc, tree)?;
     prune(node, &mut pruned);
-    // for its contract alone: a proof learns that it is a tree
+    // for its contract alone: a proof learns that it is a tree, here and below
     pruned.reveal_invariant();
-    fill(alloc, node, pruned)
+    let completed = fill(alloc, node, pruned)?;
+    completed.reveal_invariant();
+    Ok(completed)
 }
 
-/// A law, and nothing that runs: a value becomes at most one tree, by pruning, by defaulting, and by both. So completing a value
-/// that `complete` answered gives the same value again.
+/// A law, and nothing that runs: a value becomes at most one tree, by pruning, by defaulting, and by both.
 pub fn becomes_one_tree()
     ensures becomes { (lead : Leading) (N : NodeData) (v u w : Data) → IsTree u → IsTree w → Becomes lead N v u → Becomes lead N v w → u ≡ w }
     ensures completed { (N : NodeData) (v u w : Data) → IsTree u → IsTree w → IsCompleted N v u → IsCompleted N v w → u ≡ w }

@@ -1,9 +1,9 @@
 //! Documents that come in pieces, and sources that fail.
 use crate::support::documents::WIDGET;
 use crate::support::fakes::FailingSource;
-use crate::support::harness::{is_number, is_said, is_text};
+use crate::support::harness::{holds, is_number, is_said, is_text};
 use crate::support::texts::padded;
-use jtree::source::{Feed, Source};
+use jtree::source::{Feed, Source, read_bytes};
 use jtree::{JFault, Tree};
 use std::alloc::Global;
 use std::io::{self, Error, ErrorKind, Read};
@@ -55,6 +55,18 @@ fn pieces(rt: HostRuntime) -> Result<(), Fail> {
         "what is read",
         "a document of a reader",
     )
+}
+
+/// The bytes themselves are those of the source, document or not.
+#[test]
+fn bytes(rt: HostRuntime) -> Result<(), Fail> {
+    let wanted: &[u8] = b"{\xff: 0.5";
+    for step in STEPS {
+        let mut source = FailingSource::new(wanted, step, usize::MAX);
+        let found = read_bytes(rt.alloc(), &mut source)?;
+        holds(&rt, found.as_slice() == wanted, "the bytes", "a source");
+    }
+    Ok(())
 }
 
 /// A source that fails after each number of bytes, also after the last one.

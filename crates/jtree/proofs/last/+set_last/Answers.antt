@@ -1,4 +1,4 @@
-use Rattle.std.proofs.Common.{◌+◌, refl, arith}
+use Rattle.std.proofs.Common.{refl, arith}
 use Rattle.std.proofs.lemmas.Result.{IfOk-weaker, on_ok_weaker}
 use Rattle.jtree.specs.View.{data_of}
 use Rattle.jtree.proofs.LastNode.{item_put_last, member_put_last, item_depth_last, member_depth_last, list_put, object_put, items_put, members_put}

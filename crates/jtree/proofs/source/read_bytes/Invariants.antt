@@ -1,7 +1,7 @@
 use Rattle.std.proofs.Common.{◌≡◌, ◌+◌, ◌-◌, ◌≤◌, length}
 use Rattle.std.specs.Io.KnownBytes.{Consumes}
 use Rattle.jtree.specs.Reads.{most_bytes}
-use Rattle.jtree.proofs.read.read_bytes.Given as goal
+use Rattle.jtree.proofs.source.read_bytes.Given as goal
 
 abbrev pub invariant-read : goal.invariant-read
 invariant-read g l = record {

@@ -1,6 +1,6 @@
 use Rattle.std.proofs.Common.{arith, rules}
 use Rattle.jtree.proofs.Sources.{one_piece_more}
-use Rattle.jtree.proofs.read.read_bytes.Goals as goal
+use Rattle.jtree.proofs.source.read_bytes.Goals as goal
 
 pub returns-in_err-extend_from_slice-clause-taken : goal.returns-in_err-extend_from_slice-clause-taken
 returns-in_err-extend_from_slice-clause-taken g c =
