@@ -50,6 +50,15 @@ enums() {
     }'
 }
 
+# a field with so many keywords that no kind has
+keywords() {
+    awk -v count="$1" 'BEGIN {
+        printf "{\"type\":\"object\",\"properties\":{\"a\":{"
+        for (i = 0; i < count; i++) printf "\"k%05d\":1,", i
+        printf "\"type\":\"string\"}}}"
+    }'
+}
+
 # so many objects of so many map lists of four keys each
 map_lists() {
     awk -v outer="$1" -v inner="$2" 'BEGIN {
@@ -292,6 +301,7 @@ objects 32 16 0 | define >32-by-16-properties
 nested 24 | define >24-steps
 enums 510 | define >511-enums-of-64
 map_lists 3 28 | define >84-map-lists-of-4-keys
+keywords 80000 | define >80001-keywords
 integers 160000 160000 | between '{"type":"array","x-kubernetes-list-type":"set","items":{"type":"integer"},"default":' '}' | field_of >default-of-160000-integers-in-a-set
 cd "$folder/objects"
 integers 160000 160000 | between '{"x":' '}' >160000-integers

@@ -39,7 +39,7 @@ mutual
   sound_from (node n t (object fs preserves type b cs)) o h = let own = h [] _ refl in (own.0, own.1, fields_sound fs o (λ k f is p M found. h (property k ∷ p) M (rw is found)))
   sound_from (node n t (map N type b)) o h = let own = h [] _ refl in (own.0, own.1, sound_from N o (λ p. h (map_value ∷ p)))
   sound_from (node n t (list N type keys b)) o h = let own = h [] _ refl in (own.0, own.1, sound_from N o (λ p. h (items ∷ p)))
-  sound_from (node n t (scalar kind cs)) o h = (tt, tt, tt)
+  sound_from (node n t (scalar kind cs)) o h = let own = h [] _ refl in (own.0, own.1, tt)
   sound_from (node n t open_) o h = (tt, tt, tt)
 
   fields_sound : (fs : Fields) → AreOrdered fs → ((k : List ℕ) (f : Declared) → field_at k fs ≡ Some f → IsSoundBelow f.node) → AreFieldsSound fs

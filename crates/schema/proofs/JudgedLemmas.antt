@@ -1,6 +1,6 @@
 -- What is found of the pairs of places and rules are the breaks of a schema.
 use Rattle.std.proofs.Common.{◌≡◌, ◌<◌, ◌+◌, ℕ, List, [], ◌∷◌, ◌++◌, length, take, get_or, true, false, refl, sym, ap, ◌∙◌, subst, inl, inr, arith}
-use Rattle.std.specs.Prelude.{◌↔◌, All, IsTrue, map, string_bytes}
+use Rattle.std.specs.Prelude.{◌↔◌, All, IsTrue, map}
 use Rattle.std.specs.Cmp.{nat_cmp_is}
 use Rattle.std.specs.Ordering.{nat_cmp}
 use Rattle.std.proofs.lemmas.Cmp.{tied_itself}
@@ -9,11 +9,11 @@ use Rattle.std.proofs.lemmas.Grind.{flat_map-append}
 use Rattle.std.specs.declared.cmp.Ordering.TheVariants.{Less}
 use Rattle.jtree.specs.Data.{Data, object, Members, AreMembers}
 use Rattle.jtree.specs.PathOrder.{path_cmp}
-use Rattle.schema.specs.Document.Places.{Place, place_path, place_pointer, IsPlace}
+use Rattle.schema.specs.Document.Places.{Place, place_path, IsPlace}
 use Rattle.schema.specs.Internal.PlaceView.{place_of, subschema_of}
 use Rattle.schema.specs.Internal.Events.{Event, entered, too_long, IsIn, Ascend, subschemas_of, schema_events}
 use Rattle.schema.specs.Rules.Broken.{Broken, metadata_keyword, metadata_type, metadata_field}
-use Rattle.schema.specs.Rules.Breaks.{Break, number, break_cmp, Reported, reported, reported_of, AreBreaks, AreViolations}
+use Rattle.schema.specs.Rules.Breaks.{Break, number, break_cmp, reported, reported_of, AreBreaks, AreViolations}
 use Rattle.schema.specs.Rules.Explained.{OneByOne}
 use Rattle.schema.specs.Internal.Subschemas.{IsSubschema, AreSubschemas}
 use Rattle.schema.specs.Internal.Judged.{judged, pair, pairs_at, pairs_of, AddsBreaks, IsReported}
@@ -31,12 +31,6 @@ use Rattle.schema.proofs.TakenLemmas.{Chained, chain_first, chain_tail, same_eac
 more_pairs : (p : Place) (rules : List Rule) (i : ℕ) (d : Rule) → i < length rules
     → pairs_at p (take (i + 1) rules) ≡ pairs_at p (take i rules) ++ (pair p (get_or rules i d) ∷ [])
 more_pairs p rules i d within = ap (pairs_at p) (take_more rules i d within) ∙ map-append (pair p) (take i rules) (get_or rules i d ∷ [])
-
--- a violation with the pointer of the place reports the break there
-pub is_reported : (p : Place) (r : Rule) (w : Violation) → w.rule ≡ r → string_bytes w.pointer ≡ place_pointer p → reported w ≡ reported_of (pair p r)
-is_reported p r w rule_is pointer_is =
-    let as_reported : List ℕ → Rule → Reported = λ bytes rule. record { pointer = bytes; rule = rule } in
-    ap (λ bytes. as_reported bytes w.rule) pointer_is ∙ ap (as_reported (place_pointer p)) rule_is
 
 pub found_rule : {Y : Type 0} (T : Data → Break → Y → Type 0) (v : Subschema) (rules : List Rule) (i : ℕ) (d : Rule) (old mid : List Y) (y : Y) → i < length rules
     → ((raw : Data) → IsSubschema raw v → T raw (pair (place_of v.place.items) (get_or rules i d)) y)

@@ -1,30 +1,32 @@
 -- Where no rule is broken the junctors of objects name declared fields, and few.
 use Rattle.std.proofs.Common.{◌≡◌, ◌≢◌, ◌⊎◌, ◌≤◌, ℕ, zero, suc, List, [], ◌∷◌, ◌++◌, length, Bool, true, false, Option, Some, None, refl, sym, ap, ◌∙◌, subst, inl, inr}
 use Rattle.std.specs.Prelude.{is_some, codes, ◌||◌, ◌&&◌, not, nat_lt, All, AllPairs, Contains}
-use Rattle.std.proofs.lemmas.Bool.{ltb-true, ltb-false}
+use Rattle.std.proofs.lemmas.Bool.{ltb-true, ltb-false, or_left, or_right, or_parts}
 use Rattle.std.proofs.lemmas.List.{append-nil}
 use Rattle.std.proofs.lemmas.List.Elements.{filter-append}
 use Rattle.std.proofs.lemmas.Option.{option_and_then_some, same_Some}
 use Rattle.jtree.specs.Data.{Data, null, boolean, integer, text, list, object, Items, no_items, item, Members}
 use Rattle.jtree.specs.Path.{name, under, member_at, item_at}
-use Rattle.jtree.specs.Internal.Lookups.{bool_cases}
+use Rattle.jtree.specs.Internal.Lookups.{bool_cases, option_cases}
 use Rattle.jtree.specs.Internal.Rising.{Among, contained, each_of, among_parts}
 use Rattle.schema.specs.Document.Places.{Step, Place, property, map_value, items, all_of, any_of, one_of, negation, schema_by, schema_at, is_inside, is_junctor, core, is_envelope_name}
-use Rattle.schema.specs.Rules.Keywords.{texts_of, items_in, items_under, texts_under, members_in, members_under, any_item}
+use Rattle.schema.specs.Rules.Keywords.{texts_of, items_in, items_under, texts_under, members_in, members_under, any_item, has, has_keyword}
 use Rattle.schema.specs.Rules.Kinds as kinds
 use Rattle.schema.specs.Rules.Kinds.{kind_of}
-use Rattle.schema.specs.Rules.Profile.{is_root}
-use Rattle.schema.specs.Rules.Junctors.{is_no_field, is_bad_presence, NamesField, most_named}
-use Rattle.schema.specs.Nodes.Validations.{AreValidationsOf, AreBranchesOf, AreObjectJunctorsOf, one_item}
-use Rattle.schema.specs.Nodes.Node.{Validations, validations, Branches, no_branches, branch, Node, node, object as object_node}
+use Rattle.schema.specs.Rules.Profile.{is_root, is_foreign, profile_tests}
+use Rattle.schema.specs.Rules.Junctors.{is_presence_keyword, is_branch_keyword, is_no_field, requires_no_field, BreaksJunctors, NamesField, most_named}
+use Rattle.schema.specs.Nodes.Validations.{AreConstraintsOf, AreValidationsOf, AreBranchesOf, AreObjectJunctorsOf, one_item, presence}
+use Rattle.schema.specs.Nodes.Node.{Validations, validations, Branches, no_branches, branch, Node, node, scalar, object as object_node}
 use Rattle.schema.specs.Nodes.ByPlace.{field_at, node_at, AreNodesOf}
-use Rattle.schema.specs.Nodes.Junctors.{names_in, names_of, HasSoundJunctors}
+use Rattle.schema.specs.Nodes.Junctors.{names_in, names_of, AsksPresence, AskPresence, HasSoundJunctors}
 use Rattle.schema.specs.Nodes.Shape.{IsRootOf}
-use Rattle.schema.specs.declared.violation.Rule.TheVariants.{V16}
+use Rattle.schema.specs.declared.node.Constraints.{Constraints}
+use Rattle.schema.specs.declared.node.ScalarKind.{ScalarKind}
+use Rattle.schema.specs.declared.violation.Rule.TheVariants.{V16, V17}
 use Rattle.schema.proofs.ItemLemmas.{HaveForms, schema_of}
 use Rattle.schema.proofs.NamedLemmas.{text_among, IsNamed, step_named, all_among}
 use Rattle.schema.proofs.OneNode.{here, found_node, node_of_below}
-use Rattle.schema.proofs.ShapeLemmas.{or_left, or_right}
+use Rattle.schema.proofs.ReasonWords.{holds_at, some_keyword, keyword_found}
 
 -- ---- places joined
 
@@ -170,27 +172,133 @@ property_place s (object ms) k forms (Some (object ns)) is at = (object ms, rw (
 property_place s d k forms (Some (object ns)) is at = absurd (forms (codes "properties") (name k ∷ []) (d, rw (is, at) refl, refl))
 property_place s d k forms o is at = absurd (cc)
 
-module _ (raw : Data) (root : Node) (is : IsRootOf root raw) (p : Place) (s : Data) (at : schema_at raw p ≡ Some s) (out : is_inside p ≡ false) (kind : kind_of s ≡ Some kinds.object) where
-  -- a branch asks for presence alone
-  good_branch : (k : List ℕ) (n : IsNamed false s k) → is_bad_presence (is_root p) s n.schema ≡ true → ⊥
-  good_branch k n bad =
-      let q = p ++ n.place in
-      let inside = inside_joined p n.place out ∙ n.inside in
-      let above : core q ≡ p = core_joined p n.place out n.alone in
-      let outer : schema_at raw (core q) ≡ Some s = ap (schema_at raw) above ∙ at in
-      is.unbroken q V16 (n.schema, schema_joined p n.place raw s n.schema at n.at, inl (rw (inside, outer, above, kind) bad))
+-- ---- what branches ask besides
 
-  is_field : (k : List ℕ) → IsNamed false s k → is_no_field (is_root p) (members_under s (codes "properties")) (text k) ≡ false
-  is_field k n = elim (bool_cases (is_no_field (is_root p) (members_under s (codes "properties")) (text k))) [
-    | inl t ↦ absurd (good_branch k n (or_right _ _ (any_text (is_no_field (is_root p) (members_under s (codes "properties"))) (items_under n.schema (codes "required")) k n.required t)))
-    | inr f ↦ f
+-- a branch of the schema, at any depth, has only keywords that ask for presence; and in a branch the schema itself
+abbrev AsksNoMore : Bool → Data → Type 0
+AsksNoMore in_branch s =
+    (q : Place) → (in_branch || is_inside q) ≡ true → core q ≡ [] → (t : Data) → schema_at s q ≡ Some t → has_keyword (λ k. not (is_presence_keyword k)) t ≡ false
+
+-- what has no keyword under it has none that passes
+no_keyword : (test : List ℕ → Bool) (s : Data) → ((w : List ℕ) → under s w ≡ None) → has_keyword test s ≡ false
+no_keyword test s none = elim (bool_cases (has_keyword test s)) [
+  | inl t ↦ let f = some_keyword test s t in absurd (let never : false ≡ true = rw (none f.0) at f.1 in cc)
+  | inr f ↦ f
+]
+
+nothing_asked : (s : Data) → ((w : List ℕ) → under s w ≡ None) → AsksNoMore true s
+nothing_asked s none [] into alone t at = subst (λ u. has_keyword (λ k. not (is_presence_keyword k)) u ≡ false) (same_Some s t at) (no_keyword _ s none)
+nothing_asked s none (step ∷ q) into alone t at = let never : None ≡ Some t = rw (no_schema s step none) at at in cc
+
+asked_below : (in_branch : Bool) (s : Data) (ds : Items) → AreIn s ds → AsksNoMore in_branch s → (i : ℕ) (e : Data) → item_at i ds ≡ Some e → AsksNoMore true e
+asked_below in_branch s ds are only i e at = elim (no_under e) [
+  | inr none ↦ nothing_asked e none
+  | inl o ↦ λ q into alone t there.
+      only (are.step i ∷ q) (or_right in_branch _ (rw (are.into i) refl)) (rw (are.into i) alone) t (rw (are.by i e at o.0 o.1) there)
+]
+
+absent : (test : List ℕ → Bool) (s : Data) (w : List ℕ) → has_keyword test s ≡ false → test w ≡ true → under s w ≡ None
+absent test s w none is = elim (option_cases (under s w)) [
+  | inl missing ↦ missing
+  | inr some ↦ let found = keyword_found test s w (rw some.1 refl) is in cc
+]
+
+constraints_alone : (t : Constraints) (s : Data) → AreConstraintsOf t s → has_keyword (λ k. not (is_presence_keyword k)) s ≡ false → t ≡ presence t.required
+constraints_alone t s are none =
+    let no = λ (w : List ℕ) (is : not (is_presence_keyword w) ≡ true). absent (λ k. not (is_presence_keyword k)) s w none is in
+    let choices : t.choices ≡ None = are.choices ∙ rw (no (codes "enum") refl) refl in
+    let minimum : t.minimum ≡ None = are.minimum ∙ rw (no (codes "minimum") refl) refl in
+    let maximum : t.maximum ≡ None = are.maximum ∙ rw (no (codes "maximum") refl) refl in
+    let above : t.exclusive_minimum ≡ false = are.exclusive_minimum ∙ rw (no (codes "exclusiveMinimum") refl) refl in
+    let below : t.exclusive_maximum ≡ false = are.exclusive_maximum ∙ rw (no (codes "exclusiveMaximum") refl) refl in
+    let least : t.lengths.least ≡ None = are.least_length ∙ rw (no (codes "minLength") refl) refl in
+    let most : t.lengths.most ≡ None = are.most_length ∙ rw (no (codes "maxLength") refl) refl in
+    λ i. record {
+      choices = choices i;
+      minimum = minimum i;
+      maximum = maximum i;
+      exclusive_minimum = above i;
+      exclusive_maximum = below i;
+      lengths = record { least = least i; most = most i };
+      required = t.required;
+    }
+
+mutual
+  validations_alone : (c : Validations) (s : Data) → AreValidationsOf c s → AsksNoMore true s → AsksPresence c
+  validations_alone (validations t all any one negated) s h only = (
+    constraints_alone t s h.0 (only [] refl refl s refl),
+    branches_alone all _ h.1 (asked_below true s _ (all_in s) only),
+    branches_alone any _ h.2 (asked_below true s _ (any_in s) only),
+    branches_alone one _ h.3 (asked_below true s _ (one_in s) only),
+    branches_alone negated _ h.4 (asked_below true s _ (negated_in s) only),
+  )
+
+  branches_alone : (cs : Branches) (ds : Items) → AreBranchesOf cs ds → ((i : ℕ) (e : Data) → item_at i ds ≡ Some e → AsksNoMore true e) → AskPresence cs
+  branches_alone no_branches ds h each = tt
+  branches_alone (branch c cs) no_items h each = absurd h
+  branches_alone (branch c cs) (item d ds) h each = (validations_alone c d h.0 (each 0 d refl), branches_alone cs ds h.1 (λ i e at. each (suc i) e at))
+
+object_alone : (cs : Validations) (s : Data) → AreObjectJunctorsOf cs s → AsksNoMore false s → AsksPresence cs
+object_alone (validations t all any one negated) s h only = (
+  subst (λ u. u ≡ presence u.required) (sym h.0) refl,
+  branches_alone all _ h.1 (asked_below false s _ (all_in s) only),
+  branches_alone any _ h.2 (asked_below false s _ (any_in s) only),
+  branches_alone one _ h.3 (asked_below false s _ (one_in s) only),
+  branches_alone negated _ h.4 (asked_below false s _ (negated_in s) only),
+)
+
+-- ---- where no rule is broken
+
+required_there : (o : Option Data) (k : List ℕ) → Among (texts_of (items_in o)) k → is_some o ≡ true
+required_there (Some d) k a = refl
+required_there None k a = absurd a
+
+module _ (raw : Data) (root : Node) (is : IsRootOf root raw) (p : Place) (s : Data) (at : schema_at raw p ≡ Some s) (out : is_inside p ≡ false) where
+  -- nothing is wrong with a branch
+  good_branch : (q : Place) → is_inside q ≡ true → core q ≡ [] → (t : Data) → schema_at s q ≡ Some t → BreaksJunctors (p ++ q) (Some s) t → ⊥
+  good_branch q into alone t there bad =
+      let outer : schema_at raw (core (p ++ q)) ≡ Some s = ap (schema_at raw) (core_joined p q out alone) ∙ at in
+      is.unbroken (p ++ q) V16 (t, schema_joined p q raw s t at there, subst (λ o. BreaksJunctors (p ++ q) o t) (sym outer) bad)
+
+  good_presence : kind_of s ≡ Some kinds.object → (q : Place) → is_inside q ≡ true → core q ≡ [] → (t : Data) → schema_at s q ≡ Some t
+      → (has_keyword (λ k. not (is_presence_keyword k)) t || requires_no_field (p ++ q) (Some s) t) ≡ false
+  good_presence kind q into alone t there = elim (bool_cases (has_keyword (λ k. not (is_presence_keyword k)) t || requires_no_field (p ++ q) (Some s) t)) [
+    | inl bad ↦ absurd (good_branch q into alone t there (inr (inr (inl (rw (inside_joined p q out ∙ into, kind) bad)))))
+    | inr good ↦ good
   ]
 
-  few_names : (ks : List (List ℕ)) → AllPairs (λ k l. k ≢ l) ks → All (NamesField s) ks → length ks ≤ most_named
-  few_names ks apart named = elim (bool_cases (nat_lt most_named (length ks))) [
-    | inl t ↦ absurd (is.unbroken p V16 (s, at, inr (out, rw kind refl, (ks, apart, named, ltb-true most_named (length ks) t))))
+  asks_no_more : kind_of s ≡ Some kinds.object → AsksNoMore false s
+  asks_no_more kind q into alone t there = (or_parts (has_keyword (λ k. not (is_presence_keyword k)) t) _ (good_presence kind q into alone t there)).0
+
+  is_field : kind_of s ≡ Some kinds.object → (k : List ℕ) → IsNamed false s k → is_no_field (is_root p) (members_under s (codes "properties")) (text k) ≡ false
+  is_field kind k n =
+      let good = (or_parts (has_keyword (λ k. not (is_presence_keyword k)) n.schema) _ (good_presence kind n.place n.inside n.alone n.schema n.at)).1 in
+      let declared : any_item (is_no_field (is_root p) (members_under s (codes "properties"))) (items_under n.schema (codes "required")) ≡ false =
+      subst (λ r. any_item (is_no_field (is_root r) (members_under s (codes "properties"))) (items_under n.schema (codes "required")) ≡ false) (core_joined p n.place out n.alone) good in
+      elim (bool_cases (is_no_field (is_root p) (members_under s (codes "properties")) (text k))) [
+        | inl t ↦ absurd (let never = any_text (is_no_field (is_root p) (members_under s (codes "properties"))) (items_under n.schema (codes "required")) k n.required t in cc)
+        | inr f ↦ f
+      ]
+
+  few_names : kind_of s ≡ Some kinds.object → (ks : List (List ℕ)) → AllPairs (λ k l. k ≢ l) ks → All (NamesField s) ks → length ks ≤ most_named
+  few_names kind ks apart named = elim (bool_cases (nat_lt most_named (length ks))) [
+    | inl t ↦ absurd (is.unbroken p V16 (s, at, inr (inl (out, rw kind refl, (ks, apart, named, ltb-true most_named (length ks) t)))))
     | inr f ↦ ltb-false most_named (length ks) f
   ]
+
+  -- a scalar requires no field, and nor do its branches
+  scalar_names_none : (j : ScalarKind) → kind_of s ≡ Some (kinds.scalar j) → (k : List ℕ) → IsNamed true s k → ⊥
+  scalar_names_none j kind k n =
+      let there = required_there (under n.schema (codes "required")) k n.required in
+      elim (bool_cases (is_inside n.place)) [
+        | inl into ↦ good_branch n.place into n.alone n.schema n.at (inr (inr (inr (rw (inside_joined p n.place out ∙ into, kind)
+            (or_left _ _ (keyword_found (λ w. not (is_branch_keyword w)) n.schema (codes "required") there refl))))))
+        | inr outside ↦
+            let here : schema_at s [] ≡ Some n.schema = subst (λ q. schema_at s q ≡ Some n.schema) (sym (core_outside n.place outside) ∙ n.alone) n.at in
+            let own : has s (codes "required") ≡ true = subst (λ t. has t (codes "required") ≡ true) (sym (same_Some s n.schema here)) there in
+            let foreign : is_foreign (kind_of s) (codes "required") ≡ true = rw kind refl in
+            is.unbroken p V17 (out, (s, at, holds_at (profile_tests (is_root p) s) 4 (keyword_found (is_foreign (kind_of s)) s (codes "required") own foreign)))
+      ]
 
 either_not : (a b : Bool) → (not a || b) ≡ false → (a ≡ true) × (b ≡ false)
 either_not true b h = (refl, h)
@@ -203,6 +311,10 @@ not_both false b h is both = cc
 some_value : (o : Option Data) → is_some o ≡ true → (d : Data) × (o ≡ Some d)
 some_value (Some d) h = (d, refl)
 some_value None h = cc
+
+no_names : (ks : List (List ℕ)) → ((k : List ℕ) → Among ks k → ⊥) → ks ≡ []
+no_names [] none = refl
+no_names (k ∷ ks) none = absurd (none k (inl refl))
 
 sound_junctors : (M : Node) (raw : Data) (root : Node) → IsRootOf root raw → (p : Place) (s : Data) → schema_at raw p ≡ Some s → is_inside p ≡ false → HaveForms s
     → AreNodesOf (is_root p && true) M s → HasSoundJunctors M
@@ -218,10 +330,14 @@ sound_junctors (node n x (object_node fs pr t b cs)) raw root is p s at out form
           let e = property_place s d.0 k forms (under s (codes "properties")) refl d.1 in
           let N = node_of_below (is_root p && true) _ s e.0 (property k) h (refl, not_both (is_root p) (is_envelope_name k) no.1) e.1 in
           let f = found_node (field_at k fs) N.0 N.1 in
-          rw f.1 refl;
+          rw f.1 (refl {a = true});
       few = λ ks apart all. few_names raw root is p s at out kind ks apart (each_of (NamesField s) ks (λ k a.
           let i = named k (all_among (Contains (names_in cs)) ks all k a) in (i.place, i.inside, i.alone, i.schema, i.at, text_among k _ i.required)));
+      alone = object_alone cs s junctors (asks_no_more raw root is p s at out kind);
     }
+sound_junctors (node n x (scalar j cs)) raw root is p s at out forms h =
+    let reported = (here (is_root p && true) _ s h).0 in
+    no_names (names_in cs) (λ k a. scalar_names_none raw root is p s at out j reported.2.is k (validations_named cs s k reported.3 a))
 sound_junctors M raw root is p s at out forms h = tt
 
 pub sound_junctors_at : (raw : Data) (root : Node) → IsRootOf root raw → (p : Place) (M : Node) → node_at root p ≡ Some M → HasSoundJunctors M

@@ -1,65 +1,67 @@
 -- The rules on keys of map lists and on items of sets are broken exactly where one of their reasons holds.
-use Rattle.std.proofs.Common.{◌≡◌, ◌⊎◌, ℕ, List, [], ◌∷◌, true, false, Option, Some, None, refl, subst, inl, inr, arith}
+use Rattle.std.proofs.Common.{◌≡◌, ◌⊎◌, ℕ, List, [], ◌∷◌, Bool, true, false, Option, Some, None, refl, subst, inl, inr, arith}
 use Rattle.std.specs.Prelude.{◌↔◌, ◌||◌, ◌&&◌, not, codes}
-use Rattle.std.specs.Option.{is_some}
 use Rattle.std.specs.Str.{bytes_eq}
 use Rattle.std.proofs.lemmas.Bool.{or_cases, or_parts, or_left, or_right, and_parts, and_from, and_cases, and_left, and_right, not-true, not-false, not_from_true}
 use Rattle.jtree.specs.Data.{Data}
 use Rattle.jtree.specs.Path.{under}
-use Rattle.jtree.specs.Internal.Lookups.{bool_cases, option_cases, same_name}
+use Rattle.jtree.specs.Internal.Lookups.{bool_cases, own_name, same_name}
 use Rattle.schema.specs.Document.Texts.{is_among}
 use Rattle.schema.specs.Document.Places.{property, items, schema_by}
 use Rattle.schema.specs.Rules.Keywords.{flag, has, items_under, texts_under, is_empty}
 use Rattle.schema.specs.Rules.Kinds.{kind_of, is_scalar_kind, is_list_kind, is_object_kind}
 use Rattle.schema.specs.Rules.Lists.{is_of_list_type, is_plain_scalar, has_bad_set_items, is_key, are_keys, have_keys, has_bad_keys}
-use Rattle.schema.specs.Rules.Reasons.{is_set_reason, is_items_reason, is_item_reason, is_key_reason, is_keys_reason, is_map_list_reason, is_other_list_reason, any_text, has_repeated, list_type, map_keys, passes}
+use Rattle.schema.specs.Rules.Reasons.{list_keyword, breaks_set_by, is_items_reason, is_item_reason, is_key_reason, breaks_keys_by, is_map_list_reason, is_other_list_reason, any_text, has_repeated, list_type, map_keys}
 use Rattle.schema.specs.declared.reason.Reason.{Reason}
 use Rattle.schema.specs.declared.reason.Reason.TheVariants.{KeysOfOtherList, NoKeys, NoItems, ItemsNotObjects, ItemsNotScalars, NullableItems, RepeatedKey, UndeclaredKey, KeyNotScalar, NullableKey, OptionalKey}
 use Rattle.schema.proofs.ReasonWords.{Found, either_true, text_there, some_there, items_there}
+
+-- ---- a reason is about its own keyword
+
+abbrev HasReasonBy : (Reason → Data → Bool) → Data → Type 0
+HasReasonBy test s = (c : Reason) × (has s (list_keyword c) ≡ true) × (test c s ≡ true)
+
+abbrev pub FoundBy : (Reason → Data → Bool) → Data → Type 0
+FoundBy test s = Found (λ c k t. bytes_eq k (list_keyword c) && test c t) s
+
+found_by : (test : Reason → Data → Bool) (s : Data) → HasReasonBy test s → FoundBy test s
+found_by test s h = (list_keyword h.0, h.0, h.1, and_from _ _ (own_name (list_keyword h.0)) h.2)
+
+by_found : (test : Reason → Data → Bool) (s : Data) → FoundBy test s → HasReasonBy test s
+by_found test s f =
+    let parts = and_parts (bytes_eq f.0 (list_keyword f.1)) _ f.3 in
+    (f.1, subst (λ k. has s k ≡ true) (same_name f.0 (list_keyword f.1) parts.0) f.2, parts.1)
 
 -- ---- sets
 
 listed : (t : List ℕ) (s : Data) → is_of_list_type t s ≡ true → has s list_type ≡ true
 listed t s h = text_there (t ∷ []) (under s list_type) h
 
-set_explained : (s : Data) (o : Option Data) → schema_by s items ≡ o → is_list_kind (kind_of s) ≡ true → is_of_list_type (codes "set") s ≡ true → not (is_plain_scalar o) ≡ true → Found is_set_reason s
-set_explained s None by is_list set bad = (list_type, NoItems, listed (codes "set") s set, rw (is_list, set, by) refl)
+set_explained : (s : Data) (o : Option Data) → schema_by s items ≡ o → is_list_kind (kind_of s) ≡ true → is_of_list_type (codes "set") s ≡ true → not (is_plain_scalar o) ≡ true → HasReasonBy breaks_set_by s
+set_explained s None by is_list set bad = (NoItems, listed (codes "set") s set, rw (is_list, set, by) refl)
 set_explained s (Some t) by is_list set bad = elim (bool_cases (is_scalar_kind (kind_of t))) [
-  | inl is ↦ (codes "items", NullableItems, items_there s t by, rw (is_list, set, by) (grind arith))
-  | inr other ↦ (codes "items", ItemsNotScalars, items_there s t by, rw (is_list, set, by, other) refl)
+  | inl is ↦ (NullableItems, items_there s t by, rw (is_list, set, by) (grind arith))
+  | inr other ↦ (ItemsNotScalars, items_there s t by, rw (is_list, set, by, other) refl)
 ]
 
-no_plain : (c : Reason) (k : List ℕ) (s : Data) → is_items_reason c k s ≡ true → not (is_plain_scalar (schema_by s items)) ≡ true
-no_plain NoItems k s h = elim (option_cases (schema_by s items)) [
-  | inl none ↦ rw none refl
-  | inr some ↦ let is : not (is_some (schema_by s items)) ≡ true = (and_parts (bytes_eq k list_type) _ h).1 in absurd (let never : false ≡ true = rw some.1 at is in cc)
-]
-no_plain ItemsNotScalars k s h = elim (option_cases (schema_by s items)) [
-  | inl none ↦ rw none refl
-  | inr some ↦
-      let there : passes (is_item_reason ItemsNotScalars) (schema_by s items) ≡ true = (and_parts (bytes_eq k (codes "items")) _ h).1 in
-      let is : is_item_reason ItemsNotScalars some.0 ≡ true = rw some.1 at there in
-      rw some.1 (grind arith)
-]
-no_plain NullableItems k s h = elim (option_cases (schema_by s items)) [
-  | inl none ↦ rw none refl
-  | inr some ↦
-      let there : passes (is_item_reason NullableItems) (schema_by s items) ≡ true = (and_parts (bytes_eq k (codes "items")) _ h).1 in
-      let is : is_item_reason NullableItems some.0 ≡ true = rw some.1 at there in
-      rw some.1 (grind arith)
-]
-no_plain _ k s h = absurd (cc)
+no_plain : (c : Reason) (s : Data) (o : Option Data) → schema_by s items ≡ o → is_items_reason c s ≡ true → not (is_plain_scalar o) ≡ true
+no_plain c s None by h = refl
+no_plain NoItems s (Some t) by h = absurd (let never : false ≡ true = rw by at h in cc)
+no_plain ItemsNotScalars s (Some t) by h = let is : is_item_reason ItemsNotScalars t ≡ true = rw by at h in grind arith
+no_plain NullableItems s (Some t) by h = let is : is_item_reason NullableItems t ≡ true = rw by at h in grind arith
+no_plain _ s (Some t) by h = absurd (cc)
 
-pub set_reasons : (s : Data) → has_bad_set_items s ≡ true ↔ Found is_set_reason s
+pub set_reasons : (s : Data) → has_bad_set_items s ≡ true ↔ FoundBy breaks_set_by s
 set_reasons s = (
   λ h.
       let a = and_parts _ _ h in
       let b = and_parts _ _ a.1 in
-      set_explained s (schema_by s items) refl a.0 b.0 b.1,
+      found_by breaks_set_by s (set_explained s (schema_by s items) refl a.0 b.0 b.1),
   λ f.
-      let a = and_parts _ _ f.3 in
+      let r = by_found breaks_set_by s f in
+      let a = and_parts _ _ r.2 in
       let b = and_parts _ _ a.1 in
-      and_from _ _ a.0 (and_from _ _ b.0 (no_plain f.1 f.0 s b.1)),
+      and_from _ _ a.0 (and_from _ _ b.0 (no_plain r.0 s (schema_by s items) refl b.1)),
 )
 
 -- ---- keys
@@ -94,27 +96,28 @@ never_any : (ks : List (List ℕ)) → any_text (λ k. false) ks ≡ true → �
 never_any [] h = cc
 never_any (k ∷ ks) h = never_any ks h
 
-key_explained : (c : Reason) (s t : Data) → schema_by s items ≡ Some t → any_text (is_key_reason c t) (texts_under s map_keys) ≡ true → is_map_list_reason c map_keys s ≡ true
-key_explained UndeclaredKey s t by h = rw by h
-key_explained KeyNotScalar s t by h = rw by h
-key_explained NullableKey s t by h = rw by h
-key_explained OptionalKey s t by h = rw by h
-key_explained _ s t by h = absurd (never_any (texts_under s map_keys) h)
+key_explained : (c : Reason) (s t : Data) → schema_by s items ≡ Some t → is_of_list_type (codes "map") s ≡ true → is_list_kind (kind_of s) ≡ true → has s map_keys ≡ true
+    → any_text (is_key_reason c t) (texts_under s map_keys) ≡ true → HasReasonBy breaks_keys_by s
+key_explained UndeclaredKey s t by is_map is_list there h = (UndeclaredKey, there, rw (is_map, is_list, by) h)
+key_explained KeyNotScalar s t by is_map is_list there h = (KeyNotScalar, there, rw (is_map, is_list, by) h)
+key_explained NullableKey s t by is_map is_list there h = (NullableKey, there, rw (is_map, is_list, by) h)
+key_explained OptionalKey s t by is_map is_list there h = (OptionalKey, there, rw (is_map, is_list, by) h)
+key_explained _ s t by is_map is_list there h = absurd (never_any (texts_under s map_keys) h)
 
 keys_explained : (s : Data) (o : Option Data) → schema_by s items ≡ o → is_of_list_type (codes "map") s ≡ true → is_list_kind (kind_of s) ≡ true
-    → not (have_keys o (items_under s map_keys)) ≡ true → Found is_keys_reason s
-keys_explained s None by is_map is_list bad = (list_type, NoItems, listed (codes "map") s is_map, rw (is_map, is_list, by) refl)
+    → not (have_keys o (items_under s map_keys)) ≡ true → HasReasonBy breaks_keys_by s
+keys_explained s None by is_map is_list bad = (NoItems, listed (codes "map") s is_map, rw (is_map, is_list, by) refl)
 keys_explained s (Some t) by is_map is_list bad = elim (bool_cases (is_object_kind (kind_of t))) [
-  | inr other ↦ (codes "items", ItemsNotObjects, items_there s t by, rw (is_map, is_list, by, other) refl)
+  | inr other ↦ (ItemsNotObjects, items_there s t by, rw (is_map, is_list, by, other) refl)
   | inl is ↦ elim (bool_cases (flag t (codes "nullable"))) [
-    | inl nullable ↦ (codes "items", NullableItems, items_there s t by, rw (is_map, is_list, by, nullable) refl)
+    | inl nullable ↦ (NullableItems, items_there s t by, rw (is_map, is_list, by, nullable) refl)
     | inr never ↦ elim (bool_cases (is_empty (items_under s map_keys))) [
-      | inl none ↦ (list_type, NoKeys, listed (codes "map") s is_map, rw (is_map, is_list, none) refl)
+      | inl none ↦ (NoKeys, listed (codes "map") s is_map, rw (is_map, is_list, none) refl)
       | inr some ↦
           let left : not (are_keys t (texts_under s map_keys)) ≡ true = rw (is, never, some) at bad in
           elim (keys_bad t (texts_under s map_keys) (not-true _ left)) [
-            | inl repeated ↦ (map_keys, RepeatedKey, some_there _ some, rw (is_map, is_list, repeated) refl)
-            | inr key ↦ (map_keys, key.0, some_there _ some, rw (is_map, is_list) (key_explained key.0 s t by key.1))
+            | inl repeated ↦ (RepeatedKey, some_there _ some, rw (is_map, is_list, repeated) refl)
+            | inr key ↦ key_explained key.0 s t by is_map is_list (some_there _ some) key.1
           ]
     ]
   ]
@@ -155,41 +158,39 @@ repeated_no t (k ∷ ks) h = elim (or_cases (is_among k ks) (has_repeated ks) h)
 keys_no : (s t : Data) → are_keys t (texts_under s map_keys) ≡ false → have_keys (Some t) (items_under s map_keys) ≡ false
 keys_no s t bad = and_right (is_object_kind (kind_of t)) _ (and_right (not (flag t (codes "nullable"))) _ (and_right (not (is_empty (items_under s map_keys))) _ bad))
 
-have_no : (c : Reason) (k : List ℕ) (s : Data) (o : Option Data) → schema_by s items ≡ o → is_map_list_reason c k s ≡ true → have_keys o (items_under s map_keys) ≡ false
-have_no c k s None by h = refl
-have_no NoKeys k s (Some t) by h =
-    let none : is_empty (items_under s map_keys) ≡ true = (and_parts _ _ h).1 in
-    and_right (is_object_kind (kind_of t)) _ (and_right (not (flag t (codes "nullable"))) _ (and_left (not (is_empty (items_under s map_keys))) _ (not_from_true _ none)))
-have_no NoItems k s (Some t) by h = let there : not (is_some (schema_by s items)) ≡ true = (and_parts (bytes_eq k list_type) _ h).1 in absurd (let never : false ≡ true = rw by at there in cc)
-have_no ItemsNotObjects k s (Some t) by h =
-    let there : passes (is_item_reason ItemsNotObjects) (schema_by s items) ≡ true = (and_parts (bytes_eq k (codes "items")) _ h).1 in
-    let other : not (is_object_kind (kind_of t)) ≡ true = rw by at there in
+have_no : (c : Reason) (s : Data) (o : Option Data) → schema_by s items ≡ o → is_map_list_reason c s ≡ true → have_keys o (items_under s map_keys) ≡ false
+have_no c s None by h = refl
+have_no NoKeys s (Some t) by h =
+    and_right (is_object_kind (kind_of t)) _ (and_right (not (flag t (codes "nullable"))) _ (and_left (not (is_empty (items_under s map_keys))) _ (not_from_true _ h)))
+have_no NoItems s (Some t) by h = absurd (let never : false ≡ true = rw by at h in cc)
+have_no ItemsNotObjects s (Some t) by h =
+    let other : not (is_object_kind (kind_of t)) ≡ true = rw by at h in
     and_left (is_object_kind (kind_of t)) _ (not-true _ other)
-have_no NullableItems k s (Some t) by h =
-    let there : passes (is_item_reason NullableItems) (schema_by s items) ≡ true = (and_parts (bytes_eq k (codes "items")) _ h).1 in
-    let nullable : flag t (codes "nullable") ≡ true = rw by at there in
+have_no NullableItems s (Some t) by h =
+    let nullable : flag t (codes "nullable") ≡ true = rw by at h in
     and_right (is_object_kind (kind_of t)) _ (and_left (not (flag t (codes "nullable"))) _ (not_from_true _ nullable))
-have_no RepeatedKey k s (Some t) by h = keys_no s t (repeated_no t (texts_under s map_keys) (and_parts _ _ h).1)
-have_no c k s (Some t) by h =
-    let there : passes (λ u. any_text (is_key_reason c u) (texts_under s map_keys)) (schema_by s items) ≡ true = (and_parts (bytes_eq k map_keys) _ h).1 in
-    let some : any_text (is_key_reason c t) (texts_under s map_keys) ≡ true = rw by at there in
+have_no RepeatedKey s (Some t) by h = keys_no s t (repeated_no t (texts_under s map_keys) h)
+have_no c s (Some t) by h =
+    let some : any_text (is_key_reason c t) (texts_under s map_keys) ≡ true = rw by at h in
     keys_no s t (any_no c t (texts_under s map_keys) some)
 
-other_list : (c : Reason) (k : List ℕ) → is_other_list_reason c k ≡ true → k ≡ map_keys
-other_list KeysOfOtherList k h = same_name k map_keys h
-other_list _ k h = absurd (cc)
+other_list : (c : Reason) → is_other_list_reason c ≡ true → list_keyword c ≡ map_keys
+other_list KeysOfOtherList h = refl
+other_list _ h = absurd (cc)
 
-pub keys_reasons : (s : Data) → has_bad_keys s ≡ true ↔ Found is_keys_reason s
+pub keys_reasons : (s : Data) → has_bad_keys s ≡ true ↔ FoundBy breaks_keys_by s
 keys_reasons s = (
-  λ h. elim (either_true (is_of_list_type (codes "map") s) _ _ h) [
+  λ h. found_by breaks_keys_by s (elim (either_true (is_of_list_type (codes "map") s) _ _ h) [
     | inl is ↦ let a = and_parts _ _ is.1 in keys_explained s (schema_by s items) refl is.0 a.0 a.1
-    | inr other ↦ (map_keys, KeysOfOtherList, other.1, rw other.0 refl)
-  ],
-  λ f. elim (either_true (is_of_list_type (codes "map") s) _ _ f.3) [
-    | inl is ↦
-        let a = and_parts (is_list_kind (kind_of s)) (is_map_list_reason f.1 f.0 s) is.1 in
-        let bad : have_keys (schema_by s items) (items_under s map_keys) ≡ false = have_no f.1 f.0 s (schema_by s items) refl a.1 in
-        rw (is.0, a.0, bad) refl
-    | inr other ↦ rw other.0 (subst (λ k. has s k ≡ true) (other_list f.1 f.0 other.1) f.2)
-  ],
+    | inr other ↦ (KeysOfOtherList, other.1, rw other.0 refl)
+  ]),
+  λ f.
+      let r = by_found breaks_keys_by s f in
+      elim (either_true (is_of_list_type (codes "map") s) _ _ r.2) [
+        | inl is ↦
+            let a = and_parts (is_list_kind (kind_of s)) (is_map_list_reason r.0 s) is.1 in
+            let bad : have_keys (schema_by s items) (items_under s map_keys) ≡ false = have_no r.0 s (schema_by s items) refl a.1 in
+            rw (is.0, a.0, bad) refl
+        | inr other ↦ rw other.0 (subst (λ k. has s k ≡ true) (other_list r.0 other.1) r.1)
+      ],
 )

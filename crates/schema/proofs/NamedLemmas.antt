@@ -3,6 +3,7 @@ use Rattle.std.proofs.Common.{◌≡◌, ◌≢◌, ◌⊎◌, ◌↔◌, ◌<�
 use Rattle.std.specs.Prelude.{IsTrue, ◌||◌, codes, if◌then◌else◌, option_and_then, All}
 use Rattle.std.specs.Option.{option_or}
 use Rattle.std.specs.Str.{bytes_eq}
+use Rattle.std.proofs.lemmas.Bool.{or_left, or_right}
 use Rattle.std.proofs.lemmas.Slice.Eq.{bytes_eq-Decides}
 use Rattle.std.proofs.lemmas.Cmp.{nat_list_eq_equiv}
 use Rattle.std.proofs.lemmas.Option.{option_and_then_some, same_Some}
@@ -16,7 +17,6 @@ use Rattle.schema.specs.Document.Places.{Step, Place, property, all_of, any_of, 
 use Rattle.schema.specs.Internal.Named.{NamePart, names, some_branches, one_branch, no_name, name_part, part_names, item_names, member_names, other_of, has_others}
 use Rattle.schema.specs.Rules.Keywords.{texts_of, items_in, texts_under}
 use Rattle.schema.specs.Rules.Junctors.{NamesField, NamesTooMany}
-use Rattle.schema.proofs.ShapeLemmas.{or_left, or_right}
 
 -- ---- texts in lists
 

@@ -1,11 +1,9 @@
--- Sizes of lists and objects, and pointers of joined places.
-use Rattle.std.proofs.Common.{◌≡◌, suc, List, [], ◌∷◌, ◌++◌, length, refl, ap}
-use Rattle.std.proofs.lemmas.Grind.{flat_map-append}
+-- Sizes of lists and objects.
+use Rattle.std.proofs.Common.{◌≡◌, suc, List, [], ◌∷◌, length, refl, ap}
 use Rattle.jtree.specs.View.{items_of, members_of}
 use Rattle.jtree.specs.declared.value.Tree.{Tree}
 use Rattle.jtree.specs.declared.value.Member.{Member}
 use Rattle.schema.specs.Document.Limits.{items_len, members_len}
-use Rattle.schema.specs.Document.Places.{Place, step_path, place_path}
 
 pub items_size : (ts : List Tree) → length ts ≡ items_len (items_of ts)
 items_size [] = refl
@@ -14,6 +12,3 @@ items_size (t ∷ ts) = ap suc (items_size ts)
 pub members_size : (ms : List Member) → length ms ≡ members_len (members_of ms)
 members_size [] = refl
 members_size (m ∷ ms) = ap suc (members_size ms)
-
-pub place_path-append : (p q : Place) → place_path (p ++ q) ≡ place_path p ++ place_path q
-place_path-append p q = flat_map-append step_path p q

@@ -12,10 +12,10 @@ use Rattle.schema.specs.Rules.Reasons.{HasSomeReason, has_reasons, is_branch_rea
 use Rattle.schema.specs.declared.violation.Rule.{Rule}
 use Rattle.schema.specs.declared.violation.Rule.TheVariants.{V03, V05, V11, V12, V16, V17}
 use Rattle.schema.specs.declared.reason.Reason.{Reason}
-use Rattle.schema.specs.declared.reason.Reason.TheVariants.{NotInBranches, TypeInBranch, NotSupported, TooManyNames}
+use Rattle.schema.specs.declared.reason.Reason.TheVariants.{NotInBranches, TypeInBranch, NotSupported}
 use Rattle.schema.proofs.ReasonWords.{some_keyword, keyword_found}
 use Rattle.schema.proofs.KeyReasons.{keys_reasons, set_reasons}
-use Rattle.schema.proofs.BranchReasons.{junctor_reasons, junctor_there}
+use Rattle.schema.proofs.BranchReasons.{junctor_reasons}
 use Rattle.schema.proofs.ProfileReasons.{profile_reasons}
 
 branch_keyword : (c : Reason) (k : List ℕ) → is_branch_reason c k ≡ true → is_among k outside_keywords ≡ true
@@ -38,8 +38,7 @@ to_reason raw p V03 six (inside, (s, at, inr (there, other))) = (codes "type", T
 to_reason raw p V05 six (s, at, keyword) = let f = some_keyword (λ k. is_among k unsupported_keywords) s keyword in (f.0, NotSupported, (s, at, (f.1, f.2)))
 to_reason raw p V11 six (outside, (s, at, bad)) = let f = (keys_reasons s).0 bad in (f.0, f.1, (s, at, (f.2, (outside, f.3))))
 to_reason raw p V12 six (outside, (s, at, bad)) = let f = (set_reasons s).0 bad in (f.0, f.1, (s, at, (f.2, (outside, f.3))))
-to_reason raw p V16 six (s, at, inl bad) = let f = (junctor_reasons p (schema_at raw (core p)) s).0 bad in (f.0, f.1, (s, at, (f.2, inl f.3)))
-to_reason raw p V16 six (s, at, inr many) = let f = junctor_there s many.2 in (f.0, TooManyNames, (s, at, (f.1, inr (f.2, many))))
+to_reason raw p V16 six (s, at, bad) = let f = (junctor_reasons p (schema_at raw (core p)) s).0 bad in (f.0, f.1, (s, at, (f.2, f.3)))
 to_reason raw p V17 six (outside, (s, at, bad)) = let f = (profile_reasons (is_root p) s).0 bad in (f.0, f.1, (s, at, (f.2, (outside, f.3))))
 to_reason raw p _ six broken = absurd (cc)
 
@@ -50,8 +49,7 @@ from_reason raw p V03 (k, c, (s, at, (there, (inside, inr (typed, other))))) = (
 from_reason raw p V05 (k, c, (s, at, (there, is))) = (s, at, keyword_found (λ l. is_among l unsupported_keywords) s k there (support_keyword c k is))
 from_reason raw p V11 (k, c, (s, at, (there, (outside, is)))) = (outside, (s, at, (keys_reasons s).1 (k, c, there, is)))
 from_reason raw p V12 (k, c, (s, at, (there, (outside, is)))) = (outside, (s, at, (set_reasons s).1 (k, c, there, is)))
-from_reason raw p V16 (k, c, (s, at, (there, inl is))) = (s, at, inl ((junctor_reasons p (schema_at raw (core p)) s).1 (k, c, there, is)))
-from_reason raw p V16 (k, c, (s, at, (there, inr (is, many)))) = (s, at, inr many)
+from_reason raw p V16 (k, c, (s, at, (there, is))) = (s, at, (junctor_reasons p (schema_at raw (core p)) s).1 (k, c, there, is))
 from_reason raw p V17 (k, c, (s, at, (there, (outside, is)))) = (outside, (s, at, (profile_reasons (is_root p) s).1 (k, c, there, is)))
 from_reason raw p _ (k, c, (s, at, (there, is))) = absurd is
 

@@ -1,16 +1,15 @@
 -- What reasons are found by: tests of truth values, and keywords that are there.
-use Rattle.std.proofs.Common.{◌≡◌, ◌⊎◌, ℕ, List, Bool, true, false, Option, Some, None, refl, subst, inl, inr}
-use Rattle.std.specs.Prelude.{not, if◌then◌else◌, option_and_then, codes}
+use Rattle.std.proofs.Common.{◌≡◌, ◌⊎◌, ℕ, zero, suc, List, [], ◌∷◌, get_or, Bool, true, false, Option, Some, None, refl, subst, inl, inr}
+use Rattle.std.specs.Prelude.{if◌then◌else◌, option_and_then, codes}
 use Rattle.std.specs.Option.{is_some}
 use Rattle.std.specs.Str.{bytes_eq}
 use Rattle.std.proofs.lemmas.Bool.{or_cases, or_left, or_right}
-use Rattle.jtree.specs.Data.{Data, object, list, Members, no_members, member}
+use Rattle.jtree.specs.Data.{Data, object, Members, no_members, member}
 use Rattle.jtree.specs.Path.{member_at, under}
 use Rattle.jtree.specs.Internal.Lookups.{bool_cases, same_name, own_name}
 use Rattle.schema.specs.Document.Places.{items, schema_by, only_object}
-use Rattle.schema.specs.Rules.Keywords.{is_true, has, has_name, has_keyword, is_text_among, any_item, items_in, is_empty}
-use Rattle.schema.specs.Rules.Profile.{are_bad_choices}
-use Rattle.schema.specs.Rules.Reasons.{is_empty_enum, lists_other}
+use Rattle.schema.specs.Rules.Keywords.{is_true, has, has_name, has_keyword, is_text_among, any_item, items_in, is_empty, one_holds}
+use Rattle.schema.specs.Rules.Profile.{is_empty_list, has_empty_enum}
 use Rattle.schema.specs.declared.reason.Reason.{Reason}
 
 -- a reason is found, with a keyword that is there
@@ -41,6 +40,10 @@ pub some_there : (o : Option Data) → is_empty (items_in o) ≡ false → is_so
 some_there (Some d) h = refl
 some_there None h = cc
 
+list_there : (o : Option Data) → is_empty_list o ≡ true → is_some o ≡ true
+list_there (Some d) h = refl
+list_there None h = cc
+
 object_there : (o : Option Data) (t : Data) → option_and_then only_object (option_and_then (λ e. Some e) o) ≡ Some t → is_some o ≡ true
 object_there (Some d) t h = refl
 object_there None t h = cc
@@ -48,19 +51,32 @@ object_there None t h = cc
 pub items_there : (s t : Data) → schema_by s items ≡ Some t → has s (codes "items") ≡ true
 items_there s t h = object_there (under s (codes "items")) t h
 
--- ---- the values of `enum`
+pub empty_there : (s : Data) → has_empty_enum s ≡ true → has s (codes "enum") ≡ true
+empty_there s h = list_there (under s (codes "enum")) h
 
-pub choices_explained : (test : Data → Bool) (o : Option Data) → are_bad_choices test o ≡ true → (is_some o ≡ true) × ((is_empty_enum o ≡ true) ⊎ (lists_other test o ≡ true))
-choices_explained test (Some (list ds)) h = (refl, or_cases (is_empty ds) (any_item (λ d. not (test d)) ds) h)
-choices_explained test _ h = absurd (cc)
+-- ---- some test of a list holds
 
-pub empty_bad : (test : Data → Bool) (o : Option Data) → is_empty_enum o ≡ true → are_bad_choices test o ≡ true
-empty_bad test (Some (list ds)) h = or_left (is_empty ds) _ h
-empty_bad test _ h = absurd (cc)
+-- what follows from each of them follows
+abbrev Cases : List Bool → Type 0 → Type 0
+Cases [] P = P
+Cases (b ∷ bs) P = (b ≡ true → P) → Cases bs P
 
-pub other_bad : (test : Data → Bool) (o : Option Data) → lists_other test o ≡ true → are_bad_choices test o ≡ true
-other_bad test (Some (list ds)) h = or_right (is_empty ds) _ h
-other_bad test _ h = absurd (cc)
+settled : (bs : List Bool) (P : Type 0) → P → Cases bs P
+settled [] P p = p
+settled (b ∷ bs) P p = λ _. settled bs P p
+
+pub cases : (bs : List Bool) (P : Type 0) → one_holds bs ≡ true → Cases bs P
+cases [] P h = absurd (cc)
+cases (b ∷ []) P h = λ f. f h
+cases (true ∷ c ∷ bs) P h = λ f. settled (c ∷ bs) P (f refl)
+cases (false ∷ c ∷ bs) P h = λ _. cases (c ∷ bs) P h
+
+pub holds_at : (bs : List Bool) (i : ℕ) → get_or bs i false ≡ true → one_holds bs ≡ true
+holds_at [] i h = absurd (cc)
+holds_at (b ∷ []) zero h = h
+holds_at (b ∷ []) (suc i) h = absurd (cc)
+holds_at (b ∷ c ∷ bs) zero h = or_left b _ h
+holds_at (b ∷ c ∷ bs) (suc i) h = or_right b _ (holds_at (c ∷ bs) i h)
 
 -- ---- a keyword that passes a test
 

@@ -1,16 +1,15 @@
 -- What a subschema shows of the rules at its place.
-use Rattle.std.proofs.Common.{◌≡◌, ◌⊎◌, ℕ, List, [], ◌∷◌, ◌++◌, Bool, true, false, Some, refl, sym, ap, ◌∙◌, subst, inl, inr, zero, suc, ◌-◌, ◌<◌, ◌≤◌, length, get_or, arith}
+use Rattle.std.proofs.Common.{◌≡◌, ℕ, List, [], ◌∷◌, ◌++◌, Bool, true, false, Some, refl, sym, ap, ◌∙◌, subst, inl, inr, zero, suc, ◌-◌, ◌<◌, ◌≤◌, length, get_or, arith}
 use Rattle.std.specs.Prelude.{◌↔◌, not, IsTrue, codes}
 use Rattle.std.proofs.lemmas.Option.{same_Some}
 use Rattle.jtree.specs.View.{items_of}
 use Rattle.jtree.specs.declared.value.Tree.{Tree}
 use Rattle.jtree.specs.Data.{Data}
 use Rattle.schema.specs.Document.Texts.{is_among}
-use Rattle.schema.specs.Document.Places.{Step, Place, property, is_junctor, is_inside, core, ends_with, schema_at}
+use Rattle.schema.specs.Document.Places.{Step, Place, property, is_junctor, is_inside, ends_with, schema_at}
 use Rattle.schema.specs.Internal.PlaceView.{step_of, place_of}
 use Rattle.schema.specs.declared.places.Step.{Step as CodeStep}
 use Rattle.schema.specs.Rules.Keywords.{is_empty}
-use Rattle.schema.specs.Rules.Junctors.{has_bad_junctor, HasTooManyNames}
 use Rattle.schema.specs.Rules.Broken.{At, metadata_names, metadata, Passes, PassesOutside, RestrictsMetadata, metadata_keyword, metadata_type, metadata_field}
 use Rattle.schema.specs.Internal.RuleParts.{IsOtherName, IsOtherField, Restricts}
 
@@ -88,15 +87,6 @@ pub passes_there : (raw : Data) (p : Place) (s : Data) (test : Data → Bool) (b
     → IsTrue b ↔ PassesOutside raw p test
 passes_there raw p s test b is out reported = (λ t. (out, (passes raw p s test b is reported).0 t), λ at. (passes raw p s test b is reported).1 at.1)
 
--- ---- junctors
-
--- where no junctor is bad the names decide
-pub too_many_there : (raw : Data) (p : Place) (s : Data) (many : Bool) → schema_at raw p ≡ Some s → false ≡ has_bad_junctor p (schema_at raw (core p)) s
-    → IsTrue many ↔ HasTooManyNames p s → IsTrue many ↔ At raw p (λ t. (has_bad_junctor p (schema_at raw (core p)) t ≡ true) ⊎ HasTooManyNames p t)
-too_many_there raw p s many is good h = (
-  λ t. (s, is, inr (h.0 t)),
-  λ at. elim (subst (λ t. (has_bad_junctor p (schema_at raw (core p)) t ≡ true) ⊎ HasTooManyNames p t) (same_Some at.0 s (sym at.1 ∙ is)) at.2) [
-    | inl bad ↦ absurd (let never : false ≡ true = good ∙ bad in cc)
-    | inr names ↦ h.1 names
-  ],
-)
+-- what holds of the schema at a place
+pub at_there : (raw : Data) (p : Place) (s : Data) (Holds : Data → Type 0) (b : Bool) → schema_at raw p ≡ Some s → IsTrue b ↔ Holds s → IsTrue b ↔ At raw p Holds
+at_there raw p s Holds b is h = (λ t. (s, is, h.0 t), λ at. h.1 (subst Holds (same_Some at.0 s (sym at.1 ∙ is)) at.2))

@@ -1,6 +1,7 @@
 -- The schemas below one whose places have nodes have nodes, and the fields of properties.
 use Rattle.std.proofs.Common.{◌≡◌, ◌<◌, ◌+◌, ℕ, List, [], ◌∷◌, ◌++◌, length, get_or, take, drop, Bool, true, false, Option, Some, None, refl, sym, ap, ◌∙◌, subst, inl, inr}
-use Rattle.std.specs.Prelude.{option_and_then, option_map, codes, ◌||◌, ◌&&◌}
+use Rattle.std.specs.Prelude.{option_and_then, option_map, codes}
+use Rattle.std.proofs.lemmas.Bool.{or_parts}
 use Rattle.std.proofs.lemmas.Option.{same_Some}
 use Rattle.std.proofs.lemmas.List.{take-append-drop, drop_more}
 use Rattle.std.specs.declared.cmp.Ordering.TheVariants.{Less}
@@ -16,7 +17,7 @@ use Rattle.schema.specs.Document.Texts.{is_among}
 use Rattle.schema.specs.Rules.Kinds as kinds
 use Rattle.schema.specs.Rules.Keywords.{has_other_text, members_in, members_under, texts_under}
 use Rattle.schema.specs.Rules.Kinds.{Kind, IsOfKind, kind_of}
-use Rattle.schema.specs.Rules.Profile.{types, is_bad_root, is_root, lacks_items, is_outside_profile}
+use Rattle.schema.specs.Rules.Profile.{types, is_root, profile_tests, is_outside_profile}
 use Rattle.schema.specs.Rules.Breaks.{BreaksNone}
 use Rattle.schema.specs.Document.Places.{Step, Place, property, map_value, items, schema_by, schema_at, is_junctor, is_inside, IsEnvelopeName, IsEnvelope}
 use Rattle.schema.specs.Nodes.Node.{Node, node, Sort, object, map, list, Fields, no_fields, field, IsNode, IsSort, IsBeforeFields, AreOrdered}
@@ -26,24 +27,17 @@ use Rattle.schema.specs.Internal.NodeOf.{IsNodeOf, AreBelow, AreFieldsOf, is_dec
 use Rattle.schema.specs.Internal.Building.{HasNoNode, HasNodes, HaveNodes}
 use Rattle.schema.specs.declared.violation.Rule.TheVariants.{V01, V17}
 use Rattle.schema.proofs.KindLemmas.{map_has_object, kind_none}
+use Rattle.schema.proofs.ReasonWords.{holds_at}
 use Rattle.schema.specs.declared.node.Field.{Field}
 use Rattle.schema.proofs.EventPlaces.{under_tree}
 
 -- ---- where no rule is broken each place has a node
 
-pub or_right : (a b : Bool) → b ≡ true → (a || b) ≡ true
-or_right true b h = refl
-or_right false b h = h
-
-pub or_left : (a b : Bool) → a ≡ true → (a || b) ≡ true
-or_left true b h = refl
-or_left false b h = cc
-
 other_type : (root : Bool) (s : Data) → has_other_text types s (codes "type") ≡ true → is_outside_profile root s ≡ true
-other_type root s h = or_left _ _ (or_right (root && is_bad_root s) _ (or_left _ _ h))
+other_type root s h = holds_at (profile_tests root s) 2 h
 
 no_items : (root : Bool) (s : Data) → IsOfKind s kinds.list → schema_by s items ≡ None → is_outside_profile root s ≡ true
-no_items root s kind none = or_right _ (lacks_items s || _) (or_left (lacks_items s) _ (rw (kind.is, none) refl))
+no_items root s kind none = holds_at (profile_tests root s) 5 (rw (kind.is, none) refl)
 
 no_kind : (raw : Data) → BreaksNone raw → (p : Place) (s : Data) → is_inside p ≡ false → schema_at raw p ≡ Some s → kind_of s ≡ None → ⊥
 no_kind raw none p s outside at untyped = elim (kind_none s untyped) [
@@ -65,10 +59,6 @@ all_have_nodes raw none p place at = elim at.2 [
 ]
 
 -- ---- places one step below
-
-or_parts : (a b : Bool) → (a || b) ≡ false → (a ≡ false) × (b ≡ false)
-or_parts true b h = cc
-or_parts false b h = (refl, h)
 
 envelope_step : (step : Step) (p q : Place) → IsEnvelope (step ∷ p) → IsEnvelope (step ∷ q)
 envelope_step (property k) p q h = h

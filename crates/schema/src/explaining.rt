@@ -3,6 +3,7 @@ ghost use Rattle.std.specs.Prelude.{◌≡◌, OnOk, IfOk, IfErr};
 ghost use Rattle.jtree.specs.Data.{Data};
 ghost use Rattle.schema.specs.Internal.PlaceView.{place_of};
 ghost use Rattle.schema.specs.Internal.Subschemas.{IsSubschema};
+ghost use Rattle.schema.specs.Internal.ReasonParts.{AreFacts};
 ghost use Rattle.schema.specs.Internal.Findings.{all_reasons as all_reasons_of, findings_at, AddsFindings};
 ghost use Rattle.schema.specs.Rules.Broken.{Broken};
 ghost use Rattle.schema.specs.Rules.Explained.{AreFindings, IsExplained, AreExplained};
@@ -13,7 +14,7 @@ use crate::judging::{Report, reports_of, subschemas_of};
 use crate::listing::Subschema;
 use crate::raw::RawSchema;
 use crate::reason::{Explained, Finding, Reason};
-use crate::reasons::is_reason;
+use crate::reasons::{PlaceFacts, facts_of, is_reason};
 use crate::violation::{Rule, Violation};
 use jtree::Text;
 use std::alloc::{AllocError, Global};
@@ -57,12 +58,14 @@ fn findings_of(
     let schema = subschema.schema;
     // for its contract alone: a proof learns that the names are in order, each once
     schema.reveal_invariant();
+    let facts = facts_of(subschema);
     let mut findings = Vec::new(alloc);
     for member in &schema.members {
         let keyword = member.name.as_str();
         find(
             alloc,
             subschema,
+            &facts,
             rule,
             keyword,
             &all_reasons(),
@@ -115,15 +118,17 @@ fn all_reasons() -> [Reason; 31]
 fn find(
     alloc: Global,
     subschema: &Subschema<'_>,
+    facts: &PlaceFacts,
     rule: Rule,
     keyword: &str,
     reasons: &[Reason],
     findings: &mut Vec<Finding>,
 ) -> Result<(), AllocError>
+    requires { AreFacts facts.now subschema.now }
     ensures { OnOk result (AddsFindings subschema.now rule (findings_at keyword.now reasons.now) findings.old.items findings.new.items) }
 {
     for reason in reasons {
-        if is_reason(subschema, rule, keyword, *reason) {
+        if is_reason(subschema, facts, rule, keyword, *reason) {
             findings.push(Finding {
                 keyword: Text::from_str(alloc, keyword)?,
                 reason: *reason,

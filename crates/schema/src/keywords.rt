@@ -7,7 +7,7 @@ ghost use Rattle.schema.specs.Document.Places.{only_object};
 ghost use Rattle.schema.specs.Document.Texts.{is_among};
 ghost use Rattle.schema.specs.Internal.KindView.{kind_view, is_asked as is_asked_by};
 ghost use Rattle.schema.specs.Rules.Broken.{metadata_keywords};
-ghost use Rattle.schema.specs.Rules.Profile.{is_common_keyword as is_common_keyword_of, own_keywords, keywords_of_all, junctor_keywords, outside_keywords, unsupported_keywords, keywords_of_scalars, keywords_of_objects, keywords_of_lists};
+ghost use Rattle.schema.specs.Rules.Profile.{is_common_keyword as is_common_keyword_of, is_foreign as is_foreign_to, not_at_root, own_keywords, keywords_of_all, junctor_keywords, outside_keywords, unsupported_keywords, keywords_of_scalars, keywords_of_objects, keywords_of_lists};
 ghost use Rattle.schema.specs.Rules.Junctors.{is_judged_elsewhere as is_judged_elsewhere_of, is_branch_keyword as is_branch_keyword_of, is_presence_keyword as is_presence_keyword_of};
 ghost use Rattle.schema.specs.Rules.Keywords.{is_false, flag, has as has_of, has_text_among as has_text_of, has_other_text as has_other_text_than, has_name, is_empty as is_empty_list, texts_of, texts_under};
 
@@ -56,8 +56,10 @@ pub(crate) enum Keywords {
     BesideBranch,
     /// All but those of a branch that asks which fields are present.
     BesidePresence,
-    /// All but those of a place of a kind.
-    BesideKind(Kind),
+    /// All but those of a place of the kind; none where there is no kind.
+    Foreign(Option<Kind>),
+    /// Those that the root may not have, besides `nullable`.
+    NotAtRoot,
 }
 
 /// Whether such a keyword is there.
@@ -82,9 +84,8 @@ fn is_asked(keyword: &str, keywords: Keywords) -> bool
         Keywords::BesideMetadata => !is_metadata_keyword(keyword),
         Keywords::BesideBranch => !is_branch_keyword(keyword),
         Keywords::BesidePresence => !is_presence_keyword(keyword),
-        Keywords::BesideKind(kind) => {
-            !(is_common_keyword(keyword) || is_own_keyword(keyword, kind))
-        }
+        Keywords::Foreign(kind) => is_foreign(kind, keyword),
+        Keywords::NotAtRoot => is_not_at_root(keyword),
     }
 }
 
@@ -113,14 +114,24 @@ fn is_judged_elsewhere(keyword: &str) -> bool
     keyword == "type" || (is_outside_keyword(keyword) || is_unsupported_keyword(keyword))
 }
 
-pub(crate) fn is_common_keyword(keyword: &str) -> bool
+/// Whether a place of the kind may not have the keyword; where it is of none it may.
+pub(crate) fn is_foreign(kind: Option<Kind>, keyword: &str) -> bool
+    ensures { result ≡ is_foreign_to (option_map kind_view kind) keyword.now }
+{
+    match kind {
+        Some(kind) => !(is_common_keyword(keyword) || is_own_keyword(keyword, kind)),
+        None => false,
+    }
+}
+
+fn is_common_keyword(keyword: &str) -> bool
     ensures { result ≡ is_common_keyword_of keyword.now }
 {
     is_keyword_of_all(keyword) || (is_junctor_keyword(keyword) || is_unsupported_keyword(keyword))
 }
 
 /// Whether a keyword is one of a kind alone.
-pub(crate) fn is_own_keyword(keyword: &str, kind: Kind) -> bool
+fn is_own_keyword(keyword: &str, kind: Kind) -> bool
     ensures { result ≡ is_among keyword.now (own_keywords (kind_view kind)) }
 {
     match kind {
@@ -226,6 +237,15 @@ fn is_keyword_of_lists(keyword: &str) -> bool
     ensures { result ≡ is_among keyword.now keywords_of_lists }
 {
     is_one_of(keyword, &["items", "minItems", "maxItems"])
+}
+
+pub(crate) fn is_not_at_root(keyword: &str) -> bool
+    ensures { result ≡ is_among keyword.now not_at_root }
+{
+    is_one_of(
+        keyword,
+        &["additionalProperties", "minProperties", "maxProperties"],
+    )
 }
 
 /// Whether a text is one of these.

@@ -3,7 +3,7 @@ ghost use Rattle.std.specs.Prelude.{◌≡◌, codes, option_map};
 ghost use Rattle.jtree.specs.Data.{object};
 ghost use Rattle.jtree.specs.Path.{under};
 ghost use Rattle.jtree.specs.View.{data_of};
-ghost use Rattle.schema.specs.Rules.Kinds.{kind_of as kind_of_schema, untyped_kind as untyped_kind_of, named_kind as named_kind_of, object_kind as object_kind_of, is_scalar_kind, is_list_kind, is_object_kind, is_open_kind, is_untyped as is_untyped_of, lacks_type as lacks_type_of};
+ghost use Rattle.schema.specs.Rules.Kinds.{kind_of as kind_of_schema, untyped_kind as untyped_kind_of, named_kind as named_kind_of, object_kind as object_kind_of, is_scalar_kind as is_scalar_kind_of, is_list_kind as is_list_kind_of, is_object_kind as is_object_kind_of, is_open_kind as is_open_kind_of, is_untyped as is_untyped_of, lacks_type as lacks_type_of};
 ghost use Rattle.schema.specs.Rules.Junctors.{declares_fields as declares_fields_of};
 ghost use Rattle.schema.specs.Internal.KindView.{kind_view};
 
@@ -84,31 +84,22 @@ fn object_kind(schema: &Members) -> Kind
 
 /// Whether a schema is of a scalar kind.
 pub(crate) fn is_scalar(schema: &Members) -> bool
-    ensures { result ≡ is_scalar_kind (kind_of_schema (object schema.now)) }
+    ensures { result ≡ is_scalar_kind_of (kind_of_schema (object schema.now)) }
 {
-    match kind_of_members(schema) {
-        Some(Kind::Scalar(_)) => true,
-        _ => false,
-    }
+    is_scalar_kind(kind_of_members(schema))
 }
 
 pub(crate) fn is_list(schema: &Members) -> bool
-    ensures { result ≡ is_list_kind (kind_of_schema (object schema.now)) }
+    ensures { result ≡ is_list_kind_of (kind_of_schema (object schema.now)) }
 {
-    match kind_of_members(schema) {
-        Some(Kind::List) => true,
-        _ => false,
-    }
+    is_list_kind(kind_of_members(schema))
 }
 
 /// Whether a schema is of an object, maps among them.
 pub(crate) fn is_object(schema: &Members) -> bool
-    ensures { result ≡ is_object_kind (kind_of_schema (object schema.now)) }
+    ensures { result ≡ is_object_kind_of (kind_of_schema (object schema.now)) }
 {
-    match kind_of_members(schema) {
-        Some(Kind::Object | Kind::Map) => true,
-        _ => false,
-    }
+    is_object_kind(kind_of_members(schema))
 }
 
 /// Whether a schema is of an object with declared fields, and no map.
@@ -121,13 +112,28 @@ pub(crate) fn declares_fields(schema: &Members) -> bool
     }
 }
 
-pub(crate) fn is_open(schema: &Members) -> bool
-    ensures { result ≡ is_open_kind (kind_of_schema (object schema.now)) }
+pub(crate) fn is_scalar_kind(kind: Option<Kind>) -> bool
+    ensures { result ≡ is_scalar_kind_of (option_map kind_view kind) }
 {
-    match kind_of_members(schema) {
-        Some(Kind::Open) => true,
-        _ => false,
-    }
+    matches!(kind, Some(Kind::Scalar(_)))
+}
+
+pub(crate) fn is_list_kind(kind: Option<Kind>) -> bool
+    ensures { result ≡ is_list_kind_of (option_map kind_view kind) }
+{
+    matches!(kind, Some(Kind::List))
+}
+
+pub(crate) fn is_object_kind(kind: Option<Kind>) -> bool
+    ensures { result ≡ is_object_kind_of (option_map kind_view kind) }
+{
+    matches!(kind, Some(Kind::Object | Kind::Map))
+}
+
+pub(crate) fn is_open_kind(kind: Option<Kind>) -> bool
+    ensures { result ≡ is_open_kind_of (option_map kind_view kind) }
+{
+    matches!(kind, Some(Kind::Open))
 }
 
 /// Whether a schema has neither a type, nor is int-or-string, nor accepts every value.

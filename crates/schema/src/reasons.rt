@@ -3,7 +3,7 @@ ghost use Rattle.std.specs.Prelude.{◌≡◌, ◌↔◌, IsTrue};
 ghost use Rattle.jtree.specs.Data.{Data, object};
 ghost use Rattle.schema.specs.Internal.PlaceView.{place_of};
 ghost use Rattle.schema.specs.Internal.Subschemas.{IsSubschema};
-ghost use Rattle.schema.specs.Internal.ReasonParts.{IsOutsideReason};
+ghost use Rattle.schema.specs.Internal.ReasonParts.{AreFacts, IsOutsideReason};
 ghost use Rattle.schema.specs.Rules.Reasons.{Explains, is_branch_reason as is_branch_reason_of, is_type_reason as is_type_reason_of, is_support_reason as is_support_reason_of};
 
 mod branches;
@@ -11,43 +11,76 @@ mod keys;
 mod profile;
 
 use crate::keywords::{is_outside_keyword, is_unsupported_keyword};
+use crate::kinds::{Kind, kind_of_members};
 use crate::listing::Subschema;
 use crate::reason::Reason;
 use crate::reasons::branches::breaks_junctors_by;
 use crate::reasons::keys::{is_keys_reason, is_set_reason};
 use crate::reasons::profile::is_profile_reason;
+use crate::rules::junctors::asks_presence;
 use crate::rules::{is_inside, is_root};
 use crate::violation::Rule;
+
+/// What the reasons ask of a place whatever the keyword, noted once. They ask more of the place by keywords of a given name
+/// alone, which a place has once.
+#[derive(Drop)]
+pub(crate) struct PlaceFacts {
+    /// Whether a step of the place is into a branch.
+    pub is_inside: bool,
+    pub kind: Option<Kind>,
+    /// Whether it is a branch that asks which fields are present.
+    pub asks_presence: bool,
+}
+
+pub(crate) fn facts_of(subschema: &Subschema<'_>) -> PlaceFacts
+    ensures { AreFacts result subschema.now }
+{
+    let place = subschema.place.as_slice();
+    PlaceFacts {
+        is_inside: is_inside(place),
+        kind: kind_of_members(subschema.schema),
+        asks_presence: asks_presence(place, subschema.outer),
+    }
+}
 
 /// Whether a rule is broken at a place for a reason, by a keyword that is there.
 pub(crate) fn is_reason(
     subschema: &Subschema<'_>,
+    facts: &PlaceFacts,
     rule: Rule,
     keyword: &str,
     reason: Reason,
 ) -> bool
+    requires { AreFacts facts.now subschema.now }
     ensures { (raw : Data) → IsSubschema raw subschema.now → IsTrue result ↔ Explains raw (place_of subschema.now.place.items) (object subschema.now.schema.now) rule keyword.now reason }
 {
     let place = subschema.place.as_slice();
     let schema = subschema.schema;
     match rule {
-        Rule::V03 => is_outside_reason(subschema, keyword, reason),
+        Rule::V03 => is_outside_reason(subschema, facts, keyword, reason),
         Rule::V05 => is_support_reason(keyword, reason),
-        Rule::V11 => !is_inside(place) && is_keys_reason(schema, keyword, reason),
-        Rule::V12 => !is_inside(place) && is_set_reason(schema, keyword, reason),
-        Rule::V16 => breaks_junctors_by(subschema, keyword, reason),
+        Rule::V11 => !facts.is_inside && is_keys_reason(schema, keyword, reason),
+        Rule::V12 => !facts.is_inside && is_set_reason(schema, keyword, reason),
+        Rule::V16 => breaks_junctors_by(subschema, facts, keyword, reason),
         Rule::V17 => {
-            !is_inside(place) && is_profile_reason(is_root(place), schema, keyword, reason)
+            !facts.is_inside
+                && is_profile_reason(is_root(place), facts.kind, schema, keyword, reason)
         }
         _ => false,
     }
 }
 
 /// V03: no branch may have the keyword.
-fn is_outside_reason(subschema: &Subschema<'_>, keyword: &str, reason: Reason) -> bool
+fn is_outside_reason(
+    subschema: &Subschema<'_>,
+    facts: &PlaceFacts,
+    keyword: &str,
+    reason: Reason,
+) -> bool
+    requires { AreFacts facts.now subschema.now }
     ensures { IsTrue result ↔ IsOutsideReason subschema.now keyword.now reason }
 {
-    is_inside(subschema.place.as_slice())
+    facts.is_inside
         && (is_branch_reason(keyword, reason)
             || (is_type_reason(keyword, reason) && !subschema.in_pattern))
 }

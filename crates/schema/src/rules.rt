@@ -50,7 +50,7 @@ pub(crate) fn is_broken(subschema: &Subschema<'_>, rule: Rule) -> bool
         Rule::V13 => !is_inside(place) && bad_map_type(subschema.schema),
         Rule::V14 => false,
         Rule::V15 => !is_inside(place) && has_misplaced_default(place, subschema.schema),
-        Rule::V16 => breaks_junctors(subschema),
+        Rule::V16 => breaks_junctors(place, subschema.outer, subschema.schema),
         Rule::V17 => !is_inside(place) && is_outside_profile(is_root(place), subschema.schema),
     }
 }

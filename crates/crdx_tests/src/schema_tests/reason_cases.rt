@@ -6,7 +6,7 @@ use std::test::Fail;
 
 // A name, a schema, and a line for each reason of each violation: the rule, the place, the keyword and the reason; or for a
 // violation without reasons the rule and the place.
-static REASONS: [(&str, &str, &str); 41] = [
+static REASONS: [(&str, &str, &str); 44] = [
     (
         "pattern",
         r#"{"type":"object","properties":{"x":{"type":"string","pattern":"a"}}}"#,
@@ -226,6 +226,14 @@ V17 "/properties/x" type NoItems
 "#,
     ),
     (
+        "a field in a branch that is not specified outside",
+        r#"{"type":"object","properties":{"x":{"type":"object","properties":{"a":{"type":"string"}},"anyOf":[{"properties":{"u":{"required":["a"]}}}]}}}"#,
+        r#"V16 "/properties/x/anyOf/0" properties NotInPresenceBranches
+V02 "/properties/x/anyOf/0/properties/u"
+V16 "/properties/x/anyOf/0/properties/u" required NotInScalarBranches
+"#,
+    ),
+    (
         "a rule that is broken in one way",
         r#"{"type":"object","properties":{"x":{}}}"#,
         r#"V01 "/properties/x"
@@ -254,6 +262,21 @@ V17 "" type UnknownType
         "a root of any value",
         r#"{"x-kubernetes-preserve-unknown-fields":true}"#,
         r#"V17 "" x-kubernetes-preserve-unknown-fields RootNotObject
+"#,
+    ),
+    (
+        "a root of any value, with properties",
+        r#"{"x-kubernetes-preserve-unknown-fields":true,"properties":{}}"#,
+        r#"V17 "" properties NotOfOpenPlaces
+V17 "" x-kubernetes-preserve-unknown-fields RootNotObject
+"#,
+    ),
+    (
+        "a root of integers and texts that preserves unknown fields",
+        r#"{"x-kubernetes-int-or-string":true,"x-kubernetes-preserve-unknown-fields":true}"#,
+        r#"V17 "" x-kubernetes-int-or-string RootNotObject
+V17 "" x-kubernetes-int-or-string NotWithPreserving
+V17 "" x-kubernetes-preserve-unknown-fields RootNotObject
 "#,
     ),
     (

@@ -104,9 +104,6 @@ mutual
   branches_inj (branch c cs) (branch d ds) p = λ i. branch (validations_inj c d (ap head p) i) (branches_inj cs ds (ap tail p) i)
   branches_inj cs ds p = cc
 
-abbrev pub validations_coded : Coded Validations
-validations_coded = record { code = validations_code; inj = validations_inj }
-
 abbrev pub branches_coded : Coded Branches
 branches_coded = record { code = branches_code; inj = branches_inj }
 

@@ -10,7 +10,7 @@ use Rattle.schema.specs.Rules.Keywords.{is_false, flag, has, has_other_text, has
 use Rattle.schema.specs.Rules.Kinds.{is_int_or_string, lacks_type}
 use Rattle.schema.specs.Rules.Lists.{has_bad_list_type, has_bad_keys, has_bad_set_items, has_bad_map_type}
 use Rattle.schema.specs.Rules.Profile.{outside_keywords, unsupported_keywords, has_misplaced_default, is_root, is_outside_profile}
-use Rattle.schema.specs.Rules.Junctors.{has_bad_junctor, HasTooManyNames}
+use Rattle.schema.specs.Rules.Junctors.{BreaksJunctors}
 use Rattle.schema.specs.declared.violation.Rule.{Rule}
 use Rattle.schema.specs.declared.violation.Rule.TheVariants.{V01, V02, V03, V04, V05, V06, V07, V08, V09, V10, V11, V12, V13, V15, V16, V17}
 
@@ -114,7 +114,7 @@ Broken raw p V13 = PassesOutside raw p has_bad_map_type
 -- misplaced default
 Broken raw p V15 = PassesOutside raw p (has_misplaced_default p)
 -- junctor outside the profile
-Broken raw p V16 = At raw p (λ s. (has_bad_junctor p (schema_at raw (core p)) s ≡ true) ⊎ HasTooManyNames p s)
+Broken raw p V16 = At raw p (BreaksJunctors p (schema_at raw (core p)))
 -- outside the profile
 Broken raw p V17 = PassesOutside raw p (is_outside_profile (is_root p))
 -- what a default becomes is not judged here

@@ -102,3 +102,9 @@ any_item test (item d ds) = test d || any_item test ds
 abbrev pub is_empty : Items → Bool
 is_empty no_items = true
 is_empty _ = false
+
+-- some of these tests holds
+abbrev pub one_holds : List Bool → Bool
+one_holds [] = false
+one_holds (b ∷ []) = b
+one_holds (b ∷ c ∷ bs) = b || one_holds (c ∷ bs)

@@ -7,8 +7,8 @@ use Rattle.jtree.specs.Kind.{is_boolean, is_integer, is_text}
 use Rattle.jtree.specs.Path.{under, member_at}
 use Rattle.schema.specs.Document.Texts.{is_among}
 use Rattle.schema.specs.Document.Places.{Step, Place, property, items, schema_by, ends_with, is_envelope_name, is_envelope}
-use Rattle.schema.specs.Rules.Keywords.{flag, has, has_other_text, has_keyword, any_item, is_empty, items_under, members_under}
-use Rattle.schema.specs.Rules.Kinds.{Kind, scalar, open_, kind_of, is_scalar_kind, is_list_kind, is_object_kind, is_open_kind, is_int_or_string, preserves, lacks_type}
+use Rattle.schema.specs.Rules.Keywords.{flag, has, has_other_text, has_keyword, any_item, is_empty, items_under, members_under, one_holds}
+use Rattle.schema.specs.Rules.Kinds.{Kind, scalar, open_, kind_of, is_list_kind, is_int_or_string, is_untyped, preserves}
 use Rattle.schema.specs.Rules.Kinds as kinds
 use Rattle.schema.specs.declared.node.ScalarKind.{ScalarKind}
 use Rattle.schema.specs.declared.node.ScalarKind.TheVariants.{Boolean, Integer, String, IntOrString}
@@ -67,17 +67,23 @@ own_keywords _ = keywords_of_objects
 abbrev pub is_keyword_of : Kind → List ℕ → Bool
 is_keyword_of kind k = is_common_keyword k || is_among k (own_keywords kind)
 
--- the place has a keyword that its kind has not
-abbrev pub has_foreign_keyword : Option Kind → Data → Bool
-has_foreign_keyword None s = false
-has_foreign_keyword (Some kind) s = has_keyword (λ k. not (is_keyword_of kind k)) s
+-- a place of the kind may not have the keyword
+abbrev pub is_foreign : Option Kind → List ℕ → Bool
+is_foreign None k = false
+is_foreign (Some kind) k = not (is_keyword_of kind k)
 
 -- ---- the values of `enum`
 
--- `enum` is there, and lists no value, or one that is not accepted
-abbrev pub are_bad_choices : (Data → Bool) → Option Data → Bool
-are_bad_choices accepts (Some (list ds)) = is_empty ds || any_item (λ d. not (accepts d)) ds
-are_bad_choices accepts _ = false
+abbrev pub is_empty_list : Option Data → Bool
+is_empty_list (Some (list ds)) = is_empty ds
+is_empty_list _ = false
+
+-- `enum` lists no value; and it lists one that is not accepted
+abbrev pub has_empty_enum : Data → Bool
+has_empty_enum s = is_empty_list (under s (codes "enum"))
+
+abbrev pub lists_other : (Data → Bool) → Data → Bool
+lists_other accepts s = any_item (λ d. not (accepts d)) (items_under s (codes "enum"))
 
 -- neither null, nor a list, nor an object
 abbrev pub is_scalar_value : Data → Bool
@@ -90,29 +96,56 @@ accepts Integer d = is_integer d
 accepts String d = is_text d
 accepts IntOrString d = is_integer d || is_text d
 
-abbrev pub has_bad_choices : Option Kind → Data → Bool
-has_bad_choices (Some (scalar k)) s = are_bad_choices (accepts k) (under s (codes "enum"))
-has_bad_choices _ s = false
+-- so it is at a scalar place
+abbrev pub has_no_choice : Option Kind → Data → Bool
+has_no_choice (Some (scalar k)) s = has_empty_enum s
+has_no_choice _ s = false
 
--- ---- the profile
+abbrev pub has_other_choice : Option Kind → Data → Bool
+has_other_choice (Some (scalar k)) s = lists_other (accepts k) s
+has_other_choice _ s = false
+
+-- ---- the profile: nine conditions, in the order of docs/MEANING.md
 
 abbrev pub is_root : Place → Bool
 is_root [] = true
 is_root _ = false
 
--- the root is of another kind than object, and not just without a type, or takes null, or has one of these keywords
-abbrev pub is_bad_root : Data → Bool
-is_bad_root s = (not (lacks_type s) && not (is_object_kind (kind_of s))) || (flag s (codes "nullable")
-    || (has s (codes "additionalProperties") || (has s (codes "minProperties") || has s (codes "maxProperties"))))
+-- another type than object is given, or the place is int-or-string
+abbrev pub is_no_object : Data → Bool
+is_no_object s = has_other_text ([] ∷ codes "object" ∷ []) s (codes "type") || is_int_or_string s
 
--- unknown fields are kept beside a type or a keyword that does not go with that
-abbrev pub is_bad_preserving : Data → Bool
-is_bad_preserving s = preserves s && (has_other_text ([] ∷ codes "object" ∷ []) s (codes "type") || (is_int_or_string s
-    || (has s (codes "additionalProperties") || (is_open_kind (kind_of s) && (has s (codes "properties") || has s (codes "items"))))))
+-- unknown fields are kept, and no type is given
+abbrev pub is_untyped_open : Data → Bool
+is_untyped_open s = preserves s && is_untyped (under s (codes "type"))
+
+-- the root is something other than an object
+abbrev pub is_other_root : Bool → Data → Bool
+is_other_root root s = root && (is_no_object s || is_untyped_open s)
+
+abbrev pub not_at_root : List (List ℕ)
+not_at_root = codes "additionalProperties" ∷ codes "minProperties" ∷ codes "maxProperties" ∷ []
+
+-- the root takes null, or has one of these keywords
+abbrev pub has_no_root_keyword : Bool → Data → Bool
+has_no_root_keyword root s = root && (flag s (codes "nullable") || has_keyword (λ k. is_among k not_at_root) s)
 
 abbrev pub types : List (List ℕ)
 types = [] ∷ codes "integer" ∷ codes "string" ∷ codes "boolean" ∷ codes "array" ∷ codes "object" ∷ []
 
+-- the type is none of the five
+abbrev pub has_unknown_type : Data → Bool
+has_unknown_type s = has_other_text types s (codes "type")
+
+-- unknown fields are kept beside a type or a keyword that does not go with that
+abbrev pub is_bad_preserving : Data → Bool
+is_bad_preserving s = preserves s && (is_no_object s || has s (codes "additionalProperties"))
+
+-- places of the kind may not have some keyword that is there
+abbrev pub has_foreign_keyword : Data → Bool
+has_foreign_keyword s = has_keyword (is_foreign (kind_of s)) s
+
+-- a list has no items
 abbrev pub lacks_items : Data → Bool
 lacks_items s = is_list_kind (kind_of s) && not (is_some (schema_by s items))
 
@@ -121,10 +154,26 @@ abbrev pub is_undeclared : Bool → Members → Data → Bool
 is_undeclared root properties (text k) = not (is_some (member_at k properties) || (root && is_envelope_name k))
 is_undeclared root properties _ = false
 
+-- such a text is required
 abbrev pub requires_undeclared : Bool → Data → Bool
 requires_undeclared root s = any_item (is_undeclared root (members_under s (codes "properties"))) (items_under s (codes "required"))
 
+-- a scalar has no value to choose, or one that is not of its kind
+abbrev pub has_bad_choices : Data → Bool
+has_bad_choices s = has_no_choice (kind_of s) s || has_other_choice (kind_of s) s
+
+abbrev pub profile_tests : Bool → Data → List Bool
+profile_tests root s =
+    is_other_root root s ∷
+    has_no_root_keyword root s ∷
+    has_unknown_type s ∷
+    is_bad_preserving s ∷
+    has_foreign_keyword s ∷
+    lacks_items s ∷
+    requires_undeclared root s ∷
+    has_bad_choices s ∷
+    flag s (codes "additionalProperties") ∷ []
+
+-- one of them holds
 abbrev pub is_outside_profile : Bool → Data → Bool
-is_outside_profile root s =
-    ((root && is_bad_root s) || (has_other_text types s (codes "type") || (is_bad_preserving s || has_foreign_keyword (kind_of s) s)))
-    || (lacks_items s || (requires_undeclared root s || (has_bad_choices (kind_of s) s || flag s (codes "additionalProperties"))))
+is_outside_profile root s = one_holds (profile_tests root s)

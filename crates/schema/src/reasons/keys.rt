@@ -1,11 +1,12 @@
 // The reasons of the rules on keys of map lists and on items of sets.
-ghost use Rattle.std.specs.Prelude.{◌≡◌, not, codes, option_map};
+ghost use Rattle.std.specs.Prelude.{◌≡◌, ◌&&◌, not, codes, option_map};
+ghost use Rattle.std.specs.Str.{bytes_eq};
 ghost use Rattle.jtree.specs.Data.{object};
 ghost use Rattle.jtree.specs.View.{items_of};
 ghost use Rattle.schema.specs.Document.Places.{schema_by, items as items_step};
 ghost use Rattle.schema.specs.Rules.Keywords.{flag, has as has_of, texts_of, texts_under};
 ghost use Rattle.schema.specs.Rules.Kinds.{kind_of, is_scalar_kind};
-ghost use Rattle.schema.specs.Rules.Reasons.{is_keys_reason as is_keys_reason_of, is_map_list_reason as is_map_list_reason_of, is_other_list_reason as is_other_list_reason_of, is_set_reason as is_set_reason_of, is_items_reason as is_items_reason_of, is_item_reason as is_item_reason_of, is_key_reason as is_key_reason_of, any_text, has_repeated as has_repeated_of, passes, map_keys};
+ghost use Rattle.schema.specs.Rules.Reasons.{list_keyword as list_keyword_of, breaks_keys_by as breaks_keys_by_of, is_map_list_reason as is_map_list_reason_of, is_other_list_reason as is_other_list_reason_of, breaks_set_by as breaks_set_by_of, is_items_reason as is_items_reason_of, is_item_reason as is_item_reason_of, is_key_reason as is_key_reason_of, any_text, has_repeated as has_repeated_of, passes, map_keys};
 
 use crate::keywords::{has, has_true, is_empty, is_listed, lists_text, object_under};
 use crate::kinds::{is_list, is_object, is_scalar};
@@ -15,59 +16,72 @@ use jtree::{Members, Tree};
 
 /// V11: keys of what is no map list, or a map list whose items have not its keys.
 pub(crate) fn is_keys_reason(schema: &Members, keyword: &str, reason: Reason) -> bool
-    ensures { result ≡ is_keys_reason_of reason keyword.now (object schema.now) }
+    ensures { result ≡ (bytes_eq keyword.now (list_keyword_of reason) && breaks_keys_by_of reason (object schema.now)) }
 {
-    if is_of_list_type(schema, "map") {
-        is_list(schema) && is_map_list_reason(schema, keyword, reason)
-    } else {
-        is_other_list_reason(keyword, reason)
-    }
-}
-
-fn is_other_list_reason(keyword: &str, reason: Reason) -> bool
-    ensures { result ≡ is_other_list_reason_of reason keyword.now }
-{
-    match reason {
-        Reason::KeysOfOtherList => keyword == "x-kubernetes-list-map-keys",
-        _ => false,
-    }
-}
-
-fn is_map_list_reason(schema: &Members, keyword: &str, reason: Reason) -> bool
-    ensures { result ≡ is_map_list_reason_of reason keyword.now (object schema.now) }
-{
-    match reason {
-        Reason::NoKeys => keyword == "x-kubernetes-list-type" && is_empty(keys_of(schema)),
-        Reason::NoItems => {
-            keyword == "x-kubernetes-list-type" && object_under(schema, "items").is_none()
-        }
-        Reason::ItemsNotObjects | Reason::NullableItems => {
-            keyword == "items" && has_items(schema, reason)
-        }
-        Reason::RepeatedKey => {
-            keyword == "x-kubernetes-list-map-keys" && has_repeated(keys_of(schema))
-        }
-        _ => keyword == "x-kubernetes-list-map-keys" && any_key(schema, reason),
-    }
+    keyword == list_keyword(reason) && breaks_keys_by(schema, reason)
 }
 
 /// V12: the items of a set are absent, no scalars, or nullable.
 pub(crate) fn is_set_reason(schema: &Members, keyword: &str, reason: Reason) -> bool
-    ensures { result ≡ is_set_reason_of reason keyword.now (object schema.now) }
+    ensures { result ≡ (bytes_eq keyword.now (list_keyword_of reason) && breaks_set_by_of reason (object schema.now)) }
 {
-    is_list(schema) && (is_of_list_type(schema, "set") && is_items_reason(schema, keyword, reason))
+    keyword == list_keyword(reason) && breaks_set_by(schema, reason)
 }
 
-fn is_items_reason(schema: &Members, keyword: &str, reason: Reason) -> bool
-    ensures { result ≡ is_items_reason_of reason keyword.now (object schema.now) }
+/// The keyword that a reason is about.
+fn list_keyword(reason: Reason) -> &'static str
+    ensures { result.now ≡ list_keyword_of reason }
 {
     match reason {
-        Reason::NoItems => {
-            keyword == "x-kubernetes-list-type" && object_under(schema, "items").is_none()
-        }
-        Reason::ItemsNotScalars | Reason::NullableItems => {
-            keyword == "items" && has_items(schema, reason)
-        }
+        Reason::NoKeys | Reason::NoItems => "x-kubernetes-list-type",
+        Reason::ItemsNotObjects | Reason::ItemsNotScalars | Reason::NullableItems => "items",
+        _ => "x-kubernetes-list-map-keys",
+    }
+}
+
+fn breaks_keys_by(schema: &Members, reason: Reason) -> bool
+    ensures { result ≡ breaks_keys_by_of reason (object schema.now) }
+{
+    if is_of_list_type(schema, "map") {
+        is_list(schema) && is_map_list_reason(schema, reason)
+    } else {
+        is_other_list_reason(reason)
+    }
+}
+
+fn is_other_list_reason(reason: Reason) -> bool
+    ensures { result ≡ is_other_list_reason_of reason }
+{
+    match reason {
+        Reason::KeysOfOtherList => true,
+        _ => false,
+    }
+}
+
+fn is_map_list_reason(schema: &Members, reason: Reason) -> bool
+    ensures { result ≡ is_map_list_reason_of reason (object schema.now) }
+{
+    match reason {
+        Reason::NoKeys => is_empty(keys_of(schema)),
+        Reason::NoItems => object_under(schema, "items").is_none(),
+        Reason::ItemsNotObjects | Reason::NullableItems => has_items(schema, reason),
+        Reason::RepeatedKey => has_repeated(keys_of(schema)),
+        _ => any_key(schema, reason),
+    }
+}
+
+fn breaks_set_by(schema: &Members, reason: Reason) -> bool
+    ensures { result ≡ breaks_set_by_of reason (object schema.now) }
+{
+    is_list(schema) && (is_of_list_type(schema, "set") && is_items_reason(schema, reason))
+}
+
+fn is_items_reason(schema: &Members, reason: Reason) -> bool
+    ensures { result ≡ is_items_reason_of reason (object schema.now) }
+{
+    match reason {
+        Reason::NoItems => object_under(schema, "items").is_none(),
+        Reason::ItemsNotScalars | Reason::NullableItems => has_items(schema, reason),
         _ => false,
     }
 }

@@ -1,127 +1,86 @@
 // The reasons of the rule on the profile.
-ghost use Rattle.std.specs.Prelude.{◌≡◌, codes};
+ghost use Rattle.std.specs.Prelude.{◌≡◌, option_map};
 ghost use Rattle.jtree.specs.Data.{object};
-ghost use Rattle.jtree.specs.Path.{under};
-ghost use Rattle.schema.specs.Internal.KindView.{is_accepted};
-ghost use Rattle.schema.specs.Rules.Kinds.{kind_of as kind_of_schema, preserves as preserves_of};
-ghost use Rattle.schema.specs.Rules.Reasons.{is_profile_reason as is_profile_reason_of, is_other_root as is_other_root_of, is_no_root_keyword as is_no_root_keyword_of, is_no_preserving as is_no_preserving_of, is_foreign as is_foreign_to, has_no_choice as has_no_choice_of, has_other_choice as has_other_choice_of, is_empty_enum, lists_other as lists_other_than};
+ghost use Rattle.schema.specs.Internal.KindView.{kind_view};
+ghost use Rattle.schema.specs.Rules.Kinds.{kind_of};
+ghost use Rattle.schema.specs.Rules.Reasons.{is_profile_reason as is_profile_reason_of, makes_no_object as makes_no_object_of, makes_other_root as makes_other_root_of, is_no_root_keyword as is_no_root_keyword_of, is_no_preserving as is_no_preserving_of, is_about_kind as is_about_kind_of};
 
-use crate::keywords::{
-    has_other_text, has_true, is_common_keyword, is_empty, is_one_of, is_own_keyword,
-};
-use crate::kinds::{Kind, is_list, is_object, is_open, is_scalar, is_untyped, kind_of_members};
-use crate::node::ScalarKind;
+use crate::keywords::{has_other_text, has_true, is_foreign, is_not_at_root};
+use crate::kinds::{Kind, is_list_kind, is_object_kind, is_open_kind, is_scalar_kind};
 use crate::reason::Reason;
-use crate::rules::profile::{lacks_items, lists_other, requires_undeclared};
-use jtree::{Members, Tree};
+use crate::rules::profile::{
+    has_no_choice, has_other_choice, has_unknown_type, is_untyped_open, lacks_items, preserves,
+    requires_undeclared,
+};
+use jtree::Members;
 
 /// V17: a place that is in no branch is outside the profile.
-pub(crate) fn is_profile_reason(root: bool, schema: &Members, keyword: &str, reason: Reason) -> bool
+pub(crate) fn is_profile_reason(
+    root: bool,
+    kind: Option<Kind>,
+    schema: &Members,
+    keyword: &str,
+    reason: Reason,
+) -> bool
+    requires { option_map kind_view kind ≡ kind_of (object schema.now) }
     ensures { result ≡ is_profile_reason_of root reason keyword.now (object schema.now) }
 {
-    let types = ["", "integer", "string", "boolean", "array", "object"];
     match reason {
-        Reason::RootNotObject => root && is_other_root(schema, keyword),
+        Reason::RootNotObject => root && makes_other_root(schema, keyword),
         Reason::NotAtRoot => root && is_no_root_keyword(schema, keyword),
-        Reason::UnknownType => keyword == "type" && has_other_text(schema, keyword, &types),
-        Reason::NotWithPreserving => preserves(schema) && is_no_preserving(schema, keyword),
-        Reason::NotOfScalars => is_scalar(schema) && is_foreign(schema, keyword),
-        Reason::NotOfLists => is_list(schema) && is_foreign(schema, keyword),
-        Reason::NotOfObjects => is_object(schema) && is_foreign(schema, keyword),
-        Reason::NotOfOpenPlaces => is_open(schema) && is_foreign(schema, keyword),
+        Reason::UnknownType => keyword == "type" && has_unknown_type(schema),
+        Reason::NotWithPreserving => is_no_preserving(schema, keyword) && preserves(schema),
         Reason::NoItems => keyword == "type" && lacks_items(schema),
         Reason::UndeclaredField => keyword == "required" && requires_undeclared(root, schema),
         Reason::EmptyEnum => keyword == "enum" && has_no_choice(schema),
         Reason::EnumOfOtherKind => keyword == "enum" && has_other_choice(schema),
         Reason::AdditionalPropertiesTrue => {
-            keyword == "additionalProperties" && has_true(schema, keyword)
+            keyword == "additionalProperties" && has_true(schema, "additionalProperties")
         }
-        _ => false,
+        _ => is_about_kind(reason, kind) && is_foreign(kind, keyword),
     }
 }
 
-fn preserves(schema: &Members) -> bool
-    ensures { result ≡ preserves_of (object schema.now) }
+/// Whether the keyword makes the root something other than an object.
+fn makes_other_root(schema: &Members, keyword: &str) -> bool
+    ensures { result ≡ makes_other_root_of keyword.now (object schema.now) }
 {
-    has_true(schema, "x-kubernetes-preserve-unknown-fields")
+    makes_no_object(schema, keyword)
+        || (keyword == "x-kubernetes-preserve-unknown-fields" && is_untyped_open(schema))
 }
 
-/// Whether the keyword makes the root something other than an object.
-fn is_other_root(schema: &Members, keyword: &str) -> bool
-    ensures { result ≡ is_other_root_of keyword.now (object schema.now) }
+/// Whether the keyword gives another type than object, or says that the place is int-or-string.
+fn makes_no_object(schema: &Members, keyword: &str) -> bool
+    ensures { result ≡ makes_no_object_of keyword.now (object schema.now) }
 {
-    (keyword == "type" && has_other_text(schema, keyword, &["", "object"]))
-        || ((keyword == "x-kubernetes-int-or-string" && has_true(schema, keyword))
-            || (keyword == "x-kubernetes-preserve-unknown-fields"
-                && (preserves(schema) && is_untyped(schema))))
+    (keyword == "type" && has_other_text(schema, "type", &["", "object"]))
+        || (keyword == "x-kubernetes-int-or-string"
+            && has_true(schema, "x-kubernetes-int-or-string"))
 }
 
 /// Whether the root may not have the keyword, or is nullable by it.
 fn is_no_root_keyword(schema: &Members, keyword: &str) -> bool
     ensures { result ≡ is_no_root_keyword_of keyword.now (object schema.now) }
 {
-    (keyword == "nullable" && has_true(schema, keyword))
-        || is_one_of(
-            keyword,
-            &["additionalProperties", "minProperties", "maxProperties"],
-        )
+    (keyword == "nullable" && has_true(schema, "nullable")) || is_not_at_root(keyword)
 }
 
 /// Whether the keyword does not go with keeping unknown fields.
 fn is_no_preserving(schema: &Members, keyword: &str) -> bool
     ensures { result ≡ is_no_preserving_of keyword.now (object schema.now) }
 {
-    (keyword == "type" && has_other_text(schema, keyword, &["", "object"]))
-        || ((keyword == "x-kubernetes-int-or-string" && has_true(schema, keyword))
-            || keyword == "additionalProperties")
+    makes_no_object(schema, keyword) || keyword == "additionalProperties"
 }
 
-/// Whether a place of the kind of this one may not have the keyword.
-fn is_foreign(schema: &Members, keyword: &str) -> bool
-    ensures { result ≡ is_foreign_to (kind_of_schema (object schema.now)) keyword.now }
+/// Whether the reason is about places of this kind.
+fn is_about_kind(reason: Reason, kind: Option<Kind>) -> bool
+    ensures { result ≡ is_about_kind_of reason (option_map kind_view kind) }
 {
-    match kind_of_members(schema) {
-        Some(kind) => !(is_common_keyword(keyword) || is_own_keyword(keyword, kind)),
-        None => false,
-    }
-}
-
-/// Whether the place is a scalar whose `enum` lists no value.
-fn has_no_choice(schema: &Members) -> bool
-    ensures { result ≡ has_no_choice_of (kind_of_schema (object schema.now)) (object schema.now) }
-{
-    match kind_of_members(schema) {
-        Some(Kind::Scalar(_)) => has_empty_enum(schema),
-        _ => false,
-    }
-}
-
-/// Whether the place is a scalar whose `enum` lists a value that its kind does not accept.
-fn has_other_choice(schema: &Members) -> bool
-    ensures { result ≡ has_other_choice_of (kind_of_schema (object schema.now)) (object schema.now) }
-{
-    match kind_of_members(schema) {
-        Some(Kind::Scalar(kind)) => lists_other_choice(schema, Some(kind)),
-        _ => false,
-    }
-}
-
-/// Whether `enum` lists no value.
-pub(crate) fn has_empty_enum(schema: &Members) -> bool
-    ensures { result ≡ is_empty_enum (under (object schema.now) (codes "enum")) }
-{
-    match schema.get("enum") {
-        Some(Tree::List(values)) => is_empty(values.items.as_slice()),
-        _ => false,
-    }
-}
-
-/// Whether `enum` lists a value that is not accepted: of the kind, and without one any scalar.
-pub(crate) fn lists_other_choice(schema: &Members, kind: Option<ScalarKind>) -> bool
-    ensures { result ≡ lists_other_than (is_accepted kind) (under (object schema.now) (codes "enum")) }
-{
-    match schema.get("enum") {
-        Some(Tree::List(values)) => lists_other(kind, values.items.as_slice()),
+    match reason {
+        Reason::NotOfScalars => is_scalar_kind(kind),
+        Reason::NotOfLists => is_list_kind(kind),
+        Reason::NotOfObjects => is_object_kind(kind),
+        Reason::NotOfOpenPlaces => is_open_kind(kind),
         _ => false,
     }
 }

@@ -1,48 +1,100 @@
 // Where junctors may be, what their branches may say, and how many fields they may name.
-ghost use Rattle.std.specs.Prelude.{◌≡◌, ◌↔◌, [], true, false, map, option_map, IsTrue, codes};
-ghost use Rattle.jtree.specs.Data.{Data, object, item, no_items};
+ghost use Rattle.std.specs.Prelude.{◌≡◌, ◌↔◌, [], true, false, map, option_map, option_and_then, IsTrue};
+ghost use Rattle.jtree.specs.Data.{object, item, no_items};
 ghost use Rattle.jtree.specs.View.{data_of, items_of};
 ghost use Rattle.schema.specs.Document.Places.{core};
 ghost use Rattle.schema.specs.Internal.Named.{name_part as name_part_of, part_names, item_names, member_names, other_of, has_others};
 ghost use Rattle.schema.specs.Internal.NamedView.{name_part_view};
 ghost use Rattle.schema.specs.Internal.PlaceView.{place_of};
-ghost use Rattle.schema.specs.Internal.Subschemas.{IsSubschema};
-ghost use Rattle.schema.specs.Rules.Broken.{Broken};
-ghost use Rattle.schema.specs.Rules.Junctors.{has_bad_junctor as has_bad_junctor_at, is_bad_inside as is_bad_inside_of, is_bad_branch as is_bad_branch_of, is_bad_presence as is_bad_presence_of, is_no_field as is_no_field_of, HasTooManyNames, NamesTooMany};
-ghost use Rattle.schema.specs.Rules.Keywords.{members_under, items_under, any_item, texts_of};
+ghost use Rattle.schema.specs.Rules.Junctors.{BreaksJunctors, takes_no_junctor as takes_no_junctor_at, has_misplaced_junctor as has_misplaced_junctor_at, asks_presence as asks_presence_at, is_bad_presence as is_bad_presence_at, is_bad_value as is_bad_value_at, requires_no_field as requires_no_field_of, fields_of as fields_of_object, is_no_field as is_no_field_of, declares_fields as declares_fields_of, HasTooManyNames, NamesTooMany};
+ghost use Rattle.schema.specs.Rules.Keywords.{members_in, any_item, texts_of};
+ghost use Rattle.schema.specs.Rules.Kinds.{kind_of as kind_of_schema};
 ghost use Rattle.schema.specs.Rules.Profile.{is_root as is_root_of};
-ghost use Rattle.schema.specs.declared.violation.Rule.TheVariants.{V16};
 
 use crate::keywords::{Keywords, has_keyword, is_one_of};
 use crate::kinds::{declares_fields, is_scalar};
-use crate::listing::Subschema;
 use crate::places::{Step, is_envelope_name, is_junctor};
 use crate::rules::is_inside;
-use crate::rules::profile::{are_bad_choices, declares};
+use crate::rules::profile::{declares, has_empty_enum, lists_other, properties_of};
 use jtree::{Items, Members, Tree};
 
-/// V16: a junctor at a place that is neither a scalar nor an object with declared fields, a branch with what it may not have,
-/// or an object whose branches name more than four fields.
-pub(crate) fn breaks_junctors(subschema: &Subschema<'_>) -> bool
-    ensures { (raw : Data) → IsSubschema raw subschema.now → IsTrue result ↔ Broken raw (place_of subschema.now.place.items) V16 }
+/// V16: the junctors of a place, or what a branch has, is outside the profile.
+pub(crate) fn breaks_junctors(place: &[Step<'_>], outer: Option<&Members>, schema: &Members) -> bool
+    ensures { IsTrue result ↔ BreaksJunctors (place_of place.now) (option_map (λ m. object m.now) outer.entry) (object schema.now) }
 {
-    let place = subschema.place.as_slice();
-    has_bad_junctor(place, subschema.outer, subschema.schema)
-        || has_too_many_names(place, subschema.schema)
+    has_misplaced_junctor(place, schema)
+        || has_too_many_names(place, schema)
+        || is_bad_presence(place, outer, schema)
+        || is_bad_value(place, outer, schema)
 }
 
-fn has_bad_junctor(place: &[Step<'_>], outer: Option<&Members>, schema: &Members) -> bool
-    ensures { result ≡ has_bad_junctor_at (place_of place.now) (option_map (λ m. object m.now) outer.entry) (object schema.now) }
+/// Whether an outside place has a junctor and is neither a scalar nor an object with declared fields.
+fn has_misplaced_junctor(place: &[Step<'_>], schema: &Members) -> bool
+    ensures { result ≡ has_misplaced_junctor_at (place_of place.now) (object schema.now) }
 {
-    if is_inside(place) {
-        is_bad_inside(is_in_root(place), outer, schema)
-    } else {
-        has_keyword(schema, Keywords::Junctors) && (!is_scalar(schema) && !declares_fields(schema))
+    takes_no_junctor(place, schema) && has_keyword(schema, Keywords::Junctors)
+}
+
+/// Whether an outside place is neither a scalar nor an object with declared fields.
+pub(crate) fn takes_no_junctor(place: &[Step<'_>], schema: &Members) -> bool
+    ensures { result ≡ takes_no_junctor_at (place_of place.now) (object schema.now) }
+{
+    !is_inside(place) && (!is_scalar(schema) && !declares_fields(schema))
+}
+
+/// Whether a branch that asks which fields are present has another keyword than it may have, or requires what is no field.
+fn is_bad_presence(place: &[Step<'_>], outer: Option<&Members>, schema: &Members) -> bool
+    ensures { result ≡ is_bad_presence_at (place_of place.now) (option_map (λ m. object m.now) outer.entry) (object schema.now) }
+{
+    asks_presence(place, outer)
+        && (has_keyword(schema, Keywords::BesidePresence)
+            || requires_no_field(place, outer, schema))
+}
+
+/// Whether a branch that asks of the value has another keyword or another value of `enum` than it may have.
+fn is_bad_value(place: &[Step<'_>], outer: Option<&Members>, schema: &Members) -> bool
+    ensures { result ≡ is_bad_value_at (place_of place.now) (option_map (λ m. object m.now) outer.entry) (object schema.now) }
+{
+    (is_inside(place) && !asks_presence(place, outer))
+        && (has_keyword(schema, Keywords::BesideBranch)
+            || (has_empty_enum(schema) || lists_other(schema, None)))
+}
+
+/// Whether a place is a branch that asks which fields are present, by the schema at its place without the steps into
+/// branches.
+pub(crate) fn asks_presence(place: &[Step<'_>], outer: Option<&Members>) -> bool
+    ensures { result ≡ asks_presence_at (place_of place.now) (option_map (λ m. object m.now) outer.entry) }
+{
+    is_inside(place) && is_with_fields(outer)
+}
+
+fn is_with_fields(schema: Option<&Members>) -> bool
+    ensures { result ≡ declares_fields_of (option_and_then kind_of_schema (option_map (λ m. object m.now) schema.entry)) }
+{
+    match schema {
+        Some(schema) => declares_fields(schema),
+        None => false,
+    }
+}
+
+/// Whether `required` lists what is no field of the object outside.
+pub(crate) fn requires_no_field(
+    place: &[Step<'_>],
+    outer: Option<&Members>,
+    schema: &Members,
+) -> bool
+    ensures { result ≡ requires_no_field_of (place_of place.now) (option_map (λ m. object m.now) outer.entry) (object schema.now) }
+{
+    match schema.get("required") {
+        Some(Tree::List(names)) => {
+            lists_no_field(is_in_root(place), fields_of(outer), names.items.as_slice())
+        }
+        _ => false,
     }
 }
 
 /// Whether all steps of the place are into branches.
-pub(crate) fn is_in_root(place: &[Step<'_>]) -> bool
+fn is_in_root(place: &[Step<'_>]) -> bool
     ensures { result ≡ is_root_of (core (place_of place.now)) }
 {
     for step in place {
@@ -53,64 +105,32 @@ pub(crate) fn is_in_root(place: &[Step<'_>]) -> bool
     true
 }
 
-/// Whether a branch has what it may not have, by the schema at its place without the steps into branches.
-fn is_bad_inside(root: bool, outer: Option<&Members>, schema: &Members) -> bool
-    ensures { result ≡ is_bad_inside_of root (option_map (λ m. object m.now) outer.entry) (object schema.now) }
+/// The properties of the object outside.
+fn fields_of(outer: Option<&Members>) -> Option<&Members>
+    ensures { members_in (option_map (λ m. object m.now) result) ≡ fields_of_object (option_map (λ m. object m.now) outer.entry) }
 {
-    match outer {
-        Some(outer) => {
-            if declares_fields(outer) {
-                is_bad_presence(root, outer, schema)
-            } else {
-                is_bad_branch(schema)
-            }
-        }
-        None => is_bad_branch(schema),
-    }
-}
-
-/// Whether a branch has another keyword or another value of `enum` than it may have.
-fn is_bad_branch(schema: &Members) -> bool
-    ensures { result ≡ is_bad_branch_of (object schema.now) }
-{
-    has_keyword(schema, Keywords::BesideBranch) || are_bad_choices(schema, None)
-}
-
-/// Whether a branch of an object has another keyword than it may have, or requires what is no field.
-fn is_bad_presence(root: bool, outer: &Members, schema: &Members) -> bool
-    ensures { result ≡ is_bad_presence_of root (object outer.now) (object schema.now) }
-{
-    has_keyword(schema, Keywords::BesidePresence) || requires_no_field(root, outer, schema)
-}
-
-pub(crate) fn requires_no_field(root: bool, outer: &Members, schema: &Members) -> bool
-    ensures { result ≡ any_item (is_no_field_of root (members_under (object outer.now) (codes "properties"))) (items_under (object schema.now) (codes "required")) }
-{
-    match schema.get("required") {
-        Some(Tree::List(names)) => lists_no_field(root, outer, names.items.as_slice()),
-        _ => false,
-    }
+    properties_of(outer?)
 }
 
 /// Whether one of these names is no field.
-fn lists_no_field(root: bool, outer: &Members, names: &[Tree]) -> bool
-    ensures { result ≡ any_item (is_no_field_of root (members_under (object outer.now) (codes "properties"))) (items_of names.now) }
+fn lists_no_field(root: bool, fields: Option<&Members>, names: &[Tree]) -> bool
+    ensures { result ≡ any_item (is_no_field_of root (members_in (option_map (λ m. object m.now) fields.entry))) (items_of names.now) }
 {
     for name in names {
-        if is_no_field(root, outer, name) {
+        if is_no_field(root, fields, name) {
             return true;
         }
     }
     false
 }
 
-fn is_no_field(root: bool, outer: &Members, name: &Tree) -> bool
-    ensures { result ≡ is_no_field_of root (members_under (object outer.now) (codes "properties")) (data_of name.now) }
+fn is_no_field(root: bool, fields: Option<&Members>, name: &Tree) -> bool
+    ensures { result ≡ is_no_field_of root (members_in (option_map (λ m. object m.now) fields.entry)) (data_of name.now) }
 {
     match name {
         Tree::Text(name) => {
             let name = name.as_str();
-            !declares(outer, name) || (root && is_envelope_name(name))
+            !declares(fields, name) || (root && is_envelope_name(name))
         }
         _ => false,
     }

@@ -1,18 +1,18 @@
 // What a place of each kind may have.
-ghost use Rattle.std.specs.Prelude.{◌≡◌, not, codes};
+ghost use Rattle.std.specs.Prelude.{◌≡◌, not, codes, option_map};
 ghost use Rattle.std.specs.Option.{is_some};
 ghost use Rattle.jtree.specs.Data.{object};
-ghost use Rattle.jtree.specs.Path.{member_at, under};
+ghost use Rattle.jtree.specs.Path.{member_at};
 ghost use Rattle.jtree.specs.View.{data_of, items_of};
 ghost use Rattle.schema.specs.Internal.KindView.{is_accepted};
-ghost use Rattle.schema.specs.Rules.Keywords.{members_under, any_item};
-ghost use Rattle.schema.specs.Rules.Kinds.{kind_of as kind_of_schema};
-ghost use Rattle.schema.specs.Rules.Profile.{is_outside_profile as is_outside_profile_of, is_bad_root as is_bad_root_of, is_bad_preserving as is_bad_preserving_of, has_foreign_keyword as has_foreign_keyword_of, lacks_items as lacks_items_of, requires_undeclared as requires_undeclared_of, is_undeclared as is_undeclared_of, has_bad_choices as has_bad_choices_of, are_bad_choices as are_bad_choices_of};
+ghost use Rattle.schema.specs.Rules.Keywords.{members_in, members_under, any_item};
+ghost use Rattle.schema.specs.Rules.Kinds.{kind_of as kind_of_schema, preserves as preserves_of};
+ghost use Rattle.schema.specs.Rules.Profile.{is_outside_profile as is_outside_profile_of, is_no_object as is_no_object_of, is_untyped_open as is_untyped_open_of, is_other_root as is_other_root_of, has_no_root_keyword as has_no_root_keyword_of, has_unknown_type as has_unknown_type_of, is_bad_preserving as is_bad_preserving_of, has_foreign_keyword as has_foreign_keyword_of, lacks_items as lacks_items_of, requires_undeclared as requires_undeclared_of, is_undeclared as is_undeclared_of, has_bad_choices as has_bad_choices_of, has_no_choice as has_no_choice_of, has_other_choice as has_other_choice_of, has_empty_enum as has_empty_enum_of, lists_other as lists_other_than};
 
 use crate::keywords::{
     Keywords, has, has_keyword, has_other_text, has_true, is_empty, object_under,
 };
-use crate::kinds::{Kind, is_list, is_object, is_open, kind_of_members, lacks_type};
+use crate::kinds::{Kind, is_list, is_untyped, kind_of_members};
 use crate::node::ScalarKind;
 use crate::places::is_envelope_name;
 use jtree::{Members, Tree};
@@ -21,44 +21,73 @@ use jtree::{Members, Tree};
 pub(crate) fn is_outside_profile(root: bool, schema: &Members) -> bool
     ensures { result ≡ is_outside_profile_of root (object schema.now) }
 {
-    let types = ["", "integer", "string", "boolean", "array", "object"];
-    ((root && is_bad_root(schema))
-        || (has_other_text(schema, "type", &types)
-            || (is_bad_preserving(schema) || has_foreign_keyword(schema))))
-        || (lacks_items(schema)
-            || (requires_undeclared(root, schema)
-                || (has_bad_choices(schema) || has_true(schema, "additionalProperties"))))
+    is_other_root(root, schema)
+        || has_no_root_keyword(root, schema)
+        || has_unknown_type(schema)
+        || is_bad_preserving(schema)
+        || has_foreign_keyword(schema)
+        || lacks_items(schema)
+        || requires_undeclared(root, schema)
+        || has_bad_choices(schema)
+        || has_true(schema, "additionalProperties")
 }
 
-/// The root is no object, whose type is not just missing, or takes null, or bounds its members, or is a map.
-fn is_bad_root(schema: &Members) -> bool
-    ensures { result ≡ is_bad_root_of (object schema.now) }
+/// Whether the root is something other than an object.
+fn is_other_root(root: bool, schema: &Members) -> bool
+    ensures { result ≡ is_other_root_of root (object schema.now) }
 {
-    (!lacks_type(schema) && !is_object(schema))
-        || (has_true(schema, "nullable")
-            || (has(schema, "additionalProperties")
-                || (has(schema, "minProperties") || has(schema, "maxProperties"))))
+    root && (is_no_object(schema) || is_untyped_open(schema))
 }
 
-/// Unknown fields are kept where `type` or another keyword does not go with that.
+/// Whether another type than object is given, or the place is int-or-string.
+fn is_no_object(schema: &Members) -> bool
+    ensures { result ≡ is_no_object_of (object schema.now) }
+{
+    has_other_text(schema, "type", &["", "object"])
+        || has_true(schema, "x-kubernetes-int-or-string")
+}
+
+/// Whether unknown fields are kept, and no type is given.
+pub(crate) fn is_untyped_open(schema: &Members) -> bool
+    ensures { result ≡ is_untyped_open_of (object schema.now) }
+{
+    preserves(schema) && is_untyped(schema)
+}
+
+/// Whether unknown fields are kept.
+pub(crate) fn preserves(schema: &Members) -> bool
+    ensures { result ≡ preserves_of (object schema.now) }
+{
+    has_true(schema, "x-kubernetes-preserve-unknown-fields")
+}
+
+/// Whether the root takes null, or has a keyword that it may not have.
+fn has_no_root_keyword(root: bool, schema: &Members) -> bool
+    ensures { result ≡ has_no_root_keyword_of root (object schema.now) }
+{
+    root && (has_true(schema, "nullable") || has_keyword(schema, Keywords::NotAtRoot))
+}
+
+/// Whether the type is none of the five.
+pub(crate) fn has_unknown_type(schema: &Members) -> bool
+    ensures { result ≡ has_unknown_type_of (object schema.now) }
+{
+    let types = ["", "integer", "string", "boolean", "array", "object"];
+    has_other_text(schema, "type", &types)
+}
+
+/// Whether unknown fields are kept where `type` or another keyword does not go with that.
 fn is_bad_preserving(schema: &Members) -> bool
     ensures { result ≡ is_bad_preserving_of (object schema.now) }
 {
-    has_true(schema, "x-kubernetes-preserve-unknown-fields")
-        && (has_other_text(schema, "type", &["", "object"])
-            || (has_true(schema, "x-kubernetes-int-or-string")
-                || (has(schema, "additionalProperties")
-                    || (is_open(schema) && (has(schema, "properties") || has(schema, "items"))))))
+    preserves(schema) && (is_no_object(schema) || has(schema, "additionalProperties"))
 }
 
-/// Whether a place has a keyword that its kind has not.
+/// Whether a place has a keyword that places of its kind may not have.
 fn has_foreign_keyword(schema: &Members) -> bool
-    ensures { result ≡ has_foreign_keyword_of (kind_of_schema (object schema.now)) (object schema.now) }
+    ensures { result ≡ has_foreign_keyword_of (object schema.now) }
 {
-    match kind_of_members(schema) {
-        Some(kind) => has_keyword(schema, Keywords::BesideKind(kind)),
-        None => false,
-    }
+    has_keyword(schema, Keywords::Foreign(kind_of_members(schema)))
 }
 
 /// Whether a list has no `items`.
@@ -73,70 +102,106 @@ pub(crate) fn requires_undeclared(root: bool, schema: &Members) -> bool
     ensures { result ≡ requires_undeclared_of root (object schema.now) }
 {
     match schema.get("required") {
-        Some(Tree::List(names)) => are_undeclared(root, schema, names.items.as_slice()),
+        Some(Tree::List(names)) => {
+            are_undeclared(root, properties_of(schema), names.items.as_slice())
+        }
         _ => false,
     }
 }
 
-/// Whether one of these names is no property.
-fn are_undeclared(root: bool, schema: &Members, names: &[Tree]) -> bool
-    ensures { result ≡ any_item (is_undeclared_of root (members_under (object schema.now) (codes "properties"))) (items_of names.now) }
+/// The properties of a schema, where they are an object.
+pub(crate) fn properties_of(schema: &Members) -> Option<&Members>
+    ensures { members_in (option_map (λ m. object m.now) result) ≡ members_under (object schema.now) (codes "properties") }
+{
+    match schema.get("properties") {
+        Some(Tree::Object(properties)) => Some(properties),
+        _ => None,
+    }
+}
+
+/// Whether one of these names is none of the properties.
+fn are_undeclared(root: bool, properties: Option<&Members>, names: &[Tree]) -> bool
+    ensures { result ≡ any_item (is_undeclared_of root (members_in (option_map (λ m. object m.now) properties.entry))) (items_of names.now) }
 {
     for name in names {
-        if is_undeclared(root, schema, name) {
+        if is_undeclared(root, properties, name) {
             return true;
         }
     }
     false
 }
 
-fn is_undeclared(root: bool, schema: &Members, name: &Tree) -> bool
-    ensures { result ≡ is_undeclared_of root (members_under (object schema.now) (codes "properties")) (data_of name.now) }
+fn is_undeclared(root: bool, properties: Option<&Members>, name: &Tree) -> bool
+    ensures { result ≡ is_undeclared_of root (members_in (option_map (λ m. object m.now) properties.entry)) (data_of name.now) }
 {
     match name {
         Tree::Text(name) => {
             let name = name.as_str();
-            !(declares(schema, name) || (root && is_envelope_name(name)))
+            !(declares(properties, name) || (root && is_envelope_name(name)))
         }
         _ => false,
     }
 }
 
-/// Whether a schema has a property of this name.
-pub(crate) fn declares(schema: &Members, name: &str) -> bool
-    ensures { result ≡ is_some (member_at name.now (members_under (object schema.now) (codes "properties"))) }
+/// Whether there is a property of this name.
+pub(crate) fn declares(properties: Option<&Members>, name: &str) -> bool
+    ensures { result ≡ is_some (member_at name.now (members_in (option_map (λ m. object m.now) properties.entry))) }
 {
-    match schema.get("properties") {
-        Some(Tree::Object(properties)) => has(properties, name),
-        _ => false,
+    match properties {
+        Some(properties) => has(properties, name),
+        None => false,
     }
 }
 
-/// Whether the `enum` of a scalar is empty, or lists a value that is not of its kind.
+/// Whether the `enum` of a scalar is empty, or lists a value that its kind does not accept.
 fn has_bad_choices(schema: &Members) -> bool
-    ensures { result ≡ has_bad_choices_of (kind_of_schema (object schema.now)) (object schema.now) }
+    ensures { result ≡ has_bad_choices_of (object schema.now) }
+{
+    has_no_choice(schema) || has_other_choice(schema)
+}
+
+/// Whether the place is a scalar whose `enum` lists no value.
+pub(crate) fn has_no_choice(schema: &Members) -> bool
+    ensures { result ≡ has_no_choice_of (kind_of_schema (object schema.now)) (object schema.now) }
 {
     match kind_of_members(schema) {
-        Some(Kind::Scalar(kind)) => are_bad_choices(schema, Some(kind)),
+        Some(Kind::Scalar(_)) => has_empty_enum(schema),
         _ => false,
     }
 }
 
-/// Whether `enum` is empty, or lists a value that is not accepted: of the kind, and without one any scalar.
-pub(crate) fn are_bad_choices(schema: &Members, kind: Option<ScalarKind>) -> bool
-    ensures { result ≡ are_bad_choices_of (is_accepted kind) (under (object schema.now) (codes "enum")) }
+/// Whether the place is a scalar whose `enum` lists a value that its kind does not accept.
+pub(crate) fn has_other_choice(schema: &Members) -> bool
+    ensures { result ≡ has_other_choice_of (kind_of_schema (object schema.now)) (object schema.now) }
+{
+    match kind_of_members(schema) {
+        Some(Kind::Scalar(kind)) => lists_other(schema, Some(kind)),
+        _ => false,
+    }
+}
+
+/// Whether `enum` lists no value.
+pub(crate) fn has_empty_enum(schema: &Members) -> bool
+    ensures { result ≡ has_empty_enum_of (object schema.now) }
 {
     match schema.get("enum") {
-        Some(Tree::List(values)) => {
-            let values = values.items.as_slice();
-            is_empty(values) || lists_other(kind, values)
-        }
+        Some(Tree::List(values)) => is_empty(values.items.as_slice()),
+        _ => false,
+    }
+}
+
+/// Whether `enum` lists a value that is not accepted: of the kind, and without one any scalar.
+pub(crate) fn lists_other(schema: &Members, kind: Option<ScalarKind>) -> bool
+    ensures { result ≡ lists_other_than (is_accepted kind) (object schema.now) }
+{
+    match schema.get("enum") {
+        Some(Tree::List(values)) => are_others(kind, values.items.as_slice()),
         _ => false,
     }
 }
 
 /// Whether one of these values is not accepted.
-pub(crate) fn lists_other(kind: Option<ScalarKind>, values: &[Tree]) -> bool
+fn are_others(kind: Option<ScalarKind>, values: &[Tree]) -> bool
     ensures { result ≡ any_item (λ d. not (is_accepted kind d)) (items_of values.now) }
 {
     for value in values {

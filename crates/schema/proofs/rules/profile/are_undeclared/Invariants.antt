@@ -1,13 +1,13 @@
 use Rattle.std.proofs.Common.{◌≡◌, drop}
-use Rattle.std.specs.Prelude.{codes}
+use Rattle.std.specs.Prelude.{option_map}
 use Rattle.jtree.specs.Data.{object}
 use Rattle.jtree.specs.View.{items_of}
-use Rattle.schema.specs.Rules.Keywords.{members_under, any_item}
+use Rattle.schema.specs.Rules.Keywords.{members_in, any_item}
 use Rattle.schema.specs.Rules.Profile.{is_undeclared}
 use Rattle.schema.proofs.rules.profile.are_undeclared.Given as goal
 
 -- a name is undeclared exactly where one of those that are left is
 abbrev pub invariant-loop-name : goal.invariant-loop-name
 invariant-loop-name l =
-    any_item (is_undeclared l.root (members_under (object l.schema) (codes "properties"))) (items_of (drop l.name-index l.names))
-    ≡ any_item (is_undeclared l.root (members_under (object l.schema) (codes "properties"))) (items_of l.names)
+    any_item (is_undeclared l.root (members_in (option_map (λ m. object m.now) l.properties))) (items_of (drop l.name-index l.names))
+    ≡ any_item (is_undeclared l.root (members_in (option_map (λ m. object m.now) l.properties))) (items_of l.names)
