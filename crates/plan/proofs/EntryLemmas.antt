@@ -1,5 +1,5 @@
 -- The entries of rows and lists.
-use Rattle.std.specs.Prelude.{◌≡◌, ℕ, zero, suc, drop, ◌+◌, ◌-◌, ◌^◌, ◌≤◌, ◌<◌, ◌⊎◌, ◌↔◌, Bool, true, List, All}
+use Rattle.std.specs.Prelude.{◌≡◌, ℕ, zero, suc, ◌+◌, ◌-◌, ◌^◌, ◌≤◌, ◌<◌, ◌⊎◌, ◌↔◌, Bool, true, List, All}
 use Rattle.std.proofs.lemmas.Nat.{pow_pos}
 use Rattle.std.proofs.Common.{refl, ap, sym, ◌∙◌, arith, [], ◌∷◌, ◌++◌, length, get_or}
 use Rattle.std.specs.declared.vec.Vec.{Vec}
@@ -12,7 +12,7 @@ use Rattle.plan.specs.Samples.Sites.{Site, Slot, slots}
 use Rattle.plan.specs.Samples.Candidates.{sort_of}
 use Rattle.plan.specs.Samples.Sizes.{HasSize, Ending, nothing, ending_of, CanFill, IsUpTo}
 use Rattle.plan.specs.Samples.RuleOfParts.{admits_null}
-use Rattle.plan.specs.Internal.Tables.{IsClosed, AreMet, IsTable, AreChoices, AreShaped, AreTables}
+use Rattle.plan.specs.Internal.Tables.{IsClosed, AreMet, columns, IsTable, AreChoices, AreShaped, AreTables}
 use Rattle.plan.specs.Internal.PartLaws.{PartLaws}
 use Rattle.plan.specs.Internal.Arena.{AreSlots, AreLater, IsChosen, AreChosen, IsRight, AreRight}
 use Rattle.plan.specs.Samples.Sites.{site_at}
@@ -64,13 +64,6 @@ slot_count names sites i [] (s ∷ ss) h = absurd h
 slot_count names sites i (x ∷ xs) [] h = absurd h
 slot_count names sites i (x ∷ xs) (s ∷ ss) h = ap suc (slot_count names sites i xs ss h.1)
 
-pub slots_drop : (names : List (List ℕ)) (sites : List Site) (i n : ℕ) (xs : List SlotEntry) (ss : List Slot) → AreSlots names sites i xs ss → AreSlots names sites i (drop n xs) (drop n ss)
-slots_drop names sites i zero xs ss h = h
-slots_drop names sites i (suc n) [] [] h = tt
-slots_drop names sites i (suc n) [] (s ∷ ss) h = absurd h
-slots_drop names sites i (suc n) (x ∷ xs) [] h = absurd h
-slots_drop names sites i (suc n) (x ∷ xs) (s ∷ ss) h = slots_drop names sites i n xs ss h.1
-
 -- one entry more that is right
 pub right_push : {Z : Type 0} (holds : Z → ℕ → Type 0) (limit : ℕ) (P : Pools) (v : Values) (sites : List Site) (old new : List (Entry Z)) (e : Entry Z) (n : ℕ)
     → AreRight holds limit P v sites old → new ≡ old ++ e ∷ [] → n ≡ length old → IsRight holds limit P v sites n e → AreRight holds limit P v sites new
@@ -78,11 +71,11 @@ right_push {Z = Z} holds limit P v sites old new e n before is number here = rw 
 
 -- the table before the first slot is the last one made, and nothing was seen there
 first_set : {Z : Type 0} (holds : Z → ℕ → Type 0) (limit : ℕ) (e : Ending) (P : Pools) (ss : List Slot) (tables : List (Vec (Vec Z Global) Global)) (table : Vec (Vec Z Global) Global) (level : Vec Z Global) (z : Z) (count kinds : ℕ) → AreTables holds limit e P ss tables
-    → AreShaped count kinds tables → 0 < kinds → length tables ≡ count + 1 → count ≡ length ss → table ≡ get_or tables count table → level ≡ get_or table.items 0 level → z ≡ get_or level.items 0 z → IsUpTo limit (holds z) (CanFill P ss e nothing)
+    → AreShaped e.bounds count kinds tables → 0 < kinds → length tables ≡ count + 1 → count ≡ length ss → table ≡ get_or tables count table → level ≡ get_or table.items 0 level → z ≡ get_or level.items 0 z → IsUpTo limit (holds z) (CanFill P ss e nothing)
 first_set holds limit e P ss tables table level z count kinds h shaped some whole same is is_level is_z =
-    let shape = shape_at count kinds tables count table table.items shaped (omega arith) is refl in
+    let shape = shape_at e.bounds count kinds tables count table table.items shaped (omega arith) is refl in
     let inside : 0 < length table.items = omega (arith, shape.whole) in
-    let wide = width_at kinds (count + 1 - count) table.items 0 level shape inside is_level in
+    let wide = width_at kinds (columns e.bounds (count - count)) table.items 0 level shape inside is_level in
     let none : length ss - count ≡ 0 = omega arith in
     let here : IsTable holds limit e P ss table.items = rw none at (rw (← is) at (h count table (omega arith))) in
     rw (← is_z) at (table_at holds limit e P ss table.items 0 level level.items here inside is_level refl 0 z (omega (arith, wide)))
@@ -92,7 +85,7 @@ pub row_right : {Z : Type 0} (holds : Z → ℕ → Type 0) (limit : ℕ) (P : P
     (table : Vec (Vec Z Global) Global) (level : Vec Z Global) (z sizes : Z)
     → PartLaws → 1 ≤ limit → IsNode (site_at sites i).node → sort_of (site_at sites i) ≡ Row → ending_of (site_at sites i) ≡ e → AreMet e.asked ends → admits_null (site_at sites i) ≡ nullable
     → AreSlots v.names.items sites i slots'.items (slots P (site_at sites i)) → All (λ (x : SlotEntry). IsClosed (length ends) x.bit) slots'.items → length later.items ≡ length slots'.items → AreLater P (slots P (site_at sites i)) later.items
-    → length tables.items ≡ length slots'.items + 1 → AreShaped (length slots'.items) (length ends) tables.items → AreTables holds limit e P (slots P (site_at sites i)) tables.items
+    → length tables.items ≡ length slots'.items + 1 → AreShaped e.bounds (length slots'.items) (length ends) tables.items → AreTables holds limit e P (slots P (site_at sites i)) tables.items
     → table ≡ get_or tables.items (length slots'.items) table → level ≡ get_or table.items 0 level → z ≡ get_or level.items 0 z
     → ((n : ℕ) → holds sizes n ↔ (((nullable ≡ true) × (n ≡ 1)) ⊎ ((n ≤ limit) × IsSum (λ i. i ≡ 1) (holds z) n)))
     → IsRight holds limit P v sites i (record { sizes = sizes; nullable = nullable; content = content.Row (record { slots = slots'; later = later; tables = tables }) })

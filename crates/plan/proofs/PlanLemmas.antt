@@ -1,5 +1,5 @@
 -- What is known of an entry of a plan.
-use Rattle.std.specs.Prelude.{◌≡◌, ℕ, ◌+◌, ◌-◌, ◌%◌, ◌^◌, ◌≤◌, ◌<◌, ◌⊎◌, ◌↔◌, ◌≢◌, All, false, IsTrue, nat_lt, zero, suc, ◌∷◌, List, IfNone, Option, slice_get, drop, Contains, length, get_or, Some, None, []}
+use Rattle.std.specs.Prelude.{◌≡◌, ℕ, ◌+◌, ◌-◌, ◌%◌, ◌^◌, ◌≤◌, ◌<◌, ◌⊎◌, ◌↔◌, ◌≢◌, All, false, IsTrue, nat_lt, zero, suc, ◌∷◌, List, IfNone, Option, slice_get, drop, Contains, length, get_or, min, Some, None, []}
 use Rattle.std.specs.declared.vec.Vec.{Vec}
 use Rattle.std.specs.declared.alloc.Global.{Global}
 use Rattle.std.proofs.Common.{refl, ap, sym, ◌∙◌, subst, inl, inr, arith}
@@ -19,10 +19,10 @@ use Rattle.std.proofs.lemmas.Nat.{pow_pos, pow_below, mod_below}
 use Rattle.std.proofs.lemmas.Bool.{lt-ltb, ltb-true, ltb-false}
 use Rattle.std.proofs.lemmas.List.Elements.{All-cons, All-map}
 use Rattle.plan.specs.Samples.Candidates.{sort_at, sort_of, distinct_at, distinct_of, HasCount}
-use Rattle.plan.specs.Samples.Sizes.{HasRest, HasMore, items_from, ending_at, ending_of, IsUpTo}
+use Rattle.plan.specs.Samples.Sizes.{HasRest, HasMore, items_from, ending_at, ending_of, CanFill, IsUpTo}
 use Rattle.plan.specs.Samples.Presence.{named}
 use Rattle.plan.specs.Samples.Names.{in_order}
-use Rattle.plan.specs.Internal.Tables.{IsTable, HasShape}
+use Rattle.plan.specs.Internal.Tables.{cap, columns, IsTable, HasShape}
 use Rattle.plan.specs.declared.sort.Distinct.TheVariants.{Free}
 use Rattle.plan.specs.declared.sort.Sort.TheVariants.{Leaf as LeafSort, Row as RowSort, List as ListSort}
 use Rattle.plan.specs.declared.leaf.Leaf.{Leaf}
@@ -40,7 +40,7 @@ use Rattle.std.proofs.lemmas.List.{get_or_default}
 use Rattle.jtree.specs.Internal.Rising.{Among, contains}
 use Rattle.plan.specs.Samples.Keys.{AreKeySlots, HasTuples}
 use Rattle.plan.proofs.EntryLemmas.{slot_count}
-use Rattle.plan.proofs.RowLemmas.{shape_at, width_at, table_at}
+use Rattle.plan.proofs.RowLemmas.{shape_at, width_at, table_at, column_up_to}
 use Rattle.plan.proofs.SeenLemmas.{low_up_to}
 use Rattle.plan.proofs.ListLemmas.{count_nodes}
 
@@ -51,14 +51,14 @@ entry_right {Z = Z} holds BITS root P limit v es first q i e plan view within is
     let r : i < length (sites_of root) → IsRight holds limit P v (sites_of root) i e = λ l. rw (← is) at (plan.right i e (omega (arith, plan.count))) in
     subst (λ (x : Question). i < length (sites_of x.root) → IsRight holds x.limit x.pools v (sites_of x.root) i e) view r within
 
--- the table of a place has a level for each set of the named fields, which is long enough, and its set is that of the sizes
+-- the table of a place has a level for each set of the named fields, with its columns, and the set of a column is that of the sizes
 pub table_shape : {Z : Type 0} (holds : Z → ℕ → Type 0) (limit : ℕ) (P : Pools) (names : List (List ℕ)) (sites : List Site) (i : ℕ) (r : RowEntry Z) (k place : ℕ) (table : Vec (Vec Z Global) Global) → IsRow holds limit P names sites i r → k + place ≡ length r.slots.items
-    → table ≡ get_or r.tables.items k table → HasShape (2 ^ length (named (ending_of (site_at sites i)).asked)) (place + 1) table.items
+    → table ≡ get_or r.tables.items k table → HasShape (2 ^ length (named (ending_of (site_at sites i)).asked)) (columns (ending_of (site_at sites i)).bounds place) table.items
 table_shape holds limit P names sites i r k place table row at is =
     let kinds = 2 ^ length (named (ending_of (site_at sites i)).asked) in
     let count = length r.slots.items in
-    let e : count + 1 - k ≡ place + 1 = omega arith in
-    rw e at (shape_at count kinds r.tables.items k table table.items row.shaped (omega (arith, row.whole)) is refl)
+    let e : count - k ≡ place = omega arith in
+    rw e at (shape_at (ending_of (site_at sites i)).bounds count kinds r.tables.items k table table.items row.shaped (omega (arith, row.whole)) is refl)
 
 pub table_some : {Z : Type 0} (holds : Z → ℕ → Type 0) (limit : ℕ) (P : Pools) (names : List (List ℕ)) (sites : List Site) (i : ℕ) (r : RowEntry Z) (k place : ℕ) (table : Vec (Vec Z Global) Global) → IsRow holds limit P names sites i r → k + place ≡ length r.slots.items
     → table ≡ get_or r.tables.items k table → 0 < length table.items
@@ -66,27 +66,32 @@ table_some holds limit P names sites i r k place table row at is =
     let shape = table_shape holds limit P names sites i r k place table row at is in
     omega (arith, shape.whole, pow_pos (length (named (ending_of (site_at sites i)).asked)))
 
-pub level_long : {Z : Type 0} (holds : Z → ℕ → Type 0) (limit : ℕ) (P : Pools) (names : List (List ℕ)) (sites : List Site) (i : ℕ) (r : RowEntry Z) (k place low taken : ℕ) (table : Vec (Vec Z Global) Global) (level : Vec Z Global)
-    → IsRow holds limit P names sites i r → k + place ≡ length r.slots.items → taken ≤ place → table ≡ get_or r.tables.items k table → low < length table.items → level ≡ get_or table.items low level → taken < length level.items
-level_long holds limit P names sites i r k place low taken table level row at within is inside is_level =
+pub level_wide : {Z : Type 0} (holds : Z → ℕ → Type 0) (limit : ℕ) (P : Pools) (names : List (List ℕ)) (sites : List Site) (i : ℕ) (r : RowEntry Z) (k place seen low : ℕ) (table : Vec (Vec Z Global) Global) (level : Vec Z Global)
+    → IsRow holds limit P names sites i r → k + place ≡ length r.slots.items → table ≡ get_or r.tables.items k table → low ≡ seen % length table.items → level ≡ get_or table.items low level → length level.items ≡ columns (ending_of (site_at sites i)).bounds place
+level_wide holds limit P names sites i r k place seen low table level row at is is_low is_level =
     let shape = table_shape holds limit P names sites i r k place table row at is in
-    let wide = width_at (2 ^ length (named (ending_of (site_at sites i)).asked)) (place + 1) table.items low level shape inside is_level in
-    omega (arith, wide)
+    let some = table_some holds limit P names sites i r k place table row at is in
+    let inside : low < length table.items = rw is_low (mod_below seen (length table.items) some) in
+    width_at (2 ^ length (named (ending_of (site_at sites i)).asked)) (columns (ending_of (site_at sites i)).bounds place) table.items low level shape inside is_level
 
-pub table_rest : {Z : Type 0} (holds : Z → ℕ → Type 0) (limit : ℕ) (P : Pools) (names : List (List ℕ)) (sites : List Site) (i : ℕ) (r : RowEntry Z) (k place taken seen low : ℕ) (table : Vec (Vec Z Global) Global) (level : Vec Z Global) (z : Z)
-    → IsRow holds limit P names sites i r → k + place ≡ length r.slots.items → taken ≤ place → table ≡ get_or r.tables.items k table → low ≡ seen % length table.items → level ≡ get_or table.items low level → z ≡ get_or level.items taken z
+pub table_rest : {Z : Type 0} (holds : Z → ℕ → Type 0) (limit : ℕ) (P : Pools) (names : List (List ℕ)) (sites : List Site) (i : ℕ) (r : RowEntry Z) (k place taken seen low column : ℕ) (table : Vec (Vec Z Global) Global) (level : Vec Z Global) (z : Z)
+    → IsRow holds limit P names sites i r → k + place ≡ length r.slots.items → taken ≤ place → table ≡ get_or r.tables.items k table → low ≡ seen % length table.items → level ≡ get_or table.items low level → column ≡ min taken (length level.items - 1)
+    → z ≡ get_or level.items column z
     → IsUpTo limit (holds z) (HasRest P (site_at sites i) place (record { count = taken; seen = seen }))
-table_rest holds limit P names sites i r k place taken seen low table level z row at within is is_low is_level is_z =
+table_rest holds limit P names sites i r k place taken seen low column table level z row at within is is_low is_level is_column is_z =
     let s = site_at sites i in
     let shape = table_shape holds limit P names sites i r k place table row at is in
     let some = table_some holds limit P names sites i r k place table row at is in
     let inside : low < length table.items = rw is_low (mod_below seen (length table.items) some) in
-    let long = level_long holds limit P names sites i r k place low taken table level row at within is inside is_level in
+    let e = ending_of s in
+    let wide = level_wide holds limit P names sites i r k place seen low table level row at is is_low is_level in
+    let capped : column ≡ min taken (cap e.bounds) = omega (arith, wide, is_column) in
     let count = slot_count names sites i r.slots.items (slots P s) row.are in
-    let e : length (slots P s) - k ≡ place = omega arith in
-    let here : IsTable holds limit (ending_of s) P (drop place (slots P s)) table.items = rw e at (rw (← is) at (row.tables k table (omega (arith, row.whole)))) in
-    let set = rw (← is_z) at (table_at holds limit (ending_of s) P (drop place (slots P s)) table.items low level level.items here inside is_level refl taken z long) in
-    low_up_to limit P (drop place (slots P s)) (ending_of s) taken seen (holds z) (rw (is_low, shape.whole) at set)
+    let from : length (slots P s) - k ≡ place = omega arith in
+    let ss = drop place (slots P s) in
+    let here : IsTable holds limit e P ss table.items = rw from at (rw (← is) at (row.tables k table (omega (arith, row.whole)))) in
+    let set : IsUpTo limit (holds z) (CanFill P ss e (record { count = column; seen = low })) = rw (← is_z) at (table_at holds limit e P ss table.items low level level.items here inside is_level refl column z (omega (arith, wide, is_column))) in
+    low_up_to limit P ss e taken seen (holds z) (rw (is_low, shape.whole) at (column_up_to limit P ss e taken low (holds z) (rw capped at set)))
 
 -- names have more than one set exactly where there is a name
 sets_of_names : {X : Type 0} (xs : List X) → (1 < 2 ^ length xs) ↔ (xs ≢ [])

@@ -1,15 +1,20 @@
 -- The sizes that the slots of a row can take, from the last slot to the first.
-use Rattle.std.specs.Prelude.{◌≡◌, ℕ, zero, suc, ◌+◌, ◌-◌, ◌≤◌, ◌<◌, ◌⊎◌, ◌↔◌, false, List, Option, Some, None, drop}
+use Rattle.std.specs.Prelude.{◌≡◌, ℕ, zero, suc, ◌+◌, ◌-◌, ◌≤◌, ◌<◌, ◌⊎◌, ◌↔◌, false, List, Option, Some, None, drop, min, option_map, unwrap_or}
 use Rattle.std.proofs.Common.{refl, ap, sym, inl, inr, arith, [], ◌∷◌, ◌++◌, length, get_or}
+use Rattle.std.proofs.lemmas.Bool.{cases_lt, le-ltb, ltb-false}
 use Rattle.std.specs.declared.vec.Vec.{Vec}
 use Rattle.std.specs.declared.alloc.Global.{Global}
 use Rattle.jtree.specs.Data.{Data}
 use Rattle.jtree.specs.Nodes.{node_count}
+use Rattle.schema.specs.declared.node.Bounds.{Bounds}
+use Rattle.stored.specs.Objects.Tests.{is_below, is_above}
+use Rattle.stored.specs.Objects.StoredByParts.{IsWithin}
 use Rattle.plan.specs.Pools.Pools.{Pools}
 use Rattle.plan.specs.Sets.{IsSum}
+use Rattle.plan.specs.Samples.Presence.{with_bit}
 use Rattle.plan.specs.Samples.Sites.{Slot}
 use Rattle.plan.specs.Samples.Sizes.{HasSize, AreFillings, filled_nodes, Before, filled, state_after, Ending, MayEnd, CanFill, IsUpTo}
-use Rattle.plan.specs.Internal.Tables.{IsLevel, IsTable, HasShape, AreChoices, AreShaped, AreTables}
+use Rattle.plan.specs.Internal.Tables.{cap, columns, IsLevel, IsTable, HasShape, AreChoices, AreShaped, AreTables}
 use Rattle.plan.specs.declared.rows.Choice.{Choice}
 use Rattle.plan.proofs.SizeLemmas.{sum_up_to, each_push}
 
@@ -70,6 +75,43 @@ slot_up_to limit P s ss e x A W V S a w v set n =
           ]),
     )
 
+-- ---- numbers of members that are alike to the bounds
+
+high_enough : (o : Option ℕ) (n : ℕ) → unwrap_or o 0 ≤ n → is_below o n ≡ false
+high_enough None n l = refl
+high_enough (Some least) n l = le-ltb n least l
+
+both_above : (o : Option ℕ) (n m : ℕ) → unwrap_or (option_map suc o) 0 ≤ n → is_above o n ≡ false → is_above o m ≡ false
+both_above None n m l h = refl
+both_above (Some most) n m l h = let within = ltb-false most n h in absurd (omega arith)
+
+past_within : (b : Bounds) (n m : ℕ) → cap b ≤ n → cap b ≤ m → IsWithin b n → IsWithin b m
+past_within b n m l k h = (high_enough b.least m (omega arith), both_above b.most n m (omega arith) h.1)
+
+past_ends : (e : Ending) (ss : List Slot) (gs : List (Option Data)) (n m seen : ℕ) → cap e.bounds ≤ n → cap e.bounds ≤ m → MayEnd e (state_after ss gs (record { count = n; seen = seen })) → MayEnd e (state_after ss gs (record { count = m; seen = seen }))
+past_ends e [] gs n m seen l k h = (past_within e.bounds n m l k h.0, h.1)
+past_ends e (s ∷ ss) [] n m seen l k h = (past_within e.bounds n m l k h.0, h.1)
+past_ends e (s ∷ ss) (None ∷ gs) n m seen l k h = past_ends e ss gs n m seen l k h
+past_ends e (s ∷ ss) (Some v ∷ gs) n m seen l k h = past_ends e ss gs (n + 1) (m + 1) (with_bit s.bit seen) (omega arith) (omega arith) h
+
+past_fill : (P : Pools) (ss : List Slot) (e : Ending) (n m seen x : ℕ) → cap e.bounds ≤ n → cap e.bounds ≤ m → CanFill P ss e (record { count = n; seen = seen }) x → CanFill P ss e (record { count = m; seen = seen }) x
+past_fill P ss e n m seen x l k f = record { fillings = f.fillings; are = f.are; ends = past_ends e ss f.fillings n m seen l k f.ends; nodes_are = f.nodes_are }
+
+-- what the cap has, each greater number of members has
+pub column_up_to : (limit : ℕ) (P : Pools) (ss : List Slot) (e : Ending) (taken seen : ℕ) (A : ℕ → Type 0) → IsUpTo limit A (CanFill P ss e (record { count = min taken (cap e.bounds); seen = seen })) → IsUpTo limit A (CanFill P ss e (record { count = taken; seen = seen }))
+column_up_to limit P ss e taken seen A h =
+    elim (cases_lt taken (cap e.bounds)) as (λ _. IsUpTo limit A (CanFill P ss e (record { count = taken; seen = seen }))) [
+      | inl below ↦ let same : min taken (cap e.bounds) ≡ taken = omega arith in rw same at h
+      | inr past ↦
+          let same : min taken (cap e.bounds) ≡ cap e.bounds = omega arith in
+          let at : IsUpTo limit A (CanFill P ss e (record { count = cap e.bounds; seen = seen })) = rw same at h in
+          let here : cap e.bounds ≤ cap e.bounds = omega arith in
+          λ n. (
+            (λ x. let y = (at n).0 x in (y.0, past_fill P ss e (cap e.bounds) taken seen n here past y.1)),
+            λ y. (at n).1 (y.0, past_fill P ss e taken (cap e.bounds) seen n past here y.1),
+          )
+    ]
+
 -- ---- levels
 
 -- one set more in a level
@@ -107,18 +149,19 @@ pub drop_all : {X : Type 0} (xs : List X) → drop (length xs) xs ≡ []
 drop_all [] = refl
 drop_all (x ∷ xs) = drop_all xs
 
-pub shaped_more : {Z : Type 0} (count kinds : ℕ) (tables : List (Vec (Vec Z Global) Global)) (table : Vec (Vec Z Global) Global) → AreShaped count kinds tables → HasShape kinds (count + 1 - length tables) table.items → AreShaped count kinds (tables ++ table ∷ [])
-shaped_more {Z} count kinds tables table h here = each_push (λ k (v : Vec (Vec Z Global) Global). HasShape kinds (count + 1 - k) v.items) tables table h here
+pub shaped_more : {Z : Type 0} (b : Bounds) (count kinds : ℕ) (tables : List (Vec (Vec Z Global) Global)) (table : Vec (Vec Z Global) Global) → AreShaped b count kinds tables → HasShape kinds (columns b (count - length tables)) table.items
+    → AreShaped b count kinds (tables ++ table ∷ [])
+shaped_more {Z} b count kinds tables table h here = each_push (λ k (v : Vec (Vec Z Global) Global). HasShape kinds (columns b (count - k)) v.items) tables table h here
 
 pub tables_more : {Z : Type 0} (holds : Z → ℕ → Type 0) (limit : ℕ) (e : Ending) (P : Pools) (ss : List Slot) (tables : List (Vec (Vec Z Global) Global)) (table : Vec (Vec Z Global) Global) → AreTables holds limit e P ss tables
     → IsTable holds limit e P (drop (length ss - length tables) ss) table.items → AreTables holds limit e P ss (tables ++ table ∷ [])
 tables_more {Z} holds limit e P ss tables table h here = each_push (λ k (v : Vec (Vec Z Global) Global). IsTable holds limit e P (drop (length ss - k) ss) v.items) tables table h here
 
 -- the table after the last slot, the first one made
-pub shaped_first : {Z : Type 0} (count kinds : ℕ) (table : Vec (Vec Z Global) Global) → HasShape kinds (count + 1) table.items → AreShaped count kinds (table ∷ [])
-shaped_first count kinds table h =
-    let z : count + 1 - 0 ≡ count + 1 = omega arith in
-    shaped_more count kinds [] table (λ k d l. absurd (omega arith)) (rw z h)
+pub shaped_first : {Z : Type 0} (b : Bounds) (count kinds : ℕ) (table : Vec (Vec Z Global) Global) → HasShape kinds (columns b count) table.items → AreShaped b count kinds (table ∷ [])
+shaped_first b count kinds table h =
+    let z : count - 0 ≡ count = omega arith in
+    shaped_more b count kinds [] table (λ k d l. absurd (omega arith)) (rw z h)
 
 pub tables_first : {Z : Type 0} (holds : Z → ℕ → Type 0) (limit : ℕ) (e : Ending) (P : Pools) (ss : List Slot) (table : Vec (Vec Z Global) Global) → IsTable holds limit e P [] table.items → AreTables holds limit e P ss (table ∷ [])
 tables_first holds limit e P ss table here =
@@ -143,9 +186,9 @@ pub table_at : {Z : Type 0} (holds : Z → ℕ → Type 0) (limit : ℕ) (e : En
     → items ≡ level.items → IsLevel holds limit e P ss seen items
 table_at holds limit e P ss table seen level items h l is same = rw same (rw (← is) at (h seen level l))
 
-pub shape_at : {Z : Type 0} (count kinds : ℕ) (tables : List (Vec (Vec Z Global) Global)) (k : ℕ) (table : Vec (Vec Z Global) Global) (items : List (Vec Z Global)) → AreShaped count kinds tables → k < length tables → table ≡ get_or tables k table → items ≡ table.items
-    → HasShape kinds (count + 1 - k) items
-shape_at count kinds tables k table items h l is same = rw same (rw (← is) at (h k table l))
+pub shape_at : {Z : Type 0} (b : Bounds) (count kinds : ℕ) (tables : List (Vec (Vec Z Global) Global)) (k : ℕ) (table : Vec (Vec Z Global) Global) (items : List (Vec Z Global)) → AreShaped b count kinds tables → k < length tables → table ≡ get_or tables k table → items ≡ table.items
+    → HasShape kinds (columns b (count - k)) items
+shape_at b count kinds tables k table items h l is same = rw same (rw (← is) at (h k table l))
 
 pub width_at : {Z : Type 0} (kinds width : ℕ) (table : List (Vec Z Global)) (seen : ℕ) (level : Vec Z Global) → HasShape kinds width table → seen < length table → level ≡ get_or table seen level → length level.items ≡ width
 width_at kinds width table seen level h l is = rw (← is) at (h.wide seen level l)

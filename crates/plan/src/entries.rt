@@ -15,7 +15,7 @@ ghost use Rattle.plan.specs.declared.sort.Sort.TheVariants.{Row};
 use crate::SizeSet;
 use crate::arena::{Arena, Content, Entry, PlanNode, RowEntry, SlotEntry};
 use crate::laws::parts_one_level;
-use crate::list_entries::tuples;
+use crate::list_entries::tuples_from;
 use crate::rows::{Choice, tables};
 use crate::sizing::whole_sizes;
 use schema::Bounds;
@@ -52,9 +52,13 @@ fn later_tuples<Z: SizeSet>(
         → AreSlots arena.now.values.names.items sites i slots.now ss → AreLater P ss later.items) }
 {
     let mut later = Vec::new(alloc);
-    for place in 0..slots.len() {
-        later.push(tuples(arena, &slots[place + 1..]))?;
+    let mut tuples: u64 = 1;
+    let count = slots.len();
+    for done in 0..count {
+        later.push(tuples)?;
+        tuples = tuples_from(arena, &slots[count - 1 - done], tuples);
     }
+    later.reverse();
     Ok(later)
 }
 

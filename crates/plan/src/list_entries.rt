@@ -1,12 +1,12 @@
 //! The entries of lists, over the nodes that were added before.
-ghost use Rattle.std.specs.Prelude.{◌≡◌, ◌<◌, ◌≤◌, ℕ, ◌+◌, List, Bool, Option, Some, length, IfOk};
+ghost use Rattle.std.specs.Prelude.{◌≡◌, ◌<◌, ◌≤◌, ℕ, ◌+◌, ◌∷◌, List, Bool, Option, Some, length, IfOk};
 ghost use Rattle.schema.specs.Nodes.Node.{IsNode, node as node_with};
 ghost use Rattle.schema.specs.Nodes.Items.{HasSoundItems};
 ghost use Rattle.schema.specs.Nodes.View.{list_of};
 ghost use Rattle.plan.specs.Pools.Pools.{Pools};
 ghost use Rattle.plan.specs.Samples.Sites.{Site, item_site, slots, Slot};
 ghost use Rattle.plan.specs.Samples.Candidates.{sort_of, distinct_by};
-ghost use Rattle.plan.specs.Internal.Arena.{AreSlots, AreRight, IsLimit, IsKept};
+ghost use Rattle.plan.specs.Internal.Arena.{IsSlot, AreRight, IsLimit, IsKept};
 ghost use Rattle.plan.specs.Samples.Sites.{site_at};
 ghost use Rattle.plan.specs.Samples.Keys.{HasTuples};
 ghost use Rattle.plan.specs.Internal.Tuples.{AreKeysLeaves, IsCutTo};
@@ -68,18 +68,16 @@ fn distinct(list_type: ListType) -> Distinct
     }
 }
 
-/// How many tuples of keys there are, at most 2^64 - 1.
-pub(crate) fn tuples<Z: SizeSet>(arena: &Arena<Z>, slots: &[SlotEntry]) -> u64
-    ensures { (P : Pools) (sites : List Site) (i : ℕ) (ss : List Slot) → AreRight Z.holds arena.now.limit P arena.now.values sites arena.now.entries.items → i ≤ length arena.now.entries.items
-        → AreSlots arena.now.values.names.items sites i slots.now ss → AreKeysLeaves ss → HasTuples P ss result }
+/// How many tuples the keys of a slot and of those after it have, where those after it have `later`; at most 2^64 - 1.
+pub(crate) fn tuples_from<Z: SizeSet>(arena: &Arena<Z>, slot: &SlotEntry, later: u64) -> u64
+    ensures { (P : Pools) (sites : List Site) (i : ℕ) (s : Slot) (ss : List Slot) → AreRight Z.holds arena.now.limit P arena.now.values sites arena.now.entries.items → i ≤ length arena.now.entries.items
+        → IsSlot arena.now.values.names.items sites i slot.now s → AreKeysLeaves (s ∷ ss) → HasTuples P ss later → HasTuples P (s ∷ ss) result }
 {
-    let mut tuples: u64 = 1;
-    for slot in slots {
-        if slot.key {
-            tuples = tuples.saturating_mul(arena.count(slot.node));
-        }
+    if slot.key {
+        later.saturating_mul(arena.count(slot.node))
+    } else {
+        later
     }
-    tuples
 }
 
 /// The bounds, with at most this many items.
@@ -121,7 +119,10 @@ fn item_tuples<Z: SizeSet>(arena: &Arena<Z>, node: PlanNode) -> u64
         → sort_of (site_at sites node) ≡ Row → AreKeysLeaves (slots P (site_at sites node)) → HasTuples P (slots P (site_at sites node)) result }
 {
     match &arena.entry(node).content {
-        Content::Row(row) => tuples(arena, &row.slots),
+        Content::Row(row) => match (row.slots.first(), row.later.first()) {
+            (Some(slot), Some(later)) => tuples_from(arena, slot, *later),
+            _ => 1,
+        },
         Content::Leaf(_) | Content::List(_) => 0,
     }
 }

@@ -166,7 +166,8 @@ impl<Z: SizeSet> Plan<Z> {
         match &self.arena.entry(node).content {
             Content::Row(row) => {
                 let table = &row.tables[row.slots.len() - place as usize];
-                table[seen as usize % table.len()][taken as usize]
+                let level = &table[seen as usize % table.len()];
+                level[(taken as usize).min(level.len() - 1)]
             }
             Content::Leaf(_) | Content::List(_) => Z::empty(),
         }

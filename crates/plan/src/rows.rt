@@ -1,5 +1,5 @@
 //! The tables of a row: the sizes that its slots can still take, from each of them on.
-ghost use Rattle.std.specs.Prelude.{◌≡◌, ℕ, ◌+◌, ◌≤◌, ◌<◌, ◌↔◌, ◌⊎◌, true, false, List, [], ◌∷◌, length, All, IfOk, IfSome, Decides};
+ghost use Rattle.std.specs.Prelude.{◌≡◌, ℕ, ◌+◌, ◌-◌, ◌^◌, ◌≤◌, ◌<◌, ◌↔◌, ◌⊎◌, true, false, List, [], ◌∷◌, length, min, All, IfOk, IfSome, Decides};
 ghost use Rattle.schema.specs.Nodes.Junctors.{most_named};
 ghost use Rattle.stored.specs.Objects.StoredByParts.{IsWithin};
 ghost use Rattle.plan.specs.Pools.Pools.{Pools};
@@ -7,7 +7,7 @@ ghost use Rattle.plan.specs.Sets.{IsSum};
 ghost use Rattle.plan.specs.Samples.Sites.{Slot};
 ghost use Rattle.plan.specs.Samples.Sizes.{HasSize, Ending, IsUpTo};
 ghost use Rattle.plan.specs.Samples.Presence.{with_bit, meets_seen};
-ghost use Rattle.plan.specs.Internal.Tables.{IsClosed, AreMet, IsLevel, IsTable, HasShape, AreChoices, AreShaped, AreTables};
+ghost use Rattle.plan.specs.Internal.Tables.{IsClosed, AreMet, cap as cap_of, columns as columns_of, IsLevel, IsTable, HasShape, AreChoices, AreShaped, AreTables};
 ghost use Rattle.plan.specs.declared.rows.Choice.{Choice as ChoiceDeclared};
 
 use crate::SizeSet;
@@ -41,6 +41,26 @@ fn is_within(bounds: Bounds, count: u64) -> bool
     bounds.least.is_none_or(|least| least <= count) && bounds.most.is_none_or(|most| count <= most)
 }
 
+/// The number of members from which on the bounds treat all numbers alike; it saturates.
+fn cap(bounds: Bounds) -> u64
+    ensures { result ≡ min (cap_of bounds) (2 ^ 64 - 1) }
+{
+    let past = match bounds.most {
+        Some(most) => most.saturating_add(1),
+        None => 0,
+    };
+    bounds.least.unwrap_or(0).max(past)
+}
+
+/// How many columns a level has where there may be as many as `before` members before it: one for each number of members up to the
+/// cap, whose column stands for all greater numbers.
+fn columns(bounds: Bounds, before: usize) -> usize
+    requires { before < 18446744073709551615 }
+    ensures { result ≡ columns_of bounds before }
+{
+    before.min(cap(bounds) as usize) + 1
+}
+
 /// The sizes from a slot on: those with the slot left out, where it may be, and those with a part in it.
 fn slot_sizes<Z: SizeSet>(choice: &Choice<Z>, without: Z, with: Z, limit: u32) -> Z
     requires { limit < Z.BITS }
@@ -66,7 +86,7 @@ fn row_end<Z: SizeSet>(count: u64, bounds: Bounds, holds: bool) -> Z
     }
 }
 
-/// The sizes after the last slot, at each number of members up to `count`; `holds` is whether the junctors hold.
+/// The sizes after the last of `count` slots, in each column; `holds` is whether the junctors hold.
 fn last_level<Z: SizeSet>(
     alloc: Global,
     count: usize,
@@ -76,11 +96,11 @@ fn last_level<Z: SizeSet>(
 ) -> Result<Vec<Z>, AllocError>
     requires limit { limit < Z.BITS }
     requires count { count < 18446744073709551615 }
-    ensures whole { IfOk result (λ level. length level.items ≡ count + 1) }
+    ensures whole { IfOk result (λ level. length level.items ≡ columns_of bounds count) }
     ensures level { IfOk result (λ level. (P : Pools) (e : Ending) (seen : ℕ) → e.bounds ≡ bounds → holds ≡ meets_seen e.asked seen → IsLevel Z.holds limit e P [] seen level.items) }
 {
     let mut level = Vec::new(alloc);
-    for taken in 0..count + 1 {
+    for taken in 0..columns(bounds, count) {
         level.push(row_end(taken as u64, bounds, holds))?;
     }
     Ok(level)
@@ -96,7 +116,7 @@ fn last_table<Z: SizeSet>(
 ) -> Result<Vec<Vec<Z>>, AllocError>
     requires limit { limit < Z.BITS }
     requires count { count < 18446744073709551615 }
-    ensures shape { IfOk result (λ table. HasShape (length ends.now) (count + 1) table.items) }
+    ensures shape { IfOk result (λ table. HasShape (length ends.now) (columns_of bounds count) table.items) }
     ensures table { IfOk result (λ table. (P : Pools) (e : Ending) → e.bounds ≡ bounds → AreMet e.asked ends.now → IsTable Z.holds limit e P [] table.items) }
 {
     let mut table = Vec::new(alloc);
@@ -108,24 +128,30 @@ fn last_table<Z: SizeSet>(
     Ok(table)
 }
 
-/// The sizes from a slot on, at each number of members before it, from those after it without and with a part in the slot.
+/// The sizes from a slot on, in each column, from those after it without and with a part in the slot; `before` are the slots before
+/// it.
 fn slot_level<Z: SizeSet>(
     alloc: Global,
     choice: &Choice<Z>,
+    bounds: Bounds,
+    before: usize,
     without: &[Z],
     with: &[Z],
     limit: u32,
 ) -> Result<Vec<Z>, AllocError>
     requires limit { limit < Z.BITS }
-    requires some { 0 < length without.now }
-    requires alike { length with.now ≡ length without.now }
-    ensures whole { IfOk result (λ level. length level.items + 1 ≡ length without.now) }
-    ensures level { IfOk result (λ level. (P : Pools) (s : Slot) (ss : List Slot) (e : Ending) (seen : ℕ) → IsUpTo limit (Z.holds choice.now.sizes) (HasSize P s.site) → choice.now.must ≡ s.must → IsLevel Z.holds limit e P ss seen without.now
+    requires few { before < 18446744073709551615 }
+    requires wide { length without.now ≡ columns_of bounds (before + 1) }
+    requires alike { length with.now ≡ columns_of bounds (before + 1) }
+    ensures whole { IfOk result (λ level. length level.items ≡ columns_of bounds before) }
+    ensures level { IfOk result (λ level. (P : Pools) (s : Slot) (ss : List Slot) (e : Ending) (seen : ℕ) → e.bounds ≡ bounds → IsUpTo limit (Z.holds choice.now.sizes) (HasSize P s.site) → choice.now.must ≡ s.must → IsLevel Z.holds limit e P ss seen without.now
         → IsLevel Z.holds limit e P ss (with_bit s.bit seen) with.now → IsLevel Z.holds limit e P (s ∷ ss) seen level.items) }
 {
     let mut level = Vec::new(alloc);
-    for taken in 0..without.len() - 1 {
-        level.push(slot_sizes(choice, without[taken], with[taken + 1], limit))?;
+    let last = with.len() - 1;
+    for taken in 0..columns(bounds, before) {
+        let more = (taken + 1).min(last);
+        level.push(slot_sizes(choice, without[taken], with[more], limit))?;
     }
     Ok(level)
 }
@@ -145,27 +171,37 @@ fn seen_with(bit: Option<u8>, seen: usize) -> usize
 fn slot_table<Z: SizeSet>(
     alloc: Global,
     choice: &Choice<Z>,
+    bounds: Bounds,
     before: usize,
     after: &[Vec<Z>],
     limit: u32,
 ) -> Result<Vec<Vec<Z>>, AllocError>
     requires limit { limit < Z.BITS }
+    requires few { before < 18446744073709551615 }
     requires closed { IsClosed (length after.now) choice.now.bit }
-    requires shape { HasShape (length after.now) (before + 2) after.now }
-    ensures shape { IfOk result (λ table. HasShape (length after.now) (before + 1) table.items) }
-    ensures table { IfOk result (λ table. (P : Pools) (s : Slot) (ss : List Slot) (e : Ending) → IsUpTo limit (Z.holds choice.now.sizes) (HasSize P s.site) → choice.now.must ≡ s.must → choice.now.bit ≡ s.bit → IsTable Z.holds limit e P ss after.now → IsTable Z.holds limit e P (s ∷ ss) table.items) }
+    requires shape { HasShape (length after.now) (columns_of bounds (before + 1)) after.now }
+    ensures shape { IfOk result (λ table. HasShape (length after.now) (columns_of bounds before) table.items) }
+    ensures table { IfOk result (λ table. (P : Pools) (s : Slot) (ss : List Slot) (e : Ending) → e.bounds ≡ bounds → IsUpTo limit (Z.holds choice.now.sizes) (HasSize P s.site) → choice.now.must ≡ s.must → choice.now.bit ≡ s.bit → IsTable Z.holds limit e P ss after.now → IsTable Z.holds limit e P (s ∷ ss) table.items) }
 {
     let mut table = Vec::new(alloc);
     for seen in 0..after.len() {
         let with = seen_with(choice.bit, seen);
-        let level = slot_level(alloc, choice, &after[seen], &after[with], limit)?;
+        let level = slot_level(
+            alloc,
+            choice,
+            bounds,
+            before,
+            &after[seen],
+            &after[with],
+            limit,
+        )?;
         table.push(level)?;
     }
     Ok(table)
 }
 
-/// The sizes from each place on, the last place first: for each set of the named fields, at each number of members that there may
-/// be before it. `ends` has whether the junctors hold for each such set.
+/// The sizes from each place on, the last place first: for each set of the named fields, in a column for each number of members
+/// before it up to the cap of the bounds. `ends` has whether the junctors hold for each such set.
 pub(crate) fn tables<Z: SizeSet>(
     alloc: Global,
     choices: &[Choice<Z>],
@@ -177,7 +213,7 @@ pub(crate) fn tables<Z: SizeSet>(
     requires count { length choices.now < 18446744073709551615 }
     requires closed { All (λ (c : ChoiceDeclared Z). IsClosed (length ends.now) c.bit) choices.now }
     ensures whole { IfOk result (λ tables. length tables.items ≡ length choices.now + 1) }
-    ensures shaped { IfOk result (λ tables. AreShaped (length choices.now) (length ends.now) tables.items) }
+    ensures shaped { IfOk result (λ tables. AreShaped bounds (length choices.now) (length ends.now) tables.items) }
     ensures tables { IfOk result (λ tables. (P : Pools) (ss : List Slot) (e : Ending) → e.bounds ≡ bounds → AreMet e.asked ends.now → AreChoices Z.holds limit P choices.now ss → AreTables Z.holds limit e P ss tables.items) }
 {
     let mut tables = Vec::new(alloc);
@@ -185,7 +221,14 @@ pub(crate) fn tables<Z: SizeSet>(
     tables.push(last_table(alloc, count, bounds, ends, limit)?)?;
     for done in 0..count {
         let before = count - 1 - done;
-        let table = slot_table(alloc, &choices[before], before, &tables[done], limit)?;
+        let table = slot_table(
+            alloc,
+            &choices[before],
+            bounds,
+            before,
+            &tables[done],
+            limit,
+        )?;
         tables.push(table)?;
     }
     Ok(tables)

@@ -22,6 +22,12 @@ const THREE_KEYS: &str =
 const NAMED_FIELDS: &str =
     r#"{"type":"object","properties":{"o":{"type":"object","not":{"required":["z","b","a0"]},"anyOf":[{"required":["b"]},{"not":{"required":["a"]}}],"properties":{"a":{"type":"boolean"},"a0":{"type":"boolean"},"b":{"type":"boolean"},"c":{"type":"boolean"},"z":{"type":"boolean"}}}}}"#;
 
+// Four optional truth values, of which one or two are there, and where any number of them may be there.
+const ONE_OR_TWO: &str =
+    r#"{"type":"object","properties":{"o":{"type":"object","minProperties":1,"maxProperties":2,"properties":{"a":{"type":"boolean"},"b":{"type":"boolean"},"c":{"type":"boolean"},"d":{"type":"boolean"}}}}}"#;
+const ANY_NUMBER: &str =
+    r#"{"type":"object","properties":{"o":{"type":"object","maxProperties":9223372036854775807,"properties":{"a":{"type":"boolean"},"b":{"type":"boolean"},"c":{"type":"boolean"},"d":{"type":"boolean"}}}}}"#;
+
 const FOUR_NODES: &str = r#"{"any":[[1,2,3]]}"#;
 
 // The plan of a schema, pools and a limit.
@@ -70,7 +76,7 @@ enum Asked {
 }
 
 // A name, a schema with its pools and limit, a node, what is asked of it, and the sizes that are answered.
-static SIZES: [(&str, (&str, &str, u32), At, Asked, &[u32]); 30] = [
+static SIZES: [(&str, (&str, &str, u32), At, Asked, &[u32]); 39] = [
     (
         "the sizes of at least two of three truth values",
         (TRUTHS, "{}", 4),
@@ -196,6 +202,69 @@ static SIZES: [(&str, (&str, &str, u32), At, Asked, &[u32]); 30] = [
         At::First,
         Asked::Rest(3, 1, 0),
         &[],
+    ),
+    (
+        "the rest after more filled slots than are asked for",
+        (TRUTHS, "{}", 4),
+        At::First,
+        Asked::Rest(3, 3, 0),
+        &[0],
+    ),
+    (
+        "the rest of one or two members after no slot",
+        (ONE_OR_TWO, "{}", 6),
+        At::First,
+        Asked::Rest(0, 0, 0),
+        &[1, 2],
+    ),
+    (
+        "the rest of one or two members after three empty slots",
+        (ONE_OR_TWO, "{}", 6),
+        At::First,
+        Asked::Rest(3, 0, 0),
+        &[1],
+    ),
+    (
+        "the rest of one or two members after one of three slots",
+        (ONE_OR_TWO, "{}", 6),
+        At::First,
+        Asked::Rest(3, 1, 0),
+        &[0, 1],
+    ),
+    (
+        "the rest of one or two members after two of three slots",
+        (ONE_OR_TWO, "{}", 6),
+        At::First,
+        Asked::Rest(3, 2, 0),
+        &[0],
+    ),
+    (
+        "the rest of one or two members after three",
+        (ONE_OR_TWO, "{}", 6),
+        At::First,
+        Asked::Rest(3, 3, 0),
+        &[],
+    ),
+    (
+        "the rest of one or two members after four",
+        (ONE_OR_TWO, "{}", 6),
+        At::First,
+        Asked::Rest(4, 4, 0),
+        &[],
+    ),
+    (
+        "the rest of any number of members after one",
+        (ANY_NUMBER, "{}", 6),
+        At::First,
+        Asked::Rest(1, 1, 0),
+        &[0, 1, 2, 3],
+    ),
+    (
+        "the rest of any number of members after four",
+        (ANY_NUMBER, "{}", 6),
+        At::First,
+        Asked::Rest(4, 4, 0),
+        &[0],
     ),
     (
         "what can follow after no item",

@@ -79,7 +79,7 @@ pub record IsRow {Z : Type 0} (holds : Z → ℕ → Type 0) (limit : ℕ) (P : 
   pub later : AreLater P (slots P (site_at sites i)) r.later.items
   pub bits : All (λ (e : SlotEntry). IfSome e.bit (λ j. j < most_named)) r.slots.items
   pub whole : length r.tables.items ≡ length r.slots.items + 1
-  pub shaped : AreShaped (length r.slots.items) (2 ^ length (named (ending_of (site_at sites i)).asked)) r.tables.items
+  pub shaped : AreShaped (ending_of (site_at sites i)).bounds (length r.slots.items) (2 ^ length (named (ending_of (site_at sites i)).asked)) r.tables.items
   pub tables : AreTables holds limit (ending_of (site_at sites i)) P (slots P (site_at sites i)) r.tables.items
 
 pub record IsList {Z : Type 0} (holds : Z → ℕ → Type 0) (limit : ℕ) (P : Pools) (sites : List Site) (i : ℕ) (l : ListEntry Z) : Type 0 where

@@ -1,9 +1,10 @@
 -- What the tables of a plan hold. A set represents the numbers that it holds.
-use Rattle.std.specs.Prelude.{◌≡◌, ℕ, ◌+◌, ◌-◌, ◌^◌, ◌<◌, List, [], ◌∷◌, length, get_or, drop, Bool, Option, IfSome}
+use Rattle.std.specs.Prelude.{◌≡◌, ℕ, suc, ◌+◌, ◌-◌, ◌^◌, ◌<◌, List, [], ◌∷◌, length, get_or, drop, min, max, Bool, Option, option_map, unwrap_or, IfSome}
 use Rattle.std.specs.declared.vec.Vec.{Vec}
 use Rattle.std.specs.declared.alloc.Global.{Global}
 use Rattle.schema.specs.Nodes.Node.{Validations}
 use Rattle.schema.specs.Nodes.Junctors.{most_named}
+use Rattle.schema.specs.declared.node.Bounds.{Bounds}
 use Rattle.plan.specs.Pools.Pools.{Pools}
 use Rattle.plan.specs.Samples.Presence.{named, bit_of, is_set, with_bit, meets_seen}
 use Rattle.plan.specs.Samples.Sites.{Slot}
@@ -29,7 +30,16 @@ AreChoices holds limit P [] [] = Unit {0}
 AreChoices holds limit P (c ∷ cs) (s ∷ ss) = IsUpTo limit (holds c.sizes) (HasSize P s.site) × (c.must ≡ s.must) × (c.bit ≡ s.bit) × AreChoices holds limit P cs ss
 AreChoices holds limit P _ _ = ⊥
 
--- where these named fields were seen, at each number of members before: the sizes that the slots can still take
+-- the number of members from which on the bounds treat all numbers alike: the least number, or one past the greatest
+abbrev pub cap : Bounds → ℕ
+cap b = max (unwrap_or b.least 0) (unwrap_or (option_map suc b.most) 0)
+
+-- how many columns a table has where there may be as many as `before` members before its place: one for each number of members up to
+-- the cap, whose column stands for all greater numbers
+abbrev pub columns : Bounds → ℕ → ℕ
+columns b before = min before (cap b) + 1
+
+-- where these named fields were seen, at the number of members before of each column: the sizes that the slots can still take
 abbrev pub IsLevel : {Z : Type 0} → (Z → ℕ → Type 0) → ℕ → Ending → Pools → List Slot → ℕ → List Z → Type 0
 IsLevel {Z} holds limit e P ss seen level = (t : ℕ) (z : Z) → t < length level → IsUpTo limit (holds (get_or level t z)) (CanFill P ss e (record { count = t; seen = seen }))
 
@@ -37,14 +47,14 @@ IsLevel {Z} holds limit e P ss seen level = (t : ℕ) (z : Z) → t < length lev
 abbrev pub IsTable : {Z : Type 0} → (Z → ℕ → Type 0) → ℕ → Ending → Pools → List Slot → List (Vec Z Global) → Type 0
 IsTable {Z} holds limit e P ss table = (seen : ℕ) (d : Vec Z Global) → seen < length table → IsLevel holds limit e P ss seen (get_or table seen d).items
 
--- a table has a level for each of `kinds` sets of the named fields, with a set for each of `width` numbers of members
+-- a table has a level for each of `kinds` sets of the named fields, each of `width` columns
 pub record HasShape {Z : Type 0} (kinds width : ℕ) (table : List (Vec Z Global)) : Type 0 where
   pub whole : length table ≡ kinds
   pub wide : (seen : ℕ) (d : Vec Z Global) → seen < length table → length (get_or table seen d).items ≡ width
 
--- the tables, that of the last place first, have a set for each number of members that there may be before the place
-abbrev pub AreShaped : {Z : Type 0} → ℕ → ℕ → List (Vec (Vec Z Global) Global) → Type 0
-AreShaped {Z} count kinds tables = (k : ℕ) (d : Vec (Vec Z Global) Global) → k < length tables → HasShape kinds (count + 1 - k) (get_or tables k d).items
+-- the tables of `count` slots, that of the last place first
+abbrev pub AreShaped : {Z : Type 0} → Bounds → ℕ → ℕ → List (Vec (Vec Z Global) Global) → Type 0
+AreShaped {Z} b count kinds tables = (k : ℕ) (d : Vec (Vec Z Global) Global) → k < length tables → HasShape kinds (columns b (count - k)) (get_or tables k d).items
 
 -- each of them has the sizes of the slots from its place on
 abbrev pub AreTables : {Z : Type 0} → (Z → ℕ → Type 0) → ℕ → Ending → Pools → List Slot → List (Vec (Vec Z Global) Global) → Type 0

@@ -1,7 +1,8 @@
-use Rattle.std.proofs.Common.{arith, ap, length, refl, ◌≡◌, ◌+◌, ◌-◌, ◌≤◌, ◌<◌, ◌∙◌}
+use Rattle.std.proofs.Common.{arith, ap, length, refl, ◌≡◌, ◌-◌, ◌≤◌, ◌<◌, ◌∙◌}
 use Rattle.plan.specs.Samples.Sites.{slots as slots_of}
 use Rattle.plan.specs.Samples.Sites.{site_at}
 use Rattle.plan.specs.Samples.Sizes.{Ending}
+use Rattle.plan.specs.Internal.Tables.{columns}
 use Rattle.plan.proofs.EntryLemmas.{chosen_count, chosen_choices, chosen_closed, right_push, row_right}
 use Rattle.plan.proofs.RowLemmas.{shape_at, width_at}
 use Rattle.plan.proofs.entries.add_row.Goals as goal
@@ -27,7 +28,7 @@ index-requires-2 g c =
     let a = ap length c.deref.ensures.value in
     let b = ap length c.deref-3.ensures.value in
     let table = c.index.result.now in
-    let shape = shape_at (length c.deref-3.result.now) (length c.args.ends.now) c.in_ok-tables.tables.items c.len.result table table.items c.in_ok-tables.ensures.shaped (omega (arith, c.len.ensures)) c.index.ensures refl in
+    let shape = shape_at c.args.bounds (length c.deref-3.result.now) (length c.args.ends.now) c.in_ok-tables.tables.items c.len.result table table.items c.in_ok-tables.ensures.shaped (omega (arith, c.len.ensures)) c.index.ensures refl in
     omega (arith, shape.whole, c.requires.some)
 
 pub index-requires-3 : goal.index-requires-3
@@ -39,9 +40,9 @@ index-requires-3 g c =
     let table = c.index.result.now in
     let count = length c.deref-3.result.now in
     let kinds = length c.args.ends.now in
-    let shape = shape_at count kinds c.in_ok-tables.tables.items c.len.result table table.items c.in_ok-tables.ensures.shaped (omega (arith, c.len.ensures)) c.index.ensures refl in
+    let shape = shape_at c.args.bounds count kinds c.in_ok-tables.tables.items c.len.result table table.items c.in_ok-tables.ensures.shaped (omega (arith, c.len.ensures)) c.index.ensures refl in
     let inside : 0 < length table.items = omega (arith, shape.whole, c.requires.some) in
-    let wide = width_at kinds (count + 1 - c.len.result) table.items 0 c.index-2.result.now shape inside c.index-2.ensures in
+    let wide = width_at kinds (columns c.args.bounds (count - c.len.result)) table.items 0 c.index-2.result.now shape inside c.index-2.ensures in
     omega (arith, wide, c.len.ensures)
 
 pub returns-clause-right : goal.returns-clause-right

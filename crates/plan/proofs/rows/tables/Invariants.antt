@@ -8,6 +8,6 @@ use Rattle.plan.proofs.rows.tables.Given as goal
 abbrev pub invariant-loop-done : goal.invariant-loop-done
 invariant-loop-done g l = record {
   whole : length l.tables.items ≡ l.done + 1;
-  shaped : AreShaped (length l.choices) (length l.ends) l.tables.items;
+  shaped : AreShaped l.fn.bounds (length l.choices) (length l.ends) l.tables.items;
   tables : (P : Pools) (ss : List Slot) (e : Ending) → e.bounds ≡ l.fn.bounds → AreMet e.asked l.ends → AreChoices g.Z.SizeSet.holds l.limit P l.choices ss → AreTables g.Z.SizeSet.holds l.limit e P ss l.tables.items;
 }

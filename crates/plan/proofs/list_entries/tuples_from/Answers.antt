@@ -1,0 +1,15 @@
+use Rattle.std.proofs.Common.{◌≡◌, true, false, refl, sym, ◌∙◌, inl, arith}
+use Rattle.plan.specs.Samples.Candidates.{HasCount}
+use Rattle.plan.proofs.ListEntryLemmas.{key_first, other_first}
+use Rattle.plan.proofs.list_entries.tuples_from.Goals as goal
+
+pub returns-then-slot : goal.returns-then-slot
+returns-then-slot g c = λ P sites i s ss right inside is leaves h.
+    let key : s.key ≡ true = sym is.key ∙ c.if-slot.true in
+    let count : HasCount P s.site c.count.result = rw is.node at (c.count.ensures P sites right (omega (arith, is.below)) (rw is.node (leaves s (inl refl) key))) in
+    rw c.saturating_mul.ensures (key_first P s ss c.args.later c.count.result key h count)
+
+pub returns-else-slot : goal.returns-else-slot
+returns-else-slot g c = λ P sites i s ss right inside is leaves h.
+    let key : s.key ≡ false = sym is.key ∙ c.if-slot.false in
+    other_first P s ss c.args.later key h
