@@ -196,10 +196,7 @@ least_missing limit P M A a h = record {
   reached = λ l. absurd (omega arith);
 }
 
--- as many items as the limit leave no room for the list
+-- a list has no more items than they have nodes
 pub count_nodes : (ds : Items) → fault.items_count ds ≤ items_count ds
 count_nodes no_items = omega arith
 count_nodes (item d ds) = omega (arith, count_nodes ds, tree_positive d)
-
-pub more_none : (limit : ℕ) (P : Pools) (M : Site) (b : Bounds) (t m : ℕ) → limit ≤ t → HasMoreFree P limit M b t m → ⊥
-more_none limit P M b t m l h = let c = count_nodes h.items in omega (arith, h.fits, h.many)

@@ -246,9 +246,6 @@ more_none_at holds limit P sites i t m l z h inside is none more =
     let u = rw (← is) at (h.more t z inside) in
     none m (omega arith) ((u m).1 (more_within limit P (site_at sites i) t m more, more))
 
-pub more_some_at : {Z : Type 0} (holds : Z → ℕ → Type 0) (limit : ℕ) (P : Pools) (sites : List Site) (i t n : ℕ) (l : ListEntry Z) (z : Z) → IsList holds limit P sites i l → t < length l.more.items → z ≡ get_or l.more.items t z → holds z n → (m : ℕ) × HasMore P limit (site_at sites i) t m
-more_some_at holds limit P sites i t n l z h inside is some = let u = rw (← is) at (h.more t z inside) in (n, ((u n).0 some).1)
-
 pub slice_get_at : {X : Type 0} (xs : List X) (i : ℕ) (x : X) → i < length xs → x ≡ get_or xs i x → slice_get xs i ≡ Some x
 slice_get_at [] i x l is = absurd (omega arith)
 slice_get_at (y ∷ xs) zero x l is = ap Some (sym is)

@@ -20,10 +20,6 @@ sum_up_to limit A B P Q a b S s n = (
       (s n).1 (h.0, (x.0, (x.1.0, ((a x.0).1 (omega arith, x.1.1.0), (b x.1.0).1 (omega arith, x.1.1.1), x.1.1.2)))),
 )
 
--- one number
-pub one_up_to : (limit k : ℕ) → k ≤ limit → (S : ℕ → Type 0) → ((n : ℕ) → S n ↔ (n ≡ k)) → IsUpTo limit S (λ n. n ≡ k)
-one_up_to limit k h S s n = ((λ x. let e = (s n).0 x in (omega arith, e)), λ x. (s n).1 x.1)
-
 -- what holds of each place of a list and of one element more
 pub each_push : {X : Type 0} (P : ℕ → X → Type 0) (xs : List X) (x : X) → ((k : ℕ) (d : X) → k < length xs → P k (get_or xs k d)) → P (length xs) x → (k : ℕ) (d : X) → k < length (xs ++ x ∷ []) → P k (get_or (xs ++ x ∷ []) k d)
 each_push P xs x h here k d l =
