@@ -172,6 +172,30 @@ cat >"$folder/owned" <<'LINES'
 LINES
 echo 'crdx: pools: P5 "/spec/acme/privateKeySecretRef/key"' >"$folder/bad-path"
 printf '{"any":["a",{}],"integers":[-1,0,1,2,65534,65535,65536],"names":["a","b"],"strings":["a","%s"]}\n' "$(printf 'a%.0s' {1..64})" >"$folder/issuer-pools"
+fields=$(seq -s , -f '"f%g":{"type":"boolean"}' 33)
+define "{\"type\":\"object\",\"properties\":{$fields}}" >"$folder/wide.json"
+cat >"$folder/too-wide" <<'LINES'
+crdx: crd: S4 "/properties"
+    found 33 properties; allowed are 32, and 1024 with --large
+LINES
+cat >"$folder/not-stored-explained" <<'LINES'
+crdx: object: L1
+    the object is not stored: found F12 "/r" required; `crdx validate` lists all faults
+LINES
+echo '{"s":[0,1.50]}' >"$folder/fraction.json"
+cat >"$folder/fraction" <<'LINES'
+crdx: object: J1
+    found 1.50 at "/s/1"; allowed are integers of 64 bits
+LINES
+seq -s , 65 | sed 's/.*/{"integers":[&]}/' >"$folder/many.json"
+cat >"$folder/too-many" <<'LINES'
+crdx: pools: P2
+    found 65 entries in "integers"; allowed are 64, and 1024 with --large
+LINES
+cat >"$folder/bad-path-explained" <<'LINES'
+crdx: pools: P5 "/spec/acme/privateKeySecretRef/key"
+    found a path that is not declared; `crdx explain` lists those that are
+LINES
 cat >"$folder/read-twice" <<'LINES'
 error: CRD and OBJECT cannot both be the standard input
 
@@ -189,6 +213,14 @@ row 'check with reasons' nothing 1 "$folder/reasons" /dev/null \
     check --why "$folder/two-reasons.json" v1
 row 'check of a bad default, with reasons' nothing 1 "$folder/bad-default" /dev/null \
     check --why "$folder/bad-default.json" v1
+row 'check of many fields, explained' nothing 3 /dev/null "$folder/too-wide" check "$folder/wide.json" v1 --why
+row 'check of many fields' nothing 0 "$folder/structural" /dev/null check "$folder/wide.json" v1 --large --why
+row 'validate of a fraction, explained' nothing 3 /dev/null "$folder/fraction" validate "$folder/crd.json" v1 "$folder/fraction.json" --why
+row 'leaves of an object that is not stored, explained' nothing 1 /dev/null "$folder/not-stored-explained" \
+    leaves "$folder/crd.json" v1 "$folder/object.json" --why
+row 'sample over many integers, explained' nothing 3 /dev/null "$folder/too-many" sample "$folder/crd.json" v1 --pools "$folder/many.json" --why
+row 'sample with a bad path, explained' nothing 3 /dev/null "$folder/bad-path-explained" \
+    sample $widget/crd.json v1 --pools examples/issuer/chosen-values.json --why
 row 'pools of the issuer' nothing 0 "$folder/issuer-pools" /dev/null \
     pools examples/issuer/crd.json v1
 row 'the standard input for two inputs' nothing 2 /dev/null "$folder/read-twice" \

@@ -7,11 +7,11 @@ use Rattle.schema.specs.Rules.Breaks.{Reported, reported, rule_name, IsUnbroken}
 use Rattle.schema.specs.Rules.Explained.{AreExplained}
 use Rattle.stored.specs.Schemas.Accepted.{IsBroken}
 use Rattle.crdx.specs.Internal.CheckText.{IsCheckText}
-use Rattle.crdx.specs.Program.Documents.{Documents, file_name}
+use Rattle.crdx.specs.Program.Documents.{Documents}
 use Rattle.crdx.specs.Program.Requested.{IsRequestedSchema}
 use Rattle.crdx.specs.Program.RunResult.{IsAnswer, structural, violations, explained}
 use Rattle.crdx.specs.Program.ViolationLines.{violation_line, violation_lines}
-use Rattle.crdx.specs.declared.arguments.request.CheckArguments.{CheckArguments}
+use Rattle.crdx.specs.declared.arguments.request.CommonArguments.{CommonArguments}
 use Rattle.crdx.specs.declared.arguments.request.Request.TheVariants.{Check}
 use Rattle.crdx.specs.declared.running.answer.Answer.{Answer}
 use Rattle.crdx.proofs.RunLemmas.{broken, none_broken}
@@ -35,7 +35,7 @@ none_explained : (raw : Data) → AreExplained (IsBroken raw) raw [] → IsUnbro
 none_explained raw ([], are, each) p r is = contained [] _ (are.all p r is)
 none_explained raw (b ∷ breaks, are, each) p r is = absurd each
 
-module _ (has : Documents) (arguments : CheckArguments) (raw : Data) (said : List ℕ) (a : Answer) (asked : IsRequestedSchema has (file_name arguments.crd) arguments.version.now raw)
+module _ (has : Documents) (arguments : CommonArguments) (raw : Data) (said : List ℕ) (a : Answer) (asked : IsRequestedSchema has arguments raw)
     (none : said ≡ [] → (a.status ≡ 0) × (string_bytes a.text ≡ codes "structural\n")) (some : said ≢ [] → (a.status ≡ 1) × (string_bytes a.text ≡ said)) where
   unbroken_answer : said ≡ [] → IsUnbroken (IsBroken raw) → IsAnswer has (Check arguments) a.status (string_bytes a.text)
   unbroken_answer empty unbroken = let is = none empty in rw (is.0, is.1) (structural arguments (raw, record { asked = asked; unbroken = unbroken }))
@@ -48,5 +48,5 @@ module _ (has : Documents) (arguments : CheckArguments) (raw : Data) (said : Lis
   check_answer false why ([], are, same) = unbroken_answer same (none_broken (IsBroken raw) are)
   check_answer false why (v ∷ found, are, same) =
       let is = some (λ empty. some_line (reported v) (empty_left _ _ (sym same ∙ empty))) in
-      let breaks = broken has 0 0 (file_name arguments.crd) arguments.version.now raw (v ∷ found) asked are (λ no. cc) in
+      let breaks = broken has 0 0 arguments raw (v ∷ found) asked are (λ no. cc) in
       rw (is.0, is.1 ∙ (same ∙ (sym (flat_map-map violation_line reported (v ∷ found)) ∙ ap violation_lines breaks.1))) (violations arguments breaks.0 why breaks.2)

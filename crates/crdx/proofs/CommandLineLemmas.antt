@@ -14,10 +14,10 @@ use Rattle.clap.specs.declared.parser.matches.SubCommand.{SubCommand}
 use Rattle.clap.specs.declared.parser.matches.ArgMatches.TheViews.{out-SubCommand}
 use Rattle.clap.specs.declared.error.Error.{Error}
 use Rattle.clap.specs.declared.error.kind.ErrorKind.{ErrorKind}
-use Rattle.clap.specs.declared.error.kind.ErrorKind.TheVariants.{ArgumentConflict, OutOfMemory}
+use Rattle.clap.specs.declared.error.kind.ErrorKind.TheVariants.{OutOfMemory}
 use Rattle.std.proofs.lemmas.List.Elements.{All-from_recursion}
 use Rattle.clap.proofs.WalkLemmas.{first_value-rows}
-use Rattle.crdx.specs.Program.CommandLine.{crdx_app, entered, faults, value_of, decimal_value, command_names, ReadsInputTwice, IsCommand, IsHelp, IsRequestOf, IsUsageErrorOrMemory, Asks}
+use Rattle.crdx.specs.Program.CommandLine.{crdx_app, entered, faults, value_of, decimal_value, command_names, IsCommand, IsHelp, IsRequestOf, IsUsageErrorOrMemory, Asks}
 use Rattle.crdx.specs.declared.arguments.request.Request.{Request}
 use Rattle.crdx.specs.declared.arguments.request.Request.TheVariants.{Check, Explain, Object, SuggestPools, Sample, Help, UsageError, NoMemory}
 
@@ -40,19 +40,6 @@ pub value_text : (f : Found) (id : Text) (v : Option (Bor Text)) (word other : B
     → word.now ≡ value_of id (rows_of f)
 value_text f id None word other given is none = ap (λ w. w.now) is ∙ (none ∙ ap (λ o. unwrap_or o []) (given ∙ first_value-rows f id))
 value_text f id (Some w) word other given is none = ap (λ w. w.now) is ∙ ap (λ o. unwrap_or o []) (given ∙ first_value-rows f id)
-
--- a command that reads the standard input twice is refused
-pub refused_twice : (named : Option (Text × List Row)) (o : Request) → ReadsInputTwice named → IsUsageErrorOrMemory o → IsCommand named o
-refused_twice named (UsageError text) twice is = inr twice
-refused_twice named NoMemory twice is = tt
-refused_twice named _ twice is = absurd is
-
-pub no_help_of_conflict : (o : Request) → IsRequestOf ArgumentConflict o → IsUsageErrorOrMemory o
-no_help_of_conflict (Help text) (inl help) = cc
-no_help_of_conflict (Help text) (inr version) = cc
-no_help_of_conflict (UsageError text) is = tt
-no_help_of_conflict NoMemory is = tt
-no_help_of_conflict _ is = absurd is
 
 -- the number of an option, from what `get_one` reads
 pub number_read : {E : Type 0} (gives : List ℕ → Result ℕ E → Type 0) → ((bs : List ℕ) (r : Result ℕ E) → gives bs r → ParsesUnsigned 32 10 bs r) → (t : Text) (n : Option ℕ) → ReadsOne gives t n

@@ -1,6 +1,6 @@
 -- How the causes of a run and its status go together with what is asked of the documents at hand.
 use Rattle.std.proofs.Common.{◌≡◌, ◌≢◌, ◌⊎◌, ℕ, List, [], ◌∷◌, Option, Some, None, Bor, Ok, Err, refl, subst, inl, inr, take, map, string_bytes, IsSomeAnd, Bool, true, arith}
-use Rattle.std.specs.Prelude.{IfSome, IfOk, IfErr, OnOk, OnErr, Result, ◌≤◌, ◌<◌}
+use Rattle.std.specs.Prelude.{IfSome, IfOk, IfErr, OnOk, OnErr, Result}
 use Rattle.std.specs.Io.KnownBytes.{Appends, Keeps}
 use Rattle.jtree.specs.Data.{Data}
 use Rattle.jtree.specs.Internal.Rising.{contained}
@@ -18,13 +18,14 @@ use Rattle.crdx.specs.Program.RunResult.{Effects, WritesNothing, IsRunResult, an
 use Rattle.crdx.specs.Output.Line.{lines}
 use Rattle.crdx.specs.Output.PartialOutput.{IsPartialOutput}
 use Rattle.crdx.specs.Output.Walk.{WritesPage}
-use Rattle.crdx.specs.Program.Requested.{IsRequested, IsRequestedCrd, IsRequestedSchema, IsRequestedRoot, HasAcceptedSchema, IsCrdRefused, ArePools, AreRootAndPools}
+use Rattle.crdx.specs.Program.Requested.{limits_of, pool_limits_of, IsRequested, IsRequestedCrd, IsRequestedSchema, IsRequestedRoot, HasAcceptedSchema, IsCrdRefused, ArePools, AreRootAndPools}
 use Rattle.crdx.specs.Program.Documents.{Documents, file_name, AreAmong}
 use Rattle.crdx.specs.Internal.ExitStatus.{status, cause_of_reading, cause_of_refusal, cause_of_pools, cause_of_walk, IsWritten}
 use Rattle.crdx.specs.Internal.Cause.{IsReadFailure, IsReadCause, IsBrokenCause, IsSchemaCause, IsPoolsCause, IsPlanCause, IsTextCause, IsSamplingCause, IsFieldCause, IsObjectCause, IsDocumentCause, IsInputCause, IsSampleCause, IsWalkCause}
 use Rattle.plan.specs.Pools.Pools.{Pools}
 use Rattle.plan.specs.Pools.PoolsFault.{IsPoolsFault}
-use Rattle.plan.specs.Pools.PlanFault.{HasGoodPaths, IsPlanFault}
+use Rattle.plan.specs.Pools.PlanFault.{HasGoodPaths}
+use Rattle.plan.specs.declared.pool_limits.PoolLimits.{PoolLimits}
 use Rattle.plan.specs.Samples.Question.{Question}
 use Rattle.plan.specs.declared.fault.PFault.{PFault}
 use Rattle.plan.specs.declared.fault.PFault.TheVariants.{Form}
@@ -36,6 +37,7 @@ use Rattle.crdx.specs.declared.running.causes.PlaceCode.TheVariants as code
 use Rattle.crdx.specs.declared.running.causes.Cause.{Cause}
 use Rattle.crdx.specs.declared.running.causes.Cause.TheVariants.{Read, Document, Crd, Pools as PoolsCause, Place, Violations, NoField, NotStored, NotASample, Write, NoMemory}
 use Rattle.crdx.specs.declared.running.answer.Answer.{Answer}
+use Rattle.crdx.specs.declared.arguments.request.CommonArguments.{CommonArguments}
 use Rattle.crdx.specs.declared.arguments.request.ExplainArguments.{ExplainArguments}
 use Rattle.crdx.specs.declared.arguments.request.ObjectArguments.{ObjectArguments}
 use Rattle.crdx.specs.declared.arguments.request.SampleArguments.{SampleArguments}
@@ -49,8 +51,8 @@ use Rattle.std.proofs.lemmas.Bool.Decides.{nat_tests}
 use Rattle.crdx.proofs.PageLemmas.{PagesAgree}
 use Rattle.crdx.proofs.WalkLemmas.{Appends-nothing}
 
-module _ (has : Documents) (unread read : ℕ) (crd : Option (List ℕ)) (version : List ℕ) where
-  pub cause_of_fault : (d : Data) (fault : SFault) → has crd (Ok d) → IsReadFault d version fault → IsReadCause has unread read crd version (cause_of_reading fault)
+module _ (has : Documents) (unread read : ℕ) (arguments : CommonArguments) where
+  pub cause_of_fault : (d : Data) (fault : SFault) → has (file_name arguments.crd) (Ok d) → IsReadFault (limits_of arguments) d arguments.version.now fault → IsReadCause has unread read arguments (cause_of_reading fault)
   cause_of_fault d s.NotACrd at is = (d, at, λ e. cc, is)
   cause_of_fault d s.NoSuchVersion at is = (d, at, λ e. cc, is)
   cause_of_fault d (s.KeywordForm p) at is = (d, at, λ e. cc, is)
@@ -58,8 +60,8 @@ module _ (has : Documents) (unread read : ℕ) (crd : Option (List ℕ)) (versio
   cause_of_fault d s.NoMemory at is = tt
 
   -- why a request that names the schema has no answer
-  pub input_of_reading : (request : Request) (cause : Cause) → (IsCrdRefused has crd version → IsInputRefused has request)
-      → IsReadCause has unread read crd version cause → IsInputCause has unread read request cause
+  pub input_of_reading : (request : Request) (cause : Cause) → (IsCrdRefused has arguments → IsInputRefused has request)
+      → IsReadCause has unread read arguments cause → IsInputCause has unread read request cause
   input_of_reading request (Read i) refuse why = why.1
   input_of_reading request (Document i fault) refuse why = refuse (inl (fault, why.1, why.2))
   input_of_reading request (Crd fault) refuse why = refuse (inr (fault, why))
@@ -74,8 +76,8 @@ module _ (has : Documents) (unread read : ℕ) (crd : Option (List ℕ)) (versio
   some_break (v ∷ vs) (b ∷ breaks) same some none = cc
 
   -- the breaks that violations report
-  pub broken : (raw : Data) (vs : List Violation) → IsRequestedSchema has crd version raw → AreViolations (IsBroken raw) vs → vs ≢ []
-      → (breaks : List Break) × (map reported vs ≡ map reported_of breaks) × HasBreaks has crd version breaks
+  pub broken : (raw : Data) (vs : List Violation) → IsRequestedSchema has arguments raw → AreViolations (IsBroken raw) vs → vs ≢ []
+      → (breaks : List Break) × (map reported vs ≡ map reported_of breaks) × HasBreaks has arguments breaks
   broken raw vs asked are some = (are.0, are.2, (raw, asked, are.1, some_break vs are.0 are.2 some))
 
 -- where there are no violations, no rule is broken
@@ -87,30 +89,30 @@ pub refused_schema : (raw : Data) (r : Refused) → IsRefusal raw r → IsBroken
 refused_schema raw (refusal.Violations vs) is = is
 refused_schema raw refusal.NoMemory is = tt
 
-module _ (has : Documents) (unread read : ℕ) (crd : Option (List ℕ)) (version : List ℕ) (request : Request) (no : (breaks : List Break) → HasBreaks has crd version breaks → IsAnswer has request 1 []) where
-  input_of_broken : (raw : Data) (cause : Cause) → IsRequestedSchema has crd version raw → IsBrokenCause raw cause → IsInputCause has unread read request cause
-  input_of_broken raw (Violations vs) asked why = let found = broken has unread read crd version raw vs.items asked why.0 why.1 in no found.0 found.2
+module _ (has : Documents) (unread read : ℕ) (arguments : CommonArguments) (request : Request) (no : (breaks : List Break) → HasBreaks has arguments breaks → IsAnswer has request 1 []) where
+  input_of_broken : (raw : Data) (cause : Cause) → IsRequestedSchema has arguments raw → IsBrokenCause raw cause → IsInputCause has unread read request cause
+  input_of_broken raw (Violations vs) asked why = let found = broken has unread read arguments raw vs.items asked why.0 why.1 in no found.0 found.2
   input_of_broken raw NoMemory asked why = tt
   input_of_broken raw _ asked why = absurd why
 
   -- why a request that asks for a schema that breaks no rule has no answer
-  pub input_of_schema : (cause : Cause) → (IsCrdRefused has crd version → IsInputRefused has request) → IsSchemaCause has unread read crd version cause → IsInputCause has unread read request cause
-  input_of_schema cause refuse (inl why) = input_of_reading has unread read crd version request cause refuse why
+  pub input_of_schema : (cause : Cause) → (IsCrdRefused has arguments → IsInputRefused has request) → IsSchemaCause has unread read arguments cause → IsInputCause has unread read request cause
+  input_of_schema cause refuse (inl why) = input_of_reading has unread read arguments request cause refuse why
   input_of_schema cause refuse (inr why) = input_of_broken why.0 cause why.1 why.2
 
 -- the root of the schema that was read
-pub requested_root : (has : Documents) (crd : Option (List ℕ)) (version group kind : List ℕ) (N : Node) → ((raw : Data) × IsRequestedCrd has crd version group kind raw × IsUnbroken (IsBroken raw) × AreNodesOf true N raw)
-    → IsRequestedRoot has crd version N
-requested_root has crd version group kind N (raw, asked, unbroken, nodes) = (raw, record { asked = (group, (kind, asked)); unbroken = unbroken }, nodes)
+pub requested_root : (has : Documents) (arguments : CommonArguments) (group kind : List ℕ) (N : Node) → ((raw : Data) × IsRequestedCrd has arguments group kind raw × IsUnbroken (IsBroken raw) × AreNodesOf true N raw)
+    → IsRequestedRoot has arguments N
+requested_root has arguments group kind N (raw, asked, unbroken, nodes) = (raw, record { asked = (group, (kind, asked)); unbroken = unbroken }, nodes)
 
 -- why the fields of the schema that is asked for are not printed
-pub field_input : (has : Documents) (unread read : ℕ) (arguments : ExplainArguments) (N : Node) (cause : Cause) → IsRequestedRoot has (file_name arguments.crd) arguments.version.now N
+pub field_input : (has : Documents) (unread read : ℕ) (arguments : ExplainArguments) (N : Node) (cause : Cause) → IsRequestedRoot has arguments.common N
     → IsFieldCause N arguments.path cause → IsInputCause has unread read (Explain arguments) cause
 field_input has unread read arguments N (NoField fault) asked why = fields arguments N 1 [] asked why
 field_input has unread read arguments N NoMemory asked why = tt
 field_input has unread read arguments N _ asked why = absurd why
 
-module _ (has later : Documents) (unread read : ℕ) (arguments : ObjectArguments) (N : Node) (among : AreAmong later has) (root : IsRequestedRoot has (file_name arguments.crd) arguments.version.now N) where
+module _ (has later : Documents) (unread read : ℕ) (arguments : ObjectArguments) (N : Node) (among : AreAmong later has) (root : IsRequestedRoot has arguments.common N) where
   -- the object is read of documents that were at hand before, where the schema breaks no rule
   input_of_object : (cause : Cause) → IsReadFailure later unread read input.Object (file_name arguments.object) cause → IsInputCause has unread read (Object arguments) cause
   input_of_object (Read i) why = why.1
@@ -128,21 +130,21 @@ module _ (has later : Documents) (unread read : ℕ) (arguments : ObjectArgument
   object_input cause (inl why) = input_of_object cause why
   object_input cause (inr (document, at, why)) = input_of_document document cause at why
 
-pub cause_of_pools_fault : (has : Documents) (unread read : ℕ) (name : Option (Bor (List ℕ))) (d : Data) (fault : PFault) → has (file_name name) (Ok d) → IsPoolsFault d fault
-    → IsPoolsCause has unread read (Some name) (cause_of_pools fault)
-cause_of_pools_fault has unread read name d (Form p) at is = (d, at, λ e. cc, is)
-cause_of_pools_fault has unread read name d p.TooLarge at is = (d, at, λ e. cc, is)
-cause_of_pools_fault has unread read name d p.NoMemory at is = tt
-cause_of_pools_fault has unread read name d p.BadLimit at is = absurd is
-cause_of_pools_fault has unread read name d (p.BadPath text) at is = absurd is
+pub cause_of_pools_fault : (has : Documents) (unread read : ℕ) (limits : PoolLimits) (name : Option (Bor (List ℕ))) (d : Data) (fault : PFault) → has (file_name name) (Ok d)
+    → IsPoolsFault limits d fault → IsPoolsCause has unread read limits (Some name) (cause_of_pools fault)
+cause_of_pools_fault has unread read limits name d (Form p) at is = (d, at, λ e. cc, is)
+cause_of_pools_fault has unread read limits name d p.TooLarge at is = (d, at, λ e. cc, is)
+cause_of_pools_fault has unread read limits name d p.NoMemory at is = tt
+cause_of_pools_fault has unread read limits name d p.BadLimit at is = absurd is
+cause_of_pools_fault has unread read limits name d (p.BadPath text) at is = absurd is
 
 among_some : (first second : Documents) (name : Option (Option (Bor (List ℕ)))) (r q : Option (Bor (List ℕ)) → Type 0) → ((n : Option (Bor (List ℕ))) → r n → q n) → IsSomeAnd name r → IsSomeAnd name q
 among_some first second None r q f is = is
 among_some first second (Some n) r q f is = f n is
 
 -- the pools are read of documents that were at hand before, where the schema is accepted
-pub pools_input : (has later : Documents) (unread read : ℕ) (arguments : SampleArguments) (cause : Cause) → AreAmong later has → HasAcceptedSchema has (file_name arguments.crd) arguments.version.now
-    → IsPoolsCause later unread read arguments.pools cause → IsInputCause has unread read (Sample arguments) cause
+pub pools_input : (has later : Documents) (unread read : ℕ) (arguments : SampleArguments) (cause : Cause) → AreAmong later has → HasAcceptedSchema has arguments.common
+    → IsPoolsCause later unread read (pool_limits_of arguments.common) arguments.pools cause → IsInputCause has unread read (Sample arguments) cause
 pools_input has later unread read arguments (Read i) among accepted why = why.1
 pools_input has later unread read arguments (Document i fault) among accepted why =
     inr (inl (accepted, inl (fault, why.1, among_some later has arguments.pools _ _ (λ n is. among (file_name n) (Err fault) is) why.2)))
@@ -154,17 +156,10 @@ pools_input has later unread read arguments NoMemory among accepted why = tt
 pools_input has later unread read arguments _ among accepted why = absurd why
 
 -- pools of documents that were at hand before
-pub pools_before : (has later : Documents) (name : Option (Option (Bor (List ℕ)))) (P : Pools) → AreAmong later has → ArePools later name P → ArePools has name P
-pools_before has later None P among is = is
-pools_before has later (Some n) P among is = (is.0, among (file_name n) (Ok is.0) is.1, is.2, is.3, is.4)
-
--- why there is no plan, as the cause that its fault becomes; the limit is one that sets of sizes have room for
-pub cause_of_plan_fault : (N : Node) (P : Pools) (limit bits : ℕ) (fault : PFault) → 1 ≤ limit → limit < bits → IsPlanFault N P limit bits fault → IsPlanCause N P (cause_of_pools fault)
-cause_of_plan_fault N P limit bits p.BadLimit least most (inl is) = grind (arith, nat_tests)
-cause_of_plan_fault N P limit bits p.BadLimit least most (inr is) = grind (arith, nat_tests)
-cause_of_plan_fault N P limit bits (p.BadPath text) least most is = is.1
-cause_of_plan_fault N P limit bits p.NoMemory least most is = tt
-cause_of_plan_fault N P limit bits _ least most is = absurd is
+pub pools_before : (has later : Documents) (limits : PoolLimits) (name : Option (Option (Bor (List ℕ)))) (P : Pools) → AreAmong later has → ArePools later limits name P
+    → ArePools has limits name P
+pools_before has later limits None P among is = is
+pools_before has later limits (Some n) P among is = (is.0, among (file_name n) (Ok is.0) is.1, is.2, is.3, is.4)
 
 module _ (has : Documents) (unread read : ℕ) (arguments : SampleArguments) (N : Node) (P : Pools) (are : AreRootAndPools has arguments N P) where
   plan_input : (cause : Cause) → IsPlanCause N P cause → IsInputCause has unread read (Sample arguments) cause

@@ -1,5 +1,5 @@
 -- What one page after the other says of a walk.
-use Rattle.std.specs.Prelude.{IfSome, IsSomeAnd, option_map}
+use Rattle.std.specs.Prelude.{IfSome, option_map}
 use Rattle.std.proofs.Common.{◌≡◌, ◌⊎◌, ℕ, ◌+◌, ◌-◌, if◌then◌else◌, ◌<◌, ◌≤◌, List, [], ◌∷◌, ◌++◌, length, take, Bool, true, false, Option, Some, None, refl, sym, ap, ◌∙◌, subst, inl, inr, arith, length-append, append_assoc}
 use Rattle.std.specs.Io.KnownBytes.{Appends, Keeps}
 use Rattle.std.proofs.KnownBytes.{Appends-trans, Appends-kept, Appends-nil}
@@ -186,11 +186,6 @@ module _ (q : Question) (after : Option Data) (total : ℕ) (e : Option Envelope
         partial_output_of_lines law q after total e old mid new unfailed failed s.items items (length s.items + k) lines_then end fault sample s.counted
         (page_onto q after k s.items items end (subst (IsPage q after (length s.items) s.items) not_yet s.page) page) (omega (arith, s.counted, le)) s.written stopped
   ]
-
--- what is a sample is not none
-pub sample_or_none : (q : Question) (after : Option Data) → IfSome after (IsSampleOf q) → IsSomeAnd after (λ a. IsSampleOf q a → ⊥) → ⊥
-sample_or_none q None sample none = none
-sample_or_none q (Some a) sample none = none sample
 
 -- a tree that is lent, as the place to go on from
 pub resumed : (r : Option (Bor Tree)) → resume_point r ≡ option_map data_of (option_copied r)

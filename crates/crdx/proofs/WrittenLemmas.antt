@@ -1,9 +1,9 @@
 -- Lines in blocks, and what is out of them where a sink stops.
-use Rattle.std.proofs.Common.{◌≡◌, ℕ, zero, suc, ◌+◌, ◌-◌, ◌^◌, ◌<◌, ◌≤◌, min, Bool, true, false, List, [], ◌∷◌, ◌++◌, length, take, drop, get_or, Option, Some, None, refl, sym, ap, ◌∙◌, subst, inl, inr, arith, length-append, drop-cons, length-take, length-drop, add-one, Ok, append_assoc, append-nil}
-use Rattle.std.specs.Prelude.{slice_get, is_some, IfSome}
+use Rattle.std.proofs.Common.{◌≡◌, ℕ, zero, suc, ◌+◌, ◌-◌, ◌^◌, ◌<◌, ◌≤◌, min, Bool, List, [], ◌∷◌, ◌++◌, length, take, drop, get_or, Option, Some, None, refl, sym, ap, ◌∙◌, subst, inl, inr, arith, length-append, drop-cons, length-take, length-drop, add-one, Ok, append_assoc, append-nil}
+use Rattle.std.specs.Prelude.{slice_get, IfSome}
 use Rattle.std.specs.Io.KnownBytes.{Appends}
 use Rattle.std.proofs.KnownBytes.{Appends-trans}
-use Rattle.std.proofs.Math.Seq.{take-append-add, take-append_seam, take-add}
+use Rattle.std.proofs.Math.Seq.{take-append-add, take-add}
 use Rattle.std.proofs.lemmas.Bool.{cases_lt}
 use Rattle.std.proofs.lemmas.Bool.Decides.{nat_tests}
 use Rattle.std.proofs.lemmas.Grind.{flat_map-append}
@@ -13,9 +13,7 @@ use Rattle.jtree.specs.Data.{Data}
 use Rattle.crdx.specs.Output.Line.{newline, line, lines}
 use Rattle.jtree.specs.Text.{compact}
 use Rattle.jtree.specs.Last.{last_depth, with_last}
-use Rattle.jtree.specs.PartText.{front_text, part_text}
-use Rattle.std.specs.Borrow.{Bor}
-use Rattle.std.specs.Option.{option_copied}
+use Rattle.jtree.specs.PartText.{front_text}
 use Rattle.crdx.specs.Output.Sink.{failures_after}
 use Rattle.crdx.specs.Output.PartialOutput.{IsCutWithinLine}
 use Rattle.crdx.specs.Internal.Block.{HasEnds, Holds, IsFrontOf, IsLineOf, TakesLines, IsCountOfEnds}
@@ -109,15 +107,6 @@ module _ (e : Option Envelope) where
         last = λ yes before u same. let is = (same_from_push items before v u same).1 in (mine ∙ ap (line e) is, subst (λ d. IsFrontOf d f) is is_line.1);
       }
 
-  -- nothing more, where the last line is not known
-  pub takes_same : (e_then e_now : Option Envelope) (items : List Data) (bytes ends mid_bytes mid_ends new_bytes new_ends : List ℕ) (known_then known : Bool) (line_then l : List ℕ) (front_then f : Option Front) → e_now ≡ e_then → new_bytes ≡ mid_bytes → new_ends ≡ mid_ends → known ≡ false
-      → TakesLines e e_then items bytes ends mid_bytes mid_ends known_then line_then front_then → TakesLines e e_now items bytes ends new_bytes new_ends known l f
-  takes_same e_then e_now items bytes ends mid_bytes mid_ends new_bytes new_ends known_then known line_then l front_then f stays same_bytes same_ends unknown t = record {
-    same = stays ∙ t.same;
-    holds = λ before h. subst (λ m. Holds e (before ++ items) m new_ends) (sym same_bytes) (subst (Holds e (before ++ items) mid_bytes) (sym same_ends) (t.holds before h));
-    last = λ yes. absurd (let no : true ≡ false = sym yes ∙ unknown in cc);
-  }
-
   -- lines in front of some more, of which the first ones are taken
   pub lines_front : (front items rest : List Data) (n : ℕ) → n ≤ length items → lines e (take (length front + n) (front ++ (items ++ rest))) ≡ lines e front ++ lines e (take n items)
   lines_front front items rest n le =
@@ -157,10 +146,6 @@ module _ (bytes : List ℕ) (at n : ℕ) where
 
 -- ---- a line that is overwritten
 
-pub none_copied : {X : Type 0} (o : Option (Bor X)) → is_some o ≡ false → option_copied o ≡ None
-none_copied None none = refl
-none_copied (Some x) none = cc
-
 regroup : (front node rest end : List ℕ) → (front ++ (node ++ rest)) ++ end ≡ front ++ (node ++ (rest ++ end))
 regroup front node rest end = simp append_assoc
 
@@ -179,22 +164,6 @@ after_node old front node rest deep depth after is small size known next =
     omega (arith, ap (λ l. length l) is, length-append front (node ++ (rest ++ newline ∷ [])), length-append node (rest ++ newline ∷ []), length-append rest (newline ∷ []), small, size, known, next)
 
 -- ---- a line that is written anew from a part on
-
--- without an envelope: the bytes before the part stay, where it begins after as many of them in the old sample as in the new one
-pub rewritten : (n bytes : ℕ) (v w : Data) (old new : List ℕ) → old ≡ line None w → bytes ≡ length (front_text n w) → front_text n w ≡ front_text n v → compact w ≡ front_text n w ++ part_text n w → compact v ≡ front_text n v ++ part_text n v
-    → new ≡ (take bytes old ++ part_text n v) ++ newline ∷ [] → (new ≡ line None v) × (bytes ≡ length (front_text n v))
-rewritten n bytes v w old new is begins same old_text text written =
-    let kept : take bytes old ≡ front_text n v =
-    ap (λ l. take bytes l) (is ∙ (ap (λ l. l ++ newline ∷ []) old_text ∙ append_assoc (front_text n w) (part_text n w) (newline ∷ [])))
-    ∙ (ap (λ m. take m (front_text n w ++ (part_text n w ++ newline ∷ []))) begins ∙ (take-append_seam (front_text n w) (part_text n w ++ newline ∷ []) ∙ same)) in
-    (written ∙ ap (λ l. l ++ newline ∷ []) (ap (λ l. l ++ part_text n v) kept ∙ sym text), begins ∙ ap (λ l. length l) same)
-
--- how many bytes are before the part, by those of the line and of the text from the part on
-pub begins_after : (n bytes : ℕ) (v : Data) (l part : List ℕ) → l ≡ line None v → compact v ≡ front_text n v ++ part_text n v → part ≡ part_text n v → bytes + 1 + length part ≡ length l → bytes ≡ length (front_text n v)
-begins_after n bytes v l part is text parted sum =
-    let size : length l ≡ length (front_text n v) + length part + 1 =
-    ap (λ l. length l) is ∙ (length-append (compact v) (newline ∷ []) ∙ ap (λ m. m + 1) (ap (λ l. length l) text ∙ (length-append (front_text n v) (part_text n v) ∙ ap (λ p. length (front_text n v) + length p) (sym parted)))) in
-    omega (arith, size, sum)
 
 -- where the part begins, with another last node that is at least as deep
 pub kept : (then now : Option Front) (depth : ℕ) (v w : Data) → IfSome now (λ f. (then ≡ Some f) × (f.depth ≤ depth)) → depth ≤ last_depth v → ((n : ℕ) (d u : Data) → n ≤ last_depth d → front_text n (with_last d u) ≡ front_text n d)

@@ -6,6 +6,5 @@ mod request;
 
 pub use parsing::{MOST_COUNT, MOST_LIMIT, parse_arguments};
 pub use request::{
-    CheckArguments, ExplainArguments, ObjectArguments, ObjectCommand, PoolsArguments, Request,
-    SampleArguments,
+    CommonArguments, ExplainArguments, ObjectArguments, ObjectCommand, Request, SampleArguments,
 };

@@ -10,7 +10,7 @@ ghost use Rattle.crdx.specs.Program.InputFault.{IsInputFault, IsFaultOf, input_f
 ghost use Rattle.jtree.specs.declared.fault.JFault.{JFault};
 ghost use Rattle.crdx.specs.declared.inputs.InFault.TheVariants.{Failed, Document};
 
-use jtree::source::Feed;
+use jtree::source::{Feed, read_bytes};
 use jtree::{JFault, Tree};
 use std::alloc::Global;
 use std::fs;
@@ -56,6 +56,12 @@ pub trait Inputs {
         ensures refused { IfErr result (IsInputFault (has self.old) (file_name name.entry)) }
         ensures stays { AreAmong (has self.new) (has self.old) }
         ensures counts { failures self.new ≡ failures_after_read (failures self.old) result };
+
+    /// The bytes of the document that was refused last, as far as they were read.
+    fn refused(&self) -> &[u8];
+
+    /// How many bytes the file of this name has, where that is known; of the standard input it is not.
+    fn size(&self, name: Option<&str>) -> Option<u64>;
 }
 
 /// The files and the standard input of a runtime.
@@ -63,26 +69,32 @@ pub trait Inputs {
 pub struct HostInputs<'a, R> {
     rt: &'a R,
     failures: u64,
+    refused: Option<Vec<u8>>,
 }
 
 impl<'a, R> HostInputs<'a, R> {
     /// The files and the standard input of this runtime.
     pub fn new(rt: &'a R) -> HostInputs<'a, R> {
-        HostInputs { rt, failures: 0 }
+        HostInputs {
+            rt,
+            failures: 0,
+            refused: None,
+        }
     }
 }
 
 impl<R: Files + Input + AllocGlobal> HostInputs<'_, R> {
-    fn read(&self, name: Option<&str>) -> Result<Tree, InFault>
-        ensures { IfErr result (λ e. e ≢ Document ReadFailed) }
+    fn read(&mut self, name: Option<&str>) -> Result<Tree, InFault>
+        ensures failures { self.new.failures ≡ self.old.failures }
+        ensures no_read { IfErr result (λ e. e ≢ Document ReadFailed) }
     {
         let alloc = self.rt.alloc();
         match name {
             Some(name) => match fs::open(self.rt, name) {
-                Ok(file) => read_document(alloc, file),
+                Ok(file) => read_document(alloc, file, &mut self.refused),
                 Err(error) => Err(fault_of(error.kind())),
             },
-            None => read_document(alloc, self.rt.reader()),
+            None => read_document(alloc, self.rt.reader(), &mut self.refused),
         }
     }
 }
@@ -103,15 +115,38 @@ impl<R: Files + Input + AllocGlobal> Inputs for HostInputs<'_, R> {
             Err(fault) => Err(fault),
         }
     }
+
+    fn refused(&self) -> &[u8] {
+        match &self.refused {
+            Some(bytes) => bytes.as_slice(),
+            None => &[],
+        }
+    }
+
+    fn size(&self, name: Option<&str>) -> Option<u64> {
+        let metadata = fs::metadata(self.rt, name?).ok()?;
+        Some(metadata.len())
+    }
 }
 
-/// The document that is all that the reader has left.
-fn read_document<R: Read + Drop>(alloc: Global, reader: R) -> Result<Tree, InFault>
+/// The document that is all that the reader has left; where the bytes are none, they are kept.
+fn read_document<R: Read + Drop>(
+    alloc: Global,
+    reader: R,
+    refused: &mut Option<Vec<u8>>,
+) -> Result<Tree, InFault>
     ensures ok { IfOk result (λ t. IfSome (R.remaining reader) (λ bytes. Reads bytes (data_of t))) }
     ensures err { IfErr result (λ e. IfSome (R.remaining reader) (λ bytes. IsFaultOf bytes e)) }
     ensures no_read { IfErr result (λ e. e ≢ Document ReadFailed) }
 {
-    Ok(Tree::from_reader(alloc, &mut Feed::new(reader))?)
+    let bytes = read_bytes(alloc, &mut Feed::new(reader))?;
+    match Tree::from_bytes(alloc, bytes.as_slice()) {
+        Ok(tree) => Ok(tree),
+        Err(fault) => {
+            *refused = Some(bytes);
+            Err(fault.into())
+        }
+    }
 }
 
 /// Running out of memory while a file is opened is another fault than failing to open it.

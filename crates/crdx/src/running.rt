@@ -10,6 +10,7 @@ mod causes;
 mod checking;
 mod documents;
 mod explaining;
+mod explanation;
 mod lines;
 mod objects;
 mod reporting;
@@ -22,8 +23,9 @@ use crate::running::answer::Answer;
 use crate::running::causes::Cause;
 use crate::running::checking::check;
 use crate::running::explaining::explain;
+use crate::running::explanation::Explanation;
 use crate::running::objects::judge_object;
-use crate::running::reporting::{finish, finish_samples, report, write_answer};
+use crate::running::reporting::{finish, finish_samples, report_alone, write_answer};
 use crate::running::sampling::sample;
 use crate::running::suggesting::suggest_pools;
 use crate::sink::{Sink, put_all};
@@ -50,28 +52,36 @@ pub fn run<I: Inputs, W: Sink, E: Sink>(
     }) request result }
 {
     match parse_arguments(alloc, arguments) {
-        Request::Check(arguments) => finish(alloc, &check(alloc, &arguments, inputs), out, err),
-        Request::Explain(arguments) => finish(alloc, &explain(alloc, &arguments, inputs), out, err),
-        Request::Object(arguments) => finish(
-            alloc,
-            &judge_object(alloc, &arguments, inputs),
-            out,
-            err,
-        ),
-        Request::SuggestPools(arguments) => finish(
-            alloc,
-            &suggest_pools(alloc, &arguments, inputs),
-            out,
-            err,
-        ),
+        Request::Check(arguments) => {
+            let mut explanation = Explanation::new(arguments.why);
+            let answer = check(alloc, &arguments, inputs, &mut explanation);
+            finish(alloc, &answer, &explanation, out, err)
+        }
+        Request::Explain(arguments) => {
+            let mut explanation = Explanation::new(arguments.common.why);
+            let answer = explain(alloc, &arguments, inputs, &mut explanation);
+            finish(alloc, &answer, &explanation, out, err)
+        }
+        Request::Object(arguments) => {
+            let mut explanation = Explanation::new(arguments.common.why);
+            let answer = judge_object(alloc, &arguments, inputs, &mut explanation);
+            finish(alloc, &answer, &explanation, out, err)
+        }
+        Request::SuggestPools(arguments) => {
+            let mut explanation = Explanation::new(arguments.why);
+            let answer = suggest_pools(alloc, &arguments, inputs, &mut explanation);
+            finish(alloc, &answer, &explanation, out, err)
+        }
         Request::Sample(arguments) => {
-            finish_samples(alloc, &sample(alloc, &arguments, inputs, out), err)
+            let mut explanation = Explanation::new(arguments.common.why);
+            let walked = sample(alloc, &arguments, inputs, &mut explanation, out);
+            finish_samples(alloc, &walked, &explanation, err)
         }
         Request::Help(text) => write_answer(alloc, &Answer { status: 0, text }, out, err),
         Request::UsageError(text) => {
             let _ = put_all(err, text.as_bytes());
             2
         }
-        Request::NoMemory => report(alloc, &Cause::NoMemory, err),
+        Request::NoMemory => report_alone(alloc, &Cause::NoMemory, err),
     }
 }

@@ -30,6 +30,7 @@
 //! | `program/path_cases`, `bad_path_cases` | `sample` with values listed for the paths of fields, and paths that are refused |
 //! | `program/presence_cases` | junctors that ask which fields an object has: judged, validated and listed |
 //! | `program/explain_cases`, `leaf_cases` | what `explain` and `leaves` print, and what they refuse |
+//! | `program/explanation_cases`, `large_cases` | what `--why` says below a refusal, and what `--large` lets through |
 //! | `program/refusal_cases` | inputs that are refused, and which is judged first |
 //! | `program/input_cases` | documents in files, reads that fail after each byte, and which inputs a run reads |
 //! | `program/broken_sink_cases` | sinks that fail after each byte |

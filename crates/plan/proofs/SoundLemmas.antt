@@ -52,7 +52,7 @@ mutual
 pub schema_sound : SchemaLaws → (root : Node) → IsSchema root → IsNode root × IsSound root
 schema_sound laws root h =
     let is = h.1 in
-    let of : shape.IsRootOf root h.0 = record { sound = is.sound; unbroken = λ p r b. is.unbroken p r (inl b); nodes = is.nodes } in
+    let of : shape.IsRootOf root h.0 = record { forms = is.forms; unbroken = λ p r b. is.unbroken p r (inl b); nodes = is.nodes } in
     (is.nodes.ordered, sound_from root is.nodes.ordered (λ p M found. (laws.0 h.0 root of p M found, laws.1 h.0 root of p M found)))
 
 -- ---- each site

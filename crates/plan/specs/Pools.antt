@@ -2,4 +2,5 @@
 pub mod Pools
 pub mod Document
 pub mod PoolsFault
+pub mod Oversized
 pub mod PlanFault

@@ -91,7 +91,8 @@ fn stored_places(alloc: Global, node: &Node, trees: &[Tree]) -> Result<Vec<usize
             places.push(place)?;
         }
     }
-    Ok(places)
+    // without the room to grow that is left
+    Vec::from_slice(alloc, &places)
 }
 
 impl Base {

@@ -5,6 +5,7 @@ ghost use Rattle.jtree.specs.Pointer.{pointer as pointer_of};
 ghost use Rattle.jtree.specs.View.{data_of};
 ghost use Rattle.plan.specs.Pools.Document.{HasForm, pool_form, entries as entries_of, lists};
 ghost use Rattle.plan.specs.Pools.PoolsFault.{IsPoolsFault};
+ghost use Rattle.plan.specs.declared.pool_limits.PoolLimits.{PoolLimits};
 ghost use Rattle.plan.specs.Internal.PoolBreak.{test_of, form_of, other_item, below_name, list_break, pool_break, member_break as member_break_of, members_break as members_break_of, first_break as first_break_of};
 
 use crate::fault::PFault;
@@ -13,7 +14,7 @@ use std::alloc::{AllocError, Global};
 
 /// The form of an entry of a list.
 #[derive(Clone, Copy)]
-enum EntryKind {
+pub(crate) enum EntryKind {
     Integer,
     Text,
     Any,
@@ -46,7 +47,7 @@ impl PoolForm {
 }
 
 impl EntryKind {
-    fn admits(self, entry: &Tree) -> bool
+    pub(crate) fn admits(self, entry: &Tree) -> bool
         ensures { result ≡ test_of self (data_of entry.now) }
     {
         match self {
@@ -60,7 +61,7 @@ impl EntryKind {
 /// Answers `Form` with the pointer of the first place in path order that breaks the form.
 pub(crate) fn check_form(alloc: Global, document: &Tree) -> Result<(), PFault>
     ensures ok { OnOk result (HasForm (data_of document.now)) }
-    ensures err { IfErr result (IsPoolsFault (data_of document.now)) }
+    ensures err { (limits : PoolLimits) → IfErr result (IsPoolsFault limits (data_of document.now)) }
 {
     // for its contract alone: a proof learns that it is a tree
     document.reveal_invariant();

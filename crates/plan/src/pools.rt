@@ -1,17 +1,10 @@
 use crate::fault::PFault;
 use crate::pool_form::check_form;
+use crate::pool_limits::PoolLimits;
+use crate::pool_sizes::oversized_pool;
 use jtree::{Members, Text, Tree};
 use std::alloc::{AllocError, Global};
 use std::marker::Model;
-
-/// The most entries that the pools of integers, of strings and of trees, and each list of a path, may have.
-pub const MOST_ENTRIES: usize = 64;
-
-/// The most names that a pool may have.
-pub const MOST_NAMES: usize = 32;
-
-/// The most paths that pools may have lists for.
-pub const MOST_PATHS: usize = 64;
 
 /// The values that samples may hold.
 pub struct Pools {
@@ -54,11 +47,11 @@ impl Model for Pools {
 }
 
 impl Pools {
-    ghost use Rattle.std.specs.Prelude.{◌≡◌, ◌↔◌, ◌≤◌, All, length, map, option_map, FitsSigned, IfOk, IfErr, OnOk, IsTrue, []};
+    ghost use Rattle.std.specs.Prelude.{◌≡◌, All, map, option_map, FitsSigned, IfOk, IfErr, OnOk, []};
     ghost use Rattle.std.specs.Int.{w64};
     ghost use Rattle.jtree.specs.Data.{IsTree, no_members};
     ghost use Rattle.jtree.specs.View.{data_of};
-    ghost use Rattle.plan.specs.Pools.Pools.{AreSmall, most_entries, most_names, list_at as list_of};
+    ghost use Rattle.plan.specs.Pools.Pools.{standard, AreSmall, list_at as list_of};
     ghost use Rattle.plan.specs.Pools.Document.{HasForm, pools_of};
     ghost use Rattle.plan.specs.Pools.PoolsFault.{IsPoolsFault};
 
@@ -70,28 +63,37 @@ impl Pools {
     /// `Form` with the pointer (RFC 6901) of the first place in path order that has another form, also where a pool has
     /// too many entries: the document itself where it is not an object, a member of another name, `paths` where it is not
     /// an object, a member of `paths` that is not a list, any other member that is not a list, an entry of another kind. `TooLarge`
-    /// where the form is right and there are more than 64 integers, strings or trees, more than 32 names, more than 64
-    /// paths, or more than 64 trees in the list of a path, each repeat counted. `NoMemory` where an allocation fails. Never
-    /// `BadLimit` or `BadPath`, which are faults of a plan.
+    /// where the form is right and a pool has more entries than `PoolLimits::STANDARD` allows: more than 64 integers, strings or
+    /// trees, more than 32 names, more than 64 paths, or more than 64 trees in the list of a path, each repeat counted. `NoMemory`
+    /// where an allocation fails. Never `BadLimit` or `BadPath`, which are faults of a plan.
     pub fn read(alloc: Global, document: &Tree) -> Result<Pools, PFault>
         ensures ok { IfOk result (λ p. p ≡ pools_of (data_of document.now)) }
         ensures form { OnOk result (HasForm (data_of document.now)) }
-        ensures small { IfOk result AreSmall }
-        ensures err { IfErr result (IsPoolsFault (data_of document.now)) }
+        ensures small { IfOk result (AreSmall standard) }
+        ensures err { IfErr result (IsPoolsFault standard (data_of document.now)) }
+    {
+        Pools::read_within(alloc, document, PoolLimits::STANDARD)
+    }
+
+    /// As [`Pools::read`], with these limits: `TooLarge` where the form is right and a pool has more entries than they allow.
+    /// [`oversized_pool`] says which.
+    pub fn read_within(alloc: Global, document: &Tree, limits: PoolLimits) -> Result<Pools, PFault>
+        ensures ok { IfOk result (λ p. p ≡ pools_of (data_of document.now)) }
+        ensures form { OnOk result (HasForm (data_of document.now)) }
+        ensures small { IfOk result (AreSmall limits) }
+        ensures err { IfErr result (IsPoolsFault limits (data_of document.now)) }
     {
         check_form(alloc, document)?;
-        let pools = Pools {
+        if oversized_pool(document, limits).is_some() {
+            return Err(PFault::TooLarge);
+        }
+        Ok(Pools {
             integers: integers_of(alloc, entries(document, "integers"))?,
             strings: texts_of(alloc, entries(document, "strings"))?,
             names: texts_of(alloc, entries(document, "names"))?,
             any: trees_of(alloc, entries(document, "any"))?,
             paths: paths_of(alloc, document)?,
-        };
-        if pools.is_small() {
-            Ok(pools)
-        } else {
-            Err(PFault::TooLarge)
-        }
+        })
     }
 
     /// Empty pools.
@@ -153,36 +155,17 @@ impl Pools {
             _ => None,
         }
     }
-
-    fn is_small(&self) -> bool
-        ensures { IsTrue result ↔ AreSmall self.now }
-    {
-        self.has_few_entries() && are_few_and_short(&self.paths)
-    }
-
-    /// Whether no pool for all paths has too many entries.
-    fn has_few_entries(&self) -> bool
-        ensures { IsTrue result ↔ (((length self.now.integers ≤ most_entries) × (length self.now.strings ≤ most_entries)) × ((length self.now.names ≤ most_names) × (length self.now.any ≤ most_entries))) }
-    {
-        self.integers.len() <= MOST_ENTRIES
-            && self.strings.len() <= MOST_ENTRIES
-            && self.names.len() <= MOST_NAMES
-            && self.any.len() <= MOST_ENTRIES
-    }
 }
 
 ghost use Rattle.std.specs.Int.{w64};
-ghost use Rattle.std.specs.Prelude.{◌≡◌, ◌↔◌, ◌≤◌, All, FitsSigned, IfOk, IsTrue, Some, codes, map, filter_map};
+ghost use Rattle.std.specs.Prelude.{◌≡◌, All, FitsSigned, IfOk, Some, codes, map, filter_map};
 ghost use Rattle.jtree.specs.Data.{IsTree, no_members as no_members_of};
 ghost use Rattle.jtree.specs.Path.{under};
 ghost use Rattle.jtree.specs.View.{data_of};
 ghost use Rattle.plan.specs.Pools.Document.{entries_of, integer_of, text_of, members_of};
-ghost use Rattle.plan.specs.Pools.Pools.{most_paths};
-ghost use Rattle.plan.specs.Internal.PathLists.{AreShort, is_short as is_short_list, are_short as are_short_lists};
-ghost use Rattle.stored.specs.Objects.Fault.{members_count};
 
 /// The entries of a pool, none where it is missing.
-fn entries<'a>(document: &'a Tree, name: &str) -> &'a [Tree]
+pub(crate) fn entries<'a>(document: &'a Tree, name: &str) -> &'a [Tree]
     ensures entries { map data_of result.now ≡ entries_of (under (data_of document.now) name.now) }
     ensures trees { All IsTree (map data_of result.now) }
 {
@@ -252,34 +235,5 @@ fn no_members(alloc: Global) -> Members
 {
     Members {
         members: Vec::new(alloc),
-    }
-}
-
-/// Whether there are not too many paths, and no list of a path has too many trees.
-fn are_few_and_short(paths: &Members) -> bool
-    ensures { IsTrue result ↔ ((members_count paths.now ≤ most_paths) × AreShort paths.now) }
-{
-    // for its contract alone: a proof learns that the paths are in order, each once
-    paths.reveal_invariant();
-    paths.members.len() <= MOST_PATHS && are_short(paths)
-}
-
-fn are_short(paths: &Members) -> bool
-    ensures { result ≡ are_short_lists paths.now }
-{
-    for member in &paths.members {
-        if !is_short(&member.tree) {
-            return false;
-        }
-    }
-    true
-}
-
-fn is_short(tree: &Tree) -> bool
-    ensures { result ≡ is_short_list (data_of tree.now) }
-{
-    match tree {
-        Tree::List(items) => items.items.len() <= MOST_ENTRIES,
-        _ => true,
     }
 }

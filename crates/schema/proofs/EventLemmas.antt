@@ -1,6 +1,6 @@
 -- `schema_events` are the events of a schema, in path order.
-use Rattle.std.proofs.Common.{◌≡◌, ◌⊎◌, ◌<◌, ◌+◌, ℕ, suc, List, [], ◌∷◌, ◌++◌, Bool, true, false, Some, refl, sym, ap, ◌∙◌, subst, inl, inr, append_assoc, arith}
-use Rattle.std.specs.Prelude.{if◌then◌else◌, codes}
+use Rattle.std.proofs.Common.{◌≡◌, ◌⊎◌, ◌<◌, ◌+◌, ℕ, suc, List, [], ◌∷◌, ◌++◌, Bool, true, false, Option, Some, None, refl, sym, ap, ◌∙◌, subst, inl, inr, append_assoc, arith}
+use Rattle.std.specs.Prelude.{codes}
 use Rattle.std.specs.Cmp.{nat_cmp_is}
 use Rattle.std.specs.Ordering.{nat_cmp}
 use Rattle.std.specs.declared.cmp.Ordering.TheVariants.{Less}
@@ -12,8 +12,9 @@ use Rattle.jtree.specs.PathOrder.{path_cmp}
 use Rattle.jtree.specs.Internal.PathLaws.{same_step}
 use Rattle.jtree.specs.Internal.Lookups.{before_each}
 use Rattle.schema.specs.Document.Places.{Step, property, Place, step_path, place_path}
-use Rattle.schema.specs.Document.Limits.{size, most_of}
-use Rattle.schema.specs.Internal.Events.{Event, entered, too_long, event_path, Junctor, all, any, one, branch, Part, a_schema, properties, branches, no_schema, part_of, is_past, keyword_event, part_events, member_events, item_events, schema_events, IsIn, Ascend, AreEventsOf}
+use Rattle.schema.specs.Document.Limits.{size, limited_by}
+use Rattle.schema.specs.declared.limits.Limited.{Limited}
+use Rattle.schema.specs.Internal.Events.{Event, entered, counted, event_path, Junctor, all, any, one, branch, Part, a_schema, properties, branches, no_schema, part_of, count_event, keyword_event, part_events, member_events, item_events, schema_events, IsIn, Ascend, AreEventsOf}
 use Rattle.schema.proofs.EventParts.{in_append, PartIs, is_properties, is_none, part_is, Leads, to_property, lead_path, schema_down, names_down, items_down, PartEvent, part_down, KeyEvent, members_down}
 use Rattle.schema.proofs.EventPlaces.{keyword_down, member_tree, item_tree, part_tree, EventOf, event_of, entered_schema, schema_entered, recorded_keyword, keyword_recorded}
 
@@ -51,7 +52,7 @@ place_goes p r q is = ap place_path is ∙ place_path_join p r
 
 goes_of : (raw : Data) (p : Place) (m : Event) → EventOf raw p m → Goes (place_path p) m
 goes_of raw p (entered q s) h = (place_path h.0, place_goes p h.0 q h.1)
-goes_of raw p (too_long q k) h =
+goes_of raw p (counted q k l n) h =
     (place_path h.0 ++ (name k ∷ []), ap (λ x. x ++ (name k ∷ [])) (place_goes p h.0 q h.1) ∙ append_assoc (place_path p) (place_path h.0) (name k ∷ []))
 
 schema_goes : (p : Place) (s : Step) (ns : Members) (m : Event) → AreMembers ns → IsIn m (schema_events (p ++ (s ∷ [])) ns) → (q : Path) × (event_path m ≡ place_path p ++ (step_path s ++ q))
@@ -72,7 +73,7 @@ key_parts p k part d m is o h =
 
 key_path : (p : Place) (k : List ℕ) (d : Data) (m : Event) → IsTree d → IsIn m (keyword_event p k d) ⊎ IsIn m (part_events p (part_of k) d) → (q : Path) × (event_path m ≡ place_path p ++ (name k ∷ q))
 key_path p k d m o h = elim h [
-  | inl keyword ↦ ([], ap event_path (keyword_down p k d m keyword).0)
+  | inl keyword ↦ ([], ap event_path (keyword_down p k d m keyword).2)
   | inr part ↦ let found = key_parts p k (part_of k) d m (part_is k) o part in (found.1 ++ found.2, found.4)
 ]
 
@@ -89,7 +90,7 @@ properties_rest s t (to_property l) = (l, refl)
 nothing_leads : (s : Step) (t : Path) → Leads no_schema s t → ⊥
 nothing_leads s t h = elim h [ ]
 
--- a keyword that is too long comes before what is in it
+-- a keyword comes before what is in it
 keyword_first : (p : Place) (k : List ℕ) (part : Part) (d : Data) (m n : Event) → PartIs k part → IsTree d → IsIn m (keyword_event p k d) → IsIn n (part_events p part d)
     → path_cmp (event_path m) (event_path n) ≡ Less
 keyword_first p k part d m n is_properties o h i =
@@ -98,7 +99,7 @@ keyword_first p k part d m n is_properties o h i =
     let rest = properties_rest found.0 found.1 found.3 in
     let path : event_path n ≡ place_path p ++ (name keyword ∷ (name rest.0 ∷ found.2)) = found.4 ∙ ap (λ x. place_path p ++ (name keyword ∷ (x ++ found.2))) rest.1 in
     after_both (place_path p) (name keyword ∷ []) (name keyword ∷ (name rest.0 ∷ found.2)) (event_path m) (event_path n)
-    (ap event_path (keyword_down p keyword d m h).0) path (same_step (name keyword) [] (name rest.0 ∷ found.2))
+    (ap event_path (keyword_down p keyword d m h).2) path (same_step (name keyword) [] (name rest.0 ∷ found.2))
 keyword_first p k part d m n (is_none l) o h i = let found = key_parts p k no_schema d n (is_none k) o i in absurd (nothing_leads found.0 found.1 found.3)
 keyword_first p k part d m n _ o h i = elim h [ ]
 
@@ -159,13 +160,13 @@ ascend_append (m ∷ xs) ys a b first = (
   ascend_append xs ys a.1 b (λ x y h i. first x y (inr h) i),
 )
 
-keyword_ascend : (p : Place) (k : List ℕ) (b : Bool) → Ascend (if b then too_long p k ∷ [] else [])
-keyword_ascend p k true = (λ n h. elim h [ ], tt)
-keyword_ascend p k false = tt
+keyword_ascend : (p : Place) (k : List ℕ) (o : Option Limited) (n : ℕ) → Ascend (count_event p k o n)
+keyword_ascend p k None n = tt
+keyword_ascend p k (Some l) n = (λ m h. elim h [ ], tt)
 
 keys_ascend : (p : Place) (k : List ℕ) (d : Data) (ms : Members) → AreMembers (member k d ms) → Ascend (part_events p (part_of k) d) → Ascend (member_events p true ms) → Ascend (member_events p true (member k d ms))
 keys_ascend p k d ms o here later =
-    ascend_append (keyword_event p k d) (part_events p (part_of k) d ++ member_events p true ms) (keyword_ascend p k (is_past (most_of k) (size d)))
+    ascend_append (keyword_event p k d) (part_events p (part_of k) d ++ member_events p true ms) (keyword_ascend p k (limited_by k) (size d))
     (ascend_append (part_events p (part_of k) d) (member_events p true ms) here later (λ m n h i. key_first p k d ms m n o (inr h) i))
     (λ m n h i. elim (in_append n (part_events p (part_of k) d) (member_events p true ms) i) [
       | inl part ↦ keyword_first p k (part_of k) d m n (part_is k) o.0 h part
@@ -197,5 +198,5 @@ pub schema_events_are : (ms : Members) → AreMembers ms → AreEventsOf (object
 schema_events_are ms o = record {
   ascending = (λ n h. schema_first [] ms n o h, member_ascend [] true ms o);
   subschemas = λ p s. (schema_entered ms p s, entered_schema ms o p s);
-  keywords = λ p k. (keyword_recorded ms p k, recorded_keyword ms o p k);
+  keywords = λ p k l n. (keyword_recorded ms p k l n, recorded_keyword ms o p k l n);
 }

@@ -1,7 +1,6 @@
--- The events of a schema are its places and its keywords that are too long.
-use Rattle.std.proofs.Common.{◌≡◌, ◌⊎◌, ◌<◌, ℕ, zero, suc, List, [], ◌∷◌, ◌++◌, true, Option, Some, None, refl, sym, ap, ◌∙◌, subst, inl, inr, append_assoc}
+-- The events of a schema are its places, and its keywords whose members or entries are limited.
+use Rattle.std.proofs.Common.{◌≡◌, ◌⊎◌, ℕ, zero, suc, List, [], ◌∷◌, ◌++◌, true, Option, Some, None, refl, sym, ap, ◌∙◌, subst, inl, inr, append_assoc}
 use Rattle.std.specs.Str.{bytes_eq}
-use Rattle.std.proofs.lemmas.Bool.{lt-ltb, ltb-true}
 use Rattle.std.proofs.lemmas.List.{append-nil}
 use Rattle.std.proofs.lemmas.Option.{same_Some, option_and_then_some}
 use Rattle.jtree.specs.Data.{Data, list, object, Items, no_items, item, Members, no_members, member, IsTree, AreTrees, AreMembers}
@@ -9,30 +8,23 @@ use Rattle.jtree.specs.Path.{Path, name, index, member_at, item_at, part_by, par
 use Rattle.jtree.specs.Path as tree
 use Rattle.jtree.specs.Internal.Lookups.{bool_cases, member_later}
 use Rattle.schema.specs.Document.Places.{Step, Place, schema_by, schema_at}
-use Rattle.schema.specs.Document.Limits.{size, most_of, IsTooLong}
-use Rattle.schema.specs.Internal.Events.{Event, entered, too_long, is_past, part_of, keyword_event, member_events, schema_events, IsIn}
+use Rattle.schema.specs.Document.Limits.{size, limited_by}
+use Rattle.schema.specs.declared.limits.Limited.{Limited}
+use Rattle.schema.specs.Internal.Events.{Event, entered, counted, part_of, count_event, keyword_event, member_events, schema_events, IsIn, IsCounted}
 use Rattle.schema.proofs.EventParts.{part_first, part_down, KeyEvent, members_down, members_up, step_from_part, part_from_step, step_up}
 
--- ---- the limits of keywords
+-- ---- the counts of keywords
 
-past_down : (o : Option ℕ) (n : ℕ) → is_past o n ≡ true → (most : ℕ) × (o ≡ Some most) × (most < n)
-past_down None n past = cc
-past_down (Some most) n past = (most, refl, ltb-true most n past)
+count_down : (p : Place) (k : List ℕ) (o : Option Limited) (n : ℕ) (m : Event) → IsIn m (count_event p k o n) → (l : Limited) × (o ≡ Some l) × (m ≡ counted p k l n)
+count_down p k None n m h = elim h [ ]
+count_down p k (Some l) n m (inl e) = (l, refl, e)
+count_down p k (Some l) n m (inr none) = elim none [ ]
 
-pub keyword_down : (p : Place) (k : List ℕ) (d : Data) (m : Event) → IsIn m (keyword_event p k d) → (m ≡ too_long p k) × ((most : ℕ) × (most_of k ≡ Some most) × (most < size d))
-keyword_down p k d m h = elim (bool_cases (is_past (most_of k) (size d))) [
-  | inl t ↦ let h' : (m ≡ too_long p k) ⊎ ⊥ = rw t at h in elim h' [
-    | inl e ↦ (e, past_down (most_of k) (size d) t)
-    | inr none ↦ elim none [ ]
-  ]
-  | inr f ↦ let h' : ⊥ = rw f at h in elim h' [ ]
-]
+pub keyword_down : (p : Place) (k : List ℕ) (d : Data) (m : Event) → IsIn m (keyword_event p k d) → (l : Limited) × (limited_by k ≡ Some l) × (m ≡ counted p k l (size d))
+keyword_down p k d m h = count_down p k (limited_by k) (size d) m h
 
-pub keyword_up : (p : Place) (k : List ℕ) (d : Data) (most : ℕ) → most_of k ≡ Some most → most < size d → IsIn (too_long p k) (keyword_event p k d)
-keyword_up p k d most limit past =
-    let tested = lt-ltb most (size d) past in
-    let is : is_past (most_of k) (size d) ≡ true = rw limit tested in
-    rw is (inl refl)
+pub keyword_up : (p : Place) (k : List ℕ) (d : Data) (l : Limited) → limited_by k ≡ Some l → IsIn (counted p k l (size d)) (keyword_event p k d)
+keyword_up p k d l limit = rw limit (inl refl)
 
 -- ---- trees, and induction along the steps of schemas
 
@@ -120,7 +112,7 @@ schema_induction P step ms = tree_induction (AllBelow P) (all_below P step) (obj
 
 abbrev pub EventOf : Data → Place → Event → Type 0
 EventOf raw p (entered q s) = (r : Place) × (q ≡ p ++ r) × (schema_at raw r ≡ Some s)
-EventOf raw p (too_long q k) = (r : Place) × (q ≡ p ++ r) × IsTooLong raw r k
+EventOf raw p (counted q k l n) = (r : Place) × (q ≡ p ++ r) × IsCounted raw r k l n
 
 place_below : (p r q : Place) (s : Step) → q ≡ (p ++ (s ∷ [])) ++ r → q ≡ p ++ (s ∷ r)
 place_below p r q s is = is ∙ append_assoc p (s ∷ []) r
@@ -130,7 +122,7 @@ at_below raw e t s r found rest = rw found rest
 
 event_below : (raw e : Data) (s : Step) (p : Place) (m : Event) → schema_by raw s ≡ Some e → EventOf e (p ++ (s ∷ [])) m → EventOf raw p m
 event_below raw e s p (entered q t) found h = (s ∷ h.0, place_below p h.0 q s h.1, at_below raw e t s h.0 found h.2)
-event_below raw e s p (too_long q k) found h = (
+event_below raw e s p (counted q k l n) found h = (
   s ∷ h.0,
   place_below p h.0 q s h.1,
   record {
@@ -138,9 +130,8 @@ event_below raw e s p (too_long q k) found h = (
     is = at_below raw e h.2.schema s h.0 found h.2.is;
     value = h.2.value;
     is_there = h.2.is_there;
-    most = h.2.most;
     limit = h.2.limit;
-    past = h.2.past;
+    count = h.2.count;
   },
 )
 
@@ -173,7 +164,7 @@ here_entered p d m is = subst (EventOf d p) (sym is) ([], sym (append-nil p), re
 here_keyword : (p : Place) (ms : Members) (m : Event) → KeywordHere p ms m → EventOf (object ms) p m
 here_keyword p ms m w =
     let keyword = keyword_down p w.key w.value m w.here in
-    subst (EventOf (object ms) p) (sym keyword.0) (
+    subst (EventOf (object ms) p) (sym keyword.2) (
       [],
       sym (append-nil p),
       record {
@@ -181,9 +172,8 @@ here_keyword p ms m w =
         is = refl;
         value = w.value;
         is_there = w.at;
-        most = keyword.1.0;
-        limit = keyword.1.1;
-        past = keyword.1.2;
+        limit = keyword.1;
+        count = refl;
       },
     )
 
@@ -230,14 +220,15 @@ schema_entered ms r s h =
     let on : Reached ms [] r s = reached r ms [] s h in
     on.each (entered r s) (inl (ap (entered r) on.is))
 
-pub keyword_recorded : (ms : Members) (r : Place) (k : List ℕ) → IsTooLong (object ms) r k → IsIn (too_long r k) (schema_events [] ms)
-keyword_recorded ms r k long =
-    let on : Reached ms [] r long.schema = reached r ms [] long.schema long.is in
-    let at : member_at k on.below ≡ Some long.value = subst (λ d. under d k ≡ Some long.value) on.is long.is_there in
-    on.each (too_long r k) (inr (members_up r on.below (too_long r k) k long.value at (inl (keyword_up r k long.value long.most long.limit long.past))))
+pub keyword_recorded : (ms : Members) (r : Place) (k : List ℕ) (l : Limited) (n : ℕ) → IsCounted (object ms) r k l n → IsIn (counted r k l n) (schema_events [] ms)
+keyword_recorded ms r k l n h =
+    let on : Reached ms [] r h.schema = reached r ms [] h.schema h.is in
+    let at : member_at k on.below ≡ Some h.value = subst (λ d. under d k ≡ Some h.value) on.is h.is_there in
+    let event = counted r k l (size h.value) in
+    subst (λ m. IsIn (counted r k l m) (schema_events [] ms)) h.count (on.each event (inr (members_up r on.below event k h.value at (inl (keyword_up r k h.value l h.limit)))))
 
 pub entered_schema : (ms : Members) → AreMembers ms → (p : Place) (s : Data) → IsIn (entered p s) (schema_events [] ms) → schema_at (object ms) p ≡ Some s
 entered_schema ms o p s h = let found = event_of ms o [] (entered p s) h in subst (λ q. schema_at (object ms) q ≡ Some s) (sym found.1) found.2
 
-pub recorded_keyword : (ms : Members) → AreMembers ms → (p : Place) (k : List ℕ) → IsIn (too_long p k) (schema_events [] ms) → IsTooLong (object ms) p k
-recorded_keyword ms o p k h = let found = event_of ms o [] (too_long p k) h in subst (λ q. IsTooLong (object ms) q k) (sym found.1) found.2
+pub recorded_keyword : (ms : Members) → AreMembers ms → (p : Place) (k : List ℕ) (l : Limited) (n : ℕ) → IsIn (counted p k l n) (schema_events [] ms) → IsCounted (object ms) p k l n
+recorded_keyword ms o p k l n h = let found = event_of ms o [] (counted p k l n) h in subst (λ q. IsCounted (object ms) q k l n) (sym found.1) found.2

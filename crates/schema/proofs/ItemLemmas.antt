@@ -120,6 +120,6 @@ sound_items M s root h forms keys_good items_good = tt
 
 pub sound_items_at : (raw : Data) (root : Node) → IsRootOf root raw → (p : Place) (M : Node) → node_at root p ≡ Some M → HasSoundItems M
 sound_items_at raw root is p M at =
-    let s = schema_of p true root M raw is.nodes (λ k path. is.sound.forms (name k ∷ path)) at in
+    let s = schema_of p true root M raw is.nodes (λ k path. is.forms (name k ∷ path)) at in
     let outside = (is.nodes.only p M at).0.0 in
     sound_items M s.0 (is_root p && true) s.3 s.2 (λ bad. is.unbroken p V11 (outside, (s.0, s.1, bad))) (λ bad. is.unbroken p V12 (outside, (s.0, s.1, bad)))

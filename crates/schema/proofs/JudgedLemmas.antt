@@ -11,7 +11,7 @@ use Rattle.jtree.specs.Data.{Data, object, Members, AreMembers}
 use Rattle.jtree.specs.PathOrder.{path_cmp}
 use Rattle.schema.specs.Document.Places.{Place, place_path, IsPlace}
 use Rattle.schema.specs.Internal.PlaceView.{place_of, subschema_of}
-use Rattle.schema.specs.Internal.Events.{Event, entered, too_long, IsIn, Ascend, subschemas_of, schema_events}
+use Rattle.schema.specs.Internal.Events.{Event, entered, counted, IsIn, Ascend, subschemas_of, schema_events}
 use Rattle.schema.specs.Rules.Broken.{Broken, metadata_keyword, metadata_type, metadata_field}
 use Rattle.schema.specs.Rules.Breaks.{Break, number, break_cmp, reported, reported_of, AreBreaks, AreViolations}
 use Rattle.schema.specs.Rules.Explained.{OneByOne}
@@ -178,19 +178,19 @@ in_subschemas : (events : List Event) (m : Event) → IsIn m (subschemas_of even
 in_subschemas [] m h = h
 in_subschemas (entered p s ∷ events) m (inl e) = inl e
 in_subschemas (entered p s ∷ events) m (inr h) = inr (in_subschemas events m h)
-in_subschemas (too_long p k ∷ events) m h = inr (in_subschemas events m h)
+in_subschemas (counted p k l n ∷ events) m h = inr (in_subschemas events m h)
 
 is_subschema : (events : List Event) (p : Place) (s : Data) → IsIn (entered p s) events → IsIn (entered p s) (subschemas_of events)
 is_subschema [] p s h = h
 is_subschema (entered q t ∷ events) p s (inl e) = inl e
 is_subschema (entered q t ∷ events) p s (inr h) = inr (is_subschema events p s h)
-is_subschema (too_long q k ∷ events) p s (inl e) = absurd (cc)
-is_subschema (too_long q k ∷ events) p s (inr h) = is_subschema events p s h
+is_subschema (counted q k l n ∷ events) p s (inl e) = absurd (cc)
+is_subschema (counted q k l n ∷ events) p s (inr h) = is_subschema events p s h
 
 subschemas_ascend : (events : List Event) → Ascend events → Ascend (subschemas_of events)
 subschemas_ascend [] h = tt
 subschemas_ascend (entered p s ∷ events) h = (λ n i. h.0 n (in_subschemas events n i), subschemas_ascend events h.1)
-subschemas_ascend (too_long p k ∷ events) h = subschemas_ascend events h.1
+subschemas_ascend (counted p k l n ∷ events) h = subschemas_ascend events h.1
 
 in_map : (subschemas : List Subschema) (v : Subschema) → Among subschemas v → IsIn (subschema_of v) (map subschema_of subschemas)
 in_map [] v a = a

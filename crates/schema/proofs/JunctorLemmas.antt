@@ -342,5 +342,5 @@ sound_junctors M raw root is p s at out forms h = tt
 
 pub sound_junctors_at : (raw : Data) (root : Node) → IsRootOf root raw → (p : Place) (M : Node) → node_at root p ≡ Some M → HasSoundJunctors M
 sound_junctors_at raw root is p M at =
-    let s = schema_of p true root M raw is.nodes (λ k path. is.sound.forms (name k ∷ path)) at in
+    let s = schema_of p true root M raw is.nodes (λ k path. is.forms (name k ∷ path)) at in
     sound_junctors M raw root is p s.0 s.1 (is.nodes.only p M at).0.0 s.2 s.3

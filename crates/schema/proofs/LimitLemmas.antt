@@ -1,5 +1,5 @@
 -- The first event at which a limit is passed is the first place in path order that passes one.
-use Rattle.std.proofs.Common.{◌≡◌, ◌≢◌, ◌⊎◌, ◌<◌, ◌≤◌, ℕ, suc, List, [], ◌∷◌, ◌++◌, length, true, false, Some, None, refl, sym, ap, ◌∙◌, subst, inl, inr, arith, append_assoc}
+use Rattle.std.proofs.Common.{◌≡◌, ◌≢◌, ◌⊎◌, ◌<◌, ◌≤◌, ℕ, suc, ◌+◌, List, [], ◌∷◌, ◌++◌, length, true, false, Some, None, refl, sym, ap, ◌∙◌, subst, inl, inr, arith, append_assoc}
 use Rattle.std.specs.Prelude.{nat_lt, nat_le}
 use Rattle.std.specs.Cmp.{IsTotalOrder}
 use Rattle.std.specs.Ordering.{ordering_reverse}
@@ -11,9 +11,9 @@ use Rattle.jtree.specs.Path.{Step, name, index, Path}
 use Rattle.jtree.specs.PathOrder.{step_cmp, path_cmp}
 use Rattle.jtree.specs.Internal.Lookups.{bool_cases}
 use Rattle.schema.specs.Document.Places.{Place, place_path, IsPlace}
-use Rattle.schema.specs.Document.Limits.{most_places, most_steps, ComeBefore, PassesLimit, too_many_places, too_deep, IsWithinLimits, IsLimitFault}
-use Rattle.schema.specs.Document.Limits as limits
-use Rattle.schema.specs.Internal.Events.{Event, entered, too_long, event_path, IsIn, Ascend, AreEventsOf, limit_break}
+use Rattle.schema.specs.Document.Limits.{size, most, IsTooLong, ComeBefore, PassesLimit, too_many_places, too_deep, too_long, IsWithinLimits, IsLimitFault}
+use Rattle.schema.specs.declared.limits.Limits.{Limits}
+use Rattle.schema.specs.Internal.Events.{Event, entered, counted, event_path, IsIn, Ascend, IsCounted, AreEventsOf, limit_break}
 use Rattle.schema.proofs.FormFirst.{IsFound}
 use Rattle.jtree.specs.Internal.Rising.{Among, Rising, contained, contains, rising, all_pairs}
 
@@ -126,51 +126,30 @@ not_before_first m n ys h (inr b) less = not_both (event_path m) (event_path n) 
 abbrev places_of : List Event → List Place
 places_of [] = []
 places_of (entered p s ∷ events) = p ∷ places_of events
-places_of (too_long p k ∷ events) = places_of events
+places_of (counted p k l n ∷ events) = places_of events
 
 recorded : (events : List Event) (p : Place) → Among (places_of events) p → (s : Data) × IsIn (entered p s) events
 recorded [] p a = elim a [ ]
 recorded (entered q s ∷ events) p (inl e) = (s, inl (ap (λ v. entered v s) (sym e)))
 recorded (entered q s ∷ events) p (inr a) = let r = recorded events p a in (r.0, inr r.1)
-recorded (too_long q k ∷ events) p a = let r = recorded events p a in (r.0, inr r.1)
+recorded (counted q k l n ∷ events) p a = let r = recorded events p a in (r.0, inr r.1)
 
 of_event : (events : List Event) (p : Place) (s : Data) → IsIn (entered p s) events → Among (places_of events) p
 of_event [] p s e = elim e [ ]
 of_event (entered q t ∷ events) p s (inl e) = let same : q ≡ p = cc in inl same
 of_event (entered q t ∷ events) p s (inr e) = inr (of_event events p s e)
-of_event (too_long q k ∷ events) p s (inl e) = absurd (cc)
-of_event (too_long q k ∷ events) p s (inr e) = of_event events p s e
+of_event (counted q k l n ∷ events) p s (inl e) = absurd (cc)
+of_event (counted q k l n ∷ events) p s (inr e) = of_event events p s e
 
 rising_places : (events : List Event) → Ascend events → Rising Before (places_of events)
 rising_places [] h = tt
 rising_places (entered p s ∷ events) h = (λ v a. let r = recorded events v a in h.0 (entered v r.0) r.1, rising_places events h.1)
-rising_places (too_long p k ∷ events) h = rising_places events h.1
+rising_places (counted p k l n ∷ events) h = rising_places events h.1
 
-more_places : (events : List Event) (p : Place) (s : Data) → length (places_of (events ++ (entered p s ∷ []))) ≡ suc (length (places_of events))
-more_places [] p s = refl
-more_places (entered q t ∷ events) p s = ap suc (more_places events p s)
-more_places (too_long q k ∷ events) p s = more_places events p s
-
--- ---- limits at events
-
--- why an event passes a limit
-abbrev Fault : Data → Event → Type 0
-Fault raw (entered p s) = (most_steps < length p) ⊎ ((before : List Place) × ComeBefore raw p before × (length before ≡ most_places))
-Fault raw (too_long p k) = Unit {0}
-
-record Fails (raw : Data) (events : List Event) (path : Path) : Type 0 where
-  event : Event
-  within : IsIn event events
-  at : event_path event ≡ path
-  fault : Fault raw event
-
-fault_of : (raw : Data) (events : List Event) (path : Path) → AreEventsOf raw events → PassesLimit raw path → Fails raw events path
-fault_of raw events path are (too_many_places r at before is come count) =
-    record { event = entered at is.0; within = (are.subschemas at is.0).0 is.1; at = refl; fault = inr (before, come, count) }
-fault_of raw events path are (too_deep r at is deep) =
-    record { event = entered at is.0; within = (are.subschemas at is.0).0 is.1; at = refl; fault = inl deep }
-fault_of raw events path are (limits.too_long r at keyword h) =
-    record { event = too_long at keyword; within = (are.keywords at keyword).0 h; at = refl; fault = tt }
+more_places : (events : List Event) (m : Event) → length (places_of (events ++ (m ∷ []))) ≡ length (places_of (m ∷ [])) + length (places_of events)
+more_places [] m = omega arith
+more_places (entered p s ∷ events) m = omega (arith, more_places events m)
+more_places (counted p k l n ∷ events) m = more_places events m
 
 come_before : (raw : Data) (done rest : List Event) (p : Place) (s : Data) → AreEventsOf raw (done ++ (entered p s ∷ rest)) → ComeBefore raw p (places_of done)
 come_before raw done rest p s are = record {
@@ -186,35 +165,8 @@ come_before raw done rest p s are = record {
   ];
 }
 
-none_earlier : (raw : Data) (done rest : List Event) (m : Event) → AreEventsOf raw (done ++ (m ∷ rest)) → ((n : Event) → IsIn n done → Fault raw n → ⊥)
-    → (e : Path) → PassesLimit raw e → path_cmp e (event_path m) ≢ Less
-none_earlier raw done rest m are clean e h less =
-    let f = fault_of raw (done ++ (m ∷ rest)) e are h in
-    elim (in_parts f.event done (m ∷ rest) f.within) [
-      | inl a ↦ clean f.event a f.fault
-      | inr b ↦ not_before_first m f.event rest (ascend_right done (m ∷ rest) are.ascending) b (subst (λ x. path_cmp x (event_path m) ≡ Less) (sym f.at) less)
-    ]
-
 here_entered : (raw : Data) (done rest : List Event) (p : Place) (s : Data) → AreEventsOf raw (done ++ (entered p s ∷ rest)) → IsPlace raw p
 here_entered raw done rest p s are = (s, (are.subschemas p s).1 (in_right (entered p s) done (entered p s ∷ rest) (inl refl)))
-
-clean_more : (raw : Data) (done rest : List Event) (p : Place) (s : Data) → AreEventsOf raw (done ++ (entered p s ∷ rest))
-    → length (places_of done) < most_places → length p ≤ most_steps → ((n : Event) → IsIn n done → Fault raw n → ⊥)
-    → (n : Event) → IsIn n (done ++ (entered p s ∷ [])) → Fault raw n → ⊥
-clean_more raw done rest p s are few short clean n within fault = elim (in_parts n done (entered p s ∷ []) within) [
-  | inl a ↦ clean n a fault
-  | inr b ↦ elim b [
-    | inl e ↦
-        let here : Fault raw (entered p s) = subst (Fault raw) e fault in
-        elim here [
-          | inl deep ↦ absurd (omega (arith, deep))
-          | inr many ↦
-              let same = same_before raw p many.0 (places_of done) many.1 (come_before raw done rest p s are) in
-              absurd (omega (arith, same, many.2))
-        ]
-    | inr none ↦ none
-  ]
-]
 
 le_true : (a b : ℕ) → nat_le a b ≡ true → a ≤ b
 le_true a b e = grind (arith, nat_tests)
@@ -228,47 +180,112 @@ lt_true a b e = grind (arith, nat_tests)
 lt_false : (a b : ℕ) → nat_lt a b ≡ false → b ≤ a
 lt_false a b e = grind (arith, nat_tests)
 
-walk : (raw : Data) (rest done : List Event) (n : ℕ) → AreEventsOf raw (done ++ rest) → n ≡ length (places_of done) → n ≤ most_places
-    → ((m : Event) → IsIn m done → Fault raw m → ⊥) → IsFound (PassesLimit raw) (limit_break n rest)
-walk raw [] done n are count few clean = λ path h.
-    let f = fault_of raw (done ++ []) path are h in
-    elim (in_parts f.event done [] f.within) [ inl a ↦ clean f.event a f.fault | inr b ↦ b ]
-walk raw (too_long p k ∷ rest) done n are count few clean = record {
-  here = limits.too_long raw p k ((are.keywords p k).1 (in_right (too_long p k) done (too_long p k ∷ rest) (inl refl)));
-  none_before = none_earlier raw done rest (too_long p k) are clean;
-}
-walk raw (entered p s ∷ rest) done n are count few clean = elim (bool_cases (nat_le most_places n)) [
-  | inl full ↦
-      let past : most_places ≤ n = le_true most_places n full in
-      let first : limit_break n (entered p s ∷ rest) ≡ Some (place_path p) = rw full refl in
-      let exact : length (places_of done) ≡ most_places = omega arith in
-      subst (IsFound (PassesLimit raw)) (sym first) (record {
-        here = too_many_places raw p (places_of done) (here_entered raw done rest p s are) (come_before raw done rest p s are) exact;
-        none_before = none_earlier raw done rest (entered p s) are clean;
-      })
-  | inr room ↦
-      let less : n < most_places = le_false most_places n room in
-      elim (bool_cases (nat_lt most_steps (length p))) [
-        | inl deep ↦
-            let first : limit_break n (entered p s ∷ rest) ≡ Some (place_path p) = rw (room, deep) refl in
-            subst (IsFound (PassesLimit raw)) (sym first) (record {
-              here = too_deep raw p (here_entered raw done rest p s are) (lt_true most_steps (length p) deep);
-              none_before = none_earlier raw done rest (entered p s) are clean;
-            })
-        | inr short ↦
-            let first : limit_break n (entered p s ∷ rest) ≡ limit_break (suc n) rest = rw (room, short) refl in
-            let moved : AreEventsOf raw ((done ++ (entered p s ∷ [])) ++ rest) = subst (AreEventsOf raw) (sym (append_assoc done (entered p s ∷ []) rest)) are in
-            let more = more_places done p s in
-            subst (IsFound (PassesLimit raw)) (sym first) (walk raw rest (done ++ (entered p s ∷ [])) (suc n) moved (omega (arith, more)) (omega arith)
-            (clean_more raw done rest p s are (omega arith) (lt_false most_steps (length p) short) clean))
+-- ---- limits at events
+
+module _ (limits : Limits) where
+  -- why an event passes a limit
+  abbrev Fault : Data → Event → Type 0
+  Fault raw (entered p s) = (limits.steps < length p) ⊎ ((before : List Place) × ComeBefore raw p before × (length before ≡ limits.places))
+  Fault raw (counted p k l n) = most limits l < n
+
+  record Fails (raw : Data) (events : List Event) (path : Path) : Type 0 where
+    event : Event
+    within : IsIn event events
+    at : event_path event ≡ path
+    fault : Fault raw event
+
+  fault_of : (raw : Data) (events : List Event) (path : Path) → AreEventsOf raw events → PassesLimit limits raw path → Fails raw events path
+  fault_of raw events path are (too_many_places r at before is come count) =
+      record { event = entered at is.0; within = (are.subschemas at is.0).0 is.1; at = refl; fault = inr (before, come, count) }
+  fault_of raw events path are (too_deep r at is deep) =
+      record { event = entered at is.0; within = (are.subschemas at is.0).0 is.1; at = refl; fault = inl deep }
+  fault_of raw events path are (too_long r at keyword h) =
+      let n = size h.value in
+      let is : IsCounted raw at keyword h.limited n = record { schema = h.schema; is = h.is; value = h.value; is_there = h.is_there; limit = h.limit; count = refl } in
+      record { event = counted at keyword h.limited n; within = (are.keywords at keyword h.limited n).0 is; at = refl; fault = h.past }
+
+  none_earlier : (raw : Data) (done rest : List Event) (m : Event) → AreEventsOf raw (done ++ (m ∷ rest)) → ((n : Event) → IsIn n done → Fault raw n → ⊥)
+      → (e : Path) → PassesLimit limits raw e → path_cmp e (event_path m) ≢ Less
+  none_earlier raw done rest m are clean e h less =
+      let f = fault_of raw (done ++ (m ∷ rest)) e are h in
+      elim (in_parts f.event done (m ∷ rest) f.within) [
+        | inl a ↦ clean f.event a f.fault
+        | inr b ↦ not_before_first m f.event rest (ascend_right done (m ∷ rest) are.ascending) b (subst (λ x. path_cmp x (event_path m) ≡ Less) (sym f.at) less)
       ]
-]
 
-pub found : (raw : Data) (events : List Event) → AreEventsOf raw events → IsFound (PassesLimit raw) (limit_break 0 events)
-found raw events are = walk raw events [] 0 are refl (omega arith) (λ m e f. e)
+  -- a place after fewer than there may be, with few enough steps
+  no_fault : (raw : Data) (done rest : List Event) (p : Place) (s : Data) → AreEventsOf raw (done ++ (entered p s ∷ rest)) → length (places_of done) < limits.places → length p ≤ limits.steps
+      → Fault raw (entered p s) → ⊥
+  no_fault raw done rest p s are few short (inl deep) = omega (arith, deep)
+  no_fault raw done rest p s are few short (inr many) =
+      let same = same_before raw p many.0 (places_of done) many.1 (come_before raw done rest p s are) in
+      omega (arith, same, many.2)
 
-pub within : (raw : Data) (events : List Event) → AreEventsOf raw events → limit_break 0 events ≡ None → IsWithinLimits raw
-within raw events are none = subst (IsFound (PassesLimit raw)) none (found raw events are)
+  clean_more : (raw : Data) (done : List Event) (m : Event) → (Fault raw m → ⊥) → ((n : Event) → IsIn n done → Fault raw n → ⊥) → (n : Event) → IsIn n (done ++ (m ∷ [])) → Fault raw n → ⊥
+  clean_more raw done m none clean n within fault = elim (in_parts n done (m ∷ []) within) [
+    | inl a ↦ clean n a fault
+    | inr b ↦ elim b [ inl e ↦ none (subst (Fault raw) e fault) | inr past ↦ past ]
+  ]
 
-pub first_past : (raw : Data) (events : List Event) (path : Path) → AreEventsOf raw events → limit_break 0 events ≡ Some path → IsLimitFault raw path
-first_past raw events path are some = subst (IsFound (PassesLimit raw)) some (found raw events are)
+  walk : (raw : Data) (rest done : List Event) (n : ℕ) → AreEventsOf raw (done ++ rest) → n ≡ length (places_of done) → n ≤ limits.places
+      → ((m : Event) → IsIn m done → Fault raw m → ⊥) → IsFound (PassesLimit limits raw) (limit_break limits n rest)
+  walk raw [] done n are count few clean = λ path h.
+      let f = fault_of raw (done ++ []) path are h in
+      elim (in_parts f.event done [] f.within) [ inl a ↦ clean f.event a f.fault | inr b ↦ b ]
+  walk raw (counted p k l m ∷ rest) done n are count few clean = elim (bool_cases (nat_lt (most limits l) m)) [
+    | inl past ↦
+        let here = (are.keywords p k l m).1 (in_right (counted p k l m) done (counted p k l m ∷ rest) (inl refl)) in
+        let long : IsTooLong limits raw p k = record {
+          schema = here.schema;
+          is = here.is;
+          value = here.value;
+          is_there = here.is_there;
+          limited = l;
+          limit = here.limit;
+          past = subst (λ x. most limits l < x) (sym here.count) (lt_true (most limits l) m past);
+        } in
+        let first : limit_break limits n (counted p k l m ∷ rest) ≡ Some (place_path p ++ (name k ∷ [])) = rw past refl in
+        subst (IsFound (PassesLimit limits raw)) (sym first) (record { here = too_long raw p k long; none_before = none_earlier raw done rest (counted p k l m) are clean })
+    | inr within ↦
+        let first : limit_break limits n (counted p k l m ∷ rest) ≡ limit_break limits n rest = rw within refl in
+        let moved : AreEventsOf raw ((done ++ (counted p k l m ∷ [])) ++ rest) = subst (AreEventsOf raw) (sym (append_assoc done (counted p k l m ∷ []) rest)) are in
+        let same = more_places done (counted p k l m) in
+        let few_enough = lt_false (most limits l) m within in
+        subst (IsFound (PassesLimit limits raw)) (sym first) (walk raw rest (done ++ (counted p k l m ∷ [])) n moved (omega (arith, same)) few
+        (clean_more raw done (counted p k l m) (λ past. omega arith) clean))
+  ]
+  walk raw (entered p s ∷ rest) done n are count few clean = elim (bool_cases (nat_le limits.places n)) [
+    | inl full ↦
+        let past : limits.places ≤ n = le_true limits.places n full in
+        let first : limit_break limits n (entered p s ∷ rest) ≡ Some (place_path p) = rw full refl in
+        let exact : length (places_of done) ≡ limits.places = omega arith in
+        subst (IsFound (PassesLimit limits raw)) (sym first) (record {
+          here = too_many_places raw p (places_of done) (here_entered raw done rest p s are) (come_before raw done rest p s are) exact;
+          none_before = none_earlier raw done rest (entered p s) are clean;
+        })
+    | inr room ↦
+        let less : n < limits.places = le_false limits.places n room in
+        elim (bool_cases (nat_lt limits.steps (length p))) [
+          | inl deep ↦
+              let first : limit_break limits n (entered p s ∷ rest) ≡ Some (place_path p) = rw (room, deep) refl in
+              subst (IsFound (PassesLimit limits raw)) (sym first) (record {
+                here = too_deep raw p (here_entered raw done rest p s are) (lt_true limits.steps (length p) deep);
+                none_before = none_earlier raw done rest (entered p s) are clean;
+              })
+          | inr short ↦
+              let first : limit_break limits n (entered p s ∷ rest) ≡ limit_break limits (suc n) rest = rw (room, short) refl in
+              let moved : AreEventsOf raw ((done ++ (entered p s ∷ [])) ++ rest) = subst (AreEventsOf raw) (sym (append_assoc done (entered p s ∷ []) rest)) are in
+              let more = more_places done (entered p s) in
+              subst (IsFound (PassesLimit limits raw)) (sym first) (walk raw rest (done ++ (entered p s ∷ [])) (suc n) moved (omega (arith, more)) (omega arith)
+              (clean_more raw done (entered p s) (no_fault raw done rest p s are (omega arith) (lt_false limits.steps (length p) short)) clean))
+        ]
+  ]
+
+  pub found : (raw : Data) (events : List Event) → AreEventsOf raw events → IsFound (PassesLimit limits raw) (limit_break limits 0 events)
+  found raw events are = walk raw events [] 0 are refl (omega arith) (λ m e f. e)
+
+  pub within : (raw : Data) (events : List Event) → AreEventsOf raw events → limit_break limits 0 events ≡ None → IsWithinLimits limits raw
+  within raw events are none = subst (IsFound (PassesLimit limits raw)) none (found raw events are)
+
+  pub first_past : (raw : Data) (events : List Event) (path : Path) → AreEventsOf raw events → limit_break limits 0 events ≡ Some path → IsLimitFault limits raw path
+  first_past raw events path are some = subst (IsFound (PassesLimit limits raw)) some (found raw events are)

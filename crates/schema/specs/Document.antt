@@ -6,3 +6,4 @@ pub mod Places
 pub mod Forms
 pub mod Limits
 pub mod ReadFault
+pub mod Refusal

@@ -4,11 +4,14 @@ ghost use Rattle.jtree.specs.Data.{Data, Items as ItemsData, text as text_of};
 ghost use Rattle.jtree.specs.View.{data_of};
 ghost use Rattle.schema.specs.Document.Crd.{IsRead, IsSchemaOf, HasHeader, IsHead};
 ghost use Rattle.schema.specs.Internal.Faults.{IsDefinitionFault};
-ghost use Rattle.schema.specs.Document.ReadFault.{IsSound, IsReadFault, IsSchemaFault};
+ghost use Rattle.schema.specs.Document.Forms.{HasForms};
+ghost use Rattle.schema.specs.Document.Limits.{standard, IsWithinLimits};
+ghost use Rattle.schema.specs.Document.ReadFault.{IsReadFault, IsSchemaFault};
 ghost use Rattle.jtree.specs.Path.{under2, under3};
 
 use crate::fault::SFault;
 use crate::forms::{Form, check_form};
+use crate::limits::{Limits, limits_by_name};
 use crate::listing::list_places;
 use crate::raw::RawSchema;
 use crate::reading::copy_tree;
@@ -31,18 +34,18 @@ pub struct Crd {
 
 /// The parts of the document that come before its versions are looked at.
 #[derive(Drop)]
-struct Head<'a> {
+pub(crate) struct Head<'a> {
     group: &'a str,
     kind: &'a str,
-    versions: &'a Items,
+    pub versions: &'a Items,
 }
 
 /// What is found of a version before its schema is judged.
 #[derive(Drop)]
-struct Definition<'a> {
+pub(crate) struct Definition<'a> {
     group: &'a str,
     kind: &'a str,
-    schema: &'a Tree,
+    pub schema: &'a Tree,
 }
 
 /// Reads the group, the kind and the schema of one version of a CustomResourceDefinition
@@ -52,21 +55,39 @@ struct Definition<'a> {
 /// `apiextensions.k8s.io/v1`, `kind` `CustomResourceDefinition`, non-empty texts `spec.group` and `spec.names.kind`, and
 /// a list `spec.versions` of objects with a text `name` each, no name twice. `NoSuchVersion` where it is one, and no
 /// version has the name that is asked for. `NotACrd` where that version has no object as its schema. `KeywordForm` where
-/// a keyword of the schema has not its JSON form (OpenAPI 3.0, Schema Object). `TooLarge` where a limit is passed: 512
-/// places, 24 steps of a place, 32 members of `properties`, 32 entries of `required`, 4 of `x-kubernetes-list-map-keys`,
-/// 64 of `enum`. `NoMemory` where an allocation fails. They are decided in this order. The document is gone through a
-/// bounded number of times.
+/// a keyword of the schema has not its JSON form (OpenAPI 3.0, Schema Object). `TooLarge` where one of `Limits::STANDARD` is
+/// passed. `NoMemory` where an allocation fails. They are decided in this order. The document is gone through a bounded number of
+/// times.
 pub fn read_crd(alloc: Global, document: &Tree, version: &str) -> Result<Crd, SFault>
     ensures ok { IfOk result (λ c. IsRead (data_of document.now) version.now c.group c.kind c.raw) }
     ensures version { IfOk result (λ c. c.version ≡ version.now) }
-    ensures sound { IfOk result (λ c. IsSound c.raw) }
-    ensures err { IfErr result (IsReadFault (data_of document.now) version.now) }
+    ensures forms { IfOk result (λ c. HasForms c.raw) }
+    ensures within { IfOk result (λ c. IsWithinLimits standard c.raw) }
+    ensures err { IfErr result (IsReadFault standard (data_of document.now) version.now) }
+{
+    // for its contract alone
+    limits_by_name();
+    read_crd_within(alloc, document, version, Limits::STANDARD)
+}
+
+/// As `read_crd`, but `TooLarge` where one of these limits is passed.
+pub fn read_crd_within(
+    alloc: Global,
+    document: &Tree,
+    version: &str,
+    limits: Limits,
+) -> Result<Crd, SFault>
+    ensures ok { IfOk result (λ c. IsRead (data_of document.now) version.now c.group c.kind c.raw) }
+    ensures version { IfOk result (λ c. c.version ≡ version.now) }
+    ensures forms { IfOk result (λ c. HasForms c.raw) }
+    ensures within { IfOk result (λ c. IsWithinLimits limits c.raw) }
+    ensures err { IfErr result (IsReadFault limits (data_of document.now) version.now) }
 {
     let definition = match find_definition(alloc, document, version) {
         Ok(definition) => definition,
         Err(fault) => return Err(fault),
     };
-    match check_schema(alloc, definition.schema) {
+    match check_schema(alloc, definition.schema, limits) {
         Ok(()) => {}
         Err(fault) => return Err(fault),
     }
@@ -74,11 +95,11 @@ pub fn read_crd(alloc: Global, document: &Tree, version: &str) -> Result<Crd, SF
         group: Text::from_str(alloc, definition.group)?,
         kind: Text::from_str(alloc, definition.kind)?,
         version: Text::from_str(alloc, version)?,
-        raw: RawSchema::new(copy_tree(alloc, definition.schema)?),
+        raw: RawSchema::new(copy_tree(alloc, definition.schema)?, limits),
     })
 }
 
-fn find_definition<'a>(
+pub(crate) fn find_definition<'a>(
     alloc: Global,
     document: &'a Tree,
     version: &str,
@@ -107,9 +128,10 @@ fn find_definition<'a>(
 }
 
 /// Whether each keyword of a schema has its form, and no limit is passed.
-fn check_schema(alloc: Global, schema: &Tree) -> Result<(), SFault>
-    ensures ok { OnOk result (IsSound (data_of schema.now)) }
-    ensures err { IfErr result (IsSchemaFault (data_of schema.now)) }
+fn check_schema(alloc: Global, schema: &Tree, limits: Limits) -> Result<(), SFault>
+    ensures forms { OnOk result (HasForms (data_of schema.now)) }
+    ensures within { OnOk result (IsWithinLimits limits (data_of schema.now)) }
+    ensures err { IfErr result (IsSchemaFault limits (data_of schema.now)) }
 {
     // for its contract alone: a proof learns that it is a tree
     schema.reveal_invariant();
@@ -118,15 +140,15 @@ fn check_schema(alloc: Global, schema: &Tree) -> Result<(), SFault>
         Err(fault) => return Err(fault),
     }
     match schema {
-        Tree::Object(members) => match list_places(alloc, members) {
+        Tree::Object(members) => match list_places(alloc, limits, members) {
             Ok(_places) => Ok(()),
-            Err(fault) => Err(fault),
+            Err(unlisted) => Err(unlisted.into()),
         },
         _ => Ok(()),
     }
 }
 
-fn head_of(document: &Tree) -> Option<Head<'_>>
+pub(crate) fn head_of(document: &Tree) -> Option<Head<'_>>
     ensures some { IfSome result (λ h. IsHead (data_of document.now) h.group.now h.kind.now h.versions.now) }
     ensures none { result ≡ None → (group kind : List ℕ) (versions : ItemsData) → IsHead (data_of document.now) group kind versions → ⊥ }
 {
@@ -149,7 +171,7 @@ fn head_of(document: &Tree) -> Option<Head<'_>>
     })
 }
 
-fn has_header(document: &Tree) -> bool
+pub(crate) fn has_header(document: &Tree) -> bool
     ensures { IsTrue result ↔ HasHeader (data_of document.now) }
 {
     document.has_text("apiVersion", "apiextensions.k8s.io/v1")
@@ -157,7 +179,7 @@ fn has_header(document: &Tree) -> bool
 }
 
 /// What is under a name below another.
-fn part_below<'a>(tree: &'a Tree, outer: &str, inner: &str) -> Option<&'a Tree>
+pub(crate) fn part_below<'a>(tree: &'a Tree, outer: &str, inner: &str) -> Option<&'a Tree>
     ensures { option_map (λ t. data_of t.now) result ≡ under2 (data_of tree.now) outer.now inner.now }
 {
     match tree.get(outer) {
@@ -167,7 +189,7 @@ fn part_below<'a>(tree: &'a Tree, outer: &str, inner: &str) -> Option<&'a Tree>
 }
 
 /// What is at `spec.names.kind`.
-fn kind_part(document: &Tree) -> Option<&Tree>
+pub(crate) fn kind_part(document: &Tree) -> Option<&Tree>
     ensures { option_map (λ t. data_of t.now) result ≡ under3 (data_of document.now) (codes "spec") (codes "names") (codes "kind") }
 {
     match part_below(document, "spec", "names") {
@@ -177,7 +199,7 @@ fn kind_part(document: &Tree) -> Option<&Tree>
 }
 
 /// A text that is not empty.
-fn given_text(part: Option<&Tree>) -> Option<&str>
+pub(crate) fn given_text(part: Option<&Tree>) -> Option<&str>
     ensures some { IfSome result (λ s. option_map (λ t. data_of t.now) part.entry ≡ Some (text_of s.now)) }
     ensures given { IfSome result (λ s. s.now ≢ []) }
     ensures none { result ≡ None → (s : List ℕ) → option_map (λ t. data_of t.now) part.entry ≡ Some (text_of s) → s ≢ [] → ⊥ }

@@ -17,9 +17,8 @@ pub enum SFault {
     /// value that breaks the form, the first in path order.
     #[error("S3")]
     KeywordForm(String),
-    /// A limit is passed: 512 places, 24 steps of a place, 32 members of `properties`, 32 entries of `required`, 4 of
-    /// `x-kubernetes-list-map-keys`, 64 of `enum`. The pointer, counted from the schema, is that of the 513th place in path
-    /// order, of the place with too many steps, or of the keyword, the first in path order.
+    /// A limit is passed (`Limits`). The pointer, counted from the schema, is that of the first place after as many as there may
+    /// be, of the place with too many steps, or of the keyword, the first in path order.
     #[error("S4")]
     TooLarge(String),
     /// An allocation failed.

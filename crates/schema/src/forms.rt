@@ -11,24 +11,32 @@ ghost use Rattle.schema.specs.Internal.FormBreak.{form_view, first_break, items_
 use crate::fault::SFault;
 use crate::keywords::is_one_of;
 use crate::places::{push_index, push_name};
+use crate::refusal::BrokenForm;
 use jtree::{Items, Members, Tree};
 use std::alloc::{AllocError, Global};
 
 /// The form of a JSON value.
-#[derive(Clone, Copy, Drop)]
-pub(crate) enum Form {
+#[derive(Clone, Copy, Debug, PartialEq, Eq, Drop)]
+pub enum Form {
+    /// Any value.
     AnyTree,
+    /// A text.
     Text,
+    /// A truth value.
     TruthValue,
     /// An object, each of whose members is an object.
     ObjectOfObjects,
+    /// A truth value or an object.
     TruthValueOrObject,
+    /// An object.
     Object,
     /// A list of at least one object, with nothing else in it.
     SomeObjects,
     /// A list of texts.
     Texts,
+    /// A list.
     List,
+    /// An integer.
     Integer,
     /// An integer, 0 or more.
     Count,
@@ -251,4 +259,38 @@ fn index_and(alloc: Global, index: u64, pointer: &str) -> Result<String, AllocEr
     push_index(&mut joined, index)?;
     joined.push_str(pointer)?;
     Ok(joined)
+}
+
+/// The first part in path order that has not its form.
+#[cycle(broken)]
+pub(crate) fn broken_form<'a>(form: Form, tree: &'a Tree) -> Option<BrokenForm<'a>> {
+    if !has_form(form, tree) {
+        return Some(BrokenForm { form, found: tree });
+    }
+    match tree {
+        Tree::List(items) => broken_item(form_of_items(form), items),
+        Tree::Object(members) => broken_member(form, members),
+        _ => None,
+    }
+}
+
+#[cycle(broken)]
+fn broken_item<'a>(form: Form, items: &'a Items) -> Option<BrokenForm<'a>> {
+    for item in &items.items {
+        if let Some(broken) = broken_form(form, item) {
+            return Some(broken);
+        }
+    }
+    None
+}
+
+#[cycle(broken)]
+fn broken_member<'a>(form: Form, members: &'a Members) -> Option<BrokenForm<'a>> {
+    for member in &members.members {
+        let form = form_of_member(form, member.name.as_str());
+        if let Some(broken) = broken_form(form, &member.tree) {
+            return Some(broken);
+        }
+    }
+    None
 }

@@ -42,7 +42,7 @@ pub(crate) fn subschemas_of<'a>(
         Tree::Object(members) => {
             // for its contract alone: a proof learns that the names are in order, each once
             members.reveal_invariant();
-            list_places(alloc, members)
+            Ok(list_places(alloc, raw.limits(), members)?)
         }
         // no schema whose keywords have their forms
         _ => Ok(Vec::new(alloc)),

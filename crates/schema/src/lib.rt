@@ -12,6 +12,7 @@ mod judging;
 mod junctor_fields;
 mod keywords;
 mod kinds;
+mod limits;
 mod listing;
 mod names;
 mod node;
@@ -20,6 +21,7 @@ mod raw;
 mod reading;
 mod reason;
 mod reasons;
+mod refusal;
 mod refused;
 mod rules;
 mod shaped;
@@ -30,12 +32,14 @@ mod violation;
 
 pub use by_place::nodes_are_unique;
 pub use by_reasons::broken_for_a_reason;
-pub use definition::{Crd, read_crd};
+pub use definition::{Crd, read_crd, read_crd_within};
 pub use distinct_items::items_are_distinct;
 pub use explaining::explained;
 pub use fault::SFault;
+pub use forms::Form;
 pub use judging::breaks;
 pub use junctor_fields::junctors_name_fields;
+pub use limits::{Excess, Limited, Limits, limits_by_name};
 pub use names::Names;
 pub use node::{
     Below, Bounds, Branches, Constraints, Field, Fields, ListNode, ListType, MapNode, MapType,
@@ -43,6 +47,7 @@ pub use node::{
 };
 pub use raw::RawSchema;
 pub use reason::{Explained, Finding, Reason};
+pub use refusal::{BrokenForm, Part, Refusal};
 pub use refused::Refused;
 pub use shaped::Shape;
 pub use shaping::shape;

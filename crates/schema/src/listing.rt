@@ -1,10 +1,10 @@
 // The places of a schema in path order, each once, as far as no limit is passed.
-ghost use Rattle.std.specs.Prelude.{◌≡◌, ◌↔◌, ◌++◌, suc, List, ◌∷◌, [], Some, None, true, false, map, length, option_map, option_and_then, All, OnOk, IfOk, IfErr, IsTrue};
+ghost use Rattle.std.specs.Prelude.{◌≡◌, ℕ, ◌↔◌, ◌++◌, suc, List, ◌∷◌, [], Some, None, true, false, map, length, option_map, option_and_then, All, OnOk, IfOk, IfErr, IsTrue};
 ghost use Rattle.jtree.specs.Data.{Data, object, list, item, Items as ItemsData};
 ghost use Rattle.jtree.specs.Path.{member_at};
 ghost use Rattle.jtree.specs.View.{data_of};
-ghost use Rattle.schema.specs.Document.Limits.{size as size_of, IsWithinLimits, most_of as most_of_keyword};
-ghost use Rattle.schema.specs.Internal.Events.{Event, entered, part_of as part_of_keyword, is_past, part_events, member_events, item_events, schema_events, subschemas_of, limit_break, branch as branch_of, properties as properties_part, branches};
+ghost use Rattle.schema.specs.Document.Limits.{size as size_of, IsWithinLimits, limited_by as limited_by_keyword};
+ghost use Rattle.schema.specs.Internal.Events.{Event, entered, part_of as part_of_keyword, keyword_event, part_events, member_events, item_events, schema_events, subschemas_of, limit_break, branch as branch_of, properties as properties_part, branches};
 ghost use Rattle.schema.specs.Internal.Faults.{IsLimitRefusal, IsLimitFaultOf};
 ghost use Rattle.schema.specs.Document.Places.{Place, only_object, schema_by};
 ghost use Rattle.schema.specs.Rules.Broken.{pattern, holder, typed, HasAnyPattern, HasAllPattern};
@@ -14,15 +14,55 @@ ghost use Rattle.schema.specs.Internal.PlaceView.{step_of, place_of, junctor_of,
 
 use crate::fault::SFault;
 use crate::keywords::{has_true, object_under};
+use crate::limits::{Excess, Limited, Limits};
 use crate::places::{Step, is_junctor, keyword_pointer, pointer_of};
 use jtree::{Items, Members, Tree};
-use std::alloc::{AllocError, Global};
+use std::alloc::{AllocError, AllocFailed, Global};
 
-/// The most places of a schema, branches of junctors among them.
-const MOST_PLACES: usize = 512;
+/// Why places are not listed.
+#[derive(Drop)]
+pub(crate) enum Unlisted {
+    /// A limit is passed, the first in path order.
+    Passed(Excess),
+    /// An allocation failed.
+    NoMemory,
+}
 
-/// The most steps of a place.
-const MOST_STEPS: usize = 24;
+impl From<AllocError> for Unlisted {
+    ghost use Rattle.std.specs.Prelude.{◌≡◌};
+    ghost use Rattle.schema.specs.declared.listing.Unlisted.TheVariants.{NoMemory};
+
+    ghost from_gives = { λ _ e. e ≡ NoMemory };
+
+    fn from(_refused: AllocError) -> Unlisted {
+        Unlisted::NoMemory
+    }
+}
+
+impl<T: Drop> From<AllocFailed<T>> for Unlisted {
+    ghost use Rattle.std.specs.Prelude.{◌≡◌};
+    ghost use Rattle.schema.specs.declared.listing.Unlisted.TheVariants.{NoMemory};
+
+    ghost from_gives = { λ _ e. e ≡ NoMemory };
+
+    fn from(_refused: AllocFailed<T>) -> Unlisted {
+        Unlisted::NoMemory
+    }
+}
+
+impl From<Unlisted> for SFault {
+    ghost use Rattle.std.specs.Prelude.{◌≡◌};
+    ghost use Rattle.schema.specs.Internal.Faults.{listing_fault};
+
+    ghost from_gives = { λ unlisted e. e ≡ listing_fault unlisted };
+
+    fn from(unlisted: Unlisted) -> SFault {
+        match unlisted {
+            Unlisted::Passed(excess) => SFault::TooLarge(excess.pointer),
+            Unlisted::NoMemory => SFault::NoMemory,
+        }
+    }
+}
 
 /// A place of a schema, and what a rule asks of it.
 #[derive(Drop)]
@@ -92,23 +132,15 @@ fn branch<'a>(junctor: Junctor, index: u64) -> Step<'a>
     }
 }
 
-/// Whether a keyword's value has more members or entries than the keyword may have.
-fn is_too_long(keyword: &str, tree: &Tree) -> bool
-    ensures { result ≡ is_past (most_of_keyword keyword.now) (size_of (data_of tree.now)) }
-{
-    match most_of(keyword) {
-        Some(most) => size(tree) > most,
-        None => false,
-    }
-}
-
-fn most_of(keyword: &str) -> Option<usize>
-    ensures { result ≡ most_of_keyword keyword.now }
+/// What of a keyword is limited.
+fn limited_by(keyword: &str) -> Option<Limited>
+    ensures { result ≡ limited_by_keyword keyword.now }
 {
     match keyword {
-        "properties" | "required" => Some(32),
-        "x-kubernetes-list-map-keys" => Some(4),
-        "enum" => Some(64),
+        "properties" => Some(Limited::Properties),
+        "required" => Some(Limited::Required),
+        "x-kubernetes-list-map-keys" => Some(Limited::MapKeys),
+        "enum" => Some(Limited::Choices),
         _ => None,
     }
 }
@@ -253,30 +285,76 @@ fn below<'a>(alloc: Global, place: &[Step<'a>], step: Step<'a>) -> Result<Vec<St
     Ok(below)
 }
 
-/// Refuses a place after so many others, or with so many steps, that a limit is passed.
-fn check_place(alloc: Global, place: &[Step<'_>], count: usize) -> Result<(), SFault>
-    ensures ok { OnOk result ((s : Data) (events : List Event) → limit_break count (entered (place_of place.now) s ∷ events) ≡ limit_break (suc count) events) }
-    ensures err { IfErr result (λ e. (s : Data) (events : List Event) → IsLimitRefusal (limit_break count (entered (place_of place.now) s ∷ events)) e) }
+/// Refuses a place after as many others as there may be, or with too many steps.
+fn check_place(
+    alloc: Global,
+    limits: Limits,
+    place: &[Step<'_>],
+    count: usize,
+) -> Result<(), Unlisted>
+    ensures ok { OnOk result ((s : Data) (events : List Event) → limit_break limits count (entered (place_of place.now) s ∷ events) ≡ limit_break limits (suc count) events) }
+    ensures err { IfErr result (λ e. (s : Data) (events : List Event) → IsLimitRefusal (limit_break limits count (entered (place_of place.now) s ∷ events)) e) }
 {
-    if count >= MOST_PLACES || place.len() > MOST_STEPS {
-        return Err(SFault::TooLarge(pointer_of(alloc, place)?));
+    let (limited, found) = if count >= limits.places {
+        (Limited::Places, count.saturating_add(1))
+    } else if place.len() > limits.steps {
+        (Limited::Steps, place.len())
+    } else {
+        return Ok(());
+    };
+    Err(Unlisted::Passed(Excess {
+        pointer: pointer_of(alloc, place)?,
+        limited,
+        found,
+    }))
+}
+
+/// Refuses a keyword whose value has too many members or entries.
+fn check_keyword(
+    alloc: Global,
+    limits: Limits,
+    place: &[Step<'_>],
+    keyword: &str,
+    tree: &Tree,
+) -> Result<(), Unlisted>
+    ensures ok { OnOk result ((n : ℕ) (events : List Event) → limit_break limits n (keyword_event (place_of place.now) keyword.now (data_of tree.now) ++ events) ≡ limit_break limits n events) }
+    ensures err { IfErr result (λ e. (n : ℕ) (events : List Event) → IsLimitRefusal (limit_break limits n (keyword_event (place_of place.now) keyword.now (data_of tree.now) ++ events)) e) }
+{
+    let Some(limited) = limited_by(keyword) else {
+        return Ok(());
+    };
+    let found = size(tree);
+    if found <= limits.most(limited) {
+        return Ok(());
     }
-    Ok(())
+    Err(Unlisted::Passed(Excess {
+        pointer: keyword_pointer(alloc, place, keyword)?,
+        limited,
+        found,
+    }))
 }
 
 /// The places of a schema in path order, each once.
 pub(crate) fn list_places<'a>(
     alloc: Global,
+    limits: Limits,
     schema: &'a Members,
-) -> Result<Vec<Subschema<'a>>, SFault>
+) -> Result<Vec<Subschema<'a>>, Unlisted>
     ensures subschemas { IfOk result (λ v. AreSubschemas schema.now v.items) }
-    ensures within { OnOk result (IsWithinLimits (object schema.now)) }
-    ensures err { IfErr result (IsLimitFaultOf (object schema.now)) }
+    ensures within { OnOk result (IsWithinLimits limits (object schema.now)) }
+    ensures err { IfErr result (IsLimitFaultOf limits (object schema.now)) }
 {
     // for its contract alone: a proof learns that the names are in order, each once, here and below
     schema.reveal_invariant();
     let mut subschemas = Vec::new(alloc);
-    list_schema(alloc, &[], schema, root_context(schema), &mut subschemas)?;
+    list_schema(
+        alloc,
+        limits,
+        &[],
+        schema,
+        root_context(schema),
+        &mut subschemas,
+    )?;
     Ok(subschemas)
 }
 
@@ -284,48 +362,49 @@ pub(crate) fn list_places<'a>(
 #[cycle(listing)]
 fn list_schema<'a>(
     alloc: Global,
+    limits: Limits,
     place: &[Step<'a>],
     members: &'a Members,
     context: Context<'a>,
     subschemas: &mut Vec<Subschema<'a>>,
-) -> Result<(), SFault>
+) -> Result<(), Unlisted>
     ensures subschemas { OnOk result (map subschema_of subschemas.new.items ≡ map subschema_of subschemas.old.items ++ subschemas_of (schema_events (place_of place.now) members.now)) }
-    ensures ok { OnOk result (limit_break (length subschemas.old.items) (schema_events (place_of place.now) members.now) ≡ None) }
-    ensures err { IfErr result (IsLimitRefusal (limit_break (length subschemas.old.items) (schema_events (place_of place.now) members.now))) }
+    ensures ok { OnOk result (limit_break limits (length subschemas.old.items) (schema_events (place_of place.now) members.now) ≡ None) }
+    ensures err { IfErr result (IsLimitRefusal (limit_break limits (length subschemas.old.items) (schema_events (place_of place.now) members.now))) }
     ensures contexts { OnOk result ((raw : Data) → IsContext raw (place_of place.now) (object members.now) context.entry → All (IsSubschema raw) subschemas.old.items → All (IsSubschema raw) subschemas.new.items) }
 {
-    check_place(alloc, place, subschemas.len())?;
+    check_place(alloc, limits, place, subschemas.len())?;
     subschemas.push(Subschema {
         place: copied(alloc, place)?,
         schema: members,
         outer: context.outer,
         in_pattern: context.in_pattern,
     })?;
-    list_keywords(alloc, place, members, context, subschemas)
+    list_keywords(alloc, limits, place, members, context, subschemas)
 }
 
 /// Lists the places below the keywords of a place.
 #[cycle(listing)]
 fn list_keywords<'a>(
     alloc: Global,
+    limits: Limits,
     place: &[Step<'a>],
     members: &'a Members,
     context: Context<'a>,
     subschemas: &mut Vec<Subschema<'a>>,
-) -> Result<(), SFault>
+) -> Result<(), Unlisted>
     ensures subschemas { OnOk result (map subschema_of subschemas.new.items ≡ map subschema_of subschemas.old.items ++ subschemas_of (member_events (place_of place.now) true members.now)) }
-    ensures ok { OnOk result (limit_break (length subschemas.old.items) (member_events (place_of place.now) true members.now) ≡ None) }
-    ensures err { IfErr result (IsLimitRefusal (limit_break (length subschemas.old.items) (member_events (place_of place.now) true members.now))) }
+    ensures ok { OnOk result (limit_break limits (length subschemas.old.items) (member_events (place_of place.now) true members.now) ≡ None) }
+    ensures err { IfErr result (IsLimitRefusal (limit_break limits (length subschemas.old.items) (member_events (place_of place.now) true members.now))) }
     ensures contexts { OnOk result ((raw : Data) → IsContext raw (place_of place.now) (object members.now) context.entry → All (IsSubschema raw) subschemas.old.items → All (IsSubschema raw) subschemas.new.items) }
 {
     members.reveal_invariant();
     for member in &members.members {
         let keyword = member.name.as_str();
-        if is_too_long(keyword, &member.tree) {
-            return Err(SFault::TooLarge(keyword_pointer(alloc, place, keyword)?));
-        }
+        check_keyword(alloc, limits, place, keyword, &member.tree)?;
         list_part(
             alloc,
+            limits,
             place,
             context,
             part_of(keyword),
@@ -340,14 +419,15 @@ fn list_keywords<'a>(
 #[cycle(listing)]
 fn list_properties<'a>(
     alloc: Global,
+    limits: Limits,
     place: &[Step<'a>],
     context: Context<'a>,
     properties: &'a Members,
     subschemas: &mut Vec<Subschema<'a>>,
-) -> Result<(), SFault>
+) -> Result<(), Unlisted>
     ensures subschemas { OnOk result (map subschema_of subschemas.new.items ≡ map subschema_of subschemas.old.items ++ subschemas_of (member_events (place_of place.now) false properties.now)) }
-    ensures ok { OnOk result (limit_break (length subschemas.old.items) (member_events (place_of place.now) false properties.now) ≡ None) }
-    ensures err { IfErr result (IsLimitRefusal (limit_break (length subschemas.old.items) (member_events (place_of place.now) false properties.now))) }
+    ensures ok { OnOk result (limit_break limits (length subschemas.old.items) (member_events (place_of place.now) false properties.now) ≡ None) }
+    ensures err { IfErr result (IsLimitRefusal (limit_break limits (length subschemas.old.items) (member_events (place_of place.now) false properties.now))) }
     ensures contexts { OnOk result ((raw s : Data) → IsContext raw (place_of place.now) s context.entry → HasPart s (properties_part) (object properties.now) → All (IsSubschema raw) subschemas.old.items → All (IsSubschema raw) subschemas.new.items) }
 {
     properties.reveal_invariant();
@@ -355,6 +435,7 @@ fn list_properties<'a>(
         let step = Step::Property(property.name.as_str());
         list_part(
             alloc,
+            limits,
             place,
             context,
             Part::Schema(step),
@@ -369,20 +450,29 @@ fn list_properties<'a>(
 #[cycle(listing)]
 fn list_branches<'a>(
     alloc: Global,
+    limits: Limits,
     place: &[Step<'a>],
     context: Context<'a>,
     junctor: Junctor,
     items: &'a Items,
     subschemas: &mut Vec<Subschema<'a>>,
-) -> Result<(), SFault>
+) -> Result<(), Unlisted>
     ensures subschemas { OnOk result (map subschema_of subschemas.new.items ≡ map subschema_of subschemas.old.items ++ subschemas_of (item_events (place_of place.now) (junctor_of junctor) 0 items.now)) }
-    ensures ok { OnOk result (limit_break (length subschemas.old.items) (item_events (place_of place.now) (junctor_of junctor) 0 items.now) ≡ None) }
-    ensures err { IfErr result (IsLimitRefusal (limit_break (length subschemas.old.items) (item_events (place_of place.now) (junctor_of junctor) 0 items.now))) }
+    ensures ok { OnOk result (limit_break limits (length subschemas.old.items) (item_events (place_of place.now) (junctor_of junctor) 0 items.now) ≡ None) }
+    ensures err { IfErr result (IsLimitRefusal (limit_break limits (length subschemas.old.items) (item_events (place_of place.now) (junctor_of junctor) 0 items.now))) }
     ensures contexts { OnOk result ((raw s : Data) → IsContext raw (place_of place.now) s context.entry → HasPart s (branches (junctor_of junctor)) (list items.now) → All (IsSubschema raw) subschemas.old.items → All (IsSubschema raw) subschemas.new.items) }
 {
     for (i, item) in items.items.iter().enumerate() {
         let step = branch(junctor, i as u64);
-        list_part(alloc, place, context, Part::Schema(step), item, subschemas)?;
+        list_part(
+            alloc,
+            limits,
+            place,
+            context,
+            Part::Schema(step),
+            item,
+            subschemas,
+        )?;
     }
     Ok(())
 }
@@ -391,15 +481,16 @@ fn list_branches<'a>(
 #[cycle(listing)]
 fn list_part<'a>(
     alloc: Global,
+    limits: Limits,
     place: &[Step<'a>],
     context: Context<'a>,
     part: Part<'a>,
     tree: &'a Tree,
     subschemas: &mut Vec<Subschema<'a>>,
-) -> Result<(), SFault>
+) -> Result<(), Unlisted>
     ensures subschemas { OnOk result (map subschema_of subschemas.new.items ≡ map subschema_of subschemas.old.items ++ subschemas_of (part_events (place_of place.now) (part_view part.entry) (data_of tree.now))) }
-    ensures ok { OnOk result (limit_break (length subschemas.old.items) (part_events (place_of place.now) (part_view part.entry) (data_of tree.now)) ≡ None) }
-    ensures err { IfErr result (IsLimitRefusal (limit_break (length subschemas.old.items) (part_events (place_of place.now) (part_view part.entry) (data_of tree.now)))) }
+    ensures ok { OnOk result (limit_break limits (length subschemas.old.items) (part_events (place_of place.now) (part_view part.entry) (data_of tree.now)) ≡ None) }
+    ensures err { IfErr result (IsLimitRefusal (limit_break limits (length subschemas.old.items) (part_events (place_of place.now) (part_view part.entry) (data_of tree.now)))) }
     ensures contexts { OnOk result ((raw s : Data) → IsContext raw (place_of place.now) s context.entry → HasPart s (part_view part.entry) (data_of tree.now) → All (IsSubschema raw) subschemas.old.items → All (IsSubschema raw) subschemas.new.items) }
 {
     match part {
@@ -407,16 +498,27 @@ fn list_part<'a>(
             Tree::Object(members) => {
                 let place = below(alloc, place, step)?;
                 let context = context_below(context, step, members);
-                list_schema(alloc, place.as_slice(), members, context, subschemas)
+                list_schema(
+                    alloc,
+                    limits,
+                    place.as_slice(),
+                    members,
+                    context,
+                    subschemas,
+                )
             }
             _ => Ok(()),
         },
         Part::Properties => match tree {
-            Tree::Object(members) => list_properties(alloc, place, context, members, subschemas),
+            Tree::Object(members) => list_properties(
+                alloc, limits, place, context, members, subschemas,
+            ),
             _ => Ok(()),
         },
         Part::Branches(junctor) => match tree {
-            Tree::List(items) => list_branches(alloc, place, context, junctor, items, subschemas),
+            Tree::List(items) => list_branches(
+                alloc, limits, place, context, junctor, items, subschemas,
+            ),
             _ => Ok(()),
         },
         Part::Other => Ok(()),

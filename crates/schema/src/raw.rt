@@ -1,15 +1,17 @@
+use crate::limits::Limits;
 use jtree::Tree;
 use std::marker::Model;
 
-/// The schema of a version as it is in the document, which a contract sees as its data: each keyword has its form, and
-/// no limit is passed.
+/// The schema of a version as it is in the document, which a contract sees as its data: each keyword has its form.
 pub struct RawSchema {
     tree: Tree,
+    /// Those that it was read within, since its places are listed again.
+    limits: Limits,
 }
 
 impl Drop for RawSchema {
     fn drop(self) {
-        let RawSchema { tree: _ } = self;
+        let RawSchema { tree: _, limits: _ } = self;
     }
 }
 
@@ -25,28 +27,38 @@ impl Model for RawSchema {
 
     ghost view = { λ a. data_of a.tree };
 
-    ghost use Rattle.schema.specs.Document.ReadFault.{IsSound};
+    ghost use Rattle.schema.specs.Document.Forms.{HasForms};
+    ghost use Rattle.schema.specs.Document.Limits.{IsWithinLimits};
 
-    ghost invariant = { λ a. IsSound (data_of a.tree) };
+    ghost invariant = { λ a. HasForms (data_of a.tree) × IsWithinLimits a.limits (data_of a.tree) };
 }
 
 impl RawSchema {
     ghost use Rattle.std.specs.Prelude.{◌≡◌};
     ghost use Rattle.jtree.specs.View.{data_of};
-    ghost use Rattle.schema.specs.Document.ReadFault.{IsSound};
+    ghost use Rattle.schema.specs.Document.Forms.{HasForms};
+    ghost use Rattle.schema.specs.Document.Limits.{IsWithinLimits};
 
-    /// The raw schema that a tree is.
-    pub(crate) fn new(tree: Tree) -> RawSchema
-        requires { IsSound (data_of tree) }
+    /// The raw schema that a tree is, which was read within these limits.
+    pub(crate) fn new(tree: Tree, limits: Limits) -> RawSchema
+        requires forms { HasForms (data_of tree) }
+        requires within { IsWithinLimits limits (data_of tree) }
         ensures { result ≡ data_of tree }
     {
-        RawSchema { tree }
+        RawSchema { tree, limits }
+    }
+
+    /// The limits that it was read within.
+    pub(crate) fn limits(&self) -> Limits
+        ensures { IsWithinLimits result self.now }
+    {
+        self.limits
     }
 
     /// The tree of the schema.
     pub fn tree(&self) -> &Tree
         ensures data { data_of result.now ≡ self.now }
-        ensures sound { IsSound self.now }
+        ensures forms { HasForms self.now }
     {
         &self.tree
     }

@@ -15,7 +15,7 @@ use Rattle.schema.specs.Document.Places.{Step, Place, property, map_value, items
 use Rattle.schema.specs.Nodes.Node.{Node, node, scalar, object, map as map_node, list, open_, Fields, no_fields, field, IsNode, AreOrdered, IsBeforeFields}
 use Rattle.schema.specs.Nodes.ByPlace.{Declared, field_at, node_below, node_at, AreNodesOf}
 use Rattle.schema.specs.Rules.Breaks.{Break, BreaksNone, AreBreaks, AreViolations, break_cmp, reported, reported_of}
-use Rattle.schema.specs.Document.ReadFault.{IsSound}
+use Rattle.schema.specs.Document.Forms.{HasForms}
 use Rattle.schema.specs.Nodes.Shape.{IsShapeRefusal}
 use Rattle.schema.specs.declared.refused.Refused.{Refused}
 use Rattle.schema.specs.declared.refused.Refused.TheVariants.{Violations, NoMemory}
@@ -291,12 +291,12 @@ bad_violations raw N bad found unbroken nodes only are_bad is = (
 )
 
 -- where none is bad, the schema is accepted
-none_bad : (raw : Data) (N : Node) → IsSound raw → BreaksNone raw → AreNodesOf true N raw → ((M : Node) → AreNodesOf true M raw → M ≡ N)
+none_bad : (raw : Data) (N : Node) → HasForms raw → BreaksNone raw → AreNodesOf true N raw → ((M : Node) → AreNodesOf true M raw → M ≡ N)
     → AreBadOf (defaults_of N) [] → IsRootOf N raw
-none_bad raw N sound unbroken nodes only none =
+none_bad raw N forms unbroken nodes only none =
     let good : HasGoodDefaults N = λ p M d h. all_good (defaults_of N) none (record { place = p; node = M; value = d }) (all_listed N p M d h) in
     record {
-      sound = sound;
+      forms = forms;
       unbroken = λ p r b. elim b [
         | inl other ↦ unbroken p r other
         | inr own ↦ let h = own.2 in h.bad (good p h.node h.default (subst (λ R. HasDefault R p h.node h.default) (only h.root h.nodes) h.is))
@@ -330,10 +330,10 @@ empty_bad : (bad : List Default) (found : List Violation) → found ≡ [] → m
 empty_bad [] found none is = refl
 empty_bad (x ∷ bad) found none is = let e = rw none at is in cc
 
-pub is_accepted : (raw : Data) (N : Node) (found : List Violation) → IsSound raw → BreaksNone raw → AreNodesOf true N raw → ((M : Node) → AreNodesOf true M raw → M ≡ N)
+pub is_accepted : (raw : Data) (N : Node) (found : List Violation) → HasForms raw → BreaksNone raw → AreNodesOf true N raw → ((M : Node) → AreNodesOf true M raw → M ≡ N)
     → AreAdded [] (defaults_of N) [] (map reported found) → found ≡ [] → IsRootOf N raw
-is_accepted raw N found sound unbroken nodes only a none =
-    none_bad raw N sound unbroken nodes only (subst (AreBadOf (defaults_of N)) (empty_bad a.bad found none a.reported) a.are_bad)
+is_accepted raw N found forms unbroken nodes only a none =
+    none_bad raw N forms unbroken nodes only (subst (AreBadOf (defaults_of N)) (empty_bad a.bad found none a.reported) a.are_bad)
 
 pub is_refused : (raw : Data) (N : Node) (found : List Violation) → BreaksNone raw → AreNodesOf true N raw → ((M : Node) → AreNodesOf true M raw → M ≡ N)
     → AreAdded [] (defaults_of N) [] (map reported found) → AreViolations (IsBroken raw) found

@@ -95,7 +95,7 @@ fn judge_defaults(alloc: Global, raw: &RawSchema, shape: Shape) -> Result<Shape,
     ensures accepted { IfOk result (λ s. IsRootOf s raw.now) }
     ensures refused { IfErr result (IsRefusal raw.now) }
 {
-    // for their contracts alone: the schema is sound, and has one tree of nodes
+    // for their contracts alone: the keywords have their forms, and the schema has one tree of nodes
     raw.tree();
     nodes_are_unique();
     let found = match bad_defaults(alloc, shape.root()) {

@@ -9,7 +9,7 @@ use Rattle.jtree.specs.Kind.{is_integer, is_text, is_list, is_object}
 use Rattle.jtree.specs.Path.{Path, item_at, member_at}
 use Rattle.jtree.specs.Internal.Lookups.{bool_cases, same_name}
 use Rattle.schema.specs.Nodes.Node.{Node}
-use Rattle.plan.specs.Pools.Pools.{items_list, most_entries, AreSmall}
+use Rattle.plan.specs.Pools.Pools.{items_list, standard, AreSmall}
 use Rattle.plan.specs.Pools.Document.{PoolForm, entries, pool_form, BreaksPool, other_name, no_list, other_entry, no_lists, no_list_at, BreaksForm, no_object, in_member, HasForm, integer_of, text_of, pools_of}
 use Rattle.plan.specs.Pools.PlanFault.{HasGoodPaths}
 use Rattle.suggest.specs.Suggested.Values.{all_integers, all_lengths}
@@ -110,8 +110,8 @@ has_form any integers names strings pa pi pn ps path b = elim (break_cases (obje
 
 pub suggested_form : (root : Node) → HasForm (suggested_document root)
 suggested_form root = has_form suggested_any (suggested_integers root) suggested_names (suggested_strings root) (refl, (refl, tt))
-    (all_of is_integer (λ z. integer z) (λ z. refl) (take most_entries (all_integers root))) (refl, (refl, tt))
-    (all_of is_text (λ n. text (letters n)) (λ n. refl) (take most_entries (all_lengths root)))
+    (all_of is_integer (λ z. integer z) (λ z. refl) (take standard.entries (all_integers root))) (refl, (refl, tt))
+    (all_of is_text (λ n. text (letters n)) (λ n. refl) (take standard.entries (all_lengths root)))
 
 -- ---- its pools
 
@@ -123,19 +123,19 @@ texts_back : (ns : List ℕ) → filter_map text_of (items_list (items_of (map (
 texts_back [] = refl
 texts_back (n ∷ ns) = ap (λ xs. letters n ∷ xs) (texts_back ns)
 
-pub pool_integers : (root : Node) → (pools_of (suggested_document root)).integers ≡ take most_entries (all_integers root)
-pool_integers root = integers_back (take most_entries (all_integers root))
+pub pool_integers : (root : Node) → (pools_of (suggested_document root)).integers ≡ take standard.entries (all_integers root)
+pool_integers root = integers_back (take standard.entries (all_integers root))
 
-pub pool_strings : (root : Node) → (pools_of (suggested_document root)).strings ≡ map letters (take most_entries (all_lengths root))
-pool_strings root = texts_back (take most_entries (all_lengths root))
+pub pool_strings : (root : Node) → (pools_of (suggested_document root)).strings ≡ map letters (take standard.entries (all_lengths root))
+pool_strings root = texts_back (take standard.entries (all_lengths root))
 
 at_most : {X : Type 0} (n : ℕ) (xs : List X) → length (take n xs) ≤ n
 at_most n xs = omega (arith, length-take n xs)
 
-pub suggested_small : (root : Node) → AreSmall (pools_of (suggested_document root))
+pub suggested_small : (root : Node) → AreSmall standard (pools_of (suggested_document root))
 suggested_small root = record {
-  integers = subst (λ zs. length zs ≤ most_entries) (sym (pool_integers root)) (at_most most_entries (all_integers root));
-  strings = subst (λ ts. length ts ≤ most_entries) (sym (pool_strings root)) (omega (arith, length-map (take most_entries (all_lengths root)) letters, at_most most_entries (all_lengths root)));
+  integers = subst (λ zs. length zs ≤ standard.entries) (sym (pool_integers root)) (at_most standard.entries (all_integers root));
+  strings = subst (λ ts. length ts ≤ standard.entries) (sym (pool_strings root)) (omega (arith, length-map (take standard.entries (all_lengths root)) letters, at_most standard.entries (all_lengths root)));
   names = omega arith;
   any = omega arith;
   paths = omega arith;

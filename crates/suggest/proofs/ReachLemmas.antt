@@ -30,7 +30,7 @@ use Rattle.stored.specs.Objects.StoredByParts.{StoredByParts}
 use Rattle.stored.specs.Objects.Tests.{accepts_scalar, is_same, is_below, is_above, is_below_minimum, is_above_maximum, meets_constraints, meets_branch, holds}
 use Rattle.explain.specs.Paths.FieldPath.{FieldPath, place_step, place_of}
 use Rattle.explain.specs.Paths.PathText.{path_text}
-use Rattle.plan.specs.Pools.Pools.{Pools, most_entries}
+use Rattle.plan.specs.Pools.Pools.{Pools, standard}
 use Rattle.plan.specs.Pools.Document.{pools_of}
 use Rattle.plan.specs.Samples.Over.{is_in, scalars_of, IsOver}
 use Rattle.suggest.specs.Suggested.Scalars.{in_scalar, in_branches, in_scalars, in_fields}
@@ -327,7 +327,7 @@ reach_scalar law root p n d k t all any one negated (tree.integer z) there h sou
     let both = two_fail _ _ (sym (bounds_alone t all any one negated (tree.integer z) h ∙ integer_test t z h.0) ∙ here.1) in
     let r = integer_found t (in_scalars around_bounds root) (λ w a. found around_bounds root (place_of p) N w there (own_found around_bounds t all any one negated w a)) z sound (record { low = both.0; high = both.1 }) in
     let asked : holds (validations t all any one negated) (tree.integer r.value) ≡ true = bounds_alone t all any one negated (tree.integer r.value) h ∙ (integer_test t r.value h.0 ∙ rw (r.allowed.low, r.allowed.high) refl) in
-    let among : Among (Pool root).integers r.value = subst (λ zs. Among zs r.value) (sym (pool_integers root ∙ take_all most_entries (all_integers root) within)) (ascending_has int_cmp exact_signed (pos 0 ∷ pos 1 ∷ in_scalars around_bounds root) r.value r.among) in
+    let among : Among (Pool root).integers r.value = subst (λ zs. Among zs r.value) (sym (pool_integers root ∙ take_all standard.entries (all_integers root) within)) (ascending_has int_cmp exact_signed (pos 0 ∷ pos 1 ∷ in_scalars around_bounds root) r.value r.among) in
     record {
       candidate = tree.integer r.value;
       alike = refl;
@@ -346,7 +346,7 @@ reach_scalar law root p n d k t all any one negated (tree.text s) there h sound 
     let asked : holds (validations t all any one negated) (tree.text w) ≡ true = bounds_alone t all any one negated (tree.text w) h ∙ (text_test t w h.0 ∙ rw (letters_count r.0, r.2, r.3) refl) in
     let near = wider r.0 (short_lengths t) (in_scalars short_lengths root) (λ m a. found short_lengths root (place_of p) N m there (own_found short_lengths t all any one negated m a)) r.1 in
     let among : Among (Pool root).strings w =
-    subst (λ ts. Among ts w) (sym (pool_strings root ∙ ap (map letters) (take_all most_entries (all_lengths root) within.1))) (among_map letters (all_lengths root) r.0 (ascending_has nat_cmp exact_unsigned (1 ∷ in_scalars short_lengths root) r.0 near)) in
+    subst (λ ts. Among ts w) (sym (pool_strings root ∙ ap (map letters) (take_all standard.entries (all_lengths root) within.1))) (among_map letters (all_lengths root) r.0 (ascending_has nat_cmp exact_unsigned (1 ∷ in_scalars short_lengths root) r.0 near)) in
     record {
       candidate = tree.text w;
       alike = refl;

@@ -14,7 +14,7 @@ use Rattle.jtree.specs.Internal.Lookups.{bool_cases}
 use Rattle.jtree.specs.Internal.Rising.{Among, among_parts}
 use Rattle.schema.specs.Nodes.Node.{Validations, validations, Branches, no_branches, branch, Node, node, scalar, object, map as map_node, list as list_node, open_, Fields, no_fields, field}
 use Rattle.schema.specs.declared.node.Constraints.{Constraints}
-use Rattle.plan.specs.Pools.Pools.{most_entries}
+use Rattle.plan.specs.Pools.Pools.{standard}
 use Rattle.suggest.specs.Suggested.Scalars.{in_scalar, in_branches, in_scalars, in_fields}
 use Rattle.suggest.specs.Suggested.Values.{fits_64_bits, around, around_bounds, longest, short_length, short_lengths, all_integers, all_lengths}
 use Rattle.suggest.specs.Suggested.Document.{items_of, letters, suggested_integers, suggested_strings, suggested_names, suggested_document}
@@ -119,13 +119,13 @@ mapped P f (x ∷ xs) h d (inr a) = mapped P f xs (λ y b. h y (inr b)) d a
 
 integers_length : (root : Node) → length (items_text false (items_json (items_of (suggested_integers root)))) ≤ 1345
 integers_length root =
-    let zs = take most_entries (all_integers root) in
-    omega (arith, items_length 20 false (suggested_integers root) (mapped (λ d. length (compact d) ≤ 20) (λ z. integer z) zs (λ z a. integer_length z (integer_fits root z (among_taken most_entries (all_integers root) z a)))), length-map zs (λ z. integer z), length-take most_entries (all_integers root))
+    let zs = take standard.entries (all_integers root) in
+    omega (arith, items_length 20 false (suggested_integers root) (mapped (λ d. length (compact d) ≤ 20) (λ z. integer z) zs (λ z a. integer_length z (integer_fits root z (among_taken standard.entries (all_integers root) z a)))), length-map zs (λ z. integer z), length-take standard.entries (all_integers root))
 
 strings_length : (root : Node) → length (items_text false (items_json (items_of (suggested_strings root)))) ≤ 4289
 strings_length root =
-    let ns = take most_entries (all_lengths root) in
-    omega (arith, items_length 66 false (suggested_strings root) (mapped (λ d. length (compact d) ≤ 66) (λ n. text (letters n)) ns (λ n a. omega (arith, letters_text n, length_short root n (among_taken most_entries (all_lengths root) n a)))), length-map ns (λ n. text (letters n)), length-take most_entries (all_lengths root))
+    let ns = take standard.entries (all_lengths root) in
+    omega (arith, items_length 66 false (suggested_strings root) (mapped (λ d. length (compact d) ≤ 66) (λ n. text (letters n)) ns (λ n a. omega (arith, letters_text n, length_short root n (among_taken standard.entries (all_lengths root) n a)))), length-map ns (λ n. text (letters n)), length-take standard.entries (all_lengths root))
 
 pub suggested_short : (root : Node) → length (compact (suggested_document root)) ≤ most_bytes
 unfolding escape_byte
@@ -140,4 +140,4 @@ depth_none f h [] = refl
 depth_none f h (x ∷ xs) = rw (h x, depth_none f h xs) refl
 
 pub suggested_shallow : (root : Node) → depth (suggested_document root) ≤ most_depth
-suggested_shallow root = rw (depth_none (λ z. integer z) (λ z. refl) (take most_entries (all_integers root)), depth_none (λ n. text (letters n)) (λ n. refl) (take most_entries (all_lengths root))) (omega arith)
+suggested_shallow root = rw (depth_none (λ z. integer z) (λ z. refl) (take standard.entries (all_integers root)), depth_none (λ n. text (letters n)) (λ n. refl) (take standard.entries (all_lengths root))) (omega arith)

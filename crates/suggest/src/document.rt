@@ -5,7 +5,7 @@ ghost use Rattle.jtree.specs.Text.{compact};
 ghost use Rattle.jtree.specs.Data.{IsTree, depth, integer, text, list as list_of, object as object_of, no_members};
 ghost use Rattle.jtree.specs.View.{data_of};
 ghost use Rattle.schema.specs.Nodes.View.{node_of};
-ghost use Rattle.plan.specs.Pools.Pools.{AreSmall};
+ghost use Rattle.plan.specs.Pools.Pools.{standard, AreSmall};
 ghost use Rattle.plan.specs.Pools.Document.{HasForm, pools_of};
 ghost use Rattle.plan.specs.Pools.PlanFault.{HasGoodPaths};
 ghost use Rattle.suggest.specs.Suggested.Document.{items_of, letters, suggested_any, suggested_names, suggested_document};
@@ -28,7 +28,7 @@ use stored::Schema;
 pub fn suggested_pools(alloc: Global, schema: &Schema) -> Result<Tree, AllocError>
     ensures document { IfOk result (λ d. data_of d ≡ suggested_document schema.now) }
     ensures form { HasForm (suggested_document schema.now) }
-    ensures small { AreSmall (pools_of (suggested_document schema.now)) }
+    ensures small { AreSmall standard (pools_of (suggested_document schema.now)) }
     ensures paths { HasGoodPaths schema.now (pools_of (suggested_document schema.now)) }
     ensures shallow { depth (suggested_document schema.now) ≤ most_depth }
     ensures short { length (compact (suggested_document schema.now)) ≤ most_bytes }

@@ -1,13 +1,13 @@
 //! The integers and the lengths in the constraints of a schema's scalars.
 ghost use Rattle.std.specs.Prelude.{◌≡◌, ◌++◌, IfOk, OnOk, take};
 ghost use Rattle.schema.specs.Nodes.View.{node_of, validations_of};
-ghost use Rattle.plan.specs.Pools.Pools.{most_entries};
+ghost use Rattle.plan.specs.Pools.Pools.{standard};
 ghost use Rattle.suggest.specs.Internal.Finding.{none_or_one};
 ghost use Rattle.suggest.specs.Suggested.Scalars.{in_scalar, in_branches, in_scalars, in_fields};
 ghost use Rattle.suggest.specs.Suggested.Values.{around as around_of, around_bounds, short_length, short_lengths, all_integers, all_lengths};
 
 use crate::putting::put_in_order;
-use plan::MOST_ENTRIES;
+use plan::PoolLimits;
 use schema::{Branches, Constraints, Fields, Node, Sort, Validations};
 use std::alloc::{AllocError, Global};
 
@@ -25,8 +25,8 @@ pub(crate) struct Found {
 
 /// The integers and the lengths for a schema with this root, in ascending order, each once, as many as pools may have.
 pub(crate) fn find(alloc: Global, root: &Node) -> Result<Found, AllocError>
-    ensures integers { IfOk result (λ f. f.integers.items ≡ take most_entries (all_integers (node_of root.now))) }
-    ensures lengths { IfOk result (λ f. f.lengths.items ≡ take most_entries (all_lengths (node_of root.now))) }
+    ensures integers { IfOk result (λ f. f.integers.items ≡ take standard.entries (all_integers (node_of root.now))) }
+    ensures lengths { IfOk result (λ f. f.lengths.items ≡ take standard.entries (all_lengths (node_of root.now))) }
 {
     let mut found = Found {
         integers: vec![in alloc; 0, 1]?,
@@ -35,8 +35,8 @@ pub(crate) fn find(alloc: Global, root: &Node) -> Result<Found, AllocError>
     add_node(&mut found, root)?;
     put_in_order(&mut found.integers);
     put_in_order(&mut found.lengths);
-    found.integers.truncate(MOST_ENTRIES);
-    found.lengths.truncate(MOST_ENTRIES);
+    found.integers.truncate(PoolLimits::STANDARD.entries);
+    found.lengths.truncate(PoolLimits::STANDARD.entries);
     Ok(found)
 }
 

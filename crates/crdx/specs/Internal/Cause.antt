@@ -15,6 +15,7 @@ use Rattle.crdx.specs.Program.ObjectAnswer.{IsObjectAnswer}
 use Rattle.crdx.specs.Program.Requested.{IsRequestedSchema, HasReadFault, HasPoolsFault, IsRequested}
 use Rattle.crdx.specs.Program.RunResult.{IsAnswer, IsInputRefused, Effects, WritesNothing}
 use Rattle.plan.specs.Pools.Pools.{Pools as PoolsData}
+use Rattle.plan.specs.declared.pool_limits.PoolLimits.{PoolLimits}
 use Rattle.plan.specs.Pools.PlanFault.{HasGoodPaths, IsFirstBadPath}
 use Rattle.plan.specs.Samples.Question.{Question}
 use Rattle.enumerate.specs.Page.{IsPage, IsSampleOf}
@@ -23,6 +24,7 @@ use Rattle.crdx.specs.Program.InputFault.{IsOfBytes}
 use Rattle.crdx.specs.declared.walk.line.Envelope.{Envelope}
 use Rattle.crdx.specs.declared.arguments.request.Request.{Request}
 use Rattle.crdx.specs.declared.arguments.request.Request.TheVariants.{Sample}
+use Rattle.crdx.specs.declared.arguments.request.CommonArguments.{CommonArguments}
 use Rattle.crdx.specs.declared.arguments.request.ObjectArguments.{ObjectArguments}
 use Rattle.crdx.specs.declared.arguments.request.ObjectCommand.{ObjectCommand}
 use Rattle.crdx.specs.declared.arguments.request.SampleArguments.{SampleArguments}
@@ -47,28 +49,28 @@ IsBrokenCause raw NoMemory = Unit {0}
 IsBrokenCause raw _ = ⊥
 
 -- why no schema is read
-abbrev pub IsReadCause : Documents → ℕ → ℕ → Option (List ℕ) → List ℕ → Cause → Type 0
-IsReadCause has before now crd version (Read i) = (i ≡ input.Crd) × HasFailed before now
-IsReadCause has before now crd version (Document i fault) = (i ≡ input.Crd) × IsOfBytes fault × has crd (Err fault)
-IsReadCause has before now crd version (Crd fault) = HasReadFault has crd version fault
-IsReadCause has before now crd version (Place input.Crd code.KeywordForm p) = HasReadFault has crd version (s.KeywordForm p)
-IsReadCause has before now crd version (Place input.Crd code.TooLarge p) = HasReadFault has crd version (s.TooLarge p)
-IsReadCause has before now crd version NoMemory = Unit {0}
-IsReadCause has before now crd version _ = ⊥
+abbrev pub IsReadCause : Documents → ℕ → ℕ → CommonArguments → Cause → Type 0
+IsReadCause has before now arguments (Read i) = (i ≡ input.Crd) × HasFailed before now
+IsReadCause has before now arguments (Document i fault) = (i ≡ input.Crd) × IsOfBytes fault × has (file_name arguments.crd) (Err fault)
+IsReadCause has before now arguments (Crd fault) = HasReadFault has arguments fault
+IsReadCause has before now arguments (Place input.Crd code.KeywordForm p) = HasReadFault has arguments (s.KeywordForm p)
+IsReadCause has before now arguments (Place input.Crd code.TooLarge p) = HasReadFault has arguments (s.TooLarge p)
+IsReadCause has before now arguments NoMemory = Unit {0}
+IsReadCause has before now arguments _ = ⊥
 
 -- why there is no schema that is taken
-abbrev pub IsSchemaCause : Documents → ℕ → ℕ → Option (List ℕ) → List ℕ → Cause → Type 0
-IsSchemaCause has before now crd version cause =
-    IsReadCause has before now crd version cause ⊎ ((raw : Data) × IsRequestedSchema has crd version raw × IsBrokenCause raw cause)
+abbrev pub IsSchemaCause : Documents → ℕ → ℕ → CommonArguments → Cause → Type 0
+IsSchemaCause has before now arguments cause =
+    IsReadCause has before now arguments cause ⊎ ((raw : Data) × IsRequestedSchema has arguments raw × IsBrokenCause raw cause)
 
 -- why there are no pools
-abbrev pub IsPoolsCause : Documents → ℕ → ℕ → Option (Option (Bor (List ℕ))) → Cause → Type 0
-IsPoolsCause has before now pools (Read i) = (i ≡ input.Pools) × HasFailed before now
-IsPoolsCause has before now pools (Document i fault) = (i ≡ input.Pools) × IsOfBytes fault × IsSomeAnd pools (λ name. has (file_name name) (Err fault))
-IsPoolsCause has before now pools (Pools fault) = HasPoolsFault has pools fault
-IsPoolsCause has before now pools (Place input.Pools code.Form p) = HasPoolsFault has pools (Form p)
-IsPoolsCause has before now pools NoMemory = Unit {0}
-IsPoolsCause has before now pools _ = ⊥
+abbrev pub IsPoolsCause : Documents → ℕ → ℕ → PoolLimits → Option (Option (Bor (List ℕ))) → Cause → Type 0
+IsPoolsCause has before now limits pools (Read i) = (i ≡ input.Pools) × HasFailed before now
+IsPoolsCause has before now limits pools (Document i fault) = (i ≡ input.Pools) × IsOfBytes fault × IsSomeAnd pools (λ name. has (file_name name) (Err fault))
+IsPoolsCause has before now limits pools (Pools fault) = HasPoolsFault has limits pools fault
+IsPoolsCause has before now limits pools (Place input.Pools code.Form p) = HasPoolsFault has limits pools (Form p)
+IsPoolsCause has before now limits pools NoMemory = Unit {0}
+IsPoolsCause has before now limits pools _ = ⊥
 
 -- why there is no plan: a path of the pools is bad
 abbrev pub IsPlanCause : Node → PoolsData → Cause → Type 0

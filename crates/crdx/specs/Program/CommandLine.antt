@@ -11,12 +11,11 @@ use Rattle.clap.specs.declared.builder.value_parser.ValueParser.TheVariants.{Sig
 use Rattle.clap.specs.declared.error.kind.ErrorKind.{ErrorKind}
 use Rattle.clap.specs.declared.error.kind.ErrorKind.TheVariants.{DisplayHelp, DisplayVersion, OutOfMemory}
 use Rattle.crdx.specs.Program.Documents.{file_name}
-use Rattle.crdx.specs.declared.arguments.request.CheckArguments.{CheckArguments}
+use Rattle.crdx.specs.declared.arguments.request.CommonArguments.{CommonArguments}
 use Rattle.crdx.specs.declared.arguments.request.ExplainArguments.{ExplainArguments}
 use Rattle.crdx.specs.declared.arguments.request.ObjectArguments.{ObjectArguments}
 use Rattle.crdx.specs.declared.arguments.request.ObjectCommand.{ObjectCommand}
 use Rattle.crdx.specs.declared.arguments.request.ObjectCommand.TheVariants.{Validate, Prune, Default, Leaves}
-use Rattle.crdx.specs.declared.arguments.request.PoolsArguments.{PoolsArguments}
 use Rattle.crdx.specs.declared.arguments.request.SampleArguments.{SampleArguments}
 use Rattle.crdx.specs.declared.arguments.request.Request.{Request}
 use Rattle.crdx.specs.declared.arguments.request.Request.TheVariants.{Check, Explain, Object, SuggestPools, Sample, Help, UsageError, NoMemory}
@@ -37,12 +36,9 @@ number_rule id most usual = record (option_rule id) { parser = Some (Signed (pos
 abbrev pub flag_rule : Text → Rule
 flag_rule id = record (new_rule id) { long = Some id; action = Some SetTrue }
 
--- a command that takes a definition and a version
+-- a command, with the arguments that every command takes
 abbrev pub crd_app : Text → App
-crd_app name = with_rule (with_rule (new_app name) (required_rule (codes "CRD"))) (required_rule (codes "VERSION"))
-
-abbrev pub check_app : App
-check_app = with_rule (crd_app (codes "check")) (flag_rule (codes "why"))
+crd_app name = with_rule (with_rule (with_rule (with_rule (new_app name) (required_rule (codes "CRD"))) (required_rule (codes "VERSION"))) (flag_rule (codes "large"))) (flag_rule (codes "why"))
 
 abbrev pub explain_app : App
 explain_app = with_rule (crd_app (codes "explain")) (new_rule (codes "PATH"))
@@ -59,7 +55,7 @@ top_app = on_top (λ s. record s { has_version = true; subcommand_required = tru
 
 abbrev pub crdx_app : App
 crdx_app = with_subcommand (with_subcommand (with_subcommand (with_subcommand (with_subcommand (with_subcommand (with_subcommand (with_subcommand top_app
-    check_app.top) explain_app.top) (object_app (codes "validate")).top) (object_app (codes "prune")).top) (object_app (codes "default")).top)
+    (crd_app (codes "check")).top) explain_app.top) (object_app (codes "validate")).top) (object_app (codes "prune")).top) (object_app (codes "default")).top)
     (object_app (codes "leaves")).top) (crd_app (codes "pools")).top) sample_app.top
 
 -- what `clap` refuses of the arguments after the program's name, and the command that they name with the value of each of its arguments
@@ -102,24 +98,18 @@ pools_input rows = option_map input_of (first_of (codes "pools") rows)
 abbrev pub IsReadTwice : List Row → Option (Option Text) → Type 0
 IsReadTwice rows other = (crd_input rows ≡ None) × (other ≡ Some None)
 
-abbrev pub AreCheckArguments : List Row → CheckArguments → Type 0
-AreCheckArguments rows arguments = (file_name arguments.crd ≡ crd_input rows) × (arguments.version.now ≡ value_of (codes "VERSION") rows)
-    × IsFlagOf (codes "why") rows arguments.why
+abbrev pub AreCommonArguments : List Row → CommonArguments → Type 0
+AreCommonArguments rows arguments = (file_name arguments.crd ≡ crd_input rows) × (arguments.version.now ≡ value_of (codes "VERSION") rows)
+    × IsFlagOf (codes "large") rows arguments.large × IsFlagOf (codes "why") rows arguments.why
 
 abbrev pub AreExplainArguments : List Row → ExplainArguments → Type 0
-AreExplainArguments rows arguments = (file_name arguments.crd ≡ crd_input rows) × (arguments.version.now ≡ value_of (codes "VERSION") rows)
-    × (option_map (λ s. s.now) arguments.path ≡ first_of (codes "PATH") rows)
+AreExplainArguments rows arguments = AreCommonArguments rows arguments.common × (option_map (λ s. s.now) arguments.path ≡ first_of (codes "PATH") rows)
 
 abbrev pub AreObjectArguments : ObjectCommand → List Row → ObjectArguments → Type 0
-AreObjectArguments command rows arguments = (arguments.command ≡ command) × (file_name arguments.crd ≡ crd_input rows) × (arguments.version.now ≡ value_of (codes "VERSION") rows)
-    × (file_name arguments.object ≡ object_input rows)
-
-abbrev pub ArePoolsArguments : List Row → PoolsArguments → Type 0
-ArePoolsArguments rows arguments = (file_name arguments.crd ≡ crd_input rows) × (arguments.version.now ≡ value_of (codes "VERSION") rows)
+AreObjectArguments command rows arguments = (arguments.command ≡ command) × AreCommonArguments rows arguments.common × (file_name arguments.object ≡ object_input rows)
 
 abbrev pub AreSampleArguments : List Row → SampleArguments → Type 0
-AreSampleArguments rows arguments = (file_name arguments.crd ≡ crd_input rows) × (arguments.version.now ≡ value_of (codes "VERSION") rows)
-    × (option_map file_name arguments.pools ≡ pools_input rows)
+AreSampleArguments rows arguments = AreCommonArguments rows arguments.common × (option_map file_name arguments.pools ≡ pools_input rows)
     × (option_map (λ s. s.now) arguments.after ≡ first_of (codes "after") rows) × (option_map (λ s. s.now) arguments.name ≡ first_of (codes "name") rows)
     × IsNumberOf (codes "limit") 127 rows arguments.limit × IsNumberOf (codes "count") 10000 rows arguments.count
 
@@ -139,11 +129,11 @@ ReadsInputTwice named = (rows : List Row) × (((command : ObjectCommand) × (nam
 
 -- what a command that was named asks for
 abbrev pub IsCommand : Option (Text × List Row) → Request → Type 0
-IsCommand named (Check arguments) = (rows : List Row) × (named ≡ Some (codes "check", rows)) × AreCheckArguments rows arguments
+IsCommand named (Check arguments) = (rows : List Row) × (named ≡ Some (codes "check", rows)) × AreCommonArguments rows arguments
 IsCommand named (Explain arguments) = (rows : List Row) × (named ≡ Some (codes "explain", rows)) × AreExplainArguments rows arguments
 IsCommand named (Object arguments) = (rows : List Row) × (named ≡ Some (object_command_name arguments.command, rows)) × AreObjectArguments arguments.command rows arguments
     × (IsReadTwice rows (Some (object_input rows)) → ⊥)
-IsCommand named (SuggestPools arguments) = (rows : List Row) × (named ≡ Some (codes "pools", rows)) × ArePoolsArguments rows arguments
+IsCommand named (SuggestPools arguments) = (rows : List Row) × (named ≡ Some (codes "pools", rows)) × AreCommonArguments rows arguments
 IsCommand named (Sample arguments) = (rows : List Row) × (named ≡ Some (codes "sample", rows)) × AreSampleArguments rows arguments × (IsReadTwice rows (pools_input rows) → ⊥)
 IsCommand named (Help text) = ⊥
 IsCommand named (UsageError text) = All (λ name. (rows : List Row) → named ≢ Some (name, rows)) command_names ⊎ ReadsInputTwice named

@@ -11,65 +11,64 @@ use Rattle.stored.specs.Schemas.Accepted.{IsBroken}
 use Rattle.crdx.specs.Output.Line.{line, lines}
 use Rattle.crdx.specs.Output.PartialOutput.{IsCutBetweenLines, IsCutByFailure}
 use Rattle.jtree.specs.Failures.{HasFailed}
-use Rattle.crdx.specs.Program.Documents.{Documents, file_name}
+use Rattle.crdx.specs.Program.Documents.{Documents}
 use Rattle.crdx.specs.Program.FieldAnswer.{IsFieldAnswer}
 use Rattle.crdx.specs.Program.ObjectAnswer.{IsObjectAnswer}
 use Rattle.crdx.specs.Program.ViolationLines.{violation_lines, explained_lines}
 use Rattle.suggest.specs.Suggested.Document.{suggested_document}
-use Rattle.crdx.specs.Program.Requested.{IsRequestedSchema, HasAcceptedSchema, IsCrdRefused, AreRootAndPools, IsAfterRefused, IsRequested, ArePoolsRefused, IsRequestedRoot, IsRequestedObject, IsObjectRefused}
+use Rattle.crdx.specs.Program.Requested.{pool_limits_of, IsRequestedSchema, HasAcceptedSchema, IsCrdRefused, AreRootAndPools, IsAfterRefused, IsRequested, ArePoolsRefused, IsRequestedRoot, IsRequestedObject, IsObjectRefused}
 use Rattle.plan.specs.Pools.Pools.{Pools}
 use Rattle.plan.specs.Pools.PlanFault.{HasGoodPaths, IsFirstBadPath}
 use Rattle.plan.specs.Samples.Question.{Question}
 use Rattle.enumerate.specs.Page.{IsPage, IsSampleOf}
 use Rattle.crdx.specs.declared.walk.line.Envelope.{Envelope}
-use Rattle.crdx.specs.declared.arguments.request.CheckArguments.{CheckArguments}
+use Rattle.crdx.specs.declared.arguments.request.CommonArguments.{CommonArguments}
 use Rattle.crdx.specs.declared.arguments.request.ExplainArguments.{ExplainArguments}
 use Rattle.crdx.specs.declared.arguments.request.ObjectArguments.{ObjectArguments}
-use Rattle.crdx.specs.declared.arguments.request.PoolsArguments.{PoolsArguments}
 use Rattle.crdx.specs.declared.arguments.request.SampleArguments.{SampleArguments}
 use Rattle.crdx.specs.declared.arguments.request.Request.{Request}
 use Rattle.crdx.specs.declared.arguments.request.Request.TheVariants.{Check, Explain, Object, SuggestPools, Sample, Help, UsageError}
 
 -- these are all breaks of the schema that is asked for, and there are some
-abbrev pub HasBreaks : Documents → Option (List ℕ) → List ℕ → List Break → Type 0
-HasBreaks has crd version breaks = (raw : Data) × IsRequestedSchema has crd version raw × AreBreaks (IsBroken raw) breaks × (breaks ≢ [])
+abbrev pub HasBreaks : Documents → CommonArguments → List Break → Type 0
+HasBreaks has arguments breaks = (raw : Data) × IsRequestedSchema has arguments raw × AreBreaks (IsBroken raw) breaks × (breaks ≢ [])
 
 -- the answer to a request: the exit status, and the whole text on standard output
 pub data IsAnswer (has : Documents) : Request → ℕ → List ℕ → Type 0 where
-  structural : (arguments : CheckArguments) → HasAcceptedSchema has (file_name arguments.crd) arguments.version.now → IsAnswer has (Check arguments) 0 (codes "structural\n")
-  violations : (arguments : CheckArguments) (breaks : List Break) → arguments.why ≡ false → HasBreaks has (file_name arguments.crd) arguments.version.now breaks
+  structural : (arguments : CommonArguments) → HasAcceptedSchema has arguments → IsAnswer has (Check arguments) 0 (codes "structural\n")
+  violations : (arguments : CommonArguments) (breaks : List Break) → arguments.why ≡ false → HasBreaks has arguments breaks
       → IsAnswer has (Check arguments) 1 (violation_lines (map reported_of breaks))
   -- the violations with their reasons
-  explained : (arguments : CheckArguments) (raw : Data) (found : List Explained) → arguments.why ≡ true → IsRequestedSchema has (file_name arguments.crd) arguments.version.now raw
+  explained : (arguments : CommonArguments) (raw : Data) (found : List Explained) → arguments.why ≡ true → IsRequestedSchema has arguments raw
       → AreExplained (IsBroken raw) raw found → found ≢ [] → IsAnswer has (Check arguments) 1 (explained_lines found)
-  fields : (arguments : ExplainArguments) (N : Node) (status : ℕ) (answer : List ℕ) → IsRequestedRoot has (file_name arguments.crd) arguments.version.now N
+  fields : (arguments : ExplainArguments) (N : Node) (status : ℕ) (answer : List ℕ) → IsRequestedRoot has arguments.common N
       → IsFieldAnswer N arguments.path status answer → IsAnswer has (Explain arguments) status answer
   -- the violations are on standard error
-  no_fields : (arguments : ExplainArguments) (breaks : List Break) → HasBreaks has (file_name arguments.crd) arguments.version.now breaks → IsAnswer has (Explain arguments) 1 []
+  no_fields : (arguments : ExplainArguments) (breaks : List Break) → HasBreaks has arguments.common breaks → IsAnswer has (Explain arguments) 1 []
   object : (arguments : ObjectArguments) (N : Node) (document : Data) (status : ℕ) (answer : List ℕ) → IsRequestedObject has arguments N document
       → IsObjectAnswer N document arguments.command status answer → IsAnswer has (Object arguments) status answer
-  no_object : (arguments : ObjectArguments) (breaks : List Break) → HasBreaks has (file_name arguments.crd) arguments.version.now breaks → IsAnswer has (Object arguments) 1 []
-  pools : (arguments : PoolsArguments) (N : Node) → IsRequestedRoot has (file_name arguments.crd) arguments.version.now N → IsAnswer has (SuggestPools arguments) 0 (line None (suggested_document N))
-  no_pools : (arguments : PoolsArguments) (breaks : List Break) → HasBreaks has (file_name arguments.crd) arguments.version.now breaks → IsAnswer has (SuggestPools arguments) 1 []
+  no_object : (arguments : ObjectArguments) (breaks : List Break) → HasBreaks has arguments.common breaks → IsAnswer has (Object arguments) 1 []
+  pools : (arguments : CommonArguments) (N : Node) → IsRequestedRoot has arguments N → IsAnswer has (SuggestPools arguments) 0 (line None (suggested_document N))
+  no_pools : (arguments : CommonArguments) (breaks : List Break) → HasBreaks has arguments breaks → IsAnswer has (SuggestPools arguments) 1 []
   samples : (arguments : SampleArguments) (q : Question) (after : Option Data) (e : Option Envelope) (items : List Data) (end : Bool) → IsRequested has arguments q after e
       → IfSome after (IsSampleOf q) → IsPage q after arguments.count items end → IsAnswer has (Sample arguments) 0 (lines e items)
   -- the tree to go on from is no sample
   no_sample : (arguments : SampleArguments) (q : Question) (after : Data) (e : Option Envelope) → IsRequested has arguments q (Some after) e → (IsSampleOf q after → ⊥)
       → IsAnswer has (Sample arguments) 1 []
-  no_samples : (arguments : SampleArguments) (breaks : List Break) → HasBreaks has (file_name arguments.crd) arguments.version.now breaks → IsAnswer has (Sample arguments) 1 []
+  no_samples : (arguments : SampleArguments) (breaks : List Break) → HasBreaks has arguments.common breaks → IsAnswer has (Sample arguments) 1 []
   help : (said : String Global) → IsAnswer has (Help said) 0 (string_bytes said)
   usage_error : (said : String Global) → IsAnswer has (UsageError said) 2 []
 
 -- an input of the request is refused: an object or pools only where the schema is taken, a path of the pools only where their
 -- document is, and the tree to go on from only where all paths are
 abbrev pub IsInputRefused : Documents → Request → Type 0
-IsInputRefused has (Check arguments) = IsCrdRefused has (file_name arguments.crd) arguments.version.now
-IsInputRefused has (Explain arguments) = IsCrdRefused has (file_name arguments.crd) arguments.version.now
-IsInputRefused has (Object arguments) = IsCrdRefused has (file_name arguments.crd) arguments.version.now
-    ⊎ (HasAcceptedSchema has (file_name arguments.crd) arguments.version.now × IsObjectRefused has arguments)
-IsInputRefused has (SuggestPools arguments) = IsCrdRefused has (file_name arguments.crd) arguments.version.now
-IsInputRefused has (Sample arguments) = IsCrdRefused has (file_name arguments.crd) arguments.version.now
-    ⊎ ((HasAcceptedSchema has (file_name arguments.crd) arguments.version.now × ArePoolsRefused has arguments.pools)
+IsInputRefused has (Check arguments) = IsCrdRefused has arguments
+IsInputRefused has (Explain arguments) = IsCrdRefused has arguments.common
+IsInputRefused has (Object arguments) = IsCrdRefused has arguments.common
+    ⊎ (HasAcceptedSchema has arguments.common × IsObjectRefused has arguments)
+IsInputRefused has (SuggestPools arguments) = IsCrdRefused has arguments
+IsInputRefused has (Sample arguments) = IsCrdRefused has arguments.common
+    ⊎ ((HasAcceptedSchema has arguments.common × ArePoolsRefused has (pool_limits_of arguments.common) arguments.pools)
     ⊎ ((N : Node) × (P : Pools) × AreRootAndPools has arguments N P
     × (((text : List ℕ) × IsFirstBadPath N P text) ⊎ (HasGoodPaths N P × IsAfterRefused arguments.after))))
 IsInputRefused has _ = ⊥

@@ -118,15 +118,16 @@ Codes of an input that is refused:
        `jq '.spec.versions[].name' FILE` prints.
   S3   The value of a keyword has the wrong form.
   S4   A limit is passed: 512 places in the schema, 24 steps to a place, 32
-       properties, 32 names in required, 4 map keys, 64 values in an enum. Most
-       often an object has more properties: those that
-       `jq '.. | .properties? | select(length > 32) | keys' FILE` prints.
+       properties, 32 names in required, 4 map keys, 64 values in an enum; with
+       --large 16384, 60, 1024, 1024, 8 and 1024. --why says which, and how
+       many there are.
   P1   The pools have the wrong form: they are an object with any of integers,
        strings, names and any, each a list, of integers of 64 bits, of texts,
        of texts, and of any values, and of paths, an object of such lists of
        any values.
   P2   The pools have more than 64 integers, 64 strings, 32 names or 64 values
-       of any kind, more than 64 paths, or more than 64 values at a path.
+       of any kind, more than 64 paths, or more than 64 values at a path; with
+       --large, 1024 in place of 64.
   P5   A path of the pools leads to no field, or to one that is an object, a
        map or a list.
 
@@ -138,7 +139,8 @@ Codes of a path that leads to no field, and of an object without leaves:
 
 A rule, a fault, S3, S4 and P1 come with a JSON pointer to the place. Of a
 schema it begins at openAPIV3Schema, of an object at the object, and "" is the
-whole. P5 comes with the path, as the pools have it."#;
+whole. P5 comes with the path, as the pools have it. With --why the line of a
+refusal is followed by one that says what was found and what is allowed."#;
 
 pub(super) const CHECK: CommandHelp = CommandHelp {
     about: "Says which rules a schema breaks and where, or that it is structural",
@@ -335,10 +337,20 @@ pub(super) const PATH: &str = "The path of a field; without it all fields are li
 
 pub(super) const OBJECT: &str = "A JSON file with the object; - or nothing is standard input";
 
-pub(super) const WHY: &str = "Prints the reasons below each line";
+pub(super) const LARGE: &str = "Reads definitions and pools of real size";
+
+pub(super) const LARGE_LONG: &str =
+    "Reads larger definitions: up to 16384 places in place of 512, 60
+steps of a place in place of 24, 1024 properties, required fields or
+values of an `enum` in place of 32, 32 and 64, and 8 keys of a map
+list in place of 4. Pools may have 1024 paths, and 1024 entries in
+each list, in place of 64.";
+
+pub(super) const WHY: &str = "Says why a schema or an input is refused";
 
 pub(super) const WHY_LONG: &str = "Prints below the line of a rule each reason: the keyword, what is
-wrong with it, and what can be done.";
+wrong with it, and what can be done. Below the line of any other
+refusal: what was found, and what is allowed.";
 
 pub(super) const POOLS_OPTION: &str = "A JSON file with the values that samples may have";
 

@@ -8,13 +8,12 @@ ghost use Rattle.clap.specs.Simple.{App, app_of, new_rule, subcommand_rows_of, w
 ghost use Rattle.clap.specs.declared.builder.command.Command.TheViews.{out-Command};
 ghost use Rattle.clap.specs.declared.error.kind.ErrorKind.TheVariants.{ArgumentConflict};
 ghost use Rattle.crdx.specs.Program.Documents.{file_name};
-ghost use Rattle.crdx.specs.Program.CommandLine.{required_rule, option_rule, flag_rule, number_rule, top_app, crd_app, check_app, explain_app, object_app, sample_app, crdx_app, faults, entered, input_of, crd_input, object_input, pools_input, object_command_name, IsCommand, AreCheckArguments, AreExplainArguments, AreObjectArguments, ArePoolsArguments, AreSampleArguments, Asks, IsRequestOf, IsUsageErrorOrMemory, IsNumberOf};
+ghost use Rattle.crdx.specs.Program.CommandLine.{required_rule, option_rule, flag_rule, number_rule, top_app, crd_app, explain_app, object_app, sample_app, crdx_app, faults, entered, input_of, crd_input, object_input, pools_input, object_command_name, IsCommand, AreCommonArguments, AreExplainArguments, AreObjectArguments, AreSampleArguments, Asks, IsRequestOf, IsUsageErrorOrMemory, IsNumberOf};
 
 use crate::arguments::help;
 use crate::arguments::help::CommandHelp;
 use crate::arguments::request::{
-    CheckArguments, ExplainArguments, ObjectArguments, ObjectCommand, PoolsArguments, Request,
-    SampleArguments,
+    CommonArguments, ExplainArguments, ObjectArguments, ObjectCommand, Request, SampleArguments,
 };
 use clap::error::ErrorKind;
 use clap::{Arg, ArgAction, ArgMatches, Command, Error};
@@ -53,13 +52,13 @@ fn request_of_named<'a>(alloc: Global, name: &str, found: &ArgMatches<'a>) -> Re
     ensures { IsCommand (Some (name.now, rows_of (found_of found.now))) result }
 {
     match name {
-        "check" => Request::Check(check_arguments(found)),
+        "check" => Request::Check(common_arguments(found)),
         "explain" => Request::Explain(explain_arguments(found)),
         "validate" => object_request(alloc, ObjectCommand::Validate, found),
         "prune" => object_request(alloc, ObjectCommand::Prune, found),
         "default" => object_request(alloc, ObjectCommand::Default, found),
         "leaves" => object_request(alloc, ObjectCommand::Leaves, found),
-        "pools" => Request::SuggestPools(pools_arguments(found)),
+        "pools" => Request::SuggestPools(common_arguments(found)),
         "sample" => sample_request(alloc, found),
         _ => usage_error(alloc, "error: no such command\n"),
     }
@@ -70,7 +69,7 @@ fn object_request<'a>(alloc: Global, command: ObjectCommand, found: &ArgMatches<
     ensures { IsCommand (Some (object_command_name command, rows_of (found_of found.now))) result }
 {
     let arguments = object_arguments(command, found);
-    match (arguments.crd, arguments.object) {
+    match (arguments.common.crd, arguments.object) {
         (None, None) => read_twice(alloc, "CRD and OBJECT cannot both be the standard input"),
         _ => Request::Object(arguments),
     }
@@ -81,7 +80,7 @@ fn sample_request<'a>(alloc: Global, found: &ArgMatches<'a>) -> Request<'a>
     ensures { IsCommand (Some (codes "sample", rows_of (found_of found.now))) result }
 {
     let arguments = sample_arguments(found);
-    match (arguments.crd, arguments.pools) {
+    match (arguments.common.crd, arguments.pools) {
         (None, Some(None)) => read_twice(
             alloc,
             "CRD and --pools cannot both be the standard input",
@@ -120,7 +119,8 @@ fn crdx_command<'a>(alloc: Global) -> Result<Command<'a>, AllocError>
     ensures { IfOk result (λ c. app_of c ≡ crdx_app) }
 {
     let command = top_command(alloc);
-    let command = add_command(command, check_command(alloc));
+    let check = crd_command(alloc, "check", help::CHECK);
+    let command = add_command(command, check);
     let command = add_command(command, explain_command(alloc));
     let validate = object_command(alloc, "validate", help::VALIDATE);
     let command = add_command(command, validate);
@@ -192,10 +192,11 @@ fn crd_command<'a>(
         .long_about(long_about)
         .after_long_help(end)
         .arg(required_argument(alloc, "CRD", help::CRD));
-    add_argument(
-        command,
-        required_argument(alloc, "VERSION", help::CRD_VERSION),
-    )
+    let version = required_argument(alloc, "VERSION", help::CRD_VERSION);
+    let command = add_argument(command, version);
+    let large = flag(alloc, "large", help::LARGE, help::LARGE_LONG);
+    let command = add_argument(command, large);
+    add_argument(command, flag(alloc, "why", help::WHY, help::WHY_LONG))
 }
 
 /// The command with one more argument, where it has been made.
@@ -232,6 +233,18 @@ fn optional_argument<'a>(alloc: Global, name: &'a str, help: &'a str) -> Arg<'a>
     Arg::new(alloc, name).help(help)
 }
 
+/// An option without a value.
+fn flag<'a>(alloc: Global, name: &'a str, help: &'a str, long_help: &'a str) -> Arg<'a>
+    ensures rule { rule_of result ≡ flag_rule name.now }
+    ensures local { result.global ≡ false }
+{
+    Arg::new(alloc, name)
+        .long(name)
+        .action(ArgAction::SetTrue)
+        .help(help)
+        .long_help(long_help)
+}
+
 /// An option with a text.
 fn text_option<'a>(
     alloc: Global,
@@ -248,26 +261,6 @@ fn text_option<'a>(
         .value_name(value_name)
         .help(help)
         .long_help(long_help)
-}
-
-/// The arguments that `check` takes.
-fn check_command<'a>(alloc: Global) -> Result<Command<'a>, AllocError>
-    ensures app { IfOk result (λ c. app_of c ≡ check_app) }
-    ensures local { IfOk result (λ c. (out-Command c).has_globals ≡ false) }
-{
-    let command = crd_command(alloc, "check", help::CHECK);
-    add_argument(command, why_option(alloc))
-}
-
-fn why_option<'a>(alloc: Global) -> Arg<'a>
-    ensures rule { rule_of result ≡ flag_rule (codes "why") }
-    ensures local { result.global ≡ false }
-{
-    Arg::new(alloc, "why")
-        .long("why")
-        .action(ArgAction::SetTrue)
-        .help(help::WHY)
-        .long_help(help::WHY_LONG)
 }
 
 /// The arguments that `explain` takes.
@@ -339,12 +332,13 @@ fn count_option<'a>(alloc: Global) -> Arg<'a>
         .default_value("100")
 }
 
-fn check_arguments<'a>(matches: &ArgMatches<'a>) -> CheckArguments<'a>
-    ensures { AreCheckArguments (rows_of (found_of matches.now)) result }
+fn common_arguments<'a>(matches: &ArgMatches<'a>) -> CommonArguments<'a>
+    ensures { AreCommonArguments (rows_of (found_of matches.now)) result }
 {
-    CheckArguments {
+    CommonArguments {
         crd: crd_of(matches),
         version: matches.get_str("VERSION").unwrap_or(""),
+        large: matches.get_flag("large"),
         why: matches.get_flag("why"),
     }
 }
@@ -353,8 +347,7 @@ fn explain_arguments<'a>(matches: &ArgMatches<'a>) -> ExplainArguments<'a>
     ensures { AreExplainArguments (rows_of (found_of matches.now)) result }
 {
     ExplainArguments {
-        crd: crd_of(matches),
-        version: matches.get_str("VERSION").unwrap_or(""),
+        common: common_arguments(matches),
         path: matches.get_str("PATH"),
     }
 }
@@ -363,19 +356,9 @@ fn object_arguments<'a>(command: ObjectCommand, matches: &ArgMatches<'a>) -> Obj
     ensures { AreObjectArguments command (rows_of (found_of matches.now)) result }
 {
     ObjectArguments {
+        common: common_arguments(matches),
         command,
-        crd: crd_of(matches),
-        version: matches.get_str("VERSION").unwrap_or(""),
         object: object_of(matches),
-    }
-}
-
-fn pools_arguments<'a>(matches: &ArgMatches<'a>) -> PoolsArguments<'a>
-    ensures { ArePoolsArguments (rows_of (found_of matches.now)) result }
-{
-    PoolsArguments {
-        crd: crd_of(matches),
-        version: matches.get_str("VERSION").unwrap_or(""),
     }
 }
 
@@ -383,8 +366,7 @@ fn sample_arguments<'a>(matches: &ArgMatches<'a>) -> SampleArguments<'a>
     ensures { AreSampleArguments (rows_of (found_of matches.now)) result }
 {
     SampleArguments {
-        crd: crd_of(matches),
-        version: matches.get_str("VERSION").unwrap_or(""),
+        common: common_arguments(matches),
         pools: pools_of(matches),
         after: matches.get_str("after"),
         name: matches.get_str("name"),

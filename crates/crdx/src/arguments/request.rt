@@ -1,13 +1,23 @@
 // What the arguments of the command line can ask for.
 ghost use Rattle.std.specs.Prelude.{◌≤◌};
 
-/// The arguments of `sample`.
-#[derive(Drop)]
-pub struct SampleArguments<'a> {
+/// The arguments that every command takes.
+#[derive(Clone, Copy, Drop)]
+pub struct CommonArguments<'a> {
     /// The file of the CustomResourceDefinition; `None` for the standard input.
     pub crd: Option<&'a str>,
     /// The version whose schema is asked for.
     pub version: &'a str,
+    /// Whether `--large` is given: `Limits::LARGE` and `PoolLimits::LARGE` are kept, and else the standard ones.
+    pub large: bool,
+    /// Whether `--why` is given: whether it is to be said why something is refused.
+    pub why: bool,
+}
+
+/// The arguments of `sample`.
+#[derive(Drop)]
+pub struct SampleArguments<'a> {
+    pub common: CommonArguments<'a>,
     /// The pools, where they are named: their file, or `None` for the standard input.
     pub pools: Option<Option<&'a str>>,
     /// The JSON of the sample to go on from, where there is one; its envelope is not judged.
@@ -24,24 +34,10 @@ pub struct SampleArguments<'a> {
     ghost count_most: { count ≤ 10000 },
 }
 
-/// The arguments of `check`.
-#[derive(Drop)]
-pub struct CheckArguments<'a> {
-    /// The file of the CustomResourceDefinition; `None` for the standard input.
-    pub crd: Option<&'a str>,
-    /// The version whose schema is asked for.
-    pub version: &'a str,
-    /// Whether the reasons of each violation are asked for.
-    pub why: bool,
-}
-
 /// The arguments of `explain`.
 #[derive(Drop)]
 pub struct ExplainArguments<'a> {
-    /// The file of the CustomResourceDefinition; `None` for the standard input.
-    pub crd: Option<&'a str>,
-    /// The version whose schema is asked for.
-    pub version: &'a str,
+    pub common: CommonArguments<'a>,
     /// The path of the field that is asked for; without one all fields are.
     pub path: Option<&'a str>,
 }
@@ -62,35 +58,23 @@ pub enum ObjectCommand {
 /// The arguments of `validate`, `prune`, `default` and `leaves`.
 #[derive(Drop)]
 pub struct ObjectArguments<'a> {
+    pub common: CommonArguments<'a>,
     pub command: ObjectCommand,
-    /// The file of the CustomResourceDefinition; `None` for the standard input.
-    pub crd: Option<&'a str>,
-    /// The version whose schema is asked for.
-    pub version: &'a str,
     /// The file of the object; `None` for the standard input.
     pub object: Option<&'a str>,
-}
-
-/// The arguments of `pools`.
-#[derive(Drop)]
-pub struct PoolsArguments<'a> {
-    /// The file of the CustomResourceDefinition; `None` for the standard input.
-    pub crd: Option<&'a str>,
-    /// The version whose schema is asked for.
-    pub version: &'a str,
 }
 
 /// What the arguments ask for.
 #[derive(Drop)]
 pub enum Request<'a> {
     /// To judge a schema.
-    Check(CheckArguments<'a>),
+    Check(CommonArguments<'a>),
     /// To list the fields of a schema, or to say all of one.
     Explain(ExplainArguments<'a>),
     /// To say what becomes of an object.
     Object(ObjectArguments<'a>),
     /// To make a pools document to start with.
-    SuggestPools(PoolsArguments<'a>),
+    SuggestPools(CommonArguments<'a>),
     /// To list samples.
     Sample(SampleArguments<'a>),
     /// To print this text of help or of the version on standard output, with status 0.

@@ -7,12 +7,13 @@ ghost use Rattle.crdx.specs.Program.RunResult.{IsAnswer};
 ghost use Rattle.crdx.specs.Program.ViolationLines.{violation_line, reason_line, explained_line};
 ghost use Rattle.crdx.specs.declared.arguments.request.Request.TheVariants.{Check};
 
-use crate::arguments::CheckArguments;
+use crate::arguments::CommonArguments;
 use crate::inputs::Inputs;
 use crate::phrases::{phrase, reason_phrase};
 use crate::running::answer::{Answer, json_text};
 use crate::running::causes::Cause;
 use crate::running::documents::crd_of;
+use crate::running::explanation::Explanation;
 use crate::running::lines::{Lines, all_lines};
 use schema::{Explained, Finding, RawSchema, Violation};
 use std::alloc::{AllocError, Global};
@@ -22,13 +23,14 @@ use stored::{explained, violations};
 /// line for each of them below it.
 pub(crate) fn check<I: Inputs>(
     alloc: Global,
-    arguments: &CheckArguments<'_>,
+    arguments: &CommonArguments<'_>,
     inputs: &mut I,
+    explanation: &mut Explanation,
 ) -> Result<Answer, Cause>
     ensures answer { IfOk result (λ a. IsAnswer (I.has inputs.old) (Check arguments.now) a.status (string_bytes a.text)) }
     ensures cause { IfErr result (IsInputCause (I.has inputs.old) (I.failures inputs.old) (I.failures inputs.new) (Check arguments.now)) }
 {
-    let crd = crd_of(alloc, arguments.crd, arguments.version, inputs)?;
+    let crd = crd_of(alloc, arguments, inputs, explanation)?;
     let text = check_text(alloc, &crd.raw, arguments.why);
     drop(crd);
     Ok(verdict(alloc, text?)?)

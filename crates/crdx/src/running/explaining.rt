@@ -14,6 +14,7 @@ use crate::inputs::Inputs;
 use crate::running::answer::{Answer, json_items, json_text, json_texts, json_tree};
 use crate::running::causes::Cause;
 use crate::running::documents::accepted_schema;
+use crate::running::explanation::Explanation;
 use crate::running::lines::{Lines, all_lines};
 use explain::{Field, Listing, resolve};
 use jtree::{Items, Text};
@@ -26,22 +27,28 @@ pub(crate) fn explain<I: Inputs>(
     alloc: Global,
     arguments: &ExplainArguments<'_>,
     inputs: &mut I,
+    explanation: &mut Explanation,
 ) -> Result<Answer, Cause>
     ensures answer { IfOk result (λ a. IsAnswer (I.has inputs.old) (Explain arguments.now) a.status (string_bytes a.text)) }
     ensures cause { IfErr result (IsInputCause (I.has inputs.old) (I.failures inputs.old) (I.failures inputs.new) (Explain arguments.now)) }
 {
-    let accepted = accepted_schema(alloc, arguments.crd, arguments.version, inputs)?;
-    let answer = explain_schema(alloc, &accepted.schema, arguments.path);
+    let accepted = accepted_schema(alloc, &arguments.common, inputs, explanation)?;
+    let answer = explain_schema(alloc, &accepted.schema, arguments.path, explanation);
     drop(accepted);
     answer
 }
 
-fn explain_schema(alloc: Global, schema: &Schema, path: Option<&str>) -> Result<Answer, Cause>
+fn explain_schema(
+    alloc: Global,
+    schema: &Schema,
+    path: Option<&str>,
+    explanation: &mut Explanation,
+) -> Result<Answer, Cause>
     ensures answer { IfOk result (λ a. IsFieldAnswer schema.now path.entry a.status (string_bytes a.text)) }
     ensures cause { IfErr result (IsFieldCause schema.now path.entry) }
 {
     match path {
-        Some(path) => explain_field(alloc, schema, path),
+        Some(path) => explain_field(alloc, schema, path, explanation),
         None => explain_fields(alloc, schema),
     }
 }
@@ -59,11 +66,20 @@ fn explain_fields(alloc: Global, schema: &Schema) -> Result<Answer, Cause>
 }
 
 /// All that is known of the field of a path. A path that leads to none is refused before memory is taken for the fields.
-fn explain_field(alloc: Global, schema: &Schema, path: &str) -> Result<Answer, Cause>
+fn explain_field(
+    alloc: Global,
+    schema: &Schema,
+    path: &str,
+    explanation: &mut Explanation,
+) -> Result<Answer, Cause>
     ensures answer { IfOk result (λ a. IsFieldAnswer schema.now (Some path.entry) a.status (string_bytes a.text)) }
     ensures cause { IfErr result (IsFieldCause schema.now (Some path.entry)) }
 {
-    resolve(schema, path)?;
+    let found = resolve(schema, path);
+    if found.is_err() {
+        explanation.explain_field(alloc, schema, path);
+    }
+    found?;
     let listing = Listing::new(alloc, schema)?;
     let field = listing.field(path)?;
     Ok(Answer {

@@ -22,6 +22,7 @@ use crate::phrases::fault_phrase;
 use crate::running::answer::{Answer, json_line, json_text, json_texts};
 use crate::running::causes::{Cause, Input};
 use crate::running::documents::{accepted_schema, document};
+use crate::running::explanation::Explanation;
 use crate::running::lines::{Lines, all_lines};
 use jtree::Tree;
 use schema::Node;
@@ -34,12 +35,19 @@ pub(crate) fn judge_object<I: Inputs>(
     alloc: Global,
     arguments: &ObjectArguments<'_>,
     inputs: &mut I,
+    explanation: &mut Explanation,
 ) -> Result<Answer, Cause>
     ensures answer { IfOk result (λ a. IsAnswer (I.has inputs.old) (Object arguments.now) a.status (string_bytes a.text)) }
     ensures cause { IfErr result (IsInputCause (I.has inputs.old) (I.failures inputs.old) (I.failures inputs.new) (Object arguments.now)) }
 {
-    let accepted = accepted_schema(alloc, arguments.crd, arguments.version, inputs)?;
-    let answer = judge_at(alloc, arguments, accepted.schema.root(), inputs);
+    let accepted = accepted_schema(alloc, &arguments.common, inputs, explanation)?;
+    let answer = judge_at(
+        alloc,
+        arguments,
+        accepted.schema.root(),
+        inputs,
+        explanation,
+    );
     drop(accepted);
     answer
 }
@@ -50,13 +58,14 @@ fn judge_at<I: Inputs>(
     arguments: &ObjectArguments<'_>,
     node: &Node,
     inputs: &mut I,
+    explanation: &mut Explanation,
 ) -> Result<Answer, Cause>
     ensures answer { IfOk result (λ a. (document : Data) × I.has inputs.old (file_name arguments.now.object) (Ok document)
         × IsObjectAnswer (node_of node.now) document arguments.now.command a.status (string_bytes a.text)) }
     ensures cause { IfErr result (IsDocumentCause (I.has inputs.old) (I.failures inputs.old) (I.failures inputs.new) (node_of node.now) arguments.now) }
 {
-    let document = document(inputs, Input::Object, arguments.object)?;
-    answer_of(alloc, arguments.command, node, document)
+    let document = document(alloc, inputs, Input::Object, arguments.object, explanation)?;
+    answer_of(alloc, arguments.command, node, document, explanation)
 }
 
 /// What is said of a document at the node of its body.
@@ -65,6 +74,7 @@ fn answer_of(
     command: ObjectCommand,
     node: &Node,
     mut document: Tree,
+    explanation: &mut Explanation,
 ) -> Result<Answer, Cause>
     ensures answer { IfOk result (λ a. IsObjectAnswer (node_of node.now) (data_of document) command a.status (string_bytes a.text)) }
     ensures cause { IfErr result (IsObjectCause (node_of node.now) (data_of document) command) }
@@ -94,7 +104,7 @@ fn answer_of(
         }
         ObjectCommand::Leaves => {
             drop(envelope);
-            let answer = list_leaves(alloc, node, &document);
+            let answer = list_leaves(alloc, node, &document, explanation);
             drop(document);
             answer
         }
@@ -151,11 +161,20 @@ impl Lines for Fault {
 }
 
 /// A line for each leaf, where the body is stored.
-fn list_leaves(alloc: Global, node: &Node, body: &Tree) -> Result<Answer, Cause>
+fn list_leaves(
+    alloc: Global,
+    node: &Node,
+    body: &Tree,
+    explanation: &mut Explanation,
+) -> Result<Answer, Cause>
     ensures answer { IfOk result (λ a. (document : Data) → body_of document ≡ data_of body.now → IsObjectAnswer (node_of node.now) document Leaves a.status (string_bytes a.text)) }
     ensures cause { IfErr result (λ cause. (document : Data) → body_of document ≡ data_of body.now → IsObjectCause (node_of node.now) document Leaves cause) }
 {
-    let leaves = leaves(alloc, node, body)?;
+    let found = leaves(alloc, node, body);
+    if found.is_err() {
+        explanation.explain_unstored(alloc, node, body);
+    }
+    let leaves = found?;
     Ok(Answer {
         status: 0,
         text: all_lines(alloc, leaves.as_slice())?,

@@ -5,6 +5,7 @@ ghost use Rattle.crdx.specs.Internal.ExitStatus.{status, IsWritten};
 
 use crate::running::answer::{Answer, json_text};
 use crate::running::causes::Cause;
+use crate::running::explanation::Explanation;
 use crate::running::lines::all_lines;
 use crate::sink::{Sink, put_all};
 use crate::walk::Walked;
@@ -15,6 +16,7 @@ use stored::LFault;
 pub(crate) fn finish<W: Sink, E: Sink>(
     alloc: Global,
     answer: &Result<Answer, Cause>,
+    explanation: &Explanation,
     out: &mut W,
     err: &mut E,
 ) -> u8
@@ -25,7 +27,7 @@ pub(crate) fn finish<W: Sink, E: Sink>(
 {
     match answer {
         Ok(answer) => write_answer(alloc, answer, out, err),
-        Err(cause) => report(alloc, cause, err),
+        Err(cause) => report(alloc, cause, explanation, err),
     }
 }
 
@@ -46,20 +48,25 @@ pub(crate) fn write_answer<W: Sink, E: Sink>(
         },
         Err(taken) => taken,
     };
-    report(alloc, &Cause::Write(newlines(&text[..taken])), err)
+    report_alone(alloc, &Cause::Write(newlines(&text[..taken])), err)
 }
 
 fn newlines(text: &[u8]) -> u64 {
     text.iter().filter(|byte| **byte == b'\n').count() as u64
 }
 
-/// Says on `err` why a run has no answer, and answers its status, or 5 where there is no memory for that.
-pub(crate) fn report<E: Sink>(alloc: Global, cause: &Cause, err: &mut E) -> u8
+/// Says on `err` why a run has no answer, with the explanation, and answers its status, or 5 where there is no memory for that.
+pub(crate) fn report<E: Sink>(
+    alloc: Global,
+    cause: &Cause,
+    explanation: &Explanation,
+    err: &mut E,
+) -> u8
     ensures { (result ≡ status cause.now) ⊎ (result ≡ 5) }
 {
-    match line_of(alloc, cause) {
-        Ok(line) => {
-            let _ = put_all(err, line.as_bytes());
+    match lines_of(alloc, cause, explanation) {
+        Ok(lines) => {
+            let _ = put_all(err, lines.as_bytes());
             cause.status()
         }
         Err(_) => {
@@ -69,10 +76,18 @@ pub(crate) fn report<E: Sink>(alloc: Global, cause: &Cause, err: &mut E) -> u8
     }
 }
 
+/// As `report`, of a cause that has no explanation.
+pub(crate) fn report_alone<E: Sink>(alloc: Global, cause: &Cause, err: &mut E) -> u8
+    ensures { (result ≡ status cause.now) ⊎ (result ≡ 5) }
+{
+    report(alloc, cause, &Explanation::new(false), err)
+}
+
 /// Says on `err` whether more samples are left, or why the listing of samples ended early, and answers the exit status.
 pub(crate) fn finish_samples<E: Sink>(
     alloc: Global,
     walked: &Result<Walked, Cause>,
+    explanation: &Explanation,
     err: &mut E,
 ) -> u8
     ensures done { OnOk walked.now (result ≡ 0) }
@@ -83,7 +98,7 @@ pub(crate) fn finish_samples<E: Sink>(
             say_end(walked, err);
             0
         }
-        Err(cause) => report(alloc, cause, err),
+        Err(cause) => report(alloc, cause, explanation, err),
     }
 }
 
@@ -95,6 +110,19 @@ fn say_end<E: Sink>(walked: &Walked, err: &mut E) {
         b"crdx: more\n"
     };
     let _ = put_all(err, line);
+}
+
+/// The line of a cause, and the explanation of a refusal below it; violations have their lines in their explanation.
+fn lines_of(alloc: Global, cause: &Cause, explanation: &Explanation) -> Result<String, AllocError> {
+    let explained = explanation.lines()?;
+    match (cause, explained) {
+        (Cause::Violations(_), Some(explained)) => String::from_str(alloc, explained),
+        (_, Some(explained)) if cause.status() < 4 => {
+            let line = line_of(alloc, cause)?;
+            format!(in alloc; "{line}{explained}")
+        }
+        _ => line_of(alloc, cause),
+    }
 }
 
 /// The line, or the lines, of a cause.

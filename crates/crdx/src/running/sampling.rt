@@ -15,6 +15,7 @@ use crate::arguments::SampleArguments;
 use crate::inputs::Inputs;
 use crate::running::causes::Cause;
 use crate::running::documents::{Accepted, accepted_schema, after_of, pools_of};
+use crate::running::explanation::Explanation;
 use crate::sink::Sink;
 use crate::walk::{Envelope, Walked, walk};
 use enumerate::pages_agree;
@@ -42,6 +43,7 @@ pub(crate) fn sample<I: Inputs, W: Sink>(
     alloc: Global,
     arguments: &SampleArguments<'_>,
     inputs: &mut I,
+    explanation: &mut Explanation,
     out: &mut W,
 ) -> Result<Walked, Cause>
     ensures sampled { IfOk result (λ walked. (q : Question) × (after : Option Data) × (e : Option EnvelopeData) × IsRequested (I.has inputs.old) arguments.now q after e
@@ -58,9 +60,9 @@ pub(crate) fn sample<I: Inputs, W: Sink>(
     }) arguments.now) }
 {
     if arguments.limit < WORD {
-        sample_with::<u64, I, W>(alloc, arguments, inputs, out)
+        sample_with::<u64, I, W>(alloc, arguments, inputs, explanation, out)
     } else {
-        sample_with::<u128, I, W>(alloc, arguments, inputs, out)
+        sample_with::<u128, I, W>(alloc, arguments, inputs, explanation, out)
     }
 }
 
@@ -69,6 +71,7 @@ fn sample_with<Z: SizeSet, I: Inputs, W: Sink>(
     alloc: Global,
     arguments: &SampleArguments<'_>,
     inputs: &mut I,
+    explanation: &mut Explanation,
     out: &mut W,
 ) -> Result<Walked, Cause>
     requires { arguments.now.limit < Z.BITS }
@@ -85,7 +88,7 @@ fn sample_with<Z: SizeSet, I: Inputs, W: Sink>(
       failed_writes = W.failures out.new;
     }) arguments.now) }
 {
-    let mut sample_inputs = sample_inputs::<Z, I>(alloc, arguments, inputs)?;
+    let mut sample_inputs = sample_inputs::<Z, I>(alloc, arguments, inputs, explanation)?;
     write_samples(alloc, &mut sample_inputs, arguments.count, out)
 }
 
@@ -128,17 +131,18 @@ fn sample_inputs<Z: SizeSet, I: Inputs>(
     alloc: Global,
     arguments: &SampleArguments<'_>,
     inputs: &mut I,
+    explanation: &mut Explanation,
 ) -> Result<SampleInputs<Z>, Cause>
     requires { arguments.now.limit < Z.BITS }
     ensures requested { IfOk result (λ a. IsRequested (I.has inputs.old) arguments.now a.plan (option_map data_of a.after) a.envelope) }
     ensures cause { IfErr result (IsInputCause (I.has inputs.old) (I.failures inputs.old) (I.failures inputs.new) (Sample arguments.now)) }
 {
-    let accepted = match accepted_schema(alloc, arguments.crd, arguments.version, inputs) {
+    let accepted = match accepted_schema(alloc, &arguments.common, inputs, explanation) {
         Ok(accepted) => accepted,
         Err(cause) => return Err(cause),
     };
-    match pools_of(alloc, arguments.pools, inputs) {
-        Ok(pools) => inputs_of(alloc, arguments, accepted, pools),
+    match pools_of(alloc, arguments, inputs, explanation) {
+        Ok(pools) => inputs_of(alloc, arguments, accepted, pools, explanation),
         Err(cause) => {
             drop(accepted);
             Err(cause)
@@ -152,22 +156,25 @@ fn inputs_of<Z: SizeSet>(
     arguments: &SampleArguments<'_>,
     accepted: Accepted,
     pools: Pools,
+    explanation: &mut Explanation,
 ) -> Result<SampleInputs<Z>, Cause>
     requires { arguments.now.limit < Z.BITS }
     ensures ok { IfOk result (λ a. (a.plan ≡ record { root = accepted.schema; pools = pools; limit = arguments.now.limit })
         × HasGoodPaths accepted.schema pools × IsAfter arguments.now.after (option_map data_of a.after)
-        × (a.envelope ≡ envelope_for accepted.group arguments.now.version.now accepted.kind arguments.now.name)) }
+        × (a.envelope ≡ envelope_for accepted.group arguments.now.common.version.now accepted.kind arguments.now.name)) }
     ensures cause { IfErr result (IsSamplingCause accepted.schema pools arguments.now.after) }
 {
     let envelope = envelope_named(
         alloc,
         &accepted.group,
-        arguments.version,
+        arguments.common.version,
         &accepted.kind,
         arguments.name,
     )?;
+    explanation.explain_paths(alloc, &accepted.schema, &pools);
     let plan = Plan::new(alloc, accepted.schema, pools, arguments.limit)?;
-    let after = after_of(alloc, arguments.after)?;
+    let after = after_of(alloc, arguments.after, explanation)?;
+    explanation.explain_after(alloc, arguments.limit, after.as_ref());
     Ok(SampleInputs {
         plan,
         after,

@@ -25,6 +25,7 @@ const NAMED_FIELDS: &str =
 // Four optional truth values, of which one or two are there, and where any number of them may be there.
 const ONE_OR_TWO: &str =
     r#"{"type":"object","properties":{"o":{"type":"object","minProperties":1,"maxProperties":2,"properties":{"a":{"type":"boolean"},"b":{"type":"boolean"},"c":{"type":"boolean"},"d":{"type":"boolean"}}}}}"#;
+
 const ANY_NUMBER: &str =
     r#"{"type":"object","properties":{"o":{"type":"object","maxProperties":9223372036854775807,"properties":{"a":{"type":"boolean"},"b":{"type":"boolean"},"c":{"type":"boolean"},"d":{"type":"boolean"}}}}}"#;
 

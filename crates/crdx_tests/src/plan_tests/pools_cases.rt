@@ -1,7 +1,7 @@
 //! Documents of pools: their form, how many entries there may be, and what is read.
 use crate::support::harness::{is_number, is_said, is_text, is_tree, pools_of};
 use jtree::{Text, Tree};
-use plan::{PFault, Pools};
+use plan::{Oversized, PFault, PoolLimits, PoolName, Pools, oversized_pool};
 use std::alloc::{AllocError, Global};
 use std::process::Abort;
 use std::test::Fail;
@@ -26,27 +26,54 @@ fn counts(alloc: Global, pools: &Pools) -> Result<String, AllocError> {
     )
 }
 
+fn name_of(pool: PoolName<'_>) -> &str {
+    match pool {
+        PoolName::Any => "any",
+        PoolName::Integers => "integers",
+        PoolName::Names => "names",
+        PoolName::Paths => "paths",
+        PoolName::Strings => "strings",
+        PoolName::At(path) => path,
+    }
+}
+
+// The code, the pool, how many entries it has, and how many are allowed.
+fn too_many(alloc: Global, oversized: Option<Oversized<'_>>) -> Result<String, AllocError> {
+    match oversized {
+        Some(of) => { format!(in alloc; "P2 {} {} {}", name_of(of.pool), of.found, of.allowed) }
+        None => String::from_str(alloc, "P2 of no pool"),
+    }
+}
+
 // What is read, counted, or the fault.
-fn outcome_of(alloc: Global, document: &Tree) -> Result<String, AllocError> {
-    match Pools::read(alloc, document) {
+fn outcome_of(alloc: Global, document: &Tree, limits: PoolLimits) -> Result<String, AllocError> {
+    match Pools::read_within(alloc, document, limits) {
         Ok(pools) => counts(alloc, &pools),
+        Err(PFault::TooLarge) => too_many(alloc, oversized_pool(document, limits)),
         Err(fault) => said(alloc, &fault),
     }
 }
 
-fn outcome(alloc: Global, document: &str) -> Result<String, Fail> {
+fn outcome(alloc: Global, document: &str, limits: PoolLimits) -> Result<String, Fail> {
     let document = Tree::from_bytes(alloc, document.as_bytes())?;
-    Ok(outcome_of(alloc, &document)?)
+    Ok(outcome_of(alloc, &document, limits)?)
 }
 
 fn is_outcome(
     rt: &impl Abort,
     alloc: Global,
+    limits: PoolLimits,
     name: &str,
     document: &str,
     wanted: &str,
 ) -> Result<(), Fail> {
-    is_said(rt, outcome(alloc, document), wanted, "what is read", name)
+    is_said(
+        rt,
+        outcome(alloc, document, limits),
+        wanted,
+        "what is read",
+        name,
+    )
 }
 
 // A name, a document, and how many entries there are in each pool, or the fault.
@@ -180,7 +207,14 @@ static LONG: [(&str, &str, &str, usize, &str, &str); 14] = [
         "0]}",
         "64 0 0 0 0",
     ),
-    ("65 integers", r#"{"integers":["#, "0,", 64, "0]}", "P2"),
+    (
+        "65 integers",
+        r#"{"integers":["#,
+        "0,",
+        64,
+        "0]}",
+        "P2 integers 65 64",
+    ),
     (
         "64 strings",
         r#"{"strings":["#,
@@ -195,7 +229,7 @@ static LONG: [(&str, &str, &str, usize, &str, &str); 14] = [
         r#""s","#,
         64,
         r#""s"]}"#,
-        "P2",
+        "P2 strings 65 64",
     ),
     (
         "32 names",
@@ -205,9 +239,16 @@ static LONG: [(&str, &str, &str, usize, &str, &str); 14] = [
         r#""n"]}"#,
         "0 0 32 0 0",
     ),
-    ("33 names", r#"{"names":["#, r#""n","#, 32, r#""n"]}"#, "P2"),
+    (
+        "33 names",
+        r#"{"names":["#,
+        r#""n","#,
+        32,
+        r#""n"]}"#,
+        "P2 names 33 32",
+    ),
     ("64 trees", r#"{"any":["#, "{},", 63, "{}]}", "0 0 0 64 0"),
-    ("65 trees", r#"{"any":["#, "{},", 64, "{}]}", "P2"),
+    ("65 trees", r#"{"any":["#, "{},", 64, "{}]}", "P2 any 65 64"),
     (
         "64 entries at a path",
         r#"{"paths":{"/a":["#,
@@ -222,7 +263,7 @@ static LONG: [(&str, &str, &str, usize, &str, &str); 14] = [
         "0,",
         64,
         "0]}}",
-        "P2",
+        "P2 /a 65 64",
     ),
     (
         "an integer for a path after 65 integers",
@@ -258,9 +299,107 @@ static LONG: [(&str, &str, &str, usize, &str, &str); 14] = [
     ),
 ];
 
+// The same with the large limits.
+static LARGE: [(&str, &str, &str, usize, &str, &str); 6] = [
+    (
+        "1,024 integers",
+        r#"{"integers":["#,
+        "0,",
+        1023,
+        "0]}",
+        "1024 0 0 0 0",
+    ),
+    (
+        "1,025 integers",
+        r#"{"integers":["#,
+        "0,",
+        1024,
+        "0]}",
+        "P2 integers 1025 1024",
+    ),
+    (
+        "1,025 strings",
+        r#"{"strings":["#,
+        r#""s","#,
+        1024,
+        r#""s"]}"#,
+        "P2 strings 1025 1024",
+    ),
+    (
+        "33 names",
+        r#"{"names":["#,
+        r#""n","#,
+        32,
+        r#""n"]}"#,
+        "P2 names 33 32",
+    ),
+    (
+        "1,024 entries at a path",
+        r#"{"paths":{"/a":["#,
+        "0,",
+        1023,
+        "0]}}",
+        "0 0 0 0 1",
+    ),
+    (
+        "1,025 entries at a path",
+        r#"{"paths":{"/a":["#,
+        "0,",
+        1024,
+        "0]}}",
+        "P2 /a 1025 1024",
+    ),
+];
+
+// A name, a document, and what is answered where there may be one entry, two names and three paths: of several pools that have too
+// many entries, the first in path order.
+static FEW: [(&str, &str, &str); 8] = [
+    (
+        "as many as there may be",
+        r#"{"any":[0],"integers":[1],"names":["a","b"],"paths":{"/a":[1],"/b":[2],"/c":[]},"strings":["s"]}"#,
+        "1 1 2 1 3",
+    ),
+    (
+        "too many in each pool",
+        r#"{"strings":["s","t"],"paths":{"/a":[0,1],"/b":[],"/c":[],"/d":[]},"names":["a","b","c"],"integers":[0,1],"any":[0,1]}"#,
+        "P2 any 2 1",
+    ),
+    (
+        "too many in each pool but any",
+        r#"{"strings":["s","t"],"paths":{"/a":[0,1],"/b":[],"/c":[],"/d":[]},"names":["a","b","c"],"integers":[0,1]}"#,
+        "P2 integers 2 1",
+    ),
+    (
+        "too many names, paths and strings",
+        r#"{"strings":["s","t"],"paths":{"/a":[0,1],"/b":[],"/c":[],"/d":[]},"names":["a","b","c"]}"#,
+        "P2 names 3 2",
+    ),
+    (
+        "too many paths, entries at one of them, and strings",
+        r#"{"strings":["s","t"],"paths":{"/a":[0,1],"/b":[],"/c":[],"/d":[]}}"#,
+        "P2 paths 4 3",
+    ),
+    (
+        "too many entries at two paths, and strings",
+        r#"{"strings":["s","t"],"paths":{"/c":[0,1,2],"/b":[0,1],"/a":[0]}}"#,
+        "P2 /b 2 1",
+    ),
+    (
+        "too many strings",
+        r#"{"strings":["s","s","s"],"paths":{"/a":[0]}}"#,
+        "P2 strings 3 1",
+    ),
+    (
+        "a text for strings after too many integers",
+        r#"{"integers":[0,1],"strings":"s"}"#,
+        r#"P1 "/strings""#,
+    ),
+];
+
 fn try_long(
     rt: &impl Abort,
     alloc: Global,
+    limits: PoolLimits,
     row: &(&str, &str, &str, usize, &str, &str),
 ) -> Result<(), Fail> {
     let (name, head, entry, count, tail, wanted) = *row;
@@ -269,16 +408,34 @@ fn try_long(
         document.push_str(entry)?;
     }
     document.push_str(tail)?;
-    is_outcome(rt, alloc, name, document.as_str(), wanted)
+    is_outcome(rt, alloc, limits, name, document.as_str(), wanted)
 }
 
 #[test]
 fn forms_and_limits(rt: HostRuntime) -> Result<(), Fail> {
+    let few = PoolLimits {
+        entries: 1,
+        names: 2,
+        paths: 3,
+    };
     for (name, document, wanted) in &DOCUMENTS {
-        is_outcome(&rt, rt.alloc(), name, document, wanted)?;
+        is_outcome(
+            &rt,
+            rt.alloc(),
+            PoolLimits::STANDARD,
+            name,
+            document,
+            wanted,
+        )?;
     }
     for row in &LONG {
-        try_long(&rt, rt.alloc(), row)?;
+        try_long(&rt, rt.alloc(), PoolLimits::STANDARD, row)?;
+    }
+    for row in &LARGE {
+        try_long(&rt, rt.alloc(), PoolLimits::LARGE, row)?;
+    }
+    for (name, document, wanted) in &FEW {
+        is_outcome(&rt, rt.alloc(), few, name, document, wanted)?;
     }
     Ok(())
 }
@@ -295,9 +452,22 @@ fn many_paths(alloc: Global, count: usize) -> Result<String, AllocError> {
 
 #[test]
 fn paths(rt: HostRuntime) -> Result<(), Fail> {
-    for (count, wanted) in [(1, "0 0 0 0 1"), (64, "0 0 0 0 64"), (65, "P2")] {
+    for (count, limits, wanted) in [
+        (1, PoolLimits::STANDARD, "0 0 0 0 1"),
+        (64, PoolLimits::STANDARD, "0 0 0 0 64"),
+        (65, PoolLimits::STANDARD, "P2 paths 65 64"),
+        (1024, PoolLimits::LARGE, "0 0 0 0 1024"),
+        (1025, PoolLimits::LARGE, "P2 paths 1025 1024"),
+    ] {
         let document = many_paths(rt.alloc(), count)?;
-        is_outcome(&rt, rt.alloc(), "many paths", document.as_str(), wanted)?;
+        is_outcome(
+            &rt,
+            rt.alloc(),
+            limits,
+            "many paths",
+            document.as_str(),
+            wanted,
+        )?;
     }
     Ok(())
 }

@@ -5,8 +5,8 @@ use crate::support::harness::{
     Output, holds, holds_of, is_number, is_said, is_text, run_on, words_of,
 };
 use crdx::arguments::{
-    CheckArguments, ExplainArguments, ObjectArguments, ObjectCommand, PoolsArguments, Request,
-    SampleArguments, parse_arguments,
+    CommonArguments, ExplainArguments, ObjectArguments, ObjectCommand, Request, SampleArguments,
+    parse_arguments,
 };
 use std::alloc::{AllocError, Global};
 use std::process::Abort;
@@ -14,7 +14,7 @@ use std::test::Fail;
 
 // A name, a command line, and what it asks for: the definition, the version, and the object, or the pools, the sample to go on
 // from, the name, the limit and the count. What is read of the standard input is (input), and - is nothing.
-static REQUESTS: [(&str, &str, &str); 22] = [
+static REQUESTS: [(&str, &str, &str); 27] = [
     (
         "a sample",
         "crdx sample c.json v1",
@@ -44,6 +44,31 @@ static REQUESTS: [(&str, &str, &str); 22] = [
         "a check of a file with the name -",
         "crdx check ./- v1",
         "check ./- v1 without reasons",
+    ),
+    (
+        "a check within the larger limits",
+        "crdx check --large c.json v1",
+        "check c.json v1 large without reasons",
+    ),
+    (
+        "a sample with reasons",
+        "crdx sample c.json v1 --why --pools p.json",
+        "sample c.json v1 with reasons p.json - - 8 100",
+    ),
+    (
+        "fields within the larger limits",
+        "crdx explain --large c.json v1",
+        "explain c.json v1 large -",
+    ),
+    (
+        "options between the words",
+        "crdx validate c.json --why v1 --large o.json",
+        "validate c.json v1 large with reasons o.json",
+    ),
+    (
+        "pools with both options",
+        "crdx pools --large c.json v1 --why",
+        "pools c.json v1 large with reasons",
     ),
     ("pools", "crdx pools c.json v1", "pools c.json v1"),
     (
@@ -158,9 +183,9 @@ static MISTAKES: [(&str, &str, &str); 26] = [
         "error: unexpected value 'V17' for '--why' found; no more were expected\n",
     ),
     (
-        "reasons of another command",
-        "crdx explain crd.json v1 --why",
-        "error: unexpected argument '--why' found\n",
+        "larger limits twice",
+        "crdx explain crd.json v1 --large --large",
+        "error: the argument '--large' cannot be used multiple times\n",
     ),
     ("pools of no version", "crdx pools crd.json", MISSING),
     (
@@ -258,17 +283,17 @@ static HELP: [(&str, &str, &str); 24] = [
     (
         "an option of another command",
         "crdx validate --help",
-        "Usage: crdx validate <CRD> <VERSION> [OBJECT]\n",
+        "Usage: crdx validate [OPTIONS] <CRD> <VERSION> [OBJECT]\n",
     ),
     (
         "a command of another command",
         "crdx help prune",
-        "Usage: crdx prune <CRD> <VERSION> [OBJECT]\n",
+        "Usage: crdx prune [OPTIONS] <CRD> <VERSION> [OBJECT]\n",
     ),
     (
         "a short option of another command",
         "crdx default -h",
-        "Usage: crdx default <CRD> <VERSION> [OBJECT]\n",
+        "Usage: crdx default [OPTIONS] <CRD> <VERSION> [OBJECT]\n",
     ),
     ("a short option alone", "crdx -h", "Usage: crdx <COMMAND>\n"),
     (
@@ -284,52 +309,52 @@ static HELP: [(&str, &str, &str); 24] = [
     (
         "a short option of a validation",
         "crdx validate -h",
-        "Usage: crdx validate <CRD> <VERSION> [OBJECT]\n",
+        "Usage: crdx validate [OPTIONS] <CRD> <VERSION> [OBJECT]\n",
     ),
     (
         "an option of pruning",
         "crdx prune --help",
-        "Usage: crdx prune <CRD> <VERSION> [OBJECT]\n",
+        "Usage: crdx prune [OPTIONS] <CRD> <VERSION> [OBJECT]\n",
     ),
     (
         "a short option of pruning",
         "crdx prune -h",
-        "Usage: crdx prune <CRD> <VERSION> [OBJECT]\n",
+        "Usage: crdx prune [OPTIONS] <CRD> <VERSION> [OBJECT]\n",
     ),
     (
         "an option of defaulting",
         "crdx default --help",
-        "Usage: crdx default <CRD> <VERSION> [OBJECT]\n",
+        "Usage: crdx default [OPTIONS] <CRD> <VERSION> [OBJECT]\n",
     ),
     (
         "an option of leaves",
         "crdx leaves --help",
-        "Usage: crdx leaves <CRD> <VERSION> [OBJECT]\n",
+        "Usage: crdx leaves [OPTIONS] <CRD> <VERSION> [OBJECT]\n",
     ),
     (
         "a short option of leaves",
         "crdx leaves -h",
-        "Usage: crdx leaves <CRD> <VERSION> [OBJECT]\n",
+        "Usage: crdx leaves [OPTIONS] <CRD> <VERSION> [OBJECT]\n",
     ),
     (
         "an option of fields",
         "crdx explain --help",
-        "Usage: crdx explain <CRD> <VERSION> [PATH]\n",
+        "Usage: crdx explain [OPTIONS] <CRD> <VERSION> [PATH]\n",
     ),
     (
         "a short option of fields",
         "crdx explain -h",
-        "Usage: crdx explain <CRD> <VERSION> [PATH]\n",
+        "Usage: crdx explain [OPTIONS] <CRD> <VERSION> [PATH]\n",
     ),
     (
         "an option of pools",
         "crdx pools --help",
-        "Usage: crdx pools <CRD> <VERSION>\n",
+        "Usage: crdx pools [OPTIONS] <CRD> <VERSION>\n",
     ),
     (
         "a short option of pools",
         "crdx pools -h",
-        "Usage: crdx pools <CRD> <VERSION>\n",
+        "Usage: crdx pools [OPTIONS] <CRD> <VERSION>\n",
     ),
     ("the version", "crdx --version", "crdx 0.1.0\n"),
     ("the version, for short", "bin/crdx_cli -V", "crdx 0.1.0\n"),
@@ -353,12 +378,24 @@ fn input_text(name: Option<&str>) -> &str {
     name.unwrap_or("(input)")
 }
 
+/// The definition and the version, and whether the larger limits and reasons are asked for.
+fn common_text(alloc: Global, common: &CommonArguments<'_>) -> Result<String, AllocError> {
+    let crd = input_text(common.crd);
+    let version = common.version;
+    let options = match (common.large, common.why) {
+        (false, false) => "",
+        (true, false) => " large",
+        (false, true) => " with reasons",
+        (true, true) => " large with reasons",
+    };
+    format!(in alloc; "{crd} {version}{options}")
+}
+
 fn said(alloc: Global, request: &Request<'_>) -> Result<String, AllocError> {
     match request {
         Request::Sample(
             SampleArguments {
-                crd,
-                version,
+                common,
                 pools,
                 after,
                 name,
@@ -366,34 +403,33 @@ fn said(alloc: Global, request: &Request<'_>) -> Result<String, AllocError> {
                 count,
             },
         ) => {
-            let crd = input_text(*crd);
+            let common = common_text(alloc, common)?;
             let pools = match pools {
                 Some(pools) => input_text(*pools),
                 None => "-",
             };
             let after = after.unwrap_or("-");
             let name = name.unwrap_or("-");
-            format!(in alloc; "sample {crd} {version} {pools} {after} {name} {limit} {count}")
+            format!(in alloc; "sample {common} {pools} {after} {name} {limit} {count}")
         }
-        Request::Check(CheckArguments { crd, version, why }) => {
-            let crd = input_text(*crd);
-            let reasons = if *why { "with" } else { "without" };
-            format!(in alloc; "check {crd} {version} {reasons} reasons")
+        Request::Check(common) => {
+            let reasons = if common.why { "" } else { " without reasons" };
+            let common = common_text(alloc, common)?;
+            format!(in alloc; "check {common}{reasons}")
         }
-        Request::SuggestPools(PoolsArguments { crd, version }) => {
-            let crd = input_text(*crd);
-            format!(in alloc; "pools {crd} {version}")
+        Request::SuggestPools(common) => {
+            let common = common_text(alloc, common)?;
+            format!(in alloc; "pools {common}")
         }
-        Request::Explain(ExplainArguments { crd, version, path }) => {
-            let crd = input_text(*crd);
+        Request::Explain(ExplainArguments { common, path }) => {
+            let common = common_text(alloc, common)?;
             let path = path.unwrap_or("-");
-            format!(in alloc; "explain {crd} {version} {path}")
+            format!(in alloc; "explain {common} {path}")
         }
         Request::Object(
             ObjectArguments {
                 command,
-                crd,
-                version,
+                common,
                 object,
             },
         ) => {
@@ -403,9 +439,9 @@ fn said(alloc: Global, request: &Request<'_>) -> Result<String, AllocError> {
                 ObjectCommand::Default => "default",
                 ObjectCommand::Leaves => "leaves",
             };
-            let crd = input_text(*crd);
+            let common = common_text(alloc, common)?;
             let object = input_text(*object);
-            format!(in alloc; "{command} {crd} {version} {object}")
+            format!(in alloc; "{command} {common} {object}")
         }
         _ => String::from_str(alloc, "another request"),
     }
@@ -453,7 +489,7 @@ fn is_helped(rt: &impl Abort, output: &Output, wanted: &str, name: &str) {
     is_number(rt, output.status as u64, 0, "the status", name);
 }
 
-fn try_words(
+pub(super) fn try_words(
     rt: &impl Abort,
     alloc: Global,
     row: &(&str, &str, &str),

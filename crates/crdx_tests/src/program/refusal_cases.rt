@@ -1,4 +1,5 @@
 //! `explain`, `validate`, `prune`, `default` and `leaves`: what is said of inputs that are refused, and which of them is judged first.
+use crate::program::argument_cases::try_words;
 use crate::support::documents::{BROKEN, BROKEN_LINES, WIDGET};
 use crate::support::harness::{all_runs, try_run};
 use crate::support::texts::padded;
@@ -14,7 +15,7 @@ const FRACTION: &str = r#"{"spec":{"a":1.5}}"#;
 const CUT: &str = r#"{"spec":{"a""#;
 
 // A name, a command line, a definition, an object, standard output, standard error and the status.
-static ROWS: [(&str, &str, &str, &str, &str, &str, u8); 18] = [
+static ROWS: [(&str, &str, &str, &str, &str, &str, u8); 20] = [
     (
         "an object in a file",
         "crdx validate crd.json v1 object.json",
@@ -115,6 +116,24 @@ static ROWS: [(&str, &str, &str, &str, &str, &str, u8); 18] = [
         1,
     ),
     (
+        "a schema that breaks rules, and pools that cannot be read",
+        "crdx sample crd.json v1 --pools nowhere.json",
+        BROKEN,
+        "{}",
+        "",
+        BROKEN_LINES,
+        1,
+    ),
+    (
+        "a schema that breaks rules, judged before pools that are cut",
+        "crdx sample crd.json v1 --pools pools.json",
+        BROKEN,
+        CUT,
+        "",
+        BROKEN_LINES,
+        1,
+    ),
+    (
         "an object that is cut, and its leaves",
         "crdx leaves crd.json v1 object.json",
         WIDGET,
@@ -182,6 +201,28 @@ static ROWS: [(&str, &str, &str, &str, &str, &str, u8); 18] = [
 #[test]
 fn inputs(rt: HostRuntime) -> Result<(), Fail> {
     Ok(all_runs(&rt, rt.alloc(), &ROWS)?)
+}
+
+// A name, a command line, and a line of the help. The status is 0.
+static HELP: [(&str, &str, &str); 2] = [
+    (
+        "help beside a definition that does not exist",
+        "crdx check nowhere.json v1 --help",
+        "Usage: crdx check [OPTIONS] <CRD> <VERSION>\n",
+    ),
+    (
+        "help beside an object that does not exist",
+        "crdx prune crd.json v1 nowhere.json --help",
+        "Usage: crdx prune [OPTIONS] <CRD> <VERSION> [OBJECT]\n",
+    ),
+];
+
+#[test]
+fn help(rt: HostRuntime) -> Result<(), Fail> {
+    for row in &HELP {
+        try_words(&rt, rt.alloc(), row, false)?;
+    }
+    Ok(())
 }
 
 // A name, how many spaces follow an empty object, standard output, standard error and the status.

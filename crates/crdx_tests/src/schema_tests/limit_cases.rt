@@ -1,32 +1,9 @@
 //! Schemas at the limits and past them.
 use crate::support::harness::try_schema;
-use crate::support::texts::nested;
-use std::alloc::{AllocError, Global};
+use crate::support::texts::{nested, repeated};
+use std::alloc::Global;
 use std::process::Abort;
 use std::test::Fail;
-
-fn push_entry(text: &mut String, i: usize, entry: &str) -> Result<(), AllocError> {
-    if i > 0 {
-        text.push(',')?;
-    }
-    text.push_str(entry)
-}
-
-/// A text, an entry so many times, with commas between, and another text.
-fn repeated(
-    alloc: Global,
-    head: &str,
-    entry: &str,
-    count: usize,
-    tail: &str,
-) -> Result<String, AllocError> {
-    let mut text = String::from_str(alloc, head)?;
-    for i in 0..count {
-        push_entry(&mut text, i, entry)?;
-    }
-    text.push_str(tail)?;
-    Ok(text)
-}
 
 // A name, the text before the entries, an entry, how many there are, the text after them, and what is answered.
 //

@@ -156,6 +156,7 @@ pub struct FakeInputs<'a> {
     pub second_left: usize,
     pub reads: Reads,
     pub failures: u64,
+    pub refused: &'a [u8],
 }
 
 impl<'a> FakeInputs<'a> {
@@ -173,13 +174,12 @@ impl<'a> FakeInputs<'a> {
                 other: 0,
             },
             failures: 0,
+            refused: &[],
         }
     }
-}
 
-impl FakeInputs<'_> {
     /// The document that these bytes are, where reading them does not fail after so many.
-    fn read(&mut self, bytes: &[u8], left: usize) -> Result<Tree, InFault>
+    fn read(&mut self, bytes: &'a [u8], left: usize) -> Result<Tree, InFault>
         ensures document { IfOk result (λ t. IsReading bytes.now (Ok (data_of t))) }
         ensures refused { IfErr result (IsFaultOf bytes.now) }
         ensures counts { self.new.failures ≡ failures_after_read self.old.failures result }
@@ -198,7 +198,10 @@ impl FakeInputs<'_> {
                 self.failures = self.failures.saturating_add(1);
                 Err(InFault::Failed)
             }
-            Err(fault) => Err(InFault::Document(fault)),
+            Err(fault) => {
+                self.refused = bytes;
+                Err(InFault::Document(fault))
+            }
         }
     }
 }
@@ -233,5 +236,14 @@ impl Inputs for FakeInputs<'_> {
                 Err(InFault::Failed)
             }
         }
+    }
+
+    fn refused(&self) -> &[u8] {
+        self.refused
+    }
+
+    fn size(&self, name: Option<&str>) -> Option<u64> {
+        name?;
+        Some(self.refused.len() as u64)
     }
 }

@@ -37,3 +37,26 @@ pub fn padded(alloc: Global, head: &str, spaces: usize) -> Result<String, Fail> 
 pub fn beginning(text: &str, room: usize) -> &str {
     text.get(..room).unwrap_or(text)
 }
+
+fn push_entry(text: &mut String, i: usize, entry: &str) -> Result<(), AllocError> {
+    if i > 0 {
+        text.push(',')?;
+    }
+    text.push_str(entry)
+}
+
+/// A text, an entry so many times, with commas between, and another text.
+pub fn repeated(
+    alloc: Global,
+    head: &str,
+    entry: &str,
+    count: usize,
+    tail: &str,
+) -> Result<String, AllocError> {
+    let mut text = String::from_str(alloc, head)?;
+    for i in 0..count {
+        push_entry(&mut text, i, entry)?;
+    }
+    text.push_str(tail)?;
+    Ok(text)
+}

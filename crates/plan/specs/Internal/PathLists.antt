@@ -1,24 +1,26 @@
--- What is found of the lists of paths, one by one: that none is too long, and the first fault of their paths.
-use Rattle.std.specs.Prelude.{◌≡◌, ◌≤◌, List, ℕ, Bool, true, Some, ◌&&◌, nat_le, length, option_and_then, string_bytes}
-use Rattle.jtree.specs.Data.{Data, list, Members, no_members, member}
-use Rattle.jtree.specs.Path.{member_at}
+-- What is found of the lists of paths, one by one: the first that is too long, and the first fault of their paths.
+use Rattle.std.specs.Prelude.{◌≡◌, List, [], ℕ, Option, Some, None, nat_lt, length, if◌then◌else◌, unwrap_or, string_bytes}
+use Rattle.std.specs.Borrow.{Bor}
+use Rattle.jtree.specs.Data.{Data, Members, no_members, member}
 use Rattle.schema.specs.Nodes.Node.{Node}
-use Rattle.plan.specs.Pools.Pools.{Pools, items_list, entries_in, most_entries}
+use Rattle.plan.specs.Pools.Pools.{Pools, entries_in}
 use Rattle.plan.specs.Pools.PlanFault.{IsFirstBadPath}
+use Rattle.plan.specs.declared.pool_sizes.PoolName.TheVariants.{At}
+use Rattle.plan.specs.declared.pool_sizes.Oversized.{Oversized}
 use Rattle.plan.specs.declared.fault.PFault.{PFault}
 use Rattle.plan.specs.declared.fault.PFault.TheVariants.{BadPath, NoMemory}
 
--- no list has too many values
-abbrev pub AreShort : Members → Type 0
-AreShort ms = (text : List ℕ) (ds : List Data) → option_and_then entries_in (member_at text ms) ≡ Some ds → length ds ≤ most_entries
+-- how many values a list has
+abbrev pub list_count : Data → ℕ
+list_count d = length (unwrap_or (entries_in d) [])
 
-abbrev pub is_short : Data → Bool
-is_short (list ds) = nat_le (length (items_list ds)) most_entries
-is_short _ = true
+-- the path of the first list with more than `most` values, and how many it has
+abbrev pub long_list : ℕ → Members → Option (List ℕ × ℕ)
+long_list most no_members = None
+long_list most (member k d ms) = if nat_lt most (list_count d) then Some (k, list_count d) else long_list most ms
 
-abbrev pub are_short : Members → Bool
-are_short no_members = true
-are_short (member k d ms) = is_short d && are_short ms
+abbrev pub IsLongList : ℕ → Members → Oversized → Type 0
+IsLongList most ms o = (text : Bor (List ℕ)) × (o.pool ≡ At text) × (o.allowed ≡ most) × (long_list most ms ≡ Some (text.now, o.found))
 
 -- a fault of the paths alone
 abbrev pub IsPathsFault : Node → Pools → PFault → Type 0

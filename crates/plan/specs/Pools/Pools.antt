@@ -3,6 +3,7 @@ use Rattle.std.specs.Prelude.{◌≡◌, ◌≤◌, ℕ, ℤ, List, [], ◌∷�
 use Rattle.jtree.specs.Data.{Data, list, Items, no_items, item, Members}
 use Rattle.jtree.specs.Path.{member_at}
 use Rattle.stored.specs.Objects.Fault.{members_count}
+use Rattle.plan.specs.declared.pool_limits.PoolLimits.{PoolLimits}
 
 pub record Pools : Type 0 where
   pub integers : List ℤ
@@ -24,21 +25,18 @@ entries_in _ = None
 abbrev pub list_at : List ℕ → Pools → Option (List Data)
 list_at text P = option_and_then entries_in (member_at text P.paths)
 
--- the most integers, strings, trees of any kind, or values at a path
-abbrev pub most_entries : ℕ
-most_entries = 64
+-- the most integers, strings, trees of any kind, or values at a path; the most names; and the most paths
+abbrev pub standard : PoolLimits
+standard = record { entries = 64; names = 32; paths = 64 }
 
-abbrev pub most_names : ℕ
-most_names = 32
-
-abbrev pub most_paths : ℕ
-most_paths = 64
+abbrev pub large : PoolLimits
+large = record { entries = 1024; names = 32; paths = 1024 }
 
 -- entries count as written, each repeat
-pub record AreSmall (P : Pools) : Type 0 where
-  pub integers : length P.integers ≤ most_entries
-  pub strings : length P.strings ≤ most_entries
-  pub names : length P.names ≤ most_names
-  pub any : length P.any ≤ most_entries
-  pub paths : members_count P.paths ≤ most_paths
-  pub at_paths : (text : List ℕ) (ds : List Data) → list_at text P ≡ Some ds → length ds ≤ most_entries
+pub record AreSmall (limits : PoolLimits) (P : Pools) : Type 0 where
+  pub integers : length P.integers ≤ limits.entries
+  pub strings : length P.strings ≤ limits.entries
+  pub names : length P.names ≤ limits.names
+  pub any : length P.any ≤ limits.entries
+  pub paths : members_count P.paths ≤ limits.paths
+  pub at_paths : (text : List ℕ) (ds : List Data) → list_at text P ≡ Some ds → length ds ≤ limits.entries

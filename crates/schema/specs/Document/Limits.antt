@@ -1,5 +1,5 @@
--- The limits of a schema (this project's own): 512 places, branches of junctors among them; 24 steps of a place; 32 members
--- of `properties`, 32 entries of `required`, 4 of `x-kubernetes-list-map-keys`, 64 of `enum`. Entries count as written.
+-- The limits of a schema (this project's own): the most places, branches of junctors among them; the most steps of a place; the
+-- most members of `properties`; the most entries of `required`, `x-kubernetes-list-map-keys` and `enum`. Entries count as written.
 use Rattle.std.specs.Prelude.{◌≡◌, ◌<◌, ℕ, suc, List, [], ◌∷◌, ◌++◌, length, Option, Some, None, if◌then◌else◌, codes, AllPairs, Contains}
 use Rattle.std.specs.Str.{bytes_eq}
 use Rattle.std.specs.declared.cmp.Ordering.TheVariants.{Less}
@@ -8,12 +8,17 @@ use Rattle.jtree.specs.Data as tree
 use Rattle.jtree.specs.Path.{Path, name, under}
 use Rattle.jtree.specs.PathOrder.{path_cmp, IsFirst}
 use Rattle.schema.specs.Document.Places.{Place, IsPlace, schema_at, place_path}
+use Rattle.schema.specs.declared.limits.Limited.{Limited}
+use Rattle.schema.specs.declared.limits.Limited.TheVariants.{Places, Steps, Properties, Required, MapKeys, Choices}
+use Rattle.schema.specs.declared.limits.Limits.{Limits}
 
-abbrev pub most_places : ℕ
-most_places = 512
+-- those of every command
+abbrev pub standard : Limits
+standard = record { places = 512; steps = 24; properties = 32; required = 32; map_keys = 4; choices = 64 }
 
-abbrev pub most_steps : ℕ
-most_steps = 24
+-- those of `--large`
+abbrev pub large : Limits
+large = record { places = 16384; steps = 60; properties = 1024; required = 1024; map_keys = 8; choices = 1024 }
 
 abbrev pub items_len : Items → ℕ
 items_len no_items = 0
@@ -29,23 +34,32 @@ size (tree.list ds) = items_len ds
 size (tree.object ms) = members_len ms
 size _ = 0
 
--- the most members or entries of a keyword's value, where there is a limit
-abbrev pub most_of : List ℕ → Option ℕ
-most_of k =
-    if bytes_eq k (codes "properties") then Some 32 else
-    if bytes_eq k (codes "required") then Some 32 else
-    if bytes_eq k (codes "x-kubernetes-list-map-keys") then Some 4 else
-    if bytes_eq k (codes "enum") then Some 64 else None
+-- the limit of what is limited
+abbrev pub most : Limits → Limited → ℕ
+most limits Places = limits.places
+most limits Steps = limits.steps
+most limits Properties = limits.properties
+most limits Required = limits.required
+most limits MapKeys = limits.map_keys
+most limits Choices = limits.choices
+
+-- what is limited of a keyword's value: the number of its members or entries
+abbrev pub limited_by : List ℕ → Option Limited
+limited_by k =
+    if bytes_eq k (codes "properties") then Some Properties else
+    if bytes_eq k (codes "required") then Some Required else
+    if bytes_eq k (codes "x-kubernetes-list-map-keys") then Some MapKeys else
+    if bytes_eq k (codes "enum") then Some Choices else None
 
 -- a keyword of a place has too many members or entries
-pub record IsTooLong (raw : Data) (at : Place) (keyword : List ℕ) : Type 0 where
+pub record IsTooLong (limits : Limits) (raw : Data) (at : Place) (keyword : List ℕ) : Type 0 where
   pub schema : Data
   pub is : schema_at raw at ≡ Some schema
   pub value : Data
   pub is_there : under schema keyword ≡ Some value
-  pub most : ℕ
-  pub limit : most_of keyword ≡ Some most
-  pub past : most < size value
+  pub limited : Limited
+  pub limit : limited_by keyword ≡ Some limited
+  pub past : most limits limited < size value
 
 -- the places, in path order, that come before one
 pub record ComeBefore (raw : Data) (at : Place) (places : List Place) : Type 0 where
@@ -54,15 +68,15 @@ pub record ComeBefore (raw : Data) (at : Place) (places : List Place) : Type 0 w
   pub all : (p : Place) → IsPlace raw p → path_cmp (place_path p) (place_path at) ≡ Less → Contains places p
 
 -- what a limit is passed at, by its path
-pub data PassesLimit : Data → Path → Type 0 where
-  -- the 513th place
-  too_many_places : (raw : Data) (at : Place) (before : List Place) → IsPlace raw at → ComeBefore raw at before → length before ≡ most_places → PassesLimit raw (place_path at)
-  too_deep : (raw : Data) (at : Place) → IsPlace raw at → most_steps < length at → PassesLimit raw (place_path at)
-  too_long : (raw : Data) (at : Place) (keyword : List ℕ) → IsTooLong raw at keyword → PassesLimit raw (place_path at ++ (name keyword ∷ []))
+pub data PassesLimit (limits : Limits) : Data → Path → Type 0 where
+  -- the first place after as many as there may be
+  too_many_places : (raw : Data) (at : Place) (before : List Place) → IsPlace raw at → ComeBefore raw at before → length before ≡ limits.places → PassesLimit limits raw (place_path at)
+  too_deep : (raw : Data) (at : Place) → IsPlace raw at → limits.steps < length at → PassesLimit limits raw (place_path at)
+  too_long : (raw : Data) (at : Place) (keyword : List ℕ) → IsTooLong limits raw at keyword → PassesLimit limits raw (place_path at ++ (name keyword ∷ []))
 
-abbrev pub IsWithinLimits : Data → Type 0
-IsWithinLimits raw = (path : Path) → PassesLimit raw path → ⊥
+abbrev pub IsWithinLimits : Limits → Data → Type 0
+IsWithinLimits limits raw = (path : Path) → PassesLimit limits raw path → ⊥
 
 -- the first such path
-abbrev pub IsLimitFault : Data → Path → Type 0
-IsLimitFault raw path = IsFirst (PassesLimit raw) path
+abbrev pub IsLimitFault : Limits → Data → Path → Type 0
+IsLimitFault limits raw path = IsFirst (PassesLimit limits raw) path

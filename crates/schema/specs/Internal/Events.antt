@@ -1,22 +1,24 @@
--- For private contracts: what a walk over a schema passes, in path order: its places, and its keywords that are too long.
+-- For private contracts: what a walk over a schema passes, in path order: its places, and its keywords that have a limit.
 use Rattle.std.specs.Prelude.{◌≡◌, ◌⊎◌, ◌↔◌, ℕ, suc, List, [], ◌∷◌, ◌++◌, length, Bool, true, false, Option, Some, None, if◌then◌else◌, nat_lt, nat_le, codes}
 use Rattle.std.specs.Str.{bytes_eq}
 use Rattle.std.specs.declared.cmp.Ordering.TheVariants.{Less}
 use Rattle.jtree.specs.Data.{Data, list, object, Items, no_items, item, Members, no_members, member}
-use Rattle.jtree.specs.Path.{Path, name}
+use Rattle.jtree.specs.Path.{Path, name, under}
 use Rattle.jtree.specs.PathOrder.{path_cmp}
 use Rattle.schema.specs.Document.Places.{Step, property, map_value, items, all_of, any_of, one_of, negation, Place, place_path, schema_at}
-use Rattle.schema.specs.Document.Limits.{most_places, most_steps, most_of, size, IsTooLong}
+use Rattle.schema.specs.Document.Limits.{most, limited_by, size}
+use Rattle.schema.specs.declared.limits.Limited.{Limited}
+use Rattle.schema.specs.declared.limits.Limits.{Limits}
 
 pub data Event : Type 0 where
   -- the schema at a place
   entered : Place → Data → Event
-  -- a keyword of a place has too many members or entries
-  too_long : Place → List ℕ → Event
+  -- a keyword of a place, whose members or entries are limited, has so many
+  counted : Place → List ℕ → Limited → ℕ → Event
 
 abbrev pub event_path : Event → Path
 event_path (entered p s) = place_path p
-event_path (too_long p k) = place_path p ++ (name k ∷ [])
+event_path (counted p k l n) = place_path p ++ (name k ∷ [])
 
 -- which list of branches
 pub data Junctor : Type 0 where
@@ -46,13 +48,13 @@ part_of k =
     if bytes_eq k (codes "oneOf") then branches one else
     if bytes_eq k (codes "not") then a_schema negation else no_schema
 
-abbrev pub is_past : Option ℕ → ℕ → Bool
-is_past None n = false
-is_past (Some most) n = nat_lt most n
+abbrev pub count_event : Place → List ℕ → Option Limited → ℕ → List Event
+count_event p k None n = []
+count_event p k (Some l) n = counted p k l n ∷ []
 
 -- the event of a keyword itself
 abbrev pub keyword_event : Place → List ℕ → Data → List Event
-keyword_event p k d = if is_past (most_of k) (size d) then too_long p k ∷ [] else []
+keyword_event p k d = count_event p k (limited_by k) (size d)
 
 -- The events below a place: in the value of a keyword, or of a name under `properties`; in the members of a schema (its
 -- keywords) or of `properties` (their names); in the entries of a junctor from an index on.
@@ -88,22 +90,32 @@ abbrev pub Ascend : List Event → Type 0
 Ascend [] = Unit {0}
 Ascend (m ∷ events) = ((n : Event) → IsIn n events → path_cmp (event_path m) (event_path n) ≡ Less) × Ascend events
 
+-- a keyword of a place, whose members or entries are limited, has so many
+pub record IsCounted (raw : Data) (at : Place) (keyword : List ℕ) (l : Limited) (n : ℕ) : Type 0 where
+  pub schema : Data
+  pub is : schema_at raw at ≡ Some schema
+  pub value : Data
+  pub is_there : under schema keyword ≡ Some value
+  pub limit : limited_by keyword ≡ Some l
+  pub count : size value ≡ n
+
 -- the events are those of the schema, in path order
 pub record AreEventsOf (raw : Data) (events : List Event) : Type 0 where
   pub ascending : Ascend events
   pub subschemas : (p : Place) (s : Data) → (schema_at raw p ≡ Some s) ↔ IsIn (entered p s) events
-  pub keywords : (p : Place) (k : List ℕ) → IsTooLong raw p k ↔ IsIn (too_long p k) events
+  pub keywords : (p : Place) (k : List ℕ) (l : Limited) (n : ℕ) → IsCounted raw p k l n ↔ IsIn (counted p k l n) events
 
 -- the first path at which a limit is passed, after so many places
-abbrev pub limit_break : ℕ → List Event → Option Path
-limit_break n [] = None
-limit_break n (entered p s ∷ events) =
-    if nat_le most_places n then Some (place_path p) else
-    if nat_lt most_steps (length p) then Some (place_path p) else limit_break (suc n) events
-limit_break n (too_long p k ∷ events) = Some (place_path p ++ (name k ∷ []))
+abbrev pub limit_break : Limits → ℕ → List Event → Option Path
+limit_break limits n [] = None
+limit_break limits n (entered p s ∷ events) =
+    if nat_le limits.places n then Some (place_path p) else
+    if nat_lt limits.steps (length p) then Some (place_path p) else limit_break limits (suc n) events
+limit_break limits n (counted p k l m ∷ events) =
+    if nat_lt (most limits l) m then Some (place_path p ++ (name k ∷ [])) else limit_break limits n events
 
 -- the places among the events
 abbrev pub subschemas_of : List Event → List Event
 subschemas_of [] = []
 subschemas_of (entered p s ∷ events) = entered p s ∷ subschemas_of events
-subschemas_of (too_long p k ∷ events) = subschemas_of events
+subschemas_of (counted p k l n ∷ events) = subschemas_of events

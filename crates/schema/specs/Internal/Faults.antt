@@ -5,7 +5,11 @@ use Rattle.jtree.specs.Path.{Path}
 use Rattle.jtree.specs.Pointer.{pointer}
 use Rattle.schema.specs.Document.Crd.{AreVersions, IsNoCrd, LacksVersion}
 use Rattle.schema.specs.Document.Limits.{IsLimitFault}
+use Rattle.schema.specs.declared.limits.Limits.{Limits}
 use Rattle.schema.specs.declared.fault.SFault.{SFault}
+use Rattle.schema.specs.declared.listing.Unlisted.{Unlisted}
+use Rattle.schema.specs.declared.listing.Unlisted.TheVariants.{Passed}
+use Rattle.schema.specs.declared.listing.Unlisted.TheVariants as listing
 use Rattle.schema.specs.declared.fault.SFault.TheVariants.{NotACrd, NoSuchVersion, KeywordForm, TooLarge, NoMemory}
 
 -- the items are no versions
@@ -28,13 +32,15 @@ IsBreakFault o NoMemory = Unit {0}
 IsBreakFault _ _ = ⊥
 
 -- this is the first path at which a limit is passed
-abbrev pub IsLimitRefusal : Option Path → SFault → Type 0
-IsLimitRefusal o (TooLarge p) = (path : Path) × (string_bytes p ≡ pointer path) × (o ≡ Some path)
-IsLimitRefusal o NoMemory = Unit {0}
-IsLimitRefusal _ _ = ⊥
+abbrev pub IsLimitRefusal : Option Path → Unlisted → Type 0
+IsLimitRefusal o (Passed x) = (path : Path) × (string_bytes x.pointer ≡ pointer path) × (o ≡ Some path)
+IsLimitRefusal o listing.NoMemory = Unit {0}
 
 -- a limit of the schema is passed
-abbrev pub IsLimitFaultOf : Data → SFault → Type 0
-IsLimitFaultOf raw (TooLarge p) = (path : Path) × (string_bytes p ≡ pointer path) × IsLimitFault raw path
-IsLimitFaultOf raw NoMemory = Unit {0}
-IsLimitFaultOf _ _ = ⊥
+abbrev pub IsLimitFaultOf : Limits → Data → Unlisted → Type 0
+IsLimitFaultOf limits raw (Passed x) = (path : Path) × (string_bytes x.pointer ≡ pointer path) × IsLimitFault limits raw path
+IsLimitFaultOf limits raw listing.NoMemory = Unit {0}
+
+abbrev pub listing_fault : Unlisted → SFault
+listing_fault (Passed x) = TooLarge x.pointer
+listing_fault listing.NoMemory = NoMemory

@@ -1,7 +1,7 @@
 -- What a shape is, and what a refusal says (this project's own).
 use Rattle.std.specs.Prelude.{◌≢◌, [], true}
 use Rattle.jtree.specs.Data.{Data}
-use Rattle.schema.specs.Document.ReadFault.{IsSound}
+use Rattle.schema.specs.Document.Forms.{HasForms}
 use Rattle.schema.specs.Rules.Broken.{Broken}
 use Rattle.schema.specs.Rules.Breaks.{AreViolations, BreaksNone}
 use Rattle.schema.specs.Nodes.Node.{Node}
@@ -11,7 +11,7 @@ use Rattle.schema.specs.declared.refused.Refused.TheVariants.{Violations, NoMemo
 
 -- the root is that of a schema that breaks none of the rules
 pub record IsRootOf (N : Node) (raw : Data) : Type 0 where
-  pub sound : IsSound raw
+  pub forms : HasForms raw
   pub unbroken : BreaksNone raw
   pub nodes : AreNodesOf true N raw
 

@@ -3,7 +3,7 @@
 use Rattle.std.specs.Prelude.{◌≡◌, ◌≢◌, ◌⊎◌, [], true}
 use Rattle.jtree.specs.Data.{Data}
 use Rattle.schema.specs.Document.Places.{Place}
-use Rattle.schema.specs.Document.ReadFault.{IsSound}
+use Rattle.schema.specs.Document.Forms.{HasForms}
 use Rattle.schema.specs.Rules.Broken.{Broken}
 use Rattle.schema.specs.Rules.Breaks.{IsUnbroken, BreaksNone, AreViolations}
 use Rattle.schema.specs.Nodes.Node.{Node}
@@ -29,7 +29,7 @@ IsBroken raw p r = Broken raw p r ⊎ ((r ≡ V14) × BreaksNone raw × HasBadDe
 
 -- the root of a schema that breaks no rule
 pub record IsRootOf (N : Node) (raw : Data) : Type 0 where
-  pub sound : IsSound raw
+  pub forms : HasForms raw
   pub unbroken : IsUnbroken (IsBroken raw)
   pub nodes : AreNodesOf true N raw
   pub defaults : HasGoodDefaults N

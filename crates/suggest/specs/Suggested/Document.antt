@@ -3,7 +3,7 @@ use Rattle.std.specs.Prelude.{ℕ, List, [], ◌∷◌, map, take, codes}
 use Rattle.std.specs.List.{repeat}
 use Rattle.jtree.specs.Data.{Data, integer, text, list, object, Items, no_items, item, no_members, member}
 use Rattle.schema.specs.Nodes.Node.{Node}
-use Rattle.plan.specs.Pools.Pools.{most_entries}
+use Rattle.plan.specs.Pools.Pools.{standard}
 use Rattle.suggest.specs.Suggested.Values.{all_integers, all_lengths}
 
 abbrev pub items_of : List Data → Items
@@ -16,10 +16,10 @@ letters n = repeat n (codes "a")
 
 -- the first of each list, as many as pools may have
 abbrev pub suggested_integers : Node → List Data
-suggested_integers root = map (λ z. integer z) (take most_entries (all_integers root))
+suggested_integers root = map (λ z. integer z) (take standard.entries (all_integers root))
 
 abbrev pub suggested_strings : Node → List Data
-suggested_strings root = map (λ n. text (letters n)) (take most_entries (all_lengths root))
+suggested_strings root = map (λ n. text (letters n)) (take standard.entries (all_lengths root))
 
 -- values of open nodes, in the tree order
 abbrev pub suggested_any : List Data

@@ -6,7 +6,7 @@ use Rattle.jtree.specs.Order.{kind}
 use Rattle.schema.specs.Nodes.Node.{Validations, validations, no_branches, Node, node, scalar}
 use Rattle.explain.specs.Paths.FieldPath.{FieldPath}
 use Rattle.explain.specs.Paths.PathText.{path_text}
-use Rattle.plan.specs.Pools.Pools.{most_entries}
+use Rattle.plan.specs.Pools.Pools.{standard}
 use Rattle.plan.specs.Pools.Document.{pools_of}
 use Rattle.plan.specs.Samples.Part.{IsPart}
 use Rattle.plan.specs.Samples.Site.{plain}
@@ -25,8 +25,8 @@ IsBounded _ = ⊥
 -- a truth value, an integer where no integers were cut, or a text of at most 64 characters where no texts were
 abbrev pub IsWithinReach : Node → Data → Type 0
 IsWithinReach root (boolean b) = Unit {0}
-IsWithinReach root (integer z) = length (all_integers root) ≤ most_entries
-IsWithinReach root (text s) = (length (chars s) ≤ longest) × (length (all_lengths root) ≤ most_entries)
+IsWithinReach root (integer z) = length (all_integers root) ≤ standard.entries
+IsWithinReach root (text s) = (length (chars s) ≤ longest) × (length (all_lengths root) ≤ standard.entries)
 IsWithinReach root _ = ⊥
 
 -- the suggested values have a candidate for the node at the path, of the kind of v

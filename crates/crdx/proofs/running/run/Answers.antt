@@ -10,7 +10,7 @@ returns-in-Check g c =
     let request = Check c.in-Check.arguments in (
       request,
       c.in-Check.ensures,
-      result_of_finished _ request c.check.result c.finish.result c.check.ensures.answer c.check.ensures.cause (λ status text is n out. (status, text, is, n, out))
+      result_of_finished _ request c.check-answer.result c.finish.result c.check-answer.ensures.answer c.check-answer.ensures.cause (λ status text is n out. (status, text, is, n, out))
           c.finish.ensures.written c.finish.ensures.said c.finish.ensures.kept c.finish.ensures.unfailed,
     )
 
@@ -19,7 +19,7 @@ returns-in-Explain g c =
     let request = Explain c.in-Explain.arguments in (
       request,
       c.in-Explain.ensures,
-      result_of_finished _ request c.explain.result c.finish-in-Explain.result c.explain.ensures.answer c.explain.ensures.cause (λ status text is n out. (status, text, is, n, out))
+      result_of_finished _ request c.explain-answer.result c.finish-in-Explain.result c.explain-answer.ensures.answer c.explain-answer.ensures.cause (λ status text is n out. (status, text, is, n, out))
           c.finish-in-Explain.ensures.written c.finish-in-Explain.ensures.said c.finish-in-Explain.ensures.kept c.finish-in-Explain.ensures.unfailed,
     )
 
@@ -28,7 +28,7 @@ returns-in-Object g c =
     let request = Object c.in-Object.arguments in (
       request,
       c.in-Object.ensures,
-      result_of_finished _ request c.judge_object.result c.finish-in-Object.result c.judge_object.ensures.answer c.judge_object.ensures.cause (λ status text is n out. (status, text, is, n, out))
+      result_of_finished _ request c.judge_object-answer.result c.finish-in-Object.result c.judge_object-answer.ensures.answer c.judge_object-answer.ensures.cause (λ status text is n out. (status, text, is, n, out))
           c.finish-in-Object.ensures.written c.finish-in-Object.ensures.said c.finish-in-Object.ensures.kept c.finish-in-Object.ensures.unfailed,
     )
 
@@ -37,7 +37,7 @@ returns-in-SuggestPools g c =
     let request = SuggestPools c.in-SuggestPools.arguments in (
       request,
       c.in-SuggestPools.ensures,
-      result_of_finished _ request c.suggest_pools.result c.finish-in-SuggestPools.result c.suggest_pools.ensures.answer c.suggest_pools.ensures.cause (λ status text is n out. (status, text, is, n, out))
+      result_of_finished _ request c.suggest_pools-answer.result c.finish-in-SuggestPools.result c.suggest_pools-answer.ensures.answer c.suggest_pools-answer.ensures.cause (λ status text is n out. (status, text, is, n, out))
           c.finish-in-SuggestPools.ensures.written c.finish-in-SuggestPools.ensures.said c.finish-in-SuggestPools.ensures.kept c.finish-in-SuggestPools.ensures.unfailed,
     )
 
@@ -46,7 +46,7 @@ returns-in-Sample g c =
     let arguments = c.in-Sample.arguments in (
       Sample arguments,
       c.in-Sample.ensures,
-      result_of_sample _ arguments c.sample.result c.finish_samples.result c.sample.ensures.sampled c.sample.ensures.unfailed c.sample.ensures.cause c.finish_samples.ensures.done
+      result_of_sample _ arguments c.sample-walked.result c.finish_samples.result c.sample-walked.ensures.sampled c.sample-walked.ensures.unfailed c.sample-walked.ensures.cause c.finish_samples.ensures.done
           c.finish_samples.ensures.said,
     )
 
@@ -61,5 +61,5 @@ returns-in-UsageError g c =
 
 pub returns-in-NoMemory : goal.returns-in-NoMemory
 returns-in-NoMemory g c =
-    let five : c.report.result ≡ 5 = elim c.report.ensures [ inl e ↦ e | inr e ↦ e ] in
-    (NoMemory, tt, result_of_nothing _ NoMemory c.report.result (record { kept = Keeps-refl (g.W.Sink.taken c.args.out.now); unfailed = refl }) five)
+    let five : c.report_alone.result ≡ 5 = elim c.report_alone.ensures [ inl e ↦ e | inr e ↦ e ] in
+    (NoMemory, tt, result_of_nothing _ NoMemory c.report_alone.result (record { kept = Keeps-refl (g.W.Sink.taken c.args.out.now); unfailed = refl }) five)

@@ -11,6 +11,6 @@ returns-in-None-clause-ok c =
     subst (IsPointed (BreaksForm d)) (sym c.in_ok-first_break.ensures ∙ ap (option_map string_bytes) c.in-None.is) (first_pointed d c.reveal_invariant.ensures)
 
 pub returns-in-Some-clause-err : goal.returns-in-Some-clause-err
-returns-in-Some-clause-err c =
+returns-in-Some-clause-err c = λ limits.
     let d = data_of c.args.document.now in
     subst (IsPointed (BreaksForm d)) (sym c.in_ok-first_break.ensures ∙ ap (option_map string_bytes) c.in-Some.is) (first_pointed d c.reveal_invariant.ensures)

@@ -20,8 +20,8 @@ list_keywords-loop-member-preserved = list_keywords.loop-member-preserved
 pub list_keywords-returns : goal.list_keywords-returns
 list_keywords-returns = list_keywords.returns
 
-pub list_keywords-returns-then-is_too_long : goal.list_keywords-returns-then-is_too_long
-list_keywords-returns-then-is_too_long = list_keywords.returns-then-is_too_long
+pub list_keywords-returns-in_err-check_keyword-clause-err : goal.list_keywords-returns-in_err-check_keyword-clause-err
+list_keywords-returns-in_err-check_keyword-clause-err = list_keywords.returns-in_err-check_keyword-clause-err
 
 pub list_properties-loop-property-preserved : goal.list_properties-loop-property-preserved
 list_properties-loop-property-preserved = list_properties.loop-property-preserved

@@ -14,8 +14,8 @@ abbrev pub invariant-list_keywords-loop-member : goal.invariant-list_keywords-lo
 invariant-list_keywords-loop-member l = record {
   subschemas : map subschema_of l.subschemas.items ++ subschemas_of (member_events (place_of l.place) true (members_of (drop l.member-index l.member-items)))
       ≡ map subschema_of l.fn.subschemas.items ++ subschemas_of (member_events (place_of l.place) true (members_of l.member-items));
-  limit : limit_break (length l.subschemas.items) (member_events (place_of l.place) true (members_of (drop l.member-index l.member-items)))
-      ≡ limit_break (length l.fn.subschemas.items) (member_events (place_of l.place) true (members_of l.member-items));
+  limit : limit_break l.limits (length l.subschemas.items) (member_events (place_of l.place) true (members_of (drop l.member-index l.member-items)))
+      ≡ limit_break l.limits (length l.fn.subschemas.items) (member_events (place_of l.place) true (members_of l.member-items));
   contexts : (raw : Data) → IsContext raw (place_of l.place) (object (members_of l.member-items)) l.context → All (IsSubschema raw) l.fn.subschemas.items → All (IsSubschema raw) l.subschemas.items;
 }
 
@@ -23,8 +23,8 @@ abbrev pub invariant-list_properties-loop-property : goal.invariant-list_propert
 invariant-list_properties-loop-property l = record {
   subschemas : map subschema_of l.subschemas.items ++ subschemas_of (member_events (place_of l.place) false (members_of (drop l.property-index l.property-items)))
       ≡ map subschema_of l.fn.subschemas.items ++ subschemas_of (member_events (place_of l.place) false (members_of l.property-items));
-  limit : limit_break (length l.subschemas.items) (member_events (place_of l.place) false (members_of (drop l.property-index l.property-items)))
-      ≡ limit_break (length l.fn.subschemas.items) (member_events (place_of l.place) false (members_of l.property-items));
+  limit : limit_break l.limits (length l.subschemas.items) (member_events (place_of l.place) false (members_of (drop l.property-index l.property-items)))
+      ≡ limit_break l.limits (length l.fn.subschemas.items) (member_events (place_of l.place) false (members_of l.property-items));
   contexts : (raw s : Data) → IsContext raw (place_of l.place) s l.context → HasPart s properties (object (members_of l.property-items))
       → All (IsSubschema raw) l.fn.subschemas.items → All (IsSubschema raw) l.subschemas.items;
 }
@@ -33,8 +33,8 @@ abbrev pub invariant-list_branches-loop-i : goal.invariant-list_branches-loop-i
 invariant-list_branches-loop-i l = record {
   subschemas : map subschema_of l.subschemas.items ++ subschemas_of (item_events (place_of l.place) (junctor_of l.junctor) l.i (items_of (drop l.i l.item-items)))
       ≡ map subschema_of l.fn.subschemas.items ++ subschemas_of (item_events (place_of l.place) (junctor_of l.junctor) 0 (items_of l.item-items));
-  limit : limit_break (length l.subschemas.items) (item_events (place_of l.place) (junctor_of l.junctor) l.i (items_of (drop l.i l.item-items)))
-      ≡ limit_break (length l.fn.subschemas.items) (item_events (place_of l.place) (junctor_of l.junctor) 0 (items_of l.item-items));
+  limit : limit_break l.limits (length l.subschemas.items) (item_events (place_of l.place) (junctor_of l.junctor) l.i (items_of (drop l.i l.item-items)))
+      ≡ limit_break l.limits (length l.fn.subschemas.items) (item_events (place_of l.place) (junctor_of l.junctor) 0 (items_of l.item-items));
   contexts : (raw s : Data) → IsContext raw (place_of l.place) s l.context → HasPart s (branches (junctor_of l.junctor)) (list (items_of l.item-items))
       → All (IsSubschema raw) l.fn.subschemas.items → All (IsSubschema raw) l.subschemas.items;
 }

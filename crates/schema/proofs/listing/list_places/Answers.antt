@@ -16,7 +16,7 @@ pub returns-clause-within : goal.returns-clause-within
 returns-clause-within c =
     let ms = c.args.schema.now in
     let events = schema_events [] ms in
-    within (object ms) events (schema_events_are ms c.reveal_invariant.ensures) (ap (λ vs. limit_break (length vs) events) (sym c.new-subschemas.ensures.items) ∙ c.in_ok-list_schema.ensures.ok)
+    within c.args.limits (object ms) events (schema_events_are ms c.reveal_invariant.ensures) (ap (λ vs. limit_break c.args.limits (length vs) events) (sym c.new-subschemas.ensures.items) ∙ c.in_ok-list_schema.ensures.ok)
 
 pub returns-in_err-list_schema-clause-err : goal.returns-in_err-list_schema-clause-err
 returns-in_err-list_schema-clause-err c =
@@ -24,8 +24,8 @@ returns-in_err-list_schema-clause-err c =
     let events = schema_events [] ms in
     let e = c.in_err-list_schema.field-0.0 in
     let p = err_from_is_err_and c.from_residual.result c.from_residual.ensures.1 in
-    rw (p.1, p.2) (refusal_names (object ms) events (schema_events_are ms c.reveal_invariant.ensures) e
-    (subst (λ vs. IsLimitRefusal (limit_break (length vs) events) e) c.new-subschemas.ensures.items c.in_err-list_schema.ensures.err))
+    rw (p.1, p.2) (refusal_names c.args.limits (object ms) events (schema_events_are ms c.reveal_invariant.ensures) e
+    (subst (λ vs. IsLimitRefusal (limit_break c.args.limits (length vs) events) e) c.new-subschemas.ensures.items c.in_err-list_schema.ensures.err))
 
 pub returns-clause-subschemas : goal.returns-clause-subschemas
 returns-clause-subschemas c =

@@ -18,7 +18,7 @@ returns c =
     let whole = c.tree-schema.ensures.data in
     let root = node_of c.in_ok-read_node.field-0 in
     record {
-      sound = c.tree-schema.ensures.sound;
+      forms = c.tree-schema.ensures.forms;
       unbroken = c.requires;
       nodes = nodes_by_place root raw true (subst IsTree whole c.reveal_invariant.ensures) (have_own_parts raw c.requires) (subst (IsNodeOf true root) whole c.in_ok-read_node.ensures);
     }

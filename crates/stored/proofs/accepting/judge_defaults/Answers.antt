@@ -7,7 +7,7 @@ use Rattle.stored.proofs.DefaultListLemmas.{is_accepted, is_refused}
 use Rattle.stored.proofs.accepting.judge_defaults.Goals as goal
 
 pub returns-then-is_empty-clause-accepted : goal.returns-then-is_empty-clause-accepted
-returns-then-is_empty-clause-accepted c = is_accepted c.args.raw.now c.args.shape c.in-Ok.found.items c.tree.ensures.sound c.requires.unbroken c.requires.nodes
+returns-then-is_empty-clause-accepted c = is_accepted c.args.raw.now c.args.shape c.in-Ok.found.items c.tree.ensures.forms c.requires.unbroken c.requires.nodes
     (λ M nodes. c.nodes_are_unique.ensures M c.args.shape c.args.raw.now true nodes c.requires.nodes)
     (subst (λ N. AreAdded [] (defaults_of N) [] (map reported c.in-Ok.found.items)) c.root.ensures.node c.in-Ok.ensures)
     (search (rules, nil_from_length))

@@ -1,13 +1,7 @@
-use Rattle.std.proofs.Common.{◌∙◌, refl, codes}
+use Rattle.std.proofs.Common.{◌∙◌, codes}
 use Rattle.clap.specs.Matches.{found_of}
 use Rattle.clap.proofs.WalkLemmas.{first_value-rows}
-use Rattle.crdx.proofs.CommandLineLemmas.{value_text}
 use Rattle.crdx.proofs.arguments.parsing.explain_arguments.Goals as goal
 
 pub returns : goal.returns
-returns c =
-    let f = found_of c.args.matches.now in (
-      c.crd_of.ensures,
-      value_text f (codes "VERSION") c.get_str.result c.unwrap_or.result _ c.get_str.ensures c.unwrap_or.ensures refl,
-      c.get_str-2.ensures ∙ first_value-rows f (codes "PATH"),
-    )
+returns c = (c.common_arguments.ensures, c.get_str.ensures ∙ first_value-rows (found_of c.args.matches.now) (codes "PATH"))

@@ -1,6 +1,5 @@
 use Rattle.std.proofs.Common.{refl, string_bytes}
 use Rattle.std.proofs.lemmas.Result.{err_from_is_err_and}
-use Rattle.crdx.specs.Program.Documents.{file_name}
 use Rattle.crdx.specs.declared.arguments.request.Request.TheVariants.{Check}
 use Rattle.crdx.proofs.CheckLemmas.{check_answer}
 use Rattle.crdx.proofs.RunLemmas.{input_of_reading}
@@ -10,7 +9,7 @@ pub returns-in_err-crd-clause-cause : goal.returns-in_err-crd-clause-cause
 returns-in_err-crd-clause-cause g c =
     let arguments = c.args.arguments.now in
     let p = err_from_is_err_and c.from_residual.result c.from_residual.ensures.1 in
-    rw (p.1, p.2) (input_of_reading (g.I.Inputs.has c.args.inputs.now) (g.I.Inputs.failures c.args.inputs.now) (g.I.Inputs.failures c.crd_of.new.inputs) (file_name arguments.crd) arguments.version.now
+    rw (p.1, p.2) (input_of_reading (g.I.Inputs.has c.args.inputs.now) (g.I.Inputs.failures c.args.inputs.now) (g.I.Inputs.failures c.crd_of.new.inputs) arguments
     (Check arguments) c.in_err-crd.field-0.0 (λ r. r) c.in_err-crd.ensures.cause)
 
 pub returns-clause-answer : goal.returns-clause-answer

@@ -1,11 +1,14 @@
-use Rattle.std.proofs.lemmas.Result.{err_from_is_err_and}
+use Rattle.std.proofs.Common.{subst}
+use Rattle.std.proofs.lemmas.Result.{err_from_is_err_and, IfErr-at_err}
 use Rattle.jtree.specs.View.{data_of}
-use Rattle.crdx.specs.Program.Documents.{file_name}
+use Rattle.schema.specs.Document.ReadFault.{IsReadFault}
 use Rattle.crdx.proofs.RunLemmas.{cause_of_fault}
 use Rattle.crdx.proofs.running.documents.crd_of.Goals as goal
 
-pub returns-in_err-read_crd-clause-cause : goal.returns-in_err-read_crd-clause-cause
-returns-in_err-read_crd-clause-cause g c =
-    let p = err_from_is_err_and c.from_residual-in_err-read_crd.result c.from_residual-in_err-read_crd.ensures.1 in
-    rw (p.1, p.2) (cause_of_fault (g.I.Inputs.has c.args.inputs.now) (g.I.Inputs.failures c.args.inputs.now) (g.I.Inputs.failures c.document.new.inputs) (file_name c.args.crd) c.args.version.now (data_of c.in_ok-document.document) _
-    c.in_ok-document.ensures.ok c.in_err-read_crd.ensures.err)
+pub returns-in_err-read-clause-cause : goal.returns-in_err-read-clause-cause
+returns-in_err-read-clause-cause g c =
+    let arguments = c.args.arguments.now in
+    let document = data_of c.in_ok-document.document in
+    let fault = subst (λ limits. IsReadFault limits document arguments.version.now c.in_err-read.field-0.0) c.limits_of-limits.ensures (IfErr-at_err (IsReadFault c.limits_of-limits.result document arguments.version.now) c.in_err-read.was c.read_crd_within-read.ensures.err) in
+    let p = err_from_is_err_and c.from_residual-in_err-read.result c.from_residual-in_err-read.ensures.1 in
+    rw (p.1, p.2) (cause_of_fault (g.I.Inputs.has c.args.inputs.now) (g.I.Inputs.failures c.args.inputs.now) (g.I.Inputs.failures c.document.new.inputs) arguments document _ c.in_ok-document.ensures.ok fault)

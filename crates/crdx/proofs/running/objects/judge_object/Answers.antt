@@ -13,7 +13,7 @@ pub returns-in_err-accepted-clause-cause : goal.returns-in_err-accepted-clause-c
 returns-in_err-accepted-clause-cause g c =
     let arguments = c.args.arguments.now in
     let p = err_from_is_err_and c.from_residual.result c.from_residual.ensures.1 in
-    rw (p.1, p.2) (input_of_schema (g.I.Inputs.has c.args.inputs.now) (g.I.Inputs.failures c.args.inputs.now) (g.I.Inputs.failures c.accepted_schema.new.inputs) (file_name arguments.crd) arguments.version.now (Object arguments)
+    rw (p.1, p.2) (input_of_schema (g.I.Inputs.has c.args.inputs.now) (g.I.Inputs.failures c.args.inputs.now) (g.I.Inputs.failures c.accepted_schema.new.inputs) arguments.common (Object arguments)
     (no_object arguments) c.in_err-accepted.field-0.0 (λ r. inl r) c.in_err-accepted.ensures.cause)
 
 pub returns-clause-answer : goal.returns-clause-answer
@@ -21,9 +21,9 @@ returns-clause-answer g c =
     let has = g.I.Inputs.has c.args.inputs.now in
     let arguments = c.args.arguments.now in
     let accepted = c.in_ok-accepted.accepted in
-    let root = requested_root has (file_name arguments.crd) arguments.version.now accepted.group accepted.kind accepted.schema c.in_ok-accepted.ensures.accepted in
+    let root = requested_root has arguments.common accepted.group accepted.kind accepted.schema c.in_ok-accepted.ensures.accepted in
     IfOk-weaker c.judge_at-answer.result _ _ (λ a said. object arguments (node_of c.root.result.now) said.0 a.status _ (record {
-      root = subst (IsRequestedRoot has (file_name arguments.crd) arguments.version.now) (sym c.root.ensures.node) root;
+      root = subst (IsRequestedRoot has arguments.common) (sym c.root.ensures.node) root;
       at_hand = c.in_ok-accepted.ensures.stays (file_name arguments.object) _ said.1;
     }) said.2) c.judge_at-answer.ensures.answer
 
@@ -35,7 +35,7 @@ returns-clause-cause g c =
     let arguments = c.args.arguments.now in
     let accepted = c.in_ok-accepted.accepted in
     let N = node_of c.root.result.now in
-    let root = requested_root has (file_name arguments.crd) arguments.version.now accepted.group accepted.kind accepted.schema c.in_ok-accepted.ensures.accepted in
+    let root = requested_root has arguments.common accepted.group accepted.kind accepted.schema c.in_ok-accepted.ensures.accepted in
     IfErr-weaker c.judge_at-answer.result _ _ (λ cause why.
-    object_input has later (g.I.Inputs.failures c.args.inputs.now) read arguments N c.in_ok-accepted.ensures.stays (subst (IsRequestedRoot has (file_name arguments.crd) arguments.version.now) (sym c.root.ensures.node) root) cause
+    object_input has later (g.I.Inputs.failures c.args.inputs.now) read arguments N c.in_ok-accepted.ensures.stays (subst (IsRequestedRoot has arguments.common) (sym c.root.ensures.node) root) cause
     (subst (λ n. IsDocumentCause later n read N arguments cause) c.in_ok-accepted.ensures.unfailed why)) c.judge_at-answer.ensures.cause

@@ -18,7 +18,7 @@ returns-in_err-check_place-clause-err t c =
     let ms = c.args.members.now in
     let same : c.len.result ≡ length c.args.subschemas.now.items = omega arith in
     let p = err_from_is_err_and c.from_residual.result c.from_residual.ensures.1 in
-    rw (p.1, p.2) (subst (λ n. IsLimitRefusal (limit_break n (schema_events P ms)) c.in_err-check_place.field-0.0) same (c.in_err-check_place.ensures.err (object ms) (member_events P true ms)))
+    rw (p.1, p.2) (subst (λ n. IsLimitRefusal (limit_break c.args.limits n (schema_events P ms)) c.in_err-check_place.field-0.0) same (c.in_err-check_place.ensures.err (object ms) (member_events P true ms)))
 
 pub returns : goal.list_schema-returns
 returns t c =
@@ -32,8 +32,8 @@ returns t c =
     let items = c.in_ok-push.ensures.items in
     let same : c.len.result ≡ length old = omega arith in
     let count : suc c.len.result ≡ length c.push.new.self.items = sym (ap length items ∙ length-append old _ ∙ add-one (length old) ∙ ap suc (sym same)) in
-    let along : limit_break (length c.push.new.self.items) events ≡ limit_break (length old) (schema_events P ms) =
-    ap (λ n. limit_break n events) (sym count) ∙ sym (c.in_ok-check_place.ensures.ok (object ms) events) ∙ ap (λ n. limit_break n (schema_events P ms)) same in
+    let along : limit_break c.args.limits (length c.push.new.self.items) events ≡ limit_break c.args.limits (length old) (schema_events P ms) =
+    ap (λ n. limit_break c.args.limits n events) (sym count) ∙ sym (c.in_ok-check_place.ensures.ok (object ms) events) ∙ ap (λ n. limit_break c.args.limits n (schema_events P ms)) same in
     record {
       subschemas = on_ok_weaker r (λ grown. grown ∙ one_more old _ _ events items ∙ ap (λ p. map subschema_of old ++ (entered p (object ms) ∷ subschemas_of events)) place) e.subschemas;
       ok = on_ok_weaker r (λ none. sym along ∙ none) e.ok;

@@ -1,0 +1,95 @@
+//! Why no schema is read of a definition.
+
+use crate::running::answer::json_texts;
+use crate::running::explanation::values::found_text;
+use jtree::Tree;
+use schema::{Excess, Form, Limited, Limits, Part, Refusal};
+use std::alloc::{AllocError, Global};
+
+/// What is wrong with a definition, where something is.
+pub(crate) fn definition_text(
+    alloc: Global,
+    document: &Tree,
+    version: &str,
+    limits: Limits,
+) -> Result<Option<String>, AllocError> {
+    match Refusal::of_document(alloc, document, version, limits)? {
+        Some(refusal) => Ok(Some(refusal_text(alloc, &refusal, limits)?)),
+        None => Ok(None),
+    }
+}
+
+fn refusal_text(
+    alloc: Global,
+    refusal: &Refusal<'_>,
+    limits: Limits,
+) -> Result<String, AllocError> {
+    match refusal {
+        Refusal::NotACrd(part) => String::from_str(alloc, part_text(*part)),
+        Refusal::NoSuchVersion(names) => {
+            let names = json_texts(alloc, names.as_slice())?;
+            format!(in alloc; "found the versions {names}")
+        }
+        Refusal::KeywordForm(_, broken) => {
+            let found = found_text(alloc, Some(broken.found))?;
+            let form = form_text(broken.form);
+            format!(in alloc; "found {found}; allowed is {form}")
+        }
+        Refusal::TooLarge(excess) => excess_text(alloc, excess, limits),
+    }
+}
+
+/// What a part of a definition has to be.
+fn part_text(part: Part) -> &'static str {
+    match part {
+        Part::Header => {
+            r#""apiVersion" has to be "apiextensions.k8s.io/v1", and "kind" "CustomResourceDefinition""#
+        }
+        Part::Group => r#""group" of "spec" has to be a text that is not empty"#,
+        Part::Kind => r#""kind" of "names" of "spec" has to be a text that is not empty"#,
+        Part::Versions => {
+            r#""versions" of "spec" has to be a list of objects, each with a "name" that no other has"#
+        }
+        Part::Schema => r#"the version has to have an object at "openAPIV3Schema" of "schema""#,
+    }
+}
+
+fn form_text(form: Form) -> &'static str {
+    match form {
+        Form::AnyTree => "any value",
+        Form::Text => "a text",
+        Form::TruthValue => "true or false",
+        Form::ObjectOfObjects => "an object of objects",
+        Form::TruthValueOrObject => "true, false or an object",
+        Form::Object => "an object",
+        Form::SomeObjects => "a list of at least one object, with nothing else in it",
+        Form::Texts => "a list of texts",
+        Form::List => "a list",
+        Form::Integer => "an integer",
+        Form::Count => "an integer of at least 0",
+    }
+}
+
+/// Which limit is passed, and by how much.
+fn excess_text(alloc: Global, excess: &Excess, limits: Limits) -> Result<String, AllocError> {
+    let what = limited_text(excess.limited);
+    let found = excess.found;
+    let most = limits.most(excess.limited);
+    let large = Limits::LARGE.most(excess.limited);
+    if most < large {
+        format!(in alloc; "found {found} {what}; allowed are {most}, and {large} with --large")
+    } else {
+        format!(in alloc; "found {found} {what}; allowed are {most}")
+    }
+}
+
+fn limited_text(limited: Limited) -> &'static str {
+    match limited {
+        Limited::Places => "places in the schema",
+        Limited::Steps => "steps to this place",
+        Limited::Properties => "properties",
+        Limited::Required => "required fields",
+        Limited::MapKeys => "keys",
+        Limited::Choices => "values",
+    }
+}

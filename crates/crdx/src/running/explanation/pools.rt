@@ -1,0 +1,183 @@
+//! Why a document is no pools, and why a path of pools is refused.
+
+use crate::running::answer::json_text;
+use crate::running::explanation::values::found_text;
+use explain::{XFault, resolve};
+use jtree::{Members, Tree, push_name};
+use plan::{PFault, PoolLimits, PoolName, Pools, oversized_pool};
+use schema::{Node, Sort};
+use std::alloc::{AllocError, Global};
+use stored::Schema;
+
+/// What is wrong with a pools document.
+pub(crate) fn pools_text(
+    alloc: Global,
+    document: &Tree,
+    fault: &PFault,
+    limits: PoolLimits,
+) -> Result<Option<String>, AllocError> {
+    match fault {
+        PFault::Form(pointer) => Ok(Some(form_text(alloc, document, pointer.as_str())?)),
+        PFault::TooLarge => size_text(alloc, document, limits),
+        _ => Ok(None),
+    }
+}
+
+/// Which pool has too many entries, and by how much.
+fn size_text(
+    alloc: Global,
+    document: &Tree,
+    limits: PoolLimits,
+) -> Result<Option<String>, AllocError> {
+    let Some(oversized) = oversized_pool(document, limits) else {
+        return Ok(None);
+    };
+    let found = oversized.found;
+    let most = oversized.allowed;
+    let what = entries_text(alloc, oversized.pool)?;
+    let large = most_of(oversized.pool, PoolLimits::LARGE);
+    if most < large {
+        Ok(Some(format!(in alloc;
+            "found {found} {what}; allowed are {most}, and {large} with --large"
+        )?))
+    } else {
+        Ok(Some(format!(in alloc; "found {found} {what}; allowed are {most}")?))
+    }
+}
+
+fn entries_text(alloc: Global, pool: PoolName<'_>) -> Result<String, AllocError> {
+    match pool {
+        PoolName::Any => String::from_str(alloc, r#"entries in "any""#),
+        PoolName::Integers => String::from_str(alloc, r#"entries in "integers""#),
+        PoolName::Names => String::from_str(alloc, r#"entries in "names""#),
+        PoolName::Paths => String::from_str(alloc, r#"paths in "paths""#),
+        PoolName::Strings => String::from_str(alloc, r#"entries in "strings""#),
+        PoolName::At(path) => {
+            let path = json_text(alloc, path)?;
+            format!(in alloc; "values at the path {path}")
+        }
+    }
+}
+
+/// The most entries that a pool may have within the limits.
+fn most_of(pool: PoolName<'_>, limits: PoolLimits) -> usize {
+    match pool {
+        PoolName::Names => limits.names,
+        PoolName::Paths => limits.paths,
+        _ => limits.entries,
+    }
+}
+
+/// What was found at the pointer of a place that has not its form, and what is allowed there.
+fn form_text(alloc: Global, document: &Tree, pointer: &str) -> Result<String, AllocError> {
+    let mut steps = pointer.split('/');
+    steps.next();
+    let Some(name) = steps.next() else {
+        let found = found_text(alloc, Some(document))?;
+        return format!(in alloc; "found {found}; allowed is an object");
+    };
+    let pool = document.get(name);
+    match steps.next() {
+        None => {
+            let found = found_text(alloc, pool)?;
+            let form = pool_text(name);
+            format!(in alloc; "found {found}; allowed {form}")
+        }
+        Some(step) => {
+            let found = found_text(alloc, entry_at(alloc, pool, step)?)?;
+            let form = entry_text(name);
+            format!(in alloc; "found {found}; allowed is {form}")
+        }
+    }
+}
+
+/// The entry of a pool, or the list of a path, at a token of a pointer.
+fn entry_at<'a>(
+    alloc: Global,
+    pool: Option<&'a Tree>,
+    token: &str,
+) -> Result<Option<&'a Tree>, AllocError> {
+    match pool {
+        Some(Tree::List(items)) => match token.parse::<usize>() {
+            Ok(index) => Ok(items.items.get(index)),
+            Err(_) => Ok(None),
+        },
+        Some(Tree::Object(members)) => member_at(alloc, members, token),
+        _ => Ok(None),
+    }
+}
+
+fn member_at<'a>(
+    alloc: Global,
+    members: &'a Members,
+    token: &str,
+) -> Result<Option<&'a Tree>, AllocError> {
+    for member in &members.members {
+        let mut pointer = String::new(alloc);
+        push_name(&mut pointer, member.name.as_str()).map_err(|_| AllocError)?;
+        if pointer.as_str().get(1..) == Some(token) {
+            return Ok(Some(&member.tree));
+        }
+    }
+    Ok(None)
+}
+
+fn pool_text(name: &str) -> &'static str {
+    match name {
+        "integers" => "is a list of integers",
+        "strings" | "names" => "is a list of texts",
+        "any" => "is a list",
+        "paths" => "is an object of lists",
+        _ => r#"are the members "any", "integers", "names", "paths" and "strings""#,
+    }
+}
+
+fn entry_text(name: &str) -> &'static str {
+    match name {
+        "integers" => "an integer",
+        "paths" => "a list",
+        _ => "a text",
+    }
+}
+
+/// Why the first path of pools that is refused is, where one is.
+pub(crate) fn path_text(
+    alloc: Global,
+    schema: &Schema,
+    pools: &Pools,
+) -> Result<Option<String>, AllocError> {
+    for member in &pools.paths().members {
+        if let Some(text) = refused_path_text(schema, member.name.as_str()) {
+            return Ok(Some(String::from_str(alloc, text)?));
+        }
+    }
+    Ok(None)
+}
+
+fn refused_path_text(schema: &Schema, path: &str) -> Option<&'static str> {
+    match resolve(schema, path) {
+        Err(XFault::BadPath) => Some(
+            "found a text that is no path; `crdx explain` lists the paths",
+        ),
+        Err(XFault::NoSuchField) => {
+            Some("found a path that is not declared; `crdx explain` lists those that are")
+        }
+        Ok(node) => compound_text(node),
+    }
+}
+
+/// What leads to an object, a map or a list has no list of values.
+fn compound_text(node: &Node) -> Option<&'static str> {
+    match &node.sort {
+        Sort::Scalar(_) | Sort::Open => None,
+        Sort::Object(_) => Some(
+            "found the path of an object; allowed are those of scalars and of open places",
+        ),
+        Sort::Map(_) => Some(
+            "found the path of a map; allowed are those of scalars and of open places",
+        ),
+        Sort::List(_) => Some(
+            "found the path of a list; allowed are those of scalars and of open places",
+        ),
+    }
+}

@@ -1,0 +1,126 @@
+//! How many entries the pools of a document have, and which pool has too many.
+ghost use Rattle.std.specs.Prelude.{◌≡◌, ◌≤◌, ◌<◌, Some, None, length, filter, codes, MatchOption};
+ghost use Rattle.jtree.specs.Data.{AreMembers};
+ghost use Rattle.jtree.specs.Path.{under};
+ghost use Rattle.jtree.specs.View.{data_of, members_of as members_view};
+ghost use Rattle.plan.specs.Pools.Pools.{AreSmall};
+ghost use Rattle.plan.specs.Pools.Document.{pools_of, entries_of, members_of};
+ghost use Rattle.plan.specs.Pools.Oversized.{IsOversized};
+ghost use Rattle.plan.specs.Internal.PoolBreak.{test_of};
+ghost use Rattle.plan.specs.Internal.PathLists.{list_count, long_list as long_list_of, IsLongList};
+
+use crate::PoolLimits;
+use crate::pool_form::EntryKind;
+use crate::pools::entries;
+use jtree::{Member, Tree};
+
+/// A pool of a document: one of its members, or one of the lists under `paths`.
+#[derive(Clone, Copy, Drop)]
+pub enum PoolName<'a> {
+    Any,
+    Integers,
+    Names,
+    Paths,
+    Strings,
+    /// The list for the path of this text.
+    At(&'a str),
+}
+
+/// A pool with more entries than are allowed.
+#[derive(Clone, Copy, Drop)]
+pub struct Oversized<'a> {
+    pub pool: PoolName<'a>,
+    /// How many entries it has; of `paths`, how many paths.
+    pub found: usize,
+    /// The most that are allowed.
+    pub allowed: usize,
+}
+
+/// The first pool in path order that has more entries than the limits allow, each repeat counted. `None` where no pool has: of a
+/// document that has the form, `Pools::read_within` with these limits answers `TooLarge` exactly where this names a pool.
+pub fn oversized_pool(document: &Tree, limits: PoolLimits) -> Option<Oversized<'_>>
+    ensures { MatchOption result (AreSmall limits (pools_of (data_of document.now))) (IsOversized limits (pools_of (data_of document.now))) }
+{
+    let any = count(document, "any", EntryKind::Any);
+    let integers = count(document, "integers", EntryKind::Integer);
+    let names = count(document, "names", EntryKind::Text);
+    let lists = path_lists(document);
+    let strings = count(document, "strings", EntryKind::Text);
+    over(PoolName::Any, any, limits.entries)
+        .or(over(PoolName::Integers, integers, limits.entries))
+        .or(over(PoolName::Names, names, limits.names))
+        .or(over(PoolName::Paths, lists.len(), limits.paths))
+        .or(long_list(lists, limits.entries))
+        .or(over(PoolName::Strings, strings, limits.entries))
+}
+
+/// The pool with its numbers, where it has more entries than are allowed.
+fn over(pool: PoolName<'_>, found: usize, allowed: usize) -> Option<Oversized<'_>>
+    ensures { MatchOption result (found ≤ allowed) (λ o. (o ≡ record { pool = pool.entry; found = found; allowed = allowed }) × (allowed < found)) }
+{
+    if found > allowed {
+        Some(Oversized {
+            pool,
+            found,
+            allowed,
+        })
+    } else {
+        None
+    }
+}
+
+/// How many entries of this kind the pool has, none where it is missing.
+fn count(document: &Tree, name: &str, kind: EntryKind) -> usize
+    ensures { result ≡ length (filter (test_of kind) (entries_of (under (data_of document.now) name.now))) }
+{
+    let pool = entries(document, name);
+    let mut count = 0;
+    for entry in pool {
+        if kind.admits(entry) {
+            count += 1;
+        }
+    }
+    count
+}
+
+/// The lists of paths, none where `paths` is missing or no object.
+fn path_lists(document: &Tree) -> &[Member]
+    ensures lists { members_view result.now ≡ members_of (under (data_of document.now) (codes "paths")) }
+    ensures ordered { AreMembers (members_view result.now) }
+{
+    match document.get("paths") {
+        Some(Tree::Object(paths)) => {
+            // for its contract alone
+            paths.reveal_invariant();
+            paths.members.as_slice()
+        }
+        _ => &[],
+    }
+}
+
+/// The first list that has more than `most` values.
+fn long_list(lists: &[Member], most: usize) -> Option<Oversized<'_>>
+    ensures { MatchOption result (long_list_of most (members_view lists.now) ≡ None) (IsLongList most (members_view lists.now)) }
+{
+    for member in lists {
+        let found = list_len(&member.tree);
+        if found > most {
+            return Some(Oversized {
+                pool: PoolName::At(member.name.as_str()),
+                found,
+                allowed: most,
+            });
+        }
+    }
+    None
+}
+
+/// How many items a list has; 0 where the tree is no list.
+fn list_len(tree: &Tree) -> usize
+    ensures { result ≡ list_count (data_of tree.now) }
+{
+    match tree {
+        Tree::List(items) => items.items.len(),
+        _ => 0,
+    }
+}

@@ -1,0 +1,16 @@
+use Rattle.std.proofs.Common.{sym, subst}
+use Rattle.jtree.specs.View.{data_of}
+use Rattle.schema.specs.Document.Forms.{HasForms}
+use Rattle.schema.proofs.SchemaFaults.{read_fault}
+use Rattle.schema.proofs.definition.read_crd_within.Goals as goal
+
+pub returns-in-Err-check_schema-clause-err : goal.returns-in-Err-check_schema-clause-err
+returns-in-Err-check_schema-clause-err c =
+    let found = c.in-Ok.definition in
+    read_fault c.args.limits (data_of c.args.document.now) c.args.version.now (data_of found.schema.now) c.in-Err-check_schema.fault (found.group.now, found.kind.now, c.in-Ok.ensures.ok) c.in-Err-check_schema.ensures.err
+
+pub new-requires-clause-forms : goal.new-requires-clause-forms
+new-requires-clause-forms c = subst (λ t. HasForms (data_of t)) (sym c.in_ok-copy_tree.ensures) c.in-Ok-check_schema.ensures.forms
+
+pub returns-clause-forms : goal.returns-clause-forms
+returns-clause-forms c = subst HasForms (sym c.new.ensures) (subst (λ t. HasForms (data_of t)) (sym c.in_ok-copy_tree.ensures) c.in-Ok-check_schema.ensures.forms)

@@ -1,0 +1,13 @@
+use Rattle.jtree.specs.View.{data_of}
+use Rattle.schema.proofs.SchemaFaults.{document_refused, document_read}
+use Rattle.schema.proofs.refusal.Refusal.of_document.Goals as goal
+
+pub returns-in-Ok-clause-read : goal.returns-in-Ok-clause-read
+returns-in-Ok-clause-read c =
+    let found = c.in-Ok.definition in
+    document_read c.args.limits (data_of c.args.document.now) c.args.version.now (data_of found.schema.now) (found.group.now, found.kind.now, c.in-Ok.ensures.ok) c.schema_refusal.result c.schema_refusal.ensures.read
+
+pub returns-in-Ok-clause-refused : goal.returns-in-Ok-clause-refused
+returns-in-Ok-clause-refused c =
+    let found = c.in-Ok.definition in
+    document_refused c.args.limits (data_of c.args.document.now) c.args.version.now (data_of found.schema.now) (found.group.now, found.kind.now, c.in-Ok.ensures.ok) c.schema_refusal.result c.schema_refusal.ensures.refused
