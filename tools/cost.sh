@@ -179,10 +179,31 @@ named_fields() {
     }'
 }
 
-# pools with as many entries as there may be
+# so many optional truth values
+truths() {
+    awk -v count="$1" 'BEGIN {
+        printf "{\"type\":\"object\",\"properties\":{"
+        for (i = 0; i < count; i++) printf "%s\"f%04d\":{\"type\":\"boolean\"}", i ? "," : "", i
+        printf "}}"
+    }'
+}
+
+# the object of this number, from 0 on, among those of 1,024 optional truth values that have two of them: the later the first field,
+# the earlier the object
+two_of_truths() {
+    awk -v number="$1" 'BEGIN {
+        for (first = 1022; number >= 4 * (1023 - first); first--) number -= 4 * (1023 - first)
+        half = 2 * (1023 - first)
+        rest = number % half
+        printf "{\"f%04d\":%s,\"f%04d\":%s}", first, truth(number >= half), 1023 - int(rest / 2), truth(rest % 2)
+    }
+    function truth(is) { return is ? "true" : "false" }'
+}
+
+# pools with so many entries in each list but that of names
 full_pools() {
-    awk 'BEGIN {
-        for (i = 0; i < 64; i++) {
+    awk -v count="$1" 'BEGIN {
+        for (i = 0; i < count; i++) {
             integers = integers (i ? "," : "") i
             strings = strings (i ? "," : "") "\"s" i "\""
             any = any (i ? "," : "") "[" i "]"
@@ -293,6 +314,18 @@ measure() {
     printf '%s, %s bytes: %s (%s)\n' "$name" "$(stat -c %s "$file")" "$(tail -n 1 "$folder/cost")" "$(head -c 60 "$folder/output" | head -n 1)"
 }
 
+# within NAME SECONDS KIB WORD..: the cost of a run of these words, which answers or refuses what it is asked, below so many seconds
+# and KiB. The program is run without ./crdx, which is part of no limit.
+within() {
+    local name=$1 seconds=$2 most=$3 took memory
+    shift 3
+    /usr/bin/time -f '%e %M' -o "$folder/cost" crates/crdx_cli/out/crdx_cli "$@" >"$folder/output" 2>"$folder/errors" || [ $? -eq 1 ] ||
+        stop "$name: $(tail -n 1 "$folder/errors")"
+    read -r took memory < <(tail -n 1 "$folder/cost")
+    echo "$name (below $seconds s and $most KiB): $took s, $memory KiB"
+    awk -v took="$took" -v seconds="$seconds" -v memory="$memory" -v most="$most" 'BEGIN { exit !(took < seconds && memory < most) }' || above "$name"
+}
+
 mkdir "$folder/schemas" "$folder/objects"
 cd "$folder/schemas"
 objects 30 16 2000 | define >511-places-1-MiB
@@ -325,6 +358,7 @@ for schema in "$folder"/schemas/*; do
     measure "explain of $(basename "$schema")" "$schema" explain "$schema" v1
     measure "pools of $(basename "$schema")" "$schema" pools "$schema" v1
 done
+within 'check with reasons of 80001 keywords' 1 65536 check "$folder/schemas/80001-keywords" v1 --why
 for row in validate:set:160000-integers validate:set:200000-integers-of-10000-values validate:list:500000-digits validate:map-list:10000-items-of-4-keys \
     validate:preserving:500000-digits prune:preserving:500000-digits default:preserving:500000-digits \
     validate:map:90000-members prune:object:90000-members default:map:90000-members leaves:set:150000-descending-integers \
@@ -335,7 +369,7 @@ done
 
 # samples: plans of many places with full pools, at the greatest limit of words of 64 bits and at that of words of 128, and with as
 # many lists for paths as there may be
-full_pools >"$folder/full-pools"
+full_pools 64 >"$folder/full-pools"
 for schema in 511-places-1-MiB 84-map-lists-of-4-keys; do
     for limit in 63 127; do
         measure "a sample of $schema within $limit nodes" "$folder/schemas/$schema" sample "$folder/schemas/$schema" v1 --pools "$folder/full-pools" --limit "$limit" --count 1
@@ -343,6 +377,30 @@ for schema in 511-places-1-MiB 84-map-lists-of-4-keys; do
 done
 listed_pools >"$folder/listed-pools"
 measure 'a sample of 511-places-1-MiB with 64 lists for paths' "$folder/schemas/511-places-1-MiB" sample "$folder/schemas/511-places-1-MiB" v1 --pools "$folder/listed-pools" --limit 127 --count 1
+
+# a definition of real size, and an object of 1,024 optional fields, within the larger limits
+python3 tools/large_schema.py 16000 117 >"$folder/16000-places"
+python3 tools/large_schema.py 16000 117 --object >"$folder/object-of-16000-places"
+truths 1024 | define >"$folder/truths"
+./crdx pools "$folder/16000-places" v1 --large >"$folder/pools-of-16000-places"
+full_pools 1024 >"$folder/large-pools"
+for command in check explain; do
+    within "$command of 16000 places" 0.25 65536 "$command" "$folder/16000-places" v1 --large
+done
+for command in validate prune default; do
+    within "$command of an object of 16000 places" 0.25 65536 "$command" "$folder/16000-places" v1 "$folder/object-of-16000-places" --large
+done
+for pools in pools-of-16000-places large-pools; do
+    within "a sample of 16000 places over $pools" 1 131072 sample "$folder/16000-places" v1 --large --pools "$folder/$pools" --limit 63 --count 1
+done
+within 'a sample of 1024 optional fields' 1 32768 sample "$folder/truths" v1 --large --limit 63 --count 1
+
+# 640 samples past the first with two of these fields, and past the millionth
+past_truths() {
+    ./crdx sample "$folder/truths" v1 --large --limit 63 --count 640 --after "$(two_of_truths "$1")"
+}
+[ "$(past_truths 999999 2>/dev/null | head -n 1)" = "$(two_of_truths 1000000)" ] || stop 'another sample of 1024 fields past the millionth than wanted'
+ratio 'of 1024 fields, past the millionth sample, against past the first (about 1)' "$(best past_truths 999999)" "$(best past_truths 0)"
 
 # 10,000 samples, against `cat` of their lines, and against reading all of them and printing them again, in one list
 optional 12 | define >"$folder/optional"
