@@ -13,7 +13,7 @@ pub enum EFault {
     /// An allocation failed.
     #[error("E2")]
     NoMemory,
-    /// The enumeration had ended. `Live::advance` alone answers it.
+    /// The enumeration had ended. `Live::advance` and `Live::lend_page` alone answer it.
     #[error("E3")]
     Ended,
 }

@@ -44,7 +44,7 @@ impl<'p, Z: SizeSet> Model for Live<'p, Z> {
 }
 
 impl<'p, Z: SizeSet> Live<'p, Z> {
-    ghost use Rattle.std.specs.Prelude.{◌≡◌, ◌≢◌, ◌≤◌, List, length, Option, Some, None, Err, IfSome, IsSomeAnd, IfOk, IfErr, OnOk, MatchOption, option_map};
+    ghost use Rattle.std.specs.Prelude.{◌≡◌, ◌≢◌, ◌≤◌, List, length, Option, Some, None, Err, IsSome, IfSome, IsSomeAnd, IfOk, IfErr, OnOk, MatchOption, option_map};
     ghost use Rattle.std.specs.Option.{option_copied};
     ghost use Rattle.jtree.specs.Data.{Data};
     ghost use Rattle.jtree.specs.View.{data_of};
@@ -162,8 +162,9 @@ impl<'p, Z: SizeSet> Live<'p, Z> {
     /// Lends the taker the current sample and those after it, `count` in all, or fewer where no more are left, and moves to the sample
     /// after them. It answers whether no sample is left.
     ///
-    /// `NoMemory` where an allocation fails, which ends the enumeration; the samples taken by then are the first ones of the page.
-    /// Where it answers, it takes at most 4 * (limit + 1) * (width + 1) steps for each sample that was lent.
+    /// `Ended` exactly where the enumeration had ended before, with nothing lent, and `NoMemory` where an allocation fails, which ends
+    /// it; the samples taken by then are the first ones of the page. Where it answers, it takes at most
+    /// 4 * (limit + 1) * (width + 1) steps for each sample that was lent.
     pub fn lend_page<T: Taker>(
         &mut self,
         count: u32,
@@ -171,27 +172,28 @@ impl<'p, Z: SizeSet> Live<'p, Z> {
         meter: &mut Meter,
     ) -> Result<bool, EFault>
         ensures same { self.new.question ≡ self.old.question }
+        ensures current { OnOk result (IsSome self.old.at) }
         ensures page { IfOk result (λ end. (after : Option Data) → IsNextSample self.old.question after self.old.at
             → LendsPage self.old.question after count end (T.has_taken taker.old taker.new) self.new.at meter.old meter.new) }
         ensures part { IfErr result (λ _. (after : Option Data) → IsNextSample self.old.question after self.old.at
             → LendsPart self.old.question after count (T.has_taken taker.old taker.new)) }
         ensures taken { (items : List Data) × T.has_taken taker.old taker.new items × (length items ≤ count) }
-        ensures err { IfErr result (λ e. e ≡ NoMemory) }
+        ensures err { IfErr result (λ e. MatchOption self.old.at (e ≡ Ended) (λ _. e ≡ NoMemory)) }
         ensures nowhere { IfErr result (λ _. self.new.at ≡ None) }
     {
-        let Some(current) = &mut self.current else {
-            return Ok(true);
-        };
-        match current.lend(self.alloc, self.plan, count, taker, meter) {
-            Ok(false) => Ok(false),
-            Ok(true) => {
-                self.current = None;
-                Ok(true)
-            }
-            Err(_) => {
-                self.current = None;
-                Err(EFault::NoMemory)
-            }
+        match &mut self.current {
+            None => Err(EFault::Ended),
+            Some(first) => match first.lend(self.alloc, self.plan, count, taker, meter) {
+                Ok(false) => Ok(false),
+                Ok(true) => {
+                    self.current = None;
+                    Ok(true)
+                }
+                Err(_) => {
+                    self.current = None;
+                    Err(EFault::NoMemory)
+                }
+            },
         }
     }
 

@@ -181,6 +181,18 @@ fn lends(
     is_value(rt, &goes_on, &Ok(false), "the first answer", name);
     let found = live.lend_page(second, &mut copies, meter);
     is_value(rt, &found, &answer, "the second answer", name);
+    if live.tree().is_none() {
+        for count in [0, 1] {
+            let again = live.lend_page(count, &mut copies, meter);
+            is_value(
+                rt,
+                &again,
+                &Err(EFault::Ended),
+                "an answer after the end",
+                name,
+            );
+        }
+    }
     is_said(rt, texts(alloc, &copies.trees), taken, "taken", name)?;
     is_said(rt, said_of_tree(alloc, live.tree()), at, "the place", name)
 }
