@@ -1,6 +1,6 @@
 -- What one page after the other says of a walk.
-use Rattle.std.specs.Prelude.{IfSome, option_map}
-use Rattle.std.proofs.Common.{◌≡◌, ◌⊎◌, ℕ, ◌+◌, ◌-◌, if◌then◌else◌, ◌<◌, ◌≤◌, List, [], ◌∷◌, ◌++◌, length, take, Bool, true, false, Option, Some, None, refl, sym, ap, ◌∙◌, subst, inl, inr, arith, length-append, append_assoc}
+use Rattle.std.specs.Prelude.{IfSome, IsSome, All, Contains, option_map}
+use Rattle.std.proofs.Common.{◌≡◌, ◌⊎◌, ℕ, suc, ◌+◌, ◌-◌, ◌*◌, if◌then◌else◌, ◌<◌, ◌≤◌, List, [], ◌∷◌, ◌++◌, length, take, Bool, true, false, Option, Some, None, refl, sym, ap, ◌∙◌, subst, inl, inr, arith, length-append, append_assoc}
 use Rattle.std.specs.Io.KnownBytes.{Appends, Keeps}
 use Rattle.std.proofs.KnownBytes.{Appends-trans, Appends-kept, Appends-nil}
 use Rattle.std.proofs.Math.Seq.{take-append_seam}
@@ -13,7 +13,7 @@ use Rattle.enumerate.specs.View.{resume_point}
 use Rattle.enumerate.specs.Live.{Enumeration, IsStarted, IsNextSample, place_after}
 use Rattle.jtree.specs.Internal.Rising.{contained}
 use Rattle.plan.specs.Samples.Question.{Question}
-use Rattle.enumerate.specs.Page.{IsPage, IsSampleOf}
+use Rattle.enumerate.specs.Page.{Precedes, IsPast, IsPastSample, IsPage, IsSampleOf}
 use Rattle.crdx.specs.Output.Line.{lines}
 use Rattle.crdx.specs.Output.Walk.{WritesPage}
 use Rattle.crdx.specs.Output.PartialOutput.{IsCutBetweenLines, IsCutWithinLine, IsPartialOutput}
@@ -186,6 +186,28 @@ module _ (q : Question) (after : Option Data) (total : ℕ) (e : Option Envelope
         partial_output_of_lines law q after total e old mid new unfailed failed s.items items (length s.items + k) lines_then end fault sample s.counted
         (page_onto q after k s.items items end (subst (IsPage q after (length s.items) s.items) not_yet s.page) page) (omega (arith, s.counted, le)) s.written stopped
   ]
+
+-- the steps of some lines, after others
+pub within_lines : (before items lines delay old new : ℕ) → items ≡ lines → new ≤ old + items * delay → new + before * delay ≤ old + (before + lines) * delay
+within_lines before items lines delay old new same h = let spent = subst (λ n. new ≤ old + n * delay) same h in omega (arith, spent)
+
+past_items : (after : Option Data) (items : List Data) (v : Data) → IsPast after v → All (λ u. Precedes u v) items → IsPast (place_after after items) v
+past_items after [] v past all = past
+past_items after (u ∷ items) v past all = past_items (Some u) items v (all 0 u (omega arith)) (λ k d lt. all (suc k) d (omega (arith, lt)))
+
+-- where a page has no end, the enumeration is at a sample past it
+at_sample : (q : Question) (after : Option Data) (items : List Data) (end : Bool) (at : Option Data) → IsPage q after (length items) items end → IsNextSample q (place_after after items) at → end ≡ false → IsSome at
+at_sample q after items end (Some v) page next more = refl
+at_sample q after items end None page next more =
+    let listed : (v : Data) → IsPastSample q after v → Contains items v = λ v p. elim (page.rest v p) [
+      | inl found ↦ found
+      | inr all ↦ absurd (next v (record { sample = p.sample; past = past_items after items v p.past all }))
+    ] in
+    let ended = page.exact_end.1 listed in
+    cc
+
+pub not_ended_at : (q : Question) (after : Option Data) (total : ℕ) (e : Option Envelope) (lines_now : ℕ) (end : Bool) (at : Option Data) (old new : Option (List ℕ)) → IsSoFar q after total e lines_now end at old new → end ≡ false → IsSome at
+not_ended_at q after total e lines_now end at old new s more = at_sample q after s.items end at s.page s.next more
 
 -- a tree that is lent, as the place to go on from
 pub resumed : (r : Option (Bor Tree)) → resume_point r ≡ option_map data_of (option_copied r)

@@ -1,8 +1,10 @@
 -- How far a walk has come, and what one block of lines adds.
-use Rattle.std.specs.Prelude.{◌≡◌, ◌⊎◌, ◌+◌, ◌≤◌, ℕ, List, length, Bool, Option}
+use Rattle.std.specs.Prelude.{◌≡◌, ◌⊎◌, ◌+◌, ◌*◌, ◌≤◌, ℕ, List, length, Bool, Option}
 use Rattle.std.specs.Io.KnownBytes.{Appends, Keeps}
 use Rattle.jtree.specs.Data.{Data}
+use Rattle.plan.specs.Samples.Candidates.{IsWidth}
 use Rattle.plan.specs.Samples.Question.{Question}
+use Rattle.plan.specs.Samples.Steps.{delay}
 use Rattle.enumerate.specs.Live.{IsNextSample, place_after}
 use Rattle.enumerate.specs.Page.{IsPage}
 use Rattle.crdx.specs.Output.Line.{lines}
@@ -18,6 +20,11 @@ pub record AddsBlock (q : Question) (place : Option Data) (count : ℕ) (e : Opt
   pub counted : lines_now ≡ before + length items
   pub next : IsNextSample q (place_after place items) at
   pub written : Appends old new (lines e items)
+
+-- at most as many steps as the lines written since then may take
+abbrev pub IsWithinLines : Question → ℕ → ℕ → ℕ → ℕ → Type 0
+IsWithinLines q lines_before lines_now steps_before steps_now =
+    (width : ℕ) → IsWidth q.pools q.root width → steps_now + lines_before * delay q.limit width ≤ steps_before + lines_now * delay q.limit width
 
 -- what is out where the page after `before` lines was not written whole: nothing of it, out of memory, or a part
 abbrev pub IsPartialBlock : Question → Option Data → ℕ → Option Envelope → ℕ → Option (List ℕ) → Option (List ℕ) → ℕ → ℕ → WFault → Type 0

@@ -1,13 +1,15 @@
-ghost use Rattle.std.specs.Prelude.{◌≡◌, ◌⊎◌, ◌≤◌, ◌+◌, Err, IfOk, IfErr, OnOk, Option, IfSome, IsSomeAnd};
+ghost use Rattle.std.specs.Prelude.{◌≡◌, ◌⊎◌, ◌≤◌, ◌+◌, ◌*◌, ℕ, Err, IfOk, IfErr, OnOk, Option, IsSome, IfSome, IsSomeAnd};
 ghost use Rattle.std.specs.Io.KnownBytes.{Keeps};
 ghost use Rattle.jtree.specs.Data.{Data};
+ghost use Rattle.plan.specs.Samples.Candidates.{IsWidth};
+ghost use Rattle.plan.specs.Samples.Steps.{delay};
 ghost use Rattle.enumerate.specs.Page.{IsSampleOf};
 ghost use Rattle.enumerate.specs.Live.{IsNextSample};
 ghost use Rattle.enumerate.specs.View.{resume_point};
 ghost use Rattle.std.specs.Option.{option_copied};
 ghost use Rattle.crdx.specs.Output.PartialOutput.{IsPartialOutput, CanGoOn};
 ghost use Rattle.crdx.specs.Output.Walk.{WritesPage};
-ghost use Rattle.crdx.specs.Internal.Progress.{AddsBlock, IsPartialBlock};
+ghost use Rattle.crdx.specs.Internal.Progress.{AddsBlock, IsPartialBlock, IsWithinLines};
 ghost use Rattle.crdx.specs.declared.walk.fault.WFault.TheVariants.{NotASample, NoMemory};
 
 use crate::sink::{Sink, put_all};
@@ -47,7 +49,8 @@ struct Progress {
 ///
 /// `NotASample` exactly where `after` is no sample of the plan, `NoMemory` where an allocation fails, and `Write` where
 /// the sink fails or takes nothing. Both counts are of the whole lines that the sink took. A walk past the last of these,
-/// with `total` less their number, writes exactly what is missing; where there is none, the same walk does.
+/// with `total` less their number, writes exactly what is missing; where there is none, the same walk does. Where it answers,
+/// it takes at most 4 * (limit + 1) * (width + 1) steps for each line, and once more as many.
 pub fn walk<Z: SizeSet, W: Sink>(
     alloc: Global,
     plan: &Plan<Z>,
@@ -69,6 +72,8 @@ pub fn walk<Z: SizeSet, W: Sink>(
     ensures cut { IfErr result (λ e. IsPartialOutput plan.now (resume_point after.entry) total (option_copied envelope.entry) (W.taken out.old) (W.taken out.new) (W.failures out.old) (W.failures out.new) e) }
     ensures goes_on { IfErr result (CanGoOn plan.now (resume_point after.entry) total) }
     ensures unfailed { OnOk result (W.failures out.new ≡ W.failures out.old) }
+    ensures steps { IfOk result (λ walked. (width : ℕ) → IsWidth plan.now.pools plan.now.root width
+        → meter.new ≤ meter.old + (walked.lines + 1) * delay plan.now.limit width) }
 {
     // for its contract alone
     pages_agree();
@@ -111,12 +116,15 @@ fn write_block<Z: SizeSet, W: Sink>(
     meter: &mut Meter,
     out: &mut W,
 ) -> Result<Progress, WFault>
-    requires { before + count ≤ 10000 }
+    requires current { IsSome live.old.at }
+    requires most { before + count ≤ 10000 }
     ensures same { live.new.question ≡ live.old.question }
     ensures envelope { option_copied block.new.envelope ≡ option_copied block.old.envelope }
     ensures block { IfOk result (λ p. (place : Option Data) → IsNextSample live.old.question place live.old.at
         → AddsBlock live.old.question place count (option_copied block.old.envelope) before p.lines p.end live.new.at (W.taken out.old) (W.taken out.new)) }
     ensures unfailed { OnOk result (W.failures out.new ≡ W.failures out.old) }
+    ensures steps { IfOk result (λ p. (place : Option Data) → IsNextSample live.old.question place live.old.at
+        → IsWithinLines live.old.question before p.lines meter.old meter.new) }
     ensures err { IfErr result (λ e. (place : Option Data) → IsNextSample live.old.question place live.old.at
         → IsPartialBlock live.old.question place count (option_copied block.old.envelope) before (W.taken out.old) (W.taken out.new) (W.failures out.old) (W.failures out.new) e) }
 {

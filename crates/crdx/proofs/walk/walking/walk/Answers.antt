@@ -2,13 +2,13 @@ use Rattle.std.proofs.Common.{◌≡◌, ◌∙◌, ◌≤◌, refl, subst, inl,
 use Rattle.std.proofs.KnownBytes.{Keeps-refl, Appends-nil}
 use Rattle.std.specs.Option.{option_copied}
 use Rattle.jtree.specs.Data.{Data}
-use Rattle.enumerate.specs.Live.{IsStarted, IsNextSample}
+use Rattle.enumerate.specs.Live.{IsStarted, IsNextSample, place_after}
 use Rattle.enumerate.specs.View.{resume_point}
-use Rattle.crdx.specs.Internal.Progress.{AddsBlock, IsPartialBlock}
+use Rattle.crdx.specs.Internal.Progress.{AddsBlock, IsPartialBlock, IsWithinLines}
 use Rattle.crdx.specs.Output.PartialOutput.{IsPartialOutput}
 use Rattle.crdx.specs.declared.walk.fault.WFault.TheVariants.{NoMemory}
 use Rattle.crdx.proofs.StopLemmas.{can_go_on}
-use Rattle.crdx.proofs.WalkLemmas.{begun, gone_on, less_left, all_written, cut_block, nothing_left}
+use Rattle.crdx.proofs.WalkLemmas.{begun, gone_on, less_left, all_written, cut_block, nothing_left, not_ended_at}
 use Rattle.crdx.proofs.walk.walking.walk.Given.{Over}
 use Rattle.crdx.proofs.walk.walking.walk.Goals as goal
 use Rattle.crdx.proofs.walk.walking.walk.Goals.{then-pages-test+else-so_far-total, else-pages-test}
@@ -29,6 +29,9 @@ returns-in_default-clause-lines g c = record {
   written = Appends-nil _;
 }
 
+pub returns-in_default-clause-steps : goal.returns-in_default-clause-steps
+returns-in_default-clause-steps g c = λ w wide. omega (arith, c.past.ensures.steps w wide)
+
 pub returns-in-Err : goal.returns-in-Err
 returns-in-Err g c =
     let cut : IsPartialOutput c.args.plan.now (resume_point c.args.after) c.args.total (option_copied c.args.envelope) (g.W.Sink.taken c.args.out.now) (g.W.Sink.taken c.args.out.now) (g.W.Sink.failures c.args.out.now) (g.W.Sink.failures c.args.out.now) (NoMemory 0) =
@@ -40,6 +43,7 @@ returns-in-Err g c =
       cut = cut;
       goes_on = can_go_on c.args.plan.now (resume_point c.args.after) c.args.total (option_copied c.args.envelope) (g.W.Sink.taken c.args.out.now) (g.W.Sink.taken c.args.out.now) (g.W.Sink.failures c.args.out.now) (g.W.Sink.failures c.args.out.now) (NoMemory 0) c.requires.total_least cut;
       unfailed = tt;
+      steps = tt;
     }
 
 pub pages-init : goal.pages-init
@@ -51,7 +55,12 @@ pages-init g c =
       question = started.0;
       envelope = c.new-block.ensures.same;
       failures = refl;
+      steps = λ w wide. omega (arith, c.past.ensures.steps w wide);
     }
+
+pub write_block-requires-clause-current : goal.write_block-requires-clause-current
+write_block-requires-clause-current g c = not_ended_at c.args.plan.now (resume_point c.args.after) c.args.total (option_copied c.args.envelope) c.pages.so_far.lines c.pages.so_far.end c.pages.live.at _ _ c.pages.invariant.so_far
+    (not_ended c.pages.so_far.end c.pages-test.true)
 
 pub returns-in-Err-write_block-clause-cut : goal.returns-in-Err-write_block-clause-cut
 returns-in-Err-write_block-clause-cut g c =
@@ -70,6 +79,13 @@ adds : (g : Over) (c : goal.In-Ok-write_block g) (place : Option Data) → IsNex
     → AddsBlock c.args.plan.now place c.min-count.result (option_copied c.args.envelope) c.pages.so_far.lines c.in-Ok-write_block.so_far.lines c.in-Ok-write_block.so_far.end c.write_block.new.live.at (g.W.Sink.taken c.pages.out) (g.W.Sink.taken c.write_block.new.out)
 adds g c = rw (← c.pages.invariant.question, ← c.pages.invariant.envelope) c.in-Ok-write_block.ensures.block
 
+within : (g : Over) (c : goal.In-Ok-write_block g) → IsWithinLines c.args.plan.now c.pages.so_far.lines c.in-Ok-write_block.so_far.lines c.pages.meter c.write_block.new.meter
+within g c =
+    let s = c.pages.invariant.so_far in
+    let steps : (place : Option Data) → IsNextSample c.args.plan.now place c.pages.live.at → IsWithinLines c.args.plan.now c.pages.so_far.lines c.in-Ok-write_block.so_far.lines c.pages.meter c.write_block.new.meter =
+    rw (← c.pages.invariant.question) c.in-Ok-write_block.ensures.steps in
+    steps (place_after (resume_point c.args.after) s.items) s.next
+
 pub pages-smaller : goal.pages-smaller
 pages-smaller g c =
     less_left c.args.plan.now (resume_point c.args.after) c.args.total (option_copied c.args.envelope) c.min-count.result c.pages.so_far.lines c.in-Ok-write_block.so_far.lines c.pages.live.at c.write_block.new.live.at
@@ -83,6 +99,7 @@ pages-preserved g c = record {
   question = c.in-Ok-write_block.ensures.same ∙ c.pages.invariant.question;
   envelope = c.in-Ok-write_block.ensures.envelope ∙ c.pages.invariant.envelope;
   failures = c.in-Ok-write_block.ensures.unfailed ∙ c.pages.invariant.failures;
+  steps = λ w wide. omega (arith, c.pages.invariant.steps w wide, within g c w wide);
 }
 
 pub returns-clause-lines : goal.returns-clause-lines

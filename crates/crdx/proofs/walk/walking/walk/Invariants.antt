@@ -1,6 +1,8 @@
-use Rattle.std.proofs.Common.{◌≡◌, ◌-◌, ◌+◌, if◌then◌else◌}
+use Rattle.std.proofs.Common.{◌≡◌, ◌≤◌, ◌-◌, ◌+◌, ◌*◌, ℕ, if◌then◌else◌}
 use Rattle.std.specs.Prelude.{IfSome}
 use Rattle.std.specs.Option.{option_copied}
+use Rattle.plan.specs.Samples.Candidates.{IsWidth}
+use Rattle.plan.specs.Samples.Steps.{delay}
 use Rattle.enumerate.specs.Page.{IsSampleOf}
 use Rattle.enumerate.specs.View.{resume_point}
 use Rattle.crdx.specs.Internal.Progress.{IsSoFar}
@@ -13,6 +15,7 @@ invariant-pages g l = record {
   question : l.live.question ≡ l.plan;
   envelope : option_copied l.block.envelope ≡ option_copied l.envelope;
   failures : g.W.Sink.failures l.out ≡ g.W.Sink.failures l.fn.out;
+  steps : (w : ℕ) → IsWidth l.plan.pools l.plan.root w → l.meter ≤ l.fn.meter + (l.so_far.lines + 1) * delay l.plan.limit w;
 }
 
 abbrev pub decreases-pages : goal.decreases-pages

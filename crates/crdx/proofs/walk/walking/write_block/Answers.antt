@@ -1,8 +1,10 @@
 use Rattle.std.proofs.Common.{◌≡◌, ◌<◌, ◌≤◌, [], refl, ap, ◌∙◌, subst, inr, arith, length, take}
 use Rattle.std.specs.Io.KnownBytes.{Appends}
 use Rattle.std.specs.Option.{option_copied}
+use Rattle.plan.specs.Samples.Steps.{delay}
 use Rattle.crdx.specs.Internal.Block.{HasEnds, IsCountOfEnds}
 use Rattle.crdx.specs.Output.Line.{lines}
+use Rattle.crdx.proofs.WalkLemmas.{within_lines}
 use Rattle.crdx.proofs.WrittenLemmas.{cut_lines}
 use Rattle.crdx.proofs.walk.walking.write_block.Given.{Over}
 use Rattle.crdx.proofs.walk.walking.write_block.Goals as goal
@@ -17,10 +19,10 @@ pub returns-in-Err-clause-envelope : goal.returns-in-Err-clause-envelope
 returns-in-Err-clause-envelope g c = let t = c.lend_page.ensures.taken in t.1.same ∙ c.clear.ensures.same
 
 pub overflow_cast-result-in-Ok-put_all : goal.overflow_cast-result-in-Ok-put_all
-overflow_cast-result-in-Ok-put_all g c = omega (arith, few g c, c.requires)
+overflow_cast-result-in-Ok-put_all g c = omega (arith, few g c, c.requires.most)
 
 pub overflow_add-result : goal.overflow_add-result
-overflow_add-result g c = omega (arith, few g c, c.requires)
+overflow_add-result g c = omega (arith, few g c, c.requires.most)
 
 pub returns-in-Ok-put_all-clause-envelope : goal.returns-in-Ok-put_all-clause-envelope
 returns-in-Ok-put_all-clause-envelope g c = let t = c.lend_page.ensures.taken in t.1.same ∙ c.clear.ensures.same
@@ -37,6 +39,13 @@ returns-in-Ok-put_all-clause-block g c = λ place first.
       next = l.next;
       written = subst (Appends (g.W.Sink.taken c.args.out.now) (g.W.Sink.taken c.put_all.new.sink)) bytes c.in-Ok-put_all.ensures.ok;
     }
+
+pub returns-in-Ok-put_all-clause-steps : goal.returns-in-Ok-put_all-clause-steps
+returns-in-Ok-put_all-clause-steps g c = λ place first w wide.
+    let l = c.in-Ok.ensures.page place first in
+    let held = l.taken.holds [] c.clear.ensures.none in
+    let counted : length l.items ≡ c.len.result = omega (arith, c.len.ensures, held.ended.each, c.lend_page.new.taker.ends.ok) in
+    within_lines c.args.before (length l.items) c.len.result (delay c.args.live.now.question.limit w) c.args.meter.now c.lend_page.new.meter counted (l.steps w wide)
 
 pub returns-in-Err-put_all-clause-envelope : goal.returns-in-Err-put_all-clause-envelope
 returns-in-Err-put_all-clause-envelope g c = let t = c.lend_page.ensures.taken in t.1.same ∙ c.clear.ensures.same
