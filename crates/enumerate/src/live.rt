@@ -2,26 +2,24 @@
 use crate::copying::copy_of;
 use crate::current::Current;
 use crate::fault::EFault;
-use crate::membership::is_part;
-use crate::root::{first_from, next_sample};
-use crate::taking::Taker;
+use crate::taker::Taker;
+use crate::walk::{NextTree, Scratch, Walk};
 use jtree::Tree;
 use plan::{Meter, Plan, SizeSet};
-use std::alloc::{AllocError, Global};
+use std::alloc::Global;
 use std::marker::Model;
+use std::mem;
 
 /// An enumeration of the samples of a plan. It has a current sample until it has ended.
 pub struct Live<'p, Z: SizeSet> {
-    alloc: Global,
-    plan: &'p Plan<Z>,
+    walk: Walk<'p, Z>,
     current: Option<Current<'p>>,
 }
 
 impl<Z: SizeSet> Drop for Live<'_, Z> {
     fn drop(self) {
         let Live {
-            alloc: _,
-            plan: _,
+            walk: _,
             current: _,
         } = self;
     }
@@ -38,9 +36,9 @@ impl<'p, Z: SizeSet> Model for Live<'p, Z> {
     ghost use Rattle.jtree.specs.View.{data_of};
     ghost use Rattle.enumerate.specs.Internal.Current.{IsCurrent};
 
-    ghost view = { λ l. record { question = l.plan.now; at = option_map (λ s. data_of s.tree) l.current } };
+    ghost view = { λ l. record { question = l.walk.plan.now; at = option_map (λ s. data_of s.tree) l.current } };
 
-    ghost invariant = { λ l. IfSome l.current (IsCurrent l.plan.now) };
+    ghost invariant = { λ l. IfSome l.current (IsCurrent l.walk.plan.now) };
 }
 
 impl<'p, Z: SizeSet> Live<'p, Z> {
@@ -65,13 +63,15 @@ impl<'p, Z: SizeSet> Live<'p, Z> {
         ensures err { IfErr result (λ e. e ≡ NoMemory) }
         ensures steps { IsWithinDelay plan.now meter.old meter.new }
     {
-        let mut following = Vec::new(alloc);
-        let mut spare = Vec::new(alloc);
-        match first_from(alloc, plan, 0, &mut following, &mut spare, meter)? {
+        let walk = Walk { alloc, plan };
+        let mut scratch = Scratch::new(alloc);
+        mem::swap(meter, &mut scratch.meter);
+        let first = walk.first_from(0, &mut scratch);
+        mem::swap(meter, &mut scratch.meter);
+        match first? {
             Some(tree) => Ok(Some(Live {
-                alloc,
-                plan,
-                current: Some(Current::at(plan, tree, following, spare)),
+                walk,
+                current: Some(Current::at(plan, tree, scratch)),
             })),
             None => Ok(None),
         }
@@ -93,19 +93,21 @@ impl<'p, Z: SizeSet> Live<'p, Z> {
         ensures never_ended { IfErr result (λ e. e ≢ Ended) }
         ensures steps { IsWithinDelay plan.now meter.old meter.new }
     {
-        if !is_sample(alloc, plan, tree, meter)? {
+        let walk = Walk { alloc, plan };
+        if !walk.is_sample(tree, meter)? {
             return Err(EFault::NotASample);
         }
         let copy = copy_of(alloc, tree)?;
-        let mut following = Vec::new(alloc);
-        let mut spare = Vec::new(alloc);
-        match next_sample(alloc, plan, copy, &mut following, &mut spare, &mut 0, meter)? {
-            Some(next) => Ok(Some(Live {
-                alloc,
-                plan,
-                current: Some(Current::at(plan, next, following, spare)),
+        let mut scratch = Scratch::new(alloc);
+        mem::swap(meter, &mut scratch.meter);
+        let next = walk.next_sample(copy, &mut scratch);
+        mem::swap(meter, &mut scratch.meter);
+        match next? {
+            NextTree::To(next, _) => Ok(Some(Live {
+                walk,
+                current: Some(Current::at(plan, next, scratch)),
             })),
-            None => Ok(None),
+            NextTree::Last(_) => Ok(None),
         }
     }
 
@@ -146,7 +148,7 @@ impl<'p, Z: SizeSet> Live<'p, Z> {
         let Some(current) = &mut self.current else {
             return Err(EFault::Ended);
         };
-        match current.step(self.alloc, self.plan, meter) {
+        match current.advance(&self.walk, meter) {
             Ok(true) => Ok(true),
             Ok(false) => {
                 self.current = None;
@@ -183,7 +185,7 @@ impl<'p, Z: SizeSet> Live<'p, Z> {
     {
         match &mut self.current {
             None => Err(EFault::Ended),
-            Some(first) => match first.lend(self.alloc, self.plan, count, taker, meter) {
+            Some(first) => match first.lend(&self.walk, count, taker, meter) {
                 Ok(false) => Ok(false),
                 Ok(true) => {
                     self.current = None;
@@ -206,26 +208,4 @@ impl<'p, Z: SizeSet> Live<'p, Z> {
             None => None,
         }
     }
-}
-
-ghost use Rattle.std.specs.Prelude.{◌≡◌, ◌↔◌, ◌≤◌, IfOk, IsTrue};
-ghost use Rattle.jtree.specs.Nodes.{node_count};
-ghost use Rattle.jtree.specs.View.{data_of};
-ghost use Rattle.enumerate.specs.Page.{IsSampleOf};
-ghost use Rattle.enumerate.specs.Internal.Nodes.{Costs};
-
-/// Whether the tree is a sample.
-fn is_sample<Z: SizeSet>(
-    alloc: Global,
-    plan: &Plan<Z>,
-    tree: &Tree,
-    meter: &mut Meter,
-) -> Result<bool, AllocError>
-    ensures ok { IfOk result (λ is. IsTrue is ↔ IsSampleOf plan.now (data_of tree.now)) }
-    ensures steps { Costs plan.now meter.old meter.new plan.now.limit }
-{
-    if tree.nodes() > plan.limit() as u64 {
-        return Ok(false);
-    }
-    is_part(alloc, plan, plan.root(), tree, meter)
 }

@@ -11,7 +11,7 @@ use crate::copying::copy_of;
 use crate::fault::EFault;
 use crate::listed::Page;
 use crate::live::Live;
-use crate::taking::{Change, Taker};
+use crate::taker::{Change, Taker};
 use jtree::Tree;
 use plan::{Meter, Plan, SizeSet};
 use std::alloc::{AllocError, Global};

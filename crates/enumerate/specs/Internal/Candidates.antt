@@ -10,10 +10,10 @@ use Rattle.plan.specs.Samples.Question.{Question}
 use Rattle.enumerate.specs.Page.{IsPast}
 use Rattle.enumerate.specs.View.{trees_of}
 use Rattle.enumerate.specs.Internal.Nodes.{IsPartOf}
-use Rattle.enumerate.specs.declared.taken.Rows.{Rows}
-use Rattle.enumerate.specs.declared.taken.Rows.TheVariants.{Listed, Chosen}
-use Rattle.enumerate.specs.declared.taken.Taken.{Taken}
-use Rattle.enumerate.specs.declared.taken.Taken.TheVariants.{Items, Key}
+use Rattle.enumerate.specs.declared.siblings.Rows.{Rows}
+use Rattle.enumerate.specs.declared.siblings.Rows.TheVariants.{Listed, Chosen}
+use Rattle.enumerate.specs.declared.siblings.Used.{Used}
+use Rattle.enumerate.specs.declared.siblings.Used.TheVariants.{Items, Key}
 
 abbrev pub rows_of : List (Bor Tree) → List Data
 rows_of rs = map (λ r. data_of r.now) rs
@@ -44,7 +44,7 @@ abbrev pub agreeing_if : Bool → List ℕ → Data → List Data → List Data
 agreeing_if true k v us = agreeing k v us
 agreeing_if false k v us = us
 
-abbrev pub IsFree : Taken → Data → Type 0
+abbrev pub IsFree : Used → Data → Type 0
 IsFree (Items ts) v = Contains (trees_of ts.now) v → ⊥
 IsFree (Key k) v = length (agreeing k.name.now v (used_rows k.rows)) < k.later
 
@@ -57,7 +57,7 @@ abbrev pub IsFreeKey : Question → ℕ → ℕ → List ℕ → List Data → �
 IsFreeKey q i n k rows later v = IsPartOf q i n v × (length (agreeing k v rows) < later)
 
 -- a candidate of this size, past a place, that is free
-pub record IsChoice (q : Question) (i n : ℕ) (after : Option Data) (taken : Taken) (v : Data) : Type 0 where
+pub record IsChoice (q : Question) (i n : ℕ) (after : Option Data) (used : Used) (v : Data) : Type 0 where
   pub part : IsPartOf q i n v
   pub past : IsPast after v
-  pub free : IsFree taken v
+  pub free : IsFree used v

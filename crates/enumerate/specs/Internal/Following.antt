@@ -12,13 +12,14 @@ use Rattle.plan.specs.Samples.Sizes.{AreFillings, filled_nodes}
 use Rattle.plan.specs.Samples.RuleOfParts.{members_in}
 use Rattle.plan.specs.Samples.NoDeadEnd.{items_then}
 use Rattle.plan.specs.Samples.Question.{Question}
-use Rattle.enumerate.specs.Internal.Rows.{still_used, IsValue}
+use Rattle.enumerate.specs.Internal.Rows.{still_used, slots_at, IsValue}
+use Rattle.enumerate.specs.declared.row.RowSlot.{RowSlot}
 use Rattle.enumerate.specs.Least.{IsLeast, IsNext}
 use Rattle.enumerate.specs.Internal.Lists.{IsUnusedItem}
-use Rattle.enumerate.specs.declared.moved.Moved.{Moved}
-use Rattle.enumerate.specs.declared.moved.Moved.TheVariants as moved
-use Rattle.enumerate.specs.declared.moved.Step.{Step}
-use Rattle.enumerate.specs.declared.moved.Step.TheVariants as step
+use Rattle.enumerate.specs.declared.walk.NextTree.{NextTree}
+use Rattle.enumerate.specs.declared.walk.NextTree.TheVariants as tree_next
+use Rattle.enumerate.specs.declared.walk.NextParts.{NextParts}
+use Rattle.enumerate.specs.declared.walk.NextParts.TheVariants as parts
 
 -- the first value makes the next one of those for which C holds past the tree, and the others follow on that
 abbrev pub Follow : (Data → Type 0) → Data → List Data → Type 0
@@ -41,9 +42,9 @@ AreChoices C [] = (u : Data) → C u → ⊥
 AreChoices C (v ∷ cs) = IsLeast tree_cmp C v × InTurn C v cs
 
 -- where there is a next tree, these values continue it
-abbrev pub ContinueMoved : (Data → Type 0) → Moved → List Data → Type 0
-ContinueMoved C (moved.To t) cs = Continue C (data_of t) cs
-ContinueMoved C (moved.Last n) cs = Unit {0}
+abbrev pub ContinueNext : (Data → Type 0) → NextTree → List Data → Type 0
+ContinueNext C (tree_next.To t n) cs = Continue C (data_of t) cs
+ContinueNext C (tree_next.Last n) cs = Unit {0}
 
 -- The last value of a row is this one, in this slot with those after it; these used rows have the same values under all keys so far.
 abbrev pub EndsAt : List Slot → List Data → List (Option Data) → ℕ → Slot → List Slot → List Data → Data → Type 0
@@ -74,9 +75,9 @@ pub record MembersContinue (P : Pools) (ss : List Slot) (used : List Data) (memb
   pub continue : MayContinue P ss used fillings cs
 
 -- the same of members that were moved or put there
-abbrev pub GrownContinue : Step → Pools → List Slot → List Data → List Member → List Data → Type 0
-GrownContinue step.Moved P ss used members cs = MembersContinue P ss used members cs
-GrownContinue (step.Last n) P ss used members cs = Unit {0}
+abbrev pub GrownContinue : NextParts → Pools → List Slot → List Data → List Member → List Data → Type 0
+GrownContinue (parts.Made n) P ss used members cs = MembersContinue P ss used members cs
+GrownContinue (parts.Last n) P ss used members cs = Unit {0}
 
 -- the last item, with those before it, and values that continue it
 pub record ContinueItem (q : Question) (i c : ℕ) (items : Items) (cs : List Data) : Type 0 where
@@ -89,6 +90,12 @@ pub record ContinueItem (q : Question) (i c : ℕ) (items : Items) (cs : List Da
 abbrev pub ItemsContinue : Question → ℕ → ℕ → Items → List Data → Type 0
 ItemsContinue q i c items cs = (cs ≡ []) ⊎ ContinueItem q i c items cs
 
-abbrev pub GrownItemsContinue : Step → Question → ℕ → ℕ → Items → List Data → Type 0
-GrownItemsContinue step.Moved q i c items cs = ItemsContinue q i c items cs
-GrownItemsContinue (step.Last n) q i c items cs = Unit {0}
+abbrev pub GrownItemsContinue : NextParts → Question → ℕ → ℕ → Items → List Data → Type 0
+GrownItemsContinue (parts.Made n) q i c items cs = ItemsContinue q i c items cs
+GrownItemsContinue (parts.Last n) q i c items cs = Unit {0}
+
+abbrev pub MembersContinueAt : Question → RowSlot → List Data → List Member → List Data → Type 0
+MembersContinueAt q t used ms cs = MembersContinue q.pools (slots_at q t) used ms cs
+
+abbrev pub GrownContinueAt : NextParts → Question → RowSlot → List Data → List Member → List Data → Type 0
+GrownContinueAt st q t used ms cs = GrownContinue st q.pools (slots_at q t) used ms cs

@@ -1,5 +1,5 @@
 -- What can be in a list after the items that are there.
-use Rattle.std.specs.Prelude.{◌≡◌, ℕ, ◌+◌, ◌≤◌, ◌-◌, ◌++◌, ◌∷◌, [], List, length, true, false, Some}
+use Rattle.std.specs.Prelude.{◌≡◌, ℕ, ◌+◌, ◌≤◌, ◌<◌, ◌-◌, ◌++◌, ◌∷◌, [], List, length, true, false, Some}
 use Rattle.jtree.specs.Data.{Data, Items}
 use Rattle.jtree.specs.Data as tree
 use Rattle.jtree.specs.Nodes.{items_count}
@@ -17,14 +17,20 @@ use Rattle.plan.specs.Samples.RuleOfParts.{AreParts, alike_at}
 use Rattle.plan.specs.Samples.NoDeadEnd.{items_then}
 use Rattle.plan.specs.Samples.Question.{Question}
 use Rattle.enumerate.specs.Least.{IsLeast}
-use Rattle.enumerate.specs.declared.moved.Step.{Step}
-use Rattle.enumerate.specs.declared.moved.Step.TheVariants.{Moved, Last}
-use Rattle.enumerate.specs.Internal.Nodes.{site, IsPartOf, HasSizeAt, IsSplit}
+use Rattle.enumerate.specs.declared.walk.NextParts.{NextParts}
+use Rattle.enumerate.specs.declared.walk.NextParts.TheVariants.{Made, Last}
+use Rattle.enumerate.specs.declared.list.ListNode.{ListNode}
+use Rattle.enumerate.specs.Internal.Nodes.{site, IsNodeOf, IsPartOf, HasSizeAt, IsSplit}
 
 -- items of m nodes that make a part with those before them
 pub record AreItems (q : Question) (i m : ℕ) (used ds : Items) : Type 0 where
   pub part : IsPart q.pools (site q i) (tree.list (items_then used ds))
   pub nodes_are : items_count ds ≡ m
+
+-- a node and that of its items
+pub record IsListNode (q : Question) (l : ListNode) : Type 0 where
+  pub node : IsNodeOf q l.node
+  pub child : l.child < l.node
 
 -- parts of the node c, no two alike, that may be the first items of a list
 pub record AreFirst (q : Question) (i c : ℕ) (used : Items) : Type 0 where
@@ -61,6 +67,6 @@ pub record GrowsItems (q : Question) (i c m from : ℕ) (old new : List Tree) : 
   pub first : IsLeast tree_cmp (IsUnusedItem q i c size (items_of old)) (data_of one)
   pub rest : AddsItems q i (m - size) (old ++ one ∷ []) new
 
-abbrev pub AreGrown : Step → Question → ℕ → ℕ → ℕ → ℕ → List Tree → List Tree → Type 0
-AreGrown Moved q i c m from old new = GrowsItems q i c m from old new
+abbrev pub AreGrown : NextParts → Question → ℕ → ℕ → ℕ → ℕ → List Tree → List Tree → Type 0
+AreGrown (Made d) q i c m from old new = GrowsItems q i c m from old new × (d ≡ 0)
 AreGrown (Last n) q i c m from old new = (new ≡ old) × IsEmptyFrom (FitsItem q i c (length old) m) from × (n ≡ m)

@@ -1,5 +1,7 @@
 -- What a move from one tree to the next answers.
-use Rattle.std.specs.Prelude.{◌≡◌, ◌≤◌, ◌+◌, ℕ, List, ◌∷◌, Some, None, Option}
+use Rattle.std.specs.Prelude.{◌≡◌, ◌≤◌, ◌<◌, ◌+◌, ◌++◌, ℕ, List, ◌∷◌, [], Some, None, Option, length, drop}
+use Rattle.jtree.specs.Data as tree
+use Rattle.enumerate.specs.Internal.Changes.{DiffersAt, DiffersTo, DiffersAfter}
 use Rattle.jtree.specs.Data.{Data, Items, no_items, Members, no_members, member}
 use Rattle.jtree.specs.Nodes.{node_count, items_count, most_nodes}
 use Rattle.jtree.specs.Order.{tree_cmp, items_cmp}
@@ -7,21 +9,24 @@ use Rattle.jtree.specs.View.{data_of, members_of}
 use Rattle.jtree.specs.declared.value.Member.{Member}
 use Rattle.plan.specs.Pools.Pools.{Pools}
 use Rattle.plan.specs.Samples.Sites.{Slot}
-use Rattle.plan.specs.Samples.Sizes.{filled_nodes, Before, filled, Ending}
+use Rattle.plan.specs.Samples.Sizes.{filled_nodes, Before, nothing, filled, Ending, CanFill}
 use Rattle.plan.specs.Samples.RuleOfParts.{members_in}
 use Rattle.plan.specs.Samples.Question.{Question}
 use Rattle.enumerate.specs.Least.{IsNext}
-use Rattle.enumerate.specs.Internal.Rows.{fill_cmp, IsRest, slots_from, slot_in, ending_at, still_used, IsValue}
+use Rattle.enumerate.specs.Internal.Rows.{fill_cmp, IsRest, slots_from, slot_in, slots_at, slots_after, slot_there, ending_at, still_used, IsValue, IsValueAt, IsOpen}
+use Rattle.enumerate.specs.Internal.Candidates.{used_rows}
+use Rattle.enumerate.specs.declared.row.RowSlot.{RowSlot}
+use Rattle.enumerate.specs.declared.row.Ahead.{Ahead}
 use Rattle.enumerate.specs.Internal.Lists.{AreItems}
-use Rattle.enumerate.specs.declared.moved.Moved.{Moved}
-use Rattle.enumerate.specs.declared.moved.Moved.TheVariants.{To, Last}
-use Rattle.enumerate.specs.declared.moved.Step.{Step}
-use Rattle.enumerate.specs.declared.moved.Step.TheVariants as step
+use Rattle.enumerate.specs.declared.walk.NextTree.{NextTree}
+use Rattle.enumerate.specs.declared.walk.NextTree.TheVariants.{To, Last}
+use Rattle.enumerate.specs.declared.walk.NextParts.{NextParts}
+use Rattle.enumerate.specs.declared.walk.NextParts.TheVariants as parts
 
--- to the next tree for which C holds; or there is none, and the old one has so many nodes
-abbrev pub IsMoved : (Data → Type 0) → Data → Moved → Type 0
-IsMoved C old (To new) = IsNext tree_cmp C old (Some (data_of new))
-IsMoved C old (Last n) = IsNext tree_cmp C old None × (node_count old ≡ n)
+-- the next tree for which C holds, and how many levels down it differs; or there is none, and the old one has so many nodes
+abbrev pub IsNextTree : (Data → Type 0) → Data → NextTree → Type 0
+IsNextTree C old (To new n) = IsNext tree_cmp C old (Some (data_of new)) × DiffersAt n old (data_of new)
+IsNextTree C old (Last n) = IsNext tree_cmp C old None × (node_count old ≡ n)
 
 -- the first member has the name
 abbrev pub Begins : List ℕ → Members → Type 0
@@ -39,14 +44,14 @@ pub record AreNext (P : Pools) (ss : List Slot) (end : Ending) (x : Before) (use
   pub next : IsNext fill_cmp (IsRest P ss end x (filled_nodes old) used) old (Some fillings)
 
 -- the members are the next ones for the slots, after those before them; or there are none
-abbrev pub AreMoved : Step → Pools → List Slot → Ending → Before → List Data → List (Option Data) → List Member → Type 0
-AreMoved step.Moved P ss end x used old members = AreNext P ss end x used old members
-AreMoved (step.Last n) P ss end x used old members = IsNext fill_cmp (IsRest P ss end x (filled_nodes old) used) old None × (filled_nodes old ≡ n)
+abbrev pub AreNextMembers : NextParts → Pools → List Slot → Ending → Before → List Data → List (Option Data) → List Member → Type 0
+AreNextMembers (parts.Made n) P ss end x used old members = AreNext P ss end x used old members
+AreNextMembers (parts.Last n) P ss end x used old members = IsNext fill_cmp (IsRest P ss end x (filled_nodes old) used) old None × (filled_nodes old ≡ n)
 
 -- the items are the next ones, after the same beginning or another; or there are none
-abbrev pub AreItemsMoved : Step → Question → ℕ → Items → Items → Type 0
-AreItemsMoved step.Moved q i old new = IsNext items_cmp (AreItems q i (items_count old) no_items) old (Some new)
-AreItemsMoved (step.Last n) q i old new = IsNext items_cmp (AreItems q i (items_count old) no_items) old None × (items_count old ≡ n)
+abbrev pub AreNextItems : NextParts → Question → ℕ → Items → Items → Type 0
+AreNextItems (parts.Made n) q i old new = IsNext items_cmp (AreItems q i (items_count old) no_items) old (Some new) × DiffersAt n (tree.list old) (tree.list new)
+AreNextItems (parts.Last n) q i old new = IsNext items_cmp (AreItems q i (items_count old) no_items) old None × (items_count old ≡ n)
 
 -- a member is in the slot, and others in those after it
 pub record IsFilled (q : Question) (i place : ℕ) (x : Before) (used : List Data) (one : Member) (others : List Member) (gs : List (Option Data)) : Type 0 where
@@ -63,3 +68,27 @@ pub record AreLastAfter (q : Question) (i place : ℕ) (x : Before) (used : List
   pub are_filled : IsFilled q i place x used one others gs
   pub room_is : filled_nodes are_filled.rest ≡ room
   pub last : IsNext fill_cmp (IsRest q.pools (slots_from q i (place + 1)) (ending_at q i) (filled (slot_in q i place).bit x) (filled_nodes are_filled.rest) (still_used (slot_in q i place) (data_of one.tree) used)) are_filled.rest None
+
+-- ---- at a row
+
+-- the members of a row are the next ones, and how many levels down they differ; or there are none
+abbrev pub MovesMembers : NextParts → Question → ℕ → List Data → List Member → List Member → Type 0
+MovesMembers next q i used old new =
+    ((gs : List (Option Data)) → AreInSlots q.pools (slots_from q i 0) (ending_at q i) nothing used old gs → AreNextMembers next q.pools (slots_from q i 0) (ending_at q i) nothing used gs new)
+    × DiffersTo (tree.object (members_of old)) next (tree.object (members_of new))
+
+-- what a member was at a slot, whose row has these members before it: what is ahead is what the slots after it had
+pub record WasAt (q : Question) (t : RowSlot) (a : Ahead) (members : List Member) (one : Member) : Type 0 where
+  pub count : a.before.count ≤ t.place
+  pub before : length members ≡ a.before.count
+  pub name : one.name ≡ (slot_there q t).name
+  pub value : IsValueAt q t (used_rows a.used) (node_count (data_of one.tree)) (data_of one.tree)
+  pub rest : CanFill q.pools (slots_after q t) (ending_at q t.node) (filled (slot_there q t).bit a.before) a.room
+  pub can : IsOpen q.pools (slots_at q t) (ending_at q t.node) a.before (a.room + node_count (data_of one.tree)) (used_rows a.used)
+  pub limit : a.before.count + (a.room + node_count (data_of one.tree)) < q.limit
+
+-- the members from the slot on are the next ones, where those after it had none; or there are none
+abbrev pub MovesMember : NextParts → Question → RowSlot → Ahead → Member → List Member → List Member → Type 0
+MovesMember next q t a one old new =
+    ((gs : List (Option Data)) (others : List Member) → AreLastAfter q t.node t.place a.before (used_rows a.used) one others a.room gs → AreNextMembers next q.pools (slots_at q t) (ending_at q t.node) a.before (used_rows a.used) gs (drop a.before.count new))
+    × DiffersAfter a.room (tree.object (members_of (old ++ one ∷ []))) next (tree.object (members_of new))

@@ -1,9 +1,11 @@
 -- The parts of the nodes of a plan, by the nodes' numbers, and what it costs to find them.
-use Rattle.std.specs.Prelude.{◌≡◌, ℕ, zero, suc, ◌+◌, ◌*◌, ◌≤◌, ◌<◌, length}
+use Rattle.std.specs.Prelude.{◌≡◌, ◌≢◌, ◌↔◌, ℕ, zero, suc, ◌+◌, ◌*◌, ◌≤◌, ◌<◌, List, [], All, AllPairs, length}
 use Rattle.jtree.specs.Data.{Data}
 use Rattle.jtree.specs.Nodes.{node_count}
+use Rattle.plan.specs.Pools.Pools.{Pools}
+use Rattle.plan.specs.Samples.NoDeadEnd.{IsTuple, AreCounts, product, HasFree}
 use Rattle.plan.specs.Samples.Part.{IsPart}
-use Rattle.plan.specs.Samples.Sites.{Site, site_at, sites_of, slots}
+use Rattle.plan.specs.Samples.Sites.{Site, Slot, site_at, sites_of, slots}
 use Rattle.plan.specs.Samples.Sizes.{HasSize}
 use Rattle.plan.specs.Samples.Candidates.{IsWidth}
 use Rattle.plan.specs.Samples.Question.{Question}
@@ -35,3 +37,7 @@ weight q (suc i) = weight q i + (4 * length (slots q.pools (site q i)) + (4 * q.
 -- a number of which the other set has what is left of m
 abbrev pub IsSplit : (ℕ → Type 0) → (ℕ → Type 0) → ℕ → ℕ → Type 0
 IsSplit A B m n = A n × ((j : ℕ) × (B j × (n + j ≡ m)))
+
+-- A tuple of candidates is left exactly where fewer are used than there are.
+abbrev pub FreeLaw : Type 0
+FreeLaw = (P : Pools) (ss : List Slot) (used : List (List Data)) (counts : List ℕ) → All (IsTuple P ss) used → AllPairs (λ t u. t ≢ u) used → AreCounts P ss counts → HasFree P ss used [] ↔ (length used < product counts)

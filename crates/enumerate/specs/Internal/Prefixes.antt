@@ -1,10 +1,16 @@
 -- What is before a place of a row whose slots are filled so.
 use Rattle.std.specs.Prelude.{◌≡◌, ℕ, suc, List, [], ◌∷◌, Option, Some, None}
+use Rattle.std.specs.Borrow.{Bor}
+use Rattle.std.specs.declared.alloc.Global.{Global}
+use Rattle.std.specs.declared.vec.Vec.{Vec}
 use Rattle.jtree.specs.Data.{Data, Members, no_members, member}
 use Rattle.jtree.specs.declared.value.Member.{Member}
+use Rattle.jtree.specs.declared.value.Tree.{Tree}
 use Rattle.plan.specs.Samples.Sites.{Slot}
-use Rattle.plan.specs.Samples.Sizes.{Before, filled}
+use Rattle.plan.specs.Samples.Sizes.{Before, nothing, filled}
+use Rattle.enumerate.specs.Internal.Candidates.{rows_of}
 use Rattle.enumerate.specs.Internal.Rows.{still_used}
+use Rattle.enumerate.specs.declared.prefix.Prefix.{Prefix}
 
 -- the members there
 abbrev pub members_to : ℕ → List Slot → List (Option Data) → Members
@@ -29,3 +35,13 @@ abbrev pub EndsIn : List ℕ → List Member → Type 0
 EndsIn k [] = ⊥
 EndsIn k (one ∷ []) = one.name ≡ k
 EndsIn k (one ∷ other ∷ members) = EndsIn k (other ∷ members)
+
+-- the used rows that agree; all of them where it is not said which
+abbrev pub agreeing_rows : Option (Vec (Bor Tree) Global) → List Data → List Data
+agreeing_rows None used = used
+agreeing_rows (Some rows) used = rows_of rows.items
+
+-- it is what is before the place, where the slots are filled so
+pub record IsPrefix (ss : List Slot) (place : ℕ) (gs : List (Option Data)) (used : List Data) (front : Prefix) : Type 0 where
+  pub before : front.before ≡ before_at place ss gs nothing
+  pub rows : agreeing_rows front.agreeing used ≡ used_at place ss gs used

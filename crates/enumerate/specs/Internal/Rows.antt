@@ -17,14 +17,17 @@ use Rattle.plan.specs.Samples.Sizes.{AreFillings, filled_nodes, Before, nothing,
 use Rattle.plan.specs.Samples.RuleOfParts.{members_in}
 use Rattle.plan.specs.Samples.NoDeadEnd.{is_key, IsTuple, HasFree}
 use Rattle.plan.specs.Samples.Keys.{key_under, HasTuples}
-use Rattle.plan.specs.Samples.Candidates.{IsWidth}
+use Rattle.plan.specs.Samples.Candidates.{IsWidth, sort_of}
+use Rattle.plan.specs.declared.sort.Sort.TheVariants as sort
 use Rattle.plan.specs.Samples.Question.{Question}
 use Rattle.plan.specs.declared.plan.Slot as answer
 use Rattle.enumerate.specs.Least.{IsLeast}
-use Rattle.enumerate.specs.Internal.Nodes.{site, IsSplit}
-use Rattle.enumerate.specs.Internal.Candidates.{agreeing_if}
-use Rattle.enumerate.specs.declared.moved.Step.{Step}
-use Rattle.enumerate.specs.declared.moved.Step.TheVariants.{Moved, Last}
+use Rattle.enumerate.specs.Internal.Nodes.{site, IsSplit, IsNodeOf}
+use Rattle.enumerate.specs.declared.row.RowSlot.{RowSlot}
+use Rattle.enumerate.specs.declared.row.Ahead.{Ahead}
+use Rattle.enumerate.specs.Internal.Candidates.{agreeing_if, used_rows}
+use Rattle.enumerate.specs.declared.walk.NextParts.{NextParts}
+use Rattle.enumerate.specs.declared.walk.NextParts.TheVariants.{Made, Last}
 
 -- the slots from a place on
 abbrev pub slots_from : Question → ℕ → ℕ → List Slot
@@ -48,6 +51,22 @@ pub record IsSlotOf (q : Question) (i place : ℕ) (t : answer.Slot) : Type 0 wh
   pub below : t.node < i
   pub later : HasTuples q.pools (slots_from q i (place + 1)) t.later
   pub followed : place < 18446744073709551615
+
+-- the slot at a place of a row
+pub record IsRowSlot (q : Question) (t : RowSlot) : Type 0 where
+  pub node : IsNodeOf q t.node
+  pub row : sort_of (site q t.node) ≡ sort.Row
+  pub within : t.place < length (slots_from q t.node 0)
+  pub slot : IsSlotOf q t.node t.place t.slot
+
+abbrev pub slots_at : Question → RowSlot → List Slot
+slots_at q a = slots_from q a.node a.place
+
+abbrev pub slots_after : Question → RowSlot → List Slot
+slots_after q a = slots_from q a.node (a.place + 1)
+
+abbrev pub slot_there : Question → RowSlot → Slot
+slot_there q a = slot_in q a.node a.place
 
 -- an empty slot comes before a filled one
 abbrev pub option_cmp : Option Data → Option Data → Ordering
@@ -129,9 +148,38 @@ pub record Grows (P : Pools) (s : Slot) (ss : List Slot) (end : Ending) (x : Bef
   pub first : IsLeast tree_cmp (IsValue P s ss used size) (data_of one.tree)
   pub rest : AddsFirst P ss end (filled s.bit x) (m - size) (still_used s (data_of one.tree) used) (old ++ one ∷ []) new
 
-abbrev pub IsGrown : Step → Pools → Slot → List Slot → Ending → Before → ℕ → ℕ → List Data → List Member → List Member → Type 0
-IsGrown Moved P s ss end x m from used old new = Grows P s ss end x m from used old new
+abbrev pub IsGrown : NextParts → Pools → Slot → List Slot → Ending → Before → ℕ → ℕ → List Data → List Member → List Member → Type 0
+IsGrown (Made d) P s ss end x m from used old new = Grows P s ss end x m from used old new × (d ≡ 0)
 IsGrown (Last n) P s ss end x m from used old new = (new ≡ old) × IsEmptyFrom (FitsSlot P s ss end x m) from × (n ≡ m)
+
+-- ---- what is ahead at a place
+
+-- the slots from the place on can be filled with what is ahead
+pub record IsOpenAt (q : Question) (i place : ℕ) (a : Ahead) : Type 0 where
+  pub count : a.before.count ≤ place
+  pub limit : a.before.count + a.room < q.limit
+  pub can : IsOpen q.pools (slots_from q i place) (ending_at q i) a.before a.room (used_rows a.used)
+
+abbrev pub AddsFirstAt : Question → ℕ → ℕ → Ahead → List Member → List Member → Type 0
+AddsFirstAt q i place a old new = AddsFirst q.pools (slots_from q i place) (ending_at q i) a.before a.room (used_rows a.used) old new
+
+abbrev pub IsGrownAt : NextParts → Question → RowSlot → Ahead → ℕ → List Member → List Member → Type 0
+IsGrownAt st q t a from old new = IsGrown st q.pools (slot_there q t) (slots_after q t) (ending_at q t.node) a.before a.room from (used_rows a.used) old new
+
+abbrev pub AddsFirstAfter : Question → RowSlot → Data → Ahead → List Member → List Member → Type 0
+AddsFirstAfter q t v a old new = AddsFirst q.pools (slots_after q t) (ending_at q t.node) (filled (slot_there q t).bit a.before) a.room (still_used (slot_there q t) v (used_rows a.used)) old new
+
+-- the same after the slot, where this value is in it
+pub record IsOpenAfter (q : Question) (t : RowSlot) (v : Data) (a : Ahead) : Type 0 where
+  pub count : a.before.count ≤ t.place
+  pub limit : a.before.count + 1 + a.room < q.limit
+  pub can : IsOpen q.pools (slots_after q t) (ending_at q t.node) (filled (slot_there q t).bit a.before) a.room (still_used (slot_there q t) v (used_rows a.used))
+
+abbrev pub IsValueAt : Question → RowSlot → List Data → ℕ → Data → Type 0
+IsValueAt q t used n v = IsValue q.pools (slot_there q t) (slots_after q t) used n v
+
+abbrev pub AreUsedAt : Question → RowSlot → List Data → Type 0
+AreUsedAt q t used = AreUsed q.pools (slots_at q t) used
 
 -- ---- whole rows
 
@@ -144,3 +192,6 @@ pub record IsRow (q : Question) (i n : ℕ) (used : List Data) (v : Data) : Type
 -- for each slot one step, and one for their end, besides those of m nodes
 abbrev pub CostsSlots : Question → ℕ → ℕ → ℕ → ℕ → ℕ → Type 0
 CostsSlots q i place old new m = (w : ℕ) → IsWidth q.pools q.root w → new ≤ old + (length (slots_from q i place) + 1) + (w + 1) * m
+
+abbrev pub CostsAfter : Question → RowSlot → ℕ → ℕ → ℕ → Type 0
+CostsAfter q t old new m = CostsSlots q t.node (t.place + 1) old new m

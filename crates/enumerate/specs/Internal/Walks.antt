@@ -1,6 +1,10 @@
 -- A row that is walked from the last slot to the first.
-use Rattle.std.specs.Prelude.{◌≡◌, ℕ, ◌+◌, ◌*◌, ◌≤◌, List, Option, None, drop}
+use Rattle.std.specs.Prelude.{Result, IfOk, ◌≡◌, ℕ, ◌+◌, ◌*◌, ◌≤◌, List, Option, None, drop}
 use Rattle.jtree.specs.Data.{Data}
+use Rattle.jtree.specs.Data as tree
+use Rattle.enumerate.specs.Internal.Changes.{DiffersAfter}
+use Rattle.enumerate.specs.declared.row.RowSlot.{RowSlot}
+use Rattle.enumerate.specs.declared.row.Removed.{Removed}
 use Rattle.jtree.specs.Nodes.{most_nodes}
 use Rattle.jtree.specs.View.{members_of}
 use Rattle.jtree.specs.declared.value.Member.{Member}
@@ -9,13 +13,13 @@ use Rattle.plan.specs.Samples.Question.{Question}
 use Rattle.plan.specs.Samples.RuleOfParts.{members_in}
 use Rattle.plan.specs.Samples.Sizes.{filled_nodes, Before, nothing}
 use Rattle.enumerate.specs.Least.{IsNext}
-use Rattle.enumerate.specs.Internal.Rows.{fill_cmp, IsRest, slots_from, ending_at}
+use Rattle.enumerate.specs.Internal.Rows.{fill_cmp, IsRest, slots_from, ending_at, CostsSlots}
 use Rattle.enumerate.specs.Internal.Moves.{AreNext}
 use Rattle.enumerate.specs.Internal.Prefixes.{members_to, before_at, used_at}
-use Rattle.enumerate.specs.declared.moved.Step.{Step}
-use Rattle.enumerate.specs.declared.moved.Step.TheVariants.{Moved, Last}
+use Rattle.enumerate.specs.declared.walk.NextParts.{NextParts}
+use Rattle.enumerate.specs.declared.walk.NextParts.TheVariants.{Made, Last}
 
--- What is in the slots from a place on, of so many nodes, was taken off, since it has no next one after the members before it. Where
+-- What is in the slots from a place on, of so many nodes, was removed, since it has no next one after the members before it. Where
 -- there was something, it is known what is before the place.
 pub record IsWalkedTo (q : Question) (i place room : ℕ) (used : List Data) (before : Before) (members : List Member) (gs : List (Option Data)) : Type 0 where
   pub small : filled_nodes gs ≤ most_nodes
@@ -28,21 +32,26 @@ pub record IsWalkedTo (q : Question) (i place room : ℕ) (used : List Data) (be
   pub known : (room ≡ 0 → ⊥) → before ≡ before_at place (slots_from q i 0) gs nothing
 
 -- the members are the next ones; or it was walked to the place
-abbrev pub AreWalked : Step → Question → ℕ → ℕ → List Data → Before → List Member → List (Option Data) → Type 0
-AreWalked Moved q i place used before members gs = AreNext q.pools (slots_from q i 0) (ending_at q i) nothing used gs members
+abbrev pub AreWalked : NextParts → Question → ℕ → ℕ → List Data → Before → List Member → List (Option Data) → Type 0
+AreWalked (Made n) q i place used before members gs = AreNext q.pools (slots_from q i 0) (ending_at q i) nothing used gs members
 AreWalked (Last n) q i place used before members gs = IsWalkedTo q i place n used before members gs
 
--- where it did not move, a step, and what the nodes take that were taken off
-abbrev pub CostsLastAt : Step → Question → ℕ → ℕ → ℕ → Type 0
-CostsLastAt Moved q room old new = Unit {0}
-CostsLastAt (Last m) q room old new = (w : ℕ) → IsWidth q.pools q.root w → new + (w + 1) * (2 * room) ≤ old + 1 + (w + 1) * (2 * m)
-
--- the same where its member was taken off already, at this place
-abbrev pub CostsLastFrom : Step → Question → ℕ → ℕ → ℕ → Type 0
-CostsLastFrom Moved q room old new = Unit {0}
+-- where it did not move, what the nodes take that were removed
+abbrev pub CostsLastFrom : NextParts → Question → ℕ → ℕ → ℕ → Type 0
+CostsLastFrom (Made n) q room old new = Unit {0}
 CostsLastFrom (Last m) q room old new = (w : ℕ) → IsWidth q.pools q.root w → new + (w + 1) * (2 * room) ≤ old + (w + 1) * (2 * m)
 
 -- where there is no next one, what is left are the members before it
-abbrev pub AreLeft : Step → List Member → List Member → Type 0
-AreLeft Moved old new = Unit {0}
+abbrev pub AreLeft : NextParts → List Member → List Member → Type 0
+AreLeft (Made n) old new = Unit {0}
 AreLeft (Last n) old new = new ≡ old
+
+-- the members are the next ones, and how many levels down they differ; or it was walked to the slot, where it was walked up to it before
+abbrev pub MovesSlot : NextParts → Question → RowSlot → Removed → List Data → List Member → Removed → List Member → Type 0
+MovesSlot next q t before used old after new =
+    ((gs : List (Option Data)) → IsWalkedTo q t.node (t.place + 1) before.room used before.before old gs → AreWalked next q t.node t.place used after.before new gs)
+    × DiffersAfter before.room (tree.object (members_of old)) next (tree.object (members_of new))
+
+-- the slots and m nodes; where there is no next one, what the nodes take that were removed
+abbrev pub CostsSlot : {E : Type 0} → Result NextParts E → Question → ℕ → ℕ → ℕ → ℕ → ℕ → Type 0
+CostsSlot r q i room old new m = CostsSlots q i 0 old new m × IfOk r (λ next. CostsLastFrom next q room old new)

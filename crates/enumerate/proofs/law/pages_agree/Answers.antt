@@ -1,4 +1,4 @@
-use Rattle.enumerate.proofs.PageLaws.{same_items, same_end, larger_sample, past_last_sample}
+use Rattle.enumerate.proofs.pages.Laws.{same_items, same_end, larger_sample, past_last_sample}
 use Rattle.enumerate.proofs.law.pages_agree.Goals as goal
 
 pub returns-clause-items : goal.returns-clause-items

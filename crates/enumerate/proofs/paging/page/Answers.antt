@@ -6,7 +6,7 @@ use Rattle.plan.specs.Samples.Steps.{delay}
 use Rattle.enumerate.specs.Live.{IsStarted, LendsPage}
 use Rattle.enumerate.specs.Page.{IsPage}
 use Rattle.enumerate.specs.View.{resume_point, trees_of}
-use Rattle.enumerate.proofs.PageLemmas.{started_next}
+use Rattle.enumerate.proofs.pages.Lemmas.{started_next}
 use Rattle.enumerate.proofs.paging.page.Given.{Over}
 use Rattle.enumerate.proofs.paging.page.Goals as goal
 

@@ -1,0 +1,2 @@
+-- What is before a slot.
+pub mod Lemmas

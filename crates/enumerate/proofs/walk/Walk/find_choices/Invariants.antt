@@ -1,0 +1,15 @@
+use Rattle.std.proofs.Common.{◌+◌, ◌≤◌}
+use Rattle.enumerate.specs.View.{resume_point}
+use Rattle.enumerate.specs.Internal.Candidates.{IsChoice, stack_of}
+use Rattle.enumerate.proofs.samples.Following.{Chosen}
+use Rattle.enumerate.proofs.walk.Walk.find_choices.Given as goal
+
+abbrev pub invariant-loop-place : goal.invariant-loop-place
+invariant-loop-place g l = record {
+  chosen : Chosen l.self.plan.now l.node (IsChoice l.self.plan.now l.node l.size (resume_point l.after) l.used) (λ u c. c.part.part) (stack_of l.scratch.following.items) l.place;
+  within : l.place ≤ l.initial.place;
+  steps : l.scratch.meter + l.place ≤ l.initial.scratch.meter + l.initial.place;
+}
+
+abbrev pub decreases-loop-place : goal.decreases-loop-place
+decreases-loop-place g l = l.place

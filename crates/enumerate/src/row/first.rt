@@ -1,0 +1,235 @@
+//! The first members of a row.
+ghost use Rattle.std.specs.Prelude.{◌++◌, ◌∷◌, [], ◌≡◌, ◌+◌, ◌-◌, ◌≤◌, ◌<◌, length, drop, IfOk, filter, OnOk, MatchOption};
+ghost use Rattle.jtree.specs.Nodes.{node_count};
+ghost use Rattle.jtree.specs.Order.{tree_cmp};
+ghost use Rattle.jtree.specs.View.{data_of};
+ghost use Rattle.plan.specs.Samples.Candidates.{sort_of};
+ghost use Rattle.plan.specs.Samples.NoDeadEnd.{is_key, HasFree};
+ghost use Rattle.plan.specs.Samples.Part.{IsPart};
+ghost use Rattle.plan.specs.Samples.Sizes.{nothing};
+ghost use Rattle.plan.specs.Sets.{IsLeastFrom, IsEmptyFrom};
+ghost use Rattle.enumerate.specs.Least.{IsLeast};
+ghost use Rattle.enumerate.specs.Internal.Candidates.{used_rows, stack_of};
+ghost use Rattle.enumerate.specs.Internal.Following.{Continue, MembersContinue, MembersContinueAt, GrownContinueAt};
+ghost use Rattle.enumerate.specs.Internal.Nodes.{site, IsNodeOf, Costs, HasSizeAt};
+ghost use Rattle.enumerate.specs.Internal.Rows.{slots_from, ending_at, IsOpen, IsRow, CostsSlots, used_keys, slots_at, slot_there, IsRowSlot, IsOpenAt, AddsFirstAt, IsGrownAt, IsValueAt, AddsFirstAfter, IsOpenAfter, AreUsedAt, CostsAfter, slots_after, FitsSlot};
+ghost use Rattle.enumerate.specs.Internal.Steps.{KeepsMeter};
+ghost use Rattle.plan.specs.declared.sort.Sort.TheVariants as sort;
+
+use crate::names::take_name;
+use crate::prefix::Before;
+use crate::row::{Ahead, RowSlot};
+use crate::siblings::{Chosen, Rows, still_used};
+use crate::sizes::least_split;
+use crate::walk::{NextParts, Scratch, Walk};
+use jtree::{Member, Members, Tree};
+use plan::{PlanNode, SizeSet};
+use std::alloc::AllocError;
+
+impl<'p, Z: SizeSet> Walk<'p, Z> {
+    /// The first object of a size that differs from each used row in the value of some key.
+    #[cycle(first)]
+    pub(crate) fn first_row(
+        &self,
+        node: PlanNode,
+        size: u32,
+        used: &Rows<'_>,
+        scratch: &mut Scratch<'p>,
+    ) -> Result<Tree, AllocError>
+        requires node { IsNodeOf self.now.plan.now node }
+        requires row { sort_of (site self.now.plan.now node) ≡ sort.Row }
+        requires some { 1 ≤ size }
+        requires limit { size ≤ self.now.plan.now.limit }
+        requires open { IsOpen self.now.plan.now.pools (slots_from self.now.plan.now node 0) (ending_at self.now.plan.now node) nothing (size - 1) (used_rows used.now) }
+        ensures ok { IfOk result (λ v. IsLeast tree_cmp (IsRow self.now.plan.now node (size - 1) (used_rows used.now)) (data_of v)) }
+        ensures following { IfOk result (λ v. Continue (IsRow self.now.plan.now node (size - 1) (used_rows used.now)) (data_of v) (stack_of scratch.new.following.items)) }
+        ensures steps { Costs self.now.plan.now scratch.old.meter scratch.new.meter size }
+    {
+        self.laws_of(node);
+        scratch.following.clear();
+        let mut members = Vec::new(self.alloc);
+        if size == 1 {
+            return Ok(Tree::Object(Members { members }));
+        }
+        self.first_members(
+            node,
+            0,
+            &Ahead {
+                before: Before::nothing(),
+                room: size - 1,
+                used: *used,
+            },
+            &mut members,
+            scratch,
+        )?;
+        Ok(Tree::Object(Members { members }))
+    }
+
+    /// Appends the first members of `room` nodes for the slots from `place` on, where `before` is what is before it.
+    #[cycle(first)]
+    #[inline(always)]
+    fn first_members(
+        &self,
+        node: PlanNode,
+        place: u64,
+        ahead: &Ahead<'_>,
+        members: &mut Vec<Member>,
+        scratch: &mut Scratch<'p>,
+    ) -> Result<(), AllocError>
+        requires node { IsNodeOf self.now.plan.now node }
+        requires row { sort_of (site self.now.plan.now node) ≡ sort.Row }
+        requires some { 1 ≤ ahead.now.room }
+        requires open { IsOpenAt self.now.plan.now node place ahead.now }
+        ensures ok { OnOk result (AddsFirstAt self.now.plan.now node place ahead.now members.old.items members.new.items) }
+        ensures following { OnOk result (MembersContinue self.now.plan.now.pools (slots_from self.now.plan.now node place) (used_rows ahead.now.used) (drop (length members.old.items) members.new.items) (stack_of scratch.new.following.items)) }
+        ensures steps { CostsSlots self.now.plan.now node place scratch.old.meter scratch.new.meter ahead.now.room }
+    {
+        self.laws_of(node);
+        let Some(slot) = self.plan.slot(node, place, &mut scratch.meter) else {
+            return Ok(());
+        };
+        let here = RowSlot { node, place, slot };
+        if !here.slot.must
+            && ahead
+                .before
+                .rest(self.plan, node, place + 1)
+                .has(ahead.room)
+        {
+            return self.first_members(node, place + 1, ahead, members, scratch);
+        }
+        self.grow_members(&here, ahead, 0, members, scratch)?;
+        Ok(())
+    }
+
+    /// Appends the first part of the slot at `place` of a size from `from` on, and the first members after it; or nothing, where there
+    /// is no such size.
+    #[cycle(first)]
+    #[inline(always)]
+    pub(crate) fn grow_members(
+        &self,
+        here: &RowSlot<'_>,
+        ahead: &Ahead<'_>,
+        from: u32,
+        members: &mut Vec<Member>,
+        scratch: &mut Scratch<'p>,
+    ) -> Result<NextParts, AllocError>
+        requires here { IsRowSlot self.now.plan.now here.now }
+        requires open { IsOpenAt self.now.plan.now here.now.node here.now.place ahead.now }
+        ensures ok { IfOk result (λ next. IsGrownAt next self.now.plan.now here.now ahead.now from members.old.items members.new.items) }
+        ensures following { IfOk result (λ next. GrownContinueAt next self.now.plan.now here.now (used_rows ahead.now.used) (drop (length members.old.items) members.new.items) (stack_of scratch.new.following.items)) }
+        ensures steps { CostsAfter self.now.plan.now here.now scratch.old.meter scratch.new.meter ahead.now.room }
+        ensures last { IfOk result (λ next. KeepsMeter next scratch.old.meter scratch.new.meter) }
+    {
+        self.laws_of(here.node);
+        if from > ahead.room {
+            return Ok(NextParts::Last(ahead.room));
+        }
+        let Some(size) = self.least_value(here, ahead.before, ahead.room, from) else {
+            return Ok(NextParts::Last(ahead.room));
+        };
+        // Before the value is made: the names inside it were kept before this one, so they lie below it.
+        let name = take_name(self.alloc, here.slot.name, &mut scratch.spare)?;
+        let tree = self.first_value(here, size, &ahead.used, scratch)?;
+        self.put_member(
+            here,
+            &Ahead {
+                before: ahead.before,
+                room: ahead.room - size,
+                used: ahead.used,
+            },
+            Member { name, tree },
+            members,
+            scratch,
+        )?;
+        Ok(NextParts::Made(0))
+    }
+
+    /// The first part of a size for a slot; for a key, the first one that leaves some tuple of keys unused.
+    #[cycle(first)]
+    fn first_value(
+        &self,
+        here: &RowSlot<'_>,
+        size: u32,
+        used: &Rows<'_>,
+        scratch: &mut Scratch<'p>,
+    ) -> Result<Tree, AllocError>
+        requires here { IsRowSlot self.now.plan.now here.now }
+        requires size { HasSizeAt self.now.plan.now here.now.slot.node size }
+        requires limit { size ≤ self.now.plan.now.limit }
+        requires known { AreUsedAt self.now.plan.now here.now (used_rows used.now) }
+        requires free { HasFree self.now.plan.now.pools (filter is_key (slots_at self.now.plan.now here.now)) (used_keys (slots_at self.now.plan.now here.now) (used_rows used.now)) [] }
+        ensures ok { IfOk result (λ v. IsLeast tree_cmp (IsValueAt self.now.plan.now here.now (used_rows used.now) size) (data_of v)) }
+        ensures following { IfOk result (λ v. Continue (IsValueAt self.now.plan.now here.now (used_rows used.now) size) (data_of v) (stack_of scratch.new.following.items)) }
+        ensures steps { Costs self.now.plan.now scratch.old.meter scratch.new.meter size }
+    {
+        self.laws_of(here.node);
+        if here.slot.key {
+            return self.first_key(&here.slot, size, used, scratch);
+        }
+        self.first_part(here.slot.node, size, scratch)
+    }
+
+    /// Appends a member, and the first members of `room` nodes after it.
+    #[cycle(first)]
+    pub(crate) fn put_member(
+        &self,
+        here: &RowSlot<'_>,
+        ahead: &Ahead<'_>,
+        member: Member,
+        members: &mut Vec<Member>,
+        scratch: &mut Scratch<'p>,
+    ) -> Result<(), AllocError>
+        requires here { IsRowSlot self.now.plan.now here.now }
+        requires name { member.name ≡ (slot_there self.now.plan.now here.now).name }
+        requires part { IsPart self.now.plan.now.pools (slot_there self.now.plan.now here.now).site (data_of member.tree) }
+        requires following { Continue (IsValueAt self.now.plan.now here.now (used_rows ahead.now.used) (node_count (data_of member.tree))) (data_of member.tree) (stack_of scratch.old.following.items) }
+        requires open { IsOpenAfter self.now.plan.now here.now (data_of member.tree) ahead.now }
+        ensures ok { OnOk result (AddsFirstAfter self.now.plan.now here.now (data_of member.tree) ahead.now
+            (members.old.items ++ member ∷ []) members.new.items) }
+        ensures following { OnOk result (MembersContinueAt self.now.plan.now here.now (used_rows ahead.now.used) (drop (length members.old.items) members.new.items) (stack_of scratch.new.following.items)) }
+        ensures steps { CostsAfter self.now.plan.now here.now scratch.old.meter scratch.new.meter ahead.now.room }
+    {
+        self.laws_of(here.node);
+        if ahead.room == 0 {
+            members.push(member)?;
+            return Ok(());
+        }
+        let same = still_used(self.alloc, &here.slot, &member.tree, &ahead.used)?;
+        members.push(member)?;
+        self.first_members(
+            here.node,
+            here.place + 1,
+            &Ahead {
+                before: ahead.before.fill(&here.slot),
+                room: ahead.room,
+                used: Rows::Chosen(Chosen {
+                    rows: same.as_slice(),
+                }),
+            },
+            members,
+            scratch,
+        )
+    }
+
+    /// The least size from `from` on of a part for the slot at `place` that leaves the slots after it the rest of `room` nodes.
+    #[inline(always)]
+    pub(crate) fn least_value(
+        &self,
+        here: &RowSlot<'_>,
+        before: Before,
+        room: u32,
+        from: u32,
+    ) -> Option<u32>
+        requires here { IsRowSlot self.now.plan.now here.now }
+        requires count { before.count ≤ here.now.place }
+        requires limit { before.count + room < self.now.plan.now.limit }
+        ensures { MatchOption result (IsEmptyFrom (FitsSlot self.now.plan.now.pools (slot_there self.now.plan.now here.now) (slots_after self.now.plan.now here.now) (ending_at self.now.plan.now here.now.node) before room) from)
+            (IsLeastFrom (FitsSlot self.now.plan.now.pools (slot_there self.now.plan.now here.now) (slots_after self.now.plan.now here.now) (ending_at self.now.plan.now here.now.node) before room) from) }
+    {
+        self.laws_of(here.node);
+        let rest = before
+            .fill(&here.slot)
+            .rest(self.plan, here.node, here.place + 1);
+        least_split(self.plan.sizes(here.slot.node), rest, room, from)
+    }
+}

@@ -1,0 +1,345 @@
+//! The next members of a row.
+ghost use Rattle.std.specs.Prelude.{◌++◌, ◌∷◌, [], ◌≡◌, ◌+◌, ◌-◌, ◌≤◌, ◌<◌, ℕ, List, length, drop, IfOk, ◌*◌, Option, Some, ◌↔◌, IsTrue, IfSome, true, None, ◌≢◌, IfNone, take, All};
+ghost use Rattle.jtree.specs.Data.{Data, Members as MembersData, object as object_data};
+ghost use Rattle.jtree.specs.Nodes.{node_count, members_count};
+ghost use Rattle.jtree.specs.View.{data_of, members_of};
+ghost use Rattle.plan.specs.Samples.Candidates.{sort_of};
+ghost use Rattle.plan.specs.Samples.Part.{IsPart};
+ghost use Rattle.plan.specs.Samples.Sizes.{nothing};
+ghost use Rattle.enumerate.specs.Page.{IsPast};
+ghost use Rattle.enumerate.specs.Internal.Candidates.{used_rows, stack_of};
+ghost use Rattle.enumerate.specs.Internal.Following.{GrownContinueAt, ContinueNext, GrownContinue};
+ghost use Rattle.enumerate.specs.Internal.Moves.{IsNextTree, AreInSlots, MovesMembers, MovesMember, WasAt};
+ghost use Rattle.enumerate.specs.Internal.Nodes.{site, IsNodeOf};
+ghost use Rattle.enumerate.specs.Internal.Prefixes.{EndsIn};
+ghost use Rattle.enumerate.specs.Internal.Rows.{slots_from, ending_at, IsOpen, IsRow, slots_at, slot_there, IsRowSlot, IsValueAt, AreUsedAt, CostsAfter, AreUsed, slots_after, FitsSlot, IsGrown};
+ghost use Rattle.enumerate.specs.Internal.Steps.{KeepsMeter, CostsMembers, CostsTree, CostsMember};
+ghost use Rattle.enumerate.specs.Internal.Walks.{IsWalkedTo, AreLeft, MovesSlot, CostsSlot};
+ghost use Rattle.plan.specs.declared.sort.Sort.TheVariants as sort;
+
+use crate::names::keep_name;
+use crate::prefix::Before;
+use crate::row::{Ahead, Removed, RowSlot};
+use crate::siblings::Rows;
+use crate::sizes::below;
+use crate::walk::{NextParts, NextTree, Scratch, Walk};
+use jtree::{Member, Members, Tree};
+use plan::{Meter, PlanNode, SizeSet};
+use std::alloc::AllocError;
+
+impl<'p, Z: SizeSet> Walk<'p, Z> {
+    /// The next object of as many nodes that differs from each used row in the value of some key.
+    #[cycle(next)]
+    pub(crate) fn next_row(
+        &self,
+        node: PlanNode,
+        tree: Tree,
+        used: &Rows<'_>,
+        scratch: &mut Scratch<'p>,
+    ) -> Result<NextTree, AllocError>
+        requires node { IsNodeOf self.now.plan.now node }
+        requires sort { sort_of (site self.now.plan.now node) ≡ sort.Row }
+        requires known { AreUsed self.now.plan.now.pools (slots_from self.now.plan.now node 0) (used_rows used.now) }
+        requires row { IsRow self.now.plan.now node (node_count (data_of tree) - 1) (used_rows used.now) (data_of tree) }
+        requires limit { node_count (data_of tree) ≤ self.now.plan.now.limit }
+        ensures ok { IfOk result (λ next. IsNextTree (IsRow self.now.plan.now node (node_count (data_of tree) - 1) (used_rows used.now)) (data_of tree) next) }
+        ensures following { IfOk result (λ next. ContinueNext (IsRow self.now.plan.now node (node_count (data_of tree) - 1) (used_rows used.now)) next (stack_of scratch.new.following.items)) }
+        ensures steps { CostsTree result self.now.plan.now scratch.old.meter scratch.new.meter (node_count (data_of tree)) }
+    {
+        self.laws_of(node);
+        let Some(mut members) = into_members(tree) else {
+            unreachable!()
+        };
+        match self.next_members(node, used, &mut members, scratch)? {
+            NextParts::Made(depth) => Ok(NextTree::To(Tree::Object(Members { members }), depth)),
+            NextParts::Last(room) => Ok(NextTree::Last(room + 1)),
+        }
+    }
+
+    /// Turns the members of a row into the next ones of as many nodes: from the last slot on, and no further than to the one that
+    /// moves.
+    #[cycle(next)]
+    fn next_members(
+        &self,
+        node: PlanNode,
+        used: &Rows<'_>,
+        members: &mut Vec<Member>,
+        scratch: &mut Scratch<'p>,
+    ) -> Result<NextParts, AllocError>
+        requires node { IsNodeOf self.now.plan.now node }
+        requires row { sort_of (site self.now.plan.now node) ≡ sort.Row }
+        requires used { AreUsed self.now.plan.now.pools (slots_from self.now.plan.now node 0) (used_rows used.now) }
+        requires in_slots { (gs : List (Option Data)) × AreInSlots self.now.plan.now.pools (slots_from self.now.plan.now node 0) (ending_at self.now.plan.now node) nothing (used_rows used.now) members.old.items gs }
+        requires limit { members_count (members_of members.old.items) < self.now.plan.now.limit }
+        ensures ok { IfOk result (λ next. MovesMembers next self.now.plan.now node (used_rows used.now) members.old.items members.new.items) }
+        ensures following { IfOk result (λ next. GrownContinue next self.now.plan.now.pools (slots_from self.now.plan.now node 0) (used_rows used.now) members.new.items (stack_of scratch.new.following.items)) }
+        ensures steps { CostsMembers result self.now.plan.now node scratch.old.meter scratch.new.meter (members_count (members_of members.old.items)) }
+    {
+        self.laws_of(node);
+        let mut removed = Removed {
+            room: 0,
+            before: Before::nothing(),
+        };
+        let mut place = self.plan.slot_count(node);
+        while place > 0 {
+            place -= 1;
+            let slot = self.slot_at(node, place, &mut scratch.meter);
+            let here = RowSlot { node, place, slot };
+            match self.next_at_slot(&here, &mut removed, used, members, scratch)? {
+                NextParts::Made(depth) => return Ok(NextParts::Made(depth)),
+                NextParts::Last(nodes) => removed.room = nodes,
+            }
+        }
+        Ok(NextParts::Last(removed.room))
+    }
+
+    /// Moves what is in the slot, where the members after it had no next ones and were removed. Where there is no next one either, it
+    /// is removed too, and `removed.before` becomes what is before the slot.
+    #[cycle(next)]
+    fn next_at_slot(
+        &self,
+        here: &RowSlot<'_>,
+        removed: &mut Removed,
+        used: &Rows<'_>,
+        members: &mut Vec<Member>,
+        scratch: &mut Scratch<'p>,
+    ) -> Result<NextParts, AllocError>
+        requires here { IsRowSlot self.now.plan.now here.now }
+        requires used { AreUsed self.now.plan.now.pools (slots_from self.now.plan.now here.now.node 0) (used_rows used.now) }
+        requires walked { (gs : List (Option Data)) × IsWalkedTo self.now.plan.now here.now.node (here.now.place + 1) removed.old.room (used_rows used.now) removed.old.before members.old.items gs }
+        requires limit { members_count (members_of members.old.items) + removed.old.room < self.now.plan.now.limit }
+        ensures ok { IfOk result (λ next. MovesSlot next self.now.plan.now here.now removed.old (used_rows used.now) members.old.items removed.new members.new.items) }
+        ensures following { IfOk result (λ next. GrownContinue next self.now.plan.now.pools (slots_from self.now.plan.now here.now.node 0) (used_rows used.now) members.new.items (stack_of scratch.new.following.items)) }
+        ensures steps { CostsSlot result self.now.plan.now here.now.node removed.old.room scratch.old.meter scratch.new.meter (3 * members_count (members_of members.old.items) + removed.old.room) }
+    {
+        self.laws_of(here.node);
+        match pop_named(members, here.slot.name) {
+            Some(member) => self.next_filled_slot(here, removed, used, member, members, scratch),
+            None => self.next_empty_slot(here, removed, used, members, scratch),
+        }
+    }
+
+    /// The same where this member was in the slot and is removed already.
+    #[cycle(next)]
+    fn next_filled_slot(
+        &self,
+        here: &RowSlot<'_>,
+        removed: &mut Removed,
+        used: &Rows<'_>,
+        member: Member,
+        members: &mut Vec<Member>,
+        scratch: &mut Scratch<'p>,
+    ) -> Result<NextParts, AllocError>
+        requires here { IsRowSlot self.now.plan.now here.now }
+        requires used { AreUsed self.now.plan.now.pools (slots_from self.now.plan.now here.now.node 0) (used_rows used.now) }
+        requires name { member.name ≡ (slot_there self.now.plan.now here.now).name }
+        requires walked { (gs : List (Option Data)) × IsWalkedTo self.now.plan.now here.now.node (here.now.place + 1) removed.old.room (used_rows used.now) removed.old.before (members.old.items ++ member ∷ []) gs }
+        requires limit { members_count (members_of members.old.items) + (removed.old.room + node_count (data_of member.tree)) < self.now.plan.now.limit }
+        ensures ok { IfOk result (λ next. MovesSlot next self.now.plan.now here.now removed.old (used_rows used.now) (members.old.items ++ member ∷ []) removed.new members.new.items) }
+        ensures following { IfOk result (λ next. GrownContinue next self.now.plan.now.pools (slots_from self.now.plan.now here.now.node 0) (used_rows used.now) members.new.items (stack_of scratch.new.following.items)) }
+        ensures steps { CostsSlot result self.now.plan.now here.now.node removed.old.room scratch.old.meter scratch.new.meter (3 * node_count (data_of member.tree) + removed.old.room) }
+    {
+        self.laws_of(here.node);
+        if self.is_last_key(here, &member.tree, &mut scratch.meter) {
+            removed.before = Before::unnamed(members.len() as u32);
+            let Member { name, tree: _ } = member;
+            keep_name(&mut scratch.spare, name);
+            return Ok(NextParts::Last(removed.room + 1));
+        }
+        let prefix = self.prefix_at(
+            here.node,
+            here.place,
+            members.as_slice(),
+            used,
+            &mut scratch.meter,
+        )?;
+        removed.before = prefix.before;
+        let ahead = Ahead {
+            before: prefix.before,
+            room: removed.room,
+            used: prefix.rows(used),
+        };
+        self.next_member(here, &ahead, member, members, scratch)
+    }
+
+    /// The same where the slot is empty: a first part that fits is put in it, and the first members after it.
+    fn next_empty_slot(
+        &self,
+        here: &RowSlot<'_>,
+        removed: &Removed,
+        used: &Rows<'_>,
+        members: &mut Vec<Member>,
+        scratch: &mut Scratch<'p>,
+    ) -> Result<NextParts, AllocError>
+        requires here { IsRowSlot self.now.plan.now here.now }
+        requires used { AreUsed self.now.plan.now.pools (slots_from self.now.plan.now here.now.node 0) (used_rows used.now) }
+        requires out { EndsIn (slot_there self.now.plan.now here.now).name members.old.items → ⊥ }
+        requires walked { (gs : List (Option Data)) × IsWalkedTo self.now.plan.now here.now.node (here.now.place + 1) removed.now.room (used_rows used.now) removed.now.before members.old.items gs }
+        requires limit { members_count (members_of members.old.items) + removed.now.room < self.now.plan.now.limit }
+        ensures ok { IfOk result (λ next. MovesSlot next self.now.plan.now here.now removed.now (used_rows used.now) members.old.items removed.now members.new.items) }
+        ensures following { IfOk result (λ next. GrownContinue next self.now.plan.now.pools (slots_from self.now.plan.now here.now.node 0) (used_rows used.now) members.new.items (stack_of scratch.new.following.items)) }
+        ensures steps { CostsSlot result self.now.plan.now here.now.node removed.now.room scratch.old.meter scratch.new.meter removed.now.room }
+    {
+        self.laws_of(here.node);
+        if removed.room == 0 || !self.fits(here, removed.before, removed.room) {
+            return Ok(NextParts::Last(removed.room));
+        }
+        let prefix = self.prefix_at(
+            here.node,
+            here.place,
+            members.as_slice(),
+            used,
+            &mut scratch.meter,
+        )?;
+        let ahead = Ahead {
+            before: removed.before,
+            room: removed.room,
+            used: prefix.rows(used),
+        };
+        match self.grow_members(here, &ahead, 0, members, scratch)? {
+            NextParts::Made(depth) => Ok(NextParts::Made(depth)),
+            NextParts::Last(_) => unreachable!(),
+        }
+    }
+
+    /// Whether a part in the slot, and those after it, can have so many nodes together.
+    fn fits(&self, here: &RowSlot<'_>, before: Before, room: u32) -> bool
+        requires here { IsRowSlot self.now.plan.now here.now }
+        requires count { before.count ≤ here.now.place }
+        requires limit { before.count + room < self.now.plan.now.limit }
+        ensures { IsTrue result ↔ ((n : ℕ) × FitsSlot self.now.plan.now.pools (slot_there self.now.plan.now here.now) (slots_after self.now.plan.now here.now) (ending_at self.now.plan.now here.now.node) before room n) }
+    {
+        self.least_value(here, before, room, 0).is_some()
+    }
+
+    /// Puts back the member that was removed with its next value, and then the first members of `ahead.room` nodes after it, where
+    /// those that were there have no next ones; or else a value of more nodes, and the first members after that.
+    #[cycle(next)]
+    fn next_member(
+        &self,
+        here: &RowSlot<'_>,
+        ahead: &Ahead<'_>,
+        member: Member,
+        members: &mut Vec<Member>,
+        scratch: &mut Scratch<'p>,
+    ) -> Result<NextParts, AllocError>
+        requires here { IsRowSlot self.now.plan.now here.now }
+        requires member { WasAt self.now.plan.now here.now ahead.now members.old.items member }
+        ensures ok { IfOk result (λ next. MovesMember next self.now.plan.now here.now ahead.now member members.old.items members.new.items) }
+        ensures kept { IfOk result (λ _. take ahead.now.before.count members.new.items ≡ members.old.items) }
+        ensures left { IfOk result (λ next. AreLeft next members.old.items members.new.items) }
+        ensures following { IfOk result (λ next. GrownContinueAt next self.now.plan.now here.now (used_rows ahead.now.used) (drop ahead.now.before.count members.new.items) (stack_of scratch.new.following.items)) }
+        ensures steps { CostsMember result self.now.plan.now here.now ahead.now.room scratch.old.meter scratch.new.meter (node_count (data_of member.tree)) }
+    {
+        self.laws_of(here.node);
+        let Member { name, tree } = member;
+        match self.next_value(here, tree, &ahead.used, scratch)? {
+            NextTree::To(tree, depth) => {
+                let depth = below(ahead.room, depth);
+                self.put_member(here, ahead, Member { name, tree }, members, scratch)?;
+                Ok(NextParts::Made(depth))
+            }
+            NextTree::Last(size) => {
+                keep_name(&mut scratch.spare, name);
+                self.grow_larger_members(here, ahead, size, members, scratch)
+            }
+        }
+    }
+
+    /// The next part of as many nodes for a slot; for a key, the next one that leaves some tuple of keys unused.
+    #[cycle(next)]
+    fn next_value(
+        &self,
+        here: &RowSlot<'_>,
+        tree: Tree,
+        used: &Rows<'_>,
+        scratch: &mut Scratch<'p>,
+    ) -> Result<NextTree, AllocError>
+        requires here { IsRowSlot self.now.plan.now here.now }
+        requires known { AreUsedAt self.now.plan.now here.now (used_rows used.now) }
+        requires value { IsValueAt self.now.plan.now here.now (used_rows used.now) (node_count (data_of tree)) (data_of tree) }
+        requires limit { node_count (data_of tree) ≤ self.now.plan.now.limit }
+        ensures ok { IfOk result (λ next. IsNextTree (IsValueAt self.now.plan.now here.now (used_rows used.now) (node_count (data_of tree))) (data_of tree) next) }
+        ensures following { IfOk result (λ next. ContinueNext (IsValueAt self.now.plan.now here.now (used_rows used.now) (node_count (data_of tree))) next (stack_of scratch.new.following.items)) }
+        ensures steps { CostsTree result self.now.plan.now scratch.old.meter scratch.new.meter (node_count (data_of tree)) }
+    {
+        self.laws_of(here.node);
+        if here.slot.key {
+            return self.next_key(&here.slot, tree, used, scratch);
+        }
+        self.next_part(here.slot.node, tree, scratch)
+    }
+
+    /// Appends the first part of more than `size` nodes for the slot, and the first members after it, of `ahead.room` and `size` nodes
+    /// together; or nothing, where there is no such part.
+    #[inline(always)]
+    fn grow_larger_members(
+        &self,
+        here: &RowSlot<'_>,
+        ahead: &Ahead<'_>,
+        size: u32,
+        members: &mut Vec<Member>,
+        scratch: &mut Scratch<'p>,
+    ) -> Result<NextParts, AllocError>
+        requires here { IsRowSlot self.now.plan.now here.now }
+        requires count { ahead.now.before.count ≤ here.now.place }
+        requires limit { ahead.now.before.count + (ahead.now.room + size) < self.now.plan.now.limit }
+        requires open { IsOpen self.now.plan.now.pools (slots_at self.now.plan.now here.now) (ending_at self.now.plan.now here.now.node) ahead.now.before (ahead.now.room + size) (used_rows ahead.now.used) }
+        ensures ok { IfOk result (λ next. IsGrown next self.now.plan.now.pools (slot_there self.now.plan.now here.now) (slots_after self.now.plan.now here.now) (ending_at self.now.plan.now here.now.node) ahead.now.before (ahead.now.room + size) (size + 1) (used_rows ahead.now.used) members.old.items members.new.items) }
+        ensures following { IfOk result (λ next. GrownContinueAt next self.now.plan.now here.now (used_rows ahead.now.used) (drop (length members.old.items) members.new.items) (stack_of scratch.new.following.items)) }
+        ensures steps { CostsAfter self.now.plan.now here.now scratch.old.meter scratch.new.meter (ahead.now.room + size) }
+        ensures last { IfOk result (λ next. KeepsMeter next scratch.old.meter scratch.new.meter) }
+    {
+        self.laws_of(here.node);
+        let larger = Ahead {
+            before: ahead.before,
+            room: ahead.room + size,
+            used: ahead.used,
+        };
+        self.grow_members(here, &larger, size + 1, members, scratch)
+    }
+
+    /// Whether the slot is a key without a later candidate, and no field is named: then it has no next value, whatever is before it.
+    #[inline(always)]
+    fn is_last_key(&self, here: &RowSlot<'_>, tree: &Tree, meter: &mut Meter) -> bool
+        requires here { IsRowSlot self.now.plan.now here.now }
+        ensures key { result ≡ true → (slot_there self.now.plan.now here.now).key ≡ true }
+        ensures plain { result ≡ true → All (λ s. s.bit ≡ None) (slots_from self.now.plan.now here.now.node 0) }
+        ensures none { result ≡ true → (u : Data) → IsPart self.now.plan.now.pools (slot_there self.now.plan.now here.now).site u → IsPast (Some (data_of tree.now)) u → ⊥ }
+        ensures steps { meter.new ≤ meter.old + 1 }
+    {
+        self.laws_of(here.node);
+        if !here.slot.key {
+            return false;
+        }
+        if self.plan.names_fields(here.node) {
+            return false;
+        }
+        !self.has_later(here.slot.node, tree, meter)
+    }
+}
+
+/// The members of an object; none of another tree.
+#[inline(always)]
+fn into_members(tree: Tree) -> Option<Vec<Member>>
+    ensures some { IfSome result (λ members. data_of tree ≡ object_data (members_of members.items)) }
+    ensures none { IfNone result ((ms : MembersData) → data_of tree ≢ object_data ms) }
+{
+    match tree {
+        Tree::Object(object) => Some(object.members),
+        _other => None,
+    }
+}
+
+/// Removes the last member, where it has the name.
+#[inline(always)]
+fn pop_named(members: &mut Vec<Member>, name: &str) -> Option<Member>
+    ensures some { IfSome result (λ one. (members.old.items ≡ members.new.items ++ one ∷ []) × (one.name ≡ name.now)) }
+    ensures none { IfNone result ((members.new.items ≡ members.old.items) × (EndsIn name.now members.old.items → ⊥)) }
+    ensures fewer { length members.new.items ≤ length members.old.items }
+{
+    match members.last() {
+        Some(last) if last.name.as_str() == name => members.pop(),
+        _ => None,
+    }
+}

@@ -1,0 +1,171 @@
+//! Which items and keys of a list are used already.
+ghost use Rattle.std.specs.Prelude.{◌≡◌, length, IfOk, ◌↔◌, IsTrue, ◌==◌};
+ghost use Rattle.jtree.specs.View.{data_of};
+ghost use Rattle.enumerate.specs.Internal.Candidates.{used_rows, agreeing_if, IsFree, rows_of, has_under, agreeing};
+ghost use Rattle.enumerate.specs.View.{trees_of};
+
+use jtree::{Items, Tree};
+use plan::Slot;
+use std::alloc::{AllocError, Global};
+
+/// Some items of a list.
+#[derive(Clone, Copy)]
+pub(crate) struct Chosen<'a> {
+    pub rows: &'a [&'a Tree],
+}
+
+/// Objects that have all keys.
+#[derive(Clone, Copy)]
+pub(crate) enum Rows<'a> {
+    /// All items of a list.
+    Listed(&'a [Tree]),
+    Chosen(Chosen<'a>),
+}
+
+impl<'a> Rows<'a> {
+    fn len(&self) -> usize
+        ensures { result ≡ length (used_rows self.now) }
+    {
+        match self {
+            Rows::Listed(trees) => trees.len(),
+            Rows::Chosen(some) => some.rows.len(),
+        }
+    }
+
+    pub(crate) fn is_empty(&self) -> bool
+        ensures { result ≡ (length (used_rows self.now) == 0) }
+    {
+        self.len() == 0
+    }
+}
+
+/// Objects that have all keys, and agree on those that were chosen so far.
+#[derive(Clone, Copy)]
+pub(crate) struct KeyRows<'a> {
+    /// The key to be chosen next.
+    pub name: &'a str,
+    pub rows: Rows<'a>,
+    /// How many tuples of candidates the keys after it have.
+    pub later: u64,
+}
+
+/// Which candidates are taken.
+#[derive(Clone, Copy)]
+pub(crate) enum Used<'a> {
+    /// These are.
+    Items(&'a [Tree]),
+    /// Those that as many rows have under the key as there are tuples of later keys.
+    Key(KeyRows<'a>),
+}
+
+/// Whether the object has the value under the name.
+#[inline(always)]
+fn has_under(name: &str, value: &Tree, row: &Tree) -> bool
+    ensures { result ≡ has_under name.now (data_of value.now) (data_of row.now) }
+{
+    match row.get(name) {
+        Some(own) => *own == *value,
+        None => false,
+    }
+}
+
+/// How many of the objects have the value under the name.
+fn count_agreeing(name: &str, value: &Tree, rows: &Rows<'_>) -> usize
+    ensures { result ≡ length (agreeing name.now (data_of value.now) (used_rows rows.now)) }
+{
+    match rows {
+        Rows::Listed(trees) => count_listed(name, value, trees),
+        Rows::Chosen(some) => count_chosen(name, value, some.rows),
+    }
+}
+
+fn count_listed(name: &str, value: &Tree, trees: &[Tree]) -> usize
+    ensures { result ≡ length (agreeing name.now (data_of value.now) (trees_of trees.now)) }
+{
+    let mut count = 0;
+    for place in 0..trees.len() {
+        if has_under(name, value, &trees[place]) {
+            count += 1;
+        }
+    }
+    count
+}
+
+fn count_chosen(name: &str, value: &Tree, rows: &[&Tree]) -> usize
+    ensures { result ≡ length (agreeing name.now (data_of value.now) (rows_of rows.now)) }
+{
+    let mut count = 0;
+    for place in 0..rows.len() {
+        if has_under(name, value, rows[place]) {
+            count += 1;
+        }
+    }
+    count
+}
+
+/// The objects that agree so far with a value in the slot: where it is a key, those that have it there.
+#[inline(always)]
+pub(crate) fn still_used<'a>(
+    alloc: Global,
+    slot: &Slot<'_>,
+    value: &Tree,
+    used: &Rows<'a>,
+) -> Result<Vec<&'a Tree>, AllocError>
+    ensures { IfOk result (λ some. rows_of some.items ≡ agreeing_if slot.now.key slot.now.name.now (data_of value.now) (used_rows used.now)) }
+{
+    match used {
+        Rows::Listed(trees) => still_listed(alloc, slot, value, *trees),
+        Rows::Chosen(some) => still_chosen(alloc, slot, value, some.rows),
+    }
+}
+
+#[inline(always)]
+fn still_listed<'a>(
+    alloc: Global,
+    slot: &Slot<'_>,
+    value: &Tree,
+    trees: &'a [Tree],
+) -> Result<Vec<&'a Tree>, AllocError>
+    ensures { IfOk result (λ some. rows_of some.items ≡ agreeing_if slot.now.key slot.now.name.now (data_of value.now) (trees_of trees.now)) }
+{
+    let mut some = Vec::new(alloc);
+    for place in 0..trees.len() {
+        let row = &trees[place];
+        if !slot.key || has_under(slot.name, value, row) {
+            some.push(row)?;
+        }
+    }
+    Ok(some)
+}
+
+#[inline(always)]
+pub(crate) fn still_chosen<'a>(
+    alloc: Global,
+    slot: &Slot<'_>,
+    value: &Tree,
+    rows: &[&'a Tree],
+) -> Result<Vec<&'a Tree>, AllocError>
+    ensures { IfOk result (λ some. rows_of some.items ≡ agreeing_if slot.now.key slot.now.name.now (data_of value.now) (rows_of rows.now)) }
+{
+    let mut some = Vec::new(alloc);
+    for place in 0..rows.len() {
+        let row = rows[place];
+        if !slot.key || has_under(slot.name, value, row) {
+            some.push(row)?;
+        }
+    }
+    Ok(some)
+}
+
+/// Whether the candidate is free.
+#[inline(always)]
+pub(crate) fn is_free(used: &Used<'_>, tree: &Tree) -> bool
+    ensures { IsTrue result ↔ IsFree used.now (data_of tree.now) }
+{
+    match used {
+        Used::Items(items) => !items.contains(tree),
+        // No more rows agree than there are.
+        Used::Key(key) if (key.rows.len() as u64) < key.later => true,
+        Used::Key(key) => (count_agreeing(key.name, tree, &key.rows) as u64) < key.later,
+    }
+}
