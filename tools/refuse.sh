@@ -146,6 +146,15 @@ cat >"$folder/map-lists" <<'LINES'
 {"m":[{"k":"a","v":0},{"k":"b","v":0}]}
 {"m":[{"k":"b","v":0},{"k":"a","v":0}]}
 LINES
+define '{"type":"object","properties":{"n":{"type":"object","nullable":true,"properties":{"a":{"type":"boolean"},"l":{"type":"array","items":{"type":"boolean"}}}}}}' >"$folder/nullable.json"
+echo '{"fixed":{"/n/l":[[true],"x"]},"present":["/n/a"]}' >"$folder/asked.json"
+cat >"$folder/asked" <<'LINES'
+{}
+{"n":{"a":false}}
+{"n":{"a":true}}
+{"n":{"a":false,"l":[true]}}
+{"n":{"a":true,"l":[true]}}
+LINES
 cat >"$folder/map-list-fields" <<'LINES'
 "/m" <[]Object> list-type=map keys=["k"]
 "/m/[]" <Object>
@@ -242,6 +251,7 @@ row 'explain of no field' nothing 1 /dev/null "$folder/no-field" explain "$folde
 row 'leaves of an object' nothing 0 "$folder/leaves" /dev/null leaves "$folder/crd.json" v1 "$folder/stored.json"
 row 'leaves of an object that is not stored' nothing 1 /dev/null "$folder/not-stored" leaves "$folder/crd.json" v1 "$folder/object.json"
 row 'sample of a map list' lines 0 "$folder/map-lists" "$folder/end" sample "$folder/map-list.json" v1 --pools "$folder/pools.json" --limit 8
+row 'sample with fixed and present paths' lines 0 "$folder/asked" "$folder/end" sample "$folder/nullable.json" v1 --pools "$folder/asked.json" --limit 5
 row 'explain of a map list' nothing 0 "$folder/map-list-fields" /dev/null explain "$folder/map-list.json" v1
 row 'validate of items with equal keys' nothing 1 "$folder/alike" /dev/null validate "$folder/map-list.json" v1 "$folder/alike.json"
 row 'default of nulls' nothing 0 "$folder/no-null" /dev/null default "$folder/nulls.json" v1 "$folder/null.json"

@@ -1,5 +1,5 @@
 -- How the causes of a run and its status go together with what is asked of the documents at hand.
-use Rattle.std.proofs.Common.{◌≡◌, ◌≢◌, ◌⊎◌, ℕ, List, [], ◌∷◌, Option, Some, None, Bor, Ok, Err, refl, subst, inl, inr, take, map, string_bytes, IsSomeAnd, Bool, true, arith}
+use Rattle.std.proofs.Common.{◌≡◌, ◌≢◌, ◌⊎◌, ◌≤◌, ◌<◌, ℕ, List, [], ◌∷◌, Option, Some, None, Bor, Ok, Err, refl, subst, inl, inr, take, map, string_bytes, IsSomeAnd, Bool, true, arith}
 use Rattle.std.specs.Prelude.{IfSome, IfOk, IfErr, OnOk, OnErr, Result}
 use Rattle.std.specs.Io.KnownBytes.{Appends, Keeps}
 use Rattle.jtree.specs.Data.{Data}
@@ -24,7 +24,7 @@ use Rattle.crdx.specs.Internal.ExitStatus.{status, cause_of_reading, cause_of_re
 use Rattle.crdx.specs.Internal.Cause.{IsReadFailure, IsReadCause, IsBrokenCause, IsSchemaCause, IsPoolsCause, IsPlanCause, IsTextCause, IsSamplingCause, IsFieldCause, IsObjectCause, IsDocumentCause, IsInputCause, IsSampleCause, IsWalkCause}
 use Rattle.plan.specs.Pools.Pools.{Pools}
 use Rattle.plan.specs.Pools.PoolsFault.{IsPoolsFault}
-use Rattle.plan.specs.Pools.PlanFault.{HasGoodPaths}
+use Rattle.plan.specs.Pools.PlanFault.{HasGoodPaths, IsPlanFault}
 use Rattle.plan.specs.declared.pool_limits.PoolLimits.{PoolLimits}
 use Rattle.plan.specs.Samples.Question.{Question}
 use Rattle.plan.specs.declared.fault.PFault.{PFault}
@@ -137,6 +137,15 @@ cause_of_pools_fault has unread read limits name d p.TooLarge at is = (d, at, λ
 cause_of_pools_fault has unread read limits name d p.NoMemory at is = tt
 cause_of_pools_fault has unread read limits name d p.BadLimit at is = absurd is
 cause_of_pools_fault has unread read limits name d (p.BadPath text) at is = absurd is
+
+-- of a limit that a plan can have
+pub cause_of_plan_fault : (N : Node) (P : Pools) (limit bits : ℕ) (fault : PFault) → 1 ≤ limit → limit < bits → IsPlanFault N P limit bits fault → IsPlanCause N P (cause_of_pools fault)
+cause_of_plan_fault N P limit bits (Form p) some below is = absurd is
+cause_of_plan_fault N P limit bits p.TooLarge some below is = absurd is
+cause_of_plan_fault N P limit bits p.NoMemory some below is = tt
+cause_of_plan_fault N P limit bits p.BadLimit some below (inl zero) = absurd (omega arith)
+cause_of_plan_fault N P limit bits p.BadLimit some below (inr above) = absurd (omega arith)
+cause_of_plan_fault N P limit bits (p.BadPath text) some below is = is.1
 
 among_some : (first second : Documents) (name : Option (Option (Bor (List ℕ)))) (r q : Option (Bor (List ℕ)) → Type 0) → ((n : Option (Bor (List ℕ))) → r n → q n) → IsSomeAnd name r → IsSomeAnd name q
 among_some first second None r q f is = is

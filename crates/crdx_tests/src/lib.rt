@@ -21,13 +21,14 @@
 //! | `enumerate_tests/lending_cases` | samples lent to a taker, page by page |
 //! | `enumerate_tests/page_cases` | pages, walks and enumerations, with their steps |
 //! | `enumerate_tests/reference_cases` | the plain reference, and walks, against lists made by hand |
-//! | `enumerate_tests/small_plan_cases` | 1,362 small plans, 402 of them with a list for a path, and their pages against the plain reference |
+//! | `enumerate_tests/small_plan_cases` | 2,124 small plans, 402 of them with a list for a path, 546 with fixed values and 216 with present paths, and their pages against the plain reference |
 //! | `enumerate_tests/wide_cases` | plans over words of 128 bits |
 //! | `program/argument_cases` | the arguments, mistakes in them, and help |
 //! | `program/check_cases`, `validate_cases`, `prune_cases`, `sample_cases` | what each command prints |
 //! | `program/why_cases` | the reasons that `check --why` prints |
 //! | `program/limit_cases` | `sample` with limits up to 127 |
 //! | `program/path_cases`, `bad_path_cases` | `sample` with values listed for the paths of fields, and paths that are refused |
+//! | `program/fixed_path_cases`, `present_path_cases` | `sample` with fixed values for paths, and with paths that are always there |
 //! | `program/presence_cases` | junctors that ask which fields an object has: judged, validated and listed |
 //! | `program/explain_cases`, `leaf_cases` | what `explain` and `leaves` print, and what they refuse |
 //! | `program/explanation_cases`, `large_cases` | what `--why` says below a refusal, and what `--large` lets through |

@@ -45,7 +45,7 @@ impl<'p, Z: SizeSet> Walk<'p, Z> {
     ) -> Result<Tree, AllocError>
         requires node { IsNodeOf self.now.plan.now node }
         requires list { sort_of (site self.now.plan.now node) ≡ sort.List }
-        requires no_null { size ≡ 1 → admits_null (site self.now.plan.now node) ≡ false }
+        requires no_null { size ≡ 1 → admits_null self.now.plan.now.pools (site self.now.plan.now node) ≡ false }
         requires size { HasSizeAt self.now.plan.now node size }
         requires limit { size ≤ self.now.plan.now.limit }
         ensures ok { IfOk result (λ v. IsLeast tree_cmp (IsPartOf self.now.plan.now node size) (data_of v)) }
@@ -201,7 +201,7 @@ impl<'p, Z: SizeSet> Walk<'p, Z> {
         scratch: &mut Scratch<'p>,
     ) -> Result<NextParts, AllocError>
         requires list { IsListNode self.now.plan.now list.now }
-        requires item { item_site (site self.now.plan.now list.now.node) ≡ Some (site self.now.plan.now list.now.child) }
+        requires item { item_site self.now.plan.now.pools (site self.now.plan.now list.now.node) ≡ Some (site self.now.plan.now list.now.child) }
         requires part { IsPart self.now.plan.now.pools (site self.now.plan.now list.now.node) (list_data (items_of items.old.items)) }
         requires limit { items_count (items_of items.old.items) < self.now.plan.now.limit }
         ensures ok { IfOk result (λ next. AreNextItems next self.now.plan.now list.now.node (items_of items.old.items) (items_of items.new.items)) }

@@ -13,17 +13,17 @@ use Rattle.schema.specs.Nodes.Junctors.{HasSoundJunctors}
 use Rattle.schema.specs.declared.node.ListType.{ListType}
 use Rattle.schema.specs.Nodes.View.{node_of, fields_of}
 use Rattle.schema.specs.declared.node.Field.{Field}
-use Rattle.plan.specs.Pools.Pools.{Pools}
+use Rattle.jtree.specs.Data.{Data}
+use Rattle.plan.specs.Pools.Pools.{Pools, fixed_at, is_present}
 use Rattle.explain.specs.Paths.FieldPath as step
-use Rattle.plan.specs.Samples.Sites.{Site, plain, below, item_site, item_keys, sites_from, sites_below, sites_of_fields, Slot, slots, slots_at, field_slots, value_slot}
+use Rattle.plan.specs.Samples.Sites.{Site, plain, below, where_fixed, fixed_item, item_site, item_keys, sites_from, sites_below, sites_of_fields, Slot, slots, slots_at, field_slots, value_slot}
 use Rattle.plan.specs.Samples.Candidates.{sort_at, sort_of, AreCandidates}
-use Rattle.plan.specs.Samples.Sizes.{HasSize, ending_at, ending_of, IsUpTo}
+use Rattle.plan.specs.Samples.Sizes.{HasSize, bounds_at, bounds_of, ending_at, ending_of, IsUpTo}
 use Rattle.plan.specs.Samples.Presence.{bit_of}
 use Rattle.plan.specs.Internal.Tables.{IsClosed, AreMet}
-use Rattle.plan.specs.Samples.RuleOfParts.{admits_null}
+use Rattle.plan.specs.Samples.RuleOfParts.{takes_null, admits_null}
 use Rattle.plan.specs.declared.sort.Sort.TheVariants.{Leaf as LeafSort, Row}
 use Rattle.schema.specs.declared.node.Bounds.{Bounds}
-use Rattle.stored.specs.Objects.Becomes.{is_nullable}
 use Rattle.plan.specs.Internal.Values.{AreValues, candidates_of}
 use Rattle.plan.specs.declared.leaf.Leaf.{Leaf}
 use Rattle.plan.specs.declared.arena.Content.TheVariants as content
@@ -72,31 +72,31 @@ sites_last sites start xs s h = h (length xs) s (omega (arith, length_push xs s)
 -- ---- fields
 
 -- the sites of a field
-abbrev field_sites : List ℕ → Field → List Site
-field_sites path x = sites_from (below path (step.field x.name)) (node_of x.node) []
+abbrev field_sites : Pools → List ℕ → Field → List Site
+field_sites P path x = sites_from P (fixed_at (below path (step.field x.name)) P) (below path (step.field x.name)) (node_of x.node) []
 
-sites_push : (path : List ℕ) (xs : List Field) (x : Field) → sites_of_fields path (fields_of (xs ++ x ∷ [])) ≡ sites_of_fields path (fields_of xs) ++ field_sites path x
-sites_push path [] x = append-nil (field_sites path x)
-sites_push path (y ∷ xs) x =
-    ap (λ l. field_sites path y ++ l) (sites_push path xs x) ∙ sym (append_assoc (field_sites path y) (sites_of_fields path (fields_of xs)) (field_sites path x))
+sites_push : (P : Pools) (path : List ℕ) (xs : List Field) (x : Field) → sites_of_fields P path (fields_of (xs ++ x ∷ [])) ≡ sites_of_fields P path (fields_of xs) ++ field_sites P path x
+sites_push P path [] x = append-nil (field_sites P path x)
+sites_push P path (y ∷ xs) x =
+    ap (λ l. field_sites P path y ++ l) (sites_push P path xs x) ∙ sym (append_assoc (field_sites P path y) (sites_of_fields P path (fields_of xs)) (field_sites P path x))
 
-abbrev slot_of : List ℕ → List (List ℕ) → List (List ℕ) → Field → Slot
-slot_of path keys named x =
-    record { name = x.name; site = plain (below path (step.field x.name)) (node_of x.node); must = x.required || is_some (option_map data_of x.default); key = is_among x.name keys; bit = bit_of x.name named }
+abbrev slot_of : Pools → List ℕ → List (List ℕ) → List (List ℕ) → Field → Slot
+slot_of P path keys named x =
+    record { name = x.name; site = plain P (below path (step.field x.name)) (node_of x.node); must = (x.required || is_some (option_map data_of x.default)) || is_present (below path (step.field x.name)) P; key = is_among x.name keys; bit = bit_of x.name named }
 
-slots_push : (path : List ℕ) (keys named : List (List ℕ)) (xs : List Field) (x : Field) → field_slots path keys named (fields_of (xs ++ x ∷ [])) ≡ field_slots path keys named (fields_of xs) ++ slot_of path keys named x ∷ []
-slots_push path keys named [] x = refl
-slots_push path keys named (y ∷ xs) x = ap (λ l. slot_of path keys named y ∷ l) (slots_push path keys named xs x)
+slots_push : (P : Pools) (path : List ℕ) (keys named : List (List ℕ)) (xs : List Field) (x : Field) → field_slots P path keys named (fields_of (xs ++ x ∷ [])) ≡ field_slots P path keys named (fields_of xs) ++ slot_of P path keys named x ∷ []
+slots_push P path keys named [] x = refl
+slots_push P path keys named (y ∷ xs) x = ap (λ l. slot_of P path keys named y ∷ l) (slots_push P path keys named xs x)
 
 sound_push : (xs : List Field) (x : Field) → AreFieldsSound (fields_of (xs ++ x ∷ [])) → AreFieldsSound (fields_of xs) × IsSound (node_of x.node)
 sound_push [] x h = (tt, h.0)
 sound_push (y ∷ xs) x h = let r = sound_push xs x h.1 in ((h.0, r.0), r.1)
 
 -- the site of the node itself is the last of its sites
-pub last_site : (sites : List Site) (start n : ℕ) (path : List ℕ) (N : Node) (keys : List (List ℕ)) → n + 1 ≡ start + length (sites_from path N keys) → AreSitesFrom sites start (sites_from path N keys) → site_at sites n ≡ record { node = N; keys = keys; path = path }
-last_site sites start n path (node nullable description sort) keys last placed =
-    let under = sites_below path sort in
-    let s : Site = record { node = node nullable description sort; keys = keys; path = path } in
+pub last_site : (P : Pools) (fixed : Option (List Data)) (sites : List Site) (start n : ℕ) (path : List ℕ) (N : Node) (keys : List (List ℕ)) → n + 1 ≡ start + length (sites_from P fixed path N keys) → AreSitesFrom sites start (sites_from P fixed path N keys) → site_at sites n ≡ record { node = N; keys = keys; path = path; fixed = fixed }
+last_site P fixed sites start n path (node nullable description sort) keys last placed =
+    let under = where_fixed fixed [] (sites_below P path sort) in
+    let s : Site = record { node = node nullable description sort; keys = keys; path = path; fixed = fixed } in
     let e : start + length under ≡ n = omega (arith, last, length_push under s) in
     rw e at (sites_last sites start under s placed)
 
@@ -111,12 +111,12 @@ map_push f [] x = refl
 map_push f (y ∷ xs) x = ap (λ l. f y ∷ l) (map_push f xs x)
 
 -- the slot of one name of the pools more
-pub value_slots_push : (names : List (List ℕ)) (sites : List Site) (i k : ℕ) (p : PlanNode) (path : List ℕ) (M : Node) (es : List SlotEntry) → k < length names → p < i → site_at sites p ≡ plain (below path step.value) M
-    → AreSlots names sites i es (map (value_slot path M) (take k names)) → AreSlots names sites i (es ++ record { name = Pool k; node = p; must = false; key = false; bit = None } ∷ []) (map (value_slot path M) (take (k + 1) names))
-value_slots_push names sites i k p path M es l within site h =
+pub value_slots_push : (P : Pools) (names : List (List ℕ)) (sites : List Site) (i k : ℕ) (p : PlanNode) (path : List ℕ) (M : Node) (es : List SlotEntry) → k < length names → p < i → site_at sites p ≡ plain P (below path step.value) M
+    → AreSlots names sites i es (map (value_slot P path M) (take k names)) → AreSlots names sites i (es ++ record { name = Pool k; node = p; must = false; key = false; bit = None } ∷ []) (map (value_slot P path M) (take (k + 1) names))
+value_slots_push P names sites i k p path M es l within site h =
     let x = get_or names k [] in
-    rw (take_more names k [] l, map_push (value_slot path M) (take k names) x)
-    (slots_are_push names sites i es (map (value_slot path M) (take k names)) _ (value_slot path M x) h (record { name = refl; below = within; node = site; must = refl; key = refl; bit = refl }))
+    rw (take_more names k [] l, map_push (value_slot P path M) (take k names) x)
+    (slots_are_push names sites i es (map (value_slot P path M) (take k names)) _ (value_slot P path M x) h (record { name = refl; below = within; node = site; must = refl; key = refl; bit = refl }))
 
 pub no_fields_built : {Z : Type 0} (holds : Z → ℕ → Type 0) (limit : ℕ) (P : Pools) (v : Values) (es : List (Entry Z)) (path : List ℕ) (keys named : List (List ℕ)) → AreBuilt holds limit P v es es path no_fields keys named []
 no_fields_built holds limit P v es path keys named = record {
@@ -128,18 +128,18 @@ no_fields_built holds limit P v es path keys named = record {
 }
 
 pub field_built : {Z : Type 0} (holds : Z → ℕ → Type 0) (limit : ℕ) (P : Pools) (v : Values) (old mid new : List (Entry Z)) (path : List ℕ) (xs : List Field) (x : Field) (keys named : List (List ℕ)) (slots : List SlotEntry) (s : SlotEntry)
-    → AreBuilt holds limit P v old mid path (fields_of xs) keys named slots → IsBuilt holds limit P v mid new (below path (step.field x.name)) (node_of x.node) [] s.node → IsFieldSlot keys named x.name x.required (option_map data_of x.default) s → IsClosed (2 ^ length named) s.bit
+    → AreBuilt holds limit P v old mid path (fields_of xs) keys named slots → IsBuilt holds limit P v mid new (fixed_at (below path (step.field x.name)) P) (below path (step.field x.name)) (node_of x.node) [] s.node → IsFieldSlot P path keys named x.name x.required (option_map data_of x.default) s → IsClosed (2 ^ length named) s.bit
     → AreBuilt holds limit P v old new path (fields_of (xs ++ x ∷ [])) keys named (slots ++ s ∷ [])
 field_built holds limit P v old mid new path xs x keys named slots s a b f closed =
-    let before = sites_of_fields path (fields_of xs) in
-    let here = field_sites path x in
+    let before = sites_of_fields P path (fields_of xs) in
+    let here = field_sites P path x in
     let start : length old + length before ≡ length mid = sym a.count in
-    let first : (sites : List Site) → AreSitesFrom sites (length old) (sites_of_fields path (fields_of (xs ++ x ∷ []))) → AreSitesFrom sites (length old) before × AreSitesFrom sites (length mid) here = λ sites placed.
-    let both : AreSitesFrom sites (length old) (before ++ here) = rw (sites_push path xs x) at placed in
+    let first : (sites : List Site) → AreSitesFrom sites (length old) (sites_of_fields P path (fields_of (xs ++ x ∷ []))) → AreSitesFrom sites (length old) before × AreSitesFrom sites (length mid) here = λ sites placed.
+    let both : AreSitesFrom sites (length old) (before ++ here) = rw (sites_push P path xs x) at placed in
     (sites_left sites (length old) before here both, rw start at (sites_right sites (length old) before here both))
     in
     record {
-      count = rw (sites_push path xs x) (omega (arith, a.count, b.count, length-append before here));
+      count = rw (sites_push P path xs x) (omega (arith, a.count, b.count, length-append before here));
       below = each_push (λ k (e : SlotEntry). e.node < length new) slots s (λ k d l. let h = a.below k d l in omega (arith, b.count)) (omega (arith, b.last));
       bits = each_push (λ k (e : SlotEntry). IsClosed (2 ^ length named) e.bit) slots s a.bits closed;
       right = λ sites values sound placed right.
@@ -148,20 +148,20 @@ field_built holds limit P v old mid new path xs x keys named slots s a b f close
           b.right sites values parts.1 split.1 (a.right sites values parts.0 split.0 right);
       slots_are = λ names sites i placed within.
           let split = first sites placed in
-          let site = last_site sites (length mid) s.node (below path (step.field x.name)) (node_of x.node) [] (omega (arith, b.last, b.count)) split.1 in
-          rw (slots_push path keys named xs x)
-          (slots_are_push names sites i slots (field_slots path keys named (fields_of xs)) s _ (a.slots_are names sites i split.0 (omega (arith, b.count))) (record { name = f.name_is names; below = omega (arith, b.last); node = site; must = f.must; key = f.key; bit = f.bit }));
+          let site = last_site P (fixed_at (below path (step.field x.name)) P) sites (length mid) s.node (below path (step.field x.name)) (node_of x.node) [] (omega (arith, b.last, b.count)) split.1 in
+          rw (slots_push P path keys named xs x)
+          (slots_are_push names sites i slots (field_slots P path keys named (fields_of xs)) s _ (a.slots_are names sites i split.0 (omega (arith, b.count))) (record { name = f.name_is names; below = omega (arith, b.last); node = site; must = f.must; key = f.key; bit = f.bit }));
     }
 
 -- a node whose sites below are there
-pub node_built : {Z : Type 0} (holds : Z → ℕ → Type 0) (limit : ℕ) (P : Pools) (v : Values) (old new : List (Entry Z)) (path : List ℕ) (nullable : Bool) (description : Option (List ℕ)) (sort : Sort) (keys : List (List ℕ)) (n : ℕ)
-    → n ≡ length old + length (sites_below path sort) → length new ≡ n + 1
-    → ((sites : List Site) → AreValues P v → IsSound (node nullable description sort) → AreSitesFrom sites (length old) (sites_below path sort) → site_at sites n ≡ record { node = node nullable description sort; keys = keys; path = path }
+pub node_built : {Z : Type 0} (holds : Z → ℕ → Type 0) (limit : ℕ) (P : Pools) (v : Values) (old new : List (Entry Z)) (fixed : Option (List Data)) (path : List ℕ) (nullable : Bool) (description : Option (List ℕ)) (sort : Sort) (keys : List (List ℕ)) (n : ℕ)
+    → n ≡ length old + length (where_fixed fixed [] (sites_below P path sort)) → length new ≡ n + 1
+    → ((sites : List Site) → AreValues P v → IsSound (node nullable description sort) → AreSitesFrom sites (length old) (where_fixed fixed [] (sites_below P path sort)) → site_at sites n ≡ record { node = node nullable description sort; keys = keys; path = path; fixed = fixed }
     → AreRight holds limit P v sites old → AreRight holds limit P v sites new)
-    → IsBuilt holds limit P v old new path (node nullable description sort) keys n
-node_built holds limit P v old new path nullable description sort keys n number count right =
-    let s : Site = record { node = node nullable description sort; keys = keys; path = path } in
-    let under = sites_below path sort in
+    → IsBuilt holds limit P v old new fixed path (node nullable description sort) keys n
+node_built holds limit P v old new fixed path nullable description sort keys n number count right =
+    let s : Site = record { node = node nullable description sort; keys = keys; path = path; fixed = fixed } in
+    let under = where_fixed fixed [] (sites_below P path sort) in
     record {
       count = omega (arith, length_push under s);
       last = omega arith;
@@ -176,44 +176,48 @@ three_ok (Ok x) A B C D a b c d = d x a b c
 three_ok (Err e) A B C D a b c d = tt
 
 -- a row whose slots' nodes are there
-pub row_built : {Z : Type 0} (holds : Z → ℕ → Type 0) (limit : ℕ) (P : Pools) (v : Values) (old mid new : List (Entry Z)) (path : List ℕ) (nullable : Bool) (description : Option (List ℕ)) (sort : Sort) (keys : List (List ℕ)) (b : Bounds) (cs : Validations) (ends : List Bool) (es : List SlotEntry) (n : ℕ)
-    → IsNode (node nullable description sort) → sort_at (node nullable description sort) ≡ Row → ending_at (node nullable description sort) ≡ record { bounds = b; asked = cs } → (HasSoundJunctors (node nullable description sort) → AreMet cs ends)
-    → n ≡ length old + length (sites_below path sort) → length new ≡ n + 1
-    → ((sites : List Site) → AreValues P v → IsSortSound sort → AreSitesFrom sites (length old) (sites_below path sort) → AreRight holds limit P v sites old → AreRight holds limit P v sites mid)
-    → ((sites : List Site) → AreValues P v → HasSoundJunctors (node nullable description sort) → AreSitesFrom sites (length old) (sites_below path sort) → AreSlots v.names.items sites n es (slots_at P path (node nullable description sort) keys))
-    → ((Q : Pools) (sites : List Site) (asked : Validations) → AreRight holds limit Q v sites mid → IsNode (site_at sites n).node → sort_of (site_at sites n) ≡ Row → ending_of (site_at sites n) ≡ record { bounds = b; asked = asked } → AreMet asked ends
-    → admits_null (site_at sites n) ≡ nullable → AreSlots v.names.items sites n es (slots Q (site_at sites n)) → AreRight holds limit Q v sites new)
-    → IsBuilt holds limit P v old new path (node nullable description sort) keys n
-row_built holds limit P v old mid new path nullable description sort keys b cs ends es n o row ending met number count under are right =
-    node_built holds limit P v old new path nullable description sort keys n number count
+pub row_built : {Z : Type 0} (holds : Z → ℕ → Type 0) (limit : ℕ) (P : Pools) (v : Values) (old mid new : List (Entry Z)) (path : List ℕ) (nullable : Bool) (description : Option (List ℕ)) (sort : Sort) (keys : List (List ℕ)) (b : Bounds) (cs : Validations) (ends : List Bool) (es : List SlotEntry) (null_ok : Bool) (n : ℕ)
+    → takes_null P path (node nullable description sort) ≡ null_ok → IsNode (node nullable description sort) → sort_at (node nullable description sort) ≡ Row → ending_at P path (node nullable description sort) ≡ record { bounds = b; asked = cs } → (HasSoundJunctors (node nullable description sort) → AreMet cs ends)
+    → n ≡ length old + length (sites_below P path sort) → length new ≡ n + 1
+    → ((sites : List Site) → AreValues P v → IsSortSound sort → AreSitesFrom sites (length old) (sites_below P path sort) → AreRight holds limit P v sites old → AreRight holds limit P v sites mid)
+    → ((sites : List Site) → AreValues P v → HasSoundJunctors (node nullable description sort) → AreSitesFrom sites (length old) (sites_below P path sort) → AreSlots v.names.items sites n es (slots_at P path (node nullable description sort) keys))
+    → ((Q : Pools) (sites : List Site) (asked : Validations) → AreRight holds limit Q v sites mid → IsNode (site_at sites n).node → sort_of (site_at sites n) ≡ Row → ending_of Q (site_at sites n) ≡ record { bounds = b; asked = asked } → AreMet asked ends
+    → admits_null Q (site_at sites n) ≡ null_ok → AreSlots v.names.items sites n es (slots Q (site_at sites n)) → AreRight holds limit Q v sites new)
+    → IsBuilt holds limit P v old new None path (node nullable description sort) keys n
+row_built holds limit P v old mid new path nullable description sort keys b cs ends es null_ok n takes o row ending met number count under are right =
+    node_built holds limit P v old new None path nullable description sort keys n number count
     (λ sites values sound placed here before.
-    right P sites cs (under sites values sound.2 placed before) (rw here o) (rw here row) (rw here ending) (met sound.1) (rw here refl) (rw here (are sites values sound.1 placed)))
+    right P sites cs (under sites values sound.2 placed before) (rw here o) (rw here row) (rw here ending) (met sound.1) (rw here takes) (rw here (are sites values sound.1 placed)))
 
 -- a list whose item is there
-pub list_built : {Z : Type 0} (holds : Z → ℕ → Type 0) (limit : ℕ) (P : Pools) (v : Values) (old mid new : List (Entry Z)) (path : List ℕ) (nullable : Bool) (description : Option (List ℕ)) (M : Node) (type : ListType) (item_names : List (List ℕ)) (b : Bounds) (keys : List (List ℕ)) (item : PlanNode) (n : ℕ)
-    → IsNode M → IsBuilt holds limit P v old mid (below path step.item) M (item_keys type item_names) item → n ≡ length mid → length new ≡ n + 1
-    → ((Q : Pools) (sites : List Site) (d : Option (List ℕ)) → AreRight holds limit Q v sites mid → (site_at sites n).node ≡ node nullable d (list M type item_names b) → item_site (site_at sites n) ≡ Some (site_at sites item)
+pub list_built : {Z : Type 0} (holds : Z → ℕ → Type 0) (limit : ℕ) (P : Pools) (v : Values) (old mid new : List (Entry Z)) (path : List ℕ) (nullable : Bool) (description : Option (List ℕ)) (M : Node) (type : ListType) (item_names : List (List ℕ)) (b c : Bounds) (keys : List (List ℕ)) (item : PlanNode) (null_ok : Bool) (n : ℕ)
+    → takes_null P path (node nullable description (list M type item_names b)) ≡ null_ok → bounds_at P path (node nullable description (list M type item_names b)) ≡ c → IsNode M → IsBuilt holds limit P v old mid (fixed_item P type (below path step.item)) (below path step.item) M (item_keys type item_names) item → n ≡ length mid → length new ≡ n + 1
+    → ((Q : Pools) (sites : List Site) (m : Bool) (d : Option (List ℕ)) → AreRight holds limit Q v sites mid → (site_at sites n).node ≡ node m d (list M type item_names b) → admits_null Q (site_at sites n) ≡ null_ok → bounds_of Q (site_at sites n) ≡ c → item_site Q (site_at sites n) ≡ Some (site_at sites item)
     → IsNode (site_at sites n).node → HasSoundItems (site_at sites n).node → AreRight holds limit Q v sites new)
-    → IsBuilt holds limit P v old new path (node nullable description (list M type item_names b)) keys n
-list_built holds limit P v old mid new path nullable description M type item_names b keys item n o built number count right =
-    node_built holds limit P v old new path nullable description (list M type item_names b) keys n (number ∙ built.count) count
+    → IsBuilt holds limit P v old new None path (node nullable description (list M type item_names b)) keys n
+list_built holds limit P v old mid new path nullable description M type item_names b c keys item null_ok n takes bounds o built number count right =
+    node_built holds limit P v old new None path nullable description (list M type item_names b) keys n (number ∙ built.count) count
     (λ sites values sound placed here before.
-    let under = last_site sites (length old) item (below path step.item) M (item_keys type item_names) (omega (arith, built.last, built.count)) placed in
-    right P sites description (built.right sites values sound.2 placed before) (ap (λ s. Site.node s) here) (rw (here, under) refl) (rw here o) (rw here sound.0))
+    let under = last_site P (fixed_item P type (below path step.item)) sites (length old) item (below path step.item) M (item_keys type item_names) (omega (arith, built.last, built.count)) placed in
+    right P sites nullable description (built.right sites values sound.2 placed before) (ap (λ s. Site.node s) here) (rw here takes) (rw here bounds) (rw (here, under) refl) (rw here o) (rw here sound.0))
 
-leaf_below : (path : List ℕ) (nullable : Bool) (description : Option (List ℕ)) (sort : Sort) → sort_at (node nullable description sort) ≡ LeafSort → length (sites_below path sort) ≡ 0
-leaf_below path n t (scalar kind cs) leaf = refl
-leaf_below path n t (object fs preserves type b cs) leaf = absurd (cc)
-leaf_below path n t (nodes.map M type b) leaf = absurd (cc)
-leaf_below path n t (list M type keys b) leaf = absurd (cc)
-leaf_below path n t open_ leaf = refl
+-- no site is below a leaf
+leaf_below : (P : Pools) (fixed : Option (List Data)) (path : List ℕ) (nullable : Bool) (description : Option (List ℕ)) (sort : Sort) → where_fixed fixed LeafSort (sort_at (node nullable description sort)) ≡ LeafSort
+    → length (where_fixed fixed [] (sites_below P path sort)) ≡ 0
+leaf_below P (Some ds) path n t sort leaf = refl
+leaf_below P None path n t (scalar kind cs) leaf = refl
+leaf_below P None path n t (object fs preserves type b cs) leaf = absurd (cc)
+leaf_below P None path n t (nodes.map M type b) leaf = absurd (cc)
+leaf_below P None path n t (list M type keys b) leaf = absurd (cc)
+leaf_below P None path n t open_ leaf = refl
 
 -- a leaf
-pub leaf_built : {Z : Type 0} (holds : Z → ℕ → Type 0) (limit : ℕ) (P : Pools) (v : Values) (old new : List (Entry Z)) (path : List ℕ) (N : Node) (keys : List (List ℕ)) (l : Leaf) (sizes : Z) (n : ℕ) → sort_at N ≡ LeafSort
-    → new ≡ old ++ record { sizes = sizes; nullable = is_nullable N; content = content.Leaf l } ∷ [] → n ≡ length old → length new ≡ n + 1
-    → (AreValues P v → AreCandidates P (record { node = N; keys = keys; path = path }) (candidates_of v l)) → (AreValues P v → IsUpTo limit (holds sizes) (HasSize P (record { node = N; keys = keys; path = path }))) → IsBuilt holds limit P v old new path N keys n
-leaf_built holds limit P v old new path (node nullable description sort) keys l sizes n leaf is number count candidates sized =
-    let none : length (sites_below path sort) ≡ 0 = leaf_below path nullable description sort leaf in
-    node_built holds limit P v old new path nullable description sort keys n (omega arith) count
+pub leaf_built : {Z : Type 0} (holds : Z → ℕ → Type 0) (limit : ℕ) (P : Pools) (v : Values) (old new : List (Entry Z)) (fixed : Option (List Data)) (path : List ℕ) (N : Node) (keys : List (List ℕ)) (l : Leaf) (sizes : Z) (null_ok : Bool) (n : ℕ)
+    → takes_null P path N ≡ null_ok → where_fixed fixed LeafSort (sort_at N) ≡ LeafSort → new ≡ old ++ record { sizes = sizes; nullable = null_ok; content = content.Leaf l } ∷ [] → n ≡ length old → length new ≡ n + 1
+    → (AreValues P v → AreCandidates P (record { node = N; keys = keys; path = path; fixed = fixed }) (candidates_of v l)) → (AreValues P v → IsUpTo limit (holds sizes) (HasSize P (record { node = N; keys = keys; path = path; fixed = fixed })))
+    → IsBuilt holds limit P v old new fixed path N keys n
+leaf_built holds limit P v old new fixed path (node nullable description sort) keys l sizes null_ok n takes leaf is number count candidates sized =
+    let none = leaf_below P fixed path nullable description sort leaf in
+    node_built holds limit P v old new fixed path nullable description sort keys n (omega (arith, none)) count
     (λ sites values sound placed here right.
-    right_push holds limit P v sites old new _ n right is number (record { sizes = rw here (sized values); nullable = rw here refl; content = record { sort = rw here leaf; candidates = rw here (candidates values) } }))
+    right_push holds limit P v sites old new _ n right is number (record { sizes = rw here (sized values); nullable = rw here (sym takes); content = record { sort = rw here leaf; candidates = rw here (candidates values) } }))

@@ -9,12 +9,12 @@ use Rattle.schema.specs.Nodes.Items.{IsPlainScalar, HasKeys, HasSoundItems}
 use Rattle.schema.specs.declared.node.Bounds.{Bounds}
 use Rattle.schema.specs.declared.node.ListType.TheVariants.{Atomic, Set, Map}
 use Rattle.stored.specs.Objects.Fault as fault
-use Rattle.plan.specs.Pools.Pools.{Pools}
+use Rattle.plan.specs.Pools.Pools.{Pools, is_present}
 use Rattle.explain.specs.Paths.FieldPath as step
-use Rattle.plan.specs.Samples.Sites.{Site, below, item_site, item_site_at, item_keys, slots}
+use Rattle.plan.specs.Samples.Sites.{Site, below, item_site, item_site_at, item_keys, fixed_item, slots}
 use Rattle.plan.specs.Samples.Candidates.{sort_at, sort_of, distinct_of, HasCount}
 use Rattle.plan.specs.Samples.Presence.{named}
-use Rattle.plan.specs.Samples.Sizes.{HasMore, bounds_of, IsUpTo}
+use Rattle.plan.specs.Samples.Sizes.{HasMore, raised, bounds_of, IsUpTo}
 use Rattle.plan.specs.Sets.{IsSum}
 use Rattle.std.specs.declared.vec.Vec.{Vec}
 use Rattle.std.specs.declared.alloc.Global.{Global}
@@ -35,13 +35,14 @@ use Rattle.plan.proofs.ListLemmas.{count_nodes}
 use Rattle.plan.proofs.SiteLemmas.{whole_up_to, list_sizes}
 use Rattle.plan.proofs.MoreLemmas.{more_parts}
 use Rattle.plan.proofs.KeyedLemmas.{more_free, more_apart}
+use Rattle.plan.proofs.FixedLemmas.{leaf_any, item_unfixed}
 use Rattle.plan.proofs.SetLemmas.{plain_leaf, set_keyed}
 use Rattle.plan.proofs.MapListLemmas.{map_keyed, key_slot}
 
 -- the keys of the items of a map list are leaves of a row
-pub keys_leaves : (P : Pools) (path : List ℕ) (M : Node) (keys : List (List ℕ)) → IsNode M → HasKeys M keys → AreKeysLeaves (slots P (record { node = M; keys = keys; path = path }))
+pub keys_leaves : (P : Pools) (path : List ℕ) (M : Node) (keys : List (List ℕ)) → IsNode M → HasKeys M keys → AreKeysLeaves (slots P (record { node = M; keys = keys; path = path; fixed = None }))
 keys_leaves P path (node n t (object fs preserves type b cs)) keys o h = λ s a key.
-    plain_leaf s.site.node (key_slot fs path keys (named cs) o h.2 s a key).2
+    leaf_any s.site.fixed _ (plain_leaf s.site.node (key_slot P fs path keys (named cs) o h.2 s a key).2)
 keys_leaves P path M keys o h = absurd h
 
 pub keys_row : (M : Node) (keys : List (List ℕ)) → HasKeys M keys → sort_at M ≡ Row
@@ -65,45 +66,47 @@ same_cut P limit M b p q t m less h =
 -- ---- by the list type
 
 abbrev Cuts : Pools → ℕ → Site → Site → Bounds → Type 0
-Cuts P limit s M b = (t m : ℕ) → HasMoreApart P limit M (alike_at s) (bounds_of s) t m ↔ HasMoreFree P limit M b t m
+Cuts P limit s M b = (t m : ℕ) → HasMoreApart P limit M (alike_at s) (bounds_of P s) t m ↔ HasMoreFree P limit M b t m
 
-cut_by : PartLaws → (P : Pools) (limit : ℕ) (s M : Site) (b : Bounds) → item_site s ≡ Some M → Cuts P limit s M b → IsCutTo P limit s M b
+cut_by : PartLaws → (P : Pools) (limit : ℕ) (s M : Site) (b : Bounds) → item_site P s ≡ Some M → Cuts P limit s M b → IsCutTo P limit s M b
 cut_by laws P limit s M b is cuts t m = let x = more_parts laws P s M is limit t m in ((λ h. (cuts t m).0 (x.0 h)), λ h. x.1 ((cuts t m).1 h))
 
-pub free_cut : PartLaws → (P : Pools) (limit : ℕ) (s M : Site) (n : Bool) (d : Option (List ℕ)) (K : Node) (keys : List (List ℕ)) (b : Bounds) → s.node ≡ node n d (list K Atomic keys b) → item_site s ≡ Some M → IsCutTo P limit s M b
-free_cut laws P limit s M n d K keys b is item = cut_by laws P limit s M b item (rw is (λ t m. more_free P limit M (alike_by (node n d (list K Atomic keys b))) b t m (λ v w. refl)))
+pub free_cut : PartLaws → (P : Pools) (limit : ℕ) (s M : Site) (n : Bool) (d : Option (List ℕ)) (K : Node) (keys : List (List ℕ)) (b : Bounds) → s.node ≡ node n d (list K Atomic keys b) → item_site P s ≡ Some M → IsCutTo P limit s M (bounds_of P s)
+free_cut laws P limit s M n d K keys b is item = cut_by laws P limit s M (bounds_of P s) item (rw (is, (item_unfixed P s M item).0) (λ t m. more_free P limit M (alike_by (node n d (list K Atomic keys b))) (raised (is_present (below s.path step.item) P) b) t m (λ v w. refl)))
 
-pub item_is : (s M : Site) (n : Bool) (d : Option (List ℕ)) (K : Node) (type : ListType) (keys : List (List ℕ)) (b : Bounds) → s.node ≡ node n d (list K type keys b) → item_site s ≡ Some M → record { node = K; keys = item_keys type keys; path = below s.path step.item } ≡ M
-item_is s M n d K type keys b is item = same_Some _ M (sym (ap (item_site_at s.path) is) ∙ item)
+pub item_is : (P : Pools) (s M : Site) (n : Bool) (d : Option (List ℕ)) (K : Node) (type : ListType) (keys : List (List ℕ)) (b : Bounds) → s.node ≡ node n d (list K type keys b) → item_site P s ≡ Some M → record { node = K; keys = item_keys type keys; path = below s.path step.item; fixed = fixed_item P type (below s.path step.item) } ≡ M
+item_is P s M n d K type keys b is item = same_Some _ M (sym (ap (item_site_at P s.path) is) ∙ (item_unfixed P s M item).1)
 
-pub set_cut : StoredLaw → PartLaws → (P : Pools) (limit : ℕ) (s M : Site) (n : Bool) (d : Option (List ℕ)) (K : Node) (keys : List (List ℕ)) (b : Bounds) (count : ℕ) → s.node ≡ node n d (list K Set keys b) → item_site s ≡ Some M
-    → IsPlainScalar M.node → HasCount P M count → IsCutTo P limit s M (cut count b)
+pub set_cut : StoredLaw → PartLaws → (P : Pools) (limit : ℕ) (s M : Site) (n : Bool) (d : Option (List ℕ)) (K : Node) (keys : List (List ℕ)) (b : Bounds) (count : ℕ) → s.node ≡ node n d (list K Set keys b) → item_site P s ≡ Some M
+    → IsPlainScalar M.node → HasCount P M count → IsCutTo P limit s M (cut count (bounds_of P s))
 set_cut stored laws P limit s M n d K keys b count is item plain has =
     let k = set_keyed stored P M count plain has in
-    cut_by laws P limit s M (cut count b) item (rw (is, ← k.1) (λ t m. more_apart k.0 limit b t m))
+    cut_by laws P limit s M (cut count (bounds_of P s)) item (rw (is, (item_unfixed P s M item).0, ← k.1) (λ t m. more_apart k.0 limit (raised (is_present (below s.path step.item) P) b) t m))
 
-pub map_cut : StoredLaw → PartLaws → (P : Pools) (limit : ℕ) (s M : Site) (n : Bool) (d : Option (List ℕ)) (K : Node) (keys : List (List ℕ)) (b : Bounds) (count : ℕ) → limit < 2 ^ 64 - 1 → s.node ≡ node n d (list K Map keys b) → item_site s ≡ Some M
-    → IsNode M.node → HasKeys M.node M.keys → HasTuples P (slots P M) count → IsCutTo P limit s M (cut count b)
+pub map_cut : StoredLaw → PartLaws → (P : Pools) (limit : ℕ) (s M : Site) (n : Bool) (d : Option (List ℕ)) (K : Node) (keys : List (List ℕ)) (b : Bounds) (count : ℕ) → limit < 2 ^ 64 - 1 → s.node ≡ node n d (list K Map keys b) → item_site P s ≡ Some M
+    → IsNode M.node → HasKeys M.node M.keys → HasTuples P (slots P M) count → IsCutTo P limit s M (cut count (bounds_of P s))
 map_cut stored laws P limit s M n d K keys b count room is item o h has =
-    let same : keys ≡ M.keys = ap (λ x. Site.keys x) (item_is s M n d K Map keys b is item) in
-    let k = map_keyed stored laws P M.path M.node M.keys has.0 o h has.1.0 in
+    let same : keys ≡ M.keys = ap (λ x. Site.keys x) (item_is P s M n d K Map keys b is item) in
+    let free : M.fixed ≡ None = ap (λ x. Site.fixed x) (sym (item_is P s M n d K Map keys b is item)) in
+    let k = map_keyed stored laws P M.fixed M.path M.node M.keys has.0 free o h has.1.0 in
     let tuples = length k.0.keys in
     let capped : count ≡ min tuples (2 ^ 64 - 1) = has.1.1 ∙ ap (λ x. min x (2 ^ 64 - 1)) (sym k.1) in
-    cut_by laws P limit s M (cut count b) item (rw (is, same) (λ t m.
-    let x = more_apart k.0 limit b t m in
-    ((λ a. same_cut P limit M b tuples count t m (λ i l below. omega arith) (x.0 a)), λ f. x.1 (same_cut P limit M b count tuples t m (λ i l below. omega arith) f))))
+    let c = raised (is_present (below s.path step.item) P) b in
+    cut_by laws P limit s M (cut count (bounds_of P s)) item (rw (is, (item_unfixed P s M item).0, same) (λ t m.
+    let x = more_apart k.0 limit c t m in
+    ((λ a. same_cut P limit M c tuples count t m (λ i l below. omega arith) (x.0 a)), λ f. x.1 (same_cut P limit M c count tuples t m (λ i l below. omega arith) f))))
 
 -- what the schema guarantees of the items
-pub set_items : (s M : Site) (n : Bool) (d : Option (List ℕ)) (K : Node) (keys : List (List ℕ)) (b : Bounds) → s.node ≡ node n d (list K Set keys b) → item_site s ≡ Some M → HasSoundItems s.node → IsPlainScalar M.node
-set_items s M n d K keys b is item sound = subst IsPlainScalar (ap (λ x. Site.node x) (item_is s M n d K Set keys b is item)) (subst HasSoundItems is sound)
+pub set_items : (P : Pools) (s M : Site) (n : Bool) (d : Option (List ℕ)) (K : Node) (keys : List (List ℕ)) (b : Bounds) → s.node ≡ node n d (list K Set keys b) → item_site P s ≡ Some M → HasSoundItems s.node → IsPlainScalar M.node
+set_items P s M n d K keys b is item sound = subst IsPlainScalar (ap (λ x. Site.node x) (item_is P s M n d K Set keys b is item)) (subst HasSoundItems is sound)
 
-pub map_items : (s M : Site) (n : Bool) (d : Option (List ℕ)) (K : Node) (keys : List (List ℕ)) (b : Bounds) → s.node ≡ node n d (list K Map keys b) → item_site s ≡ Some M → IsNode s.node → HasSoundItems s.node
-    → IsNode M.node × HasKeys M.node M.keys × (sort_of M ≡ Row) × ((P : Pools) → AreKeysLeaves (slots P M))
-map_items s M n d K keys b is item o sound =
-    let e = item_is s M n d K Map keys b is item in
+pub map_items : (P : Pools) (s M : Site) (n : Bool) (d : Option (List ℕ)) (K : Node) (keys : List (List ℕ)) (b : Bounds) → s.node ≡ node n d (list K Map keys b) → item_site P s ≡ Some M → IsNode s.node → HasSoundItems s.node
+    → IsNode M.node × HasKeys M.node M.keys × (sort_of M ≡ Row) × ((Q : Pools) → AreKeysLeaves (slots Q M))
+map_items P s M n d K keys b is item o sound =
+    let e = item_is P s M n d K Map keys b is item in
     let here : IsNode K = subst IsNode is o in
     let has : HasKeys K keys = subst HasSoundItems is sound in
-    (subst (λ x. IsNode (Site.node x)) e here, subst (λ x. HasKeys (Site.node x) (Site.keys x)) e has, subst (λ x. sort_of x ≡ Row) e (keys_row K keys has), λ P. subst (λ x. AreKeysLeaves (slots P x)) e (keys_leaves P (below s.path step.item) K keys here has))
+    (subst (λ x. IsNode (Site.node x)) e here, subst (λ x. HasKeys (Site.node x) (Site.keys x)) e has, subst (λ x. sort_of x ≡ Row) e (keys_row K keys has), λ Q. subst (λ x. AreKeysLeaves (slots Q x)) e (keys_leaves Q (below s.path step.item) K keys here has))
 
 -- ---- the entry of a list
 
@@ -111,7 +114,7 @@ same_sizes : (limit : ℕ) (A Q R : ℕ → Type 0) → ((n : ℕ) → R n ↔ Q
 same_sizes limit A Q R same h n = ((λ a. let x = (h n).0 a in (x.0, (same n).1 x.1)), λ r. (h n).1 (r.0, (same n).0 r.1))
 
 pub list_right : {Z : Type 0} (holds : Z → ℕ → Type 0) (limit : ℕ) (P : Pools) (v : Values) (sites : List Site) (i : ℕ) (item : PlanNode) (distinct : Distinct) (more : Vec Z Global) (b : Bounds) (nullable : Bool) (z sizes : Z)
-    → PartLaws → 1 ≤ limit → item_site (site_at sites i) ≡ Some (site_at sites item) → item < i → distinct ≡ distinct_of (site_at sites i) → admits_null (site_at sites i) ≡ nullable
+    → PartLaws → 1 ≤ limit → item_site P (site_at sites i) ≡ Some (site_at sites item) → item < i → distinct ≡ distinct_of (site_at sites i) → admits_null P (site_at sites i) ≡ nullable
     → IsCutTo P limit (site_at sites i) (site_at sites item) b → length more.items ≡ limit → AreMore holds limit P (site_at sites item) b more.items → z ≡ get_or more.items 0 z
     → ((n : ℕ) → holds sizes n ↔ (((nullable ≡ true) × (n ≡ 1)) ⊎ ((n ≤ limit) × IsSum (λ k. k ≡ 1) (holds z) n)))
     → IsRight holds limit P v sites i (record { sizes = sizes; nullable = nullable; content = content.List (record { item = item; distinct = distinct; more = more }) })

@@ -15,7 +15,7 @@ use Rattle.stored.specs.Objects.Fault.{are_alike}
 use Rattle.stored.specs.Objects.StoredByParts.{are_apart}
 use Rattle.plan.specs.Pools.Pools.{Pools}
 use Rattle.explain.specs.Paths.FieldPath as step
-use Rattle.plan.specs.Samples.Sites.{Site, below, item_site, item_site_at, item_keys, Slot, slots}
+use Rattle.plan.specs.Samples.Sites.{Site, below, item_site, item_site_at, item_keys, fixed_item, where_fixed, Slot, slots}
 use Rattle.plan.specs.Samples.Candidates.{sort_at, sort_of, AreCandidates}
 use Rattle.plan.specs.Samples.Sizes.{AreFillings, Before, nothing, filled, state_after, ending_of, MayEnd, HasRest, HasMore, items_from, bounds_of}
 use Rattle.plan.specs.Samples.RuleOfParts.{AreParts, alike_by, alike_at, IsListPart, RuleOfParts}
@@ -31,6 +31,7 @@ use Rattle.plan.proofs.MapListLemmas.{map_keyed}
 use Rattle.plan.proofs.MoreLemmas.{more_parts}
 use Rattle.plan.specs.Internal.Laws.{StoredLaw}
 use Rattle.plan.proofs.RowLemmas.{fill_none, drop_all}
+use Rattle.plan.proofs.FixedLemmas.{leaf_any}
 use Rattle.plan.proofs.SetLemmas.{plain_leaf, set_keyed}
 use Rattle.plan.proofs.TupleLemmas.{free_tuples}
 
@@ -43,15 +44,15 @@ or_so {A = A} {B = B} {C = C} r s = (
 )
 
 -- where a row may end after its last slot
-row_ends : (P : Pools) (s : Site) (x : Before) → MayEnd (ending_of s) x ↔ HasRest P s (length (slots P s)) x 0
-row_ends P s x = let r = fill_none P (ending_of s) x 0 in rw (drop_all (slots P s)) ((λ w. r.1 (refl, w)), λ h. (r.0 h).1)
+row_ends : (P : Pools) (s : Site) (x : Before) → MayEnd (ending_of P s) x ↔ HasRest P s (length (slots P s)) x 0
+row_ends P s x = let r = fill_none P (ending_of P s) x 0 in rw (drop_all (slots P s)) ((λ w. r.1 (refl, w)), λ h. (r.0 h).1)
 
 no_nodes : (ds : Items) → fault.items_count ds ≡ 0 → items_count ds ≡ 0
 no_nodes no_items e = refl
 no_nodes (item d ds) e = absurd (omega arith)
 
 -- a list may end where it has as many items as it may
-list_ends : PartLaws → (P : Pools) (s M : Site) → item_site s ≡ Some M → (limit : ℕ) (v : Data) → node_count v ≤ limit → IsItemsPart P s M v ↔ IsListPart P limit s M v
+list_ends : PartLaws → (P : Pools) (s M : Site) → item_site P s ≡ Some M → (limit : ℕ) (v : Data) → node_count v ≤ limit → IsItemsPart P s M v ↔ IsListPart P limit s M v
 list_ends laws P s M is limit v l =
     let r = λ (ds : Items). more_parts laws P s M is limit (fault.items_count ds) 0 in (
       (λ q.
@@ -76,9 +77,10 @@ abbrev pub HasCandidates : Pools → Site → Type 0
 HasCandidates P s = sort_of s ≡ Leaf → (vs : List Data) × AreCandidates P s vs
 
 -- a list has items of one site
-list_item : (path : List ℕ) (N : Node) → sort_at N ≡ ListSort → (M : Site) × (item_site_at path N ≡ Some M)
-list_item path (node n t (list N type keys b)) e = (_, refl)
-list_item path N e = cc
+list_item : (P : Pools) (fixed : Option (List Data)) (path : List ℕ) (N : Node) → where_fixed fixed Leaf (sort_at N) ≡ ListSort → (M : Site) × (where_fixed fixed None (item_site_at P path N) ≡ Some M)
+list_item P None path (node n t (list N type keys b)) e = (_, refl)
+list_item P None path N e = cc
+list_item P (Some ds) path N e = cc
 
 pub rule_of_parts : PartLaws → (P : Pools) (limit : ℕ) (s : Site) → IsNode s.node → HasCandidates P s → RuleOfParts P limit s
 rule_of_parts laws P limit s o h = record {
@@ -87,7 +89,7 @@ rule_of_parts laws P limit s o h = record {
     (λ q. record { fillings = q.fillings; is = q.is; are = q.are; ends = (row_ends P s (state_after (slots P s) q.fillings nothing)).0 q.ends }),
     λ q. record { fillings = q.fillings; is = q.is; are = q.are; ends = (row_ends P s (state_after (slots P s) q.fillings nothing)).1 q.ends },
   );
-  items = list_item s.path s.node;
+  items = list_item P s.fixed s.path s.node;
   list = λ M v is l. or_so (laws.list P s M v is) (list_ends laws P s M is limit v l);
 }
 
@@ -115,7 +117,7 @@ row_completes laws P s o is front place m h r =
     record {
       back = r.fillings;
       are = r.are;
-      part = (laws.row P s _ o is).1 (inr (record { fillings = front ++ r.fillings; is = refl; are = are; ends = subst (MayEnd (ending_of s)) (sym state) r.ends }));
+      part = (laws.row P s _ o is).1 (inr (record { fillings = front ++ r.fillings; is = refl; are = are; ends = subst (MayEnd (ending_of P s)) (sym state) r.ends }));
       nodes_are = r.nodes_are;
     }
 
@@ -133,29 +135,30 @@ pub record HaveCandidates (P : Pools) (s : Site) : Type 0 where
   pub own : HasCandidates P s
   pub below : sort_of s ≡ Row → (t : Slot) → Among (slots P s) t → HasCandidates P t.site
 
-key_counts : (P : Pools) (path : List ℕ) (N : Node) (keys : List (List ℕ)) → IsNode N → HasKeys N keys → HaveCandidates P (record { node = N; keys = keys; path = path }) → (ns : List ℕ) × AreCounts P (filter is_key (slots P (record { node = N; keys = keys; path = path }))) ns
+key_counts : (P : Pools) (path : List ℕ) (N : Node) (keys : List (List ℕ)) → IsNode N → HasKeys N keys → HaveCandidates P (record { node = N; keys = keys; path = path; fixed = None }) → (ns : List ℕ) × AreCounts P (filter is_key (slots P (record { node = N; keys = keys; path = path; fixed = None }))) ns
 key_counts P path N keys o h c =
-    let ss = slots P (record { node = N; keys = keys; path = path }) in
+    let ss = slots P (record { node = N; keys = keys; path = path; fixed = None }) in
     counts P (filter is_key ss) (λ s a. let f = among_filter is_key ss s a in c.below (keys_row N keys h) s f.0 (keys_leaves P path N keys o h s f.0 f.1))
 
 -- no two items are alike, or each has a key
-apart_or_keyed : StoredLaw → PartLaws → (P : Pools) (path : List ℕ) (type : ListType) (keys : List (List ℕ)) (N : Node) → IsNode N → AreDistinct type keys N → HaveCandidates P (record { node = N; keys = item_keys type keys; path = path })
-    → ((v w : Data) → are_alike type keys v w ≡ false) ⊎ Keyed P (record { node = N; keys = item_keys type keys; path = path }) (are_alike type keys)
+apart_or_keyed : StoredLaw → PartLaws → (P : Pools) (path : List ℕ) (type : ListType) (keys : List (List ℕ)) (N : Node) → IsNode N → AreDistinct type keys N → HaveCandidates P (record { node = N; keys = item_keys type keys; path = path; fixed = fixed_item P type path })
+    → ((v w : Data) → are_alike type keys v w ≡ false) ⊎ Keyed P (record { node = N; keys = item_keys type keys; path = path; fixed = fixed_item P type path }) (are_alike type keys)
 apart_or_keyed stored laws P path Atomic keys N o h c = inl (λ v w. refl)
-apart_or_keyed stored laws P path Set keys N o h c = let vs = c.own (plain_leaf N h) in inr (set_keyed stored P _ (length vs.0) h (record { candidates = vs.0; are = vs.1; count_is = refl })).0
-apart_or_keyed stored laws P path Map keys N o h c = let ns = key_counts P path N keys o h c in inr (map_keyed stored laws P path N keys ns.0 o h ns.1).0
+apart_or_keyed stored laws P path Set keys N o h c = let vs = c.own (leaf_any (fixed_item P Set path) _ (plain_leaf N h)) in inr (set_keyed stored P _ (length vs.0) h (record { candidates = vs.0; are = vs.1; count_is = refl })).0
+apart_or_keyed stored laws P path Map keys N o h c = let ns = key_counts P path N keys o h c in inr (map_keyed stored laws P None path N keys ns.0 refl o h ns.1).0
 
-items_apart_or_keyed : StoredLaw → PartLaws → (P : Pools) (path : List ℕ) (N : Node) (keys : List (List ℕ)) (M : Site) → item_site (record { node = N; keys = keys; path = path }) ≡ Some M → IsNode N → HasSoundItems N → HaveCandidates P M
-    → ((v w : Data) → alike_by N v w ≡ false) ⊎ Keyed P M (alike_by N)
-items_apart_or_keyed stored laws P path (node n t (list K type ks b)) keys M is o h c = subst (λ (s : Site). HaveCandidates P s → ((v w : Data) → are_alike type ks v w ≡ false) ⊎ Keyed P s (are_alike type ks)) (same_Some _ M is) (apart_or_keyed stored laws P (below path step.item) type ks K o h) c
-items_apart_or_keyed stored laws P path N keys M is o h c = absurd (cc)
+items_apart_or_keyed : StoredLaw → PartLaws → (P : Pools) (fixed : Option (List Data)) (path : List ℕ) (N : Node) (keys : List (List ℕ)) (M : Site) → item_site P (record { node = N; keys = keys; path = path; fixed = fixed }) ≡ Some M → IsNode N → HasSoundItems N → HaveCandidates P M
+    → ((v w : Data) → where_fixed fixed (λ v w. false) (alike_by N) v w ≡ false) ⊎ Keyed P M (where_fixed fixed (λ v w. false) (alike_by N))
+items_apart_or_keyed stored laws P None path (node n t (list K type ks b)) keys M is o h c = subst (λ (s : Site). HaveCandidates P s → ((v w : Data) → are_alike type ks v w ≡ false) ⊎ Keyed P s (are_alike type ks)) (same_Some _ M is) (apart_or_keyed stored laws P (below path step.item) type ks K o h) c
+items_apart_or_keyed stored laws P None path N keys M is o h c = absurd (cc)
+items_apart_or_keyed stored laws P (Some ds) path N keys M is o h c = absurd (cc)
 
-list_completes : StoredLaw → PartLaws → (P : Pools) (limit : ℕ) (s M : Site) → item_site s ≡ Some M → IsNode s.node → HasSoundItems s.node → HaveCandidates P M → (front : Items) (m : ℕ) → AreParts P M front → are_apart (alike_at s) front ≡ true
+list_completes : StoredLaw → PartLaws → (P : Pools) (limit : ℕ) (s M : Site) → item_site P s ≡ Some M → IsNode s.node → HasSoundItems s.node → HaveCandidates P M → (front : Items) (m : ℕ) → AreParts P M front → are_apart (alike_at s) front ≡ true
     → HasMore P limit s (fault.items_count front) m → ListCompletes P s front m
 list_completes stored laws P limit s M is o h c front m are apart more =
-    let b = bounds_of s in
+    let b = bounds_of P s in
     let a = (more_parts laws P s M is limit (fault.items_count front) m).0 more in
-    let r : CompletesApart P M (alike_at s) b front m = elim (items_apart_or_keyed stored laws P s.path s.node s.keys M is o h c) [
+    let r : CompletesApart P M (alike_at s) b front m = elim (items_apart_or_keyed stored laws P s.fixed s.path s.node s.keys M is o h c) [
       | inl never ↦ completes_free P limit M (alike_at s) b front m never a
       | inr K ↦ completes_apart K limit b front m are apart a
     ] in
@@ -165,7 +168,7 @@ list_completes stored laws P limit s M is o h c front m are apart more =
       nodes_are = r.1.3;
     }
 
-pub no_dead_end : StoredLaw → PartLaws → (P : Pools) (limit : ℕ) (s : Site) → IsNode s.node → HasSoundItems s.node → ((M : Site) → item_site s ≡ Some M → HaveCandidates P M) → NoDeadEnd P limit s
+pub no_dead_end : StoredLaw → PartLaws → (P : Pools) (limit : ℕ) (s : Site) → IsNode s.node → HasSoundItems s.node → ((M : Site) → item_site P s ≡ Some M → HaveCandidates P M) → NoDeadEnd P limit s
 no_dead_end stored laws P limit s o h c = record {
   rows = λ front place m is are within rest. row_completes laws P s o is front place m are rest;
   lists = λ M front m is are apart more. list_completes stored laws P limit s M is o h (c M is) front m are apart more;

@@ -83,7 +83,7 @@ first_set holds limit e P ss tables table level z count kinds h shaped some whol
 -- the entry of a row, from the choices of its slots
 pub row_right : {Z : Type 0} (holds : Z → ℕ → Type 0) (limit : ℕ) (P : Pools) (v : Values) (sites : List Site) (i : ℕ) (slots' : Vec SlotEntry Global) (later : Vec ℕ Global) (tables : Vec (Vec (Vec Z Global) Global) Global) (e : Ending) (ends : List Bool) (nullable : Bool)
     (table : Vec (Vec Z Global) Global) (level : Vec Z Global) (z sizes : Z)
-    → PartLaws → 1 ≤ limit → IsNode (site_at sites i).node → sort_of (site_at sites i) ≡ Row → ending_of (site_at sites i) ≡ e → AreMet e.asked ends → admits_null (site_at sites i) ≡ nullable
+    → PartLaws → 1 ≤ limit → IsNode (site_at sites i).node → sort_of (site_at sites i) ≡ Row → ending_of P (site_at sites i) ≡ e → AreMet e.asked ends → admits_null P (site_at sites i) ≡ nullable
     → AreSlots v.names.items sites i slots'.items (slots P (site_at sites i)) → All (λ (x : SlotEntry). IsClosed (length ends) x.bit) slots'.items → length later.items ≡ length slots'.items → AreLater P (slots P (site_at sites i)) later.items
     → length tables.items ≡ length slots'.items + 1 → AreShaped e.bounds (length slots'.items) (length ends) tables.items → AreTables holds limit e P (slots P (site_at sites i)) tables.items
     → table ≡ get_or tables.items (length slots'.items) table → level ≡ get_or table.items 0 level → z ≡ get_or level.items 0 z
@@ -93,9 +93,9 @@ row_right holds limit P v sites i slots' later tables e ends nullable table leve
     let s = site_at sites i in
     let here = rw (← ending) at tables_are in
     let shape = rw (met.whole, ← ending) at shaped in
-    let first = first_set holds limit (ending_of s) P (slots P s) tables.items table level z (length slots'.items) (2 ^ length (named (ending_of s).asked)) here shape (pow_pos (length (named (ending_of s).asked))) whole (slot_count v.names.items sites i slots'.items (slots P s) are) is is_level is_z in
+    let first = first_set holds limit (ending_of P s) P (slots P s) tables.items table level z (length slots'.items) (2 ^ length (named (ending_of P s).asked)) here shape (pow_pos (length (named (ending_of P s).asked))) whole (slot_count v.names.items sites i slots'.items (slots P s) are) is is_level is_z in
     record {
-      sizes = whole_up_to limit s P (CanFill P (slots P s) (ending_of s) nothing) (holds z) (holds sizes) room (λ n l. row_sizes laws P s o sort n) first (rw (← null) at sized);
+      sizes = whole_up_to limit s P (CanFill P (slots P s) (ending_of P s) nothing) (holds z) (holds sizes) room (λ n l. row_sizes laws P s o sort n) first (rw (← null) at sized);
       nullable = sym null;
       content = record { sort = sort; are = are; bits = λ k d l. (closed k d l).0; later_whole = later_whole; later = later_are; whole = whole; shaped = shape; tables = here };
     }

@@ -1,5 +1,5 @@
 -- The candidates of leaves: those of their bases that are stored.
-use Rattle.std.proofs.Common.{Result, Ok, Err, IfOk, ◌≡◌, ◌⊎◌, ◌↔◌, ◌≤◌, ◌<◌, ◌+◌, ℕ, List, [], ◌∷◌, ◌++◌, Bool, true, false, Option, ◌&&◌, ◌||◌, Contains, Decides, take, length, get_or, refl, ap, sym, ◌∙◌, subst, inl, inr}
+use Rattle.std.proofs.Common.{Result, Ok, Err, IfOk, ◌≡◌, ◌⊎◌, ◌↔◌, ◌≤◌, ◌<◌, ◌+◌, ℕ, List, [], ◌∷◌, ◌++◌, Bool, true, false, Option, Some, None, ◌&&◌, ◌||◌, Contains, Decides, take, length, get_or, refl, ap, sym, ◌∙◌, subst, inl, inr}
 use Rattle.std.specs.Cmp.{Equal-is}
 use Rattle.std.specs.Ordering.{is_eq}
 use Rattle.std.specs.declared.cmp.Ordering.TheVariants.{Less}
@@ -27,8 +27,9 @@ use Rattle.plan.specs.Samples.Over.{listed, is_in, is_over_here}
 use Rattle.plan.specs.Samples.Candidates.{sort_at, sort_of, AreCandidates}
 use Rattle.plan.specs.Samples.Sizes.{HasSize, IsUpTo}
 use Rattle.plan.specs.Internal.PartLaws.{PartLaws}
-use Rattle.plan.specs.Internal.Values.{trees_of, at_places, IsBase, AreStored}
+use Rattle.plan.specs.Internal.Values.{trees_of, choices_at, at_places, IsBase, AreStored}
 use Rattle.plan.specs.declared.sort.Sort.TheVariants.{Leaf}
+use Rattle.plan.proofs.FixedLemmas.{leaf_any}
 
 -- ---- the stored ones among trees
 
@@ -140,14 +141,28 @@ over_leaf P path (node n d (list N type keys b)) v leaf s = absurd (cc)
 
 -- ---- candidates
 
-pub candidates_from : PartLaws → (P : Pools) (site : Site) (ts : List Tree) (vs : List Data) → sort_of site ≡ Leaf → IsBase (tree.null ∷ listed P site.path site.node) ts → AreStored site.node (trees_of ts) vs → AreCandidates P site vs
-candidates_from laws P site ts vs leaf b s = record {
+candidates_listed : PartLaws → (P : Pools) (site : Site) (ts : List Tree) (vs : List Data) → site.fixed ≡ None → sort_at site.node ≡ Leaf → IsBase (tree.null ∷ listed P site.path site.node) ts → AreStored site.node (trees_of ts) vs → AreCandidates P site vs
+candidates_listed laws P site ts vs free leaf b s = record {
   each = λ v. (
-    (λ c. let h = (s.each v).0 c in (laws.leaf P site v leaf).1 (h.1.0, h.1.1, (over_leaf P site.path site.node v leaf h.1.1).1 ((b.each v).0 h.0))),
-    λ p. let h = (laws.leaf P site v leaf).0 p in (s.each v).1 ((b.each v).1 ((over_leaf P site.path site.node v leaf h.1).0 h.2), (h.0, h.1)),
+    (λ c. let h = (s.each v).0 c in (laws.leaf P site v free (leaf_any site.fixed _ leaf)).1 (h.1.0, h.1.1, (over_leaf P site.path site.node v leaf h.1.1).1 ((b.each v).0 h.0))),
+    λ p. let h = (laws.leaf P site v free (leaf_any site.fixed _ leaf)).0 p in (s.each v).1 ((b.each v).1 ((over_leaf P site.path site.node v leaf h.1).0 h.2), (h.0, h.1)),
   );
   ascending = s.ascending b.ascending;
 }
+
+-- where the values are fixed
+candidates_fixed : PartLaws → (P : Pools) (site : Site) (ds : List Data) (ts : List Tree) (vs : List Data) → site.fixed ≡ Some ds → IsBase ds ts → AreStored site.node (trees_of ts) vs → AreCandidates P site vs
+candidates_fixed laws P site ds ts vs fixed b s = record {
+  each = λ v. (
+    (λ c. let h = (s.each v).0 c in (laws.fixed P site v ds fixed).1 (h.1.0, h.1.1, (is_in_decides v ds).1 ((b.each v).0 h.0))),
+    λ p. let h = (laws.fixed P site v ds fixed).0 p in (s.each v).1 ((b.each v).1 ((is_in_decides v ds).0 h.2), (h.0, h.1)),
+  );
+  ascending = s.ascending b.ascending;
+}
+
+pub candidates_from : PartLaws → (P : Pools) (site : Site) (fixed : Option (List Data)) (ts : List Tree) (vs : List Data) → site.fixed ≡ fixed → sort_of site ≡ Leaf → IsBase (choices_at P fixed site.path site.node) ts → AreStored site.node (trees_of ts) vs → AreCandidates P site vs
+candidates_from laws P site (Some ds) ts vs is leaf b s = candidates_fixed laws P site ds ts vs is b s
+candidates_from laws P site None ts vs is leaf b s = candidates_listed laws P site ts vs is (rw is at leaf) b s
 
 -- ---- sizes
 

@@ -15,6 +15,7 @@
 -- The laws: `DeadEndLemmas` has `no_dead_end` at one site, `SoundPartLemmas` `sound_parts`, `PlanSites` both at all sites of a plan.
 -- The pools document: `FirstBreak` has the first break of its form, `PoolLemmas` how long its lists are, `PoolPathLemmas` which of its
 -- paths are good.
+pub mod FixedLemmas
 pub mod SizeLemmas
 pub mod RowLemmas
 pub mod ListLemmas
@@ -37,6 +38,7 @@ pub mod WordLemmas
 pub mod FirstBreak
 pub mod PoolLemmas
 pub mod PoolPathLemmas
+pub mod ItemPathLemmas
 pub mod ApartLemmas
 pub mod TupleLemmas
 pub mod KeyedLemmas

@@ -38,6 +38,7 @@ use Rattle.plan.proofs.KeyedLemmas.{at_most}
 use Rattle.plan.proofs.FillingLemmas.{in_slots, in_nodes}
 use Rattle.plan.specs.Internal.Laws.{StoredLaw}
 use Rattle.plan.proofs.PartLemmas.{slot_of_field, field_of_slot, fields_in_order, among_name, name_among}
+use Rattle.plan.proofs.FixedLemmas.{leaf_any}
 use Rattle.plan.proofs.SetLemmas.{plain_leaf, scalar_one, scalar_no_null}
 
 -- ---- the slots of keys
@@ -55,10 +56,10 @@ pub record HaveKeys (P : Pools) (keys : List (List ℕ)) (ss : List Slot) : Type
   pub named : (s : Slot) → Among ss s → s.key ≡ true → Among keys s.name
   pub each : (k : List ℕ) → Among keys k → (s : Slot) × (Among ss s × (s.name ≡ k) × (s.key ≡ true))
 
-pub slot_key : (path : List ℕ) (keys names : List (List ℕ)) (fs : Fields) (s : Slot) → Among (field_slots path keys names fs) s → s.key ≡ is_among s.name keys
-slot_key path keys names no_fields s a = absurd a
-slot_key path keys names (field l N required default fs) s (inl e) = subst (λ t. Slot.key t ≡ is_among (Slot.name t) keys) e refl
-slot_key path keys names (field l N required default fs) s (inr a) = slot_key path keys names fs s a
+pub slot_key : (P : Pools) (path : List ℕ) (keys names : List (List ℕ)) (fs : Fields) (s : Slot) → Among (field_slots P path keys names fs) s → s.key ≡ is_among s.name keys
+slot_key P path keys names no_fields s a = absurd a
+slot_key P path keys names (field l N required default fs) s (inl e) = subst (λ t. Slot.key t ≡ is_among (Slot.name t) keys) e refl
+slot_key P path keys names (field l N required default fs) s (inr a) = slot_key P path keys names fs s a
 
 key_field : (fs : Fields) (keys : List (List ℕ)) → AreKeys fs keys → (k : List ℕ) → Among keys k → IsKey fs k
 key_field fs [] h k a = absurd a
@@ -66,23 +67,23 @@ key_field fs (l ∷ ls) h k (inl e) = subst (IsKey fs) e h.0
 key_field fs (l ∷ ls) h k (inr a) = key_field fs ls h.2 k a
 
 -- a key has to have a value, which is a plain scalar
-pub key_slot : (fs : Fields) (path : List ℕ) (keys names : List (List ℕ)) → AreOrdered fs → AreKeys fs keys → (s : Slot) → Among (field_slots path keys names fs) s → s.key ≡ true → Among keys s.name × (s.must ≡ true) × IsPlainScalar s.site.node
-key_slot fs path keys names o h s a key =
-    let among = among_name s.name keys (sym (slot_key path keys names fs s a) ∙ key) in
-    let f = field_of_slot path keys names fs o s a in
+pub key_slot : (P : Pools) (fs : Fields) (path : List ℕ) (keys names : List (List ℕ)) → AreOrdered fs → AreKeys fs keys → (s : Slot) → Among (field_slots P path keys names fs) s → s.key ≡ true → Among keys s.name × (s.must ≡ true) × IsPlainScalar s.site.node
+key_slot P fs path keys names o h s a key =
+    let among = among_name s.name keys (sym (slot_key P path keys names fs s a) ∙ key) in
+    let f = field_of_slot P path keys names fs o s a in
     let g = key_field fs keys h s.name among in
     let same : f.0 ≡ g.0 = same_Some f.0 g.0 (sym f.1.0 ∙ g.1) in
-    (among, f.1.1.2 ∙ rw same g.3, subst IsPlainScalar (ap (λ d. Declared.node d) (sym same) ∙ ap (λ x. Site.node x) (sym f.1.1.1)) g.2)
+    (among, f.1.1.2 ∙ rw (same, g.3) refl, subst IsPlainScalar (ap (λ d. Declared.node d) (sym same) ∙ ap (λ x. Site.node x) (sym f.1.1.1)) g.2)
 
-pub have_keys : StoredLaw → (P : Pools) (fs : Fields) (path : List ℕ) (keys names : List (List ℕ)) → AreOrdered fs → AreKeys fs keys → HaveKeys P keys (field_slots path keys names fs)
+pub have_keys : StoredLaw → (P : Pools) (fs : Fields) (path : List ℕ) (keys names : List (List ℕ)) → AreOrdered fs → AreKeys fs keys → HaveKeys P keys (field_slots P path keys names fs)
 have_keys stored P fs path keys names o h = record {
-  order = fields_in_order path keys names fs o;
-  are = λ s c key. let q = key_slot fs path keys names o h s (contained (field_slots path keys names fs) s c) key in record { must = q.1; leaf = plain_leaf s.site.node q.2; one = scalar_one stored P s.site q.2; no_null = scalar_no_null stored P s.site q.2 };
-  named = λ s a key. (key_slot fs path keys names o h s a key).0;
+  order = fields_in_order P path keys names fs o;
+  are = λ s c key. let q = key_slot P fs path keys names o h s (contained (field_slots P path keys names fs) s c) key in record { must = q.1; leaf = leaf_any s.site.fixed _ (plain_leaf s.site.node q.2); one = scalar_one stored P s.site q.2; no_null = scalar_no_null stored P s.site q.2 };
+  named = λ s a key. (key_slot P fs path keys names o h s a key).0;
   each = λ k a.
       let f = key_field fs keys h k a in
-      let s = slot_of_field path keys names fs k f.0 f.1 in
-      (s.0, (s.1.0, s.1.1.0, slot_key path keys names fs s.0 s.1.0 ∙ rw s.1.1.0 (name_among k keys a)));
+      let s = slot_of_field P path keys names fs k f.0 f.1 in
+      (s.0, (s.1.0, s.1.1.0, slot_key P path keys names fs s.0 s.1.0 ∙ rw s.1.1.0 (name_among k keys a)));
 }
 
 -- ---- the key of an object
@@ -182,12 +183,12 @@ module _ {P : Pools} {keys : List (List ℕ)} {ss : List Slot} (h : HaveKeys P k
 
 -- where each part is an object
 module _ (P : Pools) (s : Site) (row : (v : Data) → IsPart P s v ↔ IsObjectPart P s v) (keys : List (List ℕ)) (h : HaveKeys P keys (slots P s)) where
-  object_given : (gs : List (Option Data)) (k : List Data) → AreFillings P (slots P s) gs → MayEnd (ending_of s) (state_after (slots P s) gs nothing) → IsTuple P (filter is_key (slots P s)) k
+  object_given : (gs : List (Option Data)) (k : List Data) → AreFillings P (slots P s) gs → MayEnd (ending_of P s) (state_after (slots P s) gs nothing) → IsTuple P (filter is_key (slots P s)) k
       → (w : Data) × (IsPart P s w × (key_under (slots P s) w ≡ k) × (node_count w ≡ node_count (tree.object (members_in (slots P s) gs))))
   object_given gs k are ends is =
       let r = refilled P (slots P s) gs k h.order h.are are is in
       let w = tree.object (members_in (slots P s) r.fillings) in
-      let part = (row w).1 (record { fillings = r.fillings; is = refl; are = r.are; ends = subst (MayEnd (ending_of s)) (sym (r.state_is nothing)) ends }) in
+      let part = (row w).1 (record { fillings = r.fillings; is = refl; are = r.are; ends = subst (MayEnd (ending_of P s)) (sym (r.state_is nothing)) ends }) in
       (w, (part, r.key_is, ap (λ m. 1 + m) (in_nodes P (slots P s) r.fillings r.are ∙ r.nodes_are ∙ sym (in_nodes P (slots P s) gs are))))
 
   pub objects_alike : (v w : Data) → IsPart P s v → IsPart P s w → (are_alike Map keys v w ≡ true) ↔ (key_under (slots P s) v ≡ key_under (slots P s) w)
@@ -214,27 +215,28 @@ module _ (P : Pools) (s : Site) (row : (v : Data) → IsPart P s v ↔ IsObjectP
       )
 
 -- each part at an object that does not accept null is an object
-only_objects : PartLaws → (P : Pools) (s : Site) → IsNode s.node → sort_of s ≡ Row → admits_null s ≡ false → (v : Data) → IsPart P s v ↔ IsObjectPart P s v
+only_objects : PartLaws → (P : Pools) (s : Site) → IsNode s.node → sort_of s ≡ Row → admits_null P s ≡ false → (v : Data) → IsPart P s v ↔ IsObjectPart P s v
 only_objects laws P s o row never v = let r = laws.row P s v o row in ((λ p. elim (r.0 p) [ inl null ↦ let no = sym null.1 ∙ never in absurd (cc) | inr x ↦ x ]), λ x. r.1 (inr x))
 
 -- the items of a map list are alike exactly where they have the same under all keys
 pub map_alike : StoredLaw → PartLaws → (P : Pools) (path : List ℕ) (own : List (List ℕ)) (n : Bool) (t : Option (List ℕ)) (N : Node) (keys : List (List ℕ)) (b : Bounds) → IsNode N → HasKeys N keys
-    → AreMapItems P (record { node = node n t (list N Map keys b); keys = own; path = path }) (record { node = N; keys = keys; path = below path step.item })
+    → AreMapItems P (record { node = node n t (list N Map keys b); keys = own; path = path; fixed = None }) (record { node = N; keys = keys; path = below path step.item; fixed = None })
 map_alike stored laws P path own n t (node m u (object fs preserves type c cs)) keys b o h =
-    let s : Site = record { node = node m u (object fs preserves type c cs); keys = keys; path = below path step.item } in
-    let law = only_objects laws P s o refl h.0 in
+    let s : Site = record { node = node m u (object fs preserves type c cs); keys = keys; path = below path step.item; fixed = None } in
+    let law = only_objects laws P s o refl (rw h.0 refl) in
     let have = have_keys stored P fs (below path step.item) keys (named cs) o h.2 in
     record {
       row = refl;
-      never_null = h.0;
+      never_null = rw h.0 refl;
       alike = objects_alike P s law keys have;
       most = λ ds counts are apart count. let k = objects_keyed P s law keys have counts count in at_most k.0 (product counts) k.1 ds are apart;
     }
 map_alike stored laws P path own n t N keys b o h = absurd h
 
-pub map_keyed : StoredLaw → PartLaws → (P : Pools) (path : List ℕ) (N : Node) (keys : List (List ℕ)) (counts : List ℕ) → IsNode N → HasKeys N keys → AreCounts P (filter is_key (slots P (record { node = N; keys = keys; path = path }))) counts
-    → (K : Keyed P (record { node = N; keys = keys; path = path }) (are_alike Map keys)) × (length K.keys ≡ product counts)
-map_keyed stored laws P path (node n t (object fs preserves type b cs)) keys counts o h count =
-    let s : Site = record { node = node n t (object fs preserves type b cs); keys = keys; path = path } in
-    objects_keyed P s (only_objects laws P s o refl h.0) keys (have_keys stored P fs path keys (named cs) o h.2) counts count
-map_keyed stored laws P path N keys counts o h count = absurd h
+pub map_keyed : StoredLaw → PartLaws → (P : Pools) (fixed : Option (List Data)) (path : List ℕ) (N : Node) (keys : List (List ℕ)) (counts : List ℕ) → fixed ≡ None → IsNode N → HasKeys N keys → AreCounts P (filter is_key (slots P (record { node = N; keys = keys; path = path; fixed = fixed }))) counts
+    → (K : Keyed P (record { node = N; keys = keys; path = path; fixed = fixed }) (are_alike Map keys)) × (length K.keys ≡ product counts)
+map_keyed stored laws P None path (node n t (object fs preserves type b cs)) keys counts free o h count =
+    let s : Site = record { node = node n t (object fs preserves type b cs); keys = keys; path = path; fixed = None } in
+    objects_keyed P s (only_objects laws P s o refl (rw h.0 refl)) keys (have_keys stored P fs path keys (named cs) o h.2) counts count
+map_keyed stored laws P None path N keys counts free o h count = absurd h
+map_keyed stored laws P (Some ds) path N keys counts free o h count = absurd (cc)

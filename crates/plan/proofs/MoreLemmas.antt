@@ -9,7 +9,7 @@ use Rattle.plan.specs.Samples.RuleOfParts.{alike_at}
 use Rattle.plan.specs.Internal.PartLaws.{PartLaws}
 use Rattle.plan.specs.Internal.Lists.{HasMoreApart}
 
-pub more_parts : PartLaws → (P : Pools) (s M : Site) → item_site s ≡ Some M → (limit t m : ℕ) → HasMore P limit s t m ↔ HasMoreApart P limit M (alike_at s) (bounds_of s) t m
+pub more_parts : PartLaws → (P : Pools) (s M : Site) → item_site P s ≡ Some M → (limit t m : ℕ) → HasMore P limit s t m ↔ HasMoreApart P limit M (alike_at s) (bounds_of P s) t m
 more_parts laws P s M is limit t m = (
   (λ h. elim ((laws.list P s M (tree.list h.items) is).0 h.part) [
     | inl null ↦ let no = null.0 in absurd (cc)

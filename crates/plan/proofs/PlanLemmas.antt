@@ -7,12 +7,12 @@ use Rattle.schema.specs.Nodes.Node.{Node, node, scalar, object, list, open_, Fie
 use Rattle.schema.specs.Nodes.Node as nodes
 use Rattle.plan.specs.Pools.Pools.{Pools}
 use Rattle.plan.specs.Samples.Question.{Question}
-use Rattle.plan.specs.Samples.Sites.{Site, no_site, sites_of, item_site, item_site_at, Slot, slots, slots_at, field_slots, value_slot}
+use Rattle.plan.specs.Samples.Sites.{Site, where_fixed, no_site, sites_of, item_site, item_site_at, Slot, slots, slots_at, field_slots, value_slot}
 use Rattle.plan.specs.Samples.ByPlace.{IsSlotAt}
 use Rattle.plan.specs.declared.plan.Slot.{Slot as PlanSlot}
 use Rattle.plan.specs.declared.arena.SlotEntry.{SlotEntry}
 use Rattle.plan.specs.Sets.{IsEmptyFrom}
-use Rattle.jtree.specs.Data.{Items, no_items, item}
+use Rattle.jtree.specs.Data.{Data, Items, no_items, item}
 use Rattle.jtree.specs.Nodes.{items_count}
 use Rattle.std.proofs.lemmas.Option.{same_Some}
 use Rattle.std.proofs.lemmas.Nat.{pow_pos, pow_below, mod_below}
@@ -46,33 +46,33 @@ use Rattle.plan.proofs.ListLemmas.{count_nodes}
 
 -- the entry of a number, in terms of the plan's view
 pub entry_right : {Z : Type 0} (holds : Z → ℕ → Type 0) (BITS : ℕ) (root : Node) (P : Pools) (limit : ℕ) (v : Values) (es : List (Entry Z)) (first : ℕ) (q : Question) (i : ℕ) (e : Entry Z)
-    → IsPlan holds BITS root P limit v es first → record { root = root; pools = P; limit = limit } ≡ q → i < length (sites_of q.root) → IsEntry es i e → IsRight holds q.limit q.pools v (sites_of q.root) i e
+    → IsPlan holds BITS root P limit v es first → record { root = root; pools = P; limit = limit } ≡ q → i < length (sites_of q.pools q.root) → IsEntry es i e → IsRight holds q.limit q.pools v (sites_of q.pools q.root) i e
 entry_right {Z = Z} holds BITS root P limit v es first q i e plan view within is =
-    let r : i < length (sites_of root) → IsRight holds limit P v (sites_of root) i e = λ l. rw (← is) at (plan.right i e (omega (arith, plan.count))) in
-    subst (λ (x : Question). i < length (sites_of x.root) → IsRight holds x.limit x.pools v (sites_of x.root) i e) view r within
+    let r : i < length (sites_of P root) → IsRight holds limit P v (sites_of P root) i e = λ l. rw (← is) at (plan.right i e (omega (arith, plan.count))) in
+    subst (λ (x : Question). i < length (sites_of x.pools x.root) → IsRight holds x.limit x.pools v (sites_of x.pools x.root) i e) view r within
 
 -- the table of a place has a level for each set of the named fields, with its columns, and the set of a column is that of the sizes
 pub table_shape : {Z : Type 0} (holds : Z → ℕ → Type 0) (limit : ℕ) (P : Pools) (names : List (List ℕ)) (sites : List Site) (i : ℕ) (r : RowEntry Z) (k place : ℕ) (table : Vec (Vec Z Global) Global) → IsRow holds limit P names sites i r → k + place ≡ length r.slots.items
-    → table ≡ get_or r.tables.items k table → HasShape (2 ^ length (named (ending_of (site_at sites i)).asked)) (columns (ending_of (site_at sites i)).bounds place) table.items
+    → table ≡ get_or r.tables.items k table → HasShape (2 ^ length (named (ending_of P (site_at sites i)).asked)) (columns (ending_of P (site_at sites i)).bounds place) table.items
 table_shape holds limit P names sites i r k place table row at is =
-    let kinds = 2 ^ length (named (ending_of (site_at sites i)).asked) in
+    let kinds = 2 ^ length (named (ending_of P (site_at sites i)).asked) in
     let count = length r.slots.items in
     let e : count - k ≡ place = omega arith in
-    rw e at (shape_at (ending_of (site_at sites i)).bounds count kinds r.tables.items k table table.items row.shaped (omega (arith, row.whole)) is refl)
+    rw e at (shape_at (ending_of P (site_at sites i)).bounds count kinds r.tables.items k table table.items row.shaped (omega (arith, row.whole)) is refl)
 
 pub table_some : {Z : Type 0} (holds : Z → ℕ → Type 0) (limit : ℕ) (P : Pools) (names : List (List ℕ)) (sites : List Site) (i : ℕ) (r : RowEntry Z) (k place : ℕ) (table : Vec (Vec Z Global) Global) → IsRow holds limit P names sites i r → k + place ≡ length r.slots.items
     → table ≡ get_or r.tables.items k table → 0 < length table.items
 table_some holds limit P names sites i r k place table row at is =
     let shape = table_shape holds limit P names sites i r k place table row at is in
-    omega (arith, shape.whole, pow_pos (length (named (ending_of (site_at sites i)).asked)))
+    omega (arith, shape.whole, pow_pos (length (named (ending_of P (site_at sites i)).asked)))
 
 pub level_wide : {Z : Type 0} (holds : Z → ℕ → Type 0) (limit : ℕ) (P : Pools) (names : List (List ℕ)) (sites : List Site) (i : ℕ) (r : RowEntry Z) (k place seen low : ℕ) (table : Vec (Vec Z Global) Global) (level : Vec Z Global)
-    → IsRow holds limit P names sites i r → k + place ≡ length r.slots.items → table ≡ get_or r.tables.items k table → low ≡ seen % length table.items → level ≡ get_or table.items low level → length level.items ≡ columns (ending_of (site_at sites i)).bounds place
+    → IsRow holds limit P names sites i r → k + place ≡ length r.slots.items → table ≡ get_or r.tables.items k table → low ≡ seen % length table.items → level ≡ get_or table.items low level → length level.items ≡ columns (ending_of P (site_at sites i)).bounds place
 level_wide holds limit P names sites i r k place seen low table level row at is is_low is_level =
     let shape = table_shape holds limit P names sites i r k place table row at is in
     let some = table_some holds limit P names sites i r k place table row at is in
     let inside : low < length table.items = rw is_low (mod_below seen (length table.items) some) in
-    width_at (2 ^ length (named (ending_of (site_at sites i)).asked)) (columns (ending_of (site_at sites i)).bounds place) table.items low level shape inside is_level
+    width_at (2 ^ length (named (ending_of P (site_at sites i)).asked)) (columns (ending_of P (site_at sites i)).bounds place) table.items low level shape inside is_level
 
 pub table_rest : {Z : Type 0} (holds : Z → ℕ → Type 0) (limit : ℕ) (P : Pools) (names : List (List ℕ)) (sites : List Site) (i : ℕ) (r : RowEntry Z) (k place taken seen low column : ℕ) (table : Vec (Vec Z Global) Global) (level : Vec Z Global) (z : Z)
     → IsRow holds limit P names sites i r → k + place ≡ length r.slots.items → taken ≤ place → table ≡ get_or r.tables.items k table → low ≡ seen % length table.items → level ≡ get_or table.items low level → column ≡ min taken (length level.items - 1)
@@ -83,7 +83,7 @@ table_rest holds limit P names sites i r k place taken seen low column table lev
     let shape = table_shape holds limit P names sites i r k place table row at is in
     let some = table_some holds limit P names sites i r k place table row at is in
     let inside : low < length table.items = rw is_low (mod_below seen (length table.items) some) in
-    let e = ending_of s in
+    let e = ending_of P s in
     let wide = level_wide holds limit P names sites i r k place seen low table level row at is is_low is_level in
     let capped : column ≡ min taken (cap e.bounds) = omega (arith, wide, is_column) in
     let count = slot_count names sites i r.slots.items (slots P s) row.are in
@@ -99,14 +99,18 @@ sets_of_names [] = ((λ l. absurd (omega arith)), λ some. absurd (some refl))
 sets_of_names (x ∷ xs) = ((λ l is. absurd (cc)), λ some. pow_below 0 (length (x ∷ xs)) (omega arith))
 
 -- without named fields no slot has a bit
-fields_free : (path : List ℕ) (keys : List (List ℕ)) (fs : Fields) → All (λ (t : Slot). t.bit ≡ None) (field_slots path keys [] fs)
-fields_free path keys no_fields = λ k d l. absurd (omega arith)
-fields_free path keys (field name N required default fs) = All-cons (λ (t : Slot). t.bit ≡ None) _ (field_slots path keys [] fs) refl (fields_free path keys fs)
+fields_free : (P : Pools) (path : List ℕ) (keys : List (List ℕ)) (fs : Fields) → All (λ (t : Slot). t.bit ≡ None) (field_slots P path keys [] fs)
+fields_free P path keys no_fields = λ k d l. absurd (omega arith)
+fields_free P path keys (field name N required default fs) = All-cons (λ (t : Slot). t.bit ≡ None) _ (field_slots P path keys [] fs) refl (fields_free P path keys fs)
 
-slots_free : (P : Pools) (path : List ℕ) (N : Node) (keys : List (List ℕ)) → named (ending_at N).asked ≡ [] → All (λ (t : Slot). t.bit ≡ None) (slots_at P path N keys)
-slots_free P path (node n t (object fs preserves type b cs)) keys none = rw none (fields_free path keys fs)
-slots_free P path (node n t (nodes.map N type b)) keys none = All-map (λ (t : Slot). t.bit ≡ None) (value_slot path N) (in_order P.names) (λ k d l. refl)
+slots_free : (P : Pools) (path : List ℕ) (N : Node) (keys : List (List ℕ)) → named (ending_at P path N).asked ≡ [] → All (λ (t : Slot). t.bit ≡ None) (slots_at P path N keys)
+slots_free P path (node n t (object fs preserves type b cs)) keys none = rw none (fields_free P path keys fs)
+slots_free P path (node n t (nodes.map N type b)) keys none = All-map (λ (t : Slot). t.bit ≡ None) (value_slot P path N) (in_order P.names) (λ k d l. refl)
 slots_free P path (node n t _) keys none = λ k d l. absurd (omega arith)
+
+slots_free_at : (P : Pools) (fixed : Option (List Data)) (path : List ℕ) (N : Node) (keys : List (List ℕ)) → named (ending_at P path N).asked ≡ [] → All (λ (t : Slot). t.bit ≡ None) (where_fixed fixed [] (slots_at P path N keys))
+slots_free_at P None path N keys none = slots_free P path N keys none
+slots_free_at P (Some ds) path N keys none = λ k d l. absurd (omega arith)
 
 none_named : {X : Type 0} (xs : List X) → (1 < 2 ^ length xs → ⊥) → xs ≡ []
 none_named [] few = refl
@@ -114,14 +118,14 @@ none_named (x ∷ xs) few = absurd (few (pow_below 0 (length (x ∷ xs)) (omega 
 
 -- the first table has more levels than one exactly where the junctors of a row name a field
 pub row_named : {Z : Type 0} (holds : Z → ℕ → Type 0) (limit : ℕ) (P : Pools) (names : List (List ℕ)) (sites : List Site) (i n : ℕ) (r : RowEntry Z) (table : Vec (Vec Z Global) Global) → IsRow holds limit P names sites i r → table ≡ get_or r.tables.items 0 table → n ≡ length table.items
-    → (IsTrue (nat_lt 1 n) ↔ (named (ending_of (site_at sites i)).asked ≢ [])) × (nat_lt 1 n ≡ false → All (λ (t : Slot). t.bit ≡ None) (slots P (site_at sites i)))
+    → (IsTrue (nat_lt 1 n) ↔ (named (ending_of P (site_at sites i)).asked ≢ [])) × (nat_lt 1 n ≡ false → All (λ (t : Slot). t.bit ≡ None) (slots P (site_at sites i)))
 row_named holds limit P names sites i n r table row is long =
     let s = site_at sites i in
-    let ls = named (ending_of s).asked in
+    let ls = named (ending_of P s).asked in
     let shape = table_shape holds limit P names sites i r 0 (length r.slots.items) table row (omega arith) is in
     let e : n ≡ 2 ^ length ls = long ∙ shape.whole in
     let named = sets_of_names ls in
-    (((λ more. named.0 (rw e at (ltb-true 1 n more))), λ some. lt-ltb 1 n (rw e (named.1 some))), λ one. let few = ltb-false 1 n one in slots_free P s.path s.node s.keys (none_named ls (λ l. omega arith)))
+    (((λ more. named.0 (rw e at (ltb-true 1 n more))), λ some. lt-ltb 1 n (rw e (named.1 some))), λ one. let few = ltb-false 1 n one in slots_free_at P s.fixed s.path s.node s.keys (none_named ls (λ l. omega arith)))
 
 -- as many items as the limit leave no room for the list
 pub more_ends : (limit : ℕ) (P : Pools) (s : Site) (t m : ℕ) → limit ≤ t → HasMore P limit s t m → ⊥
@@ -138,6 +142,10 @@ not_list (node n t (nodes.map M type b)) h = refl
 not_list (node n t (list M type keys b)) h = absurd (h refl)
 not_list (node n t open_) h = refl
 
+not_list_at : (fixed : Option (List Data)) (N : Node) → (where_fixed fixed LeafSort (sort_at N) ≡ ListSort → ⊥) → where_fixed fixed Free (distinct_at N) ≡ Free
+not_list_at None N h = not_list N h
+not_list_at (Some ds) N h = refl
+
 -- the sort of a node, from what its entry holds
 pub leaf_sort : {Z : Type 0} (holds : Z → ℕ → Type 0) (limit : ℕ) (P : Pools) (v : Values) (sites : List Site) (i : ℕ) (e : Entry Z) (l : Leaf) → IsRight holds limit P v sites i e → e.content ≡ content.Leaf l → sort_of (site_at sites i) ≡ LeafSort
 leaf_sort holds limit P v sites i e l right is = let h = rw is at right.content in h.sort
@@ -145,23 +153,24 @@ leaf_sort holds limit P v sites i e l right is = let h = rw is at right.content 
 pub row_sort : {Z : Type 0} (holds : Z → ℕ → Type 0) (limit : ℕ) (P : Pools) (v : Values) (sites : List Site) (i : ℕ) (e : Entry Z) (r : RowEntry Z) → IsRight holds limit P v sites i e → e.content ≡ content.Row r → sort_of (site_at sites i) ≡ RowSort
 row_sort holds limit P v sites i e r right is = let h = rw is at right.content in h.sort
 
-node_item_sort : (path : List ℕ) (N : Node) (M : Site) → item_site_at path N ≡ Some M → sort_at N ≡ ListSort
-node_item_sort path (node n t (scalar kind cs)) M is = absurd (cc)
-node_item_sort path (node n t (object fs preserves type b cs)) M is = absurd (cc)
-node_item_sort path (node n t (nodes.map N type b)) M is = absurd (cc)
-node_item_sort path (node n t (list N type keys b)) M is = refl
-node_item_sort path (node n t open_) M is = absurd (cc)
+node_item_sort : (P : Pools) (fixed : Option (List Data)) (path : List ℕ) (N : Node) (M : Site) → where_fixed fixed None (item_site_at P path N) ≡ Some M → where_fixed fixed LeafSort (sort_at N) ≡ ListSort
+node_item_sort P (Some ds) path N M is = absurd (cc)
+node_item_sort P None path (node n t (scalar kind cs)) M is = absurd (cc)
+node_item_sort P None path (node n t (object fs preserves type b cs)) M is = absurd (cc)
+node_item_sort P None path (node n t (nodes.map N type b)) M is = absurd (cc)
+node_item_sort P None path (node n t (list N type keys b)) M is = refl
+node_item_sort P None path (node n t open_) M is = absurd (cc)
 
-pub item_sort : (s M : Site) → item_site s ≡ Some M → sort_of s ≡ ListSort
-item_sort s M is = node_item_sort s.path s.node M is
+pub item_sort : (P : Pools) (s M : Site) → item_site P s ≡ Some M → sort_of s ≡ ListSort
+item_sort P s M is = node_item_sort P s.fixed s.path s.node M is
 
 pub list_sort : {Z : Type 0} (holds : Z → ℕ → Type 0) (limit : ℕ) (P : Pools) (v : Values) (sites : List Site) (i : ℕ) (e : Entry Z) (l : ListEntry Z) → IsRight holds limit P v sites i e → e.content ≡ content.List l → sort_of (site_at sites i) ≡ ListSort
-list_sort holds limit P v sites i e l right is = let h = rw is at right.content in item_sort (site_at sites i) (site_at sites l.item) h.item
+list_sort holds limit P v sites i e l right is = let h = rw is at right.content in item_sort P (site_at sites i) (site_at sites l.item) h.item
 
 pub no_list : {Z : Type 0} (holds : Z → ℕ → Type 0) (limit : ℕ) (P : Pools) (v : Values) (sites : List Site) (i : ℕ) (e : Entry Z) → IsRight holds limit P v sites i e → ((l : Leaf) × (e.content ≡ content.Leaf l)) ⊎ ((r : RowEntry Z) × (e.content ≡ content.Row r))
     → distinct_of (site_at sites i) ≡ Free
-no_list holds limit P v sites i e right (inl l) = let s = leaf_sort holds limit P v sites i e l.0 right l.1 in not_list (site_at sites i).node (λ t. let no = sym s ∙ t in cc)
-no_list holds limit P v sites i e right (inr r) = let s = row_sort holds limit P v sites i e r.0 right r.1 in not_list (site_at sites i).node (λ t. let no = sym s ∙ t in cc)
+no_list holds limit P v sites i e right (inl l) = let s = leaf_sort holds limit P v sites i e l.0 right l.1 in not_list_at (site_at sites i).fixed (site_at sites i).node (λ t. let no = sym s ∙ t in cc)
+no_list holds limit P v sites i e right (inr r) = let s = row_sort holds limit P v sites i e r.0 right r.1 in not_list_at (site_at sites i).fixed (site_at sites i).node (λ t. let no = sym s ∙ t in cc)
 
 pub no_row : {Z : Type 0} (holds : Z → ℕ → Type 0) (limit : ℕ) (P : Pools) (v : Values) (sites : List Site) (i : ℕ) (e : Entry Z) → IsRight holds limit P v sites i e → ((l : Leaf) × (e.content ≡ content.Leaf l)) ⊎ ((l : ListEntry Z) × (e.content ≡ content.List l))
     → sort_of (site_at sites i) ≡ RowSort → ⊥
@@ -180,24 +189,24 @@ own_sites xs j s l =
     rw e (get_or_default xs j no_site s l)
 
 -- a plan, from what was built for the root
-pub plan_made : {Z : Type 0} (holds : Z → ℕ → Type 0) (BITS : ℕ) (root : Node) (P : Pools) (limit : ℕ) (v : Values) (es : List (Entry Z)) (n : ℕ) → limit < BITS → 1 ≤ limit → AreValues P v → IsSound root → IsBuilt holds limit P v [] es [] root [] n → IsPlan holds BITS root P limit v es n
+pub plan_made : {Z : Type 0} (holds : Z → ℕ → Type 0) (BITS : ℕ) (root : Node) (P : Pools) (limit : ℕ) (v : Values) (es : List (Entry Z)) (n : ℕ) → limit < BITS → 1 ≤ limit → AreValues P v → IsSound root → IsBuilt holds limit P v [] es None [] root [] n → IsPlan holds BITS root P limit v es n
 plan_made holds BITS root P limit v es n within room values sound built = record {
   within = within;
   room = room;
   values = values;
   count = omega (arith, built.count);
   last = built.last;
-  right = built.right (sites_of root) values sound (own_sites (sites_of root)) (λ i e l. absurd (omega arith));
+  right = built.right (sites_of P root) values sound (own_sites (sites_of P root)) (λ i e l. absurd (omega arith));
 }
 
 -- the number of candidates of a leaf, in terms of the plan's view
 pub count_right : {Z : Type 0} (holds : Z → ℕ → Type 0) (BITS : ℕ) (root : Node) (P : Pools) (limit : ℕ) (v : Values) (es : List (Entry Z)) (first : ℕ) (q : Question) (i n : ℕ)
     → IsPlan holds BITS root P limit v es first → record { root = root; pools = P; limit = limit } ≡ q
     → ((Q : Pools) (sites : List Site) → AreRight holds limit Q v sites es → i < length es → sort_of (site_at sites i) ≡ LeafSort → HasCount Q (site_at sites i) n)
-    → i < length (sites_of q.root) → sort_of (site_at (sites_of q.root) i) ≡ LeafSort → HasCount q.pools (site_at (sites_of q.root) i) n
+    → i < length (sites_of q.pools q.root) → sort_of (site_at (sites_of q.pools q.root) i) ≡ LeafSort → HasCount q.pools (site_at (sites_of q.pools q.root) i) n
 count_right holds BITS root P limit v es first q i n plan view counts within leaf =
-    let r : i < length (sites_of root) → sort_of (site_at (sites_of root) i) ≡ LeafSort → HasCount P (site_at (sites_of root) i) n = λ l s. counts P (sites_of root) plan.right (omega (arith, plan.count)) s in
-    subst (λ (x : Question). i < length (sites_of x.root) → sort_of (site_at (sites_of x.root) i) ≡ LeafSort → HasCount x.pools (site_at (sites_of x.root) i) n) view r within leaf
+    let r : i < length (sites_of P root) → sort_of (site_at (sites_of P root) i) ≡ LeafSort → HasCount P (site_at (sites_of P root) i) n = λ l s. counts P (sites_of P root) plan.right (omega (arith, plan.count)) s in
+    subst (λ (x : Question). i < length (sites_of x.pools x.root) → sort_of (site_at (sites_of x.pools x.root) i) ≡ LeafSort → HasCount x.pools (site_at (sites_of x.pools x.root) i) n) view r within leaf
 
 pub site_among : (sites : List Site) (i : ℕ) → i < length sites → Contains sites (site_at sites i)
 site_among sites i l = (i, l, sym (get_or_default sites i no_site (site_at sites i) l))

@@ -25,7 +25,7 @@ use Rattle.plan.specs.Pools.Oversized.{place_of, size_of, most_of, IsOversized}
 use Rattle.plan.specs.Internal.PathLists.{list_count, long_list, IsLongList}
 use Rattle.plan.specs.declared.pool_limits.PoolLimits.{PoolLimits}
 use Rattle.plan.specs.declared.pool_sizes.PoolName.{PoolName}
-use Rattle.plan.specs.declared.pool_sizes.PoolName.TheVariants.{Any, Integers, Names, Paths, Strings, At}
+use Rattle.plan.specs.declared.pool_sizes.PoolName.TheVariants.{Any, Fixed, FixedAt, Integers, Names, Paths, At, Present, Strings}
 use Rattle.plan.specs.declared.pool_sizes.Oversized.{Oversized}
 
 pub trees_listed : (ts : List Tree) → map data_of ts ≡ items_list (items_of ts)
@@ -36,9 +36,16 @@ pub listed_length : (ts : List Tree) → length (items_list (items_of ts)) ≡ l
 listed_length [] = refl
 listed_length (t ∷ ts) = let rest = listed_length ts in omega (arith, rest)
 
-pub members_length : (ms : List Member) → members_count (members_of ms) ≡ length ms
+members_length : (ms : List Member) → members_count (members_of ms) ≡ length ms
 members_length [] = refl
 members_length (m ∷ ms) = let rest = members_length ms in omega (arith, rest)
+
+pub lists_count : (ms : List Member) (lists : Members) → members_of ms ≡ lists → length ms ≡ members_count lists
+lists_count ms lists same = sym (members_length ms) ∙ ap members_count same
+
+pub where_none : {X : Type 0} (o : Option X) (A : Type 0) (B : X → Type 0) → MatchOption o A B → is_some o ≡ false → A
+where_none None A B h e = h
+where_none (Some x) A B h e = absurd (cc)
 
 -- the entries of a kind are those that are read
 count_read : {X : Type 0} (test : Data → Bool) (f : Data → Option X) → ((d : Data) → test d ≡ is_some (f d)) → (ds : List Data) → length (filter test ds) ≡ length (filter_map f ds)
@@ -130,83 +137,132 @@ first_long most (member l d ms) k n o e = elim (bool_cases (nat_lt most (list_co
 
 -- ---- the first of all
 
--- at a path that has too many, no earlier pool has
-any_first : (pool : PoolName) → path_cmp (place_of pool) (place_of Any) ≢ Less
-any_first Any = λ less. cc
-any_first pool = λ less. cc
-
-integers_first : (limits : PoolLimits) (P : Pools) → size_of Any P ≤ limits.entries → (pool : PoolName) → most_of pool limits < size_of pool P → path_cmp (place_of pool) (place_of Integers) ≢ Less
-integers_first limits P a Any over = absurd (omega arith)
-integers_first limits P a pool over = λ less. cc
-
-names_first : (limits : PoolLimits) (P : Pools) → size_of Any P ≤ limits.entries → size_of Integers P ≤ limits.entries → (pool : PoolName) → most_of pool limits < size_of pool P → path_cmp (place_of pool) (place_of Names) ≢ Less
-names_first limits P a i Any over = absurd (omega arith)
-names_first limits P a i Integers over = absurd (omega arith)
-names_first limits P a i pool over = λ less. cc
-
-paths_first : (limits : PoolLimits) (P : Pools) → size_of Any P ≤ limits.entries → size_of Integers P ≤ limits.entries → size_of Names P ≤ limits.names → (pool : PoolName) → most_of pool limits < size_of pool P → path_cmp (place_of pool) (place_of Paths) ≢ Less
-paths_first limits P a i n Any over = absurd (omega arith)
-paths_first limits P a i n Integers over = absurd (omega arith)
-paths_first limits P a i n Names over = absurd (omega arith)
-paths_first limits P a i n pool over = λ less. cc
-
-at_first : (limits : PoolLimits) (P : Pools) → size_of Any P ≤ limits.entries → size_of Integers P ≤ limits.entries → size_of Names P ≤ limits.names → size_of Paths P ≤ limits.paths → (k : Bor (List ℕ))
-    → ((text : List ℕ) → limits.entries < count_at text P.paths → (text ≡ k.now) ⊎ (text_cmp k.now text ≡ Less)) → (pool : PoolName) → most_of pool limits < size_of pool P → path_cmp (place_of pool) (place_of (At k)) ≢ Less
-at_first limits P a i n p k first Any over = absurd (omega arith)
-at_first limits P a i n p k first Integers over = absurd (omega arith)
-at_first limits P a i n p k first Names over = absurd (omega arith)
-at_first limits P a i n p k first Paths over = absurd (omega arith)
-at_first limits P a i n p k first Strings over = λ less. cc
-at_first limits P a i n p k first (At text) over =
-    let below : path_cmp (name text.now ∷ []) (name k.now ∷ []) ≢ Less = elim (first text.now over) [
-      | inl same ↦ λ less. let equal = same_step (name k.now) [] [] in let no = rw same at less in cc
-      | inr later ↦ not_before_name k.now text.now [] [] later
-    ] in
-    subst (λ order. order ≢ Less) (sym (same_step (name (codes "paths")) (name text.now ∷ []) (name k.now ∷ []))) below
-
-strings_first : (limits : PoolLimits) (P : Pools) → size_of Any P ≤ limits.entries → size_of Integers P ≤ limits.entries → size_of Names P ≤ limits.names → size_of Paths P ≤ limits.paths → ((text : List ℕ) → count_at text P.paths ≤ limits.entries)
-    → (pool : PoolName) → most_of pool limits < size_of pool P → path_cmp (place_of pool) (place_of Strings) ≢ Less
-strings_first limits P a i n p t Any over = absurd (omega arith)
-strings_first limits P a i n p t Integers over = absurd (omega arith)
-strings_first limits P a i n p t Names over = absurd (omega arith)
-strings_first limits P a i n p t Paths over = absurd (omega arith)
-strings_first limits P a i n p t Strings over = λ less. cc
-strings_first limits P a i n p t (At text) over = let few = t text.now in absurd (omega arith)
-
 -- whether a pool has too many
 abbrev pub IsTested : PoolLimits → Pools → PoolName → Option Oversized → Type 0
 IsTested limits P pool o = MatchOption o (size_of pool P ≤ most_of pool limits) (λ x. (x ≡ record { pool = pool; found = size_of pool P; allowed = most_of pool limits }) × (most_of pool limits < size_of pool P))
 
-abbrev pub AreTested : ℕ → Members → Option Oversized → Type 0
-AreTested most ms o = MatchOption o (long_list most ms ≡ None) (IsLongList most ms)
+abbrev pub AreTested : (Bor (List ℕ) → PoolName) → ℕ → Members → Option Oversized → Type 0
+AreTested pool most ms o = MatchOption o (long_list most ms ≡ None) (IsLongList pool most ms)
 
-is_first : (limits : PoolLimits) (P : Pools) (pool : PoolName) (x : Oversized) → (x ≡ record { pool = pool; found = size_of pool P; allowed = most_of pool limits }) × (most_of pool limits < size_of pool P)
-    → ((q : PoolName) → most_of q limits < size_of q P → path_cmp (place_of q) (place_of pool) ≢ Less) → IsOversized limits P x
-is_first limits P pool x h first = subst (IsOversized limits P) (sym h.0) (record { found = refl; allowed = refl; over = h.1; first = first })
+-- of two lists of one member, the one that is too long and the first is not the later one
+list_first : (lists k text : List ℕ) → (text ≡ k) ⊎ (text_cmp k text ≡ Less) → path_cmp (name lists ∷ name text ∷ []) (name lists ∷ name k ∷ []) ≢ Less
+list_first lists k text first =
+    let below : path_cmp (name text ∷ []) (name k ∷ []) ≢ Less = elim first [
+      | inl same ↦ λ less. let equal = same_step (name k) [] [] in let no = rw same at less in cc
+      | inr later ↦ not_before_name k text [] [] later
+    ] in
+    subst (λ order. order ≢ Less) (sym (same_step (name lists) (name text ∷ []) (name k ∷ []))) below
 
-list_is_first : (limits : PoolLimits) (P : Pools) (x : Oversized) → AreMembers P.paths → size_of Any P ≤ limits.entries → size_of Integers P ≤ limits.entries → size_of Names P ≤ limits.names → size_of Paths P ≤ limits.paths → IsLongList limits.entries P.paths x → IsOversized limits P x
-list_is_first limits P x o a i n p h =
-    let r = first_long limits.entries P.paths h.0.now x.found o h.3 in
-    record {
-      found = rw h.1 r.count;
-      allowed = rw h.1 h.2;
-      over = rw h.2 r.over;
-      first = rw h.1 (at_first limits P a i n p h.0 r.first);
-    }
+module _ (limits : PoolLimits) (P : Pools) where
+  abbrev Small : PoolName → Type 0
+  Small pool = size_of pool P ≤ most_of pool limits
 
-pub first_oversized : (limits : PoolLimits) (P : Pools) (any integers names paths list strings : Option Oversized) → AreMembers P.paths → IsTested limits P Any any → IsTested limits P Integers integers → IsTested limits P Names names → IsTested limits P Paths paths
-    → AreTested limits.entries P.paths list → IsTested limits P Strings strings → MatchOption (option_or (option_or (option_or (option_or (option_or any integers) names) paths) list) strings) (AreSmall limits P) (IsOversized limits P)
-first_oversized limits P (Some x) integers names paths list strings o a i n p t s = is_first limits P Any x a (λ q _. any_first q)
-first_oversized limits P None (Some x) names paths list strings o a i n p t s = is_first limits P Integers x i (integers_first limits P a)
-first_oversized limits P None None (Some x) paths list strings o a i n p t s = is_first limits P Names x n (names_first limits P a i)
-first_oversized limits P None None None (Some x) list strings o a i n p t s = is_first limits P Paths x p (paths_first limits P a i n)
-first_oversized limits P None None None None (Some x) strings o a i n p t s = list_is_first limits P x o a i n p t
-first_oversized limits P None None None None None (Some x) o a i n p t s = is_first limits P Strings x s (strings_first limits P a i n p (no_long_list limits.entries P.paths t))
-first_oversized limits P None None None None None None o a i n p t s = record {
-  integers = i;
-  strings = s;
-  names = n;
-  any = a;
-  paths = p;
-  at_paths = λ text ds at. let few = no_long_list limits.entries P.paths t text in rw at at few;
-}
+  abbrev AreShort : Members → Type 0
+  AreShort ms = (text : List ℕ) → count_at text ms ≤ limits.entries
+
+  -- no pool that has too many comes before this one
+  abbrev IsEarliest : PoolName → Type 0
+  IsEarliest pool = (q : PoolName) → most_of q limits < size_of q P → path_cmp (place_of q) (place_of pool) ≢ Less
+
+  any_first : IsEarliest Any
+  any_first Any over = λ less. cc
+  any_first q over = λ less. cc
+
+  fixed_first : Small Any → IsEarliest Fixed
+  fixed_first a Any over = absurd (omega arith)
+  fixed_first a q over = λ less. cc
+
+  fixed_at_first : Small Any → Small Fixed → (k : Bor (List ℕ)) → ((text : List ℕ) → limits.entries < count_at text P.fixed → (text ≡ k.now) ⊎ (text_cmp k.now text ≡ Less)) → IsEarliest (FixedAt k)
+  fixed_at_first a f k first Any over = absurd (omega arith)
+  fixed_at_first a f k first Fixed over = absurd (omega arith)
+  fixed_at_first a f k first (FixedAt text) over = list_first (codes "fixed") k.now text.now (first text.now over)
+  fixed_at_first a f k first q over = λ less. cc
+
+  integers_first : Small Any → Small Fixed → AreShort P.fixed → IsEarliest Integers
+  integers_first a f g Any over = absurd (omega arith)
+  integers_first a f g Fixed over = absurd (omega arith)
+  integers_first a f g (FixedAt text) over = let few = g text.now in absurd (omega arith)
+  integers_first a f g q over = λ less. cc
+
+  names_first : Small Any → Small Fixed → AreShort P.fixed → Small Integers → IsEarliest Names
+  names_first a f g i Any over = absurd (omega arith)
+  names_first a f g i Fixed over = absurd (omega arith)
+  names_first a f g i (FixedAt text) over = let few = g text.now in absurd (omega arith)
+  names_first a f g i Integers over = absurd (omega arith)
+  names_first a f g i q over = λ less. cc
+
+  paths_first : Small Any → Small Fixed → AreShort P.fixed → Small Integers → Small Names → IsEarliest Paths
+  paths_first a f g i n Any over = absurd (omega arith)
+  paths_first a f g i n Fixed over = absurd (omega arith)
+  paths_first a f g i n (FixedAt text) over = let few = g text.now in absurd (omega arith)
+  paths_first a f g i n Integers over = absurd (omega arith)
+  paths_first a f g i n Names over = absurd (omega arith)
+  paths_first a f g i n q over = λ less. cc
+
+  at_first : Small Any → Small Fixed → AreShort P.fixed → Small Integers → Small Names → Small Paths → (k : Bor (List ℕ)) → ((text : List ℕ) → limits.entries < count_at text P.paths → (text ≡ k.now) ⊎ (text_cmp k.now text ≡ Less)) → IsEarliest (At k)
+  at_first a f g i n p k first Present over = λ less. cc
+  at_first a f g i n p k first Strings over = λ less. cc
+  at_first a f g i n p k first (At text) over = list_first (codes "paths") k.now text.now (first text.now over)
+  at_first a f g i n p k first (FixedAt text) over = let few = g text.now in absurd (omega arith)
+  at_first a f g i n p k first q over = absurd (omega arith)
+
+  present_first : Small Any → Small Fixed → AreShort P.fixed → Small Integers → Small Names → Small Paths → AreShort P.paths → IsEarliest Present
+  present_first a f g i n p t Present over = λ less. cc
+  present_first a f g i n p t Strings over = λ less. cc
+  present_first a f g i n p t (At text) over = let few = t text.now in absurd (omega arith)
+  present_first a f g i n p t (FixedAt text) over = let few = g text.now in absurd (omega arith)
+  present_first a f g i n p t q over = absurd (omega arith)
+
+  strings_first : Small Any → Small Fixed → AreShort P.fixed → Small Integers → Small Names → Small Paths → AreShort P.paths → Small Present → IsEarliest Strings
+  strings_first a f g i n p t r Strings over = λ less. cc
+  strings_first a f g i n p t r (At text) over = let few = t text.now in absurd (omega arith)
+  strings_first a f g i n p t r (FixedAt text) over = let few = g text.now in absurd (omega arith)
+  strings_first a f g i n p t r q over = absurd (omega arith)
+
+  is_first : (pool : PoolName) (x : Oversized) → (x ≡ record { pool = pool; found = size_of pool P; allowed = most_of pool limits }) × (most_of pool limits < size_of pool P) → IsEarliest pool → IsOversized limits P x
+  is_first pool x h first = subst (IsOversized limits P) (sym h.0) (record { found = refl; allowed = refl; over = h.1; first = first })
+
+  fixed_is_first : (x : Oversized) → AreMembers P.fixed → Small Any → Small Fixed → IsLongList FixedAt limits.entries P.fixed x → IsOversized limits P x
+  fixed_is_first x o a f h =
+      let r = first_long limits.entries P.fixed h.0.now x.found o h.3 in
+      record { found = rw h.1 r.count; allowed = rw h.1 h.2; over = rw h.2 r.over; first = rw h.1 (fixed_at_first a f h.0 r.first) }
+
+  path_is_first : (x : Oversized) → AreMembers P.paths → Small Any → Small Fixed → AreShort P.fixed → Small Integers → Small Names → Small Paths → IsLongList At limits.entries P.paths x → IsOversized limits P x
+  path_is_first x o a f g i n p h =
+      let r = first_long limits.entries P.paths h.0.now x.found o h.3 in
+      record { found = rw h.1 r.count; allowed = rw h.1 h.2; over = rw h.2 r.over; first = rw h.1 (at_first a f g i n p h.0 r.first) }
+
+  all_small : Small Any → Small Fixed → AreShort P.fixed → Small Integers → Small Names → Small Paths → AreShort P.paths → Small Present → Small Strings → AreSmall limits P
+  all_small a f g i n p t r s = record {
+    integers = i;
+    strings = s;
+    names = n;
+    any = a;
+    paths = p;
+    at_paths = λ text ds at. let few = t text in rw at at few;
+    fixed = f;
+    at_fixed = λ text ds at. let few = g text in rw at at few;
+    present = r;
+  }
+
+  abbrev short : (ms : Members) → long_list limits.entries ms ≡ None → AreShort ms
+  short ms none = no_long_list limits.entries ms none
+
+  -- from `paths` on
+  later_oversized : (paths list present strings : Option Oversized) → AreMembers P.paths → Small Any → Small Fixed → AreShort P.fixed → Small Integers → Small Names → IsTested limits P Paths paths → AreTested At limits.entries P.paths list
+      → IsTested limits P Present present → IsTested limits P Strings strings → MatchOption (option_or (option_or (option_or paths list) present) strings) (AreSmall limits P) (IsOversized limits P)
+  later_oversized (Some x) list present strings o a f g i n p t r s = is_first Paths x p (paths_first a f g i n)
+  later_oversized None (Some x) present strings o a f g i n p t r s = path_is_first x o a f g i n p t
+  later_oversized None None (Some x) strings o a f g i n p t r s = is_first Present x r (present_first a f g i n p (short P.paths t))
+  later_oversized None None None (Some x) o a f g i n p t r s = is_first Strings x s (strings_first a f g i n p (short P.paths t) r)
+  later_oversized None None None None o a f g i n p t r s = all_small a f g i n p (short P.paths t) r s
+
+  pub first_oversized : (any fixed fixed_list integers names paths list present strings : Option Oversized) → AreMembers P.fixed → AreMembers P.paths → IsTested limits P Any any → IsTested limits P Fixed fixed → AreTested FixedAt limits.entries P.fixed fixed_list
+      → IsTested limits P Integers integers → IsTested limits P Names names → IsTested limits P Paths paths → AreTested At limits.entries P.paths list → IsTested limits P Present present → IsTested limits P Strings strings
+      → MatchOption (option_or (option_or (option_or (option_or (option_or (option_or (option_or (option_or any fixed) fixed_list) integers) names) paths) list) present) strings) (AreSmall limits P) (IsOversized limits P)
+  first_oversized (Some x) fixed fixed_list integers names paths list present strings of op a f g i n p t r s = is_first Any x a any_first
+  first_oversized None (Some x) fixed_list integers names paths list present strings of op a f g i n p t r s = is_first Fixed x f (fixed_first a)
+  first_oversized None None (Some x) integers names paths list present strings of op a f g i n p t r s = fixed_is_first x of a f g
+  first_oversized None None None (Some x) names paths list present strings of op a f g i n p t r s = is_first Integers x i (integers_first a f (short P.fixed g))
+  first_oversized None None None None (Some x) paths list present strings of op a f g i n p t r s = is_first Names x n (names_first a f (short P.fixed g) i)
+  first_oversized None None None None None paths list present strings of op a f g i n p t r s = later_oversized paths list present strings op a f (short P.fixed g) i n p t r s

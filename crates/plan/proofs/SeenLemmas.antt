@@ -31,15 +31,15 @@ use Rattle.plan.proofs.NameLemmas.{in_order_has}
 abbrev pub HaveBits : List (List ℕ) → List Slot → Type 0
 HaveBits names ss = (s : Slot) → Among ss s → s.bit ≡ bit_of s.name names
 
-pub field_bits : (path : List ℕ) (keys names : List (List ℕ)) (fs : Fields) → HaveBits names (field_slots path keys names fs)
-field_bits path keys names no_fields s a = absurd a
-field_bits path keys names (field k N required default fs) s (inl e) = subst (λ t. Slot.bit t ≡ bit_of (Slot.name t) names) e refl
-field_bits path keys names (field k N required default fs) s (inr a) = field_bits path keys names fs s a
+pub field_bits : (P : Pools) (path : List ℕ) (keys names : List (List ℕ)) (fs : Fields) → HaveBits names (field_slots P path keys names fs)
+field_bits P path keys names no_fields s a = absurd a
+field_bits P path keys names (field k N required default fs) s (inl e) = subst (λ t. Slot.bit t ≡ bit_of (Slot.name t) names) e refl
+field_bits P path keys names (field k N required default fs) s (inr a) = field_bits P path keys names fs s a
 
-pub value_bits : (path : List ℕ) (N : Node) (ks : List (List ℕ)) → HaveBits [] (map (value_slot path N) ks)
-value_bits path N [] s a = absurd a
-value_bits path N (k ∷ ks) s (inl e) = subst (λ t. Slot.bit t ≡ bit_of (Slot.name t) []) e refl
-value_bits path N (k ∷ ks) s (inr a) = value_bits path N ks s a
+pub value_bits : (P : Pools) (path : List ℕ) (N : Node) (ks : List (List ℕ)) → HaveBits [] (map (value_slot P path N) ks)
+value_bits P path N [] s a = absurd a
+value_bits P path N (k ∷ ks) s (inl e) = subst (λ t. Slot.bit t ≡ bit_of (Slot.name t) []) e refl
+value_bits P path N (k ∷ ks) s (inr a) = value_bits P path N ks s a
 
 -- ---- places of names
 

@@ -1,10 +1,10 @@
 -- The nodes of a schema are ordered, the items of their lists can be distinguished, and the junctors of their objects name few fields.
-use Rattle.std.specs.Prelude.{◌≡◌, ◌⊎◌, ℕ, List, [], ◌∷◌, Bool, false, Option, Some, All}
+use Rattle.std.specs.Prelude.{◌≡◌, ◌⊎◌, ℕ, List, [], ◌∷◌, Bool, false, Option, Some, None, All}
 use Rattle.std.proofs.Common.{refl, subst, inl, inr}
 use Rattle.std.proofs.lemmas.Option.{same_Some}
 use Rattle.std.specs.Str.{bytes_eq}
 use Rattle.std.specs.declared.cmp.Ordering.TheVariants.{Less}
-use Rattle.jtree.specs.Data.{Data}
+use Rattle.jtree.specs.Data.{Data, no_members}
 use Rattle.jtree.specs.Order.{text_cmp}
 use Rattle.jtree.specs.Internal.Lookups.{own_name, later_name}
 use Rattle.jtree.specs.Internal.Rising.{Among, contains, among_left, among_right, among_parts, each_of}
@@ -18,7 +18,8 @@ use Rattle.schema.specs.declared.node.ListType.{ListType}
 use Rattle.schema.specs.declared.node.ListType.TheVariants.{Atomic, Set, Map}
 use Rattle.stored.specs.Schemas.Accepted.{IsSchema}
 use Rattle.explain.specs.Paths.FieldPath as step
-use Rattle.plan.specs.Samples.Sites.{Site, below, item_site, item_site_at, sites_from, sites_below, sites_of_fields, sites_of, item_keys, field_slots}
+use Rattle.plan.specs.Pools.Pools.{Pools, fixed_at}
+use Rattle.plan.specs.Samples.Sites.{Site, below, where_fixed, fixed_item, item_site, item_site_at, sites_from, sites_below, sites_of_fields, sites_of, item_keys, field_slots}
 use Rattle.plan.specs.Internal.Building.{IsSound, AreFieldsSound}
 use Rattle.plan.specs.Internal.Laws.{SchemaLaws}
 use Rattle.plan.proofs.PartLemmas.{slot_of_field, fields_in_order}
@@ -28,11 +29,14 @@ use Rattle.plan.proofs.PartLemmas.{slot_of_field, fields_in_order}
 abbrev IsSoundBelow : Node → Type 0
 IsSoundBelow N = (p : Place) (M : Node) → node_at N p ≡ Some M → HasSoundItems M × HasSoundJunctors M
 
+no_pools : Pools
+no_pools = record { integers = []; strings = []; names = []; any = []; paths = no_members; present = []; fixed = no_members }
+
 -- a field after the first has another name
 later_field : (l : List ℕ) (N : Node) (required : Bool) (default : Option Data) (fs : Fields) → AreOrdered (field l N required default fs) → (k : List ℕ) (f : Declared) → field_at k fs ≡ Some f → bytes_eq k l ≡ false
 later_field l N required default fs o k f is =
-    let s = slot_of_field [] [] [] fs k f is in
-    later_name k l (subst (λ n. text_cmp l n ≡ Less) s.1.1.0 ((fields_in_order [] [] [] (field l N required default fs) o).0 s.0 (contains (field_slots [] [] [] fs) s.0 s.1.0)))
+    let s = slot_of_field no_pools [] [] [] fs k f is in
+    later_name k l (subst (λ n. text_cmp l n ≡ Less) s.1.1.0 ((fields_in_order no_pools [] [] [] (field l N required default fs) o).0 s.0 (contains (field_slots no_pools [] [] [] fs) s.0 s.1.0)))
 
 mutual
   sound_from : (N : Node) → IsNode N → IsSoundBelow N → IsSound N
@@ -57,12 +61,15 @@ schema_sound laws root h =
 
 -- ---- each site
 
-itself : (path : List ℕ) (N : Node) (keys : List (List ℕ)) → Among (sites_from path N keys) (record { node = N; keys = keys; path = path })
-itself path (node n t sort) keys = among_right (sites_below path sort) _ _ (inl refl)
+itself : (P : Pools) (fixed : Option (List Data)) (path : List ℕ) (N : Node) (keys : List (List ℕ)) → Among (sites_from P fixed path N keys) (record { node = N; keys = keys; path = path; fixed = fixed })
+itself P fixed path (node n t sort) keys = among_right (where_fixed fixed [] (sites_below P path sort)) _ _ (inl refl)
 
-own_item : (path : List ℕ) (n : Bool) (t : Option (List ℕ)) (sort : Sort) (M : Site) → item_site_at path (node n t sort) ≡ Some M → Among (sites_below path sort) M
-own_item path n t (list N type keys b) M is = subst (Among (sites_from (below path step.item) N (item_keys type keys))) (same_Some _ M is) (itself (below path step.item) N (item_keys type keys))
-own_item path n t sort M is = absurd (cc)
+own_item : (P : Pools) (fixed : Option (List Data)) (path : List ℕ) (n : Bool) (t : Option (List ℕ)) (sort : Sort) (M : Site) → where_fixed fixed None (item_site_at P path (node n t sort)) ≡ Some M → Among (where_fixed fixed [] (sites_below P path sort)) M
+own_item P None path n t (list N type keys b) M is =
+    let below_item = fixed_item P type (below path step.item) in
+    subst (Among (sites_from P below_item (below path step.item) N (item_keys type keys))) (same_Some _ M is) (itself P below_item (below path step.item) N (item_keys type keys))
+own_item P None path n t sort M is = absurd (cc)
+own_item P (Some ds) path n t sort M is = absurd (cc)
 
 -- there are no keys, or they are those of the items of a map list
 abbrev pub AreKeysOf : Node → List (List ℕ) → Type 0
@@ -74,43 +81,45 @@ keys_of_items Set keys N h = inl refl
 keys_of_items Atomic keys N h = inl refl
 
 -- its node is ordered, its items and those below it can be distinguished, the site of its items is one of all, and its keys are its own
-abbrev pub IsSoundSite : List Site → Site → Type 0
-IsSoundSite all s = IsNode s.node × IsSound s.node × ((M : Site) → item_site s ≡ Some M → Among all M) × AreKeysOf s.node s.keys
+abbrev pub IsSoundSite : Pools → List Site → Site → Type 0
+IsSoundSite P all s = IsNode s.node × IsSound s.node × ((M : Site) → item_site P s ≡ Some M → Among all M) × AreKeysOf s.node s.keys
 
-module _ (all : List Site) where
+module _ (P : Pools) (all : List Site) where
   abbrev AreOf : List Site → Type 0
   AreOf ss = (s : Site) → Among ss s → Among all s
 
   mutual
-    site_sound : (path : List ℕ) (N : Node) (keys : List (List ℕ)) → IsNode N → IsSound N → AreKeysOf N keys → AreOf (sites_from path N keys) → (s : Site) → Among (sites_from path N keys) s → IsSoundSite all s
-    site_sound path (node n t sort) keys o h k of s a =
-        let own : Site = record { node = node n t sort; keys = keys; path = path } in
-        let of_below : AreOf (sites_below path sort) = λ u b. of u (among_left (sites_below path sort) (own ∷ []) u b) in
-        let here : IsSoundSite all own = (o, h, (λ M is. of_below M (own_item path n t sort M is)), k) in
-        elim (among_parts (sites_below path sort) (own ∷ []) s a) [
-          | inl under ↦ site_below_sound path n t sort o h of_below s under
-          | inr last ↦ elim last [ inl e ↦ subst (IsSoundSite all) e here | inr none ↦ absurd none ]
+    site_sound : (fixed : Option (List Data)) (path : List ℕ) (N : Node) (keys : List (List ℕ)) → IsNode N → IsSound N → AreKeysOf N keys → AreOf (sites_from P fixed path N keys) → (s : Site) → Among (sites_from P fixed path N keys) s → IsSoundSite P all s
+    site_sound fixed path (node n t sort) keys o h k of s a =
+        let own : Site = record { node = node n t sort; keys = keys; path = path; fixed = fixed } in
+        let below_it = where_fixed fixed [] (sites_below P path sort) in
+        let of_below : AreOf below_it = λ u b. of u (among_left below_it (own ∷ []) u b) in
+        let here : IsSoundSite P all own = (o, h, (λ M is. of_below M (own_item P fixed path n t sort M is)), k) in
+        elim (among_parts below_it (own ∷ []) s a) [
+          | inl under ↦ site_below_sound fixed path n t sort o h of_below s under
+          | inr last ↦ elim last [ inl e ↦ subst (IsSoundSite P all) e here | inr none ↦ absurd none ]
         ]
 
-    site_below_sound : (path : List ℕ) (n : Bool) (t : Option (List ℕ)) (sort : Sort) → IsSort sort → IsSound (node n t sort) → AreOf (sites_below path sort) → (s : Site) → Among (sites_below path sort) s → IsSoundSite all s
-    site_below_sound path n t (object fs preserves type b cs) o h of s a = field_site_sound path fs o h.2 of s a
-    site_below_sound path n t (map N type b) o h of s a = site_sound (below path step.value) N [] o h.2 (inl refl) of s a
-    site_below_sound path n t (list N type keys b) o h of s a = site_sound (below path step.item) N (item_keys type keys) o h.2 (keys_of_items type keys N h.0) of s a
-    site_below_sound path n t (scalar kind cs) o h of s a = absurd a
-    site_below_sound path n t open_ o h of s a = absurd a
+    site_below_sound : (fixed : Option (List Data)) (path : List ℕ) (n : Bool) (t : Option (List ℕ)) (sort : Sort) → IsSort sort → IsSound (node n t sort) → AreOf (where_fixed fixed [] (sites_below P path sort)) → (s : Site) → Among (where_fixed fixed [] (sites_below P path sort)) s → IsSoundSite P all s
+    site_below_sound (Some ds) path n t sort o h of s a = absurd a
+    site_below_sound None path n t (object fs preserves type b cs) o h of s a = field_site_sound path fs o h.2 of s a
+    site_below_sound None path n t (map N type b) o h of s a = site_sound (fixed_at (below path step.value) P) (below path step.value) N [] o h.2 (inl refl) of s a
+    site_below_sound None path n t (list N type keys b) o h of s a = site_sound (fixed_item P type (below path step.item)) (below path step.item) N (item_keys type keys) o h.2 (keys_of_items type keys N h.0) of s a
+    site_below_sound None path n t (scalar kind cs) o h of s a = absurd a
+    site_below_sound None path n t open_ o h of s a = absurd a
 
-    field_site_sound : (path : List ℕ) (fs : Fields) → AreOrdered fs → AreFieldsSound fs → AreOf (sites_of_fields path fs) → (s : Site) → Among (sites_of_fields path fs) s → IsSoundSite all s
+    field_site_sound : (path : List ℕ) (fs : Fields) → AreOrdered fs → AreFieldsSound fs → AreOf (sites_of_fields P path fs) → (s : Site) → Among (sites_of_fields P path fs) s → IsSoundSite P all s
     field_site_sound path no_fields o h of s a = absurd a
     field_site_sound path (field l N required default fs) o h of s a =
-        let first = sites_from (below path (step.field l)) N [] in
-        let later = sites_of_fields path fs in
+        let first = sites_from P (fixed_at (below path (step.field l)) P) (below path (step.field l)) N [] in
+        let later = sites_of_fields P path fs in
         elim (among_parts first later s a) [
-          | inl here ↦ site_sound (below path (step.field l)) N [] o.0 h.0 (inl refl) (λ u b. of u (among_left first later u b)) s here
+          | inl here ↦ site_sound (fixed_at (below path (step.field l)) P) (below path (step.field l)) N [] o.0 h.0 (inl refl) (λ u b. of u (among_left first later u b)) s here
           | inr there ↦ field_site_sound path fs o.2 h.1 (λ u b. of u (among_right first later u b)) s there
         ]
 
-pub sites_sound : SchemaLaws → (root : Node) → IsSchema root → All (IsSoundSite (sites_of root)) (sites_of root)
-sites_sound laws root h = let r = schema_sound laws root h in each_of _ (sites_of root) (site_sound (sites_of root) [] root [] r.0 r.1 (inl refl) (λ s a. a))
+pub sites_sound : (P : Pools) → SchemaLaws → (root : Node) → IsSchema root → All (IsSoundSite P (sites_of P root)) (sites_of P root)
+sites_sound P laws root h = let r = schema_sound laws root h in each_of _ (sites_of P root) (site_sound P (sites_of P root) None [] root [] r.0 r.1 (inl refl) (λ s a. a))
 
 pub sound_here : (N : Node) → IsSound N → HasSoundItems N
 sound_here (node n t sort) h = h.0

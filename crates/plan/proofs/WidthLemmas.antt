@@ -58,9 +58,9 @@ widest_more P sites n width w h here = record {
   ];
 }
 
-pub widest_all : (P : Pools) (root : Node) (width : ℕ) → IsWidest P (sites_of root) (length (sites_of root)) width → IsWidth P root width
+pub widest_all : (P : Pools) (root : Node) (width : ℕ) → IsWidest P (sites_of P root) (length (sites_of P root)) width → IsWidth P root width
 widest_all P root width h =
-    let sites = sites_of root in
+    let sites = sites_of P root in
     record {
       each = λ s w c has.
           let e : site_at sites c.0 ≡ s = get_or_default sites c.0 _ s c.1 ∙ c.2 in
@@ -73,5 +73,5 @@ widest_all P root width h =
 
 -- in terms of the plan's view
 pub width_in : {Z : Type 0} (holds : Z → ℕ → Type 0) (BITS : ℕ) (root : Node) (P : Pools) (limit : ℕ) (v : Values) (es : List (Entry Z)) (first : ℕ) (q : Question) (width : ℕ) → IsPlan holds BITS root P limit v es first → record { root = root; pools = P; limit = limit } ≡ q
-    → IsWidest P (sites_of root) (length es) width → IsWidth q.pools q.root width
+    → IsWidest P (sites_of P root) (length es) width → IsWidth q.pools q.root width
 width_in holds BITS root P limit v es first q width plan view h = subst (λ (x : Question). IsWidth x.pools x.root width) view (widest_all P root width (rw plan.count at h))

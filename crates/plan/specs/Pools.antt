@@ -3,4 +3,5 @@ pub mod Pools
 pub mod Document
 pub mod PoolsFault
 pub mod Oversized
+pub mod FixedPaths
 pub mod PlanFault

@@ -1,13 +1,16 @@
 //! The entries of a schema's nodes, those below a node before it.
-ghost use Rattle.std.specs.Prelude.{◌≡◌, ℕ, ◌≤◌, ◌<◌, ◌+◌, ◌^◌, List, [], Option, length, IfOk};
+ghost use Rattle.std.specs.Prelude.{◌≡◌, ℕ, ◌≤◌, ◌<◌, ◌+◌, ◌^◌, List, [], Bool, Option, None, length, IfOk};
 ghost use Rattle.schema.specs.Nodes.Node.{Node as NodeData, node as node_with};
 ghost use Rattle.schema.specs.Nodes.View.{node_of, object_of, map_of, list_of};
 ghost use Rattle.schema.specs.Document.Texts.{is_among};
 ghost use Rattle.jtree.specs.View.{data_of};
 ghost use Rattle.std.specs.Prelude.{option_map, All, map as map_list};
 ghost use Rattle.explain.specs.Paths.FieldPath.{field as field_step, value as value_step};
-ghost use Rattle.plan.specs.Samples.Sites.{Site, plain, below, value_slot, item_keys};
+ghost use Rattle.plan.specs.Samples.Sites.{Site, plain, below, where_fixed, value_slot, item_keys, fixed_item as fixed_item_of};
+ghost use Rattle.plan.specs.Pools.Pools.{Pools as PoolsData, fixed_at};
+ghost use Rattle.plan.specs.Internal.Values.{trees_of};
 ghost use Rattle.plan.specs.Samples.Candidates.{sort_at};
+ghost use Rattle.plan.specs.Samples.RuleOfParts.{takes_null as takes_null_at};
 ghost use Rattle.plan.specs.declared.sort.Sort.TheVariants.{Leaf};
 ghost use Rattle.plan.specs.Internal.Arena.{AreSlots, IsLimit, IsKept};
 ghost use Rattle.plan.specs.Samples.Sites.{site_at};
@@ -17,44 +20,44 @@ ghost use Rattle.plan.specs.Internal.Tables.{IsClosed};
 ghost use Rattle.plan.specs.Internal.Building.{IsBuilt, AreBuilt, IsFieldSlot};
 
 use crate::arena::{Arena, Content, Entry, PlanNode, SlotEntry, SlotName};
+use crate::asked::{raised, takes_null};
 use crate::entries::add_row;
 use crate::leaf::{leaf_of, leaf_sizes};
 use crate::list_entries::add_list;
 use crate::presence::{bit_of, ends, named_fields};
 use crate::{Pools, SizeSet};
 use explain::{Step, path_below};
-use jtree::Text;
+use jtree::{Text, Tree};
 use schema::{Below, Field, Fields, ListNode, ListType, MapNode, Node, ObjectNode, Sort};
 use std::alloc::{AllocError, Global};
 
-/// Adds the entries of a node and of all nodes below it; `path` is the text of its path, and `keys` are the keys of the map list
-/// whose item it is.
+/// Adds the entries of a node and of all nodes below it, of which a node whose values are fixed has none; `path` is the text of its
+/// path, and `keys` are the keys of the map list whose item it is.
 #[cycle(build)]
 pub(crate) fn build<Z: SizeSet>(
     arena: &mut Arena<Z>,
     alloc: Global,
     pools: &Pools,
+    fixed: Option<&[Tree]>,
     path: &str,
     node: &Node,
     keys: &[Text],
 ) -> Result<PlanNode, AllocError>
     requires limit { IsLimit Z.BITS arena.old.limit }
     ensures kept { IsKept arena.old arena.new }
-    ensures built { IfOk result (λ n. IsBuilt Z.holds arena.old.limit pools.now arena.old.values arena.old.entries.items arena.new.entries.items path.now (node_of node.now) keys.now n) }
+    ensures built { IfOk result (λ n. IsBuilt Z.holds arena.old.limit pools.now arena.old.values arena.old.entries.items arena.new.entries.items (option_map (λ ts. trees_of ts.now) fixed.entry) path.now (node_of node.now) keys.now n) }
 {
+    let nullable = takes_null(alloc, pools, path, node)?;
+    if fixed.is_some() {
+        return build_leaf(arena, alloc, pools, fixed, path, node, nullable);
+    }
     match &node.sort {
-        Sort::Object(object) => build_object(
-            arena,
-            alloc,
-            pools,
-            path,
-            object,
-            node.nullable,
-            keys,
-        ),
-        Sort::Map(map) => build_map(arena, alloc, pools, path, map, node.nullable, keys),
-        Sort::List(list) => build_list(arena, alloc, pools, path, list, node.nullable, keys),
-        Sort::Scalar(_) | Sort::Open => build_leaf(arena, alloc, pools, path, node),
+        Sort::Object(object) => build_object(arena, alloc, pools, path, object, nullable, keys),
+        Sort::Map(map) => build_map(arena, alloc, pools, path, map, nullable, keys),
+        Sort::List(list) => build_list(arena, alloc, pools, path, list, nullable, keys),
+        Sort::Scalar(_) | Sort::Open => {
+            build_leaf(arena, alloc, pools, fixed, path, node, nullable)
+        }
     }
 }
 
@@ -70,7 +73,8 @@ fn build_object<Z: SizeSet>(
 ) -> Result<PlanNode, AllocError>
     requires limit { IsLimit Z.BITS arena.old.limit }
     ensures kept { IsKept arena.old arena.new }
-    ensures built { IfOk result (λ n. (d : Option (List ℕ)) → IsBuilt Z.holds arena.old.limit pools.now arena.old.values arena.old.entries.items arena.new.entries.items path.now (node_with nullable d (object_of object.now)) keys.now n) }
+    ensures built { IfOk result (λ n. (m : Bool) (d : Option (List ℕ)) → takes_null_at pools.now path.now (node_with m d (object_of object.now)) ≡ nullable
+        → IsBuilt Z.holds arena.old.limit pools.now arena.old.values arena.old.entries.items arena.new.entries.items None path.now (node_with m d (object_of object.now)) keys.now n) }
 {
     // for its contract alone, as in the functions below: a proof learns that declared names are in order, each once
     object.fields.reveal_invariant();
@@ -117,16 +121,24 @@ fn build_field<Z: SizeSet>(
     requires limit { IsLimit Z.BITS arena.old.limit }
     requires few { length named.now ≤ most_named }
     ensures kept { IsKept arena.old arena.new }
-    ensures built { IfOk result (λ s. IsBuilt Z.holds arena.old.limit pools.now arena.old.values arena.old.entries.items arena.new.entries.items (below path.now (field_step field.now.name)) (node_of field.now.node) [] s.node) }
-    ensures slot { IfOk result (λ s. IsFieldSlot keys.now named.now field.now.name field.now.required (option_map data_of field.now.default) s) }
+    ensures built { IfOk result (λ s. IsBuilt Z.holds arena.old.limit pools.now arena.old.values arena.old.entries.items arena.new.entries.items (fixed_at (below path.now (field_step field.now.name)) pools.now) (below path.now (field_step field.now.name)) (node_of field.now.node) [] s.node) }
+    ensures slot { IfOk result (λ s. IsFieldSlot pools.now path.now keys.now named.now field.now.name field.now.required (option_map data_of field.now.default) s) }
     ensures bit { IfOk result (λ s. IsClosed (2 ^ length named.now) s.bit) }
 {
     let below = path_below(alloc, path, Step::Field(field.name.as_str()))?;
-    let node = build(arena, alloc, pools, &below, &field.node, &[])?;
+    let node = build(
+        arena,
+        alloc,
+        pools,
+        pools.fixed_at(&below),
+        &below,
+        &field.node,
+        &[],
+    )?;
     Ok(SlotEntry {
         name: SlotName::Field(field.name.copy(alloc)?),
         node,
-        must: field.required || field.default.is_some(),
+        must: field.required || field.default.is_some() || pools.is_present(&below),
         key: is_key(&field.name, keys),
         bit: bit_of(&field.name, named),
     })
@@ -144,13 +156,23 @@ fn build_map<Z: SizeSet>(
 ) -> Result<PlanNode, AllocError>
     requires limit { IsLimit Z.BITS arena.old.limit }
     ensures kept { IsKept arena.old arena.new }
-    ensures built { IfOk result (λ n. (d : Option (List ℕ)) → IsBuilt Z.holds arena.old.limit pools.now arena.old.values arena.old.entries.items arena.new.entries.items path.now (node_with nullable d (map_of map.now)) keys.now n) }
+    ensures built { IfOk result (λ n. (m : Bool) (d : Option (List ℕ)) → takes_null_at pools.now path.now (node_with m d (map_of map.now)) ≡ nullable
+        → IsBuilt Z.holds arena.old.limit pools.now arena.old.values arena.old.entries.items arena.new.entries.items None path.now (node_with m d (map_of map.now)) keys.now n) }
 {
     map.value.reveal_invariant();
     let below = path_below(alloc, path, Step::Value)?;
-    let value = build(arena, alloc, pools, &below, node_below(&map.value), &[])?;
+    let value = build(
+        arena,
+        alloc,
+        pools,
+        pools.fixed_at(&below),
+        &below,
+        node_below(&map.value),
+        &[],
+    )?;
     let slots = value_slots(alloc, arena.values.names.len(), value)?;
-    add_row(arena, alloc, slots, map.bounds, &[true], nullable)
+    let bounds = raised(map.bounds, pools.is_present(&below));
+    add_row(arena, alloc, slots, bounds, &[true], nullable)
 }
 
 #[cycle(build)]
@@ -165,7 +187,8 @@ fn build_list<Z: SizeSet>(
 ) -> Result<PlanNode, AllocError>
     requires limit { IsLimit Z.BITS arena.old.limit }
     ensures kept { IsKept arena.old arena.new }
-    ensures built { IfOk result (λ n. (d : Option (List ℕ)) → IsBuilt Z.holds arena.old.limit pools.now arena.old.values arena.old.entries.items arena.new.entries.items path.now (node_with nullable d (list_of list.now)) keys.now n) }
+    ensures built { IfOk result (λ n. (m : Bool) (d : Option (List ℕ)) → takes_null_at pools.now path.now (node_with m d (list_of list.now)) ≡ nullable
+        → IsBuilt Z.holds arena.old.limit pools.now arena.old.values arena.old.entries.items arena.new.entries.items None path.now (node_with m d (list_of list.now)) keys.now n) }
 {
     list.item.reveal_invariant();
     let below = path_below(alloc, path, Step::Item)?;
@@ -173,11 +196,23 @@ fn build_list<Z: SizeSet>(
         arena,
         alloc,
         pools,
+        fixed_item(pools, list, &below),
         &below,
         node_below(&list.item),
         item_keys(list),
     )?;
-    add_list(arena, alloc, item, list, nullable)
+    let bounds = raised(list.bounds, pools.is_present(&below));
+    add_list(arena, alloc, item, list, bounds, nullable)
+}
+
+/// The values that the pools fix for the items of a list: none for those of a map list.
+fn fixed_item<'a>(pools: &'a Pools, list: &ListNode, below: &str) -> Option<&'a [Tree]>
+    ensures { option_map (λ ts. trees_of ts.now) result ≡ fixed_item_of pools.now list.now.list_type below.now }
+{
+    match list.list_type {
+        ListType::Map => None,
+        ListType::Atomic | ListType::Set => pools.fixed_at(below),
+    }
 }
 
 /// The keys of the items of the list.
@@ -190,24 +225,27 @@ fn item_keys(list: &ListNode) -> &[Text]
     }
 }
 
-/// Adds the entry of a scalar or an open node.
+/// Adds the entry of a leaf.
 fn build_leaf<Z: SizeSet>(
     arena: &mut Arena<Z>,
     alloc: Global,
     pools: &Pools,
+    fixed: Option<&[Tree]>,
     path: &str,
     node: &Node,
+    nullable: bool,
 ) -> Result<PlanNode, AllocError>
     requires limit { arena.old.limit < Z.BITS }
-    requires leaf { sort_at (node_of node.now) ≡ Leaf }
+    requires leaf { where_fixed (option_map (λ ts. trees_of ts.now) fixed) Leaf (sort_at (node_of node.now)) ≡ Leaf }
     ensures kept { IsKept arena.old arena.new }
-    ensures built { IfOk result (λ n. (keys : List (List ℕ)) → IsBuilt Z.holds arena.old.limit pools.now arena.old.values arena.old.entries.items arena.new.entries.items path.now (node_of node.now) keys n) }
+    ensures built { IfOk result (λ n. (keys : List (List ℕ)) → takes_null_at pools.now path.now (node_of node.now) ≡ nullable
+        → IsBuilt Z.holds arena.old.limit pools.now arena.old.values arena.old.entries.items arena.new.entries.items (option_map (λ ts. trees_of ts.now) fixed.entry) path.now (node_of node.now) keys n) }
 {
-    let leaf = leaf_of(alloc, pools, &arena.values, path, node)?;
+    let leaf = leaf_of(alloc, pools, &arena.values, fixed, path, node)?;
     let sizes = leaf_sizes(&arena.values, &leaf, arena.limit);
     let node = arena.add(Entry {
         sizes,
-        nullable: node.nullable,
+        nullable,
         content: Content::Leaf(leaf),
     })?;
     Ok(node)
@@ -224,8 +262,8 @@ fn node_below(below: &Below) -> &Node
 fn value_slots(alloc: Global, count: usize, node: PlanNode) -> Result<Vec<SlotEntry>, AllocError>
     ensures below { IfOk result (λ slots. All (λ (s : SlotDeclared). s.node ≡ node) slots.items) }
     ensures bits { IfOk result (λ slots. All (λ (s : SlotDeclared). IsClosed 1 s.bit) slots.items) }
-    ensures slots { IfOk result (λ slots. (names : List (List ℕ)) (sites : List Site) (i : ℕ) (path : List ℕ) (M : NodeData) → count ≡ length names → node < i → site_at sites node ≡ plain (below path value_step) M
-        → AreSlots names sites i slots.items (map_list (value_slot path M) names)) }
+    ensures slots { IfOk result (λ slots. (names : List (List ℕ)) (sites : List Site) (i : ℕ) (P : PoolsData) (path : List ℕ) (M : NodeData) → count ≡ length names → node < i → site_at sites node ≡ plain P (below path value_step) M
+        → AreSlots names sites i slots.items (map_list (value_slot P path M) names)) }
 {
     let mut slots = Vec::new(alloc);
     for place in 0..count {

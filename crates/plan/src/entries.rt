@@ -80,7 +80,7 @@ pub(crate) fn add_row<Z: SizeSet>(
     ensures number { IfOk result (λ n. n ≡ length arena.old.entries.items) }
     ensures count { IfOk result (λ n. length arena.new.entries.items ≡ n + 1) }
     ensures right { IfOk result (λ n. (P : Pools) (sites : List Site) (cs : Validations) → AreRight Z.holds arena.old.limit P arena.old.values sites arena.old.entries.items
-        → IsNode (site_at sites n).node → sort_of (site_at sites n) ≡ Row → ending_of (site_at sites n) ≡ record { bounds = bounds; asked = cs } → AreMet cs ends.now → admits_null (site_at sites n) ≡ nullable
+        → IsNode (site_at sites n).node → sort_of (site_at sites n) ≡ Row → ending_of P (site_at sites n) ≡ record { bounds = bounds; asked = cs } → AreMet cs ends.now → admits_null P (site_at sites n) ≡ nullable
         → AreSlots arena.old.values.names.items sites n slots.items (slots_of P (site_at sites n)) → AreRight Z.holds arena.old.limit P arena.old.values sites arena.new.entries.items) }
 {
     // for its contract alone

@@ -19,7 +19,7 @@ pub enum PFault {
     /// The node limit is 0, or not below the `BITS` of the plan's sets: with `u64`, not 1 to 63, and with `u128`, not 1 to 127.
     #[error("P4")]
     BadLimit,
-    /// A path of the pools leads to neither a scalar nor an open node of the schema.
+    /// A path of the pools leads to no field of the schema, or to one about which the pools cannot say this.
     #[error("P5")]
     BadPath(String),
 }

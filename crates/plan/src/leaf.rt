@@ -1,4 +1,4 @@
-//! The candidates of a scalar or an open node.
+//! The candidates of a leaf: a scalar, an open node, or a node whose values are fixed.
 ghost use Rattle.std.specs.Prelude.{◌≡◌, ℕ, ◌≤◌, ◌<◌, ◌↔◌, ◌⊎◌, ◌∷◌, IfOk, option_map};
 ghost use Rattle.std.specs.List.{slice_get};
 ghost use Rattle.std.specs.Option.{option_copied};
@@ -8,24 +8,24 @@ ghost use Rattle.jtree.specs.View.{data_of};
 ghost use Rattle.jtree.specs.declared.value.Tree.{Tree};
 ghost use Rattle.schema.specs.Nodes.View.{node_of};
 ghost use Rattle.plan.specs.Pools.Pools.{Pools as PoolsData};
-ghost use Rattle.plan.specs.Samples.Sites.{Site};
+ghost use Rattle.plan.specs.Samples.Sites.{Site, where_fixed};
 ghost use Rattle.plan.specs.Samples.Over.{listed_for, listed};
 ghost use Rattle.plan.specs.Samples.Candidates.{sort_at, sort_of, AreCandidates};
 ghost use Rattle.plan.specs.Samples.Sizes.{HasSize, IsUpTo};
-ghost use Rattle.plan.specs.Internal.Values.{trees_of, IsBase, AreValues, base_of, tree_of, at_places, AreStored, candidates_of};
+ghost use Rattle.plan.specs.Internal.Values.{trees_of, IsBase, AreValues, base_of, tree_of, at_places, AreStored, choices_at, candidates_of};
 ghost use Rattle.plan.specs.declared.values.Values.{Values};
 ghost use Rattle.plan.specs.declared.sort.Sort.TheVariants.{Leaf as LeafSort};
 
 use crate::laws::parts_one_level;
-use crate::values::{Values, with_null};
+use crate::values::{Values, in_order, with_null};
 use crate::{Pools, SizeSet};
 use jtree::Tree;
 use schema::{Node, Sort};
 use std::alloc::{AllocError, Global};
 use stored::is_stored;
 
-/// The trees among which the candidates of a leaf are: the values of the pools, which all nodes share, or a list of its own (`enum`, or
-/// a list for its path).
+/// The trees among which the candidates of a leaf are: the values of the pools, which all nodes share, or a list of its own (`enum`, a
+/// list for its path, or its fixed values).
 #[derive(Drop)]
 pub(crate) enum Base {
     Scalars,
@@ -40,25 +40,43 @@ pub(crate) struct Leaf {
     pub places: Vec<usize>,
 }
 
-/// The candidates of a node at this path: null and what is listed for it, as far as they are stored there.
+/// The candidates of a leaf at this path: its choices, as far as they are stored there.
 pub(crate) fn leaf_of(
     alloc: Global,
     pools: &Pools,
     values: &Values,
+    fixed: Option<&[Tree]>,
     path: &str,
     node: &Node,
 ) -> Result<Leaf, AllocError>
-    ensures { IfOk result (λ l. (s : Site) → AreValues pools.now values.now → s.node ≡ node_of node.now → s.path ≡ path.now → sort_of s ≡ LeafSort → AreCandidates pools.now s (candidates_of values.now l)) }
+    ensures { IfOk result (λ l. (s : Site) → AreValues pools.now values.now → s.node ≡ node_of node.now → s.path ≡ path.now → s.fixed ≡ option_map (λ ts. trees_of ts.now) fixed.entry → sort_of s ≡ LeafSort → AreCandidates pools.now s (candidates_of values.now l)) }
 {
     // for its contract alone
     parts_one_level();
-    let base = base_for(alloc, pools, path, node)?;
+    let base = base_for(alloc, pools, fixed, path, node)?;
     let places = stored_places(alloc, node, base.trees(values))?;
     Ok(Leaf { base, places })
 }
 
+/// The base with the choices of a leaf at this path.
+fn base_for(
+    alloc: Global,
+    pools: &Pools,
+    fixed: Option<&[Tree]>,
+    path: &str,
+    node: &Node,
+) -> Result<Base, AllocError>
+    ensures { IfOk result (λ b. (v : Values) → AreValues pools.now v → where_fixed (option_map (λ ts. trees_of ts.now) fixed.entry) LeafSort (sort_at (node_of node.now)) ≡ LeafSort
+        → IsBase (choices_at pools.now (option_map (λ ts. trees_of ts.now) fixed.entry) path.now (node_of node.now)) (base_of v b)) }
+{
+    match fixed {
+        Some(list) => Ok(Base::Own(in_order(alloc, Vec::new(alloc), list)?)),
+        None => base_at(alloc, pools, path, node),
+    }
+}
+
 /// The base with null and what is listed for a scalar or an open node at this path.
-fn base_for(alloc: Global, pools: &Pools, path: &str, node: &Node) -> Result<Base, AllocError>
+fn base_at(alloc: Global, pools: &Pools, path: &str, node: &Node) -> Result<Base, AllocError>
     ensures { IfOk result (λ b. (v : Values) → AreValues pools.now v → sort_at (node_of node.now) ≡ LeafSort → IsBase (null ∷ listed pools.now path.now (node_of node.now)) (base_of v b)) }
 {
     match pools.list_at(path) {

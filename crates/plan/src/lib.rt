@@ -2,6 +2,7 @@
 #![tactic(auto)]
 
 mod arena;
+mod asked;
 mod building;
 mod entries;
 mod fault;
@@ -30,6 +31,7 @@ pub use fault::PFault;
 pub use meter::Meter;
 pub use plan::{Plan, Slot};
 pub use pool_limits::{PoolLimits, named_pool_limits};
+pub use pool_paths::first_bad_path;
 pub use pool_sizes::{Oversized, PoolName, oversized_pool};
 pub use pools::Pools;
 pub use size_set::SizeSet;

@@ -6,6 +6,8 @@ ghost use Rattle.schema.specs.Nodes.View.{list_of};
 ghost use Rattle.plan.specs.Pools.Pools.{Pools};
 ghost use Rattle.plan.specs.Samples.Sites.{Site, item_site, slots, Slot};
 ghost use Rattle.plan.specs.Samples.Candidates.{sort_of, distinct_by};
+ghost use Rattle.plan.specs.Samples.Sizes.{bounds_of};
+ghost use Rattle.plan.specs.Samples.RuleOfParts.{admits_null};
 ghost use Rattle.plan.specs.Internal.Arena.{IsSlot, AreRight, IsLimit, IsKept};
 ghost use Rattle.plan.specs.Samples.Sites.{site_at};
 ghost use Rattle.plan.specs.Samples.Keys.{HasTuples};
@@ -22,12 +24,13 @@ use schema::{Bounds, ListNode, ListType};
 use std::alloc::{AllocError, Global};
 use stored::stored_by_parts;
 
-/// Adds the entry of a list with this item.
+/// Adds the entry of a list with this item and these bounds on the number of its items.
 pub(crate) fn add_list<Z: SizeSet>(
     arena: &mut Arena<Z>,
     alloc: Global,
     item: PlanNode,
     list: &ListNode,
+    bounds: Bounds,
     nullable: bool,
 ) -> Result<PlanNode, AllocError>
     requires limit { IsLimit Z.BITS arena.old.limit }
@@ -35,14 +38,14 @@ pub(crate) fn add_list<Z: SizeSet>(
     ensures kept { IsKept arena.old arena.new }
     ensures number { IfOk result (λ n. n ≡ length arena.old.entries.items) }
     ensures count { IfOk result (λ n. length arena.new.entries.items ≡ n + 1) }
-    ensures right { IfOk result (λ n. (P : Pools) (sites : List Site) (d : Option (List ℕ)) → AreRight Z.holds arena.old.limit P arena.old.values sites arena.old.entries.items
-        → (site_at sites n).node ≡ node_with nullable d (list_of list.now) → item_site (site_at sites n) ≡ Some (site_at sites item) → IsNode (site_at sites n).node → HasSoundItems (site_at sites n).node
+    ensures right { IfOk result (λ n. (P : Pools) (sites : List Site) (m : Bool) (d : Option (List ℕ)) → AreRight Z.holds arena.old.limit P arena.old.values sites arena.old.entries.items
+        → (site_at sites n).node ≡ node_with m d (list_of list.now) → admits_null P (site_at sites n) ≡ nullable → bounds_of P (site_at sites n) ≡ bounds → item_site P (site_at sites n) ≡ Some (site_at sites item) → IsNode (site_at sites n).node → HasSoundItems (site_at sites n).node
         → AreRight Z.holds arena.old.limit P arena.old.values sites arena.new.entries.items) }
 {
     // for its contract alone
     parts_one_level();
     let limit = arena.limit;
-    let bounds = item_bounds(arena, item, list);
+    let bounds = item_bounds(arena, item, list, bounds);
     let more = more_sets(alloc, arena.entry(item).sizes, bounds, limit)?;
     let sizes = whole_sizes(more[0], nullable, limit);
     let node = arena.add(Entry {
@@ -94,21 +97,26 @@ fn cut_bounds(bounds: Bounds, most: u64) -> Bounds
     }
 }
 
-/// The bounds on the items where no two may be alike: a set has at most as many items as these have candidates, a map list at
-/// most as many as there are tuples of keys.
-fn item_bounds<Z: SizeSet>(arena: &Arena<Z>, item: PlanNode, list: &ListNode) -> Bounds
+/// The bounds where no two items may be alike: a set has at most as many items as these have candidates, a map list at most as many as
+/// there are tuples of keys.
+fn item_bounds<Z: SizeSet>(
+    arena: &Arena<Z>,
+    item: PlanNode,
+    list: &ListNode,
+    bounds: Bounds,
+) -> Bounds
     requires item { item < length arena.now.entries.items }
     requires limit { arena.now.limit < 18446744073709551615 }
     ensures { (P : Pools) (sites : List Site) (s : Site) → AreRight Z.holds arena.now.limit P arena.now.values sites arena.now.entries.items
-        → (n : Bool) (d : Option (List ℕ)) → s.node ≡ node_with n d (list_of list.now) → item_site s ≡ Some (site_at sites item) → IsNode s.node → HasSoundItems s.node
+        → (n : Bool) (d : Option (List ℕ)) → s.node ≡ node_with n d (list_of list.now) → bounds_of P s ≡ bounds → item_site P s ≡ Some (site_at sites item) → IsNode s.node → HasSoundItems s.node
         → IsCutTo P arena.now.limit s (site_at sites item) result }
 {
     parts_one_level();
     stored_by_parts();
     match list.list_type {
-        ListType::Atomic => list.bounds,
-        ListType::Set => cut_bounds(list.bounds, arena.count(item)),
-        ListType::Map => cut_bounds(list.bounds, item_tuples(arena, item)),
+        ListType::Atomic => bounds,
+        ListType::Set => cut_bounds(bounds, arena.count(item)),
+        ListType::Map => cut_bounds(bounds, item_tuples(arena, item)),
     }
 }
 

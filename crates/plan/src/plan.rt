@@ -14,8 +14,8 @@ use std::alloc::Global;
 use std::marker::Model;
 use stored::Schema;
 
-/// A slot of a row: a name, the node of the value under it, whether there has to be a value (where it is required or has a
-/// default), and whether it is a key of the map list whose item the row is.
+/// A slot of a row: a name, the node of the value under it, whether there has to be a value (where it is required, has a
+/// default, or is asked for by the pools), and whether it is a key of the map list whose item the row is.
 #[derive(Clone, Copy)]
 pub struct Slot<'a> {
     pub name: &'a str,
@@ -86,9 +86,8 @@ impl<Z: SizeSet> Plan<Z> {
     /// leaves upward; no object is made.
     ///
     /// `BadLimit` where the limit is 0, or is not below `Z::BITS` (with `u64`: where it is not 1 to 63; with `u128`: not 1 to 127), which is decided first.
-    /// `BadPath` where the pools have a list for a text that is not that of a path, or is that of a path which the schema does not
-    /// declare or which leads to neither a scalar nor an open node, with the first such text by bytes. It is decided after the
-    /// limit. `NoMemory` where an allocation fails.
+    /// `BadPath` with the first text of the pools that is not that of a path which leads where it has to ([`crate::first_bad_path`]). It
+    /// is decided after the limit. `NoMemory` where an allocation fails.
     pub fn new(alloc: Global, schema: Schema, pools: Pools, limit: u32) -> Result<Plan<Z>, PFault>
         ensures ok { IfOk result (λ plan. plan ≡ record { root = schema; pools = pools; limit = limit }) }
         ensures limit { OnOk result ((1 ≤ limit) × (limit < Z.BITS)) }
@@ -112,8 +111,8 @@ impl<Z: SizeSet> Plan<Z> {
 
     /// The node of the root.
     pub fn root(&self) -> PlanNode
-        ensures number { result < length (sites_of self.now.root) }
-        ensures site { site_at (sites_of self.now.root) result ≡ root_site self.now.root }
+        ensures number { result < length (sites_of self.now.pools self.now.root) }
+        ensures site { site_at (sites_of self.now.pools self.now.root) result ≡ root_site self.now.root }
     {
         self.root
     }
@@ -127,8 +126,8 @@ impl<Z: SizeSet> Plan<Z> {
 
     /// The sort of the node.
     pub fn sort(&self, node: PlanNode) -> Sort
-        requires { node < length (sites_of self.now.root) }
-        ensures { result ≡ sort_of (site_at (sites_of self.now.root) node) }
+        requires { node < length (sites_of self.now.pools self.now.root) }
+        ensures { result ≡ sort_of (site_at (sites_of self.now.pools self.now.root) node) }
     {
         match &self.arena.entry(node).content {
             Content::Leaf(_) => Sort::Leaf,
@@ -137,18 +136,18 @@ impl<Z: SizeSet> Plan<Z> {
         }
     }
 
-    /// Whether null is accepted.
+    /// Whether null is accepted: the node is nullable, and the pools ask for nothing directly below it.
     pub fn null_ok(&self, node: PlanNode) -> bool
-        requires { node < length (sites_of self.now.root) }
-        ensures { result ≡ admits_null (site_at (sites_of self.now.root) node) }
+        requires { node < length (sites_of self.now.pools self.now.root) }
+        ensures { result ≡ admits_null self.now.pools (site_at (sites_of self.now.pools self.now.root) node) }
     {
         self.arena.entry(node).nullable
     }
 
     /// The sizes up to the limit of the parts at the node.
     pub fn sizes(&self, node: PlanNode) -> Z
-        requires { node < length (sites_of self.now.root) }
-        ensures { IsUpTo self.now.limit (Z.holds result) (HasSize self.now.pools (site_at (sites_of self.now.root) node)) }
+        requires { node < length (sites_of self.now.pools self.now.root) }
+        ensures { IsUpTo self.now.limit (Z.holds result) (HasSize self.now.pools (site_at (sites_of self.now.pools self.now.root) node)) }
     {
         self.arena.entry(node).sizes
     }
@@ -157,11 +156,11 @@ impl<Z: SizeSet> Plan<Z> {
     /// filled, and the named fields among them are those whose bits are set in `seen` (see [`Slot::bit`]). Only for a
     /// row, with `place` at most the number of its slots and `taken` at most `place`.
     pub fn rest(&self, node: PlanNode, place: u64, taken: u32, seen: u8) -> Z
-        requires node { node < length (sites_of self.now.root) }
-        requires row { sort_of (site_at (sites_of self.now.root) node) ≡ sort.Row }
-        requires place { place ≤ length (slots_of self.now.pools (site_at (sites_of self.now.root) node)) }
+        requires node { node < length (sites_of self.now.pools self.now.root) }
+        requires row { sort_of (site_at (sites_of self.now.pools self.now.root) node) ≡ sort.Row }
+        requires place { place ≤ length (slots_of self.now.pools (site_at (sites_of self.now.pools self.now.root) node)) }
         requires taken { taken ≤ place }
-        ensures { IsUpTo self.now.limit (Z.holds result) (HasRest self.now.pools (site_at (sites_of self.now.root) node) place (record { count = taken; seen = seen })) }
+        ensures { IsUpTo self.now.limit (Z.holds result) (HasRest self.now.pools (site_at (sites_of self.now.pools self.now.root) node) place (record { count = taken; seen = seen })) }
     {
         match &self.arena.entry(node).content {
             Content::Row(row) => {
@@ -175,9 +174,9 @@ impl<Z: SizeSet> Plan<Z> {
 
     /// The sizes up to the limit that the items of a list can still take after `taken` items. Only for a list.
     pub fn more(&self, node: PlanNode, taken: u32) -> Z
-        requires node { node < length (sites_of self.now.root) }
-        requires list { sort_of (site_at (sites_of self.now.root) node) ≡ sort.List }
-        ensures { IsUpTo self.now.limit (Z.holds result) (HasMore self.now.pools self.now.limit (site_at (sites_of self.now.root) node) taken) }
+        requires node { node < length (sites_of self.now.pools self.now.root) }
+        requires list { sort_of (site_at (sites_of self.now.pools self.now.root) node) ≡ sort.List }
+        ensures { IsUpTo self.now.limit (Z.holds result) (HasMore self.now.pools self.now.limit (site_at (sites_of self.now.pools self.now.root) node) taken) }
     {
         match &self.arena.entry(node).content {
             Content::List(list) => {
@@ -193,8 +192,8 @@ impl<Z: SizeSet> Plan<Z> {
 
     /// Which items may not be in one list; `Free` where the node is not a list.
     pub fn distinct(&self, node: PlanNode) -> Distinct
-        requires { node < length (sites_of self.now.root) }
-        ensures { result ≡ distinct_of (site_at (sites_of self.now.root) node) }
+        requires { node < length (sites_of self.now.pools self.now.root) }
+        ensures { result ≡ distinct_of (site_at (sites_of self.now.pools self.now.root) node) }
     {
         match &self.arena.entry(node).content {
             Content::List(list) => list.distinct,
@@ -204,9 +203,9 @@ impl<Z: SizeSet> Plan<Z> {
 
     /// The number of candidates. Only for a leaf.
     pub fn count(&self, node: PlanNode) -> u64
-        requires node { node < length (sites_of self.now.root) }
-        requires leaf { sort_of (site_at (sites_of self.now.root) node) ≡ sort.Leaf }
-        ensures { HasCount self.now.pools (site_at (sites_of self.now.root) node) result }
+        requires node { node < length (sites_of self.now.pools self.now.root) }
+        requires leaf { sort_of (site_at (sites_of self.now.pools self.now.root) node) ≡ sort.Leaf }
+        ensures { HasCount self.now.pools (site_at (sites_of self.now.pools self.now.root) node) result }
     {
         self.arena.count(node)
     }
@@ -224,9 +223,9 @@ impl<Z: SizeSet> Plan<Z> {
 
     /// The number of slots. Only for a row.
     pub fn slot_count(&self, node: PlanNode) -> u64
-        requires node { node < length (sites_of self.now.root) }
-        requires row { sort_of (site_at (sites_of self.now.root) node) ≡ sort.Row }
-        ensures { result ≡ length (slots_of self.now.pools (site_at (sites_of self.now.root) node)) }
+        requires node { node < length (sites_of self.now.pools self.now.root) }
+        requires row { sort_of (site_at (sites_of self.now.pools self.now.root) node) ≡ sort.Row }
+        ensures { result ≡ length (slots_of self.now.pools (site_at (sites_of self.now.pools self.now.root) node)) }
     {
         match &self.arena.entry(node).content {
             Content::Row(row) => row.slots.len() as u64,
@@ -236,10 +235,10 @@ impl<Z: SizeSet> Plan<Z> {
 
     /// Whether the junctors of an object name some of its fields. Only for a row.
     pub fn names_fields(&self, node: PlanNode) -> bool
-        requires node { node < length (sites_of self.now.root) }
-        requires row { sort_of (site_at (sites_of self.now.root) node) ≡ sort.Row }
-        ensures names { IsTrue result ↔ (named (ending_of (site_at (sites_of self.now.root) node)).asked ≢ []) }
-        ensures no_bit { result ≡ false → All (λ s. s.bit ≡ None) (slots_of self.now.pools (site_at (sites_of self.now.root) node)) }
+        requires node { node < length (sites_of self.now.pools self.now.root) }
+        requires row { sort_of (site_at (sites_of self.now.pools self.now.root) node) ≡ sort.Row }
+        ensures names { IsTrue result ↔ (named (ending_of self.now.pools (site_at (sites_of self.now.pools self.now.root) node)).asked ≢ []) }
+        ensures no_bit { result ≡ false → All (λ s. s.bit ≡ None) (slots_of self.now.pools (site_at (sites_of self.now.pools self.now.root) node)) }
     {
         match &self.arena.entry(node).content {
             Content::Row(row) => row.tables[0].len() > 1,
@@ -249,15 +248,15 @@ impl<Z: SizeSet> Plan<Z> {
 
     /// Slot `place` of a row, counted from 0 in the order of names; none past the last. Only for a row. It is one step.
     pub fn slot(&self, node: PlanNode, place: u64, meter: &mut Meter) -> Option<Slot<'_>>
-        requires node { node < length (sites_of self.now.root) }
-        requires row { sort_of (site_at (sites_of self.now.root) node) ≡ sort.Row }
-        ensures some { IfSome result (λ t. IsSlotAt (sites_of self.now.root) (slots_of self.now.pools (site_at (sites_of self.now.root) node)) place t) }
+        requires node { node < length (sites_of self.now.pools self.now.root) }
+        requires row { sort_of (site_at (sites_of self.now.pools self.now.root) node) ≡ sort.Row }
+        ensures some { IfSome result (λ t. IsSlotAt (sites_of self.now.pools self.now.root) (slots_of self.now.pools (site_at (sites_of self.now.pools self.now.root) node)) place t) }
         ensures below { IfSome result (λ t. t.node < node) }
         ensures bit { IfSome result (λ t. IfSome t.bit (λ j. j < most_named)) }
-        ensures later { IfSome result (λ t. HasTuples self.now.pools (drop (place + 1) (slots_of self.now.pools (site_at (sites_of self.now.root) node))) t.later) }
-        ensures within { IfSome result (λ _. place < length (slots_of self.now.pools (site_at (sites_of self.now.root) node))) }
+        ensures later { IfSome result (λ t. HasTuples self.now.pools (drop (place + 1) (slots_of self.now.pools (site_at (sites_of self.now.pools self.now.root) node))) t.later) }
+        ensures within { IfSome result (λ _. place < length (slots_of self.now.pools (site_at (sites_of self.now.pools self.now.root) node))) }
         ensures followed { IfSome result (λ _. place < 18446744073709551615) }
-        ensures none { IfNone result (length (slots_of self.now.pools (site_at (sites_of self.now.root) node)) ≤ place) }
+        ensures none { IfNone result (length (slots_of self.now.pools (site_at (sites_of self.now.pools self.now.root) node)) ≤ place) }
         ensures step { meter.new ≡ counted meter.old 1 }
     {
         // for its contract alone
@@ -282,12 +281,12 @@ impl<Z: SizeSet> Plan<Z> {
     /// The node of the item at `place` of a list, the same for each place; none where no list of the node within the limit has
     /// an item there. Only for a list. It is one step.
     pub fn item(&self, node: PlanNode, place: u32, meter: &mut Meter) -> Option<PlanNode>
-        requires node { node < length (sites_of self.now.root) }
-        requires list { sort_of (site_at (sites_of self.now.root) node) ≡ sort.List }
-        ensures some { IfSome result (λ i. item_site (site_at (sites_of self.now.root) node) ≡ Some (site_at (sites_of self.now.root) i)) }
+        requires node { node < length (sites_of self.now.pools self.now.root) }
+        requires list { sort_of (site_at (sites_of self.now.pools self.now.root) node) ≡ sort.List }
+        ensures some { IfSome result (λ i. item_site self.now.pools (site_at (sites_of self.now.pools self.now.root) node) ≡ Some (site_at (sites_of self.now.pools self.now.root) i)) }
         ensures below { IfSome result (λ i. i < node) }
-        ensures goes_on { IfSome result (λ _. (m : ℕ) × HasMore self.now.pools self.now.limit (site_at (sites_of self.now.root) node) (place + 1) m) }
-        ensures none { IfNone result ((m : ℕ) → HasMore self.now.pools self.now.limit (site_at (sites_of self.now.root) node) (place + 1) m → ⊥) }
+        ensures goes_on { IfSome result (λ _. (m : ℕ) × HasMore self.now.pools self.now.limit (site_at (sites_of self.now.pools self.now.root) node) (place + 1) m) }
+        ensures none { IfNone result ((m : ℕ) → HasMore self.now.pools self.now.limit (site_at (sites_of self.now.pools self.now.root) node) (place + 1) m → ⊥) }
         ensures step { meter.new ≡ counted meter.old 1 }
     {
         meter.step();
@@ -300,9 +299,9 @@ impl<Z: SizeSet> Plan<Z> {
     /// Candidate `place` of a leaf, counted from 0 in the tree order; none past the last. Only for a leaf. It is one
     /// step.
     pub fn candidate(&self, node: PlanNode, place: u64, meter: &mut Meter) -> Option<&Tree>
-        requires node { node < length (sites_of self.now.root) }
-        requires leaf { sort_of (site_at (sites_of self.now.root) node) ≡ sort.Leaf }
-        ensures candidate { IsCandidateAt self.now.pools (site_at (sites_of self.now.root) node) place (option_map data_of (option_copied result)) }
+        requires node { node < length (sites_of self.now.pools self.now.root) }
+        requires leaf { sort_of (site_at (sites_of self.now.pools self.now.root) node) ≡ sort.Leaf }
+        ensures candidate { IsCandidateAt self.now.pools (site_at (sites_of self.now.pools self.now.root) node) place (option_map data_of (option_copied result)) }
         ensures step { meter.new ≡ counted meter.old 1 }
     {
         meter.step();
@@ -315,8 +314,8 @@ impl<Z: SizeSet> Plan<Z> {
     /// Does nothing: a proof calls it to learn what the parts of each node are, and that nothing that was begun within the tables is a
     /// dead end.
     pub fn no_dead_end(&self)
-        ensures parts { (s : Site) → Contains (sites_of self.now.root) s → RuleOfParts self.now.pools self.now.limit s }
-        ensures completed { (s : Site) → Contains (sites_of self.now.root) s → NoDeadEnd self.now.pools self.now.limit s }
+        ensures parts { (s : Site) → Contains (sites_of self.now.pools self.now.root) s → RuleOfParts self.now.pools self.now.limit s }
+        ensures completed { (s : Site) → Contains (sites_of self.now.pools self.now.root) s → NoDeadEnd self.now.pools self.now.limit s }
     {
         laws_of_plans();
         let _ = self.schema.root();
@@ -325,9 +324,9 @@ impl<Z: SizeSet> Plan<Z> {
     /// Does nothing: a proof calls it to learn what the rules of the schema say of the slots and the items of each node, and when a
     /// tuple of candidates is left.
     pub fn sound_parts(&self)
-        ensures parts { (s : Site) → Contains (sites_of self.now.root) s → HasSoundParts self.now.pools s }
-        ensures items { (s M : Site) → Contains (sites_of self.now.root) s → item_site s ≡ Some M → Contains (sites_of self.now.root) M }
-        ensures counts { (s : Site) → Contains (sites_of self.now.root) s → (counts : List ℕ) × AreCounts self.now.pools (filter is_key (slots_of self.now.pools s)) counts }
+        ensures parts { (s : Site) → Contains (sites_of self.now.pools self.now.root) s → HasSoundParts self.now.pools s }
+        ensures items { (s M : Site) → Contains (sites_of self.now.pools self.now.root) s → item_site self.now.pools s ≡ Some M → Contains (sites_of self.now.pools self.now.root) M }
+        ensures counts { (s : Site) → Contains (sites_of self.now.pools self.now.root) s → (counts : List ℕ) × AreCounts self.now.pools (filter is_key (slots_of self.now.pools s)) counts }
         ensures free { (P : Pools) (ss : List SiteSlot) (used : List (List Data)) (counts : List ℕ) → All (IsTuple P ss) used → AllPairs (λ t u. t ≢ u) used → AreCounts P ss counts → HasFree P ss used [] ↔ (length used < product counts) }
     {
         laws_of_plans();
@@ -366,6 +365,6 @@ fn entries<Z: SizeSet>(
         limit,
         entries: Vec::new(alloc),
     };
-    let root = build(&mut arena, alloc, pools, "", schema.root(), &[])?;
+    let root = build(&mut arena, alloc, pools, None, "", schema.root(), &[])?;
     Ok((arena, root))
 }

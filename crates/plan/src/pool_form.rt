@@ -38,9 +38,9 @@ impl PoolForm {
     {
         match name {
             "integers" => PoolForm::Entries(EntryKind::Integer),
-            "strings" | "names" => PoolForm::Entries(EntryKind::Text),
+            "strings" | "names" | "present" => PoolForm::Entries(EntryKind::Text),
             "any" => PoolForm::Entries(EntryKind::Any),
-            "paths" => PoolForm::Lists,
+            "paths" | "fixed" => PoolForm::Lists,
             _ => PoolForm::Unknown,
         }
     }

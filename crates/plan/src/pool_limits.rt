@@ -8,7 +8,7 @@ pub struct PoolLimits {
     pub entries: usize,
     /// The most names.
     pub names: usize,
-    /// The most paths that there may be lists for.
+    /// The most paths that there may be in each of `paths`, `fixed` and `present`.
     pub paths: usize,
 }
 

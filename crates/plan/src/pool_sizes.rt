@@ -1,11 +1,12 @@
 //! How many entries the pools of a document have, and which pool has too many.
-ghost use Rattle.std.specs.Prelude.{◌≡◌, ◌≤◌, ◌<◌, Some, None, length, filter, codes, MatchOption};
+ghost use Rattle.std.specs.Prelude.{◌≡◌, ◌≤◌, ◌<◌, None, length, filter, option_map, MatchOption};
 ghost use Rattle.jtree.specs.Data.{AreMembers};
 ghost use Rattle.jtree.specs.Path.{under};
 ghost use Rattle.jtree.specs.View.{data_of, members_of as members_view};
 ghost use Rattle.plan.specs.Pools.Pools.{AreSmall};
 ghost use Rattle.plan.specs.Pools.Document.{pools_of, entries_of, members_of};
 ghost use Rattle.plan.specs.Pools.Oversized.{IsOversized};
+ghost use Rattle.plan.specs.declared.pool_sizes.PoolName.TheVariants.{At, FixedAt};
 ghost use Rattle.plan.specs.Internal.PoolBreak.{test_of};
 ghost use Rattle.plan.specs.Internal.PathLists.{list_count, long_list as long_list_of, IsLongList};
 
@@ -14,23 +15,27 @@ use crate::pool_form::EntryKind;
 use crate::pools::entries;
 use jtree::{Member, Tree};
 
-/// A pool of a document: one of its members, or one of the lists under `paths`.
+/// A pool of a document: one of its members, or one of the lists under `fixed` or `paths`.
 #[derive(Clone, Copy, Drop)]
 pub enum PoolName<'a> {
     Any,
+    Fixed,
+    /// The list under `fixed` for the path of this text.
+    FixedAt(&'a str),
     Integers,
     Names,
     Paths,
-    Strings,
-    /// The list for the path of this text.
+    /// The list under `paths` for the path of this text.
     At(&'a str),
+    Present,
+    Strings,
 }
 
 /// A pool with more entries than are allowed.
 #[derive(Clone, Copy, Drop)]
 pub struct Oversized<'a> {
     pub pool: PoolName<'a>,
-    /// How many entries it has; of `paths`, how many paths.
+    /// How many entries it has; of `fixed` and `paths`, how many paths.
     pub found: usize,
     /// The most that are allowed.
     pub allowed: usize,
@@ -42,15 +47,20 @@ pub fn oversized_pool(document: &Tree, limits: PoolLimits) -> Option<Oversized<'
     ensures { MatchOption result (AreSmall limits (pools_of (data_of document.now))) (IsOversized limits (pools_of (data_of document.now))) }
 {
     let any = count(document, "any", EntryKind::Any);
+    let fixed = lists_of(document, "fixed");
     let integers = count(document, "integers", EntryKind::Integer);
     let names = count(document, "names", EntryKind::Text);
-    let lists = path_lists(document);
+    let paths = lists_of(document, "paths");
+    let present = count(document, "present", EntryKind::Text);
     let strings = count(document, "strings", EntryKind::Text);
     over(PoolName::Any, any, limits.entries)
+        .or(over(PoolName::Fixed, fixed.len(), limits.paths))
+        .or(long_fixed(fixed, limits.entries))
         .or(over(PoolName::Integers, integers, limits.entries))
         .or(over(PoolName::Names, names, limits.names))
-        .or(over(PoolName::Paths, lists.len(), limits.paths))
-        .or(long_list(lists, limits.entries))
+        .or(over(PoolName::Paths, paths.len(), limits.paths))
+        .or(long_path(paths, limits.entries))
+        .or(over(PoolName::Present, present, limits.paths))
         .or(over(PoolName::Strings, strings, limits.entries))
 }
 
@@ -83,33 +93,53 @@ fn count(document: &Tree, name: &str, kind: EntryKind) -> usize
     count
 }
 
-/// The lists of paths, none where `paths` is missing or no object.
-fn path_lists(document: &Tree) -> &[Member]
-    ensures lists { members_view result.now ≡ members_of (under (data_of document.now) (codes "paths")) }
+/// The lists of a member of this name, none where it is missing or no object.
+fn lists_of<'a>(document: &'a Tree, name: &str) -> &'a [Member]
+    ensures lists { members_view result.now ≡ members_of (under (data_of document.now) name.now) }
     ensures ordered { AreMembers (members_view result.now) }
 {
-    match document.get("paths") {
-        Some(Tree::Object(paths)) => {
+    match document.get(name) {
+        Some(Tree::Object(lists)) => {
             // for its contract alone
-            paths.reveal_invariant();
-            paths.members.as_slice()
+            lists.reveal_invariant();
+            lists.members.as_slice()
         }
         _ => &[],
     }
 }
 
-/// The first list that has more than `most` values.
-fn long_list(lists: &[Member], most: usize) -> Option<Oversized<'_>>
-    ensures { MatchOption result (long_list_of most (members_view lists.now) ≡ None) (IsLongList most (members_view lists.now)) }
+/// The first list under `fixed` that has more than `most` values.
+fn long_fixed(lists: &[Member], most: usize) -> Option<Oversized<'_>>
+    ensures { MatchOption result (long_list_of most (members_view lists.now) ≡ None) (IsLongList FixedAt most (members_view lists.now)) }
+{
+    let (path, found) = long_list(lists, most)?;
+    Some(Oversized {
+        pool: PoolName::FixedAt(path),
+        found,
+        allowed: most,
+    })
+}
+
+/// The first list under `paths` that has more than `most` values.
+fn long_path(lists: &[Member], most: usize) -> Option<Oversized<'_>>
+    ensures { MatchOption result (long_list_of most (members_view lists.now) ≡ None) (IsLongList At most (members_view lists.now)) }
+{
+    let (path, found) = long_list(lists, most)?;
+    Some(Oversized {
+        pool: PoolName::At(path),
+        found,
+        allowed: most,
+    })
+}
+
+/// The path of the first list that has more than `most` values, and how many it has.
+fn long_list(lists: &[Member], most: usize) -> Option<(&str, usize)>
+    ensures { option_map (λ found. (found.0.now, found.1)) result ≡ long_list_of most (members_view lists.now) }
 {
     for member in lists {
         let found = list_len(&member.tree);
         if found > most {
-            return Some(Oversized {
-                pool: PoolName::At(member.name.as_str()),
-                found,
-                allowed: most,
-            });
+            return Some((member.name.as_str(), found));
         }
     }
     None

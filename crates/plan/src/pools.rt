@@ -14,6 +14,10 @@ pub struct Pools {
     any: Vec<Tree>,
     /// Lists, each under the text of a path.
     paths: Members,
+    /// Lists of all values that there can be, each under the text of a path.
+    fixed: Members,
+    /// The texts of the paths that are always there.
+    present: Vec<Text>,
 }
 
 impl Drop for Pools {
@@ -24,6 +28,8 @@ impl Drop for Pools {
             names: _,
             any: _,
             paths: _,
+            fixed: _,
+            present: _,
         } = self;
     }
 }
@@ -41,7 +47,7 @@ impl Model for Pools {
 
     ghost use Rattle.jtree.specs.View.{data_of};
 
-    ghost view = { λ a. record { integers = a.integers.items; strings = a.strings.items; names = a.names.items; any = map data_of a.any.items; paths = a.paths } };
+    ghost view = { λ a. record { integers = a.integers.items; strings = a.strings.items; names = a.names.items; any = map data_of a.any.items; paths = a.paths; fixed = a.fixed; present = a.present.items } };
 
     ghost invariant = { λ a. All (λ z. FitsSigned w64 z) a.integers.items × All IsTree (map data_of a.any.items) };
 }
@@ -51,21 +57,21 @@ impl Pools {
     ghost use Rattle.std.specs.Int.{w64};
     ghost use Rattle.jtree.specs.Data.{IsTree, no_members};
     ghost use Rattle.jtree.specs.View.{data_of};
-    ghost use Rattle.plan.specs.Pools.Pools.{standard, AreSmall, list_at as list_of};
+    ghost use Rattle.plan.specs.Pools.Pools.{standard, AreSmall, list_at as list_of, fixed_at as fixed_of, is_present as is_present_of};
     ghost use Rattle.plan.specs.Pools.Document.{HasForm, pools_of};
     ghost use Rattle.plan.specs.Pools.PoolsFault.{IsPoolsFault};
 
-    /// The pools of a document: an object with any of the members `integers` (a list of integers of 64 bits), `strings`
-    /// and `names` (lists of texts), `any` (a list of trees) and `paths` (an object whose members are lists of trees, each
-    /// under the text of the path of a field). Entries stay as written, repeats among them, and a missing member is an
+    /// The pools of a document: an object with any of the members `integers` (a list of integers of 64 bits), `strings`,
+    /// `names` and `present` (lists of texts), `any` (a list of trees), and `paths` and `fixed` (objects whose members are lists of
+    /// trees, each under the text of a path). Entries stay as written, repeats among them, and a missing member is an
     /// empty pool, or no path.
     ///
     /// `Form` with the pointer (RFC 6901) of the first place in path order that has another form, also where a pool has
-    /// too many entries: the document itself where it is not an object, a member of another name, `paths` where it is not
-    /// an object, a member of `paths` that is not a list, any other member that is not a list, an entry of another kind. `TooLarge`
-    /// where the form is right and a pool has more entries than `PoolLimits::STANDARD` allows: more than 64 integers, strings or
-    /// trees, more than 32 names, more than 64 paths, or more than 64 trees in the list of a path, each repeat counted. `NoMemory`
-    /// where an allocation fails. Never `BadLimit` or `BadPath`, which are faults of a plan.
+    /// too many entries: the document itself where it is not an object, a member of another name, `paths` or `fixed` where it is not
+    /// an object, a member of one of these that is not a list, any other member that is not a list, an entry of another kind.
+    /// `TooLarge` where the form is right and a pool has more entries than `PoolLimits::STANDARD` allows: more than 64 integers,
+    /// strings or trees, more than 32 names, more than 64 paths in `paths`, `fixed` or `present`, or more than 64 trees in the list of
+    /// a path, each repeat counted. `NoMemory` where an allocation fails. Never `BadLimit` or `BadPath`, which are faults of a plan.
     pub fn read(alloc: Global, document: &Tree) -> Result<Pools, PFault>
         ensures ok { IfOk result (λ p. p ≡ pools_of (data_of document.now)) }
         ensures form { OnOk result (HasForm (data_of document.now)) }
@@ -92,13 +98,15 @@ impl Pools {
             strings: texts_of(alloc, entries(document, "strings"))?,
             names: texts_of(alloc, entries(document, "names"))?,
             any: trees_of(alloc, entries(document, "any"))?,
-            paths: paths_of(alloc, document)?,
+            paths: members_at(alloc, document, "paths")?,
+            fixed: members_at(alloc, document, "fixed")?,
+            present: texts_of(alloc, entries(document, "present"))?,
         })
     }
 
     /// Empty pools.
     pub fn new(alloc: Global) -> Pools
-        ensures { result ≡ record { integers = []; strings = []; names = []; any = []; paths = no_members } }
+        ensures { result ≡ record { integers = []; strings = []; names = []; any = []; paths = no_members; fixed = no_members; present = [] } }
     {
         Pools {
             integers: Vec::new(alloc),
@@ -106,6 +114,8 @@ impl Pools {
             names: Vec::new(alloc),
             any: Vec::new(alloc),
             paths: no_members(alloc),
+            fixed: no_members(alloc),
+            present: Vec::new(alloc),
         }
     }
 
@@ -150,19 +160,60 @@ impl Pools {
     pub fn list_at(&self, path: &str) -> Option<&[Tree]>
         ensures { option_map (λ ts. map data_of ts.now) result ≡ list_of path.now self.now }
     {
-        match self.paths.get(path) {
-            Some(Tree::List(items)) => Some(items.items.as_slice()),
-            _ => None,
+        list_under(&self.paths, path)
+    }
+
+    /// The lists of all trees that there can be, each under the text of its path, which need not be that of a declared field.
+    pub fn fixed(&self) -> &Members
+        ensures { result.now ≡ self.now.fixed }
+    {
+        &self.fixed
+    }
+
+    /// The texts of the paths that are always there.
+    pub fn present(&self) -> &[Text]
+        ensures { result.now ≡ self.now.present }
+    {
+        self.present.as_slice()
+    }
+
+    /// All trees that there can be at the path of this text, where the pools fix them; `None` where they do not.
+    pub fn fixed_at(&self, path: &str) -> Option<&[Tree]>
+        ensures { option_map (λ ts. map data_of ts.now) result ≡ fixed_of path.now self.now }
+    {
+        list_under(&self.fixed, path)
+    }
+
+    /// Whether the path of this text is always there.
+    pub fn is_present(&self, path: &str) -> bool
+        ensures { result ≡ is_present_of path.now self.now }
+    {
+        for text in &self.present {
+            if path == text.as_str() {
+                return true;
+            }
         }
+        false
     }
 }
 
 ghost use Rattle.std.specs.Int.{w64};
-ghost use Rattle.std.specs.Prelude.{◌≡◌, All, FitsSigned, IfOk, Some, codes, map, filter_map};
+ghost use Rattle.std.specs.Prelude.{◌≡◌, All, FitsSigned, IfOk, Some, map, filter_map, option_map, option_and_then};
 ghost use Rattle.jtree.specs.Data.{IsTree, no_members as no_members_of};
-ghost use Rattle.jtree.specs.Path.{under};
+ghost use Rattle.jtree.specs.Path.{member_at, under};
 ghost use Rattle.jtree.specs.View.{data_of};
+ghost use Rattle.plan.specs.Pools.Pools.{entries_in};
 ghost use Rattle.plan.specs.Pools.Document.{entries_of, integer_of, text_of, members_of};
+
+/// The list under this name, where there is one.
+fn list_under<'a>(lists: &'a Members, name: &str) -> Option<&'a [Tree]>
+    ensures { option_map (λ ts. map data_of ts.now) result ≡ option_and_then entries_in (member_at name.now lists.now) }
+{
+    match lists.get(name) {
+        Some(Tree::List(items)) => Some(items.items.as_slice()),
+        _ => None,
+    }
+}
 
 /// The entries of a pool, none where it is missing.
 pub(crate) fn entries<'a>(document: &'a Tree, name: &str) -> &'a [Tree]
@@ -210,12 +261,12 @@ fn trees_of(alloc: Global, entries: &[Tree]) -> Result<Vec<Tree>, AllocError>
     Ok(trees)
 }
 
-/// The members of `paths`, none where it is missing.
-fn paths_of(alloc: Global, document: &Tree) -> Result<Members, AllocError>
-    ensures { IfOk result (λ ms. ms ≡ members_of (under (data_of document.now) (codes "paths"))) }
+/// The members of a member of the document, none where it is missing.
+fn members_at(alloc: Global, document: &Tree, name: &str) -> Result<Members, AllocError>
+    ensures { IfOk result (λ ms. ms ≡ members_of (under (data_of document.now) name.now)) }
 {
-    match document.get("paths") {
-        Some(paths) => Ok(members_in(alloc, paths.copy(alloc).map_err(|_| AllocError)?)),
+    match document.get(name) {
+        Some(lists) => Ok(members_in(alloc, lists.copy(alloc).map_err(|_| AllocError)?)),
         None => Ok(no_members(alloc)),
     }
 }

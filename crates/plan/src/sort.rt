@@ -1,7 +1,7 @@
 /// The sorts of node of a plan.
 #[derive(Clone, Copy, Debug, PartialEq, Eq, Drop)]
 pub enum Sort {
-    /// A scalar, or open to any value: it holds one of its candidates.
+    /// A scalar, open to any value, or of fixed values: it holds one of its candidates.
     Leaf,
     /// An object or a map: it has slots, each with a name.
     Row,

@@ -3,7 +3,7 @@ ghost use Rattle.std.specs.Prelude.{◌≡◌, ◌∷◌, ◌++◌, map, IfOk, O
 ghost use Rattle.std.specs.declared.cmp.Ordering.TheVariants.{Equal};
 ghost use Rattle.jtree.specs.Data.{null, integer, text};
 ghost use Rattle.plan.specs.Samples.Over.{scalars_of};
-ghost use Rattle.plan.specs.Samples.Names.{in_order};
+ghost use Rattle.plan.specs.Samples.Names.{in_order as names_in_order};
 ghost use Rattle.plan.specs.Internal.Values.{trees_of, IsInOrder, IsBase};
 
 use crate::Pools;
@@ -89,7 +89,18 @@ fn push_texts(alloc: Global, trees: &mut Vec<Tree>, texts: &[Text]) -> Result<()
 pub(crate) fn with_null(alloc: Global, trees: &[Tree]) -> Result<Vec<Tree>, AllocError>
     ensures { IfOk result (λ v. IsBase (null ∷ trees_of trees.now) v.items) }
 {
-    let mut copies = vec![in alloc; Tree::Null]?;
+    in_order(alloc, vec![in alloc; Tree::Null]?, trees)
+}
+
+/// The first trees and these, in order, each once.
+pub(crate) fn in_order(
+    alloc: Global,
+    first: Vec<Tree>,
+    trees: &[Tree],
+) -> Result<Vec<Tree>, AllocError>
+    ensures { IfOk result (λ v. IsBase (trees_of first.items ++ trees_of trees.now) v.items) }
+{
+    let mut copies = first;
     for tree in trees {
         copies.push(tree.copy(alloc).map_err(|_| AllocError)?)?;
     }
@@ -99,7 +110,7 @@ pub(crate) fn with_null(alloc: Global, trees: &[Tree]) -> Result<Vec<Tree>, Allo
 
 /// The names in the order of their bytes, each once.
 fn names(alloc: Global, names: &[Text]) -> Result<Vec<Text>, AllocError>
-    ensures { IfOk result (λ v. v.items ≡ in_order names.now) }
+    ensures { IfOk result (λ v. v.items ≡ names_in_order names.now) }
 {
     let mut copies = Vec::new(alloc);
     for name in names {

@@ -9,6 +9,7 @@ use Rattle.jtree.specs.Kind.{is_integer, is_text, is_list, is_object}
 use Rattle.jtree.specs.Path.{Path, item_at, member_at}
 use Rattle.jtree.specs.Internal.Lookups.{bool_cases, same_name}
 use Rattle.schema.specs.Nodes.Node.{Node}
+use Rattle.jtree.specs.Internal.Rising.{contained}
 use Rattle.plan.specs.Pools.Pools.{items_list, standard, AreSmall}
 use Rattle.plan.specs.Pools.Document.{PoolForm, entries, pool_form, BreaksPool, other_name, no_list, other_entry, no_lists, no_list_at, BreaksForm, no_object, in_member, HasForm, integer_of, text_of, pools_of}
 use Rattle.plan.specs.Pools.PlanFault.{HasGoodPaths}
@@ -140,7 +141,14 @@ suggested_small root = record {
   any = omega arith;
   paths = omega arith;
   at_paths = λ path ds e. absurd (none-some ds e);
+  fixed = omega arith;
+  at_fixed = λ path ds e. absurd (none-some ds e);
+  present = omega arith;
 }
 
 pub suggested_paths : (root : Node) → HasGoodPaths root (pools_of (suggested_document root))
-suggested_paths root path h = absurd (none-some h.0 h.1)
+suggested_paths root = record {
+  paths = λ path h. absurd (none-some h.0 h.1);
+  fixed = λ path h. absurd (none-some h.0 h.1);
+  present = λ path h. absurd (contained [] path h);
+}

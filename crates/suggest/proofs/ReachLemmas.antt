@@ -261,11 +261,11 @@ abbrev Pool : Node → Pools
 Pool root = pools_of (suggested_document root)
 
 over : (root : Node) (n : Bool) (d : Option (List ℕ)) (kind : ScalarKind) (t : Constraints) (all any one negated : Branches) (at : List ℕ) (v : Data) → t.choices ≡ None → is_in v (scalars_of (Pool root)) ≡ true
-    → IsOver (Pool root) at (node n d (scalar kind (validations t all any one negated))) v
-over root n d kind t all any one negated at v none there [] [] M w follows node_is is = rw (← same_Some (node n d (scalar kind (validations t all any one negated))) M node_is, ← same_Some v w is, none, there) refl
-over root n d kind t all any one negated at v none there [] (s ∷ p) M w follows node_is is = absurd follows
-over root n d kind t all any one negated at v none there (s ∷ path) [] M w follows node_is is = absurd follows
-over root n d kind t all any one negated at v none there (s ∷ path) (q ∷ p) M w follows node_is is = absurd (none-some M (rw (no_below n d kind (validations t all any one negated) (place_step q)) at node_is))
+    → IsOver (Pool root) None at (node n d (scalar kind (validations t all any one negated))) v
+over root n d kind t all any one negated at v none there [] [] = rw (none, there) refl
+over root n d kind t all any one negated at v none there [] (s ∷ p) = tt
+over root n d kind t all any one negated at v none there (s ∷ path) [] = tt
+over root n d kind t all any one negated at v none there (s ∷ path) (q ∷ p) = λ M w follows leads found. absurd (none-some M (rw (no_below n d kind (validations t all any one negated) (place_step q)) at leads))
 
 -- ---- the constraints of a scalar
 

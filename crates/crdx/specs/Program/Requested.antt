@@ -75,7 +75,7 @@ IsCrdRefused has arguments = ((fault : JFault) × IsOfBytes fault × has (file_n
 
 -- the pools of the document that is named, within the limits, and empty ones where none is
 abbrev pub ArePools : Documents → PoolLimits → Option (Option (Bor (List ℕ))) → Pools → Type 0
-ArePools has limits None P = P ≡ record { integers = []; strings = []; names = []; any = []; paths = no_members }
+ArePools has limits None P = P ≡ record { integers = []; strings = []; names = []; any = []; paths = no_members; fixed = no_members; present = [] }
 ArePools has limits (Some name) P = (document : Data) × has (file_name name) (Ok document) × HasForm document × (P ≡ pools_of document) × AreSmall limits P
 
 -- a fault of the document that is named as pools, read within the limits

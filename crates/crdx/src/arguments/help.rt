@@ -122,14 +122,14 @@ Codes of an input that is refused:
        --large 16384, 60, 1024, 1024, 8 and 1024. --why says which, and how
        many there are.
   P1   The pools have the wrong form: they are an object with any of integers,
-       strings, names and any, each a list, of integers of 64 bits, of texts,
-       of texts, and of any values, and of paths, an object of such lists of
-       any values.
+       strings, names, present and any, each a list, of integers of 64 bits, of
+       texts, of texts, of texts, and of any values, and of paths and fixed,
+       objects of such lists of any values.
   P2   The pools have more than 64 integers, 64 strings, 32 names or 64 values
-       of any kind, more than 64 paths, or more than 64 values at a path; with
-       --large, 1024 in place of 64.
-  P5   A path of the pools leads to no field, or to one that is an object, a
-       map or a list.
+       of any kind, more than 64 paths in paths, fixed or present, or more than
+       64 values at a path; with --large, 1024 in place of 64.
+  P5   A path of the pools leads to no field; or one in paths to an object, a
+       map or a list; or one in fixed to the items of a list of list type map.
 
 Codes of a path that leads to no field, and of an object without leaves:
   X1   The text is not written as a path.
@@ -366,7 +366,13 @@ there, and an `enum` has its own values. Under "paths", such as
 up to 64 paths, as `crdx explain` prints them, of fields that are
 scalars or open, each with up to 64 values in place of all these.
 Null stays where the schema is nullable, and a value that is not
-valid there, by its `enum` too, is in no sample."#;
+valid there, by its `enum` too, is in no sample. Under "fixed", such
+as {"fixed":{"/spec":[{"a":0}],"/status":[]}}, there are all values
+of fields of any type, whole, and null only where it is listed: with
+[] the field is in no sample. Under "present", such as
+{"present":["/spec","/spec/ports/[]"]}, there are up to 64 paths that
+are always there: `spec`, and an item at least in each `ports`. What
+they are in is then not null, but may be absent, as `ports` may."#;
 
 pub(super) const LIMIT: &str = "The most nodes of a sample, 1 to 127";
 

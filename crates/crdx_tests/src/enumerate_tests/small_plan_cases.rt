@@ -339,3 +339,128 @@ fn plans_with_lists_for_paths(rt: HostRuntime) -> Result<(), Fail> {
     }
     Ok(())
 }
+
+// Fixed values for the node that is held: of each kind with a repeat, and none.
+static FIXED: [&str; 3] = [
+    r#"[3,{"a":true,"b":1},["bb"],3,[{"k":"z"}]]"#,
+    r#"[null,"bb",{},[true,false],{"p":"a"}]"#,
+    "[]",
+];
+
+fn fixed_nodes(
+    rt: &impl Abort,
+    alloc: Global,
+    holder: &(&str, &str, &str, &str),
+    nodes: &[(&str, &str)],
+    list: &str,
+) -> Result<(), Fail> {
+    let (_name, _head, _tail, path) = *holder;
+    let pools = format!(in alloc;
+        r#"{{"any":["z"],"integers":[0],"names":["p"],"strings":["c"],"fixed":{{"{path}":{list}}}}}"#
+    )?;
+    all_nodes(rt, alloc, holder, nodes, pools.as_str(), 6)
+}
+
+#[test]
+fn plans_over_fixed_values(rt: HostRuntime) -> Result<(), Fail> {
+    for list in &FIXED {
+        for holder in &HOLDERS {
+            fixed_nodes(&rt, rt.alloc(), holder, &LEAVES, list)?;
+            fixed_nodes(&rt, rt.alloc(), holder, &NODES, list)?;
+        }
+        for holder in &HOLDERS_OF_SCALARS {
+            fixed_nodes(&rt, rt.alloc(), holder, &SCALARS, list)?;
+        }
+    }
+    Ok(())
+}
+
+// A name, the schema of a node that has nodes below it, and the texts of two steps that are asked for below it.
+static ASKED: [(&str, &str, &str, &str); 9] = [
+    (
+        "objects",
+        r#"{"type":"object","properties":{"a":{"type":"boolean"},"b":{"type":"boolean","nullable":true}}}"#,
+        "/b",
+        "/a",
+    ),
+    (
+        "objects or null",
+        r#"{"type":"object","nullable":true,"properties":{"a":{"type":"boolean"},"b":{"type":"integer"}}}"#,
+        "/a",
+        "/a",
+    ),
+    (
+        "objects with a required field and a default",
+        r#"{"type":"object","nullable":true,"required":["a"],"properties":{"a":{"type":"boolean"},"f":{"type":"integer","default":7}}}"#,
+        "/f",
+        "/a",
+    ),
+    (
+        "objects with at most one of two fields",
+        r#"{"type":"object","maxProperties":1,"properties":{"a":{"type":"boolean"},"b":{"type":"object","nullable":true,"properties":{"c":{"type":"boolean"}}}}}"#,
+        "/b",
+        "/b/c",
+    ),
+    (
+        "objects with one of two fields",
+        r#"{"type":"object","nullable":true,"oneOf":[{"required":["a"]},{"required":["b"]}],"properties":{"a":{"type":"boolean"},"b":{"type":"object"},"c":{"type":"object"}}}"#,
+        "/c",
+        "/b",
+    ),
+    (
+        "maps or null",
+        r#"{"type":"object","nullable":true,"additionalProperties":{"type":"boolean","nullable":true}}"#,
+        "/{}",
+        "/{}",
+    ),
+    (
+        "maps of lists",
+        r#"{"type":"object","maxProperties":1,"additionalProperties":{"type":"array","nullable":true,"items":{"type":"boolean"}}}"#,
+        "/{}/[]",
+        "/{}",
+    ),
+    (
+        "lists or null",
+        r#"{"type":"array","nullable":true,"items":{"type":"object","nullable":true,"properties":{"a":{"type":"boolean"}}}}"#,
+        "/[]",
+        "/[]/a",
+    ),
+    (
+        "map lists",
+        r#"{"type":"array","maxItems":2,"x-kubernetes-list-type":"map","x-kubernetes-list-map-keys":["k"],"items":{"type":"object","required":["k"],"properties":{"k":{"type":"boolean"},"v":{"type":"boolean"}}}}"#,
+        "/[]",
+        "/[]/v",
+    ),
+];
+
+// The path of the node that is held, what is below it, or both are asked for.
+fn asked_nodes(
+    rt: &impl Abort,
+    alloc: Global,
+    holder: &(&str, &str, &str, &str),
+    asked: &(&str, &str, &str, &str),
+) -> Result<(), Fail> {
+    let (_name, _head, _tail, path) = *holder;
+    let (name, schema, one, other) = *asked;
+    for present in [
+        format!(in alloc; r#"["{path}"]"#)?,
+        format!(in alloc; r#"["{path}{one}"]"#)?,
+        format!(in alloc; r#"["{path}{other}","{path}{one}"]"#)?,
+        format!(in alloc; r#"["{path}{other}","{path}","/x"]"#)?,
+    ] {
+        let present = present.as_str();
+        let pools = format!(in alloc; r#"{{"integers":[0],"names":["p"],"present":{present}}}"#)?;
+        all_nodes(rt, alloc, holder, &[(name, schema)], pools.as_str(), 6)?;
+    }
+    Ok(())
+}
+
+#[test]
+fn plans_over_present_paths(rt: HostRuntime) -> Result<(), Fail> {
+    for holder in &HOLDERS {
+        for asked in &ASKED {
+            asked_nodes(&rt, rt.alloc(), holder, asked)?;
+        }
+    }
+    Ok(())
+}

@@ -53,7 +53,7 @@ enum At {
 }
 
 fn node_at(plan: &Plan<u64>, at: At, meter: &mut Meter) -> Option<PlanNode>
-    ensures { IfSome result (λ n. n < length (sites_of plan.now.root)) }
+    ensures { IfSome result (λ n. n < length (sites_of plan.now.pools plan.now.root)) }
 {
     let root = plan.root();
     if let At::Root = at {
@@ -546,7 +546,7 @@ fn slot_parts<'a>(
     place: u64,
     meter: &mut Meter,
 ) -> Option<(&'a str, bool, bool, Option<u8>, u64)>
-    requires { node < length (sites_of plan.now.root) }
+    requires { node < length (sites_of plan.now.pools plan.now.root) }
 {
     match plan.sort(node) {
         Sort::Row => match plan.slot(node, place, meter) {
@@ -559,7 +559,7 @@ fn slot_parts<'a>(
 
 // The number of slots of a row, and whether its junctors name some of its fields.
 fn row_parts(plan: &Plan<u64>, node: PlanNode) -> Option<(u64, bool)>
-    requires { node < length (sites_of plan.now.root) }
+    requires { node < length (sites_of plan.now.pools plan.now.root) }
 {
     match plan.sort(node) {
         Sort::Row => Some((plan.slot_count(node), plan.names_fields(node))),

@@ -14,26 +14,31 @@ fn said(alloc: Global, fault: &PFault) -> Result<String, AllocError> {
     }
 }
 
-// How many integers, strings, names, trees and paths there are.
+// How many integers, strings, names, trees, paths, fixed paths and present paths there are.
 fn counts(alloc: Global, pools: &Pools) -> Result<String, AllocError> {
     format!(in alloc;
-        "{} {} {} {} {}",
+        "{} {} {} {} {} {} {}",
         pools.integers().len(),
         pools.strings().len(),
         pools.names().len(),
         pools.any().len(),
-        pools.paths().members.len()
+        pools.paths().members.len(),
+        pools.fixed().members.len(),
+        pools.present().len()
     )
 }
 
 fn name_of(pool: PoolName<'_>) -> &str {
     match pool {
         PoolName::Any => "any",
+        PoolName::Fixed => "fixed",
+        PoolName::FixedAt(path) => path,
         PoolName::Integers => "integers",
         PoolName::Names => "names",
         PoolName::Paths => "paths",
-        PoolName::Strings => "strings",
         PoolName::At(path) => path,
+        PoolName::Present => "present",
+        PoolName::Strings => "strings",
     }
 }
 
@@ -77,23 +82,69 @@ fn is_outcome(
 }
 
 // A name, a document, and how many entries there are in each pool, or the fault.
-static DOCUMENTS: [(&str, &str, &str); 28] = [
-    ("no member", "{}", "0 0 0 0 0"),
+static DOCUMENTS: [(&str, &str, &str); 38] = [
+    ("no member", "{}", "0 0 0 0 0 0 0"),
+    (
+        "fixed and present paths",
+        r#"{"present":["/a","no path","/a"],"fixed":{"/a":[null,{"q":[]}],"/b":[]}}"#,
+        "0 0 0 0 0 2 3",
+    ),
+    (
+        "a list of fixed values",
+        r#"{"fixed":[]}"#,
+        r#"P1 "/fixed""#,
+    ),
+    (
+        "a text for a fixed path",
+        r#"{"fixed":{"/spec":"x","/a":[]}}"#,
+        r#"P1 "/fixed/~1spec""#,
+    ),
+    (
+        "the first of two fixed paths",
+        r#"{"fixed":{"/b":1,"/a":2}}"#,
+        r#"P1 "/fixed/~1a""#,
+    ),
+    ("a present text", r#"{"present":"/a"}"#, r#"P1 "/present""#),
+    (
+        "an integer among present paths",
+        r#"{"present":["/a",1,2]}"#,
+        r#"P1 "/present/1""#,
+    ),
+    (
+        "an object of present paths",
+        r#"{"present":{"/a":[]}}"#,
+        r#"P1 "/present""#,
+    ),
+    (
+        "a fixed path before an integer",
+        r#"{"integers":"x","fixed":{"/a":{}}}"#,
+        r#"P1 "/fixed/~1a""#,
+    ),
+    (
+        "a path before a present one, and this before a string",
+        r#"{"strings":[0],"present":[0],"paths":{"/a":0}}"#,
+        r#"P1 "/paths/~1a""#,
+    ),
+    (
+        "a present path before a string",
+        r#"{"strings":[0],"present":[0]}"#,
+        r#"P1 "/present/0""#,
+    ),
     (
         "each pool",
         r#"{"any":[null],"integers":[1,1,1,1],"names":["n","n"],"strings":["a","b","a"]}"#,
-        "4 3 2 1 0",
+        "4 3 2 1 0 0 0",
     ),
     (
         "trees of each kind",
         r#"{"any":[null,true,-1,"t",[[]],{"q":1}]}"#,
-        "0 0 0 6 0",
+        "0 0 0 6 0 0 0",
     ),
-    ("no paths", r#"{"paths":{}}"#, "0 0 0 0 0"),
+    ("no paths", r#"{"paths":{}}"#, "0 0 0 0 0 0 0"),
     (
         "paths with trees of each kind",
         r#"{"paths":{"":[],"/a":[null,true,-1,"t",[[]],{"q":1}],"no path":[1,1]}}"#,
-        "0 0 0 0 3",
+        "0 0 0 0 3 0 0",
     ),
     ("a list of paths", r#"{"paths":[]}"#, r#"P1 "/paths""#),
     ("null for paths", r#"{"paths":null}"#, r#"P1 "/paths""#),
@@ -198,14 +249,46 @@ static DOCUMENTS: [(&str, &str, &str); 28] = [
 
 // A name, the beginning of a document, an entry with its comma, how many there are, the text after them, and what is
 // answered. Each repeat counts, and the form is judged before the limits.
-static LONG: [(&str, &str, &str, usize, &str, &str); 14] = [
+static LONG: [(&str, &str, &str, usize, &str, &str); 18] = [
+    (
+        "64 present paths",
+        r#"{"present":["#,
+        r#""/a","#,
+        63,
+        r#""/a"]}"#,
+        "0 0 0 0 0 0 64",
+    ),
+    (
+        "65 present paths",
+        r#"{"present":["#,
+        r#""/a","#,
+        64,
+        r#""/a"]}"#,
+        "P2 present 65 64",
+    ),
+    (
+        "64 values at a fixed path",
+        r#"{"fixed":{"/a":["#,
+        "0,",
+        63,
+        "0]}}",
+        "0 0 0 0 0 1 0",
+    ),
+    (
+        "65 values at a fixed path",
+        r#"{"fixed":{"/a":["#,
+        "0,",
+        64,
+        "0]}}",
+        "P2 /a 65 64",
+    ),
     (
         "64 integers",
         r#"{"integers":["#,
         "0,",
         63,
         "0]}",
-        "64 0 0 0 0",
+        "64 0 0 0 0 0 0",
     ),
     (
         "65 integers",
@@ -221,7 +304,7 @@ static LONG: [(&str, &str, &str, usize, &str, &str); 14] = [
         r#""s","#,
         63,
         r#""s"]}"#,
-        "0 64 0 0 0",
+        "0 64 0 0 0 0 0",
     ),
     (
         "65 strings",
@@ -237,7 +320,7 @@ static LONG: [(&str, &str, &str, usize, &str, &str); 14] = [
         r#""n","#,
         31,
         r#""n"]}"#,
-        "0 0 32 0 0",
+        "0 0 32 0 0 0 0",
     ),
     (
         "33 names",
@@ -247,7 +330,14 @@ static LONG: [(&str, &str, &str, usize, &str, &str); 14] = [
         r#""n"]}"#,
         "P2 names 33 32",
     ),
-    ("64 trees", r#"{"any":["#, "{},", 63, "{}]}", "0 0 0 64 0"),
+    (
+        "64 trees",
+        r#"{"any":["#,
+        "{},",
+        63,
+        "{}]}",
+        "0 0 0 64 0 0 0",
+    ),
     ("65 trees", r#"{"any":["#, "{},", 64, "{}]}", "P2 any 65 64"),
     (
         "64 entries at a path",
@@ -255,7 +345,7 @@ static LONG: [(&str, &str, &str, usize, &str, &str); 14] = [
         "0,",
         63,
         "0]}}",
-        "0 0 0 0 1",
+        "0 0 0 0 1 0 0",
     ),
     (
         "65 entries at a path",
@@ -300,14 +390,30 @@ static LONG: [(&str, &str, &str, usize, &str, &str); 14] = [
 ];
 
 // The same with the large limits.
-static LARGE: [(&str, &str, &str, usize, &str, &str); 6] = [
+static LARGE: [(&str, &str, &str, usize, &str, &str); 8] = [
+    (
+        "1,024 present paths",
+        r#"{"present":["#,
+        r#""/a","#,
+        1023,
+        r#""/a"]}"#,
+        "0 0 0 0 0 0 1024",
+    ),
+    (
+        "1,025 values at a fixed path",
+        r#"{"fixed":{"/a":["#,
+        "0,",
+        1024,
+        "0]}}",
+        "P2 /a 1025 1024",
+    ),
     (
         "1,024 integers",
         r#"{"integers":["#,
         "0,",
         1023,
         "0]}",
-        "1024 0 0 0 0",
+        "1024 0 0 0 0 0 0",
     ),
     (
         "1,025 integers",
@@ -339,7 +445,7 @@ static LARGE: [(&str, &str, &str, usize, &str, &str); 6] = [
         "0,",
         1023,
         "0]}}",
-        "0 0 0 0 1",
+        "0 0 0 0 1 0 0",
     ),
     (
         "1,025 entries at a path",
@@ -353,11 +459,36 @@ static LARGE: [(&str, &str, &str, usize, &str, &str); 6] = [
 
 // A name, a document, and what is answered where there may be one entry, two names and three paths: of several pools that have too
 // many entries, the first in path order.
-static FEW: [(&str, &str, &str); 8] = [
+static FEW: [(&str, &str, &str); 13] = [
+    (
+        "as many fixed and present paths as there may be",
+        r#"{"fixed":{"/a":[1],"/b":[],"/c":[2]},"present":["/a","/a","/b"]}"#,
+        "0 0 0 0 0 3 3",
+    ),
+    (
+        "too many fixed paths, values at one of them, and integers",
+        r#"{"integers":[0,1],"fixed":{"/a":[0,1],"/b":[],"/c":[],"/d":[]}}"#,
+        "P2 fixed 4 3",
+    ),
+    (
+        "too many values at two fixed paths, integers and values at a path",
+        r#"{"integers":[0,1],"paths":{"/a":[0,1]},"fixed":{"/c":[0,1,2],"/b":[0,1],"/a":[0]}}"#,
+        "P2 /b 2 1",
+    ),
+    (
+        "too many present paths and strings",
+        r#"{"strings":["s","t"],"present":["/a","/b","/c","/a"]}"#,
+        "P2 present 4 3",
+    ),
+    (
+        "too many values at a path and present paths",
+        r#"{"present":["/a","/b","/c","/a"],"paths":{"/p":[0,1]}}"#,
+        "P2 /p 2 1",
+    ),
     (
         "as many as there may be",
         r#"{"any":[0],"integers":[1],"names":["a","b"],"paths":{"/a":[1],"/b":[2],"/c":[]},"strings":["s"]}"#,
-        "1 1 2 1 3",
+        "1 1 2 1 3 0 0",
     ),
     (
         "too many in each pool",
@@ -440,9 +571,9 @@ fn forms_and_limits(rt: HostRuntime) -> Result<(), Fail> {
     Ok(())
 }
 
-// Pools with so many paths, the last of them with an entry.
-fn many_paths(alloc: Global, count: usize) -> Result<String, AllocError> {
-    let mut document = String::from_str(alloc, r#"{"paths":{"#)?;
+// Pools with so many paths under this name, the last of them with an entry.
+fn many_paths(alloc: Global, name: &str, count: usize) -> Result<String, AllocError> {
+    let mut document = format!(in alloc; r#"{{"{name}":{{"#)?;
     for path in 1..count {
         document.push_str(format!(in alloc; r#""/{path}":[],"#)?.as_str())?;
     }
@@ -452,14 +583,18 @@ fn many_paths(alloc: Global, count: usize) -> Result<String, AllocError> {
 
 #[test]
 fn paths(rt: HostRuntime) -> Result<(), Fail> {
-    for (count, limits, wanted) in [
-        (1, PoolLimits::STANDARD, "0 0 0 0 1"),
-        (64, PoolLimits::STANDARD, "0 0 0 0 64"),
-        (65, PoolLimits::STANDARD, "P2 paths 65 64"),
-        (1024, PoolLimits::LARGE, "0 0 0 0 1024"),
-        (1025, PoolLimits::LARGE, "P2 paths 1025 1024"),
+    for (name, count, limits, wanted) in [
+        ("paths", 1, PoolLimits::STANDARD, "0 0 0 0 1 0 0"),
+        ("paths", 64, PoolLimits::STANDARD, "0 0 0 0 64 0 0"),
+        ("paths", 65, PoolLimits::STANDARD, "P2 paths 65 64"),
+        ("paths", 1024, PoolLimits::LARGE, "0 0 0 0 1024 0 0"),
+        ("paths", 1025, PoolLimits::LARGE, "P2 paths 1025 1024"),
+        ("fixed", 64, PoolLimits::STANDARD, "0 0 0 0 0 64 0"),
+        ("fixed", 65, PoolLimits::STANDARD, "P2 fixed 65 64"),
+        ("fixed", 1024, PoolLimits::LARGE, "0 0 0 0 0 1024 0"),
+        ("fixed", 1025, PoolLimits::LARGE, "P2 fixed 1025 1024"),
     ] {
-        let document = many_paths(rt.alloc(), count)?;
+        let document = many_paths(rt.alloc(), name, count)?;
         is_outcome(
             &rt,
             rt.alloc(),
@@ -500,7 +635,7 @@ fn are_trees(rt: &impl Abort, alloc: Global, found: &[Tree], wanted: &[&str]) ->
 }
 
 static WRITTEN: &str =
-    r#"{"strings":["b","a","b"],"names":["","é"],"integers":[3,-1,3],"any":[{"q":[1]},null],"paths":{"/b":[2,"x",2],"/a":[]}}"#;
+    r#"{"strings":["b","a","b"],"names":["","é"],"integers":[3,-1,3],"any":[{"q":[1]},null],"paths":{"/b":[2,"x",2],"/a":[]},"fixed":{"/b":[null,null],"/c":[]},"present":["/z","/b","/z"]}"#;
 
 // The values for a path.
 fn at_path(
@@ -527,6 +662,14 @@ fn entries_as_written(rt: HostRuntime) -> Result<(), Fail> {
     at_path(&rt, rt.alloc(), &pools, "/b", &["2", r#""x""#, "2"])?;
     at_path(&rt, rt.alloc(), &pools, "/a", &[])?;
     assert!(rt; pools.list_at("/c").is_none(), "a list for no path");
+    are_texts(&rt, pools.present(), &["/z", "/b", "/z"], "present");
+    assert!(rt; pools.is_present("/b"), "a present path");
+    assert!(rt; !pools.is_present("/a"), "a path that is not present");
+    assert!(rt; pools.fixed_at("/a").is_none(), "values for no fixed path");
+    match pools.fixed_at("/b") {
+        Some(list) => are_trees(&rt, rt.alloc(), list, &["null", "null"])?,
+        None => return Err(Fail::from("no fixed values")),
+    }
     Ok(())
 }
 
@@ -536,7 +679,7 @@ fn no_entries(rt: HostRuntime) -> Result<(), Fail> {
     is_text(
         &rt,
         found.as_str(),
-        "0 0 0 0 0",
+        "0 0 0 0 0 0 0",
         "the entries",
         "empty pools",
     );

@@ -1,5 +1,5 @@
 //! `--why`: what is said below the line of a refusal.
-use crate::support::documents::{DEFAULTED, SPEC, WIDGET, ZERO_AND_ONE};
+use crate::support::documents::{DEFAULTED, MAP_LIST, SPEC, WIDGET, ZERO_AND_ONE};
 use crate::support::harness::{all_runs, all_runs_by_schema};
 use std::test::Fail;
 
@@ -118,7 +118,7 @@ static DOCUMENTS: [(&str, &str, &str, &str, &str, &str, u8); 12] = [
 ];
 
 // As above, with a schema in place of the definition.
-static SCHEMAS: [(&str, &str, &str, &str, &str, &str, u8); 20] = [
+static SCHEMAS: [(&str, &str, &str, &str, &str, &str, u8); 26] = [
     (
         "a keyword of another form",
         "crdx check crd.json v1 --why",
@@ -191,7 +191,7 @@ V01 "/properties/b" missing type
         SPEC,
         r#"{"floats":[1]}"#,
         "",
-        "crdx: pools: P1 \"/floats\"\n    found a list; allowed are the members \"any\", \"integers\", \"names\", \"paths\" and \"strings\"\n",
+        "crdx: pools: P1 \"/floats\"\n    found a list; allowed are the members \"any\", \"fixed\", \"integers\", \"names\", \"paths\", \"present\" and \"strings\"\n",
         3,
     ),
     (
@@ -246,6 +246,60 @@ V01 "/properties/b" missing type
         r#"{"paths":{"/spec":[]}}"#,
         "",
         "crdx: pools: P5 \"/spec\"\n    found the path of an object; allowed are those of scalars and of open places\n",
+        3,
+    ),
+    (
+        "fixed values that are a list",
+        "crdx sample crd.json v1 --pools pools.json --why",
+        SPEC,
+        r#"{"fixed":[1]}"#,
+        "",
+        "crdx: pools: P1 \"/fixed\"\n    found a list; allowed is an object of lists\n",
+        3,
+    ),
+    (
+        "no list at a fixed path",
+        "crdx sample crd.json v1 --pools pools.json --why",
+        SPEC,
+        r#"{"fixed":{"/spec":7}}"#,
+        "",
+        "crdx: pools: P1 \"/fixed/~1spec\"\n    found 7; allowed is a list\n",
+        3,
+    ),
+    (
+        "an integer among present paths",
+        "crdx sample crd.json v1 --pools pools.json --why",
+        SPEC,
+        r#"{"present":["/spec",7]}"#,
+        "",
+        "crdx: pools: P1 \"/present/1\"\n    found 7; allowed is a text\n",
+        3,
+    ),
+    (
+        "the items of a map list",
+        "crdx sample crd.json v1 --pools pools.json --why",
+        MAP_LIST,
+        r#"{"fixed":{"/m/[]":[]}}"#,
+        "",
+        "crdx: pools: P5 \"/m/[]\"\n    found the path of the items of a map list; allowed are those of the list and of what is below its items\n",
+        3,
+    ),
+    (
+        "the items of a map list under paths too",
+        "crdx sample crd.json v1 --pools pools.json --why",
+        MAP_LIST,
+        r#"{"paths":{"/m/[]":[]},"fixed":{"/m/[]":[]}}"#,
+        "",
+        "crdx: pools: P5 \"/m/[]\"\n    found the path of an object; allowed are those of scalars and of open places\n",
+        3,
+    ),
+    (
+        "a present path that is not declared, before one that is no path",
+        "crdx sample crd.json v1 --pools pools.json --why",
+        SPEC,
+        r#"{"present":["spec","/z"]}"#,
+        "",
+        "crdx: pools: P5 \"/z\"\n    found a path that is not declared; `crdx explain` lists those that are\n",
         3,
     ),
     (

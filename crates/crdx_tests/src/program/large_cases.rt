@@ -281,7 +281,7 @@ const LARGE_SAMPLES: &str = "crdx sample crd.json v1 --limit 2 --pools pools.jso
 
 // A name, a command line, pools before their entries, an entry, how many there are, the pools after them, and what is said of
 // them, where they are too many; else there are an empty object and one with the integer.
-static POOLS: [(&str, &str, &str, &str, usize, &str, &str); 12] = [
+static POOLS: [(&str, &str, &str, &str, usize, &str, &str); 15] = [
     (
         "64 integers",
         SAMPLES,
@@ -362,6 +362,33 @@ static POOLS: [(&str, &str, &str, &str, usize, &str, &str); 12] = [
         33,
         "]}",
         "crdx: pools: P2\n    found 33 entries in \"names\"; allowed are 32\n",
+    ),
+    (
+        "65 fixed values at a path",
+        SAMPLES,
+        r#"{"fixed":{"/a":["#,
+        "1",
+        65,
+        "]}}",
+        "crdx: pools: P2\n    found 65 fixed values at the path \"/a\"; allowed are 64, and 1024 with --large\n",
+    ),
+    (
+        "1,024 fixed values at a path",
+        LARGE_SAMPLES,
+        r#"{"fixed":{"/a":["#,
+        "1",
+        1024,
+        "]}}",
+        "",
+    ),
+    (
+        "65 present paths",
+        SAMPLES,
+        r#"{"present":["#,
+        r#""/a""#,
+        65,
+        "]}",
+        "crdx: pools: P2\n    found 65 paths in \"present\"; allowed are 64, and 1024 with --large\n",
     ),
     (
         "65 values at a path",

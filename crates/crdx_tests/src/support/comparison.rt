@@ -7,8 +7,8 @@ ghost use Rattle.plan.specs.declared.sort.Sort.TheVariants as sort;
 use crate::support::harness::{holds, is_number, is_same, made, pools_of, schema_of};
 use crate::support::plans::{are_sizes, item_of, more_of, place_of, rest_of, slot_of};
 use crate::support::reference::{
-    Before, Choice, Ending, node_below, plain_more, plain_named, plain_parts, plain_rest,
-    plain_slots,
+    Before, Choice, Ending, map_ending, node_below, plain_more, plain_named, plain_parts,
+    plain_rest, plain_slots,
 };
 use enumerate::page;
 use explain::{Step, path_below};
@@ -28,8 +28,8 @@ fn are_candidates(
     meter: &mut Meter,
     name: &str,
 )
-    requires node { node < length (sites_of plan.now.root) }
-    requires leaf { sort_of (site_at (sites_of plan.now.root) node) ≡ sort.Leaf }
+    requires node { node < length (sites_of plan.now.pools plan.now.root) }
+    requires leaf { sort_of (site_at (sites_of plan.now.pools plan.now.root) node) ≡ sort.Leaf }
 {
     let count = wanted.len();
     is_number(rt, plan.count(node), count as u64, "the count", name);
@@ -53,7 +53,7 @@ fn try_leaf(
     meter: &mut Meter,
     name: &str,
 ) -> Result<(), Fail>
-    requires { number < length (sites_of plan.now.root) }
+    requires { number < length (sites_of plan.now.pools plan.now.root) }
 {
     if let Sort::Leaf = plan.sort(number) {
         let parts = plain_parts(alloc, node, path, pools, u64::MAX)?;
@@ -89,7 +89,7 @@ fn try_more(
     parts: &[Tree],
     name: &str,
 ) -> Result<(), Fail>
-    requires { number < length (sites_of plan.now.root) }
+    requires { number < length (sites_of plan.now.pools plan.now.root) }
 {
     for taken in 0..=plan.limit() {
         is_more(rt, alloc, more_of(plan, number, taken), parts, taken, name)?;
@@ -123,7 +123,7 @@ fn all_rests(
     meter: &mut Meter,
     name: &str,
 ) -> Result<(), Fail>
-    requires { number < length (sites_of plan.now.root) }
+    requires { number < length (sites_of plan.now.pools plan.now.root) }
 {
     let named = plain_named(alloc, ending)?;
     holds(rt, named.len() <= 4, "few named fields", name);
@@ -158,7 +158,7 @@ fn rests_at(
     meter: &mut Meter,
     name: &str,
 ) -> Result<(), Fail>
-    requires { number < length (sites_of plan.now.root) }
+    requires { number < length (sites_of plan.now.pools plan.now.root) }
 {
     for taken in 0..=place.min(99) as u32 {
         for seen in 0..choices_of(named) {
@@ -198,7 +198,7 @@ fn is_rest(
     meter: &mut Meter,
     name: &str,
 ) -> Result<(), Fail>
-    requires { number < length (sites_of plan.now.root) }
+    requires { number < length (sites_of plan.now.pools plan.now.root) }
 {
     let taken = before.taken.min(99) as u32;
     let Some(rest) = rest_of(plan, number, place, taken, before.seen, meter) else {
@@ -222,9 +222,12 @@ fn try_nodes(
     meter: &mut Meter,
     name: &str,
 ) -> Result<(), Fail>
-    requires { number < length (sites_of plan.now.root) }
+    requires { number < length (sites_of plan.now.pools plan.now.root) }
 {
     is_size(rt, alloc, plan.sizes(number), parts, name)?;
+    if pools.fixed_at(path).is_some() {
+        return try_leaf(rt, alloc, plan, number, node, path, pools, meter, name);
+    }
     match &node.sort {
         NodeSort::Scalar(_) | NodeSort::Open => try_leaf(
             rt, alloc, plan, number, node, path, pools, meter, name,
@@ -268,7 +271,7 @@ fn try_items(
     meter: &mut Meter,
     name: &str,
 ) -> Result<(), Fail>
-    requires { number < length (sites_of plan.now.root) }
+    requires { number < length (sites_of plan.now.pools plan.now.root) }
 {
     let found = item_of(plan, number, 0, meter);
     holds(rt, found.is_some() == has_items, "an item", name);
@@ -294,7 +297,7 @@ fn try_row(
     meter: &mut Meter,
     name: &str,
 ) -> Result<(), Fail>
-    requires { number < length (sites_of plan.now.root) }
+    requires { number < length (sites_of plan.now.pools plan.now.root) }
 {
     let slots = plain_slots(alloc, node, path, pools, u64::from(plan.limit()))?;
     match &node.sort {
@@ -318,10 +321,7 @@ fn try_row(
             )
         }
         NodeSort::Map(map) => {
-            let ending = Ending {
-                bounds: map.bounds,
-                junctors: None,
-            };
+            let ending = map_ending(alloc, map.bounds, path, pools)?;
             all_rests(rt, alloc, plan, number, ending, &slots, meter, name)?;
             let below = path_below(alloc, path, Step::Value)?;
             try_slot(
@@ -355,7 +355,7 @@ fn try_fields(
     meter: &mut Meter,
     name: &str,
 ) -> Result<(), Fail>
-    requires { number < length (sites_of plan.now.root) }
+    requires { number < length (sites_of plan.now.pools plan.now.root) }
 {
     for (place, field) in fields.fields.iter().enumerate() {
         let below = path_below(alloc, path, Step::Field(field.name.as_str()))?;
@@ -390,7 +390,7 @@ fn try_slot(
     meter: &mut Meter,
     name: &str,
 ) -> Result<(), Fail>
-    requires { number < length (sites_of plan.now.root) }
+    requires { number < length (sites_of plan.now.pools plan.now.root) }
 {
     let found = slot_of(plan, number, place_of(place), meter);
     holds(rt, found.is_some() == slot.is_some(), "a slot", name);

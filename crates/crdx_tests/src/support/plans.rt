@@ -17,8 +17,8 @@ pub fn place_of(index: usize) -> u64 {
 
 // The node of a slot.
 pub fn slot_of(plan: &Plan<u64>, node: PlanNode, place: u64, meter: &mut Meter) -> Option<PlanNode>
-    requires { node < length (sites_of plan.now.root) }
-    ensures { IfSome result (λ n. n < length (sites_of plan.now.root)) }
+    requires { node < length (sites_of plan.now.pools plan.now.root) }
+    ensures { IfSome result (λ n. n < length (sites_of plan.now.pools plan.now.root)) }
 {
     match plan.sort(node) {
         Sort::Row => match plan.slot(node, place, meter) {
@@ -30,8 +30,8 @@ pub fn slot_of(plan: &Plan<u64>, node: PlanNode, place: u64, meter: &mut Meter) 
 }
 
 pub fn item_of(plan: &Plan<u64>, node: PlanNode, place: u32, meter: &mut Meter) -> Option<PlanNode>
-    requires { node < length (sites_of plan.now.root) }
-    ensures { IfSome result (λ i. i < length (sites_of plan.now.root)) }
+    requires { node < length (sites_of plan.now.pools plan.now.root) }
+    ensures { IfSome result (λ i. i < length (sites_of plan.now.pools plan.now.root)) }
 {
     match plan.sort(node) {
         Sort::List => plan.item(node, place, meter),
@@ -67,7 +67,7 @@ pub fn rest_of(
     seen: u8,
     meter: &mut Meter,
 ) -> Option<u64>
-    requires { node < length (sites_of plan.now.root) }
+    requires { node < length (sites_of plan.now.pools plan.now.root) }
 {
     match plan.sort(node) {
         Sort::Row if u64::from(taken) <= place => rest_at(plan, node, place, taken, seen, meter),
@@ -83,8 +83,8 @@ fn rest_at(
     seen: u8,
     meter: &mut Meter,
 ) -> Option<u64>
-    requires node { node < length (sites_of plan.now.root) }
-    requires row { sort_of (site_at (sites_of plan.now.root) node) ≡ sort.Row }
+    requires node { node < length (sites_of plan.now.pools plan.now.root) }
+    requires row { sort_of (site_at (sites_of plan.now.pools plan.now.root) node) ≡ sort.Row }
     requires taken { taken ≤ place }
 {
     if place == 0 {
@@ -97,7 +97,7 @@ fn rest_at(
 }
 
 pub fn more_of(plan: &Plan<u64>, node: PlanNode, taken: u32) -> Option<u64>
-    requires { node < length (sites_of plan.now.root) }
+    requires { node < length (sites_of plan.now.pools plan.now.root) }
 {
     match plan.sort(node) {
         Sort::List => Some(plan.more(node, taken)),

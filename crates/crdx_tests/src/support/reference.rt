@@ -41,11 +41,66 @@ fn values_at(
     pools: &Pools,
     limit: u64,
 ) -> Result<Vec<Tree>, AllocError> {
+    if let Some(list) = pools.fixed_at(path) {
+        return within(alloc, copies(alloc, list)?, limit);
+    }
     let mut values = values_of(alloc, &node.sort, path, pools, limit.saturating_sub(1))?;
     if node.nullable {
         values.push(Tree::Null)?;
     }
+    let values = with_present(alloc, &node.sort, path, pools, values)?;
     within(alloc, values, limit)
+}
+
+/// Those that have what the pools ask for directly below them.
+fn with_present(
+    alloc: Global,
+    sort: &Sort,
+    path: &str,
+    pools: &Pools,
+    trees: Vec<Tree>,
+) -> Result<Vec<Tree>, AllocError> {
+    let mut kept = Vec::new(alloc);
+    for tree in trees {
+        if has_present(alloc, sort, path, pools, &tree)? {
+            kept.push(tree)?;
+        }
+    }
+    Ok(kept)
+}
+
+fn has_present(
+    alloc: Global,
+    sort: &Sort,
+    path: &str,
+    pools: &Pools,
+    tree: &Tree,
+) -> Result<bool, AllocError> {
+    match sort {
+        Sort::Object(object) => {
+            for field in &object.fields.fields {
+                let name = field.name.as_str();
+                if tree.get(name).is_none() && asks_for(alloc, pools, path, Step::Field(name))? {
+                    return Ok(false);
+                }
+            }
+            Ok(true)
+        }
+        Sort::Map(_) => Ok(tree.nodes() > 1 || !asks_for(alloc, pools, path, Step::Value)?),
+        Sort::List(_) => Ok(tree.nodes() > 1 || !asks_for(alloc, pools, path, Step::Item)?),
+        Sort::Scalar(_) | Sort::Open => Ok(true),
+    }
+}
+
+/// Whether the pools list the path of this step.
+fn asks_for(alloc: Global, pools: &Pools, path: &str, step: Step<'_>) -> Result<bool, AllocError> {
+    let below = path_below(alloc, path, step)?;
+    for text in pools.present() {
+        if text.as_str() == below.as_str() {
+            return Ok(true);
+        }
+    }
+    Ok(false)
 }
 
 /// The values at a node of this sort, null aside, of at most `room` nodes below them.
@@ -131,15 +186,21 @@ fn field_slots(
     for field in &fields.fields {
         let below = path_below(alloc, path, Step::Field(field.name.as_str()))?;
         let values = plain_parts(alloc, &field.node, &below, pools, limit)?;
-        slots.push(choice_of_field(alloc, field, values)?)?;
+        let asked = asks_for(alloc, pools, path, Step::Field(field.name.as_str()))?;
+        slots.push(choice_of_field(alloc, field, values, asked)?)?;
     }
     Ok(slots)
 }
 
-/// There must be a value under a field that is required or has a default.
-fn choice_of_field(alloc: Global, field: &Field, values: Vec<Tree>) -> Result<Choice, AllocError> {
+/// There must be a value under a field that is required, has a default or is asked for.
+fn choice_of_field(
+    alloc: Global,
+    field: &Field,
+    values: Vec<Tree>,
+    asked: bool,
+) -> Result<Choice, AllocError> {
     let name = field.name.copy(alloc)?;
-    let must = field.required || field.default.is_some();
+    let must = asked || field.required || field.default.is_some();
     Ok(Choice { name, must, values })
 }
 
@@ -175,6 +236,28 @@ fn choices_of_names(
 pub struct Ending<'a> {
     pub bounds: Bounds,
     pub junctors: Option<&'a Validations>,
+}
+
+/// What is asked of a map at this path where it ends.
+pub fn map_ending<'a>(
+    alloc: Global,
+    bounds: Bounds,
+    path: &str,
+    pools: &Pools,
+) -> Result<Ending<'a>, AllocError> {
+    let asked = asks_for(alloc, pools, path, Step::Value)?;
+    let least = if asked && bounds.least.unwrap_or(0) == 0 {
+        Some(1)
+    } else {
+        bounds.least
+    };
+    Ok(Ending {
+        bounds: Bounds {
+            least,
+            most: bounds.most,
+        },
+        junctors: None,
+    })
 }
 
 /// What is before a place: how many members, and which of the named fields, the first of them at the lowest bit.
@@ -388,7 +471,8 @@ fn field_choices(
     for field in &fields.fields {
         let below = path_below(alloc, path, Step::Field(field.name.as_str()))?;
         let values = values_at(alloc, &field.node, &below, pools, room)?;
-        choices.push(choice_of_field(alloc, field, values)?)?;
+        let asked = asks_for(alloc, pools, path, Step::Field(field.name.as_str()))?;
+        choices.push(choice_of_field(alloc, field, values, asked)?)?;
     }
     Ok(choices)
 }

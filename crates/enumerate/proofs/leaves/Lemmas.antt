@@ -70,7 +70,7 @@ module _ (q : Question) (i : ℕ) where
   -- a leaf has at most as many candidates as the plan is wide
   pub count_within : IsNodeOf q i → sort_of (site q i) ≡ sort.Leaf → (n : ℕ) → HasCount q.pools (site q i) n → (w : ℕ) → IsWidth q.pools q.root w → n ≤ w
   count_within at leaf n count w width =
-      width.each (site q i) n (Contains-get_or (sites_of q.root) i _ at) (subst (λ s. HasWidthBy s q.pools (site q i) n) (sym leaf) count)
+      width.each (site q i) n (Contains-get_or (sites_of q.pools q.root) i _ at) (subst (λ s. HasWidthBy s q.pools (site q i) n) (sym leaf) count)
 
   -- ---- the first candidate for which C holds
 

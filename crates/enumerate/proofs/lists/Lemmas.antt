@@ -132,7 +132,7 @@ apart_more alike (item d ds) v p f =
 -- ---- the items that are there
 
 -- none
-pub first_none : (q : Question) (i c : ℕ) → item_site (site q i) ≡ Some (site q c) → AreFirst q i c no_items
+pub first_none : (q : Question) (i c : ℕ) → item_site q.pools (site q i) ≡ Some (site q c) → AreFirst q i c no_items
 first_none q i c is = record { item = is; are = tt; apart = refl }
 
 -- one unused item more
@@ -162,7 +162,7 @@ items_unshift q i m used ds d few a = record {
 
 -- ---- what can follow
 
-module _ (q : Question) (i c : ℕ) (rule : RuleOfParts q.pools q.limit (site q i)) (ends : NoDeadEnd q.pools q.limit (site q i)) (item_is : item_site (site q i) ≡ Some (site q c)) where
+module _ (q : Question) (i c : ℕ) (rule : RuleOfParts q.pools q.limit (site q i)) (ends : NoDeadEnd q.pools q.limit (site q i)) (item_is : item_site q.pools (site q i) ≡ Some (site q c)) where
   pub list_parts : (ds : Items) → IsPart q.pools (site q i) (tree.list ds) → 1 + items_count ds ≤ q.limit → AreParts q.pools (site q c) ds × (are_apart (alike_at (site q i)) ds ≡ true)
   list_parts ds p within = elim ((rule.list (site q c) (tree.list ds) item_is within).0 p) [
     | inl none ↦ let e = none.0 in cc
@@ -385,5 +385,5 @@ follow_item q i c m n old new t first within fit unused is =
 
 -- ---- nodes and their sites
 
-pub site_among : (q : Question) (i : ℕ) → IsNodeOf q i → Contains (sites_of q.root) (site q i)
-site_among q i h = Contains-get_or (sites_of q.root) i _ h
+pub site_among : (q : Question) (i : ℕ) → IsNodeOf q i → Contains (sites_of q.pools q.root) (site q i)
+site_among q i h = Contains-get_or (sites_of q.pools q.root) i _ h

@@ -56,7 +56,7 @@ module _ (q : Question) (i room : ℕ) (old front : Items) (d : Data) (w : WereL
   walk_nodes : items_count old ≡ items_count front + (node_count d + room)
   walk_nodes = ap items_count walk_is ∙ then_nodes front (item d w.after) ∙ ap (λ n. items_count front + (node_count d + n)) w.nodes_are
 
-module _ (q : Question) (i c : ℕ) (rule : RuleOfParts q.pools q.limit (site q i)) (ends : NoDeadEnd q.pools q.limit (site q i)) (item_is : item_site (site q i) ≡ Some (site q c)) where
+module _ (q : Question) (i c : ℕ) (rule : RuleOfParts q.pools q.limit (site q i)) (ends : NoDeadEnd q.pools q.limit (site q i)) (item_is : item_site q.pools (site q i) ≡ Some (site q c)) where
   -- the items in front of others
   pub first_front : (front rest : Items) → IsPart q.pools (site q i) (tree.list (items_then front rest)) → 1 + items_count (items_then front rest) ≤ q.limit → AreFirst q i c front
   first_front front rest p within =
@@ -145,7 +145,7 @@ last_before q i room old left front one popped last = subst (WereLast q i room o
 pub front_nodes : (q : Question) (i room : ℕ) (old : Items) (left front : List Tree) (one : Tree) → left ≡ front ++ one ∷ [] → WereLast q i room old (items_of left) → items_count old ≡ items_count (items_of front) + (node_count (data_of one) + room)
 front_nodes q i room old left front one popped last = walk_nodes q i room old (items_of front) (data_of one) (last_before q i room old left front one popped last)
 
-module _ (q : Question) (i c : ℕ) (rule : RuleOfParts q.pools q.limit (site q i)) (ends : NoDeadEnd q.pools q.limit (site q i)) (item_is : item_site (site q i) ≡ Some (site q c))
+module _ (q : Question) (i c : ℕ) (rule : RuleOfParts q.pools q.limit (site q i)) (ends : NoDeadEnd q.pools q.limit (site q i)) (item_is : item_site q.pools (site q i) ≡ Some (site q c))
     (old : Items) (part : IsPart q.pools (site q i) (tree.list old)) (within : 1 + items_count old ≤ q.limit) (top : q.limit ≤ most_nodes)
     (room : ℕ) (left front : List Tree) (one : Tree) (popped : left ≡ front ++ one ∷ []) (last : WereLast q i room old (items_of left)) where
   before : WereLast q i room old (items_then (items_of front) (item (data_of one) no_items))

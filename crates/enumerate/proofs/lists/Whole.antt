@@ -44,14 +44,14 @@ has_item q i (item d ds) some p fits = (items_count ds, record { items = item d 
 
 module _ (q : Question) (i : ℕ) (rule : RuleOfParts q.pools q.limit (site q i)) (is_list : sort_of (site q i) ≡ sort.List) where
   -- a part that is not null is a list
-  pub part_list : (v : Data) → IsPart q.pools (site q i) v → node_count v ≤ q.limit → (v ≡ tree.null → admits_null (site q i) ≡ true → ⊥) → (ds : Items) × (v ≡ tree.list ds)
+  pub part_list : (v : Data) → IsPart q.pools (site q i) v → node_count v ≤ q.limit → (v ≡ tree.null → admits_null q.pools (site q i) ≡ true → ⊥) → (ds : Items) × (v ≡ tree.list ds)
   part_list v p within no_null = let M = rule.items is_list in elim ((rule.list M.0 v M.1 within).0 p) [
     | inl none ↦ absurd (no_null none.0 none.1)
     | inr h ↦ (h.items, h.is)
   ]
 
-  module _ (n : ℕ) (some : 1 ≤ n) (within : n ≤ q.limit) (no_null : n ≡ 1 → admits_null (site q i) ≡ false) where
-    not_null : (v : Data) → node_count v ≡ n → v ≡ tree.null → admits_null (site q i) ≡ true → ⊥
+  module _ (n : ℕ) (some : 1 ≤ n) (within : n ≤ q.limit) (no_null : n ≡ 1 → admits_null q.pools (site q i) ≡ false) where
+    not_null : (v : Data) → node_count v ≡ n → v ≡ tree.null → admits_null q.pools (site q i) ≡ true → ⊥
     not_null v e is accepted =
         let one : n ≡ 1 = sym e ∙ ap node_count is in
         let refused = no_null one in cc
@@ -81,18 +81,18 @@ module _ (q : Question) (i : ℕ) (rule : RuleOfParts q.pools q.limit (site q i)
     pub list_longer : 1 < n → HasSizeAt q i n → (m : ℕ) × HasMore q.pools q.limit (site q i) 1 m
     list_longer more h = let a = list_more h in has_item q i a.items (omega (arith, a.nodes_are, more)) a.part a.fits
 
-pub list_first : (q : Question) (i n : ℕ) (rule : RuleOfParts q.pools q.limit (site q i)) → sort_of (site q i) ≡ sort.List → 1 ≤ n → n ≤ q.limit → (n ≡ 1 → admits_null (site q i) ≡ false) → (new : List Tree) → AddsItems q i (n - 1) [] new → IsLeast tree_cmp (IsPartOf q i n) (tree.list (items_of new))
+pub list_first : (q : Question) (i n : ℕ) (rule : RuleOfParts q.pools q.limit (site q i)) → sort_of (site q i) ≡ sort.List → 1 ≤ n → n ≤ q.limit → (n ≡ 1 → admits_null q.pools (site q i) ≡ false) → (new : List Tree) → AddsItems q i (n - 1) [] new → IsLeast tree_cmp (IsPartOf q i n) (tree.list (items_of new))
 list_first q i n rule is_list some within no_null new a = subst (λ ts. IsLeast tree_cmp (IsPartOf q i n) (tree.list (items_of ts))) (sym a.is) (list_least q i rule is_list n some within no_null (items_of a.added) a.least)
 
 -- a list of a node has no items
-pub list_alone : (q : Question) (i n : ℕ) (rule : RuleOfParts q.pools q.limit (site q i)) → sort_of (site q i) ≡ sort.List → 1 ≤ n → n ≤ q.limit → (n ≡ 1 → admits_null (site q i) ≡ false) → n ≤ 1 → HasSizeAt q i n → IsLeast tree_cmp (IsPartOf q i n) (tree.list no_items)
+pub list_alone : (q : Question) (i n : ℕ) (rule : RuleOfParts q.pools q.limit (site q i)) → sort_of (site q i) ≡ sort.List → 1 ≤ n → n ≤ q.limit → (n ≡ 1 → admits_null q.pools (site q i) ≡ false) → n ≤ 1 → HasSizeAt q i n → IsLeast tree_cmp (IsPartOf q i n) (tree.list no_items)
 list_alone q i n rule is_list some within no_null few h =
     let r = list_items q i rule is_list n some within no_null h.part (record { part = h.is; nodes_are = h.nodes_are }) in
     let zero_left : n - 1 ≡ 0 = omega (arith, few) in
     let none = none_follow q i no_items r.0 (subst (λ m. AreItems q i m no_items r.0) zero_left r.1.0) in
     list_least q i rule is_list n some within no_null no_items (subst (λ m. IsLeast items_cmp (AreItems q i m no_items) no_items) (sym zero_left) none)
 
-pub list_follow : (q : Question) (i c n : ℕ) (rule : RuleOfParts q.pools q.limit (site q i)) → sort_of (site q i) ≡ sort.List → item_site (site q i) ≡ Some (site q c) → 1 ≤ n → n ≤ q.limit → (n ≡ 1 → admits_null (site q i) ≡ false) → HasSizeAt q i n → CanFollow q i c (n - 1) no_items
+pub list_follow : (q : Question) (i c n : ℕ) (rule : RuleOfParts q.pools q.limit (site q i)) → sort_of (site q i) ≡ sort.List → item_site q.pools (site q i) ≡ Some (site q c) → 1 ≤ n → n ≤ q.limit → (n ≡ 1 → admits_null q.pools (site q i) ≡ false) → HasSizeAt q i n → CanFollow q i c (n - 1) no_items
 list_follow q i c n rule is_list item_is some within no_null h = record {
   first = first_none q i c item_is;
   more = list_more q i rule is_list n some within no_null h;

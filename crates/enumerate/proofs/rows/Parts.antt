@@ -55,7 +55,7 @@ no_used : (ss : List Slot) (k : List Data) → Contains {X = List Data} [] k →
 no_used ss k c = contained [] k c
 
 module _ (q : Question) (i : ℕ) (rule : RuleOfParts q.pools q.limit (site q i)) (row : sort_of (site q i) ≡ sort.Row) where
-  pub row_unless_null : (n : ℕ) (v : Data) → IsPartOf q i n v → (v ≡ null → admits_null (site q i) ≡ true → ⊥) → IsRow q i (n - 1) [] v
+  pub row_unless_null : (n : ℕ) (v : Data) → IsPartOf q i n v → (v ≡ null → admits_null q.pools (site q i) ≡ true → ⊥) → IsRow q i (n - 1) [] v
   row_unless_null n v p never = elim ((rule.row v row).0 p.part) [
     | inl gone ↦ absurd (never gone.0 gone.1)
     | inr r ↦
@@ -68,7 +68,7 @@ module _ (q : Question) (i : ℕ) (rule : RuleOfParts q.pools q.limit (site q i)
         }
   ]
 
-  pub plain_row : (n : ℕ) (v : Data) → IsPartOf q i n v → (n ≡ 1 → admits_null (site q i) ≡ false) → IsRow q i (n - 1) [] v
+  pub plain_row : (n : ℕ) (v : Data) → IsPartOf q i n v → (n ≡ 1 → admits_null q.pools (site q i) ≡ false) → IsRow q i (n - 1) [] v
   plain_row n v p never = row_unless_null n v p (λ is nullable. let one : n ≡ 1 = sym p.nodes_are ∙ ap node_count is in let no = sym (never one) ∙ nullable in cc)
 
   pub row_plain : (n : ℕ) (v : Data) → 1 ≤ n → IsRow q i (n - 1) [] v → IsPartOf q i n v
@@ -81,10 +81,10 @@ module _ (q : Question) (i : ℕ) (rule : RuleOfParts q.pools q.limit (site q i)
         nodes_are = ap node_count r.is ∙ ap (λ k. 1 + k) count ∙ whole;
       }
 
-  pub plain_least : (n : ℕ) (v : Data) → 1 ≤ n → (n ≡ 1 → admits_null (site q i) ≡ false) → IsLeast tree_cmp (IsRow q i (n - 1) []) v → IsLeast tree_cmp (IsPartOf q i n) v
+  pub plain_least : (n : ℕ) (v : Data) → 1 ≤ n → (n ≡ 1 → admits_null q.pools (site q i) ≡ false) → IsLeast tree_cmp (IsRow q i (n - 1) []) v → IsLeast tree_cmp (IsPartOf q i n) v
   plain_least n v some never h = record { is = row_plain n v some h.is; least = λ u p. h.least u (plain_row n u p never) }
 
-  pub plain_open : (n : ℕ) → AreKeySlots q.pools (slots_from q i 0) → (n ≡ 1 → admits_null (site q i) ≡ false) → HasSizeAt q i n → IsOpen q.pools (slots_from q i 0) (ending_at q i) nothing (n - 1) []
+  pub plain_open : (n : ℕ) → AreKeySlots q.pools (slots_from q i 0) → (n ≡ 1 → admits_null q.pools (site q i) ≡ false) → HasSizeAt q i n → IsOpen q.pools (slots_from q i 0) (ending_at q i) nothing (n - 1) []
   plain_open n keys never h =
       let r = plain_row n h.part (record { part = h.is; nodes_are = h.nodes_are }) never in
       record {

@@ -38,7 +38,7 @@ use Rattle.enumerate.proofs.rows.Lemmas.{still_used_other, keys_first, still_use
 
 -- ---- the slot at a place
 
-pub slot_of : (q : Question) (i place : ℕ) (t : answer.Slot) → IsSlotAt (sites_of q.root) (slots q.pools (site q i)) place t → t.node < i → HasTuples q.pools (slots_from q i (place + 1)) t.later → IfSome t.bit (λ j. j < 4) → place < 18446744073709551615
+pub slot_of : (q : Question) (i place : ℕ) (t : answer.Slot) → IsSlotAt (sites_of q.pools q.root) (slots q.pools (site q i)) place t → t.node < i → HasTuples q.pools (slots_from q i (place + 1)) t.later → IfSome t.bit (λ j. j < 4) → place < 18446744073709551615
     → IsSlotOf q i place t
 slot_of q i place t at below later few followed =
     let ss = slots q.pools (site q i) in

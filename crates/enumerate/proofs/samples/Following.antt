@@ -183,7 +183,7 @@ items_last : (front : Items) (u c : Data) → items_with_last (items_then front 
 items_last no_items u c = refl
 items_last (item d front) u c = next_last d (items_then front (item u no_items)) c (some_items_then front u) ∙ ap (λ ds. item d ds) (items_last front u c)
 
-module _ (q : Question) (i c : ℕ) (rule : RuleOfParts q.pools q.limit (site q i)) (ends : NoDeadEnd q.pools q.limit (site q i)) (item_is : item_site (site q i) ≡ Some (site q c)) (is_list : sort_of (site q i) ≡ sort.List) (top : q.limit ≤ most_nodes) (front : Items) where
+module _ (q : Question) (i c : ℕ) (rule : RuleOfParts q.pools q.limit (site q i)) (ends : NoDeadEnd q.pools q.limit (site q i)) (item_is : item_site q.pools (site q i) ≡ Some (site q c)) (is_list : sort_of (site q i) ≡ sort.List) (top : q.limit ≤ most_nodes) (front : Items) where
   abbrev whole : Data → Items
   whole u = items_then front (item u no_items)
 
@@ -395,7 +395,7 @@ continue_same C D v [] there back f = tt
 continue_same C D v (u ∷ cs) there back f = (f.0, follow_same C D v cs there back f.1)
 
 -- where values go on in the place of the last item, they do so in the list
-pub continue_list : (q : Question) (i c : ℕ) (rule : RuleOfParts q.pools q.limit (site q i)) (ends : NoDeadEnd q.pools q.limit (site q i)) (item_is : item_site (site q i) ≡ Some (site q c)) (is_list : sort_of (site q i) ≡ sort.List) (top : q.limit ≤ most_nodes)
+pub continue_list : (q : Question) (i c : ℕ) (rule : RuleOfParts q.pools q.limit (site q i)) (ends : NoDeadEnd q.pools q.limit (site q i)) (item_is : item_site q.pools (site q i) ≡ Some (site q c)) (is_list : sort_of (site q i) ≡ sort.List) (top : q.limit ≤ most_nodes)
     (front : Items) (u v : Data) (cs : List Data) → v ≡ list (items_then front (item u no_items)) → IsPart q.pools (site q i) v → node_count v ≤ q.limit → Continue (IsUnusedItem q i c (node_count u) front) u cs → Continue (IsPartOf q i (node_count v)) v cs
 continue_list q i c rule ends item_is is_list top front u v [] is part within f = tt
 continue_list q i c rule ends item_is is_list top front u v (x ∷ cs) is part within f =
@@ -590,7 +590,7 @@ item_continues q i c n old new one cs is nodes h = inr (record {
 })
 
 -- where the items of a list continue, the list does
-pub list_continues : (q : Question) (i c n : ℕ) (rule : RuleOfParts q.pools q.limit (site q i)) (ends : NoDeadEnd q.pools q.limit (site q i)) (item_is : item_site (site q i) ≡ Some (site q c)) (is_list : sort_of (site q i) ≡ sort.List) (top : q.limit ≤ most_nodes)
+pub list_continues : (q : Question) (i c n : ℕ) (rule : RuleOfParts q.pools q.limit (site q i)) (ends : NoDeadEnd q.pools q.limit (site q i)) (item_is : item_site q.pools (site q i) ≡ Some (site q c)) (is_list : sort_of (site q i) ≡ sort.List) (top : q.limit ≤ most_nodes)
     (ds : Items) (cs : List Data) → IsPartOf q i n (list ds) → n ≤ q.limit → ItemsContinue q i c ds cs → Continue (IsPartOf q i n) (list ds) cs
 list_continues q i c n rule ends item_is is_list top ds cs part within (inl none) = subst (Continue (IsPartOf q i n) (list ds)) (sym none) tt
 list_continues q i c n rule ends item_is is_list top ds cs part within (inr h) =

@@ -117,7 +117,7 @@ answered (Err e) A B there back h = h
 
 -- ---- slots as the plan answers them
 
-module _ (q : Question) (i place : ℕ) (t : answer.Slot) (is : IsSlotAt (sites_of q.root) (slots q.pools (site q i)) place t) where
+module _ (q : Question) (i place : ℕ) (t : answer.Slot) (is : IsSlotAt (sites_of q.pools q.root) (slots q.pools (site q i)) place t) where
   pub slots_are : slots_from q i place ≡ is.slot ∷ slots_from q i (place + 1)
   slots_are = slots_at_place (slots q.pools (site q i)) place is.slot is.is
 
@@ -197,7 +197,7 @@ module _ (q : Question) (i : ℕ) (rule : RuleOfParts q.pools q.limit (site q i)
       let r = lists.part_list q i rule is_list v part few (λ none _. other none) in
       (r.0, (r.1, subst (IsPart q.pools (site q i)) r.1 part))
 
-  pub null_part : (sort_of (site q i) ≡ sort.Leaf → ⊥) → 1 ≤ q.limit → v ≡ null → IsPart q.pools (site q i) v ↔ (admits_null (site q i) ≡ true)
+  pub null_part : (sort_of (site q i) ≡ sort.Leaf → ⊥) → 1 ≤ q.limit → v ≡ null → IsPart q.pools (site q i) v ↔ (admits_null q.pools (site q i) ≡ true)
   null_part inner some none = elim (sort_cases (sort_of (site q i))) [
     | inl leaf ↦ absurd (inner leaf)
     | inr (inl row) ↦ (
@@ -215,7 +215,7 @@ module _ (q : Question) (i : ℕ) (rule : RuleOfParts q.pools q.limit (site q i)
 -- a row has at most as many slots as the plan is wide
 pub slots_within : (q : Question) (i : ℕ) → IsNodeOf q i → sort_of (site q i) ≡ sort.Row → (w : ℕ) → IsWidth q.pools q.root w → length (slots_from q i 0) ≤ w
 slots_within q i at row w width =
-    width.each (site q i) (length (slots q.pools (site q i))) (Contains-get_or (sites_of q.root) i _ at) (subst (λ s. HasWidthBy s q.pools (site q i) (length (slots q.pools (site q i)))) (sym row) refl)
+    width.each (site q i) (length (slots q.pools (site q i))) (Contains-get_or (sites_of q.pools q.root) i _ at) (subst (λ s. HasWidthBy s q.pools (site q i) (length (slots q.pools (site q i)))) (sym row) refl)
 
 -- ---- items
 
@@ -242,7 +242,7 @@ module _ (q : Question) (i c : ℕ) where
   pub first_next : (ts : List Tree) (place : ℕ) (t : Tree) → place < length ts → get_or ts place t ≡ t → AreFirst q i c (items_of (take place ts)) → IsUnusedItem q i c (node_count (data_of t)) (items_of (take place ts)) (data_of t) → AreFirst q i c (items_of (take (place + 1) ts))
   first_next ts place t lt at h f = subst (AreFirst q i c) (sym (join_next ts place t lt at)) (first_more q i c (node_count (data_of t)) (items_of (take place ts)) (data_of t) h f)
 
-  module _ (rule : RuleOfParts q.pools q.limit (site q i)) (is : item_site (site q i) ≡ Some (site q c)) (ts : List Tree) (few : 1 + items_count (items_of ts) ≤ q.limit) where
+  module _ (rule : RuleOfParts q.pools q.limit (site q i)) (is : item_site q.pools (site q i) ≡ Some (site q c)) (ts : List Tree) (few : 1 + items_count (items_of ts) ≤ q.limit) where
     pub unused_in : (place : ℕ) (t : Tree) → place < length ts → get_or ts place t ≡ t → IsPart q.pools (site q i) (list (items_of ts)) → IsUnusedItem q i c (node_count (data_of t)) (items_of (take place ts)) (data_of t)
     unused_in place t lt at part = elim ((rule.list (site q c) (list (items_of ts)) is few).0 part) [
       | inl none ↦ let no = none.0 in cc

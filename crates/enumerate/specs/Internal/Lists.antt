@@ -34,7 +34,7 @@ pub record IsListNode (q : Question) (l : ListNode) : Type 0 where
 
 -- parts of the node c, no two alike, that may be the first items of a list
 pub record AreFirst (q : Question) (i c : ℕ) (used : Items) : Type 0 where
-  pub item : item_site (site q i) ≡ Some (site q c)
+  pub item : item_site q.pools (site q i) ≡ Some (site q c)
   pub are : AreParts q.pools (site q c) used
   pub apart : are_apart (alike_at (site q i)) used ≡ true
 

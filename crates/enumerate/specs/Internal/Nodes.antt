@@ -12,10 +12,10 @@ use Rattle.plan.specs.Samples.Question.{Question}
 
 -- the site of a node of the plan of this question
 abbrev pub site : Question → ℕ → Site
-site q i = site_at (sites_of q.root) i
+site q i = site_at (sites_of q.pools q.root) i
 
 abbrev pub IsNodeOf : Question → ℕ → Type 0
-IsNodeOf q i = i < length (sites_of q.root)
+IsNodeOf q i = i < length (sites_of q.pools q.root)
 
 -- a part of so many nodes
 pub record IsPartOf (q : Question) (i n : ℕ) (v : Data) : Type 0 where

@@ -37,7 +37,7 @@ abbrev pub slot_in : Question → ℕ → ℕ → Slot
 slot_in q i place = get_or (slots q.pools (site q i)) place no_slot
 
 abbrev pub ending_at : Question → ℕ → Ending
-ending_at q i = ending_of (site q i)
+ending_at q i = ending_of q.pools (site q i)
 
 -- a slot that the plan answers is the one at this place
 pub record IsSlotOf (q : Question) (i place : ℕ) (t : answer.Slot) : Type 0 where

@@ -79,11 +79,11 @@ pub record IsRow {Z : Type 0} (holds : Z → ℕ → Type 0) (limit : ℕ) (P : 
   pub later : AreLater P (slots P (site_at sites i)) r.later.items
   pub bits : All (λ (e : SlotEntry). IfSome e.bit (λ j. j < most_named)) r.slots.items
   pub whole : length r.tables.items ≡ length r.slots.items + 1
-  pub shaped : AreShaped (ending_of (site_at sites i)).bounds (length r.slots.items) (2 ^ length (named (ending_of (site_at sites i)).asked)) r.tables.items
-  pub tables : AreTables holds limit (ending_of (site_at sites i)) P (slots P (site_at sites i)) r.tables.items
+  pub shaped : AreShaped (ending_of P (site_at sites i)).bounds (length r.slots.items) (2 ^ length (named (ending_of P (site_at sites i)).asked)) r.tables.items
+  pub tables : AreTables holds limit (ending_of P (site_at sites i)) P (slots P (site_at sites i)) r.tables.items
 
 pub record IsList {Z : Type 0} (holds : Z → ℕ → Type 0) (limit : ℕ) (P : Pools) (sites : List Site) (i : ℕ) (l : ListEntry Z) : Type 0 where
-  pub item : item_site (site_at sites i) ≡ Some (site_at sites l.item)
+  pub item : item_site P (site_at sites i) ≡ Some (site_at sites l.item)
   pub below : l.item < i
   pub distinct : l.distinct ≡ distinct_of (site_at sites i)
   pub whole : length l.more.items ≡ limit
@@ -100,7 +100,7 @@ HasContent holds limit P v sites i (content.List l) = IsList holds limit P sites
 
 pub record IsRight {Z : Type 0} (holds : Z → ℕ → Type 0) (limit : ℕ) (P : Pools) (v : Values) (sites : List Site) (i : ℕ) (e : Entry Z) : Type 0 where
   pub sizes : IsUpTo limit (holds e.sizes) (HasSize P (site_at sites i))
-  pub nullable : e.nullable ≡ admits_null (site_at sites i)
+  pub nullable : e.nullable ≡ admits_null P (site_at sites i)
   pub content : HasContent holds limit P v sites i e.content
 
 -- the entries represent the first of these sites

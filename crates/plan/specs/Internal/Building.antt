@@ -5,9 +5,10 @@ use Rattle.schema.specs.Document.Texts.{is_among}
 use Rattle.schema.specs.Nodes.Node.{Node, node, Sort, object, map, list, Fields, no_fields, field}
 use Rattle.schema.specs.Nodes.Items.{HasSoundItems}
 use Rattle.schema.specs.Nodes.Junctors.{HasSoundJunctors}
-use Rattle.plan.specs.Pools.Pools.{Pools}
+use Rattle.plan.specs.Pools.Pools.{Pools, is_present}
+use Rattle.explain.specs.Paths.FieldPath as step
 use Rattle.plan.specs.Samples.Presence.{bit_of}
-use Rattle.plan.specs.Samples.Sites.{Site, sites_from, sites_of_fields, field_slots}
+use Rattle.plan.specs.Samples.Sites.{Site, below, sites_from, sites_of_fields, field_slots}
 use Rattle.plan.specs.Internal.Tables.{IsClosed}
 use Rattle.plan.specs.Internal.Values.{AreValues}
 use Rattle.plan.specs.Internal.Arena.{AreSitesFrom, AreRight, AreSlots, name_of}
@@ -31,24 +32,24 @@ abbrev mutual
   AreFieldsSound (field k N required default fs) = IsSound N × AreFieldsSound fs
 
 -- a node and all below it; the node is the last
-pub record IsBuilt {Z : Type 0} (holds : Z → ℕ → Type 0) (limit : ℕ) (P : Pools) (v : Values) (old new : List (Entry Z)) (path : List ℕ) (N : Node) (keys : List (List ℕ)) (n : ℕ) : Type 0 where
-  pub count : length new ≡ length old + length (sites_from path N keys)
+pub record IsBuilt {Z : Type 0} (holds : Z → ℕ → Type 0) (limit : ℕ) (P : Pools) (v : Values) (old new : List (Entry Z)) (fixed : Option (List Data)) (path : List ℕ) (N : Node) (keys : List (List ℕ)) (n : ℕ) : Type 0 where
+  pub count : length new ≡ length old + length (sites_from P fixed path N keys)
   pub last : n + 1 ≡ length new
-  pub right : (sites : List Site) → AreValues P v → IsSound N → AreSitesFrom sites (length old) (sites_from path N keys)
+  pub right : (sites : List Site) → AreValues P v → IsSound N → AreSitesFrom sites (length old) (sites_from P fixed path N keys)
       → AreRight holds limit P v sites old → AreRight holds limit P v sites new
 
 -- the slot of a field
-pub record IsFieldSlot (keys named : List (List ℕ)) (name : List ℕ) (required : Bool) (default : Option Data) (s : SlotEntry) : Type 0 where
+pub record IsFieldSlot (P : Pools) (path : List ℕ) (keys named : List (List ℕ)) (name : List ℕ) (required : Bool) (default : Option Data) (s : SlotEntry) : Type 0 where
   pub name_is : (names : List (List ℕ)) → name_of names s.name ≡ name
-  pub must : s.must ≡ (required || is_some default)
+  pub must : s.must ≡ ((required || is_some default) || is_present (below path (step.field name)) P)
   pub key : s.key ≡ is_among name keys
   pub bit : s.bit ≡ bit_of name named
 
 -- fields and all below them
 pub record AreBuilt {Z : Type 0} (holds : Z → ℕ → Type 0) (limit : ℕ) (P : Pools) (v : Values) (old new : List (Entry Z)) (path : List ℕ) (fs : Fields) (keys named : List (List ℕ)) (slots : List SlotEntry) : Type 0 where
-  pub count : length new ≡ length old + length (sites_of_fields path fs)
+  pub count : length new ≡ length old + length (sites_of_fields P path fs)
   pub below : All (λ (s : SlotEntry). s.node < length new) slots
   pub bits : All (λ (s : SlotEntry). IsClosed (2 ^ length named) s.bit) slots
-  pub right : (sites : List Site) → AreValues P v → AreFieldsSound fs → AreSitesFrom sites (length old) (sites_of_fields path fs)
+  pub right : (sites : List Site) → AreValues P v → AreFieldsSound fs → AreSitesFrom sites (length old) (sites_of_fields P path fs)
       → AreRight holds limit P v sites old → AreRight holds limit P v sites new
-  pub slots_are : (names : List (List ℕ)) (sites : List Site) (i : ℕ) → AreSitesFrom sites (length old) (sites_of_fields path fs) → length new ≤ i → AreSlots names sites i slots (field_slots path keys named fs)
+  pub slots_are : (names : List (List ℕ)) (sites : List Site) (i : ℕ) → AreSitesFrom sites (length old) (sites_of_fields P path fs) → length new ≤ i → AreSlots names sites i slots (field_slots P path keys named fs)

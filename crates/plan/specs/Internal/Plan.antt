@@ -12,6 +12,6 @@ pub record IsPlan {Z : Type 0} (holds : Z → ℕ → Type 0) (BITS : ℕ) (root
   pub within : limit < BITS
   pub room : 1 ≤ limit
   pub values : AreValues P v
-  pub count : length es ≡ length (sites_of root)
+  pub count : length es ≡ length (sites_of P root)
   pub last : first + 1 ≡ length es
-  pub right : AreRight holds limit P v (sites_of root) es
+  pub right : AreRight holds limit P v (sites_of P root) es

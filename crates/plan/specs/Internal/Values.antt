@@ -1,5 +1,5 @@
 -- The values of the pools, and the candidates of a leaf, as a plan keeps them.
-use Rattle.std.specs.Prelude.{◌≡◌, ◌↔◌, ℕ, List, ◌∷◌, map, get_or, Contains, AllPairs}
+use Rattle.std.specs.Prelude.{◌≡◌, ◌↔◌, ℕ, List, ◌∷◌, Option, Some, None, map, get_or, Contains, AllPairs}
 use Rattle.std.specs.declared.cmp.Ordering.{Ordering}
 use Rattle.std.specs.declared.cmp.Ordering.TheVariants.{Less}
 use Rattle.jtree.specs.Data.{Data, null, IsTree}
@@ -9,7 +9,7 @@ use Rattle.jtree.specs.declared.value.Tree.{Tree}
 use Rattle.schema.specs.Nodes.Node.{Node}
 use Rattle.stored.specs.Objects.Becomes.{IsStored}
 use Rattle.plan.specs.Pools.Pools.{Pools}
-use Rattle.plan.specs.Samples.Over.{scalars_of}
+use Rattle.plan.specs.Samples.Over.{scalars_of, listed}
 use Rattle.plan.specs.Samples.Names.{in_order}
 use Rattle.plan.specs.declared.values.Values.{Values}
 use Rattle.plan.specs.declared.leaf.Base.{Base}
@@ -37,6 +37,11 @@ abbrev pub base_of : Values → Base → List Tree
 base_of v Scalars = v.scalars.items
 base_of v Any = v.any.items
 base_of v (Own ts) = ts.items
+
+-- among which values the candidates of a leaf are: the fixed ones, or null and what is listed
+abbrev pub choices_at : Pools → Option (List Data) → List ℕ → Node → List Data
+choices_at P (Some ds) path N = ds
+choices_at P None path N = null ∷ listed P path N
 
 -- the trees at these places, and another past the last
 abbrev pub at_places : Tree → List Tree → List ℕ → List Data

@@ -1,5 +1,5 @@
--- The pools document: an object with any of the lists `integers`, `strings`, `names` and `any`, and of `paths`, an object of lists
--- (this project's own).
+-- The pools document: an object with any of the lists `integers`, `strings`, `names`, `any` and `present`, and of `paths` and `fixed`,
+-- objects of lists (this project's own).
 use Rattle.std.specs.Prelude.{◌≡◌, ℕ, ℤ, List, [], ◌∷◌, Bool, true, false, Option, Some, None, if◌then◌else◌, filter_map, codes}
 use Rattle.std.specs.Str.{bytes_eq}
 use Rattle.jtree.specs.Data.{Data, integer, text, list, object, Items, Members, no_members}
@@ -20,7 +20,9 @@ pool_form k =
     if bytes_eq k (codes "strings") then entries is_text else
     if bytes_eq k (codes "names") then entries is_text else
     if bytes_eq k (codes "any") then entries (λ d. true) else
-    if bytes_eq k (codes "paths") then lists else unknown
+    if bytes_eq k (codes "paths") then lists else
+    if bytes_eq k (codes "fixed") then lists else
+    if bytes_eq k (codes "present") then entries is_text else unknown
 
 -- where a member breaks the form, counted from the member: at itself where its name is not that of a pool or it is not a list, or
 -- not an object of lists, and at each entry of another kind
@@ -64,4 +66,6 @@ pools_of d = record {
   names = filter_map text_of (entries_of (under d (codes "names")));
   any = entries_of (under d (codes "any"));
   paths = members_of (under d (codes "paths"));
+  fixed = members_of (under d (codes "fixed"));
+  present = filter_map text_of (entries_of (under d (codes "present")));
 }

@@ -1,4 +1,4 @@
--- The candidates of a scalar or an open node, and how wide a plan is (this project's own).
+-- The candidates of a leaf, and how wide a plan is (this project's own).
 use Rattle.std.specs.Prelude.{◌≡◌, ℕ, ◌≤◌, ◌⊎◌, ◌↔◌, List, length, Contains, AllPairs}
 use Rattle.std.specs.declared.cmp.Ordering.TheVariants.{Less}
 use Rattle.jtree.specs.Data.{Data}
@@ -8,7 +8,7 @@ use Rattle.schema.specs.declared.node.ListType.{ListType}
 use Rattle.schema.specs.declared.node.ListType.TheVariants as list_type
 use Rattle.plan.specs.Pools.Pools.{Pools}
 use Rattle.plan.specs.Samples.Part.{IsPart}
-use Rattle.plan.specs.Samples.Sites.{Site, sites_of, slots}
+use Rattle.plan.specs.Samples.Sites.{Site, where_fixed, sites_of, slots}
 use Rattle.plan.specs.declared.sort.Distinct.{Distinct}
 use Rattle.plan.specs.declared.sort.Distinct.TheVariants.{Free, Whole, Keys}
 use Rattle.plan.specs.declared.sort.Sort.{Sort}
@@ -21,8 +21,9 @@ sort_at (node nullable description open_) = Leaf
 sort_at (node nullable description (list N type keys bounds)) = ListSort
 sort_at _ = Row
 
+-- a site whose values are fixed is a leaf, whatever its node is
 abbrev pub sort_of : Site → Sort
-sort_of s = sort_at s.node
+sort_of s = where_fixed s.fixed Leaf (sort_at s.node)
 
 -- which items may not be in one list (`x-kubernetes-list-type`)
 abbrev pub distinct_by : ListType → Distinct
@@ -35,7 +36,7 @@ distinct_at (node nullable description (list N type keys bounds)) = distinct_by 
 distinct_at _ = Free
 
 abbrev pub distinct_of : Site → Distinct
-distinct_of s = distinct_at s.node
+distinct_of s = where_fixed s.fixed Free (distinct_at s.node)
 
 -- all parts of the site, in the tree order, each once
 pub record AreCandidates (P : Pools) (s : Site) (vs : List Data) : Type 0 where
@@ -59,5 +60,5 @@ HasWidth P s width = HasWidthBy (sort_of s) P s width
 
 -- the width of the widest site
 pub record IsWidth (P : Pools) (root : Node) (width : ℕ) : Type 0 where
-  pub each : (s : Site) (w : ℕ) → Contains (sites_of root) s → HasWidth P s w → w ≤ width
-  pub reached : (width ≡ 0) ⊎ ((s : Site) × (Contains (sites_of root) s × HasWidth P s width))
+  pub each : (s : Site) (w : ℕ) → Contains (sites_of P root) s → HasWidth P s w → w ≤ width
+  pub reached : (width ≡ 0) ⊎ ((s : Site) × (Contains (sites_of P root) s × HasWidth P s width))

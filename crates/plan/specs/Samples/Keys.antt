@@ -57,7 +57,7 @@ pub record AreSetItems (P : Pools) (s M : Site) : Type 0 where
 -- candidates of the keys
 pub record AreMapItems (P : Pools) (s M : Site) : Type 0 where
   pub row : sort_of M ≡ Row
-  pub never_null : admits_null M ≡ false
+  pub never_null : admits_null P M ≡ false
   pub alike : (v w : Data) → IsPart P M v → IsPart P M w → (alike_at s v w ≡ true) ↔ (key_under (slots P M) v ≡ key_under (slots P M) w)
   pub most : (ds : Items) (counts : List ℕ) → AreParts P M ds → are_apart (alike_at s) ds ≡ true → AreCounts P (filter is_key (slots P M)) counts → items_count ds ≤ product counts
 
@@ -66,5 +66,5 @@ pub record HasSoundParts (P : Pools) (s : Site) : Type 0 where
   pub order : AreInOrder (slots P s)
   pub keys : AreKeySlots P (slots P s)
   pub free : (v w : Data) → distinct_of s ≡ Free → alike_at s v w ≡ false
-  pub set : (M : Site) → item_site s ≡ Some M → distinct_of s ≡ Whole → AreSetItems P s M
-  pub map : (M : Site) → item_site s ≡ Some M → distinct_of s ≡ Keys → AreMapItems P s M
+  pub set : (M : Site) → item_site P s ≡ Some M → distinct_of s ≡ Whole → AreSetItems P s M
+  pub map : (M : Site) → item_site P s ≡ Some M → distinct_of s ≡ Keys → AreMapItems P s M

@@ -71,7 +71,7 @@ HasFree P ss used chosen = (t : List Data) × (IsTuple P ss t × (Contains used 
 pub record NoDeadEnd (P : Pools) (limit : ℕ) (s : Site) : Type 0 where
   pub rows : (front : List (Option Data)) (place m : ℕ) → sort_of s ≡ Row → AreFillings P (take place (slots P s)) front → place ≤ length (slots P s)
       → HasRest P s place (state_after (take place (slots P s)) front nothing) m → RowCompletes P s place front m
-  pub lists : (M : Site) (front : Items) (m : ℕ) → item_site s ≡ Some M → AreParts P M front → are_apart (alike_at s) front ≡ true
+  pub lists : (M : Site) (front : Items) (m : ℕ) → item_site P s ≡ Some M → AreParts P M front → are_apart (alike_at s) front ≡ true
       → HasMore P limit s (fault.items_count front) m → ListCompletes P s front m
   -- the first keys of an item, where other items use these tuples
   pub keys : (first later : List Slot) (used : List (List Data)) (chosen : List Data) (counts : List ℕ)

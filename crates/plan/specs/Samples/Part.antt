@@ -12,7 +12,7 @@ use Rattle.plan.specs.Samples.Over.{IsOver}
 pub record IsPart (P : Pools) (s : Site) (v : Data) : Type 0 where
   pub tree : IsTree v
   pub stored : IsStored s.node v
-  pub over : IsOver P s.path s.node v
+  pub over : IsOver P s.fixed s.path s.node v
 
 -- a part of the root with at most as many nodes as the limit
 pub record IsSample (root : Node) (P : Pools) (limit : ℕ) (v : Data) : Type 0 where

@@ -1,5 +1,5 @@
 -- What the parts of a site are, by the content of the slots of a row and of the items of a list (this project's own).
-use Rattle.std.specs.Prelude.{◌≡◌, ◌≤◌, ◌⊎◌, ◌↔◌, ℕ, List, ◌∷◌, length, Bool, true, false, Option, Some, None, Contains}
+use Rattle.std.specs.Prelude.{◌≡◌, ◌≤◌, ◌⊎◌, ◌↔◌, ℕ, List, ◌∷◌, length, Bool, true, false, Option, Some, None, not, ◌&&◌, Contains}
 use Rattle.jtree.specs.Data.{Data, Items, no_items, item, Members, no_members, member}
 use Rattle.jtree.specs.Data as tree
 use Rattle.jtree.specs.Nodes.{node_count}
@@ -9,8 +9,9 @@ use Rattle.stored.specs.Objects.Fault.{are_alike}
 use Rattle.stored.specs.Objects.Becomes.{is_nullable}
 use Rattle.stored.specs.Objects.StoredByParts.{are_apart}
 use Rattle.plan.specs.Pools.Pools.{Pools}
+use Rattle.plan.specs.Samples.Over.{asks_below}
 use Rattle.plan.specs.Samples.Part.{IsPart}
-use Rattle.plan.specs.Samples.Sites.{Site, item_site, Slot, slots}
+use Rattle.plan.specs.Samples.Sites.{Site, where_fixed, item_site, Slot, slots}
 use Rattle.plan.specs.Samples.Candidates.{sort_of, AreCandidates}
 use Rattle.plan.specs.Samples.Sizes.{AreFillings, nothing, state_after, HasRest, HasMore}
 use Rattle.plan.specs.declared.sort.Sort.TheVariants.{Leaf, Row, List as ListSort}
@@ -32,14 +33,17 @@ alike_by (node nullable description (list N type keys bounds)) v w = are_alike t
 alike_by N v w = false
 
 abbrev pub alike_at : Site → Data → Data → Bool
-alike_at s = alike_by s.node
+alike_at s = where_fixed s.fixed (λ v w. false) (alike_by s.node)
 
--- null is accepted (`nullable`)
-abbrev pub admits_null : Site → Bool
-admits_null s = is_nullable s.node
+-- null is accepted (`nullable`), and the pools ask for nothing below it
+abbrev pub takes_null : Pools → List ℕ → Node → Bool
+takes_null P path N = is_nullable N && not (asks_below P path N)
 
-abbrev pub IsNullPart : Site → Data → Type 0
-IsNullPart s v = (v ≡ tree.null) × (admits_null s ≡ true)
+abbrev pub admits_null : Pools → Site → Bool
+admits_null P s = takes_null P s.path s.node
+
+abbrev pub IsNullPart : Pools → Site → Data → Type 0
+IsNullPart P s v = (v ≡ tree.null) × (admits_null P s ≡ true)
 
 -- an object whose slots hold parts, and which may end after them
 pub record IsRowPart (P : Pools) (s : Site) (v : Data) : Type 0 where
@@ -61,6 +65,6 @@ pub record IsListPart (P : Pools) (limit : ℕ) (s M : Site) (v : Data) : Type 0
 -- at most as many nodes as the limit.
 pub record RuleOfParts (P : Pools) (limit : ℕ) (s : Site) : Type 0 where
   pub leaf : (v : Data) → sort_of s ≡ Leaf → IsPart P s v ↔ ((vs : List Data) × (AreCandidates P s vs × Contains vs v))
-  pub row : (v : Data) → sort_of s ≡ Row → IsPart P s v ↔ (IsNullPart s v ⊎ IsRowPart P s v)
-  pub items : sort_of s ≡ ListSort → (M : Site) × (item_site s ≡ Some M)
-  pub list : (M : Site) (v : Data) → item_site s ≡ Some M → node_count v ≤ limit → IsPart P s v ↔ (IsNullPart s v ⊎ IsListPart P limit s M v)
+  pub row : (v : Data) → sort_of s ≡ Row → IsPart P s v ↔ (IsNullPart P s v ⊎ IsRowPart P s v)
+  pub items : sort_of s ≡ ListSort → (M : Site) × (item_site P s ≡ Some M)
+  pub list : (M : Site) (v : Data) → item_site P s ≡ Some M → node_count v ≤ limit → IsPart P s v ↔ (IsNullPart P s v ⊎ IsListPart P limit s M v)

@@ -1,6 +1,6 @@
 -- The sizes of parts, and of what can still follow in an object, a map or a list that was begun: each said by existence (this
 -- project's own). A size is a number of nodes.
-use Rattle.std.specs.Prelude.{◌≡◌, ℕ, zero, suc, ◌+◌, ◌≤◌, ◌↔◌, List, [], ◌∷◌, true, false, Option, Some, None, drop}
+use Rattle.std.specs.Prelude.{◌≡◌, ℕ, zero, suc, ◌+◌, ◌≤◌, ◌↔◌, List, [], ◌∷◌, Bool, true, false, Option, Some, None, drop, max, unwrap_or}
 use Rattle.jtree.specs.Data.{Data, Items, no_items, item}
 use Rattle.jtree.specs.Data as tree
 use Rattle.jtree.specs.Nodes.{node_count, items_count}
@@ -8,10 +8,11 @@ use Rattle.schema.specs.Nodes.Node.{Node, node, object, map, list, Validations}
 use Rattle.schema.specs.declared.node.Bounds.{Bounds}
 use Rattle.stored.specs.Objects.Fault as fault
 use Rattle.stored.specs.Objects.StoredByParts.{IsWithin}
-use Rattle.plan.specs.Pools.Pools.{Pools}
+use Rattle.explain.specs.Paths.FieldPath as step
+use Rattle.plan.specs.Pools.Pools.{Pools, is_present}
 use Rattle.plan.specs.Samples.Part.{IsPart}
 use Rattle.plan.specs.Samples.Presence.{with_bit, meets_seen, no_validations}
-use Rattle.plan.specs.Samples.Sites.{Site, Slot, slots}
+use Rattle.plan.specs.Samples.Sites.{Site, below, Slot, slots}
 
 -- the set A holds exactly the numbers up to the limit for which P holds
 abbrev pub IsUpTo : ℕ → (ℕ → Type 0) → (ℕ → Type 0) → Type 0
@@ -56,27 +57,32 @@ state_after (s ∷ ss) (None ∷ gs) x = state_after ss gs x
 state_after (s ∷ ss) (Some v ∷ gs) x = state_after ss gs (filled s.bit x)
 state_after _ _ x = x
 
--- the bounds on the number of members or items
-abbrev pub bounds_at : Node → Bounds
-bounds_at (node nullable description (object fs preserves type bounds cs)) = bounds
-bounds_at (node nullable description (map N type bounds)) = bounds
-bounds_at (node nullable description (list N type keys bounds)) = bounds
-bounds_at _ = record { least = None; most = None }
+-- at least one, where that is asked
+abbrev pub raised : Bool → Bounds → Bounds
+raised false b = b
+raised true b = record { least = Some (max (unwrap_or b.least 0) 1); most = b.most }
 
-abbrev pub bounds_of : Site → Bounds
-bounds_of s = bounds_at s.node
+-- the bounds on the number of members or items, of which there is one where the pools ask for it
+abbrev pub bounds_at : Pools → List ℕ → Node → Bounds
+bounds_at P path (node nullable description (object fs preserves type bounds cs)) = bounds
+bounds_at P path (node nullable description (map N type bounds)) = raised (is_present (below path step.value) P) bounds
+bounds_at P path (node nullable description (list N type keys bounds)) = raised (is_present (below path step.item) P) bounds
+bounds_at P path _ = record { least = None; most = None }
+
+abbrev pub bounds_of : Pools → Site → Bounds
+bounds_of P s = bounds_at P s.path s.node
 
 -- the conditions on a row where it ends: bounds on the number of its members, and its junctors
 pub record Ending : Type 0 where
   pub bounds : Bounds
   pub asked : Validations
 
-abbrev pub ending_at : Node → Ending
-ending_at (node nullable description (object fs preserves type bounds cs)) = record { bounds = bounds; asked = cs }
-ending_at N = record { bounds = bounds_at N; asked = no_validations }
+abbrev pub ending_at : Pools → List ℕ → Node → Ending
+ending_at P path (node nullable description (object fs preserves type bounds cs)) = record { bounds = bounds; asked = cs }
+ending_at P path N = record { bounds = bounds_at P path N; asked = no_validations }
 
-abbrev pub ending_of : Site → Ending
-ending_of s = ending_at s.node
+abbrev pub ending_of : Pools → Site → Ending
+ending_of P s = ending_at P s.path s.node
 
 -- a row may end in this state
 abbrev pub MayEnd : Ending → Before → Type 0
@@ -91,7 +97,7 @@ pub record CanFill (P : Pools) (ss : List Slot) (e : Ending) (x : Before) (m : �
 
 -- the slots from a place on can be filled with m nodes so that the row may end
 abbrev pub HasRest : Pools → Site → ℕ → Before → ℕ → Type 0
-HasRest P s place x m = CanFill P (drop place (slots P s)) (ending_of s) x m
+HasRest P s place x m = CanFill P (drop place (slots P s)) (ending_of P s) x m
 
 -- ---- lists
 

@@ -33,4 +33,4 @@ IsWithinReach root _ = ⊥
 pub record HasCandidateLike (root : Node) (p : FieldPath) (N : Node) (v : Data) : Type 0 where
   pub candidate : Data
   pub alike : kind candidate ≡ kind v
-  pub part : IsPart (pools_of (suggested_document root)) (plain (path_text p) N) candidate
+  pub part : IsPart (pools_of (suggested_document root)) (plain (pools_of (suggested_document root)) (path_text p) N) candidate

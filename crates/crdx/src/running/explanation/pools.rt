@@ -4,7 +4,7 @@ use crate::running::answer::json_text;
 use crate::running::explanation::values::found_text;
 use explain::{XFault, resolve};
 use jtree::{Members, Tree, push_name};
-use plan::{PFault, PoolLimits, PoolName, Pools, oversized_pool};
+use plan::{PFault, PoolLimits, PoolName, Pools, first_bad_path, oversized_pool};
 use schema::{Node, Sort};
 use std::alloc::{AllocError, Global};
 use stored::Schema;
@@ -48,14 +48,20 @@ fn size_text(
 fn entries_text(alloc: Global, pool: PoolName<'_>) -> Result<String, AllocError> {
     match pool {
         PoolName::Any => String::from_str(alloc, r#"entries in "any""#),
+        PoolName::Fixed => String::from_str(alloc, r#"paths in "fixed""#),
+        PoolName::FixedAt(path) => {
+            let path = json_text(alloc, path)?;
+            format!(in alloc; "fixed values at the path {path}")
+        }
         PoolName::Integers => String::from_str(alloc, r#"entries in "integers""#),
         PoolName::Names => String::from_str(alloc, r#"entries in "names""#),
         PoolName::Paths => String::from_str(alloc, r#"paths in "paths""#),
-        PoolName::Strings => String::from_str(alloc, r#"entries in "strings""#),
         PoolName::At(path) => {
             let path = json_text(alloc, path)?;
             format!(in alloc; "values at the path {path}")
         }
+        PoolName::Present => String::from_str(alloc, r#"paths in "present""#),
+        PoolName::Strings => String::from_str(alloc, r#"entries in "strings""#),
     }
 }
 
@@ -63,7 +69,7 @@ fn entries_text(alloc: Global, pool: PoolName<'_>) -> Result<String, AllocError>
 fn most_of(pool: PoolName<'_>, limits: PoolLimits) -> usize {
     match pool {
         PoolName::Names => limits.names,
-        PoolName::Paths => limits.paths,
+        PoolName::Fixed | PoolName::Paths | PoolName::Present => limits.paths,
         _ => limits.entries,
     }
 }
@@ -125,17 +131,19 @@ fn member_at<'a>(
 fn pool_text(name: &str) -> &'static str {
     match name {
         "integers" => "is a list of integers",
-        "strings" | "names" => "is a list of texts",
+        "strings" | "names" | "present" => "is a list of texts",
         "any" => "is a list",
-        "paths" => "is an object of lists",
-        _ => r#"are the members "any", "integers", "names", "paths" and "strings""#,
+        "paths" | "fixed" => "is an object of lists",
+        _ => {
+            r#"are the members "any", "fixed", "integers", "names", "paths", "present" and "strings""#
+        }
     }
 }
 
 fn entry_text(name: &str) -> &'static str {
     match name {
         "integers" => "an integer",
-        "paths" => "a list",
+        "paths" | "fixed" => "a list",
         _ => "a text",
     }
 }
@@ -146,38 +154,31 @@ pub(crate) fn path_text(
     schema: &Schema,
     pools: &Pools,
 ) -> Result<Option<String>, AllocError> {
-    for member in &pools.paths().members {
-        if let Some(text) = refused_path_text(schema, member.name.as_str()) {
-            return Ok(Some(String::from_str(alloc, text)?));
-        }
+    match first_bad_path(schema, pools) {
+        Some(path) => Ok(Some(String::from_str(alloc, refused_path_text(schema, pools, path))?)),
+        None => Ok(None),
     }
-    Ok(None)
 }
 
-fn refused_path_text(schema: &Schema, path: &str) -> Option<&'static str> {
+fn refused_path_text(schema: &Schema, pools: &Pools, path: &str) -> &'static str {
     match resolve(schema, path) {
-        Err(XFault::BadPath) => Some(
-            "found a text that is no path; `crdx explain` lists the paths",
-        ),
+        Err(XFault::BadPath) => "found a text that is no path; `crdx explain` lists the paths",
         Err(XFault::NoSuchField) => {
-            Some("found a path that is not declared; `crdx explain` lists those that are")
+            "found a path that is not declared; `crdx explain` lists those that are"
         }
-        Ok(node) => compound_text(node),
+        Ok(node) if pools.list_at(path).is_some() => compound_text(node),
+        Ok(_) => {
+            "found the path of the items of a map list; allowed are those of the list and of what is below its items"
+        }
     }
 }
 
 /// What leads to an object, a map or a list has no list of values.
-fn compound_text(node: &Node) -> Option<&'static str> {
+fn compound_text(node: &Node) -> &'static str {
     match &node.sort {
-        Sort::Scalar(_) | Sort::Open => None,
-        Sort::Object(_) => Some(
-            "found the path of an object; allowed are those of scalars and of open places",
-        ),
-        Sort::Map(_) => Some(
-            "found the path of a map; allowed are those of scalars and of open places",
-        ),
-        Sort::List(_) => Some(
+        Sort::Map(_) => "found the path of a map; allowed are those of scalars and of open places",
+        Sort::List(_) =>
             "found the path of a list; allowed are those of scalars and of open places",
-        ),
+        _ => "found the path of an object; allowed are those of scalars and of open places",
     }
 }

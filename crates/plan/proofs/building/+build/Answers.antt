@@ -1,11 +1,12 @@
-use Rattle.std.proofs.Common.{subst, take, refl, [], ◌∙◌, length, arith, rules}
+use Rattle.std.proofs.Common.{◌≡◌, false, None, subst, take, refl, [], ◌∙◌, length, arith, rules}
 use Rattle.std.proofs.lemmas.List.{take_more}
-use Rattle.schema.specs.Nodes.Node.{object, map as map_sort}
+use Rattle.schema.specs.Nodes.Node.{node, object, map as map_sort, list as list_sort}
 use Rattle.plan.proofs.BuildingLemmas.{field_built, no_fields_built, row_built, list_built, last_site, three_ok}
 use Rattle.schema.specs.Nodes.View.{validations_of}
 use Rattle.plan.specs.Samples.Presence.{no_validations}
 use Rattle.explain.specs.Paths.FieldPath.{value}
 use Rattle.plan.specs.Samples.Sites.{below, field_slots}
+use Rattle.plan.specs.Samples.Sizes.{bounds_at, ending_at}
 use Rattle.plan.specs.Internal.Arena.{AreSlots}
 use Rattle.plan.proofs.NameLemmas.{few_named}
 use Rattle.plan.proofs.SeenLemmas.{closed_of, map_met, object_met}
@@ -36,11 +37,11 @@ build_object-returns-clause-built g t c =
     let ends = c.in_ok-ends.ends.items in
     let added = rw c.deref-3.ensures.value at c.add_row.ensures in
     three_ok c.add_row.result _ _ _ _ added.number added.count (rw (c.in_ok-slots.ensures.kept.1, c.in_ok-slots.ensures.kept.0) at added.right)
-    (λ n number count right d. row_built g.Z.SizeSet.holds c.args.arena.now.limit c.args.pools.now v c.args.arena.now.entries.items mid c.add_row.new.arena.entries.items c.args.path.now c.args.nullable d (object o.fields o.preserves o.map_type o.bounds cs) c.args.keys.now o.bounds cs ends c.in_ok-slots.slots.items n
-    c.reveal_invariant.ensures refl refl
+    (λ n number count right m d takes. row_built g.Z.SizeSet.holds c.args.arena.now.limit c.args.pools.now v c.args.arena.now.entries.items mid c.add_row.new.arena.entries.items c.args.path.now m d (object o.fields o.preserves o.map_type o.bounds cs) c.args.keys.now o.bounds cs ends c.in_ok-slots.slots.items c.args.nullable n
+    takes c.reveal_invariant.ensures refl refl
     (λ sound. object_met cs names ends (c.in_ok-named.ensures.names (few_named o.fields cs sound)) (rw c.deref-2.ensures.value at c.in_ok-ends.ensures.whole) (rw c.deref-2.ensures.value at c.in_ok-ends.ensures.each))
     (number ∙ b.count) count b.right
-    (λ sites values sound placed. subst (λ ns. AreSlots v.names.items sites n c.in_ok-slots.slots.items (field_slots c.args.path.now c.args.keys.now ns o.fields)) (c.in_ok-named.ensures.names (few_named o.fields cs sound)) (b.slots_are v.names.items sites n placed (omega arith))) right)
+    (λ sites values sound placed. subst (λ ns. AreSlots v.names.items sites n c.in_ok-slots.slots.items (field_slots c.args.pools.now c.args.path.now c.args.keys.now ns o.fields)) (c.in_ok-named.ensures.names (few_named o.fields cs sound)) (b.slots_are v.names.items sites n placed (omega arith))) right)
 
 pub build_map-returns-clause-built : goal.build_map-returns-clause-built
 build_map-returns-clause-built g t c =
@@ -49,22 +50,27 @@ build_map-returns-clause-built g t c =
     let old = c.args.arena.now.entries.items in
     let mid = c.build.new.arena.entries.items in
     let p = c.in_ok-value.value in
-    let b = rw (c.node_below.ensures, c.deref.ensures, c.in_ok-below.ensures) at c.in_ok-value.ensures.built in
+    let b = rw (c.fixed_at.ensures, c.node_below.ensures, c.deref.ensures, c.deref-2.ensures, c.in_ok-below.ensures) at c.in_ok-value.ensures.built in
     let names = rw c.in_ok-value.ensures.kept.0 at c.len.ensures in
     let added = c.add_row.ensures in
+    let asked = rw (c.deref-3.ensures, c.in_ok-below.ensures) at c.is_present.ensures in
+    let bounds : ending_at c.args.pools.now c.args.path.now (node false None (map_sort m.value m.map_type m.bounds)) ≡ record { bounds = c.raised-bounds.result; asked = no_validations } =
+    rw (c.raised-bounds.ensures, asked) refl in
     three_ok c.add_row.result _ _ _ _ added.number added.count (rw (c.in_ok-value.ensures.kept.1, c.in_ok-value.ensures.kept.0) at added.right)
-    (λ n number count right d. row_built g.Z.SizeSet.holds c.args.arena.now.limit c.args.pools.now v old mid c.add_row.new.arena.entries.items c.args.path.now c.args.nullable d (map_sort m.value m.map_type m.bounds) c.args.keys.now m.bounds no_validations _ c.in_ok-slots.slots.items n
-    c.reveal_invariant.ensures refl refl (λ sound. map_met) (number ∙ b.count) count b.right
-    (λ sites values sound placed. rw (← values.names) (c.in_ok-slots.ensures.slots v.names.items sites n c.args.path.now m.value (omega (arith, names)) (omega (arith, b.last, number)) (last_site sites (length old) p (below c.args.path.now value) m.value [] (omega (arith, b.last, b.count)) placed))) right)
+    (λ n number count right k d takes. row_built g.Z.SizeSet.holds c.args.arena.now.limit c.args.pools.now v old mid c.add_row.new.arena.entries.items c.args.path.now k d (map_sort m.value m.map_type m.bounds) c.args.keys.now c.raised-bounds.result no_validations _ c.in_ok-slots.slots.items c.args.nullable n
+    takes c.reveal_invariant.ensures refl bounds (λ sound. map_met) (number ∙ b.count) count b.right
+    (λ sites values sound placed. rw (← values.names) (c.in_ok-slots.ensures.slots v.names.items sites n c.args.pools.now c.args.path.now m.value (omega (arith, names)) (omega (arith, b.last, number)) (last_site c.args.pools.now _ sites (length old) p (below c.args.path.now value) m.value [] (omega (arith, b.last, b.count)) placed))) right)
 
 pub build_list-returns-clause-built : goal.build_list-returns-clause-built
 build_list-returns-clause-built g t c =
     let l = c.args.list.now in
-    let b = rw (c.node_below.ensures, c.item_keys.ensures, c.deref.ensures, c.in_ok-below.ensures) at c.in_ok-item.ensures.built in
+    let b = rw (c.fixed_item.ensures, c.node_below.ensures, c.item_keys.ensures, c.deref.ensures, c.deref-2.ensures, c.in_ok-below.ensures) at c.in_ok-item.ensures.built in
     let added = c.add_list.ensures in
+    let asked = rw (c.deref-3.ensures, c.in_ok-below.ensures) at c.is_present.ensures in
+    let bounds : bounds_at c.args.pools.now c.args.path.now (node false None (list_sort l.item l.list_type l.keys.items l.bounds)) ≡ c.raised-bounds.result = rw (c.raised-bounds.ensures, asked) refl in
     three_ok c.add_list.result _ _ _ _ added.number added.count (rw (c.in_ok-item.ensures.kept.1, c.in_ok-item.ensures.kept.0) at added.right)
-    (λ n number count right d. list_built g.Z.SizeSet.holds c.args.arena.now.limit c.args.pools.now c.args.arena.now.values c.args.arena.now.entries.items c.build.new.arena.entries.items c.add_list.new.arena.entries.items c.args.path.now c.args.nullable d l.item l.list_type l.keys.items l.bounds c.args.keys.now
-    c.in_ok-item.item n c.reveal_invariant.ensures b number count right)
+    (λ n number count right m d takes. list_built g.Z.SizeSet.holds c.args.arena.now.limit c.args.pools.now c.args.arena.now.values c.args.arena.now.entries.items c.build.new.arena.entries.items c.add_list.new.arena.entries.items c.args.path.now m d l.item l.list_type l.keys.items l.bounds c.raised-bounds.result c.args.keys.now
+    c.in_ok-item.item c.args.nullable n takes bounds c.reveal_invariant.ensures b number count right)
 
 pub build_field-returns-clause-slot : goal.build_field-returns-clause-slot
 build_field-returns-clause-slot g t c = record { name_is = λ names. c.in_ok-copy.ensures; must = search rules; key = c.is_key.ensures; bit = c.bit_of.ensures.bit }

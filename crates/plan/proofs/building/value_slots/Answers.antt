@@ -12,10 +12,10 @@ loop-place-preserved c =
     (record {
       below = each_push (λ k (s : SlotEntry). s.node ≡ c.args.node) c.loop-place.slots.items _ c.loop-place.invariant.below refl;
       bits = each_push (λ k (s : SlotEntry). IsClosed 1 s.bit) c.loop-place.slots.items _ c.loop-place.invariant.bits (tt, λ seen l. l);
-      slots = λ names sites i path M l within site. value_slots_push names sites i c.loop-place.place c.args.node path M c.loop-place.slots.items (omega arith) within site (c.loop-place.invariant.slots names sites i path M (omega arith) within site);
+      slots = λ names sites i P path M l within site. value_slots_push P names sites i c.loop-place.place c.args.node path M c.loop-place.slots.items (omega arith) within site (c.loop-place.invariant.slots names sites i P path M (omega arith) within site);
     })
 
 pub returns-clause-slots : goal.returns-clause-slots
-returns-clause-slots c = λ names sites i path M same within site.
+returns-clause-slots c = λ names sites i P path M same within site.
     let e : take c.loop-place.place names ≡ names = take_all c.loop-place.place names (omega (arith, same)) in
-    rw e at (c.loop-place.invariant.slots names sites i path M (omega (arith, same)) within site)
+    rw e at (c.loop-place.invariant.slots names sites i P path M (omega (arith, same)) within site)

@@ -1,14 +1,14 @@
 use Rattle.std.proofs.Common.{◌<◌, ap, sym, arith, ◌∙◌}
-use Rattle.stored.specs.Objects.Becomes.{is_nullable}
 use Rattle.plan.specs.Samples.Candidates.{distinct_at}
 use Rattle.plan.specs.Internal.Arena.{IsRight}
 use Rattle.plan.specs.Samples.Sites.{site_at}
 use Rattle.plan.proofs.CutLemmas.{list_right}
+use Rattle.plan.proofs.FixedLemmas.{item_unfixed}
 use Rattle.plan.proofs.EntryLemmas.{right_push}
 use Rattle.plan.proofs.list_entries.add_list.Goals as goal
 
 pub returns-clause-right : goal.returns-clause-right
-returns-clause-right g c = λ P sites d right is item o sound.
+returns-clause-right g c = λ P sites m d right is null bounds item o sound.
     let i = c.in_ok-node.node in
     let number = c.in_ok-node.ensures.number in
     let below : c.args.item < i = omega (arith, number) in
@@ -18,9 +18,9 @@ returns-clause-right g c = λ P sites d right is item o sound.
     let l = c.args.list.now in
     let s = site_at sites i in
     let b = c.item_bounds-bounds.result in
-    let cut_to = c.item_bounds-bounds.ensures P sites s right c.args.nullable d is item o sound in
+    let cut_to = c.item_bounds-bounds.ensures P sites s right m d is bounds item o sound in
     let r : IsRight holds limit P v sites c.args.item c.entry.result.now = rw (← c.entry.ensures) at (right c.args.item c.entry.result.now c.requires.item) in
     let are = c.in_ok-more.ensures.sets P (site_at sites c.args.item) r.sizes in
     right_push holds limit P v sites c.args.arena.now.entries.items c.add.new.self.entries.items _ i right c.in_ok-node.ensures.added number
     (list_right holds limit P v sites i c.args.item c.distinct.result c.in_ok-more.more b c.args.nullable c.index.result.now c.whole_sizes-sizes.result c.parts_one_level.ensures c.requires.limit.0 item below
-    (c.distinct.ensures ∙ sym (ap distinct_at is)) (ap is_nullable is) cut_to c.in_ok-more.ensures.whole are c.index.ensures c.whole_sizes-sizes.ensures)
+    (rw (item_unfixed P s (site_at sites c.args.item) item).0 (c.distinct.ensures ∙ sym (ap distinct_at is))) null cut_to c.in_ok-more.ensures.whole are c.index.ensures c.whole_sizes-sizes.ensures)

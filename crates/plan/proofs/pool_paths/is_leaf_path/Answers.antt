@@ -1,5 +1,5 @@
 use Rattle.schema.specs.Nodes.View.{node_of}
-use Rattle.plan.proofs.PoolPathLemmas.{leaf_found, found_leaf, no_leaf}
+use Rattle.plan.proofs.PoolPathLemmas.{leaf_found, found_leaf, no_path}
 use Rattle.plan.proofs.pool_paths.is_leaf_path.Goals as goal
 
 pub returns-in-Ok : goal.returns-in-Ok
@@ -14,5 +14,5 @@ returns-in-Ok c =
 pub returns-in-Err : goal.returns-in-Err
 returns-in-Err c = (
   λ is. cc,
-  λ leaf. absurd (no_leaf c.paths_have_one_text.ensures c.args.schema.now c.args.text.now c.in-Err.field-0 c.in-Err.ensures.fault leaf),
+  λ leaf. absurd (no_path c.paths_have_one_text.ensures c.args.schema.now c.args.text.now c.in-Err.field-0 c.in-Err.ensures.fault (leaf.0, leaf.1, leaf.2.0)),
 )

@@ -101,3 +101,9 @@ is_unused_item-returns-else-contains = is_unused_item.returns-else-contains
 
 pub is_unused_item-returns-in-Keys : goal.is_unused_item-returns-in-Keys
 is_unused_item-returns-in-Keys = is_unused_item.returns-in-Keys
+
+pub is_part-is_unused_row-requires : goal.is_part-is_unused_row-requires
+is_part-is_unused_row-requires = is_part.is_unused_row-requires
+
+pub is_part-is_list-requires : goal.is_part-is_list-requires
+is_part-is_list-requires = is_part.is_list-requires

@@ -12,4 +12,4 @@ returns-in-Leaf-clause-candidate g c =
 pub returns-in-Row-clause-candidate : goal.returns-in-Row-clause-candidate
 returns-in-Row-clause-candidate g c =
     let r = entry_right g.Z.SizeSet.holds g.Z.SizeSet.BITS c.self.inside.schema c.self.inside.pools c.self.inside.arena.limit c.self.inside.arena.values c.self.inside.arena.entries.items c.self.inside.root c.args.self.now c.args.node c.entry.result.now c.self.invariant c.self.view_is c.requires.node c.entry.ensures in
-    absurd (no_leaf g.Z.SizeSet.holds c.args.self.now.limit c.args.self.now.pools c.self.inside.arena.values (sites_of c.args.self.now.root) c.args.node c.entry.result.now r c.in-Row.is c.requires.leaf)
+    absurd (no_leaf g.Z.SizeSet.holds c.args.self.now.limit c.args.self.now.pools c.self.inside.arena.values (sites_of c.args.self.now.pools c.args.self.now.root) c.args.node c.entry.result.now r c.in-Row.is c.requires.leaf)

@@ -17,14 +17,14 @@ pub returns-in-Leaf : goal.returns-in-Leaf
 returns-in-Leaf g c =
     let holds = g.Z.SizeSet.holds in
     let r = entry_right holds g.Z.SizeSet.BITS c.self.inside.schema c.self.inside.pools c.self.inside.arena.limit c.self.inside.arena.values c.self.inside.arena.entries.items c.self.inside.root c.args.self.now c.args.node c.entry.result.now c.self.invariant c.self.view_is c.requires.node c.entry.ensures in
-    absurd (no_row holds c.args.self.now.limit c.args.self.now.pools c.self.inside.arena.values (sites_of c.args.self.now.root) c.args.node c.entry.result.now r c.in-Leaf.is c.requires.row)
+    absurd (no_row holds c.args.self.now.limit c.args.self.now.pools c.self.inside.arena.values (sites_of c.args.self.now.pools c.args.self.now.root) c.args.node c.entry.result.now r c.in-Leaf.is c.requires.row)
 
 pub returns-in-Row : goal.returns-in-Row
 returns-in-Row g c =
     let holds = g.Z.SizeSet.holds in
     let r = entry_right holds g.Z.SizeSet.BITS c.self.inside.schema c.self.inside.pools c.self.inside.arena.limit c.self.inside.arena.values c.self.inside.arena.entries.items c.self.inside.root c.args.self.now c.args.node c.entry.result.now c.self.invariant c.self.view_is c.requires.node c.entry.ensures in
     let row = rw c.in-Row.is at r.content in
-    let sites = sites_of c.args.self.now.root in
+    let sites = sites_of c.args.self.now.pools c.args.self.now.root in
     let table = c.index-table.result.now in
     let level = c.index-level.result.now in
     let k = c.len.result - c.args.place in

@@ -11,7 +11,7 @@ returns-in-Some-clause-some g c =
     let row = rw c.in-Row.is at r.content in
     let l = rw c.deref.ensures.value at c.in-Some.ensures.lookup.3 in
     let is = slice_get_at c.in-Row.row.slots.items c.args.place c.in-Some.slot.now l.0 (l.1 c.in-Some.slot.now) in
-    (row_slot holds c.args.self.now.limit c.args.self.now.pools c.self.inside.arena.values.names.items (sites_of c.args.self.now.root) c.args.node c.args.place c.in-Row.row c.in-Some.slot.now _ row is c.name.ensures refl refl refl refl).0
+    (row_slot holds c.args.self.now.limit c.args.self.now.pools c.self.inside.arena.values.names.items (sites_of c.args.self.now.pools c.args.self.now.root) c.args.node c.args.place c.in-Row.row c.in-Some.slot.now _ row is c.name.ensures refl refl refl refl).0
 
 pub returns-in-Some-clause-below : goal.returns-in-Some-clause-below
 returns-in-Some-clause-below g c =
@@ -20,7 +20,7 @@ returns-in-Some-clause-below g c =
     let row = rw c.in-Row.is at r.content in
     let l = rw c.deref.ensures.value at c.in-Some.ensures.lookup.3 in
     let is = slice_get_at c.in-Row.row.slots.items c.args.place c.in-Some.slot.now l.0 (l.1 c.in-Some.slot.now) in
-    (slot_at c.self.inside.arena.values.names.items (sites_of c.args.self.now.root) c.args.node c.in-Row.row.slots.items _ c.args.place c.in-Some.slot.now row.are is).1.1.below
+    (slot_at c.self.inside.arena.values.names.items (sites_of c.args.self.now.pools c.args.self.now.root) c.args.node c.in-Row.row.slots.items _ c.args.place c.in-Some.slot.now row.are is).1.1.below
 
 pub returns-in-Some-clause-within : goal.returns-in-Some-clause-within
 returns-in-Some-clause-within g c =
@@ -45,12 +45,12 @@ pub returns-in-Leaf-clause-none : goal.returns-in-Leaf-clause-none
 returns-in-Leaf-clause-none g c =
     let holds = g.Z.SizeSet.holds in
     let r = entry_right holds g.Z.SizeSet.BITS c.self.inside.schema c.self.inside.pools c.self.inside.arena.limit c.self.inside.arena.values c.self.inside.arena.entries.items c.self.inside.root c.args.self.now c.args.node c.entry.result.now c.self.invariant c.self.view_is c.requires.node c.entry.ensures in
-    absurd (no_row holds c.args.self.now.limit c.args.self.now.pools c.self.inside.arena.values (sites_of c.args.self.now.root) c.args.node c.entry.result.now r c.in-Leaf.is c.requires.row)
+    absurd (no_row holds c.args.self.now.limit c.args.self.now.pools c.self.inside.arena.values (sites_of c.args.self.now.pools c.args.self.now.root) c.args.node c.entry.result.now r c.in-Leaf.is c.requires.row)
 
 pub returns-in-Some-clause-later : goal.returns-in-Some-clause-later
 returns-in-Some-clause-later g c =
     let holds = g.Z.SizeSet.holds in
-    let sites = sites_of c.args.self.now.root in
+    let sites = sites_of c.args.self.now.pools c.args.self.now.root in
     let r = entry_right holds g.Z.SizeSet.BITS c.self.inside.schema c.self.inside.pools c.self.inside.arena.limit c.self.inside.arena.values c.self.inside.arena.entries.items c.self.inside.root c.args.self.now c.args.node c.entry.result.now c.self.invariant c.self.view_is c.requires.node c.entry.ensures in
     let row = rw c.in-Row.is at r.content in
     let l = rw c.deref.ensures.value at c.in-Some.ensures.lookup.3 in

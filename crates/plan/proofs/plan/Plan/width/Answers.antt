@@ -17,6 +17,6 @@ returns g c =
     let holds = g.Z.SizeSet.holds in
     let a = c.self.inside.arena in
     let all : c.loop-entry.entry-index ≡ length c.deref-entry-items.result.now = omega (arith, c.loop-entry.auto.entry-index-end) in
-    let w = c.loop-entry.invariant c.self.inside.pools a.limit a.values (sites_of c.self.inside.schema) (rw c.deref-entry-items.ensures.value c.self.invariant.right) in
+    let w = c.loop-entry.invariant c.self.inside.pools a.limit a.values (sites_of c.self.inside.pools c.self.inside.schema) (rw c.deref-entry-items.ensures.value c.self.invariant.right) in
     let x = rw (all, c.deref-entry-items.ensures.value) at w in
     width_in holds g.Z.SizeSet.BITS c.self.inside.schema c.self.inside.pools a.limit a.values a.entries.items c.self.inside.root c.args.self.now c.loop-entry.width c.self.invariant c.self.view_is x

@@ -76,7 +76,7 @@ returns-in-Whole g t c =
 pub first_row-requires : goal.first_item-first_row-requires
 first_row-requires g t c κs within =
     let q = c.args.self.now.plan.now in
-    let node : c.args.list.now.child < length (sites_of q.root) = omega (arith, c.requires.list.child, c.requires.list.node) in
+    let node : c.args.list.now.child < length (sites_of q.pools q.root) = omega (arith, c.requires.list.child, c.requires.list.node) in
     let items = c.laws_of.ensures.sound.map (site q c.args.list.now.child) c.requires.first.item (sym c.distinct.ensures ∙ c.in-Keys.is) in
     let counts = c.laws_of-2.ensures.counts in
     let some = some_size c.requires.size in (

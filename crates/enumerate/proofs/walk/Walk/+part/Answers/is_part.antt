@@ -8,7 +8,14 @@ use Rattle.enumerate.specs.Internal.Nodes.{site}
 use Rattle.enumerate.proofs.walks.Costs.{costs_within}
 use Rattle.enumerate.proofs.walks.Membership.{answered, row_part, part_row, list_part, part_list, null_part}
 use Rattle.enumerate.proofs.lists.Lemmas.{some_nodes}
+use Rattle.enumerate.proofs.rows.Parts.{weight_next}
 use Rattle.enumerate.proofs.walk.Walk.+part.Goals as goal
+
+pub is_unused_row-requires : goal.is_part-is_unused_row-requires
+is_unused_row-requires g t c κs within = (omega (arith, c.decreases, weight_next c.args.self.now.plan.now c.args.node), (within, (c.requires.node, (sym c.in-Row.ensures, c.requires.limit))))
+
+pub is_list-requires : goal.is_part-is_list-requires
+is_list-requires g t c κs within = (omega (arith, c.decreases, weight_next c.args.self.now.plan.now c.args.node), (within, (c.requires.node, (sym c.in-List.ensures, c.requires.limit))))
 
 pub returns-in_default : goal.is_part-returns-in_default
 returns-in_default g t c =
