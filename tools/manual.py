@@ -1,9 +1,9 @@
 #!/usr/bin/env python3
-"""Writes the man page of crdx and its completions for bash, zsh and fish, all made from the program's own help.
+"""Writes the man pages of crdx and of kubectl-crdx, and the completions of crdx for bash, zsh and fish, all made from their own help.
 
 Usage: tools/manual.py PROGRAM FOLDER
-Writes crdx.1, completions/crdx.bash, completions/_crdx and completions/crdx.fish below FOLDER. The page has the date that the variable
-SOURCE_DATE_EPOCH gives in seconds, or else today's.
+Writes crdx.1, kubectl-crdx.1, completions/crdx.bash, completions/_crdx and completions/crdx.fish below FOLDER. The pages have the date
+that the variable SOURCE_DATE_EPOCH gives in seconds, or else today's.
 """
 import dataclasses
 import os
@@ -15,6 +15,7 @@ import time
 from pathlib import Path
 
 MADE = "made by tools/manual.py from what `crdx --help` says"
+PLUGIN = Path(__file__).resolve().parent / "kubectl-crdx"
 
 # The help
 
@@ -115,30 +116,53 @@ class Program:
         return read_help(self.said(*(["help", "help"] if name == "help" else [name, flag])))
 
 
-# The man page
+# The man pages
 
 
 def man_page(program):
-    about, *description = blocks_of(program.help.description)
-    about = about[0][0].lower() + about[0][1:].rstrip(".")
-    date = time.strftime("%Y-%m-%d", time.gmtime(int(os.environ.get("SOURCE_DATE_EPOCH", time.time()))))
     sections = {
-        "NAME": [rf"crdx \- {escaped(about)}"],
         "SYNOPSIS": usages(program),
-        "DESCRIPTION": prose(description),
+        "DESCRIPTION": description(program.help),
         "OPTIONS": entries(program.help.options),
         "COMMANDS": [line for it in program.long.values() for line in command(it)],
         **ending(program.help.end),
         "SEE ALSO": prose([(SEE_ALSO, [])]),
     }
-    lines = [f'.\\" The man page of crdx, {MADE}.', f'.TH CRDX 1 {date} "crdx {program.version}" "User Commands"', ".ad l"]
+    return page("crdx", program, program.help, sections)
+
+
+def man_page_of_plugin(program):
+    said = read_help(subprocess.run([PLUGIN, "--help"], stdout=subprocess.PIPE, encoding="utf-8", check=True).stdout)
+    end = ending(said.end)
+    sections = {
+        "SYNOPSIS": [styled(said.usage)],
+        "DESCRIPTION": description(said),
+        "ARGUMENTS": entries(said.arguments),
+        "OPTIONS": [*entries(said.options), *end.pop("CODES")],
+        **end,
+        "SEE ALSO": [r"\fBcrdx\fR(1)"],
+    }
+    return page("kubectl-crdx", program, said, sections)
+
+
+def description(said):
+    return prose(list(blocks_of(said.description))[1:])
+
+
+def page(name, program, said, sections):
+    """A page whose name is explained by the first line of a help."""
+    about = said.description.splitlines()[0]
+    date = time.strftime("%Y-%m-%d", time.gmtime(int(os.environ.get("SOURCE_DATE_EPOCH", time.time()))))
+    sections = {"NAME": [escaped(f"{name} - {about[0].lower()}{about[1:].rstrip('.')}")], **sections}
+    made = MADE.replace("crdx --help", f"{name} --help")
+    lines = [f'.\\" The man page of {name}, {made}.', f'.TH {name.upper()} 1 {date} "crdx {program.version}" "User Commands"', ".ad l"]
     lines += [line for title, section in sections.items() for line in (f".SH {title}", *section)]
     # a heading begins a paragraph by itself
     kept = [line for before, line in zip(["", *lines], lines) if not (line == ".PP" and before.startswith(".S"))]
     return "\n".join(kept) + "\n"
 
 
-SEE_ALSO = "`crdx-relax --help` tells how to make a wider schema, which crdx accepts, of one that it rejects."
+SEE_ALSO = "`crdx-relax --help` tells how to make a wider schema, which crdx accepts, of one that it rejects. kubectl-crdx(1) does so itself."
 
 
 def usages(program):
@@ -389,6 +413,7 @@ def main(program, folder):
     completions = Path(folder) / "completions"
     completions.mkdir(parents=True, exist_ok=True)
     (Path(folder) / "crdx.1").write_text(man_page(program), "utf-8")
+    (Path(folder) / "kubectl-crdx.1").write_text(man_page_of_plugin(program), "utf-8")
     for name, made in {"crdx.bash": bash, "_crdx": zsh, "crdx.fish": fish}.items():
         (completions / name).write_text(made(program), "utf-8")
 

@@ -57,7 +57,8 @@ tree=$stage/$name root=$stage/root
 # the folder that the .tar.gz has
 fill_tree() {
     install -D -m 755 "$program" "$tree/crdx"
-    install -m 755 tools/crdx-relax "$tree"
+    install -m 755 tools/{crdx-relax,kubectl-crdx} "$tree"
+    install -D -m 644 -t "$tree/crdx_schemas" tools/crdx_schemas/*.py
     tools/manual.py "$program" "$tree"
     install -m 644 LICENSE CHANGELOG.md "$tree"
     echo "$commit" >"$tree/COMMIT"
@@ -75,9 +76,15 @@ sums_of() (
 
 # the same files at the places where Debian has them
 fill_root() {
+    local module
     place 755 crdx usr/bin/crdx
     place 755 crdx-relax usr/bin/crdx-relax
+    place 755 kubectl-crdx usr/bin/kubectl-crdx
+    for module in "$tree"/crdx_schemas/*; do
+        place 644 "crdx_schemas/${module##*/}" "usr/share/crdx/crdx_schemas/${module##*/}"
+    done
     place 644 crdx.1 usr/share/man/man1/crdx.1
+    place 644 kubectl-crdx.1 usr/share/man/man1/kubectl-crdx.1
     place 644 completions/crdx.bash usr/share/bash-completion/completions/crdx
     place 644 completions/_crdx usr/share/zsh/vendor-completions/_crdx
     place 644 completions/crdx.fish usr/share/fish/vendor_completions.d/crdx.fish
@@ -85,7 +92,7 @@ fill_root() {
     place 644 CHANGELOG.md usr/share/doc/crdx/changelog
     place 644 VERDICT usr/share/doc/crdx/VERDICT
     place 644 COMMIT usr/share/doc/crdx/COMMIT
-    gzip -9n "$root/usr/share/man/man1/crdx.1" "$root/usr/share/doc/crdx/changelog"
+    gzip -9n "$root"/usr/share/man/man1/* "$root/usr/share/doc/crdx/changelog"
     sums_of "$root" md5sum >"$stage/sums"
     mkdir "$root/DEBIAN"
     mv "$stage/sums" "$root/DEBIAN/md5sums"

@@ -1,8 +1,8 @@
 #!/usr/bin/env python3
-"""Compares the man page and the completions of crdx with what the program's help says.
+"""Compares the man pages of crdx and kubectl-crdx, and the completions of crdx, with what their help says.
 
 Usage: tools/test_manual.py PROGRAM FOLDER
-FOLDER has crdx.1 and completions/, as tools/manual.py writes them. Each command, argument and option of the help has to be in each of the
+FOLDER has crdx.1, kubectl-crdx.1 and completions/, as tools/manual.py writes them. Each command, argument and option of the help has to be in each of the
 four files, which may name no other, and each line of the help has to be in the man page. The completion for bash is run, those for zsh and
 fish are read; where fish is installed its completion is run too, and where zsh is, it checks the syntax of its own.
 """
@@ -106,13 +106,17 @@ def check_man(wanted, page):
     same("crdx.1: its commands", found.names, wanted.names)
     same("crdx.1: its arguments", found.arguments, wanted.arguments)
     same("crdx.1: its options", found.options, wanted.options)
-    text = plain(page)
     for name, said in wanted.texts.items():
-        said = re.sub(r"^Usage: .*\n|^Commands:\n(?: .*\n)*|^(Arguments|Options):\n", "", said, flags=re.M)
-        for line in said.replace("./crdx", "crdx").splitlines():
-            words = re.sub(r"`|<(?=[A-Z]+>$)|(?<=[A-Z])>$|[.:]$", "", " ".join(line.split())).lower()
-            if words not in text:
-                fail(f"crdx.1: it lacks a line of the help of {name}: {line.strip()}")
+        check_lines("crdx.1", name, said, plain(page))
+
+
+def check_lines(file, name, said, text):
+    """Whether each line of a help is in the text of a page."""
+    said = re.sub(r"^Usage: .*\n|^Commands:\n(?: .*\n)*|^(Arguments|Options):\n", "", said, flags=re.M)
+    for line in said.replace("./crdx", "crdx").splitlines():
+        words = re.sub(r"`|<(?=[A-Z]+>$)|(?<=[A-Z])>$|[.:]$", "", " ".join(line.split())).lower()
+        if words not in text:
+            fail(f"{file}: it lacks a line of the help of {name}: {line.strip()}")
 
 
 # The completion for bash
@@ -234,6 +238,8 @@ def main(program, folder):
     wanted = Help(program)
     completions = Path(folder).resolve() / "completions"
     check_man(wanted, (Path(folder) / "crdx.1").read_text("utf-8"))
+    plugin = run(Path(__file__).resolve().parent / "kubectl-crdx", "--help")
+    check_lines("kubectl-crdx.1", "kubectl crdx", plugin, plain((Path(folder) / "kubectl-crdx.1").read_text("utf-8")))
     check_bash(wanted, completions / "crdx.bash")
     check_zsh(wanted, completions / "_crdx")
     check_fish(wanted, completions / "crdx.fish")

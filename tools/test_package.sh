@@ -27,7 +27,7 @@ unset "${!GIT_@}"
 program=crates/crdx_cli/out/crdx_cli
 copy=$folder/repository
 mkdir "$copy"
-cp --parents .gitignore LICENSE CHANGELOG.md tools/{package.sh,manual.py,crdx-relax} "$program" "$copy"
+cp --parents .gitignore LICENSE CHANGELOG.md tools/{package.sh,manual.py,crdx-relax,kubectl-crdx} tools/crdx_schemas/*.py "$program" "$copy"
 commit() { git -C "$copy" -c core.hooksPath=/dev/null -c user.name=Test -c user.email=test@example.org commit -q --allow-empty -m "$1"; }
 git init -q "$copy"
 git -C "$copy" add .
@@ -57,7 +57,9 @@ places=$folder/places
 cat >"$places" <<'PLACES'
 crdx usr/bin/crdx
 crdx-relax usr/bin/crdx-relax
+kubectl-crdx usr/bin/kubectl-crdx
 crdx.1 usr/share/man/man1/crdx.1.gz
+kubectl-crdx.1 usr/share/man/man1/kubectl-crdx.1.gz
 completions/crdx.bash usr/share/bash-completion/completions/crdx
 completions/_crdx usr/share/zsh/vendor-completions/_crdx
 completions/crdx.fish usr/share/fish/vendor_completions.d/crdx.fish
@@ -66,6 +68,9 @@ CHANGELOG.md usr/share/doc/crdx/changelog.gz
 VERDICT usr/share/doc/crdx/VERDICT
 COMMIT usr/share/doc/crdx/COMMIT
 PLACES
+for module in tools/crdx_schemas/*.py; do
+    echo "crdx_schemas/${module##*/} usr/share/crdx/crdx_schemas/${module##*/}"
+done >>"$places"
 while read -r ours debians; do
     zcat -f "$root/$debians" | cmp - "$tree/$ours" || stop "$debians is not $ours"
 done <"$places"
@@ -75,7 +80,8 @@ cut -d ' ' -f 2 "$places" | sort | diff - <(files_of "$root") || stop 'other fil
 
 # what is in them
 cmp "$tree/crdx" "$program"
-cmp "$tree/crdx-relax" tools/crdx-relax
+for tool in crdx-relax kubectl-crdx; do cmp "$tree/$tool" "tools/$tool"; done
+for module in tools/crdx_schemas/*.py; do cmp "$tree/crdx_schemas/${module##*/}" "$module"; done
 cmp "$tree/LICENSE" LICENSE
 [ "$(cat "$tree/COMMIT")" = "$(git -C "$copy" rev-parse HEAD)" ] || stop 'COMMIT names another commit'
 [ "$(tail -n 1 "$tree/VERDICT")" = "$(tail -n 1 "$log")" ] || stop 'VERDICT has another last line than the log'
@@ -95,6 +101,7 @@ for place in "$tree" "$root/usr/bin"; do
     alone "$place/crdx" sample examples/widget/crd.json v1 --pools examples/widget/pools.json --limit 4 2>"$folder/said" |
         diff examples/widget/samples-of-4-nodes.txt - || stop "$place/crdx: sample"
     alone "$place/crdx-relax" examples/certificate/crd.json 2>"$folder/said" | diff examples/certificate/relaxed.json - || stop "$place/crdx-relax"
+    [ "$(alone "$place/kubectl-crdx" check -f examples/certificate/crd.json 2>"$folder/said")" = structural ] || stop "$place/kubectl-crdx"
 done
 
 # refuses NAME LINE: whether nothing is packed, with this line on standard error

@@ -335,6 +335,20 @@ FIELDS = [
         "oneOf": [{"required": ["a"], "properties": {"a": {"enum": ["x"]}}}, {"required": ["b"]}]},
      {"type": "object", "properties": {"a": {"type": "string"}, "b": {"type": "string"}}}, [("", "oneOf", "dropped")],
      [{"a": "x"}, {"b": "x", "a": "y"}]),
+    ("properties that say nothing in a junctor", {"type": "object", "properties": {"a": {"type": "string"}, "b": {"type": "string"}},
+        "oneOf": [{"required": ["a"], "properties": {"a": {}}}, {"required": ["b"], "not": {"required": ["a"], "properties": {"a": {
+            "properties": {"c": {}}}}}}],
+        "not": {"properties": {}, "required": ["a", "b"]}, "anyOf": [{"required": ["a"], "properties": {"a": {"minLength": 1}}}]},
+     {"type": "object", "properties": {"a": {"type": "string"}, "b": {"type": "string"}},
+        "oneOf": [{"required": ["a"]}, {"required": ["b"], "not": {"required": ["a"]}}], "not": {"required": ["a", "b"]}},
+     [("", "anyOf", "dropped"), ("", "not", 'without "properties" that say nothing'),
+      ("", "oneOf", 'without "properties" that say nothing')], [{"a": "x"}]),
+    ("properties that say nothing in allOf", {"type": "object", "properties": {"a": {"type": "string"}}, "allOf": [
+        {"properties": {"a": {}}}, {"properties": {"a": {"minLength": 1}}}, {"required": ["a"]}]},
+     {"type": "object", "properties": {"a": {"type": "string"}}, "allOf": [{}, {"required": ["a"]}]},
+     [("", "allOf", 'without branch 1, without "properties" that say nothing')], [{"a": "x"}]),
+    ("properties that say nothing of a text", {"type": "string", "anyOf": [{"properties": {"a": {}}, "maxLength": 1}]},
+     {"type": "string", "anyOf": [{"maxLength": 1}]}, [("", "anyOf", 'without "properties" that say nothing')], ["a"]),
     ("a junctor with an undeclared name", {"type": "object", **OPEN, "properties": {"a": {"type": "string"}},
         "anyOf": [{"required": ["a"]}, {"required": ["z"]}], "required": ["a", "z"]},
      {"type": "object", **OPEN, "properties": {"a": {"type": "string"}}, "required": ["a"]},
@@ -451,6 +465,19 @@ class Fields(unittest.TestCase):
             with self.subTest(name):
                 self.assertEqual(relaxed_root(before), (after, lines))
 
+    def test_properties_that_say_nothing_change_nothing(self):
+        """Without them the same objects are valid, under oneOf and not too."""
+        fields = {name: {"type": "string"} for name in "abc"}
+        before = {"type": "object", "properties": fields, "oneOf": [
+            {"required": ["a"], "properties": {"a": {}}},
+            {"required": ["b"], "not": {"required": ["c"], "properties": {"c": {"properties": {"d": {}}}, "a": {}}}},
+        ]}
+        after, _ = relaxed_root(with_field(before))
+        for number in range(8):
+            value = {name: "x" for bit, name in enumerate("abc") if number >> bit & 1}
+            self.assertEqual(Validator.accepts(before, value), Validator.accepts(after["properties"]["x"], value), value)
+            self.assertEqual(Validator.accepts(before, value), ("a" in value) != ("b" in value and "c" not in value), value)
+
     def test_the_order_of_members_stays(self):
         schema = with_field({"maxLength": 3, "type": "string", "pattern": "a", "description": "é \u2028"})
         _, out, _ = relax(json.dumps(definition(schema)))
@@ -502,6 +529,31 @@ class Definitions(unittest.TestCase):
         wanted = definition(with_field({"type": "string"}), {"type": "object"}, with_field(OPEN))
         wanted["spec"]["versions"].append({"name": "v4", "served": False})
         self.assertEqual(json.loads(out), wanted)
+
+    def test_a_change_of_several_versions_is_said_once(self):
+        both = {"x": {"type": "string", "pattern": "a"}, "y": {"type": "string", "pattern": "a"}}
+        document = definition({"type": "object", "properties": both}, {"type": "object"}, with_field({"type": "string", "pattern": "b"}))
+        self.assertEqual(relax(json.dumps(document))[2].splitlines(), [
+            'crdx-relax: versions "v1", "v3": "/properties/x" "pattern": dropped',
+            'crdx-relax: version "v1": "/properties/y" "pattern": dropped',
+        ])
+
+    def test_one_version(self):
+        """With --version that version is printed alone, and nothing is said of the others, whatever they have."""
+        document = definition(with_field({"type": "integer", "minimum": "x"}), with_field({"type": "string", "pattern": "a"}))
+        document["spec"]["versions"][0]["weight"] = 0.5
+        status, out, err = relax(json.dumps(document), "--version", "v2")
+        self.assertEqual((status, err), (0, 'crdx-relax: "/properties/x" "pattern": dropped\n'))
+        wanted = definition({}, with_field({"type": "string"}))
+        wanted["spec"]["versions"] = wanted["spec"]["versions"][1:]
+        self.assertEqual(json.loads(out), wanted)
+
+    def test_a_version_that_is_not_there(self):
+        document = definition(with_field({"type": "string"}))
+        document["spec"]["versions"].append({"name": "v2"})
+        for version, line in [("v3", "S2"), ("", "S2"), ("v2", "S1")]:
+            with self.subTest(version):
+                self.assertEqual(relax(json.dumps(document), "--version", version), (3, "", f"crdx-relax: crd: {line}\n"))
 
     def test_the_rest_stays(self):
         document = definition(with_field({"type": "string"}))
@@ -584,7 +636,7 @@ class BadInput(unittest.TestCase):
             self.assertEqual(relax(path.read_text(encoding="utf-8"), "-")[0], 0)
 
     def test_arguments(self):
-        for words in [["a", "b"], ["--what"]]:
+        for words in [["a", "b"], ["--what"], ["--version"]]:
             status, out, err = relax("", *words)
             self.assertEqual((status, out), (2, ""))
             self.assertIn("usage: crdx-relax", err)
@@ -634,7 +686,7 @@ class Drawn:
         choices = [
             ("minimum", self.random.choice([0, 1, 0.5])), ("maximum", self.random.choice([1, 2, 1.5])), ("exclusiveMinimum", True),
             ("maxLength", 1), ("minLength", 1), ("enum", self.some([0, 1, "a", None, 0.5], 3)), ("pattern", "a"), ("multipleOf", 2),
-            ("required", self.some(["a", "b", "c"])), ("type", "integer"), ("properties", {"a": {"minimum": 1}}), ("maxProperties", 1),
+            ("required", self.some(["a", "b", "c"])), ("type", "integer"), ("properties", {"a": self.random.choice([{}, {"minimum": 1}])}), ("maxProperties", 1),
         ]
         branch = dict(self.some(choices))
         if depth > 0 and self.random.random() < 0.3:
@@ -714,7 +766,10 @@ class Widening(unittest.TestCase):
                         kept += 1
                         self.assertTrue(test(after, value), f"{test.__name__}: {value}\nbefore {before}\nafter {after}")
         self.assertGreater(kept, 20_000)
-        self.assertEqual(relax(out), (0, out, ""))
+        status, again, err = relax(out)
+        self.assertEqual((status, again), (0, out))
+        for line in err.splitlines():
+            self.assertRegex(line, ': still refused: V14 "[^"]*" bad default$')
 
 
 class Examples(unittest.TestCase):
@@ -774,16 +829,31 @@ class Structural(unittest.TestCase):
         wanted = [envelope + line[1:] for line in lines if '"status"' not in line]
         self.assertEqual(got, (0, "".join(wanted)))
 
+    def test_samples_over_the_values_of_pools(self):
+        """Over the values that --pools writes, each sample is valid in the schema as it was written."""
+        folder = ROOT / "examples" / "certificate"
+        text = (folder / "crd.json").read_text(encoding="utf-8")
+        with tempfile.TemporaryDirectory() as temporary:
+            file, pools = Path(temporary) / "crd.json", Path(temporary) / "pools.json"
+            pools.write_text('{"strings":["web"]}', encoding="utf-8")
+            file.write_text(relax(text, "--pools", pools)[1], encoding="utf-8")
+            status, lines = program("sample", file, "v1", "--pools", pools, "--limit", "9", "--count", "1000")
+        self.assertEqual(status, 0)
+        self.assertEqual(len(lines.splitlines()), 1000)
+        for line in lines.splitlines():
+            self.assertTrue(Validator.accepts(schema_of(json.loads(text)), json.loads(line)), line)
+
     def test_drawn(self):
-        """Schemas drawn at random break no rule but that on bad defaults, which crdx asks only where no other is broken."""
-        drawn = Drawn(2)
+        """Schemas drawn at random break no rule but that on bad defaults, and crdx-relax says at which places."""
+        drawn, bad = Drawn(2), 0
         for number in range(8):
             with self.subTest(number):
                 fields = {f"f{index}": drawn.field(3) for index in range(30)}
-                _, lines = self.check(json.dumps(definition({"type": "object", "properties": fields})))
-                self.assertNotEqual(lines, "")
-                for line in lines.splitlines():
-                    self.assertRegex(line, '^structural$|^V14 "')
+                text = json.dumps(definition({"type": "object", "properties": fields}))
+                said = re.findall("still refused: (.*\n)", relax(text)[2])
+                self.assertEqual(self.check(text), (1, "".join(said)) if said else (0, "structural\n"))
+                bad += len(said)
+        self.assertGreater(bad, 20)
 
 
 if __name__ == "__main__":
