@@ -109,6 +109,7 @@ F12 "/r" required
 F13 "/s/2" duplicate
 F14 "/s/3" junctor
 LINES
+{ cat "$folder/faults"; echo 'F15 "/z" undeclared'; } >"$folder/strict-faults"
 echo '{"kind":"Widget","metadata":{"name":"w"},"s":[0,4,0,2]}' >"$folder/pruned"
 echo '{"a":{"f":7},"kind":"Widget","metadata":{"name":"w"},"s":[0,4,0,2]}' >"$folder/completed"
 cat >"$folder/fields" <<'LINES'
@@ -243,6 +244,7 @@ row 'check of two violations' nothing 1 "$folder/broken" /dev/null check "$folde
 row 'check of the widget' nothing 0 "$folder/structural" /dev/null check $widget/crd.json v1
 row 'check of two bad defaults' nothing 1 "$folder/bad-default" /dev/null check "$folder/bad-default.json" v1
 row 'validate of three faults' nothing 1 "$folder/faults" /dev/null validate "$folder/crd.json" v1 "$folder/object.json"
+row 'validate of three faults and a dropped member' nothing 1 "$folder/strict-faults" /dev/null validate --strict "$folder/crd.json" v1 "$folder/object.json"
 input=$folder/object.json row 'prune of the standard input' nothing 0 "$folder/pruned" /dev/null prune "$folder/crd.json" v1
 row 'default of an object' nothing 0 "$folder/completed" /dev/null default "$folder/crd.json" v1 "$folder/object.json"
 row 'explain of every field' nothing 0 "$folder/fields" /dev/null explain "$folder/crd.json" v1

@@ -5,5 +5,6 @@ pub mod Block
 pub mod PartialLines
 pub mod Progress
 pub mod Cause
+pub mod Found
 pub mod ExitStatus
 pub mod CheckText

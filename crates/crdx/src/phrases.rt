@@ -96,7 +96,7 @@ pub fn reason_phrase(reason: Reason) -> &'static str
     }
 }
 
-/// What is wrong where an object has the fault of this number, 1 to 14.
+/// What is wrong where an object has the fault of this number, 1 to 15.
 pub fn fault_phrase(number: u8) -> &'static str
     ensures { result.now ≡ fault_phrase_of number }
 {
@@ -115,6 +115,7 @@ pub fn fault_phrase(number: u8) -> &'static str
         12 => "required",
         13 => "duplicate",
         14 => "junctor",
+        15 => "undeclared",
         _ => "",
     }
 }

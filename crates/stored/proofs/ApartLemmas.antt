@@ -32,7 +32,8 @@ use Rattle.stored.specs.Objects.StoredByParts.{IsValidHere, are_apart}
 use Rattle.stored.specs.Objects.Leaves.{is_divided, members_among, item_element, element, leaf_at, LeafAt, AreLeaves, BeginsNone, AreApart}
 use Rattle.stored.proofs.ValidLemmas.{unlike, faultless, here_from}
 use Rattle.stored.proofs.LevelLemmas.{member_tree}
-use Rattle.stored.proofs.FaultLemmas.{item_tree, leads_both, part_is, deeper}
+use Rattle.stored.proofs.FaultLemmas.{item_tree, deeper}
+use Rattle.stored.proofs.PartLemmas.{leads_both, part_is}
 use Rattle.stored.proofs.PrunedAgain.{below_place}
 use Rattle.stored.proofs.LeafLemmas.{members_of_some}
 use Rattle.stored.proofs.LeafLevelLemmas.{mapped, among_map, undivided, down}

@@ -1,6 +1,6 @@
 -- The failures of a value's parts, joined: which they are, and that they ascend.
-use Rattle.std.specs.Prelude.{◌≡◌, ◌==◌, List, [], ◌∷◌, Bool, true, false, Option, Some, None, if◌then◌else◌}
-use Rattle.std.proofs.Common.{refl, sym, ap, subst, inl, inr}
+use Rattle.std.specs.Prelude.{◌≡◌, ◌==◌, List, [], ◌∷◌, ◌++◌, Bool, true, false, Option, Some, None, if◌then◌else◌}
+use Rattle.std.proofs.Common.{refl, sym, ap, subst, inl, inr, append_assoc}
 use Rattle.std.specs.Str.{bytes_eq}
 use Rattle.std.specs.Ordering.{nat_cmp}
 use Rattle.std.specs.declared.cmp.Ordering.TheVariants.{Less}
@@ -60,6 +60,19 @@ lookup s (b ∷ bs) = if is_step s b.step then Some b.failures else lookup s bs
 abbrev pub IsStepBefore : Step → List Below → Type 0
 IsStepBefore s [] = Unit {0}
 IsStepBefore s (b ∷ bs) = step_cmp s b.step ≡ Less
+
+-- the first one of two that is there
+abbrev pub first_there : {A : Type 0} → Option A → Option A → Option A
+first_there None o = o
+first_there (Some x) o = Some x
+
+pub lookup_onto : (s : Step) (bs cs : List Below) → lookup s (bs ++ cs) ≡ first_there (lookup s bs) (lookup s cs)
+lookup_onto s [] cs = refl
+lookup_onto s (b ∷ bs) cs = elim (bool_cases (is_step s b.step)) [ inl h ↦ rw h refl | inr h ↦ rw h (lookup_onto s bs cs) ]
+
+pub joined_onto : (bs cs : List Below) → joined (bs ++ cs) ≡ joined bs ++ joined cs
+joined_onto [] cs = refl
+joined_onto (b ∷ bs) cs = rw (joined_onto bs cs, append_assoc) refl
 
 -- the steps ascend, and so do the failures at each
 abbrev pub AreRising : List Below → Type 0

@@ -4,7 +4,8 @@
 -- PrunedTrees). Defaulting is proved by paths at once (FilledWalks, FilledParts, Passing). All three go by one case distinction,
 -- `pair`: a value beside its node is an object with fields, a map, a list, or has no parts with nodes (PartLemmas).
 -- Faults: LevelLemmas, JoinedLemmas and FaultLemmas (by level, then all in order), ReportLemmas (how the walk reports them),
--- AscendingLemmas and RepetitionLemmas (items that repeat another), FaultlessLemmas (no fault).
+-- AscendingLemmas and RepetitionLemmas (items that repeat another), FaultlessLemmas (no fault), DroppedLemmas (members that
+-- pruning drops, which strict faults have too).
 -- Leaves: LeafLevelLemmas, LeafLemmas, ListingLemmas, and the laws of `leaves` in ApartLemmas and CoveredLemmas.
 -- Stored: StoredLemmas (one level at a time), PrunedTest and FilledTest (whether a value changes), PrunedAgain and FilledAgain
 -- (doing it twice changes nothing), OneTree (a value becomes one tree at most), BecomingLemmas (one step of a path at a time).
@@ -31,6 +32,7 @@ pub mod PrunedPaths
 pub mod ReportLemmas
 pub mod JoinedLemmas
 pub mod LevelLemmas
+pub mod DroppedLemmas
 pub mod FaultLemmas
 pub mod FaultlessLemmas
 pub mod AscendingLemmas

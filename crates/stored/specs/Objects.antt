@@ -4,5 +4,6 @@ pub mod Tests
 pub mod Fault
 pub mod AllFaults
 pub mod Becomes
+pub mod StrictFaults
 pub mod StoredByParts
 pub mod Leaves

@@ -1,12 +1,13 @@
 //! All faults of an object, in order.
-ghost use Rattle.std.specs.Prelude.{◌≡◌, ◌++◌, ◌∷◌, [], false, OnOk, IfOk, string_bytes};
+ghost use Rattle.std.specs.Prelude.{◌≡◌, ◌++◌, ◌∷◌, ◌&&◌, [], not, false, OnOk, IfOk, string_bytes};
 ghost use Rattle.jtree.specs.Path.{name as name_step, index as index_step, item_at};
 ghost use Rattle.jtree.specs.Pointer.{name_token, index_token};
 ghost use Rattle.jtree.specs.View.{data_of, members_of};
 ghost use Rattle.schema.specs.Nodes.View.{node_of, fields_of};
-ghost use Rattle.stored.specs.Objects.Fault.{fails, F01, F02, F03, F04, F05, F06, F07, F08, F09, F10, F11, F12, F14, are_few, are_many, are_alike, has_alike_before, members_count as members_count_of};
-ghost use Rattle.stored.specs.Objects.AllFaults.{AreFaults};
-ghost use Rattle.stored.specs.Internal.FailuresByLevel.{progress, noted, added, failed as failed_of, own, under, joined, found, outcomes, here, at_field, value_parts, item_parts, field_parts, members_from as members_from_of, first_at};
+ghost use Rattle.stored.specs.Objects.Fault.{Test, number as number_of, fails, F01, F02, F03, F04, F05, F06, F07, F08, F09, F10, F11, F12, F14, are_few, are_many, are_alike, has_alike_before, members_count as members_count_of};
+ghost use Rattle.stored.specs.Objects.AllFaults.{AreReported, AreFaults};
+ghost use Rattle.stored.specs.Objects.StrictFaults.{AreStrictFaults};
+ghost use Rattle.stored.specs.Internal.FailuresByLevel.{progress, noted, added, failed as failed_of, own, under, joined, found, outcomes, here, at_field, value_parts, item_parts, field_parts, dropped, members_before, members_from as members_from_of, members_past as members_past_of, first_at, FailsWithin};
 
 use crate::fault::Fault;
 use crate::repetition::repeats;
@@ -16,7 +17,7 @@ use crate::tests::{
 };
 use crate::validity::{items_count, members_count};
 use jtree::{Items, Member, Members, Text, Tree};
-use schema::{Bounds, Field, Fields, ListNode, MapNode, Node, Sort};
+use schema::{Bounds, Field, ListNode, MapNode, Node, ObjectNode, Sort};
 use std::alloc::{AllocError, Global};
 
 /// All faults of an object at a node, as it is (OpenAPI 3.0, Schema Object; apiextensions.k8s.io/v1, nullable and merge
@@ -25,6 +26,27 @@ use std::alloc::{AllocError, Global};
 pub fn faults(alloc: Global, node: &Node, tree: &Tree) -> Result<Vec<Fault>, AllocError>
     ensures { IfOk result (λ found. AreFaults (node_of node.now) (data_of tree.now) found.items) }
 {
+    all_faults(alloc, node, tree, false)
+}
+
+/// The strict faults of an object at a node: its faults, and F15 at each member that pruning drops ("field pruning" of
+/// apiextensions.k8s.io/v1), below which nothing is found. They are in the same order, and an error and the work are those of
+/// `faults`.
+pub fn strict_faults(alloc: Global, node: &Node, tree: &Tree) -> Result<Vec<Fault>, AllocError>
+    ensures { IfOk result (λ found. AreStrictFaults (node_of node.now) (data_of tree.now) found.items) }
+{
+    all_faults(alloc, node, tree, true)
+}
+
+/// All faults, where asked the strict ones.
+fn all_faults(
+    alloc: Global,
+    node: &Node,
+    tree: &Tree,
+    strict: bool,
+) -> Result<Vec<Fault>, AllocError>
+    ensures { IfOk result (λ found. AreReported (FailsWithin strict (node_of node.now) (data_of tree.now)) found.items) }
+{
     // for their contracts alone: a proof learns that they are a node of a schema and a tree
     node.reveal_invariant();
     tree.reveal_invariant();
@@ -32,7 +54,7 @@ pub fn faults(alloc: Global, node: &Node, tree: &Tree) -> Result<Vec<Fault>, All
         pointer: String::new(alloc),
         faults: Vec::new(alloc),
     };
-    find(&mut report, node, tree, false)?;
+    find(&mut report, node, tree, strict, false)?;
     Ok(report.faults)
 }
 
@@ -67,13 +89,32 @@ impl Report {
         Ok(())
     }
 
+    /// Adds a fault at a name below the place.
+    fn add_below(&mut self, name: &str, number: u8) -> Result<(), AllocError>
+        ensures { (t : Test) → number_of t ≡ number → OnOk result (progress self.new ≡ added (progress self.old) (under (name_step name.now) (here t ∷ []))) }
+    {
+        let mut path = self.pointer.clone()?;
+        push_name(&mut path, name)?;
+        self.faults.push(Fault { path, number })?;
+        Ok(())
+    }
+
     /// Adds that a required name is missing at the place.
     fn add_missing(&mut self, name: &str) -> Result<(), AllocError>
         ensures { OnOk result (progress self.new ≡ added (progress self.old) (under (name_step name.now) (here F12 ∷ []))) }
     {
-        let mut path = self.pointer.clone()?;
-        push_name(&mut path, name)?;
-        self.faults.push(Fault { path, number: 12 })?;
+        self.add_below(name, 12)
+    }
+
+    /// Adds that members are dropped, where any are.
+    fn add_dropped(&mut self, members: &[Member], drops: bool) -> Result<(), AllocError>
+        ensures { OnOk result (progress self.new ≡ added (progress self.old) (joined (dropped drops (members_of members.now)))) }
+    {
+        if drops {
+            for member in members {
+                self.add_below(member.name.as_str(), 15)?;
+            }
+        }
         Ok(())
     }
 }
@@ -92,16 +133,22 @@ fn push_index(text: &mut String, index: u64) -> Result<(), AllocError>
 
 /// Adds all faults of a value, with that it repeats an earlier item where this is so.
 #[cycle(find)]
-fn find(report: &mut Report, node: &Node, tree: &Tree, is_repeated: bool) -> Result<(), AllocError>
-    ensures { OnOk result (progress report.new ≡ added (progress report.old) (found is_repeated (node_of node.now) (data_of tree.now))) }
+fn find(
+    report: &mut Report,
+    node: &Node,
+    tree: &Tree,
+    strict: bool,
+    is_repeated: bool,
+) -> Result<(), AllocError>
+    ensures { OnOk result (progress report.new ≡ added (progress report.old) (found strict is_repeated (node_of node.now) (data_of tree.now))) }
 {
     find_own(report, node, tree, is_repeated)?;
     match (&node.sort, tree) {
         (Sort::Object(object), Tree::Object(members)) => {
-            find_in_fields(report, &object.fields, members)
+            find_in_fields(report, object, members, strict)
         }
-        (Sort::Map(map), Tree::Object(members)) => find_in_values(report, map, members),
-        (Sort::List(list), Tree::List(items)) => find_in_items(report, list, items),
+        (Sort::Map(map), Tree::Object(members)) => find_in_values(report, map, members, strict),
+        (Sort::List(list), Tree::List(items)) => find_in_items(report, list, items, strict),
         _ => Ok(()),
     }
 }
@@ -213,37 +260,63 @@ fn fails_junctors(node: &Node, tree: &Tree) -> bool
 
 /// Adds the faults below an object with declared fields, whose members are merged with the fields by name.
 #[cycle(find)]
-fn find_in_fields(report: &mut Report, fields: &Fields, members: &Members) -> Result<(), AllocError>
-    ensures { OnOk result (progress report.new ≡ added (progress report.old) (joined (field_parts fields.now members.now))) }
+fn find_in_fields(
+    report: &mut Report,
+    object: &ObjectNode,
+    members: &Members,
+    strict: bool,
+) -> Result<(), AllocError>
+    ensures { OnOk result (progress report.new ≡ added (progress report.old) (joined (field_parts strict (strict && not object.now.preserves) object.now.fields members.now))) }
 {
+    let drops = strict && !object.preserves;
     let mut rest = members.members.as_slice();
-    for field in &fields.fields {
-        rest = members_from(rest, &field.name);
-        find_at_field(report, field, rest)?;
+    for field in &object.fields.fields {
+        let (before, from) = split_before(rest, &field.name);
+        report.add_dropped(before, drops)?;
+        find_at_field(report, field, from, strict)?;
+        rest = members_past(from, &field.name);
     }
-    Ok(())
+    report.add_dropped(rest, drops)
 }
 
-/// The members without those at the beginning whose names come before this one.
-fn members_from<'a>(members: &'a [Member], name: &Text) -> &'a [Member]
-    ensures { members_of result.now ≡ members_from_of name.now (members_of members.now) }
+/// The members at the beginning whose names come before this one, and the others.
+fn split_before<'a>(members: &'a [Member], name: &Text) -> (&'a [Member], &'a [Member])
+    ensures before { members_of result.0.now ≡ members_before name.now (members_of members.now) }
+    ensures from { members_of result.1.now ≡ members_from_of name.now (members_of members.now) }
 {
     for (i, member) in members.iter().enumerate() {
         if member.name.cmp(name).is_ge() {
-            return &members[i..];
+            return members.split_at(i);
         }
     }
-    &[]
+    (members, &[])
+}
+
+/// The members after the first one, where that has this name.
+fn members_past<'a>(members: &'a [Member], name: &Text) -> &'a [Member]
+    ensures { members_of result.now ≡ members_past_of name.now (members_of members.now) }
+{
+    match members {
+        [first, rest @ ..] if first.name == *name => rest,
+        _ => members,
+    }
 }
 
 /// Adds the faults of the value of a field, which is the first of these members where it is there.
 #[cycle(find)]
-fn find_at_field(report: &mut Report, field: &Field, members: &[Member]) -> Result<(), AllocError>
+fn find_at_field(
+    report: &mut Report,
+    field: &Field,
+    members: &[Member],
+    strict: bool,
+) -> Result<(), AllocError>
     ensures { OnOk result (progress report.new ≡ added (progress report.old) (under (name_step field.now.name)
-        (at_field field.now.required (λ d. found false (node_of field.now.node) d) (first_at field.now.name (members_of members.now))))) }
+        (at_field field.now.required (λ d. found strict false (node_of field.now.node) d) (first_at field.now.name (members_of members.now))))) }
 {
     match members.first() {
-        Some(member) if member.name == field.name => find_named(report, &field.node, member),
+        Some(member) if member.name == field.name => {
+            find_named(report, &field.node, member, strict)
+        }
         _ if field.required => report.add_missing(field.name.as_str()),
         _ => Ok(()),
     }
@@ -251,36 +324,51 @@ fn find_at_field(report: &mut Report, field: &Field, members: &[Member]) -> Resu
 
 /// Adds the faults of a member.
 #[cycle(find)]
-fn find_named(report: &mut Report, node: &Node, member: &Member) -> Result<(), AllocError>
-    ensures { OnOk result (progress report.new ≡ added (progress report.old) (under (name_step member.now.name) (found false (node_of node.now) (data_of member.now.tree)))) }
+fn find_named(
+    report: &mut Report,
+    node: &Node,
+    member: &Member,
+    strict: bool,
+) -> Result<(), AllocError>
+    ensures { OnOk result (progress report.new ≡ added (progress report.old) (under (name_step member.now.name) (found strict false (node_of node.now) (data_of member.now.tree)))) }
 {
     let length = report.pointer.len();
     push_name(&mut report.pointer, member.name.as_str())?;
-    find(report, node, &member.tree, false)?;
+    find(report, node, &member.tree, strict, false)?;
     report.pointer.truncate(length);
     Ok(())
 }
 
 /// Adds the faults below a map.
 #[cycle(find)]
-fn find_in_values(report: &mut Report, map: &MapNode, members: &Members) -> Result<(), AllocError>
-    ensures { OnOk result (progress report.new ≡ added (progress report.old) (joined (value_parts (λ d. found false map.now.value d) members.now))) }
+fn find_in_values(
+    report: &mut Report,
+    map: &MapNode,
+    members: &Members,
+    strict: bool,
+) -> Result<(), AllocError>
+    ensures { OnOk result (progress report.new ≡ added (progress report.old) (joined (value_parts (λ d. found strict false map.now.value d) members.now))) }
 {
     for member in &members.members {
-        find_named(report, &map.value.node, member)?;
+        find_named(report, &map.value.node, member, strict)?;
     }
     Ok(())
 }
 
 /// Adds the faults below a list.
 #[cycle(find)]
-fn find_in_items(report: &mut Report, list: &ListNode, items: &Items) -> Result<(), AllocError>
+fn find_in_items(
+    report: &mut Report,
+    list: &ListNode,
+    items: &Items,
+    strict: bool,
+) -> Result<(), AllocError>
     ensures { OnOk result (progress report.new ≡ added (progress report.old)
-        (joined (item_parts (λ i d. found (has_alike_before (are_alike list.now.list_type list.now.keys.items) i items.now (item_at i items.now)) list.now.item d) 0 items.now))) }
+        (joined (item_parts (λ i d. found strict (has_alike_before (are_alike list.now.list_type list.now.keys.items) i items.now (item_at i items.now)) list.now.item d) 0 items.now))) }
 {
     let repeated = repeats(*report.pointer.allocator(), list, items)?;
     for (i, item) in items.items.iter().enumerate() {
-        find_item(report, &list.item.node, item, repeated[i], i)?;
+        find_item(report, &list.item.node, item, i, strict, repeated[i])?;
     }
     Ok(())
 }
@@ -291,14 +379,15 @@ fn find_item(
     report: &mut Report,
     node: &Node,
     item: &Tree,
-    is_repeated: bool,
     index: usize,
+    strict: bool,
+    is_repeated: bool,
 ) -> Result<(), AllocError>
-    ensures { OnOk result (progress report.new ≡ added (progress report.old) (under (index_step index) (found is_repeated (node_of node.now) (data_of item.now)))) }
+    ensures { OnOk result (progress report.new ≡ added (progress report.old) (under (index_step index) (found strict is_repeated (node_of node.now) (data_of item.now)))) }
 {
     let length = report.pointer.len();
     push_index(&mut report.pointer, index as u64)?;
-    find(report, node, item, is_repeated)?;
+    find(report, node, item, strict, is_repeated)?;
     report.pointer.truncate(length);
     Ok(())
 }

@@ -10,7 +10,7 @@ use thiserror::Error;
 pub struct Fault {
     /// The JSON pointer of its place (RFC 6901), which a missing name has too.
     pub path: String,
-    /// Which test fails there, 1 to 14.
+    /// Which test fails there, 1 to 14; 15 where pruning drops the member there, which is a strict fault.
     pub number: u8,
 }
 

@@ -5,6 +5,7 @@ mod accepting;
 mod all_faults;
 mod ascending;
 mod by_parts;
+mod by_pruning;
 mod completing;
 mod defaulting;
 mod defaults;
@@ -22,8 +23,9 @@ mod tests;
 mod validity;
 
 pub use accepting::{Schema, accept, violations};
-pub use all_faults::faults;
+pub use all_faults::{faults, strict_faults};
 pub use by_parts::stored_by_parts;
+pub use by_pruning::strictly_valid_is_pruned;
 pub use completing::{becomes_one_tree, complete};
 pub use explaining::explained;
 pub use fault::{Fault, LFault};

@@ -46,6 +46,9 @@ explain_app = with_rule (crd_app (codes "explain")) (new_rule (codes "PATH"))
 abbrev pub object_app : Text → App
 object_app name = with_rule (crd_app name) (new_rule (codes "OBJECT"))
 
+abbrev pub validate_app : App
+validate_app = with_rule (object_app (codes "validate")) (flag_rule (codes "strict"))
+
 abbrev pub sample_app : App
 sample_app = with_rule (with_rule (with_rule (with_rule (with_rule (crd_app (codes "sample")) (option_rule (codes "pools")))
     (number_rule (codes "limit") 127 (codes "8"))) (number_rule (codes "count") 10000 (codes "100"))) (option_rule (codes "after"))) (option_rule (codes "name"))
@@ -55,7 +58,7 @@ top_app = on_top (λ s. record s { has_version = true; subcommand_required = tru
 
 abbrev pub crdx_app : App
 crdx_app = with_subcommand (with_subcommand (with_subcommand (with_subcommand (with_subcommand (with_subcommand (with_subcommand (with_subcommand top_app
-    (crd_app (codes "check")).top) explain_app.top) (object_app (codes "validate")).top) (object_app (codes "prune")).top) (object_app (codes "default")).top)
+    (crd_app (codes "check")).top) explain_app.top) validate_app.top) (object_app (codes "prune")).top) (object_app (codes "default")).top)
     (object_app (codes "leaves")).top) (crd_app (codes "pools")).top) sample_app.top
 
 -- what `clap` refuses of the arguments after the program's name, and the command that they name with the value of each of its arguments
@@ -105,8 +108,13 @@ AreCommonArguments rows arguments = (file_name arguments.crd ≡ crd_input rows)
 abbrev pub AreExplainArguments : List Row → ExplainArguments → Type 0
 AreExplainArguments rows arguments = AreCommonArguments rows arguments.common × (option_map (λ s. s.now) arguments.path ≡ first_of (codes "PATH") rows)
 
+-- the options that this command alone takes
+abbrev pub HasOptions : List Row → ObjectCommand → Type 0
+HasOptions rows (Validate strict) = IsFlagOf (codes "strict") rows strict
+HasOptions rows _ = Unit {0}
+
 abbrev pub AreObjectArguments : ObjectCommand → List Row → ObjectArguments → Type 0
-AreObjectArguments command rows arguments = (arguments.command ≡ command) × AreCommonArguments rows arguments.common × (file_name arguments.object ≡ object_input rows)
+AreObjectArguments command rows arguments = (arguments.command ≡ command) × HasOptions rows command × AreCommonArguments rows arguments.common × (file_name arguments.object ≡ object_input rows)
 
 abbrev pub AreSampleArguments : List Row → SampleArguments → Type 0
 AreSampleArguments rows arguments = AreCommonArguments rows arguments.common × (option_map file_name arguments.pools ≡ pools_input rows)
@@ -114,7 +122,7 @@ AreSampleArguments rows arguments = AreCommonArguments rows arguments.common × 
     × IsNumberOf (codes "limit") 127 rows arguments.limit × IsNumberOf (codes "count") 10000 rows arguments.count
 
 abbrev pub object_command_name : ObjectCommand → Text
-object_command_name Validate = codes "validate"
+object_command_name (Validate strict) = codes "validate"
 object_command_name Prune = codes "prune"
 object_command_name Default = codes "default"
 object_command_name Leaves = codes "leaves"

@@ -1,11 +1,12 @@
 -- What `validate`, `prune`, `default` and `leaves` answer of a document at the node of its body (this project's own words).
-use Rattle.std.specs.Prelude.{◌≢◌, ◌/◌, ◌%◌, ℕ, List, [], ◌++◌, None, map, flat_map, codes, decimal}
+use Rattle.std.specs.Prelude.{◌≢◌, ◌/◌, ◌%◌, ℕ, List, [], ◌++◌, true, false, None, map, flat_map, codes, decimal}
 use Rattle.jtree.specs.Data.{Data, IsTree, text, list}
 use Rattle.jtree.specs.Text.{compact}
 use Rattle.schema.specs.Nodes.Node.{Node}
-use Rattle.stored.specs.Objects.Fault.{IsValid}
+use Rattle.stored.specs.Objects.Fault.{HasFault, IsValid}
 use Rattle.stored.specs.Objects.AllFaults.{Failure, AreFailures, Reported, reported_of}
 use Rattle.stored.specs.Objects.Becomes.{IsPruned, IsCompleted, IsStored}
+use Rattle.stored.specs.Objects.StrictFaults.{HasStrictFault}
 use Rattle.stored.specs.Objects.Leaves.{AreLeaves}
 use Rattle.crdx.specs.Output.Line.{line}
 use Rattle.crdx.specs.Program.Envelope.{body_of, envelope_in, IsJoined}
@@ -30,8 +31,11 @@ leaf_lines leaves = flat_map leaf_line leaves
 
 -- the exit status, and the whole text on standard output
 pub data IsObjectAnswer (N : Node) (document : Data) : ObjectCommand → ℕ → List ℕ → Type 0 where
-  valid : IsValid N (body_of document) → IsObjectAnswer N document Validate 0 (codes "valid\n")
-  faulty : (fs : List Failure) → AreFailures N (body_of document) fs → fs ≢ [] → IsObjectAnswer N document Validate 1 (fault_lines (map reported_of fs))
+  valid : IsValid N (body_of document) → IsObjectAnswer N document (Validate false) 0 (codes "valid\n")
+  faulty : (fs : List Failure) → AreFailures (HasFault N (body_of document)) fs → fs ≢ [] → IsObjectAnswer N document (Validate false) 1 (fault_lines (map reported_of fs))
+  -- with `--strict`
+  strictly_valid : IsValid N (body_of document) → IsPruned N (body_of document) (body_of document) → IsObjectAnswer N document (Validate true) 0 (codes "valid\n")
+  strictly_faulty : (fs : List Failure) → AreFailures (HasStrictFault N (body_of document)) fs → fs ≢ [] → IsObjectAnswer N document (Validate true) 1 (fault_lines (map reported_of fs))
   pruned : (body whole : Data) → IsPruned N (body_of document) body → IsTree body → IsJoined body (envelope_in document) whole → IsObjectAnswer N document Prune 0 (line None whole)
   completed : (body whole : Data) → IsCompleted N (body_of document) body → IsTree body → IsJoined body (envelope_in document) whole → IsObjectAnswer N document Default 0 (line None whole)
   owned : (leaves : List (List (List ℕ))) → IsStored N (body_of document) → AreLeaves N (body_of document) leaves → IsObjectAnswer N document Leaves 0 (leaf_lines leaves)

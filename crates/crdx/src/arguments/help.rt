@@ -100,6 +100,7 @@ Faults that an object can have:
   F13  duplicate: an earlier item of a set is the same, or an earlier item of
        a map list has the same keys.
   F14  junctor: allOf, anyOf, oneOf or not fails.
+  F15  undeclared: pruning drops the member. Only --strict looks for it.
 
 Codes of an input that is refused:
   J1   A number is not an integer of 64 bits. Most often it is a fraction, in a
@@ -208,8 +209,9 @@ to the place, and which keyword fails there, such as
     F12 "/spec/acme/server" required
 
 Of an object without faults it prints `valid`. The apiVersion, kind and metadata
-of the object are not judged, and neither are members that the schema does not
-declare. The object is judged as it is, and not completed with defaults first."#,
+of the object are not judged, and members that the schema does not declare only
+with --strict. The object is judged as it is, and not completed with defaults
+first."#,
     end: "Example, at the top of the repository:
   ./crdx validate examples/issuer/crd.json v1 examples/issuer/faulty.json
 
@@ -334,6 +336,14 @@ pub(super) const CRD: &str = "A JSON file with a CustomResourceDefinition; - is 
 pub(super) const CRD_VERSION: &str = "The name of one of its versions, such as v1";
 
 pub(super) const PATH: &str = "The path of a field; without it all fields are listed";
+
+pub(super) const STRICT: &str = "A member that pruning drops is a fault too (F15)";
+
+pub(super) const STRICT_LONG: &str =
+    "A member that pruning drops is a fault too, F15, and nothing is said
+of what is below it. `valid` then means that the object is valid and
+that the API server drops nothing of it. So a misspelled field is
+found.";
 
 pub(super) const OBJECT: &str = "A JSON file with the object; - or nothing is standard input";
 

@@ -8,7 +8,7 @@ ghost use Rattle.clap.specs.Simple.{App, app_of, new_rule, subcommand_rows_of, w
 ghost use Rattle.clap.specs.declared.builder.command.Command.TheViews.{out-Command};
 ghost use Rattle.clap.specs.declared.error.kind.ErrorKind.TheVariants.{ArgumentConflict};
 ghost use Rattle.crdx.specs.Program.Documents.{file_name};
-ghost use Rattle.crdx.specs.Program.CommandLine.{required_rule, option_rule, flag_rule, number_rule, top_app, crd_app, explain_app, object_app, sample_app, crdx_app, faults, entered, input_of, crd_input, object_input, pools_input, object_command_name, IsCommand, AreCommonArguments, AreExplainArguments, AreObjectArguments, AreSampleArguments, Asks, IsRequestOf, IsUsageErrorOrMemory, IsNumberOf};
+ghost use Rattle.crdx.specs.Program.CommandLine.{required_rule, option_rule, flag_rule, number_rule, top_app, crd_app, explain_app, object_app, validate_app, sample_app, crdx_app, faults, entered, input_of, crd_input, object_input, pools_input, object_command_name, IsCommand, AreCommonArguments, AreExplainArguments, HasOptions, AreObjectArguments, AreSampleArguments, Asks, IsRequestOf, IsUsageErrorOrMemory, IsNumberOf};
 
 use crate::arguments::help;
 use crate::arguments::help::CommandHelp;
@@ -54,7 +54,7 @@ fn request_of_named<'a>(alloc: Global, name: &str, found: &ArgMatches<'a>) -> Re
     match name {
         "check" => Request::Check(common_arguments(found)),
         "explain" => Request::Explain(explain_arguments(found)),
-        "validate" => object_request(alloc, ObjectCommand::Validate, found),
+        "validate" => object_request(alloc, validate_request(found), found),
         "prune" => object_request(alloc, ObjectCommand::Prune, found),
         "default" => object_request(alloc, ObjectCommand::Default, found),
         "leaves" => object_request(alloc, ObjectCommand::Leaves, found),
@@ -64,8 +64,19 @@ fn request_of_named<'a>(alloc: Global, name: &str, found: &ArgMatches<'a>) -> Re
     }
 }
 
+/// What `validate` is asked, with its option.
+fn validate_request(found: &ArgMatches<'_>) -> ObjectCommand
+    ensures name { object_command_name result ≡ codes "validate" }
+    ensures options { HasOptions (rows_of (found_of found.now)) result }
+{
+    ObjectCommand::Validate {
+        strict: found.get_flag("strict"),
+    }
+}
+
 /// The request of a command on an object, which may read the standard input for one of its two inputs.
 fn object_request<'a>(alloc: Global, command: ObjectCommand, found: &ArgMatches<'a>) -> Request<'a>
+    requires { HasOptions (rows_of (found_of found.now)) command }
     ensures { IsCommand (Some (object_command_name command, rows_of (found_of found.now))) result }
 {
     let arguments = object_arguments(command, found);
@@ -122,8 +133,7 @@ fn crdx_command<'a>(alloc: Global) -> Result<Command<'a>, AllocError>
     let check = crd_command(alloc, "check", help::CHECK);
     let command = add_command(command, check);
     let command = add_command(command, explain_command(alloc));
-    let validate = object_command(alloc, "validate", help::VALIDATE);
-    let command = add_command(command, validate);
+    let command = add_command(command, validate_command(alloc));
     let prune = object_command(alloc, "prune", help::PRUNE);
     let command = add_command(command, prune);
     let default = object_command(alloc, "default", help::DEFAULT);
@@ -285,6 +295,18 @@ fn object_command<'a>(
     add_argument(command, optional_argument(alloc, "OBJECT", help::OBJECT))
 }
 
+/// The arguments that `validate` takes.
+fn validate_command<'a>(alloc: Global) -> Result<Command<'a>, AllocError>
+    ensures app { IfOk result (λ c. app_of c ≡ validate_app) }
+    ensures local { IfOk result (λ c. (out-Command c).has_globals ≡ false) }
+{
+    let command = object_command(alloc, "validate", help::VALIDATE);
+    add_argument(
+        command,
+        flag(alloc, "strict", help::STRICT, help::STRICT_LONG),
+    )
+}
+
 /// The arguments that `sample` takes.
 fn sample_command<'a>(alloc: Global) -> Result<Command<'a>, AllocError>
     ensures app { IfOk result (λ c. app_of c ≡ sample_app) }
@@ -353,6 +375,7 @@ fn explain_arguments<'a>(matches: &ArgMatches<'a>) -> ExplainArguments<'a>
 }
 
 fn object_arguments<'a>(command: ObjectCommand, matches: &ArgMatches<'a>) -> ObjectArguments<'a>
+    requires { HasOptions (rows_of (found_of matches.now)) command }
     ensures { AreObjectArguments command (rows_of (found_of matches.now)) result }
 {
     ObjectArguments {

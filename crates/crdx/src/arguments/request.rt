@@ -46,7 +46,10 @@ pub struct ExplainArguments<'a> {
 #[derive(Clone, Copy, Drop)]
 pub enum ObjectCommand {
     /// Whether it is valid, and what is wrong with it.
-    Validate,
+    Validate {
+        /// Whether `--strict` is given: a member that pruning drops is a fault too.
+        strict: bool,
+    },
     /// The object without what pruning drops.
     Prune,
     /// The object pruned, and with its defaults.

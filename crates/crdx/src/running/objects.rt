@@ -6,6 +6,7 @@ ghost use Rattle.schema.specs.Nodes.View.{node_of};
 ghost use Rattle.stored.specs.Objects.AllFaults.{reported};
 ghost use Rattle.stored.specs.Objects.Leaves.{elements_of};
 ghost use Rattle.crdx.specs.Internal.Cause.{IsInputCause, IsDocumentCause, IsObjectCause};
+ghost use Rattle.crdx.specs.Internal.Found.{AreFound};
 ghost use Rattle.crdx.specs.Output.Line.{line};
 ghost use Rattle.crdx.specs.Program.Documents.{file_name};
 ghost use Rattle.crdx.specs.Program.Envelope.{body_of, IsJoined};
@@ -27,7 +28,9 @@ use crate::running::lines::{Lines, all_lines};
 use jtree::Tree;
 use schema::Node;
 use std::alloc::{AllocError, Global};
-use stored::{Fault, Leaf, complete, faults, leaves, prune};
+use stored::{
+    Fault, Leaf, complete, faults, leaves, prune, strict_faults, strictly_valid_is_pruned,
+};
 
 /// What is asked about an object, whose envelope is taken off before it is judged, and put back where it is printed. Inputs are
 /// judged in the order CustomResourceDefinition, its schema, object, and the first refusal ends the run.
@@ -81,9 +84,9 @@ fn answer_of(
 {
     let envelope = split(&mut document);
     match command {
-        ObjectCommand::Validate => {
+        ObjectCommand::Validate { strict } => {
             drop(envelope);
-            let answer = validate(alloc, node, &document);
+            let answer = validate(alloc, node, &document, strict);
             drop(document);
             answer
         }
@@ -112,11 +115,13 @@ fn answer_of(
 }
 
 /// `valid`, or a line for each fault.
-fn validate(alloc: Global, node: &Node, body: &Tree) -> Result<Answer, Cause>
-    ensures answer { IfOk result (λ a. (document : Data) → body_of document ≡ data_of body.now → IsObjectAnswer (node_of node.now) document Validate a.status (string_bytes a.text)) }
+fn validate(alloc: Global, node: &Node, body: &Tree, strict: bool) -> Result<Answer, Cause>
+    ensures answer { IfOk result (λ a. (document : Data) → body_of document ≡ data_of body.now → IsObjectAnswer (node_of node.now) document (Validate strict) a.status (string_bytes a.text)) }
     ensures memory { IfErr result (λ cause. cause ≡ NoMemory) }
 {
-    let found = faults(alloc, node, body)?;
+    // for its contract alone
+    strictly_valid_is_pruned();
+    let found = find_faults(alloc, node, body, strict)?;
     if found.as_slice().is_empty() {
         Ok(Answer {
             status: 0,
@@ -127,6 +132,22 @@ fn validate(alloc: Global, node: &Node, body: &Tree) -> Result<Answer, Cause>
             status: 1,
             text: all_lines(alloc, found.as_slice())?,
         })
+    }
+}
+
+/// The faults of a body, or its strict ones.
+fn find_faults(
+    alloc: Global,
+    node: &Node,
+    body: &Tree,
+    strict: bool,
+) -> Result<Vec<Fault>, AllocError>
+    ensures { IfOk result (λ found. AreFound strict (node_of node.now) (data_of body.now) found.items) }
+{
+    if strict {
+        strict_faults(alloc, node, body)
+    } else {
+        faults(alloc, node, body)
     }
 }
 

@@ -14,7 +14,7 @@ use std::test::Fail;
 
 // A name, a command line, and what it asks for: the definition, the version, and the object, or the pools, the sample to go on
 // from, the name, the limit and the count. What is read of the standard input is (input), and - is nothing.
-static REQUESTS: [(&str, &str, &str); 27] = [
+static REQUESTS: [(&str, &str, &str); 28] = [
     (
         "a sample",
         "crdx sample c.json v1",
@@ -102,6 +102,11 @@ static REQUESTS: [(&str, &str, &str); 27] = [
         "validate c.json v1 o.json",
     ),
     (
+        "a strict validation, after the inputs",
+        "crdx validate c.json v1 --large o.json --strict",
+        "validate strictly c.json v1 large o.json",
+    ),
+    (
         "what is pruned of the standard input",
         "crdx prune c.json v1",
         "prune c.json v1 (input)",
@@ -151,7 +156,7 @@ static REQUESTS: [(&str, &str, &str); 27] = [
 const MISSING: &str = "error: the following required arguments were not provided:\n";
 
 // A name, a command line, and the first line of standard error. The status is 2.
-static MISTAKES: [(&str, &str, &str); 26] = [
+static MISTAKES: [(&str, &str, &str); 27] = [
     (
         "no command",
         "crdx",
@@ -213,6 +218,11 @@ static MISTAKES: [(&str, &str, &str); 26] = [
         "an option of another command",
         "crdx default crd.json v1 --pools pools.json",
         "error: unexpected argument '--pools' found\n",
+    ),
+    (
+        "strict pruning",
+        "crdx prune crd.json v1 --strict",
+        "error: unexpected argument '--strict' found\n",
     ),
     (
         "a third word",
@@ -367,10 +377,10 @@ static ANSWERS: [&str; 19] = [
 ];
 
 // The rules and the faults that a run can print: each begins a line of the help.
-static NUMBERS: [&str; 31] = [
+static NUMBERS: [&str; 32] = [
     "V01", "V02", "V03", "V04", "V05", "V06", "V07", "V08", "V09", "V10", "V11", "V12", "V13",
     "V14", "V15", "V16", "V17", "F01", "F02", "F03", "F04", "F05", "F06", "F07", "F08", "F09",
-    "F10", "F11", "F12", "F13", "F14",
+    "F10", "F11", "F12", "F13", "F14", "F15",
 ];
 
 /// The name of a file, or `(input)` for the standard input.
@@ -434,7 +444,8 @@ fn said(alloc: Global, request: &Request<'_>) -> Result<String, AllocError> {
             },
         ) => {
             let command = match command {
-                ObjectCommand::Validate => "validate",
+                ObjectCommand::Validate { strict: false } => "validate",
+                ObjectCommand::Validate { strict: true } => "validate strictly",
                 ObjectCommand::Prune => "prune",
                 ObjectCommand::Default => "default",
                 ObjectCommand::Leaves => "leaves",

@@ -1,5 +1,5 @@
 //! `validate`: all faults of an object, or that it is valid.
-use crate::support::harness::all_validated;
+use crate::support::harness::{all_strictly_validated, all_validated};
 use std::test::Fail;
 
 // A name, a schema, an object, and standard output: `valid` and the status 0, or the lines of all faults and the status 1.
@@ -222,6 +222,40 @@ F01 "/x~1\"~0" kind
     ),
 ];
 
+// As in `VALUES`, with `--strict`.
+static STRICT: [(&str, &str, &str, &str); 4] = [
+    (
+        "a misspelled field",
+        r#"{"type":"object","properties":{"spec":{"type":"object","required":["replicas"],"properties":{"replicas":{"type":"integer"}}}}}"#,
+        r#"{"spec":{"replcas":3}}"#,
+        r#"F15 "/spec/replcas" undeclared
+F12 "/spec/replicas" required
+"#,
+    ),
+    (
+        "a member that is not declared below a map, and one of the body",
+        r#"{"type":"object","properties":{"m":{"type":"object","additionalProperties":{"type":"object","properties":{"a":{"type":"integer"}}}}}}"#,
+        r#"{"m":{"p":{"a":"","z":null}},"z":{"a":""}}"#,
+        r#"F01 "/m/p/a" kind
+F15 "/m/p/z" undeclared
+F15 "/z" undeclared
+"#,
+    ),
+    (
+        "the envelope",
+        r#"{"type":"object","properties":{"spec":{"type":"object","properties":{"apiVersion":{"type":"string"}}}}}"#,
+        r#"{"apiVersion":"v1","kind":"Widget","metadata":{"name":"w"},"spec":{"kind":""}}"#,
+        r#"F15 "/spec/kind" undeclared
+"#,
+    ),
+    (
+        "an absent default and members that are kept",
+        r#"{"type":"object","properties":{"f":{"type":"integer","default":7},"o":{"type":"object","x-kubernetes-preserve-unknown-fields":true,"properties":{"a":{"type":"integer"}}}}}"#,
+        r#"{"kind":7,"o":{"b":1}}"#,
+        "valid\n",
+    ),
+];
+
 #[test]
 fn values(rt: HostRuntime) -> Result<(), Fail> {
     Ok(all_validated(&rt, rt.alloc(), &VALUES)?)
@@ -230,6 +264,11 @@ fn values(rt: HostRuntime) -> Result<(), Fail> {
 #[test]
 fn kinds(rt: HostRuntime) -> Result<(), Fail> {
     Ok(all_validated(&rt, rt.alloc(), &KINDS)?)
+}
+
+#[test]
+fn strict(rt: HostRuntime) -> Result<(), Fail> {
+    Ok(all_strictly_validated(&rt, rt.alloc(), &STRICT)?)
 }
 
 #[test]

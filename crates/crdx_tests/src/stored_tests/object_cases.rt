@@ -7,7 +7,8 @@ use std::alloc::{AllocError, Global};
 use std::process::Abort;
 use std::test::Fail;
 use stored::{
-    Fault, accept, becomes_one_tree, complete, faults, is_stored, prune, valid, violations,
+    Fault, accept, becomes_one_tree, complete, faults, is_stored, prune, strict_faults,
+    strictly_valid_is_pruned, valid, violations,
 };
 
 // A name, the schema of a field `x`, and values of the field: those that are valid there, and those that are not.
@@ -387,6 +388,95 @@ fn try_object(
 fn objects(rt: HostRuntime) -> Result<(), Fail> {
     for row in &OBJECTS {
         try_object(&rt, rt.alloc(), row)?;
+    }
+    Ok(())
+}
+
+// A name, a schema, an object, and its strict faults: a number and a pointer a line.
+static STRICT: [(&str, &str, &str, &str); 11] = [
+    (
+        "a member that is not declared, and what is below it",
+        r#"{"type":"object","properties":{"spec":{"type":"object","properties":{"a":{"type":"integer"}}}}}"#,
+        r#"{"spec":{"a":1,"b":{"c":{"d":1}}}}"#,
+        "15 /spec/b\n",
+    ),
+    (
+        "names before, between and after the fields",
+        r#"{"type":"object","required":["d"],"properties":{"b":{"type":"integer"},"d":{"type":"integer"}}}"#,
+        r#"{"a":null,"b":"","c":0,"e":[0]}"#,
+        "15 /a\n1 /b\n15 /c\n12 /d\n15 /e\n",
+    ),
+    (
+        "below a list and a map",
+        r#"{"type":"object","properties":{"l":{"type":"array","items":{"type":"object","nullable":true,"properties":{"a":{"type":"integer"}}}},"m":{"type":"object","additionalProperties":{"type":"object","properties":{"a":{"type":"integer"}}}}}}"#,
+        r#"{"l":[null,{"a":1,"z":null}],"m":{"p":{"y":1},"q":{"a":1}}}"#,
+        "15 /l/1/z\n15 /m/p/y\n",
+    ),
+    (
+        "a member that is kept, and one below a field beside it",
+        r#"{"type":"object","properties":{"spec":{"type":"object","x-kubernetes-preserve-unknown-fields":true,"properties":{"a":{"type":"object","properties":{}}}}}}"#,
+        r#"{"spec":{"a":{"y":1},"z":{"w":2}}}"#,
+        "15 /spec/a/y\n",
+    ),
+    (
+        "below a place of any value",
+        r#"{"type":"object","properties":{"x":{"x-kubernetes-preserve-unknown-fields":true}}}"#,
+        r#"{"x":{"a":[null,{"b":null}]},"y":1}"#,
+        "15 /y\n",
+    ),
+    (
+        "below a value of another kind",
+        r#"{"type":"object","properties":{"l":{"type":"array","items":{"type":"object","properties":{}}},"o":{"type":"object","properties":{}}}}"#,
+        r#"{"l":{"z":1},"o":null}"#,
+        "1 /l\n2 /o\n",
+    ),
+    (
+        "names in the order of their bytes, with a tilde and a slash",
+        r#"{"type":"object","properties":{"B":{"type":"integer"}}}"#,
+        r#"{"A~":1,"B":1,"a/b":1}"#,
+        "15 /A~0\n15 /a~1b\n",
+    ),
+    (
+        "an item that repeats another",
+        r#"{"type":"object","properties":{"m":{"type":"array","x-kubernetes-list-type":"map","x-kubernetes-list-map-keys":["k"],"items":{"type":"object","required":["k"],"properties":{"k":{"type":"string"}}}}}}"#,
+        r#"{"m":[{"k":"a"},{"j":1,"k":"a"}]}"#,
+        "13 /m/1\n15 /m/1/j\n",
+    ),
+    (
+        "a member too many",
+        r#"{"type":"object","properties":{"o":{"type":"object","maxProperties":1,"properties":{"a":{"type":"integer"}}}}}"#,
+        r#"{"o":{"a":1,"z":1}}"#,
+        "11 /o\n15 /o/z\n",
+    ),
+    (
+        "no field at all",
+        r#"{"type":"object","properties":{"o":{"type":"object"}}}"#,
+        r#"{"o":{"a":1,"b":2}}"#,
+        "15 /o/a\n15 /o/b\n",
+    ),
+    (
+        "a default that is absent",
+        r#"{"type":"object","properties":{"f":{"type":"integer","default":7}}}"#,
+        "{}",
+        "",
+    ),
+];
+
+/// The strict faults of an object: a number and a pointer a line.
+fn strictly_faulty(alloc: Global, row: &(&str, &str, &str, &str)) -> Result<String, Fail> {
+    let tree = Tree::from_bytes(alloc, row.2.as_bytes())?;
+    let schema = schema_of(alloc, row.1)?;
+    let found = strict_faults(alloc, schema.root(), &tree)?;
+    drop(schema);
+    Ok(fault_lines(alloc, found.as_slice())?)
+}
+
+#[test]
+fn strict(rt: HostRuntime) -> Result<(), Fail> {
+    strictly_valid_is_pruned();
+    for row in &STRICT {
+        let found = strictly_faulty(rt.alloc(), row);
+        is_said(&rt, found, row.3, "the strict faults", row.0)?;
     }
     Ok(())
 }

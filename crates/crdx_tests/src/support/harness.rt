@@ -311,11 +311,11 @@ fn try_field(
 fn try_validated(
     rt: &impl Abort,
     alloc: Global,
+    command: &str,
     row: &(&str, &str, &str, &str),
 ) -> Result<(), AllocError> {
     let (name, schema, object, out) = *row;
     let status = if out == "valid\n" { 0 } else { 1 };
-    let command = "crdx validate crd.json v1";
     try_run_by_schema(rt, alloc, &(name, command, schema, object, out, "", status))
 }
 
@@ -326,7 +326,19 @@ pub fn all_validated(
     rows: &[(&str, &str, &str, &str)],
 ) -> Result<(), AllocError> {
     for row in rows {
-        try_validated(rt, alloc, row)?;
+        try_validated(rt, alloc, "crdx validate crd.json v1", row)?;
+    }
+    Ok(())
+}
+
+/// The same with `--strict`.
+pub fn all_strictly_validated(
+    rt: &impl Abort,
+    alloc: Global,
+    rows: &[(&str, &str, &str, &str)],
+) -> Result<(), AllocError> {
+    for row in rows {
+        try_validated(rt, alloc, "crdx validate --strict crd.json v1", row)?;
     }
     Ok(())
 }

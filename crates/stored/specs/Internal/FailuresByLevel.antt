@@ -1,16 +1,23 @@
--- For private contracts: all failures of a value at its node in order, level by level, and how a walk reports them.
-use Rattle.std.specs.Prelude.{ℕ, suc, List, [], ◌∷◌, ◌++◌, map, Bool, false, Option, Some, None, if◌then◌else◌, string_bytes}
+-- For private contracts: all failures of a value at its node in order, level by level, and how a walk reports them. Members that
+-- pruning drops are among them in a strict walk.
+use Rattle.std.specs.Prelude.{ℕ, suc, List, [], ◌∷◌, ◌++◌, map, Bool, true, false, Option, Some, None, if◌then◌else◌, not, ◌&&◌, string_bytes}
 use Rattle.std.specs.Str.{bytes_eq}
 use Rattle.std.specs.Ordering.{is_lt}
 use Rattle.jtree.specs.Data.{Data, Items, no_items, item, Members, no_members, member}
 use Rattle.jtree.specs.Data as tree
 use Rattle.jtree.specs.Order.{text_cmp}
-use Rattle.jtree.specs.Path.{Step, name, index, item_at}
+use Rattle.jtree.specs.Path.{Step, name, index, Path, item_at}
 use Rattle.jtree.specs.Pointer.{pointer}
 use Rattle.schema.specs.Nodes.Node.{Node, node, object, map as map_of, list, Fields, no_fields, field}
-use Rattle.stored.specs.Objects.Fault.{Test, F01, F02, F03, F04, F05, F06, F07, F08, F09, F10, F11, F12, F13, F14, number, fails, are_alike, has_alike_before}
+use Rattle.stored.specs.Objects.Fault.{Test, F01, F02, F03, F04, F05, F06, F07, F08, F09, F10, F11, F12, F13, F14, F15, number, fails, are_alike, has_alike_before, HasFault}
 use Rattle.stored.specs.Objects.AllFaults.{Failure, Reported, reported}
+use Rattle.stored.specs.Objects.StrictFaults.{HasStrictFault}
 use Rattle.stored.specs.declared.all_faults.Report.{Report}
+
+-- what a walk finds
+abbrev pub FailsWithin : Bool → Node → Data → Path → Test → Type 0
+FailsWithin false N v = HasFault N v
+FailsWithin true N v = HasStrictFault N v
 
 -- ---- of the value itself
 
@@ -60,6 +67,21 @@ abbrev pub members_from : List ℕ → Members → Members
 members_from k no_members = no_members
 members_from k (member l d ms) = if is_lt (text_cmp l k) then members_from k ms else member l d ms
 
+-- the members after the first one, where that has the name
+abbrev pub members_past : List ℕ → Members → Members
+members_past k no_members = no_members
+members_past k (member l d ms) = if bytes_eq k l then ms else member l d ms
+
+-- members that are dropped, where any are
+abbrev pub dropped : Bool → Members → List Below
+dropped false ms = []
+dropped true ms = value_parts (λ d. here F15 ∷ []) ms
+
+-- of those at the beginning whose names come before one
+abbrev pub members_before : List ℕ → Members → Members
+members_before k no_members = no_members
+members_before k (member l d ms) = if is_lt (text_cmp l k) then member l d (members_before k ms) else no_members
+
 -- the first member, where it has the name
 abbrev pub first_at : List ℕ → Members → Option Data
 first_at k no_members = None
@@ -74,23 +96,24 @@ abbrev pub whole : Bool → Node → Data → List Below → List Failure
 whole repeated N v bs = own repeated N v ++ joined bs
 
 abbrev mutual
-  pub parts : Node → Data → List Below
-  parts (node nullable description (object fs preserves type bounds cs)) (tree.object ms) = field_parts fs ms
-  parts (node nullable description (map_of N type bounds)) (tree.object ms) = value_parts (λ d. whole false N d (parts N d)) ms
-  parts (node nullable description (list N type keys bounds)) (tree.list ds) =
-      item_parts (λ i d. whole (has_alike_before (are_alike type keys) i ds (item_at i ds)) N d (parts N d)) 0 ds
-  parts _ _ = []
+  pub parts : Bool → Node → Data → List Below
+  parts strict (node nullable description (object fs preserves type bounds cs)) (tree.object ms) = field_parts strict (strict && not preserves) fs ms
+  parts strict (node nullable description (map_of N type bounds)) (tree.object ms) = value_parts (λ d. whole false N d (parts strict N d)) ms
+  parts strict (node nullable description (list N type keys bounds)) (tree.list ds) =
+      item_parts (λ i d. whole (has_alike_before (are_alike type keys) i ds (item_at i ds)) N d (parts strict N d)) 0 ds
+  parts strict _ _ = []
 
-  -- fields and members are merged by name
-  pub field_parts : Fields → Members → List Below
-  field_parts no_fields ms = []
-  field_parts (field k N required default fs) ms =
-      record { step = name k; failures = at_field required (λ d. whole false N d (parts N d)) (first_at k (members_from k ms)) }
-      ∷ field_parts fs (members_from k ms)
+  -- fields and members are merged by name, and the members between fields may be dropped
+  pub field_parts : Bool → Bool → Fields → Members → List Below
+  field_parts strict drops no_fields ms = dropped drops ms
+  field_parts strict drops (field k N required default fs) ms =
+      dropped drops (members_before k ms)
+      ++ (record { step = name k; failures = at_field required (λ d. whole false N d (parts strict N d)) (first_at k (members_from k ms)) }
+      ∷ field_parts strict drops fs (members_past k (members_from k ms)))
 
 -- all failures, that the value repeats an earlier item among them
-abbrev pub found : Bool → Node → Data → List Failure
-found repeated N v = whole repeated N v (parts N v)
+abbrev pub found : Bool → Bool → Node → Data → List Failure
+found strict repeated N v = whole repeated N v (parts strict N v)
 
 -- ---- as it is reported
 

@@ -1,5 +1,5 @@
--- All faults of an object: each pair of a path and a number once, in path order and then by number (the order is this project's
--- own).
+-- All that is wrong with an object: each pair of a path and a number once, in path order and then by number (the order is this
+-- project's own).
 use Rattle.std.specs.Prelude.{◌≡◌, ℕ, List, map, All, AllPairs, Contains, string_bytes}
 use Rattle.std.specs.Ordering.{nat_cmp, ordering_then}
 use Rattle.std.specs.declared.cmp.Ordering.{Ordering}
@@ -20,9 +20,10 @@ pub record Failure : Type 0 where
 abbrev pub failure_cmp : Failure → Failure → Ordering
 failure_cmp f g = ordering_then (path_cmp f.path g.path) (nat_cmp (number f.test) (number g.test))
 
-pub record AreFailures (N : Node) (v : Data) (fs : List Failure) : Type 0 where
-  pub each : All (λ f. HasFault N v f.path f.test) fs
-  pub all : (path : Path) (t : Test) → HasFault N v path t → Contains fs (record { path = path; test = t })
+-- these are all the failures that there are, in order
+pub record AreFailures (Has : Path → Test → Type 0) (fs : List Failure) : Type 0 where
+  pub each : All (λ f. Has f.path f.test) fs
+  pub all : (path : Path) (t : Test) → Has path t → Contains fs (record { path = path; test = t })
   pub ascending : AllPairs (λ f g. failure_cmp f g ≡ Less) fs
 
 -- a fault as the pointer of its path and its number
@@ -36,6 +37,9 @@ reported f = record { path = string_bytes f.path; number = f.number }
 abbrev pub reported_of : Failure → Reported
 reported_of f = record { path = pointer f.path; number = number f.test }
 
--- the faults are all that is wrong, in order
+-- the faults report all failures, in order
+abbrev pub AreReported : (Path → Test → Type 0) → List Fault → Type 0
+AreReported Has faults = (fs : List Failure) × AreFailures Has fs × (map reported faults ≡ map reported_of fs)
+
 abbrev pub AreFaults : Node → Data → List Fault → Type 0
-AreFaults N v faults = (fs : List Failure) × AreFailures N v fs × (map reported faults ≡ map reported_of fs)
+AreFaults N v faults = AreReported (HasFault N v) faults

@@ -23,6 +23,8 @@ pub data Test : Type 0 where
   F08 F09 F10 F11 : Test
   -- `required`, items that repeat another, and junctors
   F12 F13 F14 : Test
+  -- a member that pruning drops, which strict faults alone have
+  F15 : Test
 
 abbrev pub number : Test → ℕ
 number F01 = 1
@@ -39,6 +41,7 @@ number F11 = 11
 number F12 = 12
 number F13 = 13
 number F14 = 14
+number F15 = 15
 
 -- ---- of the value itself
 
