@@ -1,3 +1,4 @@
+mod line_cases;
 mod refusal_cases;
 mod source_cases;
 mod tree_cases;

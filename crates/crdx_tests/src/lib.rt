@@ -5,6 +5,7 @@
 //! | `jtree_tests/tree_cases` | trees: read and written, their order, pointers, the value under a name, the last node |
 //! | `jtree_tests/refusal_cases` | why bytes are no document: a number and where it is, a line and a column, a length |
 //! | `jtree_tests/source_cases` | documents in pieces, sources that fail, and readers that are interrupted |
+//! | `jtree_tests/line_cases` | lines of a source: the last one, empty and long ones, and sources that fail |
 //! | `schema_tests/reading_cases` | definitions that are read or refused, and the form of each keyword |
 //! | `schema_tests/limit_cases` | schemas at each limit and past it |
 //! | `schema_tests/marker_cases` | the markers of lists and maps (V10 to V13) |

@@ -17,3 +17,4 @@ pub mod OtherNumber
 pub mod Reading
 pub mod ReadBack
 pub mod Sources
+pub mod LineLemmas

@@ -7,3 +7,4 @@ pub mod Code
 pub mod Measures
 pub mod LastText
 pub mod Steps
+pub mod LineParts

@@ -13,6 +13,7 @@ pub mod PartText
 pub mod Overwriting
 pub mod Failures
 pub mod Reads
+pub mod Lines
 pub mod Pointer
 pub mod Refusal
 pub mod Internal

@@ -4,6 +4,7 @@
 mod copy;
 mod fault;
 mod last;
+pub mod lines;
 mod nodes;
 mod order;
 mod other_number;

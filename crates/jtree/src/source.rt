@@ -96,7 +96,7 @@ fn read_on<T: Read>(reader: &mut T, buffer: &mut [u8]) -> io::Result<usize>
 }
 
 /// How many bytes a source is asked for at a time.
-const PIECE: usize = 8192;
+pub(crate) const PIECE: usize = 8192;
 
 /// All bytes up to the end of input, in whatever pieces they come; of more than `MOST_BYTES`, the first `MOST_BYTES + 1`.
 ///
