@@ -664,7 +664,13 @@ fn limits(rt: HostRuntime) -> Result<(), Fail> {
         let said = limit_said(rt.alloc(), *limit);
         is_said(&rt, said, wanted, "what is made", name)?;
     }
-    is_number(&rt, Meter::spent().steps(), u64::MAX, "the steps", "a spent meter");
+    is_number(
+        &rt,
+        Meter::spent().steps(),
+        u64::MAX,
+        "the steps",
+        "a spent meter",
+    );
     Ok(())
 }
 
