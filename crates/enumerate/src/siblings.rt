@@ -49,7 +49,7 @@ pub(crate) struct KeyRows<'a> {
     pub later: u64,
 }
 
-/// Which candidates are taken.
+/// Which candidates are used.
 #[derive(Clone, Copy)]
 pub(crate) enum Used<'a> {
     /// These are.

@@ -1,4 +1,4 @@
--- Which of a leaf's candidates are free, where some values are taken.
+-- Which of a leaf's candidates are free, where some values are used.
 use Rattle.std.specs.Prelude.{◌<◌, ℕ, List, Bool, true, false, map, filter, length, reverse, Contains, Option, Some, None}
 use Rattle.std.specs.Borrow.{Bor}
 use Rattle.jtree.specs.Data.{Data}
