@@ -73,6 +73,7 @@ asks 'the calls of rt' calls 'low: lib' 'middle: lib' 'crdx_cli: run -- --versio
 asks 'standard output' out '<check><--help><two words><> and standard input'
 asks 'standard error of a build' err \
     "crdx: proving and building the program, which takes 20 to 45 minutes where nothing is kept yet; rt writes to $root/out/build.log" \
+    'crdx: Ctrl-C stops the build, and the next call goes on from there' \
     'crdx: crate 1 of 3: low' 'crdx: crate 2 of 3: middle' 'crdx: crate 3 of 3: crdx_cli' 'on standard error'
 asks 'the log' repository/out/build.log 'rt says a word' 'rt says a word' 'rt says a word'
 
