@@ -109,6 +109,21 @@ impl<Z: SizeSet> Plan<Z> {
         }
     }
 
+    /// The schema and the pools, given back.
+    pub fn into_parts(self) -> (Schema, Pools)
+        ensures schema { result.0 ≡ self.root }
+        ensures pools { result.1 ≡ self.pools }
+        ensures limit { (1 ≤ self.limit) × (self.limit < Z.BITS) }
+    {
+        let Plan {
+            schema,
+            pools,
+            arena: _,
+            root: _,
+        } = self;
+        (schema, pools)
+    }
+
     /// The node of the root.
     pub fn root(&self) -> PlanNode
         ensures number { result < length (sites_of self.now.pools self.now.root) }

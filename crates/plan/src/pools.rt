@@ -2,7 +2,7 @@ use crate::fault::PFault;
 use crate::pool_form::check_form;
 use crate::pool_limits::PoolLimits;
 use crate::pool_sizes::oversized_pool;
-use jtree::{Members, Text, Tree};
+use jtree::{Member, Members, Text, Tree};
 use std::alloc::{AllocError, Global};
 use std::marker::Model;
 
@@ -57,7 +57,7 @@ impl Pools {
     ghost use Rattle.std.specs.Int.{w64};
     ghost use Rattle.jtree.specs.Data.{IsTree, no_members};
     ghost use Rattle.jtree.specs.View.{data_of};
-    ghost use Rattle.plan.specs.Pools.Pools.{standard, AreSmall, list_at as list_of, fixed_at as fixed_of, is_present as is_present_of};
+    ghost use Rattle.plan.specs.Pools.Pools.{standard, AreSmall, list_at as list_of, fixed_at as fixed_of, is_present as is_present_of, with_paths as with_paths_of};
     ghost use Rattle.plan.specs.Pools.Document.{HasForm, pools_of};
     ghost use Rattle.plan.specs.Pools.PoolsFault.{IsPoolsFault};
 
@@ -117,6 +117,26 @@ impl Pools {
             fixed: no_members(alloc),
             present: Vec::new(alloc),
         }
+    }
+
+    /// A copy of these pools with other fixed values and other paths that are always there. `AllocError` where an allocation fails.
+    pub fn with_paths(
+        &self,
+        alloc: Global,
+        fixed: Members,
+        present: Vec<Text>,
+    ) -> Result<Pools, AllocError>
+        ensures { IfOk result (λ p. p ≡ with_paths_of self.now fixed present.items) }
+    {
+        Ok(Pools {
+            integers: integers_from(alloc, self.integers.as_slice())?,
+            strings: copies_of(alloc, self.strings())?,
+            names: copies_of(alloc, self.names())?,
+            any: trees_of(alloc, self.any.as_slice())?,
+            paths: members_from(alloc, &self.paths)?,
+            fixed,
+            present,
+        })
     }
 
     /// The integers, as the document has them: repeats among them.
@@ -251,6 +271,26 @@ fn texts_of(alloc: Global, entries: &[Tree]) -> Result<Vec<Text>, AllocError>
     Ok(texts)
 }
 
+fn integers_from(alloc: Global, integers: &[i64]) -> Result<Vec<i64>, AllocError>
+    ensures { IfOk result (λ v. v.items ≡ integers.now) }
+{
+    let mut copies = Vec::with_capacity(alloc, integers.len())?;
+    for number in integers {
+        copies.push(*number)?;
+    }
+    Ok(copies)
+}
+
+fn copies_of(alloc: Global, texts: &[Text]) -> Result<Vec<Text>, AllocError>
+    ensures { IfOk result (λ v. v.items ≡ texts.now) }
+{
+    let mut copies = Vec::with_capacity(alloc, texts.len())?;
+    for text in texts {
+        copies.push(text.copy(alloc)?)?;
+    }
+    Ok(copies)
+}
+
 fn trees_of(alloc: Global, entries: &[Tree]) -> Result<Vec<Tree>, AllocError>
     ensures { IfOk result (λ v. v.items ≡ entries.now) }
 {
@@ -279,6 +319,18 @@ fn members_in(alloc: Global, tree: Tree) -> Members
         Tree::Object(members) => members,
         _ => no_members(alloc),
     }
+}
+
+fn members_from(alloc: Global, members: &Members) -> Result<Members, AllocError>
+    ensures { IfOk result (λ ms. ms ≡ members.now) }
+{
+    let mut copies = Vec::with_capacity(alloc, members.members.len())?;
+    for member in &members.members {
+        let name = member.name.copy(alloc)?;
+        let tree = member.tree.copy(alloc).map_err(|_| AllocError)?;
+        copies.push(Member { name, tree })?;
+    }
+    Ok(Members { members: copies })
 }
 
 fn no_members(alloc: Global) -> Members

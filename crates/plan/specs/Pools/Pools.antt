@@ -38,6 +38,10 @@ fixed_at text P = option_and_then entries_in (member_at text P.fixed)
 abbrev pub is_present : List ℕ → Pools → Bool
 is_present text P = is_among text P.present
 
+-- the same pools with other fixed values and other paths that are always there
+abbrev pub with_paths : Pools → Members → List (List ℕ) → Pools
+with_paths P fixed present = record { integers = P.integers; strings = P.strings; names = P.names; any = P.any; paths = P.paths; fixed = fixed; present = present }
+
 -- the most integers, strings, trees of any kind, or values at a path; the most names; and the most paths under each of `paths`,
 -- `fixed` and `present`
 abbrev pub standard : PoolLimits

@@ -1,0 +1,62 @@
+-- The paths of the narrowed pools are good.
+use Rattle.std.proofs.Common.{◌≡◌, ◌≢◌, ◌⊎◌, ℕ, List, [], ◌∷◌, ◌++◌, Bool, true, false, Option, Some, None, refl, sym, ap, subst, ◌∙◌, inl, inr, append_assoc, append-nil, All, Contains}
+use Rattle.std.specs.Prelude.{option_and_then}
+use Rattle.std.specs.Str.{bytes_eq}
+use Rattle.std.proofs.lemmas.List.Elements.{All-cons, All-nil, All-contains, Contains-append_cases}
+use Rattle.jtree.specs.Data.{Data, Members, no_members, member}
+use Rattle.jtree.specs.Path.{member_at}
+use Rattle.jtree.specs.Internal.Lookups.{bool_cases, option_cases}
+use Rattle.schema.specs.Nodes.Node.{Node}
+use Rattle.schema.specs.Nodes.ByPlace.{node_below, node_at}
+use Rattle.explain.specs.Paths.FieldPath.{FieldStep, FieldPath, place_step, place_of}
+use Rattle.explain.specs.Paths.PathText.{path_text, step_text}
+use Rattle.explain.specs.Fields.Declared.{IsDeclared}
+use Rattle.explain.specs.Fields.PathFault.{IsTextOf}
+use Rattle.plan.specs.Pools.Pools.{Pools}
+use Rattle.plan.specs.Pools.PlanFault.{HasName, AreGood, IsDeclaredPath, HasGoodPaths}
+use Rattle.plan.specs.Samples.Site.{below}
+use Rattle.cover.specs.Internal.Narrowed.{beginnings, rest_at, kept_list, kept_lists, narrowed}
+use Rattle.cover.proofs.PathLemmas.{text_below, append_one}
+
+-- a node on the way
+node_before : (N : Node) (a b : FieldPath) (M : Node) → node_at N (place_of (a ++ b)) ≡ Some M → (L : Node) × (node_at N (place_of a) ≡ Some L)
+node_before N [] b M e = (N, refl)
+node_before N (s ∷ a) b M e = elim (option_cases (node_below N (place_step s))) [
+  | inl none ↦ absurd (let h = rw none at e in cc)
+  | inr some ↦
+      let there = node_before some.0 a b M (rw some.1 at e) in
+      (there.0, rw some.1 there.1)
+]
+
+not_empty : (a : FieldPath) (s : FieldStep) → a ++ s ∷ [] ≢ []
+not_empty [] s e = cc
+not_empty (t ∷ a) s e = cc
+
+declared_before : (root : Node) (a : FieldPath) (s : FieldStep) (b : FieldPath) (M : Node) → node_at root (place_of (a ++ s ∷ b)) ≡ Some M → IsDeclared root (a ++ s ∷ [])
+declared_before root a s b M e = (not_empty a s, node_before root (a ++ s ∷ []) b M (subst (λ p. node_at root (place_of p) ≡ Some M) (sym (append_one a s b)) e))
+
+beginnings_declared : (root : Node) (front p : FieldPath) (M : Node) → node_at root (place_of (front ++ p)) ≡ Some M → All (IsDeclaredPath root) (beginnings (path_text front) p)
+beginnings_declared root front [] M e = All-nil (IsDeclaredPath root)
+beginnings_declared root front (s ∷ p) M e = All-cons (IsDeclaredPath root) (below (path_text front) s) (beginnings (below (path_text front) s) p)
+    (front ++ s ∷ [], sym (text_below front s), declared_before root front s p M e)
+    (subst (λ t. All (IsDeclaredPath root) (beginnings t p)) (sym (text_below front s))
+    (beginnings_declared root (front ++ s ∷ []) p M (subst (λ q. node_at root (place_of q) ≡ Some M) (sym (append_one front s p)) e)))
+
+kept_name : (p : FieldPath) (ms : Members) (text : List ℕ) → HasName (kept_lists p ms) text → HasName ms text
+kept_name p no_members text has = absurd (let e = has.1 in cc)
+kept_name p (member k d ms) text has = elim (bool_cases (bytes_eq text k)) [
+  | inl same ↦ (d, rw same refl)
+  | inr other ↦
+      let there = kept_name p ms text (has.0, rw other at has.1) in
+      (there.0, rw other there.1)
+]
+
+pub narrowed_good : (root : Node) (P : Pools) (p : FieldPath) → IsDeclared root p → HasGoodPaths root P → HasGoodPaths root (narrowed P p)
+narrowed_good root P p declared good = record {
+  paths = good.paths;
+  fixed = λ text has. good.fixed text (kept_name p P.fixed text has);
+  present = λ text has. elim (Contains-append_cases P.present (beginnings [] p) text has) [
+    | inl old ↦ good.present text old
+    | inr new ↦ All-contains (IsDeclaredPath root) (beginnings [] p) text (beginnings_declared root [] p declared.1.0 declared.1.1) new
+  ];
+}

@@ -1,0 +1,16 @@
+-- The lemmas of this crate, by subject.
+-- Ways: `WayLemmas` says where paths lead from a node, `PathLemmas` which texts are those of the beginnings of a path.
+-- Narrowed pools: `PoolLemmas` says what they ask for and fix, `KeptLemmas` what is left of lists of fixed values, `ThereLemmas` where
+-- the rest of a path is there, `NarrowLemmas` what is over them, `SampleLemmas` that their samples are those in which the path is
+-- there, `GoodLemmas` that their paths are good.
+-- Covers: `LineLemmas` says what a path adds, `CoverLemmas` is the law `lines_cover`.
+pub mod WayLemmas
+pub mod PathLemmas
+pub mod PoolLemmas
+pub mod KeptLemmas
+pub mod ThereLemmas
+pub mod NarrowLemmas
+pub mod SampleLemmas
+pub mod GoodLemmas
+pub mod LineLemmas
+pub mod CoverLemmas

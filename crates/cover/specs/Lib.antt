@@ -1,0 +1,5 @@
+-- What the contracts of this crate say, in words of its subject.
+pub mod There
+pub mod Cover
+pub mod View
+pub mod Internal
