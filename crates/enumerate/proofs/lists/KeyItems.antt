@@ -24,8 +24,7 @@ use Rattle.plan.specs.Samples.Question.{Question}
 use Rattle.enumerate.specs.Least.{IsLeast}
 use Rattle.enumerate.specs.View.{trees_of}
 use Rattle.enumerate.specs.Internal.Nodes.{site, IsPartOf, HasSizeAt, FreeLaw}
-use Rattle.plan.specs.Samples.Sizes.{nothing}
-use Rattle.enumerate.specs.Internal.Rows.{slots_from, ending_at, key_values, used_keys, AreUsed, IsOpen, IsRow}
+use Rattle.enumerate.specs.Internal.Rows.{slots_from, row_demand, key_values, used_keys, AreUsed, IsOpen, IsRow}
 use Rattle.enumerate.specs.Internal.Lists.{AreFirst, IsUnusedItem}
 use Rattle.enumerate.proofs.lists.UnusedItems.{own_keys, among_parts}
 use Rattle.enumerate.proofs.lists.Whole.{any_false, false_any}
@@ -114,25 +113,25 @@ module _ (q : Question) (i c : ℕ) (rule : RuleOfParts q.pools q.limit (site q 
   }
 
   -- an item can be added to fewer items than some list has: it has a key that is not used
-  pub items_open : FreeLaw → (counts : List ℕ) → AreCounts q.pools (filter is_key ss) counts → (ts us : List Tree) (n : ℕ) → length ts < 4294967296 → AreParts q.pools (site q c) (items_of ts) → are_apart (alike_at (site q i)) (items_of ts) ≡ true
-      → AreParts q.pools (site q c) (items_of us) → are_apart (alike_at (site q i)) (items_of us) ≡ true → length ts < length us → HasSizeAt q c n → IsOpen q.pools ss (ending_at q c) nothing (n - 1) (trees_of ts)
-  items_open law counts are ts [] n few parts h more other fewer size = absurd (omega (arith, fewer))
-  items_open law counts are ts (u ∷ us) n few parts h more other fewer size =
-      let r = row_of n size.part (record { part = size.is; nodes_are = size.nodes_are }) in
-      let keys = apart (u ∷ us) more other in
-      let all = tuples (u ∷ us) more in
-      let used = items_used ts few parts h in
-      let first = All-contains (IsTuple q.pools (filter is_key ss)) (used_keys ss (trees_of (u ∷ us))) (key_under ss (data_of u)) all (contains (used_keys ss (trees_of (u ∷ us))) (key_under ss (data_of u)) (inl refl)) in
-      let rest = (law q.pools (filter is_key ss) (used_keys ss (trees_of us)) counts (tuples us more.1) (all_pairs (λ t w. t ≢ w) _ keys.1) are).0 (key_under ss (data_of u), (first, λ k. keys.0 (key_under ss (data_of u)) (contained _ _ k) refl)) in
-      let a = length-map (trees_of us) (key_under ss) in
-      let b = length-map us (λ t. data_of t) in
-      let x = length-map (trees_of ts) (key_under ss) in
-      let y = length-map ts (λ t. data_of t) in
-      record {
-        known = used;
-        rest = record { fillings = r.fillings; are = r.rest.are; ends = r.rest.ends; nodes_are = r.rest.nodes_are };
-        free = (law q.pools (filter is_key ss) (used_keys ss (trees_of ts)) counts used.tuples used.apart are).1 (omega (arith, a, b, x, y, fewer, rest));
-      }
+  module _ (law : FreeLaw) (counts : List ℕ) (are : AreCounts q.pools (filter is_key ss) counts) where
+    pub items_open : (ts us : List Tree) (n : ℕ) → length ts < 4294967296 → length ts < length us → AreFirst q i c (items_of ts) → AreFirst q i c (items_of us) → HasSizeAt q c n → IsOpen q.pools ss (row_demand q c (n - 1) (trees_of ts))
+    items_open ts [] n few fewer old new size = absurd (omega (arith, fewer))
+    items_open ts (u ∷ us) n few fewer old new size =
+        let r = row_of n size.part (record { part = size.is; nodes_are = size.nodes_are }) in
+        let keys = apart (u ∷ us) new.are new.apart in
+        let all = tuples (u ∷ us) new.are in
+        let used = items_used ts few old.are old.apart in
+        let first = All-contains (IsTuple q.pools (filter is_key ss)) (used_keys ss (trees_of (u ∷ us))) (key_under ss (data_of u)) all (contains (used_keys ss (trees_of (u ∷ us))) (key_under ss (data_of u)) (inl refl)) in
+        let rest = (law q.pools (filter is_key ss) (used_keys ss (trees_of us)) counts (tuples us new.are.1) (all_pairs (λ t w. t ≢ w) _ keys.1) are).0 (key_under ss (data_of u), (first, λ k. keys.0 (key_under ss (data_of u)) (contained _ _ k) refl)) in
+        let a = length-map (trees_of us) (key_under ss) in
+        let b = length-map us (λ t. data_of t) in
+        let x = length-map (trees_of ts) (key_under ss) in
+        let y = length-map ts (λ t. data_of t) in
+        record {
+          known = used;
+          rest = record { fillings = r.fillings; are = r.rest.are; ends = r.rest.ends; nodes_are = r.rest.nodes_are };
+          free = (law q.pools (filter is_key ss) (used_keys ss (trees_of ts)) counts used.tuples used.apart are).1 (omega (arith, a, b, x, y, fewer, rest));
+        }
 
 -- ---- the items of a list as trees
 
@@ -156,7 +155,7 @@ items_from (item d ds) = λ k. item (data_from d k) (items_from ds k)
 module _ (q : Question) (i c : ℕ) (whole : RuleOfParts q.pools q.limit (site q i)) (rule : RuleOfParts q.pools q.limit (site q c)) (sound : HasSoundParts q.pools (site q c)) (items : AreMapItems q.pools (site q i) (site q c)) where
   -- where some list has one item more
   pub item_open : FreeLaw → (counts : List ℕ) → AreCounts q.pools (filter is_key (slots_from q c 0)) counts → (ts : List Tree) (n m : ℕ) → q.limit < 4294967296 → AreFirst q i c (items_of ts) → HasMore q.pools q.limit (site q i) (length ts + 1) m → HasSizeAt q c n
-      → IsOpen q.pools (slots_from q c 0) (ending_at q c) nothing (n - 1) (trees_of ts)
+      → IsOpen q.pools (slots_from q c 0) (row_demand q c (n - 1) (trees_of ts))
   item_open law counts are ts n m room first more size =
       let part = elim ((whole.list (site q c) (tree.list more.items) first.item more.fits).0 more.part) as (λ _. IsListPart q.pools q.limit (site q i) (site q c) (tree.list more.items)) [
         | inl null ↦ let no = null.0 in absurd (cc)
@@ -169,5 +168,5 @@ module _ (q : Question) (i c : ℕ) (whole : RuleOfParts q.pools q.limit (site q
       let enough : fault.items_count (items_of us) ≡ fault.items_count more.items = ap fault.items_count (back ∙ same) in
       let few = few_items more.items in
       let fits = more.fits in
-      items_open q i c rule sound items law counts are ts us n (omega (arith, more.many, few, fits, room)) first.are first.apart (subst (AreParts q.pools (site q c)) (sym back) part.are) (subst (λ ds. are_apart (alike_at (site q i)) ds ≡ true) (sym back) part.apart)
-      (omega (arith, more.many, count, enough)) size
+      let all = subst (AreFirst q i c) (sym back) (record { item = first.item; are = part.are; apart = part.apart }) in
+      items_open q i c rule sound items law counts are ts us n (omega (arith, more.many, few, fits, room)) (omega (arith, more.many, count, enough)) first all size

@@ -23,7 +23,7 @@ use Rattle.plan.specs.Samples.RuleOfParts.{RuleOfParts, AreParts, alike_at}
 use Rattle.plan.specs.Samples.NoDeadEnd.{NoDeadEnd, items_then}
 use Rattle.plan.specs.Samples.Question.{Question}
 use Rattle.enumerate.specs.Least.{IsLeast, IsNext}
-use Rattle.enumerate.specs.Internal.Nodes.{HasSizeAt, site, IsNodeOf, IsSplit}
+use Rattle.enumerate.specs.Internal.Nodes.{site, IsNodeOf, IsSplit}
 use Rattle.enumerate.specs.Internal.Following.{ItemsContinue, GrownItemsContinue}
 use Rattle.enumerate.specs.Internal.Lists.{AreItems, AreFirst, CanFollow, IsUnusedItem, AddsItems, FitsItem, GrowsItems, AreGrown}
 use Rattle.enumerate.specs.declared.walk.NextParts.{NextParts}
@@ -310,11 +310,6 @@ split_same limit m A B P Q top a b n = (
   λ h. ((a n).1 (omega (arith, h.1.1.1, top), h.0), (h.1.0, ((b h.1.0).1 (omega (arith, h.1.1.1, top), h.1.1.0), h.1.1.1))),
 )
 
--- the same of an item and those after it
-pub fits_same : (q : Question) (i c t len m : ℕ) (A B : ℕ → Type 0) → t ≡ len → m ≤ q.limit → IsUpTo q.limit A (HasSizeAt q c) → IsUpTo q.limit B (HasMore q.pools q.limit (site q i) (len + 1)) → (n : ℕ) → IsSplit A B m n ↔ FitsItem q i c t m n
-fits_same q i c t len m A B same top sizes more =
-    split_same q.limit m A B (HasSizeAt q c) (HasMore q.pools q.limit (site q i) (t + 1)) top sizes (subst (λ k. IsUpTo q.limit B (HasMore q.pools q.limit (site q i) (k + 1))) (sym same) more)
-
 pub least_from_same : (A B : ℕ → Type 0) (from n : ℕ) → ((i : ℕ) → A i ↔ B i) → IsLeastFrom A from n → IsLeastFrom B from n
 least_from_same A B from n same h = (h.0, (same n).0 h.1, λ i low lt b. h.2 i low lt ((same i).1 b))
 
@@ -371,17 +366,18 @@ module _ (q : Question) (i c : ℕ) (rule : RuleOfParts q.pools q.limit (site q 
       absurd (fits_first m old some h ds.0 ds.1 g.1)
 
 -- what can follow an item that was put after the others
-pub follow_item : (q : Question) (i c m n : ℕ) (old new : List Tree) (t : Tree) → AreFirst q i c (items_of old) → 1 + items_count (items_of old) + m ≤ q.limit → FitsItem q i c (length old) m n → IsUnusedItem q i c n (items_of old) (data_of t)
-    → new ≡ old ++ t ∷ [] → CanFollow q i c (m - n) (items_of new)
-follow_item q i c m n old new t first within fit unused is =
-    let pushed = items_pushed old new t is in
-    let after : fit.1.0 ≡ m - n = omega (arith, fit.1.1.1) in
-    let count : length old + 1 ≡ fault.items_count (items_of new) = rw pushed (omega (arith, then_count (items_of old) (item (data_of t) no_items), counted old)) in
-    record {
-      first = subst (AreFirst q i c) (sym pushed) (first_more q i c n (items_of old) (data_of t) first unused);
-      more = subst (λ k. HasMore q.pools q.limit (site q i) k (m - n)) count (subst (HasMore q.pools q.limit (site q i) (length old + 1)) after fit.1.1.0);
-      within = subst (λ ds. 1 + items_count ds + (m - n) ≤ q.limit) (sym pushed) (omega (arith, then_nodes (items_of old) (item (data_of t) no_items), unused.part.nodes_are, within, fit.1.1.1));
-    }
+module _ (q : Question) (i c : ℕ) where
+  pub follow_item : (m n : ℕ) (old new : List Tree) (t : Tree) → AreFirst q i c (items_of old) → 1 + items_count (items_of old) + m ≤ q.limit → FitsItem q i c (length old) m n → IsUnusedItem q i c n (items_of old) (data_of t)
+      → new ≡ old ++ t ∷ [] → CanFollow q i c (m - n) (items_of new)
+  follow_item m n old new t first within fit unused is =
+      let pushed = items_pushed old new t is in
+      let after : fit.1.0 ≡ m - n = omega (arith, fit.1.1.1) in
+      let count : length old + 1 ≡ fault.items_count (items_of new) = rw pushed (omega (arith, then_count (items_of old) (item (data_of t) no_items), counted old)) in
+      record {
+        first = subst (AreFirst q i c) (sym pushed) (first_more q i c n (items_of old) (data_of t) first unused);
+        more = subst (λ k. HasMore q.pools q.limit (site q i) k (m - n)) count (subst (HasMore q.pools q.limit (site q i) (length old + 1)) after fit.1.1.0);
+        within = subst (λ ds. 1 + items_count ds + (m - n) ≤ q.limit) (sym pushed) (omega (arith, then_nodes (items_of old) (item (data_of t) no_items), unused.part.nodes_are, within, fit.1.1.1));
+      }
 
 -- ---- nodes and their sites
 

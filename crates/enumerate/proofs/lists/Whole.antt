@@ -81,23 +81,19 @@ module _ (q : Question) (i : ℕ) (rule : RuleOfParts q.pools q.limit (site q i)
     pub list_longer : 1 < n → HasSizeAt q i n → (m : ℕ) × HasMore q.pools q.limit (site q i) 1 m
     list_longer more h = let a = list_more h in has_item q i a.items (omega (arith, a.nodes_are, more)) a.part a.fits
 
-pub list_first : (q : Question) (i n : ℕ) (rule : RuleOfParts q.pools q.limit (site q i)) → sort_of (site q i) ≡ sort.List → 1 ≤ n → n ≤ q.limit → (n ≡ 1 → admits_null q.pools (site q i) ≡ false) → (new : List Tree) → AddsItems q i (n - 1) [] new → IsLeast tree_cmp (IsPartOf q i n) (tree.list (items_of new))
-list_first q i n rule is_list some within no_null new a = subst (λ ts. IsLeast tree_cmp (IsPartOf q i n) (tree.list (items_of ts))) (sym a.is) (list_least q i rule is_list n some within no_null (items_of a.added) a.least)
+    pub list_first : (new : List Tree) → AddsItems q i (n - 1) [] new → IsLeast tree_cmp (IsPartOf q i n) (tree.list (items_of new))
+    list_first new a = subst (λ ts. IsLeast tree_cmp (IsPartOf q i n) (tree.list (items_of ts))) (sym a.is) (list_least (items_of a.added) a.least)
 
--- a list of a node has no items
-pub list_alone : (q : Question) (i n : ℕ) (rule : RuleOfParts q.pools q.limit (site q i)) → sort_of (site q i) ≡ sort.List → 1 ≤ n → n ≤ q.limit → (n ≡ 1 → admits_null q.pools (site q i) ≡ false) → n ≤ 1 → HasSizeAt q i n → IsLeast tree_cmp (IsPartOf q i n) (tree.list no_items)
-list_alone q i n rule is_list some within no_null few h =
-    let r = list_items q i rule is_list n some within no_null h.part (record { part = h.is; nodes_are = h.nodes_are }) in
-    let zero_left : n - 1 ≡ 0 = omega (arith, few) in
-    let none = none_follow q i no_items r.0 (subst (λ m. AreItems q i m no_items r.0) zero_left r.1.0) in
-    list_least q i rule is_list n some within no_null no_items (subst (λ m. IsLeast items_cmp (AreItems q i m no_items) no_items) (sym zero_left) none)
+    -- a list of a node has no items
+    pub list_alone : n ≤ 1 → HasSizeAt q i n → IsLeast tree_cmp (IsPartOf q i n) (tree.list no_items)
+    list_alone few h =
+        let r = list_items h.part (record { part = h.is; nodes_are = h.nodes_are }) in
+        let zero_left : n - 1 ≡ 0 = omega (arith, few) in
+        let none = none_follow q i no_items r.0 (subst (λ m. AreItems q i m no_items r.0) zero_left r.1.0) in
+        list_least no_items (subst (λ m. IsLeast items_cmp (AreItems q i m no_items) no_items) (sym zero_left) none)
 
-pub list_follow : (q : Question) (i c n : ℕ) (rule : RuleOfParts q.pools q.limit (site q i)) → sort_of (site q i) ≡ sort.List → item_site q.pools (site q i) ≡ Some (site q c) → 1 ≤ n → n ≤ q.limit → (n ≡ 1 → admits_null q.pools (site q i) ≡ false) → HasSizeAt q i n → CanFollow q i c (n - 1) no_items
-list_follow q i c n rule is_list item_is some within no_null h = record {
-  first = first_none q i c item_is;
-  more = list_more q i rule is_list n some within no_null h;
-  within = omega (arith, some, within);
-}
+    pub list_follow : (c : ℕ) → item_site q.pools (site q i) ≡ Some (site q c) → HasSizeAt q i n → CanFollow q i c (n - 1) no_items
+    list_follow c item_is h = record { first = first_none q i c item_is; more = list_more h; within = omega (arith, some, within) }
 
 -- ---- items that may not be in one list
 

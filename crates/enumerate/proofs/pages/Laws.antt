@@ -132,22 +132,21 @@ same_end q after count xs ys d e p r =
     ]
 
 -- what was lent is a beginning of the page
-pub lends_part : (q : Question) (first at : Option Data) (count lent : ℕ) (old new : List Data → Type 0) → ((ds : List Data) → old ds → new ds) → IsLent q first count lent old at
-    → (after : Option Data) → IsNextSample q after first → LendsPart q after count new
-lends_part q first at count lent old new keeps l after h = record {
-  items = l.items;
-  taken = keeps l.items l.taken;
-  part = λ whole end p. listed_begins q after count l.items whole end (l.page after h).listed p;
-}
+module _ (q : Question) (first after : Option Data) (count lent : ℕ) (start : IsNextSample q after first) where
+  pub lends_part : (at : Option Data) (old new : List Data → Type 0) → ((ds : List Data) → old ds → new ds) → IsLent q first count lent old at → LendsPart q after count new
+  lends_part at old new keeps l = record {
+    items = l.items;
+    taken = keeps l.items l.taken;
+    part = λ whole end p. listed_begins q after count l.items whole end (l.page after start).listed p;
+  }
 
--- the same with the sample at which the enumeration was, where it could not move on
-pub lends_part_with : (q : Question) (first : Option Data) (count lent : ℕ) (old new : List Data → Type 0) (v : Data) → ((ds : List Data) → old ds → new (ds ++ v ∷ [])) → lent < count → IsLent q first count lent old (Some v)
-    → (after : Option Data) → IsNextSample q after first → LendsPart q after count new
-lends_part_with q first count lent old new v takes room l after h = record {
-  items = l.items ++ v ∷ [];
-  taken = takes l.items l.taken;
-  part = λ whole end p. listed_begins q after count (l.items ++ v ∷ []) whole end (one_listed q after count l.items v (l.page after h) (omega (arith, room, l.counted))) p;
-}
+  -- the same with the sample at which the enumeration was, where it could not move on
+  pub lends_part_with : (old new : List Data → Type 0) (v : Data) → ((ds : List Data) → old ds → new (ds ++ v ∷ [])) → lent < count → IsLent q first count lent old (Some v) → LendsPart q after count new
+  lends_part_with old new v takes room l = record {
+    items = l.items ++ v ∷ [];
+    taken = takes l.items l.taken;
+    part = λ whole end p. listed_begins q after count (l.items ++ v ∷ []) whole end (one_listed q after count l.items v (l.page after start) (omega (arith, room, l.counted))) p;
+  }
 
 -- ---- larger limits
 

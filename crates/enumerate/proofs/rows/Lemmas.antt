@@ -14,14 +14,14 @@ use Rattle.jtree.specs.Internal.Rising.{Among, Rising, contained, contains, each
 use Rattle.plan.specs.Pools.Pools.{Pools}
 use Rattle.plan.specs.Samples.Part.{IsPart}
 use Rattle.plan.specs.Samples.Sites.{Slot}
-use Rattle.plan.specs.Samples.Sizes.{AreFillings, filled_nodes, Before, filled, state_after, Ending, MayEnd, CanFill}
+use Rattle.plan.specs.Samples.Sizes.{AreFillings, filled_nodes, Before, filled, state_after, MayEnd, CanFill}
 use Rattle.plan.specs.Samples.NoDeadEnd.{is_key, IsTuple, HasFree}
 use Rattle.plan.specs.Samples.Keys.{under, key_under, IsKeySlot, AreKeySlots}
 use Rattle.enumerate.specs.Internal.Candidates.{is_there, has_under, agreeing}
 use Rattle.std.specs.Ordering.{ordering_then}
 use Rattle.plan.specs.Sets.{IsLeastFrom, IsEmptyFrom}
 use Rattle.enumerate.specs.Least.{IsLeast, IsNext}
-use Rattle.enumerate.specs.Internal.Rows.{option_cmp, fill_cmp, key_values, used_keys, IsUnused, IsRest, AreUsed, still_used, IsValue, FitsSlot}
+use Rattle.enumerate.specs.Internal.Rows.{option_cmp, fill_cmp, key_values, used_keys, IsUnused, Demand, demand_after, CanMeet, IsRest, AreUsed, still_used, IsValue, FitsSlot}
 use Rattle.enumerate.proofs.walks.Least.{same_tree, own_tree, option_order, least_same, next_same, first_by_size, next_of_size, next_size, no_next_size, OutOrIn, left_out, first_in, next_in, in_after_out, none_after_out, least_pair, next_rest, next_part, no_next}
 
 -- ---- mapped and filtered lists
@@ -217,19 +217,6 @@ record Refilled (P : Pools) (ss : List Slot) (gs : List (Option Data)) (k : List
   nodes_are : filled_nodes fillings ≡ filled_nodes gs
   state_is : (x : Before) → state_after ss fillings x ≡ state_after ss gs x
 
-refilled_key : (P : Pools) (s : Slot) (ss : List Slot) (v : Data) (gs : List (Option Data)) (k : List Data) → s.key ≡ true → IsKeySlot P s → IsPart P s.site v → IsTuple P (s ∷ filter is_key ss) k
-    → ((l : List Data) → IsTuple P (filter is_key ss) l → Refilled P ss gs l) → Refilled P (s ∷ ss) (Some v ∷ gs) k
-refilled_key P s ss v gs [] key slot p t rest = absurd t
-refilled_key P s ss v gs (x ∷ k) key slot p t rest =
-    let r = rest k t.1 in
-    record {
-      fillings = Some x ∷ r.fillings;
-      are = (t.0, r.are);
-      key_is = rw (key, r.key_is) refl;
-      nodes_are = omega (arith, slot.one x t.0, slot.one v p, r.nodes_are);
-      state_is = λ y. r.state_is (filled s.bit y);
-    }
-
 refilled : (P : Pools) (ss : List Slot) (gs : List (Option Data)) (k : List Data) → AreKeySlots P ss → AreFillings P ss gs → IsTuple P (filter is_key ss) k → Refilled P ss gs k
 refilled P [] [] [] keys h t = record { fillings = []; are = tt; key_is = refl; nodes_are = refl; state_is = λ y. refl }
 refilled P [] [] (x ∷ k) keys h t = absurd t
@@ -239,46 +226,59 @@ refilled P (s ∷ ss) (None ∷ gs) k keys h t =
     let r = refilled P ss gs k (keys_after P s ss keys) h.1 (rw (keys_other s ss (no_key P s ss keys h.0)) at t) in
     record { fillings = None ∷ r.fillings; are = (h.0, r.are); key_is = r.key_is; nodes_are = r.nodes_are; state_is = r.state_is }
 refilled P (s ∷ ss) (Some v ∷ gs) k keys h t = elim (cases_Bool s.key) [
-  | inl key ↦ refilled_key P s ss v gs k key (key_here P s ss keys key) h.0 (rw key at t) (λ l is. refilled P ss gs l (keys_after P s ss keys) h.1 is)
+  | inl key ↦ first k key (rw key at t) (λ l is. refilled P ss gs l (keys_after P s ss keys) h.1 is)
   | inr other ↦
       let r = refilled P ss gs k (keys_after P s ss keys) h.1 (rw (keys_other s ss other) at t) in
       record { fillings = Some v ∷ r.fillings; are = (h.0, r.are); key_is = key_values_other s ss other v r.fillings ∙ r.key_is; nodes_are = ap (λ n. node_count v + n) r.nodes_are; state_is = λ y. r.state_is (filled s.bit y) }
 ]
+  where
+    first : (k : List Data) → s.key ≡ true → IsTuple P (s ∷ filter is_key ss) k → ((l : List Data) → IsTuple P (filter is_key ss) l → Refilled P ss gs l) → Refilled P (s ∷ ss) (Some v ∷ gs) k
+    first [] key t rest = absurd t
+    first (x ∷ k) key t rest =
+        let r = rest k t.1 in
+        let slot = key_here P s ss keys key in
+        record {
+          fillings = Some x ∷ r.fillings;
+          are = (t.0, r.are);
+          key_is = rw (key, r.key_is) refl;
+          nodes_are = omega (arith, slot.one x t.0, slot.one v h.0, r.nodes_are);
+          state_is = λ y. r.state_is (filled s.bit y);
+        }
 
 -- ---- where the slots can be filled
 
-pub some_rest : (P : Pools) (ss : List Slot) (end : Ending) (x : Before) (m : ℕ) (used : List Data) → AreKeySlots P ss → CanFill P ss end x m → HasFree P (filter is_key ss) (used_keys ss used) [] → (gs : List (Option Data)) × IsRest P ss end x m used gs
-some_rest P ss end x m used keys can free =
+pub some_rest : (P : Pools) (ss : List Slot) (d : Demand) → AreKeySlots P ss → CanMeet P ss d → HasFree P (filter is_key ss) (used_keys ss d.used) [] → (gs : List (Option Data)) × IsRest P ss d gs
+some_rest P ss d keys can free =
     let r = refilled P ss can.fillings free.0 keys can.are free.1.0 in
-    (r.fillings, record { are = r.are; ends = subst (MayEnd end) (sym (r.state_is x)) can.ends; nodes_are = r.nodes_are ∙ can.nodes_are; unused = subst (IsUnused ss used) (sym r.key_is) free.1.1 })
+    (r.fillings, record { are = r.are; ends = subst (MayEnd d.ending) (sym (r.state_is d.before)) can.ends; nodes_are = r.nodes_are ∙ can.nodes_are; unused = subst (IsUnused ss d.used) (sym r.key_is) free.1.1 })
 
-pub can_fill : (P : Pools) (ss : List Slot) (end : Ending) (x : Before) (m : ℕ) (used : List Data) (gs : List (Option Data)) → IsRest P ss end x m used gs → CanFill P ss end x m
-can_fill P ss end x m used gs h = record { fillings = gs; are = h.are; ends = h.ends; nodes_are = h.nodes_are }
+pub can_fill : (P : Pools) (ss : List Slot) (d : Demand) (gs : List (Option Data)) → IsRest P ss d gs → CanMeet P ss d
+can_fill P ss d gs h = record { fillings = gs; are = h.are; ends = h.ends; nodes_are = h.nodes_are }
 
-pub has_free : (P : Pools) (ss : List Slot) (end : Ending) (x : Before) (m : ℕ) (used : List Data) (gs : List (Option Data)) → AreKeySlots P ss → IsRest P ss end x m used gs → HasFree P (filter is_key ss) (used_keys ss used) []
-has_free P ss end x m used gs keys h = (key_values ss gs, (known P ss gs keys h.are, h.unused))
+pub has_free : (P : Pools) (ss : List Slot) (d : Demand) (gs : List (Option Data)) → AreKeySlots P ss → IsRest P ss d gs → HasFree P (filter is_key ss) (used_keys ss d.used) []
+has_free P ss d gs keys h = (key_values ss gs, (known P ss gs keys h.are, h.unused))
 
 -- what is after a slot that is left out
-pub rest_out : (P : Pools) (end : Ending) (s : Slot) (ss : List Slot) (x : Before) (m : ℕ) (used : List Data) → AreKeySlots P (s ∷ ss) → (gs : List (Option Data)) → IsRest P (s ∷ ss) end x m used (None ∷ gs) → IsRest P ss end x m used gs
-rest_out P end s ss x m used keys gs h =
+pub rest_out : (P : Pools) (s : Slot) (ss : List Slot) (d : Demand) → AreKeySlots P (s ∷ ss) → (gs : List (Option Data)) → IsRest P (s ∷ ss) d (None ∷ gs) → IsRest P ss d gs
+rest_out P s ss d keys gs h =
     let unused = h.unused in
-    record { are = h.are.1; ends = h.ends; nodes_are = h.nodes_are; unused = rw (used_keys_other s ss (no_key P s ss keys h.are.0) used) at unused }
+    record { are = h.are.1; ends = h.ends; nodes_are = h.nodes_are; unused = rw (used_keys_other s ss (no_key P s ss keys h.are.0) d.used) at unused }
 
 -- ---- one slot, and those after it
 
-module _ (P : Pools) (end : Ending) (s : Slot) (ss : List Slot) (x : Before) (m : ℕ) (used : List Data) (keys : AreKeySlots P (s ∷ ss)) (small : m ≤ most_nodes) where
+module _ (P : Pools) (s : Slot) (ss : List Slot) (d : Demand) (keys : AreKeySlots P (s ∷ ss)) (small : d.room ≤ most_nodes) where
   abbrev Goes : Option Data → List (Option Data) → Type 0
-  Goes None gs = (s.must ≡ false) × IsRest P ss end x m used gs
-  Goes (Some v) gs = IsPart P s.site v × (node_count v ≤ m) × IsRest P ss end (filled s.bit x) (m - node_count v) (still_used s v used) gs
+  Goes None gs = (s.must ≡ false) × IsRest P ss d gs
+  Goes (Some v) gs = IsPart P s.site v × (node_count v ≤ d.room) × IsRest P ss (demand_after s v (d.room - node_count v) d) gs
 
   abbrev Whole : List (Option Data) → Type 0
-  Whole gs = IsRest P (s ∷ ss) end x m used gs
+  Whole gs = IsRest P (s ∷ ss) d gs
 
   abbrev Out : Type 0
-  Out = (s.must ≡ false) × CanFill P ss end x m × HasFree P (filter is_key ss) (used_keys ss used) []
+  Out = (s.must ≡ false) × CanMeet P ss d × HasFree P (filter is_key ss) (used_keys ss d.used) []
 
   abbrev In : Data → Type 0
-  In v = FitsSlot P s ss end x m (node_count v) × IsValue P s ss used (node_count v) v
+  In v = FitsSlot P s ss d (node_count v) × IsValue P s ss d.used (node_count v) v
 
   pub goes_in : (v : Data) (gs : List (Option Data)) → Whole (Some v ∷ gs) → Goes (Some v) gs
   goes_in v gs h =
@@ -289,19 +289,19 @@ module _ (P : Pools) (end : Ending) (s : Slot) (ss : List Slot) (x : Before) (m 
           are = h.are.1;
           ends = h.ends;
           nodes_are = omega (arith, nodes);
-          unused = (unused_after P s ss used v gs (key_here P s ss keys) h.are.0).0 h.unused;
+          unused = (unused_after P s ss d.used v gs (key_here P s ss keys) h.are.0).0 h.unused;
         },
       )
 
   split : (x : List (Option Data)) → Whole x → (o : Option Data) × ((gs : List (Option Data)) × (Goes o gs × (x ≡ o ∷ gs)))
   split [] h = absurd h.are
-  split (None ∷ gs) h = (None, (gs, ((h.are.0, rest_out P end s ss x m used keys gs h), refl)))
+  split (None ∷ gs) h = (None, (gs, ((h.are.0, rest_out P s ss d keys gs h), refl)))
   split (Some v ∷ gs) h = (Some v, (gs, (goes_in v gs h, refl)))
 
   join : (o : Option Data) (gs : List (Option Data)) → Goes o gs → Whole (o ∷ gs)
   join None gs h =
       let unused = h.1.unused in
-      record { are = (h.0, h.1.are); ends = h.1.ends; nodes_are = h.1.nodes_are; unused = rw (used_keys_other s ss (no_key P s ss keys h.0) used) unused }
+      record { are = (h.0, h.1.are); ends = h.1.ends; nodes_are = h.1.nodes_are; unused = rw (used_keys_other s ss (no_key P s ss keys h.0) d.used) unused }
   join (Some v) gs h =
       let nodes = h.2.nodes_are in
       let few = h.1 in
@@ -309,31 +309,31 @@ module _ (P : Pools) (end : Ending) (s : Slot) (ss : List Slot) (x : Before) (m 
         are = (h.0, h.2.are);
         ends = h.2.ends;
         nodes_are = omega (arith, nodes, few);
-        unused = (unused_after P s ss used v gs (key_here P s ss keys) h.0).1 h.2.unused;
+        unused = (unused_after P s ss d.used v gs (key_here P s ss keys) h.0).1 h.2.unused;
       }
 
   fits : (o : Option Data) → ((gs : List (Option Data)) × Goes o gs) → OutOrIn Out In o
-  fits None h = (h.1.0, can_fill P ss end x m used h.0 h.1.1, has_free P ss end x m used h.0 (keys_after P s ss keys) h.1.1)
+  fits None h = (h.1.0, can_fill P ss d h.0 h.1.1, has_free P ss d h.0 (keys_after P s ss keys) h.1.1)
   fits (Some v) h =
-      let left = still_used s v used in
+      let left = demand_after s v (d.room - node_count v) d in
       let few = h.1.1 in (
-        (record { part = v; is = h.1.0; nodes_are = refl }, (m - node_count v, (can_fill P ss end (filled s.bit x) (m - node_count v) left h.0 h.1.2, omega (arith, few)))),
-        record { part = h.1.0; nodes_are = refl; free = has_free P ss end (filled s.bit x) (m - node_count v) left h.0 (keys_after P s ss keys) h.1.2 },
+        (record { part = v; is = h.1.0; nodes_are = refl }, (d.room - node_count v, (can_fill P ss left h.0 h.1.2, omega (arith, few)))),
+        record { part = h.1.0; nodes_are = refl; free = has_free P ss left h.0 (keys_after P s ss keys) h.1.2 },
       )
 
   fitting : (o : Option Data) → OutOrIn Out In o → (gs : List (Option Data)) × Goes o gs
-  fitting None h = let r = some_rest P ss end x m used (keys_after P s ss keys) h.1 h.2 in (r.0, (h.0, r.1))
+  fitting None h = let r = some_rest P ss d (keys_after P s ss keys) h.1 h.2 in (r.0, (h.0, r.1))
   fitting (Some v) h =
       let j = h.0.1 in
       let sum = j.1.1 in
-      let left : j.0 ≡ m - node_count v = omega (arith, sum) in
-      let r = some_rest P ss end (filled s.bit x) (m - node_count v) (still_used s v used) (keys_after P s ss keys) (subst (CanFill P ss end (filled s.bit x)) left j.1.0) h.1.free in
+      let left : j.0 ≡ d.room - node_count v = omega (arith, sum) in
+      let r = some_rest P ss (demand_after s v (d.room - node_count v) d) (keys_after P s ss keys) (subst (CanFill P ss d.ending (filled s.bit d.before)) left j.1.0) h.1.free in
       (r.0, (h.1.part, omega (arith, sum), r.1))
 
-  sizes_small : (n : ℕ) → FitsSlot P s ss end x m n → n ≤ most_nodes
+  sizes_small : (n : ℕ) → FitsSlot P s ss d n → n ≤ most_nodes
   sizes_small n h = let sum = h.1.1.1 in omega (arith, sum, small)
 
-  value_nodes : (n : ℕ) (v : Data) → IsValue P s ss used n v → node_count v ≡ n
+  value_nodes : (n : ℕ) (v : Data) → IsValue P s ss d.used n v → node_count v ≡ n
   value_nodes n v h = h.nodes_are
 
   least_slot : (o : Option Data) → IsLeast option_cmp (OutOrIn Out In) o → IsLeast option_cmp (λ p. (gs : List (Option Data)) × Goes p gs) o
@@ -347,47 +347,47 @@ module _ (P : Pools) (end : Ending) (s : Slot) (ss : List Slot) (x : Before) (m 
 
   -- what is after a value
   abbrev pub After : Data → ℕ → List (Option Data) → Type 0
-  After v j gs = IsRest P ss end (filled s.bit x) j (still_used s v used) gs
+  After v j gs = IsRest P ss (demand_after s v j d) gs
 
-  least_out : (gs : List (Option Data)) → s.must ≡ false → IsLeast fill_cmp (IsRest P ss end x m used) gs → IsLeast fill_cmp (Goes None) gs
-  least_out gs free h = least_same fill_cmp (IsRest P ss end x m used) (Goes None) gs (λ u r. (free, r)) (λ u r. r.1) h
+  least_out : (gs : List (Option Data)) → s.must ≡ false → IsLeast fill_cmp (IsRest P ss d) gs → IsLeast fill_cmp (Goes None) gs
+  least_out gs free h = least_same fill_cmp (IsRest P ss d) (Goes None) gs (λ u r. (free, r)) (λ u r. r.1) h
 
-  least_in : (n : ℕ) (v : Data) (gs : List (Option Data)) → IsValue P s ss used n v → n ≤ m → IsLeast fill_cmp (After v (m - n)) gs → IsLeast fill_cmp (Goes (Some v)) gs
+  least_in : (n : ℕ) (v : Data) (gs : List (Option Data)) → IsValue P s ss d.used n v → n ≤ d.room → IsLeast fill_cmp (After v (d.room - n)) gs → IsLeast fill_cmp (Goes (Some v)) gs
   least_in n v gs value few h =
       let nodes = value.nodes_are in
-      least_same fill_cmp (After v (m - n)) (Goes (Some v)) gs
-      (λ u r. (value.part, omega (arith, nodes, few), subst (λ k. After v (m - k) u) (sym nodes) r)) (λ u r. subst (λ k. After v (m - k) u) nodes r.2) h
+      least_same fill_cmp (After v (d.room - n)) (Goes (Some v)) gs
+      (λ u r. (value.part, omega (arith, nodes, few), subst (λ k. After v (d.room - k) u) (sym nodes) r)) (λ u r. subst (λ k. After v (d.room - k) u) nodes r.2) h
 
-  within : (from n : ℕ) → IsLeastFrom (FitsSlot P s ss end x m) from n → n ≤ m
+  within : (from n : ℕ) → IsLeastFrom (FitsSlot P s ss d) from n → n ≤ d.room
   within from n h = let sum = h.1.1.1.1 in omega (arith, sum)
 
   -- ---- the first ones
 
-  pub left_out_first : (gs : List (Option Data)) → s.must ≡ false → IsLeast fill_cmp (IsRest P ss end x m used) gs → IsLeast fill_cmp Whole (None ∷ gs)
+  pub left_out_first : (gs : List (Option Data)) → s.must ≡ false → IsLeast fill_cmp (IsRest P ss d) gs → IsLeast fill_cmp Whole (None ∷ gs)
   left_out_first gs free h = least_pair option_cmp fill_cmp fill_cmp (λ o us. o ∷ us) Whole Goes option_order order split join None gs
       (least_slot None (left_out Out In (fits None (gs, (free, h.is))))) (least_out gs free h)
 
-  pub grown_first : (n : ℕ) (v : Data) (gs : List (Option Data)) → (s.must ≡ false → CanFill P ss end x m → ⊥) → IsLeastFrom (FitsSlot P s ss end x m) 0 n → IsLeast tree_cmp (IsValue P s ss used n) v
-      → IsLeast fill_cmp (After v (m - n)) gs → IsLeast fill_cmp Whole (Some v ∷ gs)
+  pub grown_first : (n : ℕ) (v : Data) (gs : List (Option Data)) → (s.must ≡ false → CanMeet P ss d → ⊥) → IsLeastFrom (FitsSlot P s ss d) 0 n → IsLeast tree_cmp (IsValue P s ss d.used n) v
+      → IsLeast fill_cmp (After v (d.room - n)) gs → IsLeast fill_cmp Whole (Some v ∷ gs)
   grown_first n v gs stays size first h = least_pair option_cmp fill_cmp fill_cmp (λ o us. o ∷ us) Whole Goes option_order order split join (Some v) gs
-      (least_slot (Some v) (first_in Out In (λ out. stays out.0 out.1) v (first_by_size (IsValue P s ss used) (FitsSlot P s ss end x m) value_nodes sizes_small n v size first)))
+      (least_slot (Some v) (first_in Out In (λ out. stays out.0 out.1) v (first_by_size (IsValue P s ss d.used) (FitsSlot P s ss d) value_nodes sizes_small n v size first)))
       (least_in n v gs first.is (within 0 n size) h)
 
   -- ---- the next ones, where the slot is left out
 
-  pub next_after_out : (old new : List (Option Data)) → s.must ≡ false → IsNext fill_cmp (IsRest P ss end x m used) old (Some new) → IsNext fill_cmp Whole (None ∷ old) (Some (None ∷ new))
-  next_after_out old new free h = next_rest option_cmp fill_cmp fill_cmp (λ o us. o ∷ us) Whole Goes option_order order split join None old new (next_same fill_cmp (IsRest P ss end x m used) (Goes None) old (Some new) (λ u r. (free, r)) (λ u r. r.1) h)
+  pub next_after_out : (old new : List (Option Data)) → s.must ≡ false → IsNext fill_cmp (IsRest P ss d) old (Some new) → IsNext fill_cmp Whole (None ∷ old) (Some (None ∷ new))
+  next_after_out old new free h = next_rest option_cmp fill_cmp fill_cmp (λ o us. o ∷ us) Whole Goes option_order order split join None old new (next_same fill_cmp (IsRest P ss d) (Goes None) old (Some new) (λ u r. (free, r)) (λ u r. r.1) h)
 
-  last_out : (old : List (Option Data)) → s.must ≡ false → IsNext fill_cmp (IsRest P ss end x m used) old None → IsNext fill_cmp (Goes None) old None
-  last_out old free h = next_same fill_cmp (IsRest P ss end x m used) (Goes None) old None (λ u r. (free, r)) (λ u r. r.1) h
+  last_out : (old : List (Option Data)) → s.must ≡ false → IsNext fill_cmp (IsRest P ss d) old None → IsNext fill_cmp (Goes None) old None
+  last_out old free h = next_same fill_cmp (IsRest P ss d) (Goes None) old None (λ u r. (free, r)) (λ u r. r.1) h
 
-  pub grown_after_out : (old : List (Option Data)) (n : ℕ) (v : Data) (gs : List (Option Data)) → s.must ≡ false → IsNext fill_cmp (IsRest P ss end x m used) old None → IsLeastFrom (FitsSlot P s ss end x m) 0 n
-      → IsLeast tree_cmp (IsValue P s ss used n) v → IsLeast fill_cmp (After v (m - n)) gs → IsNext fill_cmp Whole (None ∷ old) (Some (Some v ∷ gs))
+  pub grown_after_out : (old : List (Option Data)) (n : ℕ) (v : Data) (gs : List (Option Data)) → s.must ≡ false → IsNext fill_cmp (IsRest P ss d) old None → IsLeastFrom (FitsSlot P s ss d) 0 n
+      → IsLeast tree_cmp (IsValue P s ss d.used n) v → IsLeast fill_cmp (After v (d.room - n)) gs → IsNext fill_cmp Whole (None ∷ old) (Some (Some v ∷ gs))
   grown_after_out old n v gs free last size first h = next_part option_cmp fill_cmp fill_cmp (λ o us. o ∷ us) Whole Goes option_order order split join None old (Some v) gs (last_out old free last)
-      (next_slot None (Some (Some v)) (in_after_out Out In v (first_by_size (IsValue P s ss used) (FitsSlot P s ss end x m) value_nodes sizes_small n v size first)))
+      (next_slot None (Some (Some v)) (in_after_out Out In v (first_by_size (IsValue P s ss d.used) (FitsSlot P s ss d) value_nodes sizes_small n v size first)))
       (least_in n v gs first.is (within 0 n size) h)
 
-  pub none_after_out_slot : (old : List (Option Data)) → s.must ≡ false → IsNext fill_cmp (IsRest P ss end x m used) old None → IsEmptyFrom (FitsSlot P s ss end x m) 0 → IsNext fill_cmp Whole (None ∷ old) None
+  pub none_after_out_slot : (old : List (Option Data)) → s.must ≡ false → IsNext fill_cmp (IsRest P ss d) old None → IsEmptyFrom (FitsSlot P s ss d) 0 → IsNext fill_cmp Whole (None ∷ old) None
   none_after_out_slot old free last none = no_next option_cmp fill_cmp fill_cmp (λ o us. o ∷ us) Whole Goes option_order order split join None old (last_out old free last)
       (next_slot None None (none_after_out Out In (λ v h. none (node_count v) (omega arith) h.0)))
 
@@ -404,18 +404,39 @@ module _ (P : Pools) (end : Ending) (s : Slot) (ss : List Slot) (x : Before) (m 
     pub next_after_in : (new : List (Option Data)) → IsNext fill_cmp (After v (filled_nodes old)) old (Some new) → IsNext fill_cmp Whole (Some v ∷ old) (Some (Some v ∷ new))
     next_after_in new h = next_rest option_cmp fill_cmp fill_cmp (λ o us. o ∷ us) Whole Goes option_order order split join (Some v) old new (next_in_goes (Some new) h)
 
-    pub next_value : (w : Data) (gs : List (Option Data)) → IsNext fill_cmp (After v (filled_nodes old)) old None → IsNext tree_cmp (IsValue P s ss used (node_count v)) v (Some w)
+    pub next_value : (w : Data) (gs : List (Option Data)) → IsNext fill_cmp (After v (filled_nodes old)) old None → IsNext tree_cmp (IsValue P s ss d.used (node_count v)) v (Some w)
         → IsLeast fill_cmp (After w (filled_nodes old)) gs → IsNext fill_cmp Whole (Some v ∷ old) (Some (Some w ∷ gs))
     next_value w gs last next h = next_part option_cmp fill_cmp fill_cmp (λ o us. o ∷ us) Whole Goes option_order order split join (Some v) old (Some w) gs (next_in_goes None last)
-        (next_slot (Some v) (Some (Some w)) (next_in Out In v (Some w) (next_of_size (IsValue P s ss used) (FitsSlot P s ss end x m) value_nodes sizes_small v w (fits (Some v) (old, old_goes)) next)))
+        (next_slot (Some v) (Some (Some w)) (next_in Out In v (Some w) (next_of_size (IsValue P s ss d.used) (FitsSlot P s ss d) value_nodes sizes_small v w (fits (Some v) (old, old_goes)) next)))
         (least_in (node_count v) w gs next.is.0 old_goes.1 (subst (λ k. IsLeast fill_cmp (After w k) gs) old_goes.2.nodes_are h))
 
-    pub grown_after_in : (n : ℕ) (w : Data) (gs : List (Option Data)) → IsNext fill_cmp (After v (filled_nodes old)) old None → IsNext tree_cmp (IsValue P s ss used (node_count v)) v None
-        → IsLeastFrom (FitsSlot P s ss end x m) (node_count v + 1) n → IsLeast tree_cmp (IsValue P s ss used n) w → IsLeast fill_cmp (After w (m - n)) gs → IsNext fill_cmp Whole (Some v ∷ old) (Some (Some w ∷ gs))
+    pub grown_after_in : (n : ℕ) (w : Data) (gs : List (Option Data)) → IsNext fill_cmp (After v (filled_nodes old)) old None → IsNext tree_cmp (IsValue P s ss d.used (node_count v)) v None
+        → IsLeastFrom (FitsSlot P s ss d) (node_count v + 1) n → IsLeast tree_cmp (IsValue P s ss d.used n) w → IsLeast fill_cmp (After w (d.room - n)) gs → IsNext fill_cmp Whole (Some v ∷ old) (Some (Some w ∷ gs))
     grown_after_in n w gs last none size first h = next_part option_cmp fill_cmp fill_cmp (λ o us. o ∷ us) Whole Goes option_order order split join (Some v) old (Some w) gs (next_in_goes None last)
-        (next_slot (Some v) (Some (Some w)) (next_in Out In v (Some w) (next_size (IsValue P s ss used) (FitsSlot P s ss end x m) value_nodes sizes_small v n w (fits (Some v) (old, old_goes)) none size first)))
+        (next_slot (Some v) (Some (Some w)) (next_in Out In v (Some w) (next_size (IsValue P s ss d.used) (FitsSlot P s ss d) value_nodes sizes_small v n w (fits (Some v) (old, old_goes)) none size first)))
         (least_in n w gs first.is (within (node_count v + 1) n size) h)
 
-    pub none_after_in : IsNext fill_cmp (After v (filled_nodes old)) old None → IsNext tree_cmp (IsValue P s ss used (node_count v)) v None → IsEmptyFrom (FitsSlot P s ss end x m) (node_count v + 1) → IsNext fill_cmp Whole (Some v ∷ old) None
+    pub none_after_in : IsNext fill_cmp (After v (filled_nodes old)) old None → IsNext tree_cmp (IsValue P s ss d.used (node_count v)) v None → IsEmptyFrom (FitsSlot P s ss d) (node_count v + 1) → IsNext fill_cmp Whole (Some v ∷ old) None
     none_after_in last none empty = no_next option_cmp fill_cmp fill_cmp (λ o us. o ∷ us) Whole Goes option_order order split join (Some v) old (next_in_goes None last)
-        (next_slot (Some v) None (next_in Out In v None (no_next_size (IsValue P s ss used) (FitsSlot P s ss end x m) value_nodes sizes_small v (fits (Some v) (old, old_goes)) none empty)))
+        (next_slot (Some v) None (next_in Out In v None (no_next_size (IsValue P s ss d.used) (FitsSlot P s ss d) value_nodes sizes_small v (fits (Some v) (old, old_goes)) none empty)))
+
+-- ---- what is in slots
+
+-- slots with sound keys are filled as is asked, with no more nodes than a tree may have
+pub record AreFilled (P : Pools) (ss : List Slot) (d : Demand) (gs : List (Option Data)) : Type 0 where
+  pub keys : AreKeySlots P ss
+  pub small : d.room ≤ most_nodes
+  pub rest : IsRest P ss d gs
+
+pub filled_out : (P : Pools) (s : Slot) (ss : List Slot) (d : Demand) (gs : List (Option Data)) → AreFilled P (s ∷ ss) d (None ∷ gs) → AreFilled P ss d gs
+filled_out P s ss d gs h = record { keys = keys_after P s ss h.keys; small = h.small; rest = rest_out P s ss d h.keys gs h.rest }
+
+pub filled_in : (P : Pools) (s : Slot) (ss : List Slot) (d : Demand) (v : Data) (gs : List (Option Data)) → AreFilled P (s ∷ ss) d (Some v ∷ gs) → AreFilled P ss (demand_after s v (filled_nodes gs) d) gs
+filled_in P s ss d v gs h =
+    let nodes = h.rest.nodes_are in
+    let left : d.room - node_count v ≡ filled_nodes gs = omega (arith, nodes) in
+    record {
+      keys = keys_after P s ss h.keys;
+      small = omega (arith, nodes, h.small);
+      rest = subst (λ n. IsRest P ss (demand_after s v n d) gs) left (goes_in P s ss d h.keys h.small v gs h.rest).2;
+    }

@@ -1,5 +1,5 @@
 -- The order of rows of as many nodes is that of what is in their slots.
-use Rattle.std.specs.Prelude.{◌≡◌, ℕ, ◌+◌, ◌-◌, List, Option, Some, None, option_map, Contains}
+use Rattle.std.specs.Prelude.{◌≡◌, ℕ, ◌+◌, List, Option, Some, None, option_map, Contains}
 use Rattle.std.proofs.Common.{refl, ap, sym, ◌∙◌, subst, inl, inr, arith, [], ◌∷◌}
 use Rattle.std.specs.Cmp.{nat_cmp_is}
 use Rattle.std.specs.Ordering.{nat_cmp}
@@ -12,12 +12,13 @@ use Rattle.jtree.specs.Order.{text_cmp, members_cmp, tree_cmp}
 use Rattle.jtree.specs.Internal.Rising.{contains, contained}
 use Rattle.plan.specs.Pools.Pools.{Pools}
 use Rattle.plan.specs.Samples.Sites.{Slot}
-use Rattle.plan.specs.Samples.Sizes.{AreFillings, filled_nodes, Before, nothing, Ending}
+use Rattle.plan.specs.Samples.Sizes.{AreFillings, filled_nodes}
 use Rattle.plan.specs.Samples.RuleOfParts.{members_in}
 use Rattle.plan.specs.Samples.Keys.{AreInOrder}
 use Rattle.plan.specs.Samples.Question.{Question}
 use Rattle.enumerate.specs.Least.{IsLeast, IsNext}
-use Rattle.enumerate.specs.Internal.Rows.{fill_cmp, slots_from, ending_at, IsRest, IsRow}
+use Rattle.enumerate.specs.Internal.Rows.{fill_cmp, slots_from, Demand, row_demand, IsRest, IsRow}
+use Rattle.enumerate.specs.Internal.Moves.{demand_of}
 
 pub later : (s : Slot) (ss : List Slot) (t : Slot) → Contains ss t → Contains (s ∷ ss) t
 later s ss t c = contains (s ∷ ss) t (inr (contained ss t c))
@@ -71,33 +72,34 @@ in_members P (s ∷ ss) [] o h = tt
 in_members P (s ∷ ss) (None ∷ gs) o h = in_members P ss gs o.1 h.1
 in_members P (s ∷ ss) (Some v ∷ gs) o h = (h.0.tree, before_in s.name ss gs o.0, in_members P ss gs o.1 h.1)
 
-same_nodes : (P : Pools) (ss : List Slot) (end : Ending) (x : Before) (m : ℕ) (used : List Data) (gs hs : List (Option Data)) → IsRest P ss end x m used gs → IsRest P ss end x m used hs → members_count (members_in ss gs) ≡ members_count (members_in ss hs)
-same_nodes P ss end x m used gs hs g h = filled_count_nodes P ss gs g.are ∙ g.nodes_are ∙ sym h.nodes_are ∙ sym (filled_count_nodes P ss hs h.are)
+pub rows_order : (P : Pools) (ss : List Slot) (d : Demand) (gs hs : List (Option Data)) → AreInOrder ss → IsRest P ss d gs → IsRest P ss d hs → tree_cmp (tree.object (members_in ss gs)) (tree.object (members_in ss hs)) ≡ fill_cmp gs hs
+rows_order P ss d gs hs o g h =
+    let nodes = filled_count_nodes P ss gs g.are ∙ g.nodes_are ∙ sym h.nodes_are ∙ sym (filled_count_nodes P ss hs h.are) in
+    objects_order (members_in ss gs) (members_in ss hs) nodes ∙ members_order P ss gs hs o g.are h.are
 
-pub rows_order : (P : Pools) (ss : List Slot) (end : Ending) (x : Before) (m : ℕ) (used : List Data) (gs hs : List (Option Data)) → AreInOrder ss → IsRest P ss end x m used gs → IsRest P ss end x m used hs
-    → tree_cmp (tree.object (members_in ss gs)) (tree.object (members_in ss hs)) ≡ fill_cmp gs hs
-rows_order P ss end x m used gs hs o g h = objects_order (members_in ss gs) (members_in ss hs) (same_nodes P ss end x m used gs hs g h) ∙ members_order P ss gs hs o g.are h.are
+module _ (q : Question) (i m : ℕ) (used : List Data) (o : AreInOrder (slots_from q i 0)) where
+  abbrev row : List (Option Data) → Data
+  row gs = tree.object (members_in (slots_from q i 0) gs)
 
-pub row_least : (q : Question) (i m : ℕ) (used : List Data) (gs : List (Option Data)) → AreInOrder (slots_from q i 0) → IsLeast fill_cmp (IsRest q.pools (slots_from q i 0) (ending_at q i) nothing m used) gs
-    → IsLeast tree_cmp (IsRow q i m used) (tree.object (members_in (slots_from q i 0) gs))
-row_least q i m used gs o h = record {
-  is = record { fillings = gs; is = refl; rest = h.is };
-  least = λ u r less. h.least r.fillings r.rest (sym (rows_order q.pools (slots_from q i 0) (ending_at q i) nothing m used r.fillings gs o r.rest h.is) ∙ subst (λ x. tree_cmp x (tree.object (members_in (slots_from q i 0) gs)) ≡ Less) r.is less);
-}
+  abbrev Rest : List (Option Data) → Type 0
+  Rest gs = IsRest q.pools (slots_from q i 0) (row_demand q i m used) gs
 
--- what is next in the slots makes the next object
-pub row_next : (q : Question) (i : ℕ) (used : List Data) (old : Data) (gs : List (Option Data)) (next : Option (List (Option Data))) → AreInOrder (slots_from q i 0) → old ≡ tree.object (members_in (slots_from q i 0) gs)
-    → IsRest q.pools (slots_from q i 0) (ending_at q i) nothing (filled_nodes gs) used gs → filled_nodes gs ≡ node_count old - 1 → IsNext fill_cmp (IsRest q.pools (slots_from q i 0) (ending_at q i) nothing (filled_nodes gs) used) gs next
-    → IsNext tree_cmp (IsRow q i (node_count old - 1) used) old (option_map (λ us. tree.object (members_in (slots_from q i 0) us)) next)
-row_next q i used old gs next o is rest nodes h = subst (λ m. IsNext tree_cmp (IsRow q i m used) old (option_map (λ us. tree.object (members_in (slots_from q i 0) us)) next)) nodes
-    (subst (λ v. IsNext tree_cmp (IsRow q i (filled_nodes gs) used) v (option_map (λ us. tree.object (members_in (slots_from q i 0) us)) next)) (sym is) (at next h))
-  where
-    at : (n : Option (List (Option Data))) → IsNext fill_cmp (IsRest q.pools (slots_from q i 0) (ending_at q i) nothing (filled_nodes gs) used) gs n
-        → IsNext tree_cmp (IsRow q i (filled_nodes gs) used) (tree.object (members_in (slots_from q i 0) gs)) (option_map (λ us. tree.object (members_in (slots_from q i 0) us)) n)
-    at None none = λ u r less. none r.fillings r.rest (sym (rows_order q.pools (slots_from q i 0) (ending_at q i) nothing (filled_nodes gs) used gs r.fillings o rest r.rest) ∙ subst (λ x. tree_cmp (tree.object (members_in (slots_from q i 0) gs)) x ≡ Less) r.is less)
-    at (Some hs) l = record {
-      is = (record { fillings = hs; is = refl; rest = l.is.0 }, rows_order q.pools (slots_from q i 0) (ending_at q i) nothing (filled_nodes gs) used gs hs o rest l.is.0 ∙ l.is.1);
-      least = λ u r less. l.least r.0.fillings
-          (r.0.rest, sym (rows_order q.pools (slots_from q i 0) (ending_at q i) nothing (filled_nodes gs) used gs r.0.fillings o rest r.0.rest) ∙ subst (λ x. tree_cmp (tree.object (members_in (slots_from q i 0) gs)) x ≡ Less) r.0.is r.1)
-          (sym (rows_order q.pools (slots_from q i 0) (ending_at q i) nothing (filled_nodes gs) used r.0.fillings hs o r.0.rest l.is.0) ∙ subst (λ x. tree_cmp x (tree.object (members_in (slots_from q i 0) hs)) ≡ Less) r.0.is less);
-    }
+  order : (gs hs : List (Option Data)) → Rest gs → Rest hs → tree_cmp (row gs) (row hs) ≡ fill_cmp gs hs
+  order gs hs g h = rows_order q.pools (slots_from q i 0) (row_demand q i m used) gs hs o g h
+
+  pub row_least : (gs : List (Option Data)) → IsLeast fill_cmp Rest gs → IsLeast tree_cmp (IsRow q i m used) (row gs)
+  row_least gs h = record {
+    is = record { fillings = gs; is = refl; rest = h.is };
+    least = λ u r less. h.least r.fillings r.rest (sym (order r.fillings gs r.rest h.is) ∙ subst (λ x. tree_cmp x (row gs) ≡ Less) r.is less);
+  }
+
+  -- what is next in the slots makes the next object
+  pub row_next : (gs : List (Option Data)) (next : Option (List (Option Data))) → Rest gs → IsNext fill_cmp Rest gs next → IsNext tree_cmp (IsRow q i m used) (row gs) (option_map row next)
+  row_next gs None rest none = λ u r less. none r.fillings r.rest (sym (order gs r.fillings rest r.rest) ∙ subst (λ x. tree_cmp (row gs) x ≡ Less) r.is less)
+  row_next gs (Some hs) rest l = record {
+    is = (record { fillings = hs; is = refl; rest = l.is.0 }, order gs hs rest l.is.0 ∙ l.is.1);
+    least = λ u r less. l.least r.0.fillings (r.0.rest, sym (order gs r.0.fillings rest r.0.rest) ∙ subst (λ x. tree_cmp (row gs) x ≡ Less) r.0.is r.1) (sym (order r.0.fillings hs r.0.rest l.is.0) ∙ subst (λ x. tree_cmp x (row hs) ≡ Less) r.0.is less);
+  }
+
+  pub row_moved : (old : Data) (r : IsRow q i m used old) (next : Option (List (Option Data))) → IsNext fill_cmp (IsRest q.pools (slots_from q i 0) (demand_of q i used r.fillings)) r.fillings next → IsNext tree_cmp (IsRow q i m used) old (option_map row next)
+  row_moved old r next h = subst (λ v. IsNext tree_cmp (IsRow q i m used) v (option_map row next)) (sym r.is) (row_next r.fillings next r.rest (subst (λ n. IsNext fill_cmp (IsRest q.pools (slots_from q i 0) (row_demand q i n used)) r.fillings next) r.rest.nodes_are h))

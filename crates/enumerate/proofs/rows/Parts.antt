@@ -19,7 +19,7 @@ use Rattle.plan.specs.Samples.Question.{Question}
 use Rattle.plan.specs.declared.sort.Sort.TheVariants as sort
 use Rattle.enumerate.specs.Least.{IsLeast}
 use Rattle.enumerate.specs.Internal.Nodes.{site, IsPartOf, HasSizeAt, weight}
-use Rattle.enumerate.specs.Internal.Rows.{slots_from, ending_at, IsOpen, IsRow}
+use Rattle.enumerate.specs.Internal.Rows.{slots_from, ending_at, row_demand, IsOpen, IsRow}
 use Rattle.enumerate.proofs.walks.Least.{tree_order}
 use Rattle.enumerate.proofs.rows.Lemmas.{known}
 use Rattle.enumerate.proofs.rows.Order.{filled_count_nodes}
@@ -84,7 +84,7 @@ module _ (q : Question) (i : ℕ) (rule : RuleOfParts q.pools q.limit (site q i)
   pub plain_least : (n : ℕ) (v : Data) → 1 ≤ n → (n ≡ 1 → admits_null q.pools (site q i) ≡ false) → IsLeast tree_cmp (IsRow q i (n - 1) []) v → IsLeast tree_cmp (IsPartOf q i n) v
   plain_least n v some never h = record { is = row_plain n v some h.is; least = λ u p. h.least u (plain_row n u p never) }
 
-  pub plain_open : (n : ℕ) → AreKeySlots q.pools (slots_from q i 0) → (n ≡ 1 → admits_null q.pools (site q i) ≡ false) → HasSizeAt q i n → IsOpen q.pools (slots_from q i 0) (ending_at q i) nothing (n - 1) []
+  pub plain_open : (n : ℕ) → AreKeySlots q.pools (slots_from q i 0) → (n ≡ 1 → admits_null q.pools (site q i) ≡ false) → HasSizeAt q i n → IsOpen q.pools (slots_from q i 0) (row_demand q i (n - 1) [])
   plain_open n keys never h =
       let r = plain_row n h.part (record { part = h.is; nodes_are = h.nodes_are }) never in
       record {

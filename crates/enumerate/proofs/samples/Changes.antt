@@ -11,9 +11,11 @@ use Rattle.plan.specs.Pools.Pools.{Pools}
 use Rattle.plan.specs.Samples.NoDeadEnd.{items_then}
 use Rattle.plan.specs.Samples.RuleOfParts.{members_in}
 use Rattle.plan.specs.Samples.Sites.{Slot}
-use Rattle.plan.specs.Samples.Sizes.{AreFillings, filled_nodes, Before, Ending}
+use Rattle.plan.specs.Samples.Sizes.{AreFillings, filled_nodes}
 use Rattle.enumerate.specs.Internal.Changes.{DiffersAt, DiffersAfter}
-use Rattle.enumerate.specs.Internal.Rows.{IsGrown}
+use Rattle.enumerate.specs.Internal.Rows.{IsGrownAt}
+use Rattle.enumerate.specs.declared.row.RowSlot.{RowSlot}
+use Rattle.enumerate.specs.declared.row.Ahead.{Ahead}
 use Rattle.enumerate.specs.Internal.Prefixes.{members_to}
 use Rattle.enumerate.specs.declared.walk.NextParts.{NextParts}
 use Rattle.enumerate.specs.declared.walk.NextParts.TheVariants.{Made, Last}
@@ -28,9 +30,9 @@ pub differs : (old new : Data) → DiffersAt 0 old new
 differs old new = record { few = omega (arith, some_nodes old); part = old; is = refl }
 
 -- where parts grew, or there were none to grow
-pub grown_differs : (room : ℕ) (old new : Data) (g : NextParts) (P : Pools) (s : Slot) (ss : List Slot) (end : Ending) (x : Before) (m from : ℕ) (used : List Data) (base now : List Member) → IsGrown g P s ss end x m from used base now → DiffersAfter room old g new
-grown_differs room old new (Made n) P s ss end x m from used base now h = (λ _. subst (λ k. DiffersAt k old new) (sym h.1) (differs old new), λ _. h.1)
-grown_differs room old new (Last n) P s ss end x m from used base now h = tt
+pub grown_differs : (room : ℕ) (old : Data) (made : NextParts) (q : Question) (t : RowSlot) (a : Ahead) (from : ℕ) (base new : List Member) → IsGrownAt made q t a from base new → DiffersAfter room old made (object (members_of new))
+grown_differs room old (Made n) q t a from base new h = (λ _. subst (λ k. DiffersAt k old (object (members_of new))) (sym h.1) (differs old (object (members_of new))), λ _. h.1)
+grown_differs room old (Last n) q t a from base new h = tt
 
 -- ---- in the last member
 

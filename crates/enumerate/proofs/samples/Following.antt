@@ -10,7 +10,7 @@ use Rattle.std.proofs.lemmas.Option.{slice_get_within, get_or_from_slice_get}
 use Rattle.jtree.specs.Data as tree
 use Rattle.jtree.specs.Data.{Data, Items, no_items, item, Members, no_members, member, object, list}
 use Rattle.jtree.specs.Last.{with_last, items_with_last, members_with_last}
-use Rattle.jtree.specs.Nodes.{node_count, items_count, members_count, most_nodes}
+use Rattle.jtree.specs.Nodes.{node_count, items_count, most_nodes}
 use Rattle.jtree.specs.View.{data_of, items_of, members_of}
 use Rattle.jtree.specs.declared.value.Member.{Member}
 use Rattle.jtree.specs.declared.value.Tree.{Tree}
@@ -24,9 +24,9 @@ use Rattle.plan.specs.Samples.ByPlace.{IsCandidateAt}
 use Rattle.std.specs.declared.cmp.Ordering.TheVariants.{Less}
 use Rattle.plan.specs.Samples.NoDeadEnd.{NoDeadEnd, items_then}
 use Rattle.plan.specs.declared.sort.Sort.TheVariants as sort
-use Rattle.plan.specs.Samples.Sizes.{AreFillings, filled_nodes, Before, nothing, filled, Ending, HasMore, CanFill}
+use Rattle.plan.specs.Samples.Sizes.{AreFillings, filled_nodes, Before, HasMore, CanFill}
 use Rattle.plan.specs.Samples.RuleOfParts.{RuleOfParts, members_in}
-use Rattle.plan.specs.Samples.Keys.{AreKeySlots, AreInOrder}
+use Rattle.plan.specs.Samples.Keys.{AreInOrder, HasSoundParts}
 use Rattle.plan.specs.Samples.Question.{Question}
 use Rattle.enumerate.specs.Least.{IsLeast, IsNext}
 use Rattle.enumerate.specs.Internal.Following.{Follow, Continue, InTurn, AreChoices, MayContinue, EndsAt, MembersContinue, ItemsContinue, ContinueNext, GrownContinue}
@@ -40,7 +40,8 @@ use Rattle.enumerate.proofs.rows.Parts.{row_plain}
 use Rattle.enumerate.specs.declared.siblings.Used.{Used}
 use Rattle.enumerate.specs.Internal.Nodes.{site, IsPartOf}
 use Rattle.enumerate.specs.Internal.Lists.{AreItems, IsUnusedItem}
-use Rattle.enumerate.specs.Internal.Rows.{fill_cmp, slots_from, slot_in, ending_at, IsRest, still_used, IsValue, IsRow, IsGrown}
+use Rattle.enumerate.specs.declared.list.ListNode.{ListNode}
+use Rattle.enumerate.specs.Internal.Rows.{fill_cmp, slots_from, slot_in, ending_at, Demand, row_demand, demand_after, CanMeet, IsRest, still_used, IsValue, IsRow, IsGrown}
 use Rattle.enumerate.proofs.walks.Least.{next_same, tree_order, not_itself}
 use Rattle.enumerate.proofs.leaves.Lemmas.{NoneBefore, candidates_same, index_of}
 use Rattle.enumerate.proofs.pages.Lemmas.{goes_past}
@@ -48,8 +49,8 @@ use Rattle.enumerate.proofs.rows.Moves.{never_begins}
 use Rattle.enumerate.proofs.lists.Lemmas.{some_nodes, first_more, some_items, none_follow, then_count, then_nodes, items_pushed}
 use Rattle.enumerate.proofs.lists.Walks.{all_left, walk_first, walk_fits, walk_next, list_moved}
 use Rattle.enumerate.proofs.walks.Nulls.{row_next_part}
-use Rattle.enumerate.proofs.rows.Lemmas.{keys_after, can_fill, rest_out, goes_in, next_after_out, next_after_in, next_value}
-use Rattle.enumerate.proofs.rows.Order.{before_in, filled_count_nodes, row_next}
+use Rattle.enumerate.proofs.rows.Lemmas.{AreFilled, filled_out, filled_in, can_fill, next_after_out, next_after_in, next_value}
+use Rattle.enumerate.proofs.rows.Order.{before_in, row_next}
 use Rattle.enumerate.proofs.rows.Slots.{nothing_after, least_nothing, no_members_in, not_stuck}
 
 -- ---- rows
@@ -60,45 +61,29 @@ put_at zero w (g ∷ gs) = Some w ∷ gs
 put_at (suc place) w (g ∷ gs) = g ∷ put_at place w gs
 put_at place w [] = []
 
-module _ (P : Pools) (end : Ending) (here : Slot) (after : List Slot) (rows : List Data) where
-  next_here : (x : Before) (gs : List (Option Data)) (v w : Data) → AreKeySlots P (here ∷ after) → filled_nodes gs ≡ 0 → filled_nodes (Some v ∷ gs) ≤ most_nodes
-      → IsRest P (here ∷ after) end x (filled_nodes (Some v ∷ gs)) rows (Some v ∷ gs) → IsNext tree_cmp (IsValue P here after rows (node_count v)) v (Some w)
-      → IsNext fill_cmp (IsRest P (here ∷ after) end x (filled_nodes (Some v ∷ gs)) rows) (Some v ∷ gs) (Some (Some w ∷ gs))
-  next_here x gs v w keys none small is next =
-      let m = filled_nodes (Some v ∷ gs) in
-      let goes = goes_in P end here after x m rows keys small v gs is in
-      let left : m - node_count v ≡ 0 = omega (arith, none) in
-      let remaining = subst (λ n. IsRest P after end (filled here.bit x) n (still_used here v rows) gs) left goes.2 in
-      let after_keys = keys_after P here after keys in
-      let first = least_nothing P end after (filled here.bit x) (still_used here w rows) gs after_keys remaining.are none (can_fill P after end (filled here.bit x) 0 (still_used here v rows) gs remaining) next.is.0.free in
-      next_value P end here after x m rows keys small v gs is w gs
-      (nothing_after P end after (filled here.bit x) (still_used here v rows) gs remaining.are none) next
-      (subst (λ n. IsLeast fill_cmp (IsRest P after end (filled here.bit x) n (still_used here w rows)) gs) (sym none) first)
+-- the next value in the first slot, where the slots after it are empty
+next_here : (P : Pools) (s : Slot) (ss : List Slot) (d : Demand) (gs : List (Option Data)) (v w : Data) → AreFilled P (s ∷ ss) d (Some v ∷ gs) → filled_nodes gs ≡ 0 → IsNext tree_cmp (IsValue P s ss d.used (node_count v)) v (Some w)
+    → IsNext fill_cmp (IsRest P (s ∷ ss) d) (Some v ∷ gs) (Some (Some w ∷ gs))
+next_here P s ss d gs v w h none next =
+    let later = filled_in P s ss d v gs h in
+    let can = can_fill P ss (demand_after s v (filled_nodes gs) d) gs later.rest in
+    next_value P s ss d h.keys h.small v gs h.rest w gs (nothing_after P ss (demand_after s v (filled_nodes gs) d) gs later.rest.are none none) next
+    (least_nothing P ss (demand_after s w (filled_nodes gs) d) gs later.keys later.rest.are none none can next.is.0.free)
 
+module _ (P : Pools) (here : Slot) (after : List Slot) (rows : List Data) where
   -- the next value in the last place makes the next row
-  pub next_at : (ss : List Slot) (x : Before) (used : List Data) (gs : List (Option Data)) (place : ℕ) (v w : Data) → AreKeySlots P ss → EndsAt ss used gs place here after rows v → filled_nodes gs ≤ most_nodes
-      → IsRest P ss end x (filled_nodes gs) used gs → IsNext tree_cmp (IsValue P here after rows (node_count v)) v (Some w) → IsNext fill_cmp (IsRest P ss end x (filled_nodes gs) used) gs (Some (put_at place w gs))
-  next_at [] x used gs place v w keys e small is next = absurd e
-  next_at (s ∷ ss) x used [] place v w keys e small is next = absurd e
-  next_at (s ∷ ss) x used (None ∷ gs) zero v w keys e small is next = absurd e
-  next_at (s ∷ ss) x used (Some u ∷ gs) zero v w keys (slot, others, rest, value, none) small is next =
-      let Next = λ (t : Slot) (ts : List Slot) (us : List Data) (z : Data). IsNext fill_cmp (IsRest P (t ∷ ts) end x (filled_nodes (Some z ∷ gs)) us) (Some z ∷ gs) (Some (Some w ∷ gs)) in
-      subst (λ t. Next t ss used u) (sym slot) (subst (λ ts. Next here ts used u) (sym others) (subst (λ us. Next here after us u) (sym rest) (subst (λ z. Next here after rows z) (sym value)
-      (next_here x gs v w (subst (λ t. AreKeySlots P (t ∷ after)) slot (subst (λ ts. AreKeySlots P (s ∷ ts)) others keys)) none (subst (λ z. filled_nodes (Some z ∷ gs) ≤ most_nodes) value small)
-      (subst (λ z. IsRest P (here ∷ after) end x (filled_nodes (Some z ∷ gs)) rows (Some z ∷ gs)) value
-      (subst (λ us. IsRest P (here ∷ after) end x (filled_nodes (Some u ∷ gs)) us (Some u ∷ gs)) rest
-      (subst (λ ts. IsRest P (here ∷ ts) end x (filled_nodes (Some u ∷ gs)) used (Some u ∷ gs)) others
-      (subst (λ t. IsRest P (t ∷ ss) end x (filled_nodes (Some u ∷ gs)) used (Some u ∷ gs)) slot is)))) next))))
-  next_at (s ∷ ss) x used (None ∷ gs) (suc place) v w keys e small is next =
-      next_after_out P end s ss x (filled_nodes gs) used keys small gs (put_at place w gs) is.are.0
-      (next_at ss x used gs place v w (keys_after P s ss keys) e small (rest_out P end s ss x (filled_nodes gs) used keys gs is) next)
-  next_at (s ∷ ss) x used (Some u ∷ gs) (suc place) v w keys e small is next =
-      let m = filled_nodes (Some u ∷ gs) in
-      let goes = goes_in P end s ss x m used keys small u gs is in
-      let left : m - node_count u ≡ filled_nodes gs = omega arith in
-      let remaining = subst (λ n. IsRest P ss end (filled s.bit x) n (still_used s u used) gs) left goes.2 in
-      next_after_in P end s ss x m used keys small u gs is (put_at place w gs)
-      (next_at ss (filled s.bit x) (still_used s u used) gs place v w (keys_after P s ss keys) e (omega (arith, small)) remaining next)
+  pub next_at : (ss : List Slot) (d : Demand) (gs : List (Option Data)) (place : ℕ) (v w : Data) → AreFilled P ss d gs → EndsAt ss d.used gs place here after rows v → IsNext tree_cmp (IsValue P here after rows (node_count v)) v (Some w)
+      → IsNext fill_cmp (IsRest P ss d) gs (Some (put_at place w gs))
+  next_at [] d gs place v w h e next = absurd e
+  next_at (s ∷ ss) d [] place v w h e next = absurd e
+  next_at (s ∷ ss) d (None ∷ gs) zero v w h e next = absurd e
+  next_at (s ∷ ss) d (Some u ∷ gs) zero v w h (slot, others, rest, value, none) next =
+      let Next = λ (t : Slot) (ts : List Slot) (us : List Data) (z : Data). IsNext tree_cmp (IsValue P t ts us (node_count z)) z (Some w) in
+      next_here P s ss d gs u w h none
+      (subst (λ t. Next t ss d.used u) (sym slot) (subst (λ ts. Next here ts d.used u) (sym others) (subst (λ us. Next here after us u) (sym rest) (subst (λ z. Next here after rows z) (sym value) next))))
+  next_at (s ∷ ss) d (None ∷ gs) (suc place) v w h e next = next_after_out P s ss d h.keys h.small gs (put_at place w gs) h.rest.are.0 (next_at ss d gs place v w (filled_out P s ss d gs h) e next)
+  next_at (s ∷ ss) d (Some u ∷ gs) (suc place) v w h e next =
+      next_after_in P s ss d h.keys h.small u gs h.rest (put_at place w gs) (next_at ss (demand_after s u (filled_nodes gs) d) gs place v w (filled_in P s ss d u gs h) e next)
 
   -- with another value in the last place, that is the last one
   ends_put : (ss : List Slot) (used : List Data) (gs : List (Option Data)) (place : ℕ) (v w : Data) → EndsAt ss used gs place here after rows v → EndsAt ss used (put_at place w gs) place here after rows w
@@ -141,29 +126,46 @@ module _ (P : Pools) (here : Slot) (after : List Slot) (rows : List Data) where
 
 -- ---- whole rows
 
-module _ (q : Question) (i place : ℕ) (used : List Data) (here : Slot) (after : List Slot) (rows : List Data) (order : AreInOrder (slots_from q i 0)) (keys : AreKeySlots q.pools (slots_from q i 0)) where
+module _ (q : Question) (i m : ℕ) (used : List Data) (order : AreInOrder (slots_from q i 0)) where
   abbrev row : List (Option Data) → Data
   row gs = object (members_in (slots_from q i 0) gs)
 
+  abbrev Filled : List (Option Data) → Type 0
+  Filled gs = AreFilled q.pools (slots_from q i 0) (row_demand q i m used) gs
+
   -- where values follow in the last place, they do so in the row
-  pub follow_row : (gs : List (Option Data)) (u : Data) (cs : List Data) → EndsAt (slots_from q i 0) used gs place here after rows u → filled_nodes gs ≤ most_nodes
-      → IsRest q.pools (slots_from q i 0) (ending_at q i) nothing (filled_nodes gs) used gs → Follow (IsValue q.pools here after rows (node_count u)) u cs → Follow (IsRow q i (filled_nodes gs) used) (row gs) cs
-  follow_row gs u [] e small is f = tt
-  follow_row gs u (c ∷ cs) e small is f =
+  follow_row : (place : ℕ) (here : Slot) (after : List Slot) (rows : List Data) (gs : List (Option Data)) (u : Data) (cs : List Data) → EndsAt (slots_from q i 0) used gs place here after rows u → Filled gs
+      → Follow (IsValue q.pools here after rows (node_count u)) u cs → Follow (IsRow q i m used) (row gs) cs
+  follow_row place here after rows gs u [] e h f = tt
+  follow_row place here after rows gs u (c ∷ cs) e h f =
       let ss = slots_from q i 0 in
       let w = with_last u c in
       let hs = put_at place w gs in
-      let next = next_at q.pools (ending_at q i) here after rows ss nothing used gs place u w keys e small is f.0 in
-      let count : filled_nodes gs ≡ node_count (row gs) - 1 = omega (arith, filled_count_nodes q.pools ss gs is.are) in
-      let whole : IsNext tree_cmp (IsRow q i (filled_nodes gs) used) (row gs) (Some (row hs)) =
-      subst (λ m. IsNext tree_cmp (IsRow q i m used) (row gs) (Some (row hs))) (sym count) (row_next q i used (row gs) gs (Some hs) order refl is count next) in
-      let same : row hs ≡ with_last (row gs) c = sym (object_last (members_in ss gs) c (some_members q.pools here after rows ss used gs place u e) ∙ ap object (members_last q.pools here after rows ss used gs place u c is.are e)) in
-      let nodes : filled_nodes hs ≡ filled_nodes gs = next.is.0.nodes_are in
-      let there = subst (λ m. IsRest q.pools ss (ending_at q i) nothing m used hs) (sym nodes) next.is.0 in
-      let later = follow_row hs w cs (ends_put q.pools (ending_at q i) here after rows ss used gs place u w e) (omega (arith, small, nodes)) there (subst (λ n. Follow (IsValue q.pools here after rows n) w cs) (sym f.0.is.0.nodes_are) f.1) in (
-        subst (λ v. IsNext tree_cmp (IsRow q i (filled_nodes gs) used) (row gs) (Some v)) same whole,
-        subst (λ v. Follow (IsRow q i (filled_nodes gs) used) v cs) same (subst (λ m. Follow (IsRow q i m used) (row hs) cs) nodes later),
-      )
+      let next = next_at q.pools here after rows ss (row_demand q i m used) gs place u w h e f.0 in
+      let same : row hs ≡ with_last (row gs) c = sym (object_last (members_in ss gs) c (some_members q.pools here after rows ss used gs place u e) ∙ ap object (members_last q.pools here after rows ss used gs place u c h.rest.are e)) in
+      let there : Filled hs = record { keys = h.keys; small = h.small; rest = next.is.0 } in
+      let later = follow_row place here after rows hs w cs (ends_put q.pools here after rows ss used gs place u w e) there (subst (λ n. Follow (IsValue q.pools here after rows n) w cs) (sym f.0.is.0.nodes_are) f.1) in
+      (subst (λ v. IsNext tree_cmp (IsRow q i m used) (row gs) (Some v)) same (row_next q i m used order gs (Some hs) h.rest next), subst (λ v. Follow (IsRow q i m used) v cs) same later)
+
+  put_same : (ss : List Slot) (used : List Data) (gs : List (Option Data)) (place : ℕ) (here : Slot) (after : List Slot) (rows : List Data) (w : Data) → EndsAt ss used gs place here after rows w → put_at place w gs ≡ gs
+  put_same [] used gs place here after rows w e = absurd e
+  put_same (s ∷ ss) used [] place here after rows w e = absurd e
+  put_same (s ∷ ss) used (None ∷ gs) zero here after rows w e = absurd e
+  put_same (s ∷ ss) used (Some u ∷ gs) zero here after rows w (slot, others, rest, value, none) = ap (λ t. Some t ∷ gs) (sym value)
+  put_same (s ∷ ss) used (None ∷ gs) (suc place) here after rows w e = ap (λ us. None ∷ us) (put_same ss used gs place here after rows w e)
+  put_same (s ∷ ss) used (Some u ∷ gs) (suc place) here after rows w e = ap (λ us. Some u ∷ us) (put_same ss (still_used s u used) gs place here after rows w e)
+
+  -- where values go on in the last slot, they do so in the row
+  continue_row : (gs : List (Option Data)) (cs : List Data) → Filled gs → MayContinue q.pools (slots_from q i 0) used gs cs → Continue (IsRow q i m used) (row gs) cs
+  continue_row gs cs h (inl none) = subst (Continue (IsRow q i m used) (row gs)) (sym none) tt
+  continue_row gs [] h (inr r) = tt
+  continue_row gs (x ∷ cs) h (inr r) =
+      let ss = slots_from q i 0 in
+      let f = r.continue in
+      let same : with_last (row gs) x ≡ row gs =
+      object_last (members_in ss gs) x (some_members q.pools r.here r.after r.rows ss used gs r.place r.value r.ends)
+      ∙ ap object (members_last q.pools r.here r.after r.rows ss used gs r.place r.value x h.rest.are r.ends ∙ (ap (λ t. members_in ss (put_at r.place t gs)) f.0 ∙ ap (members_in ss) (put_same ss used gs r.place r.here r.after r.rows r.value r.ends))) in
+      (same, follow_row r.place r.here r.after r.rows gs r.value cs r.ends h f.1)
 
 -- ---- lists
 
@@ -183,40 +185,56 @@ items_last : (front : Items) (u c : Data) → items_with_last (items_then front 
 items_last no_items u c = refl
 items_last (item d front) u c = next_last d (items_then front (item u no_items)) c (some_items_then front u) ∙ ap (λ ds. item d ds) (items_last front u c)
 
-module _ (q : Question) (i c : ℕ) (rule : RuleOfParts q.pools q.limit (site q i)) (ends : NoDeadEnd q.pools q.limit (site q i)) (item_is : item_site q.pools (site q i) ≡ Some (site q c)) (is_list : sort_of (site q i) ≡ sort.List) (top : q.limit ≤ most_nodes) (front : Items) where
-  abbrev whole : Data → Items
-  whole u = items_then front (item u no_items)
+module _ (q : Question) (i c : ℕ) (rule : RuleOfParts q.pools q.limit (site q i)) (ends : NoDeadEnd q.pools q.limit (site q i)) (item_is : item_site q.pools (site q i) ≡ Some (site q c)) (is_list : sort_of (site q i) ≡ sort.List) (top : q.limit ≤ most_nodes) where
+  module _ (front : Items) where
+    abbrev whole : Data → Items
+    whole u = items_then front (item u no_items)
 
-  -- nothing comes after another item of as many nodes
-  nothing_follows : (u w : Data) → IsPart q.pools (site q i) (list (whole u)) → 1 + items_count (whole u) ≤ q.limit → IsUnusedItem q i c (node_count u) front w → IsLeast items_cmp (AreItems q i 0 (whole w)) no_items
-  nothing_follows u w part within unused =
-      let old = whole u in
-      let before = all_left q i old in
-      let first = first_more q i c (node_count u) front w (walk_first q i c rule ends item_is old part within top 0 front u before) unused in
-      let fits = walk_fits q i c rule ends item_is old part within top 0 front u before in
-      let none : fits.1.0 ≡ 0 = omega (arith, fits.1.1.1) in
-      let count : fault.items_count front + 1 ≡ fault.items_count (whole w) = omega (arith, then_count front (item w no_items)) in
-      let more = subst (λ k. HasMore q.pools q.limit (site q i) k 0) count (subst (HasMore q.pools q.limit (site q i) (fault.items_count front + 1)) none fits.1.1.0) in
-      let few : 1 + items_count (whole w) + 0 ≤ q.limit = omega (arith, within, then_nodes front (item u no_items), then_nodes front (item w no_items), unused.part.nodes_are) in
-      let ds = some_items q i c rule ends item_is (whole w) 0 few first more in
-      none_follow q i (whole w) ds.0 ds.1
+    -- nothing comes after another item of as many nodes
+    nothing_follows : (u w : Data) → IsPart q.pools (site q i) (list (whole u)) → 1 + items_count (whole u) ≤ q.limit → IsUnusedItem q i c (node_count u) front w → IsLeast items_cmp (AreItems q i 0 (whole w)) no_items
+    nothing_follows u w part within unused =
+        let old = whole u in
+        let before = all_left q i old in
+        let first = first_more q i c (node_count u) front w (walk_first q i c rule ends item_is old part within top 0 front u before) unused in
+        let fits = walk_fits q i c rule ends item_is old part within top 0 front u before in
+        let none : fits.1.0 ≡ 0 = omega (arith, fits.1.1.1) in
+        let count : fault.items_count front + 1 ≡ fault.items_count (whole w) = omega (arith, then_count front (item w no_items)) in
+        let more = subst (λ k. HasMore q.pools q.limit (site q i) k 0) count (subst (HasMore q.pools q.limit (site q i) (fault.items_count front + 1)) none fits.1.1.0) in
+        let few : 1 + items_count (whole w) + 0 ≤ q.limit = omega (arith, within, then_nodes front (item u no_items), then_nodes front (item w no_items), unused.part.nodes_are) in
+        let ds = some_items q i c rule ends item_is (whole w) 0 few first more in
+        none_follow q i (whole w) ds.0 ds.1
 
-  -- where values follow in the place of the last item, they do so in the list
-  pub follow_list : (u : Data) (cs : List Data) → IsPart q.pools (site q i) (list (whole u)) → 1 + items_count (whole u) ≤ q.limit → Follow (IsUnusedItem q i c (node_count u) front) u cs
-      → Follow (IsPartOf q i (1 + items_count (whole u))) (list (whole u)) cs
-  follow_list u [] part within f = tt
-  follow_list u (x ∷ cs) part within f =
-      let old = whole u in
-      let w = with_last u x in
-      let n = 1 + items_count old in
-      let moved = walk_next q i c rule ends item_is old part within top 0 front u (all_left q i old) w no_items f.0 (nothing_follows u w part within f.0.is.0) in
-      let next = list_moved q i rule is_list old within (whole w) moved in
-      let same : list (whole w) ≡ with_last (list old) x = sym (list_last old x (some_items_then front u) ∙ ap list (items_last front u x)) in
-      let nodes : items_count (whole w) ≡ items_count old = moved.is.0.nodes_are in
-      let later = follow_list w cs moved.is.0.part (omega (arith, nodes, within)) (subst (λ k. Follow (IsUnusedItem q i c k front) w cs) (sym f.0.is.0.part.nodes_are) f.1) in (
-        subst (λ v. IsNext tree_cmp (IsPartOf q i n) (list old) (Some v)) same next,
-        subst (λ v. Follow (IsPartOf q i n) v cs) same (subst (λ k. Follow (IsPartOf q i (1 + k)) (list (whole w)) cs) nodes later),
-      )
+    -- where values follow in the place of the last item, they do so in the list
+    follow_list : (u : Data) (cs : List Data) → IsPart q.pools (site q i) (list (whole u)) → 1 + items_count (whole u) ≤ q.limit → Follow (IsUnusedItem q i c (node_count u) front) u cs
+        → Follow (IsPartOf q i (1 + items_count (whole u))) (list (whole u)) cs
+    follow_list u [] part within f = tt
+    follow_list u (x ∷ cs) part within f =
+        let old = whole u in
+        let w = with_last u x in
+        let n = 1 + items_count old in
+        let moved = walk_next q i c rule ends item_is old part within top 0 front u (all_left q i old) w no_items f.0 (nothing_follows u w part within f.0.is.0) in
+        let next = list_moved q i rule is_list old within (whole w) moved in
+        let same : list (whole w) ≡ with_last (list old) x = sym (list_last old x (some_items_then front u) ∙ ap list (items_last front u x)) in
+        let nodes : items_count (whole w) ≡ items_count old = moved.is.0.nodes_are in
+        let later = follow_list w cs moved.is.0.part (omega (arith, nodes, within)) (subst (λ k. Follow (IsUnusedItem q i c k front) w cs) (sym f.0.is.0.part.nodes_are) f.1) in (
+          subst (λ v. IsNext tree_cmp (IsPartOf q i n) (list old) (Some v)) same next,
+          subst (λ v. Follow (IsPartOf q i n) v cs) same (subst (λ k. Follow (IsPartOf q i (1 + k)) (list (whole w)) cs) nodes later),
+        )
+
+  -- where values go on in the place of the last item, they do so in the list
+  continue_list : (front : Items) (u v : Data) (cs : List Data) → v ≡ list (items_then front (item u no_items)) → IsPart q.pools (site q i) v → node_count v ≤ q.limit → Continue (IsUnusedItem q i c (node_count u) front) u cs → Continue (IsPartOf q i (node_count v)) v cs
+  continue_list front u v [] is part within f = tt
+  continue_list front u v (x ∷ cs) is part within f =
+      let old = items_then front (item u no_items) in
+      let same : with_last (list old) x ≡ list old = list_last old x (some_items_then front u) ∙ (ap list (items_last front u x) ∙ ap (λ t. list (items_then front (item t no_items))) f.0) in
+      subst (λ t. (with_last t x ≡ t) × Follow (IsPartOf q i (node_count t)) t cs) (sym is)
+      (same, follow_list front u cs (subst (IsPart q.pools (site q i)) is part) (subst (λ t. node_count t ≤ q.limit) is within) f.1)
+
+  -- where the items of a list continue, the list does
+  pub list_continues : (n : ℕ) (ds : Items) (cs : List Data) → IsPartOf q i n (list ds) → n ≤ q.limit → ItemsContinue q i c ds cs → Continue (IsPartOf q i n) (list ds) cs
+  list_continues n ds cs part within (inl none) = subst (Continue (IsPartOf q i n) (list ds)) (sym none) tt
+  list_continues n ds cs part within (inr h) =
+      subst (λ m. Continue (IsPartOf q i m) (list ds) cs) part.nodes_are (continue_list h.front h.one (list ds) cs (ap list h.is) part.part (omega (arith, part.nodes_are, within)) h.continue)
 
 -- ---- in other words
 
@@ -394,57 +412,29 @@ pub continue_same : (C D : Data → Type 0) (v : Data) (cs : List Data) → ((u 
 continue_same C D v [] there back f = tt
 continue_same C D v (u ∷ cs) there back f = (f.0, follow_same C D v cs there back f.1)
 
--- where values go on in the place of the last item, they do so in the list
-pub continue_list : (q : Question) (i c : ℕ) (rule : RuleOfParts q.pools q.limit (site q i)) (ends : NoDeadEnd q.pools q.limit (site q i)) (item_is : item_site q.pools (site q i) ≡ Some (site q c)) (is_list : sort_of (site q i) ≡ sort.List) (top : q.limit ≤ most_nodes)
-    (front : Items) (u v : Data) (cs : List Data) → v ≡ list (items_then front (item u no_items)) → IsPart q.pools (site q i) v → node_count v ≤ q.limit → Continue (IsUnusedItem q i c (node_count u) front) u cs → Continue (IsPartOf q i (node_count v)) v cs
-continue_list q i c rule ends item_is is_list top front u v [] is part within f = tt
-continue_list q i c rule ends item_is is_list top front u v (x ∷ cs) is part within f =
-    let old = items_then front (item u no_items) in
-    let same : with_last (list old) x ≡ list old = list_last old x (some_items_then front u) ∙ (ap list (items_last front u x) ∙ ap (λ t. list (items_then front (item t no_items))) f.0) in
-    subst (λ t. (with_last t x ≡ t) × Follow (IsPartOf q i (node_count t)) t cs) (sym is)
-    (same, follow_list q i c rule ends item_is is_list top front u cs (subst (IsPart q.pools (site q i)) is part) (subst (λ t. node_count t ≤ q.limit) is within) f.1)
+module _ (q : Question) (i : ℕ) (rule : RuleOfParts q.pools q.limit (site q i)) (is_row : sort_of (site q i) ≡ sort.Row) where
+  -- of a row that is not null: where rows go on, parts do
+  continue_part : (v : Data) (cs : List Data) → Continue (IsRow q i (node_count v - 1) []) v cs → Continue (IsPartOf q i (node_count v)) v cs
+  continue_part v [] f = tt
+  continue_part v (u ∷ cs) f = (f.0, later v cs f.1)
+    where
+      later : (v : Data) (cs : List Data) → Follow (IsRow q i (node_count v - 1) []) v cs → Follow (IsPartOf q i (node_count v)) v cs
+      later v [] f = tt
+      later v (c ∷ cs) f =
+          let w = with_last v c in
+          let next = row_next_part q i rule is_row v w f.0 in
+          let nodes : node_count w ≡ node_count v = next.is.0.nodes_are in
+          (next, subst (λ n. Follow (IsPartOf q i n) w cs) nodes (later w cs (subst (λ n. Follow (IsRow q i (n - 1) []) w cs) (sym nodes) f.1)))
 
--- where values go on in the last slot, they do so in the row
-pub continue_row : (q : Question) (i : ℕ) (used : List Data) (order : AreInOrder (slots_from q i 0)) (keys : AreKeySlots q.pools (slots_from q i 0)) (gs : List (Option Data)) (v : Data) (cs : List Data)
-    → v ≡ object (members_in (slots_from q i 0) gs) → node_count v - 1 ≡ filled_nodes gs → filled_nodes gs ≤ most_nodes → IsRest q.pools (slots_from q i 0) (ending_at q i) nothing (filled_nodes gs) used gs
-    → MayContinue q.pools (slots_from q i 0) used gs cs → Continue (IsRow q i (node_count v - 1) used) v cs
-continue_row q i used order keys gs v cs is count small rest (inl none) = subst (Continue (IsRow q i (node_count v - 1) used) v) (sym none) tt
-continue_row q i used order keys gs v [] is count small rest (inr r) = tt
-continue_row q i used order keys gs v (x ∷ cs) is count small rest (inr r) =
-    let ss = slots_from q i 0 in
-    let f = r.continue in
-    let same : with_last (object (members_in ss gs)) x ≡ object (members_in ss gs) =
-    object_last (members_in ss gs) x (some_members q.pools r.here r.after r.rows ss used gs r.place r.value r.ends)
-    ∙ ap object (members_last q.pools r.here r.after r.rows ss used gs r.place r.value x rest.are r.ends ∙ (ap (λ t. members_in ss (put_at r.place t gs)) f.0 ∙ ap (members_in ss) (put_same ss used gs r.place r.here r.after r.rows r.value r.ends))) in
-    let later = follow_row q i r.place used r.here r.after r.rows order keys gs r.value cs r.ends small rest f.1 in
-    (subst (λ t. with_last t x ≡ t) (sym is) same, subst (λ n. Follow (IsRow q i n used) v cs) (sym count) (subst (λ t. Follow (IsRow q i (filled_nodes gs) used) t cs) (sym is) later))
-  where
-    put_same : (ss : List Slot) (used : List Data) (gs : List (Option Data)) (place : ℕ) (here : Slot) (after : List Slot) (rows : List Data) (w : Data) → EndsAt ss used gs place here after rows w → put_at place w gs ≡ gs
-    put_same [] used gs place here after rows w e = absurd e
-    put_same (s ∷ ss) used [] place here after rows w e = absurd e
-    put_same (s ∷ ss) used (None ∷ gs) zero here after rows w e = absurd e
-    put_same (s ∷ ss) used (Some u ∷ gs) zero here after rows w (slot, others, rest, value, none) = ap (λ t. Some t ∷ gs) (sym value)
-    put_same (s ∷ ss) used (None ∷ gs) (suc place) here after rows w e = ap (λ us. None ∷ us) (put_same ss used gs place here after rows w e)
-    put_same (s ∷ ss) used (Some u ∷ gs) (suc place) here after rows w e = ap (λ us. Some u ∷ us) (put_same ss (still_used s u used) gs place here after rows w e)
+  -- the same, of parts of so many nodes
+  pub part_continues : (n : ℕ) (v : Data) (cs : List Data) → 1 ≤ n → IsRow q i (n - 1) [] v → Continue (IsRow q i (n - 1) []) v cs → Continue (IsPartOf q i n) v cs
+  part_continues n v cs some r h =
+      let nodes = (row_plain q i rule is_row n v some r).nodes_are in
+      subst (λ m. Continue (IsPartOf q i m) v cs) nodes (continue_part v cs (subst (λ m. Continue (IsRow q i (m - 1) []) v cs) (sym nodes) h))
 
--- of a row that is not null: where rows go on, parts do
-pub continue_part : (q : Question) (i : ℕ) (rule : RuleOfParts q.pools q.limit (site q i)) (is_row : sort_of (site q i) ≡ sort.Row) (v : Data) (cs : List Data) → Continue (IsRow q i (node_count v - 1) []) v cs → Continue (IsPartOf q i (node_count v)) v cs
-continue_part q i rule is_row v [] f = tt
-continue_part q i rule is_row v (u ∷ cs) f = (f.0, later v cs f.1)
-  where
-    later : (v : Data) (cs : List Data) → Follow (IsRow q i (node_count v - 1) []) v cs → Follow (IsPartOf q i (node_count v)) v cs
-    later v [] f = tt
-    later v (c ∷ cs) f =
-        let w = with_last v c in
-        let next = row_next_part q i rule is_row v w f.0 in
-        let nodes : node_count w ≡ node_count v = next.is.0.nodes_are in
-        (next, subst (λ n. Follow (IsPartOf q i n) w cs) nodes (later w cs (subst (λ n. Follow (IsRow q i (n - 1) []) w cs) (sym nodes) f.1)))
-
--- the same, of parts of so many nodes
-pub part_continues : (q : Question) (i : ℕ) (rule : RuleOfParts q.pools q.limit (site q i)) (is_row : sort_of (site q i) ≡ sort.Row) (n : ℕ) (v : Data) (cs : List Data) → 1 ≤ n → IsRow q i (n - 1) [] v → Continue (IsRow q i (n - 1) []) v cs → Continue (IsPartOf q i n) v cs
-part_continues q i rule is_row n v cs some r h =
-    let nodes = (row_plain q i rule is_row n v some r).nodes_are in
-    subst (λ m. Continue (IsPartOf q i m) v cs) nodes (continue_part q i rule is_row v cs (subst (λ m. Continue (IsRow q i (m - 1) []) v cs) (sym nodes) h))
+  pub row_moved_continues : (n : ℕ) (old : Data) (m : NextTree) (cs : List Data) → 1 ≤ n → IsNextTree (IsRow q i (n - 1) []) old m → ContinueNext (IsRow q i (n - 1) []) m cs → ContinueNext (IsPartOf q i n) m cs
+  row_moved_continues n old (tree_next.To t d) cs some next h = part_continues n (data_of t) cs some next.0.is.0 h
+  row_moved_continues n old (tree_next.Last k) cs some next h = tt
 
 pub moved_continues_same : (C D : Data → Type 0) (m : NextTree) (cs : List Data) → ((u : Data) → C u → D u) → ((u : Data) → D u → C u) → ContinueNext C m cs → ContinueNext D m cs
 moved_continues_same C D (tree_next.To t d) cs there back h = continue_same C D (data_of t) cs there back h
@@ -454,10 +444,6 @@ moved_continues_same C D (tree_next.Last n) cs there back h = tt
 pub none_continues : (C : Data → Type 0) (m : NextTree) (cs : List Data) → cs ≡ [] → ContinueNext C m cs
 none_continues C (tree_next.To t d) cs none = subst (Continue C (data_of t)) (sym none) tt
 none_continues C (tree_next.Last n) cs none = tt
-
-pub row_moved_continues : (q : Question) (i : ℕ) (rule : RuleOfParts q.pools q.limit (site q i)) (is_row : sort_of (site q i) ≡ sort.Row) (n : ℕ) (old : Data) (m : NextTree) (cs : List Data) → 1 ≤ n → IsNextTree (IsRow q i (n - 1) []) old m → ContinueNext (IsRow q i (n - 1) []) m cs → ContinueNext (IsPartOf q i n) m cs
-row_moved_continues q i rule is_row n old (tree_next.To t d) cs some next h = part_continues q i rule is_row n (data_of t) cs some next.0.is.0 h
-row_moved_continues q i rule is_row n old (tree_next.Last k) cs some next h = tt
 
 -- two things that hold of an answer give a third
 pub if_both : {T E : Type 0} (r : Result T E) (P Q R : T → Type 0) → ((v : T) → P v → Q v → R v) → IfOk r P → IfOk r Q → IfOk r R
@@ -512,16 +498,13 @@ same_fillings P (s ∷ ss) (Some u ∷ gs) (Some v ∷ hs) order a b same =
     λ k. Some (value k) ∷ later k
 
 -- where members of a whole row continue, the row does
-pub row_continues : (q : Question) (i n : ℕ) (used : List Data) (order : AreInOrder (slots_from q i 0)) (keys : AreKeySlots q.pools (slots_from q i 0)) (members : List Member) (gs : List (Option Data)) (cs : List Data)
-    → members_of members ≡ members_in (slots_from q i 0) gs → n ≤ most_nodes → IsRest q.pools (slots_from q i 0) (ending_at q i) nothing n used gs → MembersContinue q.pools (slots_from q i 0) used members cs → Continue (IsRow q i n used) (object (members_of members)) cs
-row_continues q i n used order keys members gs cs are small rest h =
+pub row_continues : (q : Question) (i m : ℕ) (used : List Data) (sound : HasSoundParts q.pools (site q i)) (members : List Member) (cs : List Data) → m ≤ most_nodes → IsRow q i m used (object (members_of members)) → MembersContinue q.pools (slots_from q i 0) used members cs
+    → Continue (IsRow q i m used) (object (members_of members)) cs
+row_continues q i m used sound members cs small r h =
     let ss = slots_from q i 0 in
-    let same = same_fillings q.pools ss h.fillings gs order h.fit rest.are (sym h.are ∙ are) in
-    let nodes : n ≡ filled_nodes gs = sym rest.nodes_are in
-    let count : node_count (object (members_of members)) - 1 ≡ filled_nodes gs = omega (arith, ap members_count are, filled_count_nodes q.pools ss gs rest.are) in
-    let continue = subst (λ us. MayContinue q.pools ss used us cs) same h.continue in
-    subst (λ m. Continue (IsRow q i m used) (object (members_of members)) cs) (count ∙ sym nodes)
-    (continue_row q i used order keys gs (object (members_of members)) cs (ap object are) count (omega (arith, small, nodes)) (subst (λ m. IsRest q.pools ss (ending_at q i) nothing m used gs) nodes rest) continue)
+    let are : members_of members ≡ members_in ss r.fillings = cc (r.is) in
+    let same = same_fillings q.pools ss h.fillings r.fillings sound.order h.fit r.rest.are (sym h.are ∙ are) in
+    subst (λ v. Continue (IsRow q i m used) v cs) (sym r.is) (continue_row q i m used sound.order r.fillings cs (record { keys = sound.keys; small = small; rest = r.rest }) (subst (λ us. MayContinue q.pools ss used us cs) same h.continue))
 
 -- at a place of a row
 module _ (q : Question) (i place : ℕ) (first : slots_from q i place ≡ slot_in q i place ∷ slots_from q i (place + 1)) where
@@ -559,16 +542,16 @@ module _ (q : Question) (i place : ℕ) (first : slots_from q i place ≡ slot_i
       })
 
   -- some size fits, so that members were put there
-  pub grown_continues : (made : NextParts) (x : Before) (m : ℕ) (used : List Data) (old new members : List Member) (cs : List Data) → (here_it.must ≡ false → CanFill q.pools after_it (ending_at q i) x m → ⊥) → CanFill q.pools (slots_from q i place) (ending_at q i) x m
-      → IsGrown made q.pools here_it after_it (ending_at q i) x m 0 used old new → GrownContinue made q.pools (slots_from q i place) used members cs → MembersContinue q.pools (slots_from q i place) used members cs
-  grown_continues (parts.Made d) x m used old new members cs stays can g h = h
-  grown_continues (parts.Last n) x m used old new members cs stays can g h = absurd (not_stuck q.pools (ending_at q i) here_it after_it x m (subst (λ ss. CanFill q.pools ss (ending_at q i) x m) first can) stays g.1)
+  pub grown_continues : (made : NextParts) (d : Demand) (old new members : List Member) (cs : List Data) → (here_it.must ≡ false → CanMeet q.pools after_it d → ⊥) → CanMeet q.pools (slots_from q i place) d
+      → IsGrown made q.pools here_it after_it d 0 old new → GrownContinue made q.pools (slots_from q i place) d.used members cs → MembersContinue q.pools (slots_from q i place) d.used members cs
+  grown_continues (parts.Made n) d old new members cs stays can g h = h
+  grown_continues (parts.Last n) d old new members cs stays can g h = absurd (not_stuck q.pools here_it after_it d (subst (λ ss. CanMeet q.pools ss d) first can) stays g.1)
 
 -- no nodes are left where no slot is
-pub no_room : (P : Pools) (end : Ending) (x : Before) (m : ℕ) → CanFill P [] end x m → m ≡ 0
-no_room P end x m can = nothing_in can.fillings can.are can.nodes_are
+pub no_room : (P : Pools) (d : Demand) → CanMeet P [] d → d.room ≡ 0
+no_room P d can = nothing_in can.fillings can.are can.nodes_are
   where
-    nothing_in : (gs : List (Option Data)) → AreFillings P [] gs → filled_nodes gs ≡ m → m ≡ 0
+    nothing_in : (gs : List (Option Data)) → AreFillings P [] gs → filled_nodes gs ≡ d.room → d.room ≡ 0
     nothing_in [] are nodes = sym nodes
     nothing_in (g ∷ gs) are nodes = absurd are
 
@@ -581,18 +564,11 @@ put_after old pushed new added one is all =
 -- ---- the items that were put there
 
 -- an item after others
-pub item_continues : (q : Question) (i c n : ℕ) (old new : List Tree) (one : Tree) (cs : List Data) → new ≡ old ++ one ∷ [] → node_count (data_of one) ≡ n → Continue (IsUnusedItem q i c n (items_of old)) (data_of one) cs → ItemsContinue q i c (items_of new) cs
-item_continues q i c n old new one cs is nodes h = inr (record {
+pub item_continues : (q : Question) (l : ListNode) (n : ℕ) (old new : List Tree) (one : Tree) (cs : List Data) → new ≡ old ++ one ∷ [] → node_count (data_of one) ≡ n → Continue (IsUnusedItem q l.node l.child n (items_of old)) (data_of one) cs
+    → ItemsContinue q l.node l.child (items_of new) cs
+item_continues q l n old new one cs is nodes h = inr (record {
   front = items_of old;
   one = data_of one;
   is = items_pushed old new one is;
-  continue = subst (λ m. Continue (IsUnusedItem q i c m (items_of old)) (data_of one) cs) (sym nodes) h;
+  continue = subst (λ m. Continue (IsUnusedItem q l.node l.child m (items_of old)) (data_of one) cs) (sym nodes) h;
 })
-
--- where the items of a list continue, the list does
-pub list_continues : (q : Question) (i c n : ℕ) (rule : RuleOfParts q.pools q.limit (site q i)) (ends : NoDeadEnd q.pools q.limit (site q i)) (item_is : item_site q.pools (site q i) ≡ Some (site q c)) (is_list : sort_of (site q i) ≡ sort.List) (top : q.limit ≤ most_nodes)
-    (ds : Items) (cs : List Data) → IsPartOf q i n (list ds) → n ≤ q.limit → ItemsContinue q i c ds cs → Continue (IsPartOf q i n) (list ds) cs
-list_continues q i c n rule ends item_is is_list top ds cs part within (inl none) = subst (Continue (IsPartOf q i n) (list ds)) (sym none) tt
-list_continues q i c n rule ends item_is is_list top ds cs part within (inr h) =
-    subst (λ m. Continue (IsPartOf q i m) (list ds) cs) part.nodes_are
-    (continue_list q i c rule ends item_is is_list top h.front h.one (list ds) cs (ap list h.is) part.part (omega (arith, part.nodes_are, within)) h.continue)

@@ -1,29 +1,30 @@
 -- What moves cost, step by step.
-use Rattle.std.specs.Prelude.{◌≡◌, ℕ, ◌+◌, ◌-◌, ◌*◌, ◌≤◌, ◌<◌, List, length}
+use Rattle.std.specs.Prelude.{◌≡◌, ℕ, ◌+◌, ◌-◌, ◌*◌, ◌≤◌, List, length}
 use Rattle.std.proofs.Common.{ap, ◌∙◌, arith}
 use Rattle.std.specs.Prelude.{Option}
 use Rattle.jtree.specs.Data.{Data}
+use Rattle.jtree.specs.Nodes.{node_count}
 use Rattle.plan.specs.Pools.Pools.{Pools}
 use Rattle.plan.specs.Samples.Candidates.{IsWidth}
 use Rattle.plan.specs.Samples.Sites.{Slot}
-use Rattle.plan.specs.Samples.Sizes.{filled_nodes, Ending}
 use Rattle.enumerate.specs.Internal.Moves.{AreNextMembers}
 use Rattle.enumerate.specs.Internal.Walks.{CostsLastFrom}
 use Rattle.std.proofs.Math.Nat.{mul-add, mul-le-mul_left}
 use Rattle.jtree.specs.declared.value.Member.{Member}
 use Rattle.plan.specs.Samples.Candidates.{sort_of}
-use Rattle.plan.specs.Samples.Sizes.{Before}
 use Rattle.plan.specs.Samples.Question.{Question}
 use Rattle.plan.specs.Samples.Steps.{counted}
 use Rattle.plan.specs.declared.sort.Sort.TheVariants as sort
 use Rattle.enumerate.specs.Internal.Nodes.{site, IsNodeOf, Costs}
-use Rattle.enumerate.specs.Internal.Rows.{slots_from, CostsSlots}
+use Rattle.enumerate.specs.Internal.Rows.{slots_from, CostsSlots, Demand, IsRowSlot}
+use Rattle.enumerate.specs.declared.row.RowSlot.{RowSlot}
 use Rattle.enumerate.specs.Internal.Steps.{KeepsMeter, CostsLast, CostsLastParts, CostsWalk, CostsFrom}
 use Rattle.enumerate.specs.declared.walk.NextTree as answer
 use Rattle.enumerate.specs.declared.walk.NextTree.TheVariants as tree_next
 use Rattle.enumerate.specs.declared.walk.NextParts.{NextParts}
 use Rattle.enumerate.specs.declared.walk.NextParts.TheVariants.{Made, Last}
 use Rattle.enumerate.proofs.walks.Membership.{slots_within}
+use Rattle.enumerate.proofs.lists.Lemmas.{some_nodes}
 
 -- ---- nodes
 
@@ -97,17 +98,27 @@ pub parts_kept : (made : NextParts) (q : Question) (old mid new n : ℕ) → Cos
 parts_kept (Made d) q old mid new n h k = tt
 parts_kept (Last r) q old mid new n h k = λ w wide. omega (arith, h w wide, k)
 
--- the slots that were walked, and the one that moves
-pub walk_cost : (q : Question) (i old mid new place room n m : ℕ) → n + room ≡ m → ((w : ℕ) → IsWidth q.pools q.root w → mid + place ≤ old + length (slots_from q i 0) + (w + 1) * (2 * room))
-    → CostsFrom q i mid new (3 * n + room) → CostsWalk q i old new m
-walk_cost q i old mid new place room n m both walked h = λ w wide. omega (arith, split_cost w (2 * room) (3 * n + room) (3 * m) (omega (arith, both)), walked w wide, h w wide)
+module _ (q : Question) (i : ℕ) where
+  -- the slots that were walked, and the one that moves
+  pub walk_cost : (old mid new place room n m : ℕ) → n + room ≡ m → ((w : ℕ) → IsWidth q.pools q.root w → mid + place ≤ old + length (slots_from q i 0) + (w + 1) * (2 * room)) → CostsFrom q i mid new (3 * n + room) → CostsWalk q i old new m
+  walk_cost old mid new place room n m both walked h = λ w wide. omega (arith, split_cost w (2 * room) (3 * n + room) (3 * m) (omega (arith, both)), walked w wide, h w wide)
 
--- no next one is found at a place, of which the front took so many steps
-pub last_removed : (made : NextParts) (q : Question) (i place : ℕ) (P : Pools) (ss : List Slot) (end : Ending) (x : Before) (used : List Data) (gs : List (Option Data)) (new : List Member) (room n old front after : ℕ) → IsNodeOf q i → sort_of (site q i) ≡ sort.Row → place < length (slots_from q i 0)
-    → front ≤ old + 1 + place → 1 ≤ n → filled_nodes gs ≡ room + n → AreNextMembers made P ss end x used gs new → CostsLastParts made q front after (2 * n - 1) → CostsLastFrom made q room old after
-last_removed (Made d) q i place P ss end x used gs new room n old front after at row inside walked some nodes h cost = tt
-last_removed (Last m) q i place P ss end x used gs new room n old front after at row inside walked some nodes h cost = λ w wide.
-    omega (arith, walked, inside, slots_within q i at row w wide, split_cost w (2 * room) (2 * n) (2 * m) (omega (arith, h.1, nodes)), split_cost w (2 * n - 1) 1 (2 * n) (omega (arith, some)), cost w wide)
+-- where there is no next one, so many nodes are removed
+abbrev pub Removes : ℕ → NextParts → Type 0
+Removes n (Made d) = Unit {0}
+Removes n (Last m) = n ≡ m
+
+pub removes_all : (made : NextParts) (P : Pools) (ss : List Slot) (d : Demand) (gs : List (Option Data)) (new : List Member) → AreNextMembers made P ss d gs new → Removes d.room made
+removes_all (Made n) P ss d gs new h = tt
+removes_all (Last m) P ss d gs new h = h.1
+
+-- no next one is found at a slot, of which the front took so many steps
+module _ (q : Question) (t : RowSlot) (here : IsRowSlot q t) where
+  pub last_removed : (made : NextParts) (v : Data) (room old front after : ℕ) → front ≤ old + 1 + t.place → Removes (room + node_count v) made → CostsLastParts made q front after (2 * node_count v - 1) → CostsLastFrom made q room old after
+  last_removed (Made d) v room old front after walked removes cost = tt
+  last_removed (Last m) v room old front after walked removes cost = λ w wide.
+      let n = node_count v in
+      omega (arith, walked, here.within, slots_within q t.node here.node here.row w wide, split_cost w (2 * room) (2 * n) (2 * m) (omega (arith, removes)), split_cost w (2 * n - 1) 1 (2 * n) (omega (arith, some_nodes v)), cost w wide)
 
 -- ---- where there may be no next one
 

@@ -96,12 +96,41 @@ used_keys ss used = map (key_under ss) used
 abbrev pub IsUnused : List Slot → List Data → List Data → Type 0
 IsUnused ss used key = Contains (used_keys ss used) key → ⊥
 
--- the slots filled with m nodes, so that the row may end after them, where this is before them
-pub record IsRest (P : Pools) (ss : List Slot) (end : Ending) (x : Before) (m : ℕ) (used : List Data) (gs : List (Option Data)) : Type 0 where
+-- ---- what is asked of slots
+
+-- the used rows that agree so far with a value in a slot
+abbrev pub still_used : Slot → Data → List Data → List Data
+still_used s v used = agreeing_if s.key s.name v used
+
+-- how the row may end, what is before the slots, how many nodes they have together, and the used rows that agree with what is before them
+pub record Demand : Type 0 where
+  pub ending : Ending
+  pub before : Before
+  pub room : ℕ
+  pub used : List Data
+
+-- of the slots of a whole row
+abbrev pub row_demand : Question → ℕ → ℕ → List Data → Demand
+row_demand q i room used = record { ending = ending_at q i; before = nothing; room = room; used = used }
+
+-- of the slots of a row from a place on, where this is ahead
+abbrev pub demand_at : Question → ℕ → Ahead → Demand
+demand_at q i a = record { ending = ending_at q i; before = a.before; room = a.room; used = used_rows a.used }
+
+-- of the slots after one that has this value, where so many nodes are left for them
+abbrev pub demand_after : Slot → Data → ℕ → Demand → Demand
+demand_after s v room d = record { ending = d.ending; before = filled s.bit d.before; room = room; used = still_used s v d.used }
+
+-- the slots can have so many nodes, so that the row may end after them
+abbrev pub CanMeet : Pools → List Slot → Demand → Type 0
+CanMeet P ss d = CanFill P ss d.ending d.before d.room
+
+-- they are filled so, and no used row has the same values under all keys
+pub record IsRest (P : Pools) (ss : List Slot) (d : Demand) (gs : List (Option Data)) : Type 0 where
   pub are : AreFillings P ss gs
-  pub ends : MayEnd end (state_after ss gs x)
-  pub nodes_are : filled_nodes gs ≡ m
-  pub unused : IsUnused ss used (key_values ss gs)
+  pub ends : MayEnd d.ending (state_after ss gs d.before)
+  pub nodes_are : filled_nodes gs ≡ d.room
+  pub unused : IsUnused ss d.used (key_values ss gs)
 
 -- used rows have all keys, and no two have the same
 pub record AreUsed (P : Pools) (ss : List Slot) (used : List Data) : Type 0 where
@@ -109,25 +138,21 @@ pub record AreUsed (P : Pools) (ss : List Slot) (used : List Data) : Type 0 wher
   pub tuples : All (IsTuple P (filter is_key ss)) (used_keys ss used)
   pub apart : AllPairs (λ t u. t ≢ u) (used_keys ss used)
 
--- the slots can be filled so
-pub record IsOpen (P : Pools) (ss : List Slot) (end : Ending) (x : Before) (m : ℕ) (used : List Data) : Type 0 where
-  pub known : AreUsed P ss used
-  pub rest : CanFill P ss end x m
-  pub free : HasFree P (filter is_key ss) (used_keys ss used) []
+-- the slots can be filled as is asked
+pub record IsOpen (P : Pools) (ss : List Slot) (d : Demand) : Type 0 where
+  pub known : AreUsed P ss d.used
+  pub rest : CanMeet P ss d
+  pub free : HasFree P (filter is_key ss) (used_keys ss d.used) []
 
--- the first members of m nodes for the slots come after those that were there
-pub record AddsFirst (P : Pools) (ss : List Slot) (end : Ending) (x : Before) (m : ℕ) (used : List Data) (old new : List Member) : Type 0 where
+-- the first members that meet a demand come after those that were there
+pub record AddsFirst (P : Pools) (ss : List Slot) (d : Demand) (old new : List Member) : Type 0 where
   pub added : List Member
   pub is : new ≡ old ++ added
   pub fillings : List (Option Data)
   pub are : members_of added ≡ members_in ss fillings
-  pub least : IsLeast fill_cmp (IsRest P ss end x m used) fillings
+  pub least : IsLeast fill_cmp (IsRest P ss d) fillings
 
 -- ---- a slot, and those after it
-
--- the used rows that agree so far with a value in a slot
-abbrev pub still_used : Slot → Data → List Data → List Data
-still_used s v used = agreeing_if s.key s.name v used
 
 -- a part of n nodes for the slot that leaves those after it some key
 pub record IsValue (P : Pools) (s : Slot) (ss : List Slot) (used : List Data) (n : ℕ) (v : Data) : Type 0 where
@@ -135,45 +160,56 @@ pub record IsValue (P : Pools) (s : Slot) (ss : List Slot) (used : List Data) (n
   pub nodes_are : node_count v ≡ n
   pub free : HasFree P (filter is_key ss) (used_keys ss (still_used s v used)) []
 
--- a size for the slot that leaves those after it the rest of m nodes
-abbrev pub FitsSlot : Pools → Slot → List Slot → Ending → Before → ℕ → ℕ → Type 0
-FitsSlot P s ss end x m n = IsSplit (HasSize P s.site) (CanFill P ss end (filled s.bit x)) m n
+-- a size for the slot that leaves those after it the rest of the nodes
+abbrev pub FitsSlot : Pools → Slot → List Slot → Demand → ℕ → Type 0
+FitsSlot P s ss d n = IsSplit (HasSize P s.site) (CanFill P ss d.ending (filled s.bit d.before)) d.room n
 
 -- after the members that were there comes the first value of the least size from `from` on, and then the first members after it
-pub record Grows (P : Pools) (s : Slot) (ss : List Slot) (end : Ending) (x : Before) (m from : ℕ) (used : List Data) (old new : List Member) : Type 0 where
+pub record Grows (P : Pools) (s : Slot) (ss : List Slot) (d : Demand) (from : ℕ) (old new : List Member) : Type 0 where
   pub size : ℕ
   pub one : Member
   pub name : one.name ≡ s.name
-  pub least : IsLeastFrom (FitsSlot P s ss end x m) from size
-  pub first : IsLeast tree_cmp (IsValue P s ss used size) (data_of one.tree)
-  pub rest : AddsFirst P ss end (filled s.bit x) (m - size) (still_used s (data_of one.tree) used) (old ++ one ∷ []) new
+  pub least : IsLeastFrom (FitsSlot P s ss d) from size
+  pub first : IsLeast tree_cmp (IsValue P s ss d.used size) (data_of one.tree)
+  pub rest : AddsFirst P ss (demand_after s (data_of one.tree) (d.room - size) d) (old ++ one ∷ []) new
 
-abbrev pub IsGrown : NextParts → Pools → Slot → List Slot → Ending → Before → ℕ → ℕ → List Data → List Member → List Member → Type 0
-IsGrown (Made d) P s ss end x m from used old new = Grows P s ss end x m from used old new × (d ≡ 0)
-IsGrown (Last n) P s ss end x m from used old new = (new ≡ old) × IsEmptyFrom (FitsSlot P s ss end x m) from × (n ≡ m)
+abbrev pub IsGrown : NextParts → Pools → Slot → List Slot → Demand → ℕ → List Member → List Member → Type 0
+IsGrown (Made n) P s ss d from old new = Grows P s ss d from old new × (n ≡ 0)
+IsGrown (Last n) P s ss d from old new = (new ≡ old) × IsEmptyFrom (FitsSlot P s ss d) from × (n ≡ d.room)
 
 -- ---- what is ahead at a place
+
+-- the same with so many nodes more
+abbrev pub larger : Ahead → ℕ → Ahead
+larger a n = record { before = a.before; room = a.room + n; used = a.used }
 
 -- the slots from the place on can be filled with what is ahead
 pub record IsOpenAt (q : Question) (i place : ℕ) (a : Ahead) : Type 0 where
   pub count : a.before.count ≤ place
   pub limit : a.before.count + a.room < q.limit
-  pub can : IsOpen q.pools (slots_from q i place) (ending_at q i) a.before a.room (used_rows a.used)
+  pub can : IsOpen q.pools (slots_from q i place) (demand_at q i a)
 
 abbrev pub AddsFirstAt : Question → ℕ → ℕ → Ahead → List Member → List Member → Type 0
-AddsFirstAt q i place a old new = AddsFirst q.pools (slots_from q i place) (ending_at q i) a.before a.room (used_rows a.used) old new
+AddsFirstAt q i place a old new = AddsFirst q.pools (slots_from q i place) (demand_at q i a) old new
 
 abbrev pub IsGrownAt : NextParts → Question → RowSlot → Ahead → ℕ → List Member → List Member → Type 0
-IsGrownAt st q t a from old new = IsGrown st q.pools (slot_there q t) (slots_after q t) (ending_at q t.node) a.before a.room from (used_rows a.used) old new
+IsGrownAt next q t a from old new = IsGrown next q.pools (slot_there q t) (slots_after q t) (demand_at q t.node a) from old new
+
+-- a size for the slot, where this is before it and so many nodes are ahead
+abbrev pub FitsAt : Question → RowSlot → Before → ℕ → ℕ → Type 0
+FitsAt q t x room n = IsSplit (HasSize q.pools (slot_there q t).site) (CanFill q.pools (slots_after q t) (ending_at q t.node) (filled (slot_there q t).bit x)) room n
+
+-- what is asked of the slots after this one, where this value is in it
+abbrev pub demand_past : Question → RowSlot → Data → Ahead → Demand
+demand_past q t v a = demand_after (slot_there q t) v a.room (demand_at q t.node a)
 
 abbrev pub AddsFirstAfter : Question → RowSlot → Data → Ahead → List Member → List Member → Type 0
-AddsFirstAfter q t v a old new = AddsFirst q.pools (slots_after q t) (ending_at q t.node) (filled (slot_there q t).bit a.before) a.room (still_used (slot_there q t) v (used_rows a.used)) old new
+AddsFirstAfter q t v a old new = AddsFirst q.pools (slots_after q t) (demand_past q t v a) old new
 
--- the same after the slot, where this value is in it
 pub record IsOpenAfter (q : Question) (t : RowSlot) (v : Data) (a : Ahead) : Type 0 where
   pub count : a.before.count ≤ t.place
   pub limit : a.before.count + 1 + a.room < q.limit
-  pub can : IsOpen q.pools (slots_after q t) (ending_at q t.node) (filled (slot_there q t).bit a.before) a.room (still_used (slot_there q t) v (used_rows a.used))
+  pub can : IsOpen q.pools (slots_after q t) (demand_past q t v a)
 
 abbrev pub IsValueAt : Question → RowSlot → List Data → ℕ → Data → Type 0
 IsValueAt q t used n v = IsValue q.pools (slot_there q t) (slots_after q t) used n v
@@ -187,7 +223,7 @@ AreUsedAt q t used = AreUsed q.pools (slots_at q t) used
 pub record IsRow (q : Question) (i n : ℕ) (used : List Data) (v : Data) : Type 0 where
   pub fillings : List (Option Data)
   pub is : v ≡ tree.object (members_in (slots_from q i 0) fillings)
-  pub rest : IsRest q.pools (slots_from q i 0) (ending_at q i) nothing n used fillings
+  pub rest : IsRest q.pools (slots_from q i 0) (row_demand q i n used) fillings
 
 -- for each slot one step, and one for their end, besides those of m nodes
 abbrev pub CostsSlots : Question → ℕ → ℕ → ℕ → ℕ → ℕ → Type 0

@@ -6,13 +6,12 @@ ghost use Rattle.jtree.specs.View.{data_of};
 ghost use Rattle.plan.specs.Samples.Candidates.{sort_of};
 ghost use Rattle.plan.specs.Samples.NoDeadEnd.{is_key, HasFree};
 ghost use Rattle.plan.specs.Samples.Part.{IsPart};
-ghost use Rattle.plan.specs.Samples.Sizes.{nothing};
 ghost use Rattle.plan.specs.Sets.{IsLeastFrom, IsEmptyFrom};
 ghost use Rattle.enumerate.specs.Least.{IsLeast};
 ghost use Rattle.enumerate.specs.Internal.Candidates.{used_rows, stack_of};
 ghost use Rattle.enumerate.specs.Internal.Following.{Continue, MembersContinue, MembersContinueAt, GrownContinueAt};
 ghost use Rattle.enumerate.specs.Internal.Nodes.{site, IsNodeOf, Costs, HasSizeAt};
-ghost use Rattle.enumerate.specs.Internal.Rows.{slots_from, ending_at, IsOpen, IsRow, CostsSlots, used_keys, slots_at, slot_there, IsRowSlot, IsOpenAt, AddsFirstAt, IsGrownAt, IsValueAt, AddsFirstAfter, IsOpenAfter, AreUsedAt, CostsAfter, slots_after, FitsSlot};
+ghost use Rattle.enumerate.specs.Internal.Rows.{slots_from, row_demand, IsOpen, IsRow, CostsSlots, used_keys, slots_at, slot_there, IsRowSlot, IsOpenAt, AddsFirstAt, IsGrownAt, IsValueAt, AddsFirstAfter, IsOpenAfter, AreUsedAt, CostsAfter, FitsAt};
 ghost use Rattle.enumerate.specs.Internal.Steps.{KeepsMeter};
 ghost use Rattle.plan.specs.declared.sort.Sort.TheVariants as sort;
 
@@ -40,7 +39,7 @@ impl<'p, Z: SizeSet> Walk<'p, Z> {
         requires row { sort_of (site self.now.plan.now node) ≡ sort.Row }
         requires some { 1 ≤ size }
         requires limit { size ≤ self.now.plan.now.limit }
-        requires open { IsOpen self.now.plan.now.pools (slots_from self.now.plan.now node 0) (ending_at self.now.plan.now node) nothing (size - 1) (used_rows used.now) }
+        requires open { IsOpen self.now.plan.now.pools (slots_from self.now.plan.now node 0) (row_demand self.now.plan.now node (size - 1) (used_rows used.now)) }
         ensures ok { IfOk result (λ v. IsLeast tree_cmp (IsRow self.now.plan.now node (size - 1) (used_rows used.now)) (data_of v)) }
         ensures following { IfOk result (λ v. Continue (IsRow self.now.plan.now node (size - 1) (used_rows used.now)) (data_of v) (stack_of scratch.new.following.items)) }
         ensures steps { Costs self.now.plan.now scratch.old.meter scratch.new.meter size }
@@ -223,8 +222,7 @@ impl<'p, Z: SizeSet> Walk<'p, Z> {
         requires here { IsRowSlot self.now.plan.now here.now }
         requires count { before.count ≤ here.now.place }
         requires limit { before.count + room < self.now.plan.now.limit }
-        ensures { MatchOption result (IsEmptyFrom (FitsSlot self.now.plan.now.pools (slot_there self.now.plan.now here.now) (slots_after self.now.plan.now here.now) (ending_at self.now.plan.now here.now.node) before room) from)
-            (IsLeastFrom (FitsSlot self.now.plan.now.pools (slot_there self.now.plan.now here.now) (slots_after self.now.plan.now here.now) (ending_at self.now.plan.now here.now.node) before room) from) }
+        ensures { MatchOption result (IsEmptyFrom (FitsAt self.now.plan.now here.now before room) from) (IsLeastFrom (FitsAt self.now.plan.now here.now before room) from) }
     {
         self.laws_of(here.node);
         let rest = before

@@ -1,18 +1,17 @@
 //! The next members of a row.
-ghost use Rattle.std.specs.Prelude.{◌++◌, ◌∷◌, [], ◌≡◌, ◌+◌, ◌-◌, ◌≤◌, ◌<◌, ℕ, List, length, drop, IfOk, ◌*◌, Option, Some, ◌↔◌, IsTrue, IfSome, true, None, ◌≢◌, IfNone, take, All};
+ghost use Rattle.std.specs.Prelude.{◌++◌, ◌∷◌, [], ◌≡◌, ◌+◌, ◌-◌, ◌≤◌, ◌<◌, ℕ, List, length, drop, IfOk, ◌*◌, Option, Some, ◌↔◌, IsTrue, IfSome, true, None, ◌≢◌, IfNone, All};
 ghost use Rattle.jtree.specs.Data.{Data, Members as MembersData, object as object_data};
 ghost use Rattle.jtree.specs.Nodes.{node_count, members_count};
 ghost use Rattle.jtree.specs.View.{data_of, members_of};
 ghost use Rattle.plan.specs.Samples.Candidates.{sort_of};
 ghost use Rattle.plan.specs.Samples.Part.{IsPart};
-ghost use Rattle.plan.specs.Samples.Sizes.{nothing};
 ghost use Rattle.enumerate.specs.Page.{IsPast};
 ghost use Rattle.enumerate.specs.Internal.Candidates.{used_rows, stack_of};
 ghost use Rattle.enumerate.specs.Internal.Following.{GrownContinueAt, ContinueNext, GrownContinue};
-ghost use Rattle.enumerate.specs.Internal.Moves.{IsNextTree, AreInSlots, MovesMembers, MovesMember, WasAt};
+ghost use Rattle.enumerate.specs.Internal.Moves.{IsNextTree, AreInSlots, demand_of, MovesMembers, MovesMember, WasAt};
 ghost use Rattle.enumerate.specs.Internal.Nodes.{site, IsNodeOf};
 ghost use Rattle.enumerate.specs.Internal.Prefixes.{EndsIn};
-ghost use Rattle.enumerate.specs.Internal.Rows.{slots_from, ending_at, IsOpen, IsRow, slots_at, slot_there, IsRowSlot, IsValueAt, AreUsedAt, CostsAfter, AreUsed, slots_after, FitsSlot, IsGrown};
+ghost use Rattle.enumerate.specs.Internal.Rows.{slots_from, IsRow, slot_there, IsRowSlot, IsOpenAt, IsGrownAt, IsValueAt, AreUsedAt, CostsAfter, AreUsed, FitsAt, larger};
 ghost use Rattle.enumerate.specs.Internal.Steps.{KeepsMeter, CostsMembers, CostsTree, CostsMember};
 ghost use Rattle.enumerate.specs.Internal.Walks.{IsWalkedTo, AreLeft, MovesSlot, CostsSlot};
 ghost use Rattle.plan.specs.declared.sort.Sort.TheVariants as sort;
@@ -69,7 +68,7 @@ impl<'p, Z: SizeSet> Walk<'p, Z> {
         requires node { IsNodeOf self.now.plan.now node }
         requires row { sort_of (site self.now.plan.now node) ≡ sort.Row }
         requires used { AreUsed self.now.plan.now.pools (slots_from self.now.plan.now node 0) (used_rows used.now) }
-        requires in_slots { (gs : List (Option Data)) × AreInSlots self.now.plan.now.pools (slots_from self.now.plan.now node 0) (ending_at self.now.plan.now node) nothing (used_rows used.now) members.old.items gs }
+        requires in_slots { (gs : List (Option Data)) × AreInSlots self.now.plan.now.pools (slots_from self.now.plan.now node 0) (demand_of self.now.plan.now node (used_rows used.now) gs) members.old.items gs }
         requires limit { members_count (members_of members.old.items) < self.now.plan.now.limit }
         ensures ok { IfOk result (λ next. MovesMembers next self.now.plan.now node (used_rows used.now) members.old.items members.new.items) }
         ensures following { IfOk result (λ next. GrownContinue next self.now.plan.now.pools (slots_from self.now.plan.now node 0) (used_rows used.now) members.new.items (stack_of scratch.new.following.items)) }
@@ -106,7 +105,7 @@ impl<'p, Z: SizeSet> Walk<'p, Z> {
     ) -> Result<NextParts, AllocError>
         requires here { IsRowSlot self.now.plan.now here.now }
         requires used { AreUsed self.now.plan.now.pools (slots_from self.now.plan.now here.now.node 0) (used_rows used.now) }
-        requires walked { (gs : List (Option Data)) × IsWalkedTo self.now.plan.now here.now.node (here.now.place + 1) removed.old.room (used_rows used.now) removed.old.before members.old.items gs }
+        requires walked { (gs : List (Option Data)) × IsWalkedTo self.now.plan.now here.now.node (here.now.place + 1) removed.old (used_rows used.now) members.old.items gs }
         requires limit { members_count (members_of members.old.items) + removed.old.room < self.now.plan.now.limit }
         ensures ok { IfOk result (λ next. MovesSlot next self.now.plan.now here.now removed.old (used_rows used.now) members.old.items removed.new members.new.items) }
         ensures following { IfOk result (λ next. GrownContinue next self.now.plan.now.pools (slots_from self.now.plan.now here.now.node 0) (used_rows used.now) members.new.items (stack_of scratch.new.following.items)) }
@@ -133,7 +132,7 @@ impl<'p, Z: SizeSet> Walk<'p, Z> {
         requires here { IsRowSlot self.now.plan.now here.now }
         requires used { AreUsed self.now.plan.now.pools (slots_from self.now.plan.now here.now.node 0) (used_rows used.now) }
         requires name { member.name ≡ (slot_there self.now.plan.now here.now).name }
-        requires walked { (gs : List (Option Data)) × IsWalkedTo self.now.plan.now here.now.node (here.now.place + 1) removed.old.room (used_rows used.now) removed.old.before (members.old.items ++ member ∷ []) gs }
+        requires walked { (gs : List (Option Data)) × IsWalkedTo self.now.plan.now here.now.node (here.now.place + 1) removed.old (used_rows used.now) (members.old.items ++ member ∷ []) gs }
         requires limit { members_count (members_of members.old.items) + (removed.old.room + node_count (data_of member.tree)) < self.now.plan.now.limit }
         ensures ok { IfOk result (λ next. MovesSlot next self.now.plan.now here.now removed.old (used_rows used.now) (members.old.items ++ member ∷ []) removed.new members.new.items) }
         ensures following { IfOk result (λ next. GrownContinue next self.now.plan.now.pools (slots_from self.now.plan.now here.now.node 0) (used_rows used.now) members.new.items (stack_of scratch.new.following.items)) }
@@ -174,7 +173,7 @@ impl<'p, Z: SizeSet> Walk<'p, Z> {
         requires here { IsRowSlot self.now.plan.now here.now }
         requires used { AreUsed self.now.plan.now.pools (slots_from self.now.plan.now here.now.node 0) (used_rows used.now) }
         requires out { EndsIn (slot_there self.now.plan.now here.now).name members.old.items → ⊥ }
-        requires walked { (gs : List (Option Data)) × IsWalkedTo self.now.plan.now here.now.node (here.now.place + 1) removed.now.room (used_rows used.now) removed.now.before members.old.items gs }
+        requires walked { (gs : List (Option Data)) × IsWalkedTo self.now.plan.now here.now.node (here.now.place + 1) removed.now (used_rows used.now) members.old.items gs }
         requires limit { members_count (members_of members.old.items) + removed.now.room < self.now.plan.now.limit }
         ensures ok { IfOk result (λ next. MovesSlot next self.now.plan.now here.now removed.now (used_rows used.now) members.old.items removed.now members.new.items) }
         ensures following { IfOk result (λ next. GrownContinue next self.now.plan.now.pools (slots_from self.now.plan.now here.now.node 0) (used_rows used.now) members.new.items (stack_of scratch.new.following.items)) }
@@ -207,7 +206,7 @@ impl<'p, Z: SizeSet> Walk<'p, Z> {
         requires here { IsRowSlot self.now.plan.now here.now }
         requires count { before.count ≤ here.now.place }
         requires limit { before.count + room < self.now.plan.now.limit }
-        ensures { IsTrue result ↔ ((n : ℕ) × FitsSlot self.now.plan.now.pools (slot_there self.now.plan.now here.now) (slots_after self.now.plan.now here.now) (ending_at self.now.plan.now here.now.node) before room n) }
+        ensures { IsTrue result ↔ ((n : ℕ) × FitsAt self.now.plan.now here.now before room n) }
     {
         self.least_value(here, before, room, 0).is_some()
     }
@@ -226,7 +225,6 @@ impl<'p, Z: SizeSet> Walk<'p, Z> {
         requires here { IsRowSlot self.now.plan.now here.now }
         requires member { WasAt self.now.plan.now here.now ahead.now members.old.items member }
         ensures ok { IfOk result (λ next. MovesMember next self.now.plan.now here.now ahead.now member members.old.items members.new.items) }
-        ensures kept { IfOk result (λ _. take ahead.now.before.count members.new.items ≡ members.old.items) }
         ensures left { IfOk result (λ next. AreLeft next members.old.items members.new.items) }
         ensures following { IfOk result (λ next. GrownContinueAt next self.now.plan.now here.now (used_rows ahead.now.used) (drop ahead.now.before.count members.new.items) (stack_of scratch.new.following.items)) }
         ensures steps { CostsMember result self.now.plan.now here.now ahead.now.room scratch.old.meter scratch.new.meter (node_count (data_of member.tree)) }
@@ -282,10 +280,8 @@ impl<'p, Z: SizeSet> Walk<'p, Z> {
         scratch: &mut Scratch<'p>,
     ) -> Result<NextParts, AllocError>
         requires here { IsRowSlot self.now.plan.now here.now }
-        requires count { ahead.now.before.count ≤ here.now.place }
-        requires limit { ahead.now.before.count + (ahead.now.room + size) < self.now.plan.now.limit }
-        requires open { IsOpen self.now.plan.now.pools (slots_at self.now.plan.now here.now) (ending_at self.now.plan.now here.now.node) ahead.now.before (ahead.now.room + size) (used_rows ahead.now.used) }
-        ensures ok { IfOk result (λ next. IsGrown next self.now.plan.now.pools (slot_there self.now.plan.now here.now) (slots_after self.now.plan.now here.now) (ending_at self.now.plan.now here.now.node) ahead.now.before (ahead.now.room + size) (size + 1) (used_rows ahead.now.used) members.old.items members.new.items) }
+        requires open { IsOpenAt self.now.plan.now here.now.node here.now.place (larger ahead.now size) }
+        ensures ok { IfOk result (λ next. IsGrownAt next self.now.plan.now here.now (larger ahead.now size) (size + 1) members.old.items members.new.items) }
         ensures following { IfOk result (λ next. GrownContinueAt next self.now.plan.now here.now (used_rows ahead.now.used) (drop (length members.old.items) members.new.items) (stack_of scratch.new.following.items)) }
         ensures steps { CostsAfter self.now.plan.now here.now scratch.old.meter scratch.new.meter (ahead.now.room + size) }
         ensures last { IfOk result (λ next. KeepsMeter next scratch.old.meter scratch.new.meter) }

@@ -26,7 +26,7 @@ returns-in_err-take-clause-part g c =
     let first = Some (data_of c.args.self.now.tree) in
     let v = data_of c.samples.self.tree in
     let l = c.samples.invariant.lent in
-    lends_part q first (Some v) c.args.count c.samples.lent (g.T.Taker.has_taken c.args.taker.now c.samples.taker) (g.T.Taker.has_taken c.args.taker.now c.take.new.self) (c.in_err-take.ensures.err c.args.taker.now) l after start)
+    lends_part q first after c.args.count c.samples.lent start (Some v) (g.T.Taker.has_taken c.args.taker.now c.samples.taker) (g.T.Taker.has_taken c.args.taker.now c.take.new.self) (c.in_err-take.ensures.err c.args.taker.now) l)
 
 pub returns-in_err-take-clause-taken : goal.returns-in_err-take-clause-taken
 returns-in_err-take-clause-taken g c = let l = c.samples.invariant.lent in (l.items, c.in_err-take.ensures.err c.args.taker.now l.items l.taken, omega (arith, l.counted, c.samples.invariant.short))
@@ -41,7 +41,7 @@ returns-in_err-advance-clause-part g c =
     let first = Some (data_of c.args.self.now.tree) in
     let v = data_of c.samples.self.tree in
     let l = c.samples.invariant.lent in
-    lends_part_with q first c.args.count c.samples.lent (g.T.Taker.has_taken c.args.taker.now c.samples.taker) (g.T.Taker.has_taken c.args.taker.now c.take.new.self) v (c.in_ok-take.ensures.ok c.args.taker.now) (omega (arith, c.samples-test.true)) l after start)
+    lends_part_with q first after c.args.count c.samples.lent start (g.T.Taker.has_taken c.args.taker.now c.samples.taker) (g.T.Taker.has_taken c.args.taker.now c.take.new.self) v (c.in_ok-take.ensures.ok c.args.taker.now) (omega (arith, c.samples-test.true)) l)
 
 pub returns-in_err-advance-clause-taken : goal.returns-in_err-advance-clause-taken
 returns-in_err-advance-clause-taken g c =

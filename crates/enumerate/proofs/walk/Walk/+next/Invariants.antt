@@ -1,13 +1,12 @@
 use Rattle.std.proofs.Common.{◌+◌, ◌*◌, ◌≤◌, ℕ, List, Option, length, vec_len}
 use Rattle.jtree.specs.Data.{Data}
 use Rattle.plan.specs.Samples.Candidates.{IsWidth}
-use Rattle.plan.specs.Samples.Sizes.{nothing}
-use Rattle.enumerate.specs.Internal.Moves.{AreInSlots}
+use Rattle.enumerate.specs.Internal.Moves.{AreInSlots, demand_of}
 use Rattle.enumerate.specs.Internal.Walks.{IsWalkedTo}
 use Rattle.jtree.specs.View.{items_of}
 use Rattle.enumerate.specs.Internal.Candidates.{used_rows}
 use Rattle.enumerate.specs.Internal.Nodes.{weight, Costs}
-use Rattle.enumerate.specs.Internal.Rows.{slots_from, ending_at}
+use Rattle.enumerate.specs.Internal.Rows.{slots_from}
 use Rattle.enumerate.proofs.lists.Walks.{WereLast}
 use Rattle.enumerate.proofs.walk.Walk.+next.Given as goal
 
@@ -32,7 +31,7 @@ decreases-next_filled_slot g l = weight l.self.now.plan.now l.here.now.node + 3
 abbrev pub invariant-next_members-loop-place : goal.invariant-next_members-loop-place
 invariant-next_members-loop-place g l = record {
   within : l.place ≤ length (slots_from l.self.plan.now l.node 0);
-  walked : (gs : List (Option Data)) → AreInSlots l.self.plan.now.pools (slots_from l.self.plan.now l.node 0) (ending_at l.self.plan.now l.node) nothing (used_rows l.used) l.initial.members.items gs → IsWalkedTo l.self.plan.now l.node l.place l.removed.room (used_rows l.used) l.removed.before l.members.items gs;
+  walked : (gs : List (Option Data)) → AreInSlots l.self.plan.now.pools (slots_from l.self.plan.now l.node 0) (demand_of l.self.plan.now l.node (used_rows l.used) gs) l.initial.members.items gs → IsWalkedTo l.self.plan.now l.node l.place l.removed (used_rows l.used) l.members.items gs;
   steps : (w : ℕ) → IsWidth l.self.plan.now.pools l.self.plan.now.root w → l.scratch.meter + l.place ≤ l.initial.scratch.meter + length (slots_from l.self.plan.now l.node 0) + (w + 1) * (2 * l.removed.room);
 }
 

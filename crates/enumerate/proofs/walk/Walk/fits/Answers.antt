@@ -1,8 +1,8 @@
-use Rattle.std.proofs.Common.{◌+◌, ◌↔◌, ℕ, Option, Some, None, IsTrue, refl, sym, subst, arith}
+use Rattle.std.proofs.Common.{◌↔◌, ℕ, Option, Some, None, IsTrue, refl, sym, subst, arith}
 use Rattle.std.specs.Prelude.{MatchOption}
 use Rattle.std.specs.Option.{is_some}
 use Rattle.plan.specs.Sets.{IsEmptyFrom, IsLeastFrom}
-use Rattle.enumerate.specs.Internal.Rows.{slots_from, slot_in, ending_at, FitsSlot}
+use Rattle.enumerate.specs.Internal.Rows.{FitsAt}
 use Rattle.enumerate.proofs.walk.Walk.fits.Goals as goal
 
 -- there is a least one where there is one at all
@@ -13,5 +13,5 @@ found A None h = (λ yes. absurd (cc), λ some. absurd (h some.0 (omega arith) s
 pub returns : goal.returns
 returns g c =
     let q = c.args.self.now.plan.now in
-    let Fits = FitsSlot q.pools (slot_in q c.args.here.now.node c.args.here.now.place) (slots_from q c.args.here.now.node (c.args.here.now.place + 1)) (ending_at q c.args.here.now.node) c.args.before c.args.room in
+    let Fits = FitsAt q c.args.here.now c.args.before c.args.room in
     subst (λ b. IsTrue b ↔ ((n : ℕ) × Fits n)) (sym c.is_some.ensures) (found Fits c.least_value.result c.least_value.ensures)

@@ -26,7 +26,7 @@ unreachable-requires g t c =
 pub first_items-requires : goal.first_list-first_items-requires
 first_items-requires g t c κs within =
     let q = c.args.self.now.plan.now in
-    let follow = list_follow q c.args.node c.in-Some.child c.args.size c.laws_of.ensures.rule c.requires.list c.in-Some.ensures.some (omega (arith, c.if-size-gt1.true)) c.requires.limit c.requires.no_null c.requires.size in
+    let follow = list_follow q c.args.node c.laws_of.ensures.rule c.requires.list c.args.size (omega (arith, c.if-size-gt1.true)) c.requires.limit c.requires.no_null c.in-Some.child c.in-Some.ensures.some c.requires.size in
     (omega (arith, c.decreases, c.requires.limit), (within, (record { node = c.requires.node; child = c.in-Some.ensures.below }, (subst (λ l. CanFollow q c.args.node c.in-Some.child (c.args.size - 1) (items_of l)) (sym c.new-items.ensures.items) follow, inl (ap stack_of c.clear.ensures.items)))))
 
 pub returns-in_err-first_items-clause-steps : goal.first_list-returns-in_err-first_items-clause-steps
@@ -43,12 +43,12 @@ returns g t c =
           elim c.if-size-gt1.branch [
             | first_list-then-size-gt1+in-Some+in_ok-first_items b ↦
                 subst (λ v. IsLeast tree_cmp (IsPartOf q c.args.node c.args.size) (list_data (items_of v.items))) (sym b.items-is)
-                (list_first q c.args.node c.args.size rule c.requires.list some c.requires.limit c.requires.no_null _
+                (list_first q c.args.node rule c.requires.list c.args.size some c.requires.limit c.requires.no_null _
                 (subst (λ l. AddsItems q c.args.node (c.args.size - 1) l b.first_items.new.items.items) c.new-items.ensures.items b.in_ok-first_items.ensures.ok))
             | first_list-else-size-gt1 b ↦
                 subst (λ v. IsLeast tree_cmp (IsPartOf q c.args.node c.args.size) (list_data (items_of v.items))) (sym b.items-is)
                 (subst (λ l. IsLeast tree_cmp (IsPartOf q c.args.node c.args.size) (list_data (items_of l))) (sym c.new-items.ensures.items)
-                (list_alone q c.args.node c.args.size rule c.requires.list some c.requires.limit c.requires.no_null (omega (arith, b.if-size-gt1.false)) c.requires.size))
+                (list_alone q c.args.node rule c.requires.list c.args.size some c.requires.limit c.requires.no_null (omega (arith, b.if-size-gt1.false)) c.requires.size))
           ];
       following =
           let i = c.args.node in
@@ -57,10 +57,10 @@ returns g t c =
           let ends = c.laws_of.ensures.completed in
           elim c.if-size-gt1.branch [
             | first_list-then-size-gt1+in-Some+in_ok-first_items b ↦
-                let first = list_first q i n rule c.requires.list some c.requires.limit c.requires.no_null _ (subst (λ l. AddsItems q i (n - 1) l b.first_items.new.items.items) c.new-items.ensures.items b.in_ok-first_items.ensures.ok) in
+                let first = list_first q i rule c.requires.list n some c.requires.limit c.requires.no_null _ (subst (λ l. AddsItems q i (n - 1) l b.first_items.new.items.items) c.new-items.ensures.items b.in_ok-first_items.ensures.ok) in
                 subst (λ s. Continue (IsPartOf q i n) (list_data (items_of c.if-size-gt1.items.items)) (stack_of s.following.items)) (sym b.scratch-is)
                 (subst (λ v. Continue (IsPartOf q i n) (list_data (items_of v.items)) (stack_of b.first_items.new.scratch.following.items)) (sym b.items-is)
-                (list_continues q i b.in-Some.child n rule ends b.in-Some.ensures.some c.requires.list (omega (arith, c.laws_of.ensures.limit)) (items_of b.first_items.new.items.items) (stack_of b.first_items.new.scratch.following.items) first.is c.requires.limit b.in_ok-first_items.ensures.following))
+                (list_continues q i b.in-Some.child rule ends b.in-Some.ensures.some c.requires.list (omega (arith, c.laws_of.ensures.limit)) n (items_of b.first_items.new.items.items) (stack_of b.first_items.new.scratch.following.items) first.is c.requires.limit b.in_ok-first_items.ensures.following))
             | first_list-else-size-gt1 b ↦ subst (λ s. Continue (IsPartOf q i n) (list_data (items_of c.if-size-gt1.items.items)) (stack_of s.following.items)) (sym b.scratch-is) (subst (λ l. Continue (IsPartOf q i n) (list_data (items_of c.if-size-gt1.items.items)) (stack_of l)) (sym c.clear.ensures.items) tt)
           ];
       steps = elim c.if-size-gt1.branch [

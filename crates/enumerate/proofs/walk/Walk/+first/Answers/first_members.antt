@@ -4,10 +4,9 @@ use Rattle.std.proofs.Common.{drop, sym, subst, ◌∙◌, arith, ◌≡◌, ◌
 use Rattle.enumerate.proofs.samples.Following.{continue_out, grown_continues, no_room}
 use Rattle.enumerate.proofs.rows.Slots.{no_slots, slot_of, none_at, one_fewer, out_open, out_adds, grown_at}
 use Rattle.enumerate.proofs.walks.Costs.{costs_wider}
-use Rattle.plan.specs.Samples.Sizes.{CanFill}
 use Rattle.enumerate.proofs.walk.Walk.+first.Goals.{first_members-else-not-here-via-then-not-here+else-has, first_members-else-not-here-via-else-not-here, first_members-In-Some}
 use Rattle.enumerate.specs.Internal.Candidates.{stack_of, used_rows}
-use Rattle.enumerate.specs.Internal.Rows.{slots_from, ending_at, IsSlotOf}
+use Rattle.enumerate.specs.Internal.Rows.{slots_from, demand_at, CanMeet, IsSlotOf}
 use Rattle.enumerate.proofs.walk.Walk.+first.Given.{Over}
 use Rattle.enumerate.proofs.walk.Walk.+first.Goals as goal
 
@@ -22,11 +21,12 @@ pub returns-in_default : goal.first_members-returns-in_default
 returns-in_default g t c =
     let q = c.args.self.now.plan.now in
     record {
-      ok = none_at q c.args.node c.args.place c.laws_of.ensures.sound c.args.ahead.now.before c.args.ahead.now.room (used_rows c.args.ahead.now.used) c.args.members.now.items c.in_default.ensures.none c.requires.open.can;
+      ok = none_at q c.args.node c.args.place c.laws_of.ensures.sound (demand_at q c.args.node c.args.ahead.now) c.args.members.now.items c.in_default.ensures.none c.requires.open.can;
       following =
           let i = c.args.node in
           let none = no_slots q i c.args.place c.in_default.ensures.none in
-          let empty = no_room q.pools (ending_at q i) c.args.ahead.now.before c.args.ahead.now.room (subst (λ ss. CanFill q.pools ss (ending_at q i) c.args.ahead.now.before c.args.ahead.now.room) none c.requires.open.can.rest) in
+          let d = demand_at q i c.args.ahead.now in
+          let empty = no_room q.pools d (subst (λ ss. CanMeet q.pools ss d) none c.requires.open.can.rest) in
           absurd (omega (arith, empty, c.requires.some));
       steps = λ w wide. omega (arith, c.slot.ensures.step);
     }
@@ -40,7 +40,7 @@ first_members-requires g t c κs within =
     let can = ((c.rest.ensures c.args.ahead.now.room).0 (c.has.ensures.0 c.if-has.true)).1 in
     let fewer = fewer_here g t (goal.at.first_members-first_members-requires g t c).In-Some in (
       omega (arith, c.decreases, fewer),
-      (within, (c.requires.node, (c.requires.row, (c.requires.some, record { count = omega (arith, c.requires.open.count); limit = c.requires.open.limit; can = out_open q c.args.node c.args.place sound s.first c.args.ahead.now.before c.args.ahead.now.room (used_rows c.args.ahead.now.used) free can c.requires.open.can })))),
+      (within, (c.requires.node, (c.requires.row, (c.requires.some, record { count = omega (arith, c.requires.open.count); limit = c.requires.open.limit; can = out_open q c.args.node c.args.place sound s.first (demand_at q c.args.node c.args.ahead.now) free can c.requires.open.can })))),
     )
 
 pub returns-then-has : goal.first_members-returns-then-has
@@ -51,7 +51,7 @@ returns-then-has g t c =
     record {
       ok =
           let sound = c.laws_of.ensures.sound in
-          on_ok_weaker c.first_members.result (λ a. out_adds q c.args.node c.args.place sound s.first c.args.ahead.now.before c.args.ahead.now.room (used_rows c.args.ahead.now.used) c.args.members.now.items c.first_members.new.members.items (omega (arith, c.requires.open.limit, c.laws_of.ensures.limit)) free a)
+          on_ok_weaker c.first_members.result (λ a. out_adds q c.args.node c.args.place sound s.first (demand_at q c.args.node c.args.ahead.now) c.args.members.now.items c.first_members.new.members.items (omega (arith, c.requires.open.limit, c.laws_of.ensures.limit)) free a)
           c.first_members.ensures.ok;
       following = on_ok_weaker c.first_members.result (λ h. continue_out q c.args.node c.args.place s.first (used_rows c.args.ahead.now.used) (drop (length c.args.members.now.items) c.first_members.new.members.items) (stack_of c.first_members.new.scratch.following.items) free h) c.first_members.ensures.following;
       steps = costs_wider c.args.self.now.plan.now c.args.node c.args.place c.args.scratch.now.meter c.slot.new.meter c.args.ahead.now.room c.slot.ensures.step (fewer_here g t (goal.at.first_members-returns-then-has g t c).In-Some) c.first_members.new.scratch.meter c.first_members.ensures.steps;
@@ -75,7 +75,7 @@ returns g t c =
     record {
       ok =
           let sound = c.laws_of.ensures.sound in
-          grown_at q c.args.node c.args.place sound s.first c.in_ok-grow_members.field-0 c.args.ahead.now.before c.args.ahead.now.room (used_rows c.args.ahead.now.used) c.args.members.now.items c.grow_members.new.members.items (omega (arith, c.requires.open.limit, c.laws_of.ensures.limit))
+          grown_at q c.args.node c.args.place sound s.first c.in_ok-grow_members.field-0 (demand_at q c.args.node c.args.ahead.now) c.args.members.now.items c.grow_members.new.members.items (omega (arith, c.requires.open.limit, c.laws_of.ensures.limit))
           (λ free can. elim c.else-not-here.branch [
             | first_members-else-not-here-via-then-not-here+else-has w ↦ let yes = w.has.ensures.1 ((w.rest.ensures c.args.ahead.now.room).1 (omega (arith, c.requires.open.limit), can)) in let no = sym yes ∙ w.if-has.false in cc
             | first_members-else-not-here-via-else-not-here w ↦ let yes = w.if-not-here.false in let no = sym yes ∙ s.must ∙ free in cc
@@ -84,7 +84,7 @@ returns g t c =
           let i = c.args.node in
           let old = c.args.members.now.items in
           let new = c.grow_members.new.members.items in
-          grown_continues q i c.args.place s.first c.in_ok-grow_members.field-0 c.args.ahead.now.before c.args.ahead.now.room (used_rows c.args.ahead.now.used) old new (drop (length old) new) (stack_of c.grow_members.new.scratch.following.items)
+          grown_continues q i c.args.place s.first c.in_ok-grow_members.field-0 (demand_at q i c.args.ahead.now) old new (drop (length old) new) (stack_of c.grow_members.new.scratch.following.items)
           (λ free can. elim c.else-not-here.branch [
             | first_members-else-not-here-via-then-not-here+else-has w ↦ let yes = w.has.ensures.1 ((w.rest.ensures c.args.ahead.now.room).1 (omega (arith, c.requires.open.limit), can)) in let no = sym yes ∙ w.if-has.false in cc
             | first_members-else-not-here-via-else-not-here w ↦ let yes = w.if-not-here.false in let no = sym yes ∙ s.must ∙ free in cc

@@ -75,4 +75,4 @@ first_items-requires g t c κs within =
     let follow = follow_item q c.args.list.now.node c.args.list.now.child c.args.room c.in-Some.size old c.push.new.self.items c.in_ok-item.item c.requires.first c.requires.within fit first.is c.in_ok-push.ensures.items in
     let cs = stack_of c.first_item.new.scratch.following.items in
     let continue = subst (λ l. Continue (IsUnusedItem q c.args.list.now.node c.args.list.now.child c.in-Some.size (items_of l)) (data_of c.in_ok-item.item) cs) same c.in_ok-item.ensures.following in
-    (omega (arith, c.decreases, some, few), (within, (c.requires.list, (follow, item_continues q c.args.list.now.node c.args.list.now.child c.in-Some.size old c.push.new.self.items c.in_ok-item.item cs c.in_ok-push.ensures.items first.is.part.nodes_are continue))))
+    (omega (arith, c.decreases, some, few), (within, (c.requires.list, (follow, item_continues q c.args.list.now c.in-Some.size old c.push.new.self.items c.in_ok-item.item cs c.in_ok-push.ensures.items first.is.part.nodes_are continue))))

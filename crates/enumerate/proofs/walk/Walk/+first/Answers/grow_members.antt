@@ -1,5 +1,5 @@
 use Rattle.enumerate.specs.Internal.Following.{Continue}
-use Rattle.enumerate.specs.Internal.Rows.{IsValue, slots_from, slot_in}
+use Rattle.enumerate.specs.Internal.Rows.{IsValue, demand_at, slots_from, slot_in}
 use Rattle.enumerate.proofs.walks.Costs.{part_within, costs_slots, costs_both_slots}
 use Rattle.plan.specs.Samples.Sizes.{HasSize}
 use Rattle.enumerate.proofs.rows.Slots.{after_open}
@@ -44,7 +44,7 @@ put_member-requires g t c κs within =
                 record {
                   count = c.requires.open.count;
                   limit = omega (arith, c.requires.open.limit, some, few);
-                  can = after_open q c.args.here.now.node c.args.here.now.place sound c.requires.here.slot.first c.args.ahead.now.before c.args.ahead.now.room (used_rows c.args.ahead.now.used) c.in-Some.size (data_of c.in_ok-tree.tree) c.requires.open.can.known c.in-Some.ensures.1 value;
+                  can = after_open q c.args.here.now.node c.args.here.now.place sound c.requires.here.slot.first (demand_at q c.args.here.now.node c.args.ahead.now) c.in-Some.size (data_of c.in_ok-tree.tree) c.requires.open.can.known c.in-Some.ensures.1 value;
                 },
               ),
             ),

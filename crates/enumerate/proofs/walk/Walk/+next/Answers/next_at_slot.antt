@@ -18,7 +18,7 @@ next_filled_slot-requires g t c κs within =
     let one = c.in-Some.member in
     let front = c.pop_named.new.members.items in
     let popped = c.in-Some.ensures.some in
-    let walked = subst (λ l. IsWalkedTo q here.node (here.place + 1) c.args.removed.now.room (used_rows c.args.used.now) c.args.removed.now.before l gs) popped.0 c.requires.walked.1 in
+    let walked = subst (λ l. IsWalkedTo q here.node (here.place + 1) c.args.removed.now (used_rows c.args.used.now) l gs) popped.0 c.requires.walked.1 in
     let nodes : members_count (members_of c.args.members.now.items) ≡ members_count (members_of front) + node_count (data_of one.tree) = ap (λ l. members_count (members_of l)) popped.0 ∙ members_pushed front one in
     (omega (arith, c.decreases), (within, (c.requires.here, (c.requires.used, (popped.1 ∙ c.requires.here.slot.name, ((gs, walked), omega (arith, nodes, c.requires.limit)))))))
 
@@ -32,7 +32,7 @@ next_empty_slot-requires g t c =
       here = c.requires.here;
       used = c.requires.used;
       out = λ e. none.1 (subst (λ k. EndsIn k c.args.members.now.items) (sym c.requires.here.slot.name) (subst (EndsIn (slot_in q here.node here.place).name) none.0 e));
-      walked = subst (λ l. (gs : List (Option Data)) × IsWalkedTo q here.node (here.place + 1) removed.room (used_rows c.args.used.now) removed.before l gs) (sym none.0) c.requires.walked;
+      walked = subst (λ l. (gs : List (Option Data)) × IsWalkedTo q here.node (here.place + 1) removed (used_rows c.args.used.now) l gs) (sym none.0) c.requires.walked;
       limit = subst (λ l. members_count (members_of l) + removed.room < q.limit) (sym none.0) c.requires.limit;
     }
 

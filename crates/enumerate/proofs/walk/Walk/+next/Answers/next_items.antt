@@ -42,7 +42,7 @@ first_here g t c =
     front_first q i k c.laws_of.ensures.rule c.laws_of.ensures.completed c.requires.item old c.requires.part within top c.loop-item.room c.loop-item.items.items front one c.in-Some.ensures.items c.loop-item.invariant.last
 
 last_here : (g : Over) (t : ℕ) (c : next_items-In-Last g t) → IsNext tree_cmp (IsUnusedItem c.args.self.now.plan.now c.args.list.now.node c.args.list.now.child (node_count (data_of c.in-Some.item)) (items_of c.pop.new.self.items)) (data_of c.in-Some.item) None × (node_count (data_of c.in-Some.item) ≡ c.in-Last.size)
-last_here g t c = item_moved c.args.self.now.plan.now c.args.list.now.node c.args.list.now.child c.in-Some.item c.as_slice.result.now c.pop.new.self.items c.in_ok-next.field-0 (tree_next.Last c.in-Last.size) c.as_slice.ensures.value c.in-Last.is c.in_ok-next.ensures.ok
+last_here g t c = item_moved c.args.self.now.plan.now c.args.list.now c.in-Some.item c.as_slice.result.now c.pop.new.self.items c.in_ok-next.field-0 (tree_next.Last c.in-Last.size) c.as_slice.ensures.value c.in-Last.is c.in_ok-next.ensures.ok
 
 -- what grows in its place, and in that of those after it
 walked_here : (g : Over) (t : ℕ) (c : next_items-In-Last g t) (st : NextParts) (now : List Tree) → AreGrown st c.args.self.now.plan.now c.args.list.now.node c.args.list.now.child (c.loop-item.room + c.in-Last.size) (c.in-Last.size + 1) c.pop.new.self.items now
@@ -122,7 +122,7 @@ returns-in_err-next-clause-steps g t c =
 
 -- the next item, after the same items
 next_here : (g : Over) (t : ℕ) (c : next_items-In-To g t) → IsNextTree (IsUnusedItem c.args.self.now.plan.now c.args.list.now.node c.args.list.now.child (node_count (data_of c.in-Some.item)) (items_of c.pop.new.self.items)) (data_of c.in-Some.item) (tree_next.To c.in-To.next c.in-To.depth)
-next_here g t c = item_moved c.args.self.now.plan.now c.args.list.now.node c.args.list.now.child c.in-Some.item c.as_slice.result.now c.pop.new.self.items c.in_ok-next.field-0 (tree_next.To c.in-To.next c.in-To.depth) c.as_slice.ensures.value c.in-To.is c.in_ok-next.ensures.ok
+next_here g t c = item_moved c.args.self.now.plan.now c.args.list.now c.in-Some.item c.as_slice.result.now c.pop.new.self.items c.in_ok-next.field-0 (tree_next.To c.in-To.next c.in-To.depth) c.as_slice.ensures.value c.in-To.is c.in_ok-next.ensures.ok
 
 pub below-depth-requires : goal.next_items-below-depth-requires
 below-depth-requires g t c =
@@ -150,7 +150,7 @@ put_item-requires g t c =
           let cs = stack_of c.next_item.new.scratch.following.items in
           let C = λ (l : List Tree). IsUnusedItem q i k (node_count one) (items_of l) in
           let continue = subst (λ l. ContinueNext (C l) (tree_next.To next c.in-To.depth) cs) c.as_slice.ensures.value (subst (λ m. ContinueNext (C c.as_slice.result.now) m cs) c.in-To.is c.in_ok-next.ensures.following) in
-          item_continues q i k (node_count one) front (front ++ next ∷ []) next cs refl to.0.is.0.part.nodes_are continue;
+          item_continues q c.args.list.now (node_count one) front (front ++ next ∷ []) next cs refl to.0.is.0.part.nodes_are continue;
     }
 
 pub returns-in_err-put_item-in-To-clause-steps : goal.next_items-returns-in_err-put_item-in-To-clause-steps

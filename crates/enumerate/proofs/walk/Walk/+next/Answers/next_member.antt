@@ -1,24 +1,22 @@
-use Rattle.std.proofs.Common.{rules, refl, sym, ap, subst, ◌∙◌, arith, ◌≡◌, ◌+◌, ◌-◌, ◌*◌, ◌≤◌, ℕ, drop, [], ◌∷◌, ◌++◌, append-nil}
+use Rattle.std.proofs.Common.{rules, refl, sym, ap, subst, ◌∙◌, arith, ◌≡◌, ◌+◌, ◌-◌, ◌*◌, ◌≤◌, ℕ, drop, [], ◌∷◌, ◌++◌, append-nil, append_assoc}
 use Rattle.std.proofs.lemmas.Result.{IfOk-weaker}
 use Rattle.jtree.specs.Data.{object as object_data}
 use Rattle.jtree.specs.Nodes.{node_count}
 use Rattle.jtree.specs.declared.value.Member.{Member}
 use Rattle.enumerate.specs.Internal.Candidates.{stack_of, used_rows}
-use Rattle.plan.specs.Samples.Sizes.{filled}
-use Rattle.enumerate.specs.Internal.Rows.{IsOpen, slots_from, slot_in, ending_at, IsValueAt, CostsAfter}
-use Rattle.enumerate.specs.Internal.Following.{Continue, ContinueNext, MembersContinue, GrownContinue}
+use Rattle.enumerate.specs.Internal.Rows.{slots_from, slots_after, slot_there, demand_at, larger, IsOpenAt, IsGrownAt, IsValueAt, CostsAfter}
+use Rattle.enumerate.specs.Internal.Following.{Continue, ContinueNext, MembersContinue, GrownContinueAt}
 use Rattle.enumerate.proofs.walks.Costs.{cost_within, split_cost, costs_slots, parts_kept}
 use Rattle.enumerate.proofs.samples.Changes.{differs_in_member, no_member, grown_differs}
 use Rattle.enumerate.proofs.rows.Slots.{no_members_in}
 use Rattle.enumerate.specs.Internal.Changes.{DiffersAt}
-use Rattle.enumerate.proofs.rows.Walks.{left_grown}
 use Rattle.enumerate.proofs.lists.Lemmas.{some_nodes}
 use Rattle.enumerate.proofs.rows.SlotMoves.{known_after, in_value, in_grown}
-use Rattle.enumerate.proofs.rows.Cuts.{added_kept, grown_kept}
+use Rattle.enumerate.proofs.rows.Cuts.{front_kept, grown_left}
 use Rattle.jtree.specs.View.{data_of, members_of}
 use Rattle.enumerate.specs.Internal.Steps.{CostsLast}
 use Rattle.enumerate.specs.declared.walk.NextTree.TheVariants.{To, Last}
-use Rattle.enumerate.specs.Internal.Moves.{IsNextTree}
+use Rattle.enumerate.specs.Internal.Moves.{IsNextTree, ahead_with}
 use Rattle.enumerate.proofs.walk.Walk.+next.Given.{Over}
 use Rattle.enumerate.proofs.walk.Walk.+next.Goals as goal
 use Rattle.enumerate.proofs.walk.Walk.+next.Goals.{next_member-In-To, next_member-In-Last, next_member-After-put_member}
@@ -40,7 +38,7 @@ returns-in_err-tree-clause-steps g t c =
 pub below-depth-requires : goal.next_member-below-depth-requires
 below-depth-requires g t c =
     let next = next_value_here g t (goal.at.next_member-below-depth-requires g t c).In-To in
-    omega (arith, next.1.few, c.requires.member.limit, c.laws_of.ensures.limit)
+    omega (arith, next.1.few, c.requires.member.slots.limit, c.laws_of.ensures.limit)
 
 pub put_member-requires : goal.next_member-put_member-requires
 put_member-requires g t c =
@@ -61,10 +59,10 @@ put_member-requires g t c =
       «open» =
           let sound = c.laws_of.ensures.sound in
           record {
-            count = c.requires.member.count;
-            limit = omega (arith, some_nodes (data_of c.args.member.tree), c.requires.member.limit);
+            count = c.requires.member.slots.count;
+            limit = omega (arith, some_nodes (data_of c.args.member.tree), c.requires.member.slots.limit);
             can = record {
-              known = known_after q here.node here.place sound c.requires.here.slot.first used (data_of c.in-To.tree) c.requires.member.can.known;
+              known = known_after q here.node here.place sound c.requires.here.slot.first used (data_of c.in-To.tree) c.requires.member.slots.can.known;
               rest = c.requires.member.rest;
               free = next.0.is.0.free;
             };
@@ -94,7 +92,7 @@ returns-in_ok-put_member-in-To g t c =
       ok = (
         λ gs others h.
             let sound = c.laws_of.ensures.sound in
-            in_value q i place sound c.requires.here.slot.first ahead.before (used_rows ahead.used) old others gs h.small h.are_filled ahead.room one front new was.before was.name h.room_is h.last next.0 adds,
+            in_value q i place sound c.requires.here.slot.first (demand_at q i (ahead_with ahead old)) old others gs h ahead.room one front new was.before was.name refl next.0 adds,
         (
           λ empty.
               let none = no_member adds.added (adds.are ∙ no_members_in q.pools (slots_from q i (place + 1)) adds.fillings adds.least.is.are (adds.least.is.nodes_are ∙ empty)) in
@@ -104,42 +102,37 @@ returns-in_ok-put_member-in-To g t c =
           c.below-depth.ensures.other,
         ),
       );
-      kept = added_kept q.pools (slots_from q i (place + 1)) (ending_at q i) (filled (slot_in q i place).bit ahead.before) ahead.room ahead.before.count _ front one new adds was.before;
-      left = tt;
+      left = front_kept front (one ∷ adds.added) new (adds.is ∙ append_assoc front (one ∷ []) adds.added);
       following = subst (λ n. MembersContinue q.pools (slots_from q i place) (used_rows ahead.used) (drop n new) (stack_of c.put_member.new.scratch.following.items)) was.before c.in_ok-put_member-in-To.ensures.following;
       steps = (put_cost g t (goal.at.next_member-returns-in_ok-put_member-in-To g t c).After-put_member, tt);
     }
 
 pub grow_larger_members-requires : goal.next_member-grow_larger_members-requires
 grow_larger_members-requires g t c =
+    let here = c.args.here.now in
     let none = no_value_here g t (goal.at.next_member-grow_larger_members-requires g t c).In-Last in
-    record {
-      here = c.requires.here;
-      count = c.requires.member.count;
-      limit = omega (arith, none.1, c.requires.member.limit);
-      «open» =
-          let q = c.args.self.now.plan.now in
-          subst (λ n. IsOpen q.pools (slots_from q c.args.here.now.node c.args.here.now.place) (ending_at q c.args.here.now.node) c.args.ahead.now.before (c.args.ahead.now.room + n) (used_rows c.args.ahead.now.used)) none.1 c.requires.member.can;
-    }
+    record { here = c.requires.here; «open» = subst (λ n. IsOpenAt c.args.self.now.plan.now here.node here.place (larger c.args.ahead.now n)) none.1 c.requires.member.slots }
 
 pub returns-in-Last : goal.next_member-returns-in-Last
 returns-in-Last g t c =
     let q = c.args.self.now.plan.now in
     let n = node_count (data_of c.args.member.tree) in
     let last = subst (λ m. CostsLast m q c.args.scratch.now.meter c.next_value.new.scratch.meter n) c.in-Last.is c.in_ok-tree.ensures.steps.1 in
+    let here = c.args.here.now in
+    let a = c.args.ahead.now in
+    let size = c.in-Last.size in
+    let members = c.args.members.now.items in
+    let new = c.grow_larger_members.new.members.items in
     record {
-      kept = IfOk-weaker c.grow_larger_members.result _ _ (λ st h. grown_kept st q.pools (slot_in q c.args.here.now.node c.args.here.now.place) (slots_from q c.args.here.now.node (c.args.here.now.place + 1)) (ending_at q c.args.here.now.node) c.args.ahead.now.before (c.args.ahead.now.room + c.in-Last.size) (c.in-Last.size + 1) c.args.ahead.now.before.count (used_rows c.args.ahead.now.used) c.args.members.now.items c.grow_larger_members.new.members.items h c.requires.member.before) c.grow_larger_members.ensures.ok;
       ok = IfOk-weaker c.grow_larger_members.result _ _ (λ st h. (
         λ gs others e.
-            let q = c.args.self.now.plan.now in
-            let sound = c.laws_of.ensures.sound in
             let none = no_value_here g t (goal.at.next_member-returns-in-Last g t c).In-Last in
-            in_grown q c.args.here.now.node c.args.here.now.place sound c.requires.here.slot.first c.args.ahead.now.before (used_rows c.args.ahead.now.used) c.args.member others gs e.small e.are_filled st c.args.ahead.now.room c.in-Last.size c.args.members.now.items c.grow_larger_members.new.members.items
-            c.requires.member.before e.room_is none.1 e.last none.0 h,
-        grown_differs c.args.ahead.now.room (object_data (members_of (c.args.members.now.items ++ c.args.member ∷ []))) (object_data (members_of c.grow_larger_members.new.members.items)) st q.pools (slot_in q c.args.here.now.node c.args.here.now.place) (slots_from q c.args.here.now.node (c.args.here.now.place + 1)) (ending_at q c.args.here.now.node) c.args.ahead.now.before (c.args.ahead.now.room + c.in-Last.size) (c.in-Last.size + 1) (used_rows c.args.ahead.now.used) c.args.members.now.items c.grow_larger_members.new.members.items h,
+            in_grown q here.node here.place c.laws_of.ensures.sound c.requires.here.slot.first (demand_at q here.node (ahead_with a c.args.member)) c.args.member others gs e st members new c.requires.member.before none.0
+            (subst (λ m. IsGrownAt st q here (larger a m) (m + 1) members new) (sym none.1) h),
+        grown_differs a.room (object_data (members_of (members ++ c.args.member ∷ []))) st q here (larger a size) (size + 1) members new h,
       )) c.grow_larger_members.ensures.ok;
-      following = IfOk-weaker c.grow_larger_members.result _ _ (λ st h. subst (λ n. GrownContinue st q.pools (slots_from q c.args.here.now.node c.args.here.now.place) (used_rows c.args.ahead.now.used) (drop n c.grow_larger_members.new.members.items) (stack_of c.grow_larger_members.new.scratch.following.items)) c.requires.member.before h) c.grow_larger_members.ensures.following;
-      left = IfOk-weaker c.grow_larger_members.result _ _ (λ st h. left_grown st q.pools (slot_in q c.args.here.now.node c.args.here.now.place) (slots_from q c.args.here.now.node (c.args.here.now.place + 1)) (ending_at q c.args.here.now.node) c.args.ahead.now.before (c.args.ahead.now.room + c.in-Last.size) (c.in-Last.size + 1) (used_rows c.args.ahead.now.used) c.args.members.now.items c.grow_larger_members.new.members.items h) c.grow_larger_members.ensures.ok;
+      following = IfOk-weaker c.grow_larger_members.result _ _ (λ st h. subst (λ m. GrownContinueAt st q here (used_rows a.used) (drop m new) (stack_of c.grow_larger_members.new.scratch.following.items)) c.requires.member.before h) c.grow_larger_members.ensures.following;
+      left = IfOk-weaker c.grow_larger_members.result _ _ (λ st h. grown_left st q.pools (slot_there q here) (slots_after q here) (demand_at q here.node (larger a size)) (size + 1) members new h) c.grow_larger_members.ensures.ok;
       steps = (
         let none = no_value_here g t (goal.at.next_member-returns-in-Last g t c).In-Last in
             let few : 2 * n - 1 + (c.args.ahead.now.room + c.in-Last.size) ≤ 3 * n + c.args.ahead.now.room = omega (arith, none.1) in

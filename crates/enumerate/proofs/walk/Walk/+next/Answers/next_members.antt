@@ -20,7 +20,7 @@ cost_here : (g : Over) (t : ℕ) (c : next_members-After-next_at_slot g t) → C
 cost_here g t c =
     let q = c.args.self.now.plan.now in
     let l = c.loop-place in
-    let nodes = kept_nodes q c.args.node l.place l.removed.room (used_rows c.args.used.now) l.removed.before c.args.members.now.items l.members.items c.requires.in_slots.0 c.requires.in_slots.1 (l.invariant.walked c.requires.in_slots.0 c.requires.in_slots.1) in
+    let nodes = kept_nodes q c.args.node l.place l.removed (used_rows c.args.used.now) c.args.members.now.items l.members.items c.requires.in_slots.0 c.requires.in_slots.1 (l.invariant.walked c.requires.in_slots.0 c.requires.in_slots.1) in
     let at_slot : CostsFrom q c.args.node l.scratch.meter c.next_at_slot.new.scratch.meter (3 * members_count (members_of l.members.items) + l.removed.room) = λ w wide. omega (arith, c.slot_at-slot.ensures.step, c.next_at_slot.ensures.steps.0 w wide) in
     walk_cost q c.args.node c.args.scratch.now.meter l.scratch.meter c.next_at_slot.new.scratch.meter l.place l.removed.room (members_count (members_of l.members.items)) (members_count (members_of c.args.members.now.items)) nodes l.invariant.steps at_slot
 
@@ -43,8 +43,8 @@ next_at_slot-requires g t c κs within =
     let gs = c.requires.in_slots.0 in
     let back : c.loop-place.place ≡ c.loop-place.place - 1 + 1 = omega (arith, c.loop-place-test.true) in
     let there = c.loop-place.invariant.walked gs c.requires.in_slots.1 in
-    let walked = subst (λ n. IsWalkedTo q i n c.loop-place.removed.room used c.loop-place.removed.before c.loop-place.members.items gs) back there in
-    let nodes = kept_nodes q i c.loop-place.place c.loop-place.removed.room used c.loop-place.removed.before c.args.members.now.items c.loop-place.members.items gs c.requires.in_slots.1 there in
+    let walked = subst (λ n. IsWalkedTo q i n c.loop-place.removed used c.loop-place.members.items gs) back there in
+    let nodes = kept_nodes q i c.loop-place.place c.loop-place.removed used c.args.members.now.items c.loop-place.members.items gs c.requires.in_slots.1 there in
     let here : IsRowSlot q (record { node = i; place = c.loop-place.place - 1; slot = c.slot_at-slot.result }) = record {
       node = c.requires.node;
       row = c.requires.row;
@@ -63,7 +63,7 @@ returns-in-Made g t c =
             let i = c.args.node in
             let used = used_rows c.args.used.now in
             let back : c.loop-place.place ≡ c.loop-place.place - 1 + 1 = omega (arith, c.loop-place-test.true) in
-            let walked = subst (λ n. IsWalkedTo q i n c.loop-place.removed.room used c.loop-place.removed.before c.loop-place.members.items gs) back (c.loop-place.invariant.walked gs h) in
+            let walked = subst (λ n. IsWalkedTo q i n c.loop-place.removed used c.loop-place.members.items gs) back (c.loop-place.invariant.walked gs h) in
             subst (λ st. AreWalked st q i (c.loop-place.place - 1) used c.next_at_slot.new.removed.before c.next_at_slot.new.members.items gs) c.in-Made.is (c.in_ok-depth.ensures.ok.0 gs walked),
         let i = c.args.node in
             let l = c.loop-place in
@@ -75,7 +75,7 @@ returns-in-Made g t c =
             let there = subst (λ st. DiffersAfter l.removed.room (object_data mid) st new) c.in-Made.is c.in_ok-depth.ensures.ok.1 in
             if_all l.removed.room c.in-Made.depth (object_data old) (object_data mid) new there.0 there.1 (λ empty.
             let w = l.invariant.walked in_slots.0 in_slots.1 in
-            let same : mid ≡ old = w.front ∙ (all_to q.pools l.place ss in_slots.0 w.whole.are (w.room_is ∙ empty) ∙ sym in_slots.1.are) in
+            let same : mid ≡ old = w.cut.front ∙ (all_to q.pools l.place ss in_slots.0 w.cut.whole.are (w.room_is ∙ empty) ∙ sym in_slots.1.are) in
             ap object_data same),
       );
       following = subst (λ st. GrownContinue st q.pools (slots_from q c.args.node 0) (used_rows c.args.used.now) c.next_at_slot.new.members.items (stack_of c.next_at_slot.new.scratch.following.items)) c.in-Made.is c.in_ok-depth.ensures.following;
@@ -97,7 +97,7 @@ loop-place-preserved g t c =
     record {
       within = omega (arith, l.invariant.within);
       walked = λ gs h.
-          let walked = subst (λ n. IsWalkedTo q i n l.removed.room used l.removed.before l.members.items gs) back (l.invariant.walked gs h) in
+          let walked = subst (λ n. IsWalkedTo q i n l.removed used l.members.items gs) back (l.invariant.walked gs h) in
           subst (λ st. AreWalked st q i (l.place - 1) used c.next_at_slot.new.removed.before c.next_at_slot.new.members.items gs) c.in-Last.is (c.in_ok-depth.ensures.ok.0 gs walked);
       steps = λ w wide. omega (arith, c.loop-place-test.true, c.slot_at-slot.ensures.step, last w wide, l.invariant.steps w wide);
     }
@@ -107,12 +107,12 @@ returns g t c =
     let q = c.args.self.now.plan.now in
     let l = c.loop-place in
     let m = members_count (members_of c.args.members.now.items) in
-    let nodes = kept_nodes q c.args.node l.place l.removed.room (used_rows c.args.used.now) l.removed.before c.args.members.now.items l.members.items c.requires.in_slots.0 c.requires.in_slots.1 (l.invariant.walked c.requires.in_slots.0 c.requires.in_slots.1) in
+    let nodes = kept_nodes q c.args.node l.place l.removed (used_rows c.args.used.now) c.args.members.now.items l.members.items c.requires.in_slots.0 c.requires.in_slots.1 (l.invariant.walked c.requires.in_slots.0 c.requires.in_slots.1) in
     record {
       ok = (
         λ gs h.
             let none : c.loop-place.place ≡ 0 = omega (arith, c.loop-place-test.false) in
-            let walked = subst (λ n. IsWalkedTo c.args.self.now.plan.now c.args.node n c.loop-place.removed.room (used_rows c.args.used.now) c.loop-place.removed.before c.loop-place.members.items gs) none (c.loop-place.invariant.walked gs h) in
+            let walked = subst (λ n. IsWalkedTo c.args.self.now.plan.now c.args.node n c.loop-place.removed (used_rows c.args.used.now) c.loop-place.members.items gs) none (c.loop-place.invariant.walked gs h) in
             (walked.last, walked.room_is),
         tt,
       );
