@@ -162,9 +162,15 @@ items_unshift q i m used ds d few a = record {
 
 -- ---- what can follow
 
-module _ (q : Question) (i c : ℕ) (rule : RuleOfParts q.pools q.limit (site q i)) (ends : NoDeadEnd q.pools q.limit (site q i)) (item_is : item_site q.pools (site q i) ≡ Some (site q c)) where
+-- the laws of a list and the node of its items: what its parts are, and that no beginning of one is a dead end
+pub record HasItems (q : Question) (i c : ℕ) : Type 0 where
+  pub rule : RuleOfParts q.pools q.limit (site q i)
+  pub ends : NoDeadEnd q.pools q.limit (site q i)
+  pub item : item_site q.pools (site q i) ≡ Some (site q c)
+
+module _ (q : Question) (i c : ℕ) (laws : HasItems q i c) where
   pub list_parts : (ds : Items) → IsPart q.pools (site q i) (tree.list ds) → 1 + items_count ds ≤ q.limit → AreParts q.pools (site q c) ds × (are_apart (alike_at (site q i)) ds ≡ true)
-  list_parts ds p within = elim ((rule.list (site q c) (tree.list ds) item_is within).0 p) [
+  list_parts ds p within = elim ((laws.rule.list (site q c) (tree.list ds) laws.item within).0 p) [
     | inl none ↦ let e = none.0 in cc
     | inr h ↦
         let l : tree.list ds ≡ tree.list h.items = h.is in
@@ -205,14 +211,14 @@ module _ (q : Question) (i c : ℕ) (rule : RuleOfParts q.pools q.limit (site q 
     pub item_goes : (d : Data) → AreFirst q i c used → FitsItem q i c (fault.items_count used) m (node_count d) → IsUnusedItem q i c (node_count d) used d → (ds : Items) × AreItems q i m used (item d ds)
     item_goes d a fit f =
         let more = first_more q i c (node_count d) used d a f in
-        let r = ends.lists (site q c) (items_then used (item d no_items)) fit.1.0 item_is more.are more.apart
+        let r = laws.ends.lists (site q c) (items_then used (item d no_items)) fit.1.0 laws.item more.are more.apart
         (subst (λ t. HasMore q.pools q.limit (site q i) t fit.1.0) (omega (arith, then_count used (item d no_items))) fit.1.1.0) in
         let sum = fit.1.1.1 in
         (r.back, record { part = subst (λ x. IsPart q.pools (site q i) (tree.list x)) (then_then used (item d no_items) r.back) r.part; nodes_are = omega (arith, r.nodes_are, sum) })
 
     -- some items do
     pub some_items : AreFirst q i c used → HasMore q.pools q.limit (site q i) (fault.items_count used) m → (ds : Items) × AreItems q i m used ds
-    some_items a more = let r = ends.lists (site q c) used m item_is a.are a.apart more in (r.back, record { part = r.part; nodes_are = r.nodes_are })
+    some_items a more = let r = laws.ends.lists (site q c) used m laws.item a.are a.apart more in (r.back, record { part = r.part; nodes_are = r.nodes_are })
 
     module _ (first : AreFirst q i c used) (some : 1 ≤ m) (top : m ≤ most_nodes) where
       abbrev FitsThere : ℕ → Type 0
@@ -328,18 +334,18 @@ pub none_follow : (q : Question) (i : ℕ) (used ds : Items) → AreItems q i 0 
 none_follow q i used no_items a = record { is = a; least = no_items_least q i used }
 none_follow q i used (item d ds) a = absurd (omega (arith, some_nodes d, a.nodes_are))
 
-module _ (q : Question) (i c : ℕ) (rule : RuleOfParts q.pools q.limit (site q i)) (ends : NoDeadEnd q.pools q.limit (site q i)) where
+module _ (q : Question) (i c : ℕ) (laws : HasItems q i c) where
   -- nothing comes after the items
   pub adds_none : (m : ℕ) (old : List Tree) → m ≡ 0 → CanFollow q i c m (items_of old) → AddsItems q i m old old
   adds_none m old e h =
       let follow = subst (λ x. CanFollow q i c x (items_of old)) e h in
-      let ds = some_items q i c rule ends h.first.item (items_of old) 0 follow.within follow.first follow.more in
+      let ds = some_items q i c laws (items_of old) 0 follow.within follow.first follow.more in
       subst (λ x. AddsItems q i x old old) (sym e) (record { added = []; is = sym (append-nil old); least = none_follow q i (items_of old) ds.0 ds.1 })
 
   fits_first : (m : ℕ) (old : List Tree) → 1 ≤ m → CanFollow q i c m (items_of old) → (ds : Items) → AreItems q i m (items_of old) ds → IsEmptyFrom (FitsItem q i c (length old) m) 0 → ⊥
   fits_first m old some h no_items a none = omega (arith, some, a.nodes_are)
   fits_first m old some h (item d ds) a none =
-      none (node_count d) (omega arith) (subst (λ t. FitsItem q i c t m (node_count d)) (counted old) (item_fits q i c rule ends h.first.item (items_of old) m h.within d ds a))
+      none (node_count d) (omega arith) (subst (λ t. FitsItem q i c t m (node_count d)) (counted old) (item_fits q i c laws (items_of old) m h.within d ds a))
 
   -- an item, and the first items after it
   pub adds_item : (m : ℕ) (old new : List Tree) → 1 ≤ m → m ≤ most_nodes → CanFollow q i c m (items_of old) → GrowsItems q i c m 0 old new → AddsItems q i m old new
@@ -348,21 +354,21 @@ module _ (q : Question) (i c : ℕ) (rule : RuleOfParts q.pools q.limit (site q 
       record {
         added = g.one ∷ g.rest.added;
         is = g.rest.is ∙ append_assoc old (g.one ∷ []) g.rest.added;
-        least = least_items q i c rule ends h.first.item (items_of old) m h.within h.first some top g.size (data_of g.one) (items_of g.rest.added)
+        least = least_items q i c laws (items_of old) m h.within h.first some top g.size (data_of g.one) (items_of g.rest.added)
             (subst (λ t. IsLeastFrom (FitsItem q i c t m) 0 g.size) (sym (counted old)) g.least) g.first after;
       }
 
   pub adds_grown : (made : NextParts) (m : ℕ) (old new : List Tree) → 1 ≤ m → m ≤ most_nodes → CanFollow q i c m (items_of old) → AreGrown made q i c m 0 old new → AddsItems q i m old new
   adds_grown (Made n) m old new some top h g = adds_item m old new some top h g.0
   adds_grown (Last n) m old new some top h g =
-      let ds = some_items q i c rule ends h.first.item (items_of old) m h.within h.first h.more in
+      let ds = some_items q i c laws (items_of old) m h.within h.first h.more in
       absurd (fits_first m old some h ds.0 ds.1 g.1)
 
   -- some item fits, so that items were put there
   pub grown_items_continue : (made : NextParts) (m : ℕ) (old new : List Tree) (cs : List Data) → 1 ≤ m → m ≤ most_nodes → CanFollow q i c m (items_of old) → AreGrown made q i c m 0 old new → GrownItemsContinue made q i c (items_of new) cs → ItemsContinue q i c (items_of new) cs
   grown_items_continue (Made n) m old new cs some top h g continue = continue
   grown_items_continue (Last n) m old new cs some top h g continue =
-      let ds = some_items q i c rule ends h.first.item (items_of old) m h.within h.first h.more in
+      let ds = some_items q i c laws (items_of old) m h.within h.first h.more in
       absurd (fits_first m old some h ds.0 ds.1 g.1)
 
 -- what can follow an item that was put after the others

@@ -9,15 +9,14 @@ use Rattle.stored.specs.Objects.Fault as fault
 use Rattle.plan.specs.Pools.Pools.{Pools}
 use Rattle.plan.specs.Samples.Part.{IsPart}
 use Rattle.plan.specs.Samples.Sizes.{items_from, HasMore}
-use Rattle.plan.specs.Samples.RuleOfParts.{RuleOfParts, AreParts}
-use Rattle.plan.specs.Samples.NoDeadEnd.{NoDeadEnd}
+use Rattle.plan.specs.Samples.RuleOfParts.{AreParts}
 use Rattle.plan.specs.Samples.Keys.{AreSetItems}
 use Rattle.plan.specs.Samples.Question.{Question}
 use Rattle.enumerate.specs.View.{trees_of}
 use Rattle.enumerate.specs.Internal.Nodes.{site, HasSizeAt}
 use Rattle.enumerate.specs.Internal.Candidates.{IsUnusedPart}
 use Rattle.enumerate.specs.Internal.Lists.{AreItems, AreFirst, IsUnusedItem}
-use Rattle.enumerate.proofs.lists.Lemmas.{some_nodes, counted, some_items, item_unused}
+use Rattle.enumerate.proofs.lists.Lemmas.{HasItems, some_nodes, counted, some_items, item_unused}
 use Rattle.enumerate.proofs.lists.Whole.{set_item_unused}
 
 -- where each part has one node, there are as many nodes as items
@@ -36,10 +35,10 @@ from_some zero (item d ds) h = omega (arith, some_nodes d)
 from_some (suc t) no_items h = absurd (omega (arith, h))
 from_some (suc t) (item d ds) h = from_some t ds (omega (arith, h))
 
-module _ (q : Question) (i c : ℕ) (rule : RuleOfParts q.pools q.limit (site q i)) (ends : NoDeadEnd q.pools q.limit (site q i)) where
+module _ (q : Question) (i c : ℕ) (laws : HasItems q i c) where
   first_item_unused : (used : Items) (k : ℕ) (ds : Items) → AreFirst q i c used → 1 + items_count used + k ≤ q.limit → 1 ≤ k → AreItems q i k used ds → (d : Data) × IsUnusedItem q i c (node_count d) used d
   first_item_unused used k no_items first within some a = absurd (omega (arith, some, a.nodes_are))
-  first_item_unused used k (item d ds) first within some a = (d, item_unused q i c rule ends first.item used k within d ds a)
+  first_item_unused used k (item d ds) first within some a = (d, item_unused q i c laws used k within d ds a)
 
   pub set_free : (n : ℕ) (used : List Tree) → AreFirst q i c (items_of used) → AreSetItems q.pools (site q i) (site q c) → HasSizeAt q c n → (m : ℕ) → HasMore q.pools q.limit (site q i) (length used + 1) m → (v : Data) × IsUnusedPart q c n (trees_of used) v
   set_free n used first set has m more =
@@ -48,7 +47,7 @@ module _ (q : Question) (i c : ℕ) (rule : RuleOfParts q.pools q.limit (site q 
       let many = more.many in
       let within : 1 + items_count (items_of used) + k ≤ q.limit = omega (arith, more.fits, from_nodes (length used) more.items (omega (arith, many)), nodes) in
       let at : HasMore q.pools q.limit (site q i) (length used) k = record { items = more.items; part = more.part; fits = more.fits; many = omega (arith, many); nodes_are = refl } in
-      let r = some_items q i c rule ends first.item (items_of used) k within first (subst (λ t. HasMore q.pools q.limit (site q i) t k) (sym (counted used)) at) in
+      let r = some_items q i c laws (items_of used) k within first (subst (λ t. HasMore q.pools q.limit (site q i) t k) (sym (counted used)) at) in
       let f = first_item_unused (items_of used) k r.0 first within (from_some (length used) more.items many) r.1 in
       let size : node_count f.0 ≡ n = omega (arith, set.one f.0 f.1.part.part, set.one has.part has.is, has.nodes_are) in
       (f.0, (set_item_unused q i c n used f.0 set).1 (subst (λ x. IsUnusedItem q i c x (items_of used) f.0) size f.1))

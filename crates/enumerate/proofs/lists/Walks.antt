@@ -11,9 +11,8 @@ use Rattle.jtree.specs.declared.value.Tree.{Tree}
 use Rattle.stored.specs.Objects.Fault as fault
 use Rattle.plan.specs.Sets.{IsLeastFrom, IsEmptyFrom}
 use Rattle.plan.specs.Samples.Part.{IsPart}
-use Rattle.plan.specs.Samples.Sites.{item_site}
 use Rattle.plan.specs.Samples.RuleOfParts.{RuleOfParts, alike_at}
-use Rattle.plan.specs.Samples.NoDeadEnd.{NoDeadEnd, items_then}
+use Rattle.plan.specs.Samples.NoDeadEnd.{items_then}
 use Rattle.plan.specs.Samples.Candidates.{sort_of}
 use Rattle.plan.specs.declared.sort.Sort.TheVariants as sort
 use Rattle.plan.specs.Samples.Question.{Question}
@@ -22,7 +21,7 @@ use Rattle.enumerate.specs.Internal.Nodes.{site, IsPartOf}
 use Rattle.enumerate.specs.declared.walk.NextParts.{NextParts}
 use Rattle.enumerate.specs.declared.walk.NextParts.TheVariants.{Made, Last}
 use Rattle.enumerate.specs.Internal.Lists.{AreItems, AreFirst, CanFollow, IsUnusedItem, AddsItems, FitsItem, AreGrown}
-use Rattle.enumerate.proofs.lists.Lemmas.{some_nodes, then_then, then_none, then_nodes, parts_split, apart_front, list_parts, item_unused, item_fits, next_one, next_larger, none_larger, items_of-append, items_pushed, counted, follow_item}
+use Rattle.enumerate.proofs.lists.Lemmas.{HasItems, some_nodes, then_then, then_none, then_nodes, parts_split, apart_front, list_parts, item_unused, item_fits, next_one, next_larger, none_larger, items_of-append, items_pushed, counted, follow_item}
 use Rattle.enumerate.proofs.lists.Moves.{AreFirstOnes, next_whole}
 use Rattle.enumerate.proofs.lists.Whole.{list_order, part_list}
 use Rattle.enumerate.proofs.walks.Nulls.{never_null}
@@ -56,12 +55,12 @@ module _ (q : Question) (i room : ℕ) (old front : Items) (d : Data) (w : WereL
   walk_nodes : items_count old ≡ items_count front + (node_count d + room)
   walk_nodes = ap items_count walk_is ∙ then_nodes front (item d w.after) ∙ ap (λ n. items_count front + (node_count d + n)) w.nodes_are
 
-module _ (q : Question) (i c : ℕ) (rule : RuleOfParts q.pools q.limit (site q i)) (ends : NoDeadEnd q.pools q.limit (site q i)) (item_is : item_site q.pools (site q i) ≡ Some (site q c)) where
+module _ (q : Question) (i c : ℕ) (laws : HasItems q i c) where
   -- the items in front of others
   pub first_front : (front rest : Items) → IsPart q.pools (site q i) (tree.list (items_then front rest)) → 1 + items_count (items_then front rest) ≤ q.limit → AreFirst q i c front
   first_front front rest p within =
-      let all = list_parts q i c rule ends item_is (items_then front rest) p within in
-      record { item = item_is; are = (parts_split q.pools (site q c) front rest all.0).0; apart = apart_front (alike_at (site q i)) front rest all.1 }
+      let all = list_parts q i c laws (items_then front rest) p within in
+      record { item = laws.item; are = (parts_split q.pools (site q c) front rest all.0).0; apart = apart_front (alike_at (site q i)) front rest all.1 }
 
   pub first_ones : (used front rest : Items) → IsPart q.pools (site q i) (tree.list (items_then used (items_then front rest))) → 1 + items_count (items_then used (items_then front rest)) ≤ q.limit → AreFirstOnes q i c used front
   first_ones used no_items rest p within = first_front used rest p within
@@ -87,10 +86,10 @@ module _ (q : Question) (i c : ℕ) (rule : RuleOfParts q.pools q.limit (site q 
     walk_first = first_front front (item d w.after) walk_items.part walk_count
 
     pub walk_unused : IsUnusedItem q i c (node_count d) front d
-    walk_unused = item_unused q i c rule ends item_is front (node_count d + room) walk_within d w.after walk_items
+    walk_unused = item_unused q i c laws front (node_count d + room) walk_within d w.after walk_items
 
     pub walk_fits : FitsItem q i c (fault.items_count front) (node_count d + room) (node_count d)
-    walk_fits = item_fits q i c rule ends item_is front (node_count d + room) walk_within d w.after walk_items
+    walk_fits = item_fits q i c laws front (node_count d + room) walk_within d w.after walk_items
 
     walk_some : 1 ≤ node_count d + room
     walk_some = omega (arith, some_nodes d)
@@ -104,7 +103,7 @@ module _ (q : Question) (i c : ℕ) (rule : RuleOfParts q.pools q.limit (site q 
     -- what comes next after the items in front does so in the whole list
     walk_whole : (new : Items) → IsNext items_cmp (AreItems q i (node_count d + room) front) (item d w.after) (Some new) → IsNext items_cmp (AreItems q i (items_count old) no_items) old (Some (items_then front new))
     walk_whole new h =
-        let all = next_whole q i c rule ends no_items front (node_count d + room) (item d w.after) new (omega (arith, walk_within)) (omega (arith, walk_within, top)) (first_ones no_items front (item d w.after) walk_items.part walk_count) h in
+        let all = next_whole q i c laws no_items front (node_count d + room) (item d w.after) new (omega (arith, walk_within)) (omega (arith, walk_within, top)) (first_ones no_items front (item d w.after) walk_items.part walk_count) h in
         subst (λ k. IsNext items_cmp (AreItems q i k no_items) old (Some (items_then front new))) (sym (walk_nodes q i room old front d w))
         (subst (λ x. IsNext items_cmp (AreItems q i (items_count front + (node_count d + room)) no_items) x (Some (items_then front new))) (sym (walk_is q i room old front d w)) all)
 
@@ -113,19 +112,19 @@ module _ (q : Question) (i c : ℕ) (rule : RuleOfParts q.pools q.limit (site q 
     walk_next next added h rest =
         let left : room ≡ node_count d + room - node_count d = omega arith in
         let there = subst (λ k. IsLeast items_cmp (AreItems q i k (items_then front (item next no_items))) added) left rest in
-        walk_whole (item next added) (next_one q i c rule ends item_is front (node_count d + room) walk_within walk_first walk_some walk_top d w.after walk_items walk_last next added h there)
+        walk_whole (item next added) (next_one q i c laws front (node_count d + room) walk_within walk_first walk_some walk_top d w.after walk_items walk_last next added h there)
 
     module _ (none : IsNext tree_cmp (IsUnusedItem q i c (node_count d) front) d None) where
       pub walk_larger : (n : ℕ) (v : Data) (added : Items) → IsLeastFrom (FitsItem q i c (fault.items_count front) (node_count d + room)) (node_count d + 1) n → IsLeast tree_cmp (IsUnusedItem q i c n front) v
           → IsLeast items_cmp (AreItems q i (node_count d + room - n) (items_then front (item v no_items))) added → IsNext items_cmp (AreItems q i (items_count old) no_items) old (Some (items_then front (item v added)))
-      walk_larger n v added size unused rest = walk_whole (item v added) (next_larger q i c rule ends item_is front (node_count d + room) walk_within walk_first walk_some walk_top d w.after walk_items walk_last n v added none size unused rest)
+      walk_larger n v added size unused rest = walk_whole (item v added) (next_larger q i c laws front (node_count d + room) walk_within walk_first walk_some walk_top d w.after walk_items walk_last n v added none size unused rest)
 
       pub walk_back : IsEmptyFrom (FitsItem q i c (fault.items_count front) (node_count d + room)) (node_count d + 1) → WereLast q i (node_count d + room) old front
       walk_back empty = record {
         after = item d w.after;
         is = walk_is q i room old front d w;
         nodes_are = walk_items.nodes_are;
-        last = none_larger q i c rule ends item_is front (node_count d + room) walk_within walk_first walk_some walk_top d w.after walk_items walk_last none empty;
+        last = none_larger q i c laws front (node_count d + room) walk_within walk_first walk_some walk_top d w.after walk_items walk_last none empty;
       }
 
 -- ---- the same of the items in memory
@@ -145,29 +144,29 @@ last_before q i room old left front one popped last = subst (WereLast q i room o
 pub front_nodes : (q : Question) (i room : ℕ) (old : Items) (left front : List Tree) (one : Tree) → left ≡ front ++ one ∷ [] → WereLast q i room old (items_of left) → items_count old ≡ items_count (items_of front) + (node_count (data_of one) + room)
 front_nodes q i room old left front one popped last = walk_nodes q i room old (items_of front) (data_of one) (last_before q i room old left front one popped last)
 
-module _ (q : Question) (i c : ℕ) (rule : RuleOfParts q.pools q.limit (site q i)) (ends : NoDeadEnd q.pools q.limit (site q i)) (item_is : item_site q.pools (site q i) ≡ Some (site q c))
+module _ (q : Question) (i c : ℕ) (laws : HasItems q i c)
     (old : Items) (part : IsPart q.pools (site q i) (tree.list old)) (within : 1 + items_count old ≤ q.limit) (top : q.limit ≤ most_nodes)
     (room : ℕ) (left front : List Tree) (one : Tree) (popped : left ≡ front ++ one ∷ []) (last : WereLast q i room old (items_of left)) where
   before : WereLast q i room old (items_then (items_of front) (item (data_of one) no_items))
   before = last_before q i room old left front one popped last
 
   pub front_first : AreFirst q i c (items_of front)
-  front_first = walk_first q i c rule ends item_is old part within top room (items_of front) (data_of one) before
+  front_first = walk_first q i c laws old part within top room (items_of front) (data_of one) before
 
   pub front_unused : IsUnusedItem q i c (node_count (data_of one)) (items_of front) (data_of one)
-  front_unused = walk_unused q i c rule ends item_is old part within top room (items_of front) (data_of one) before
+  front_unused = walk_unused q i c laws old part within top room (items_of front) (data_of one) before
 
   -- the rest of the nodes can come after another item of as many nodes
   pub front_follow : (next : Tree) (now : List Tree) → IsNext tree_cmp (IsUnusedItem q i c (node_count (data_of one)) (items_of front)) (data_of one) (Some (data_of next)) → now ≡ front ++ next ∷ [] → CanFollow q i c room (items_of now)
   front_follow next now h is =
       let n = node_count (data_of one) in
-      let fits = subst (λ t. FitsItem q i c t (n + room) n) (counted front) (walk_fits q i c rule ends item_is old part within top room (items_of front) (data_of one) before) in
+      let fits = subst (λ t. FitsItem q i c t (n + room) n) (counted front) (walk_fits q i c laws old part within top room (items_of front) (data_of one) before) in
       subst (λ k. CanFollow q i c k (items_of now)) (omega arith) (follow_item q i c (n + room) n front now next front_first (omega (arith, front_nodes q i room old left front one popped last, within)) fits h.is.0 is)
 
   pub front_next : (next : Tree) (now : List Tree) → IsNext tree_cmp (IsUnusedItem q i c (node_count (data_of one)) (items_of front)) (data_of one) (Some (data_of next)) → AddsItems q i room (front ++ next ∷ []) now → IsNext items_cmp (AreItems q i (items_count old) no_items) old (Some (items_of now))
   front_next next now h a =
       subst (λ x. IsNext items_cmp (AreItems q i (items_count old) no_items) old (Some x)) (sym (added_is front a.added now next a.is))
-      (walk_next q i c rule ends item_is old part within top room (items_of front) (data_of one) before (data_of next) (items_of a.added) h
+      (walk_next q i c laws old part within top room (items_of front) (data_of one) before (data_of next) (items_of a.added) h
       (subst (λ x. IsLeast items_cmp (AreItems q i room x) (items_of a.added)) (items_of-append front (next ∷ [])) a.least))
 
   module _ (none : IsNext tree_cmp (IsUnusedItem q i c (node_count (data_of one)) (items_of front)) (data_of one) None) where
@@ -176,14 +175,14 @@ module _ (q : Question) (i c : ℕ) (rule : RuleOfParts q.pools q.limit (site q 
         let g = both.0 in
         let m = node_count (data_of one) + room in (
           subst (λ x. IsNext items_cmp (AreItems q i (items_count old) no_items) old (Some x)) (sym (added_is front g.rest.added now g.one g.rest.is))
-              (walk_larger q i c rule ends item_is old part within top room (items_of front) (data_of one) before none g.size (data_of g.one) (items_of g.rest.added)
+              (walk_larger q i c laws old part within top room (items_of front) (data_of one) before none g.size (data_of g.one) (items_of g.rest.added)
               (subst (λ t. IsLeastFrom (FitsItem q i c t m) (node_count (data_of one) + 1) g.size) (sym (counted front)) g.least) g.first
               (subst (λ x. IsLeast items_cmp (AreItems q i (m - g.size) x) (items_of g.rest.added)) (items_of-append front (g.one ∷ [])) g.rest.least)),
           both.1,
         )
     walked (Last n) now g =
         let m = node_count (data_of one) + room in
-        let back = walk_back q i c rule ends item_is old part within top room (items_of front) (data_of one) before none
+        let back = walk_back q i c laws old part within top room (items_of front) (data_of one) before none
         (subst (λ t. IsEmptyFrom (FitsItem q i c t m) (node_count (data_of one) + 1)) (sym (counted front)) g.1) in
         (g.0, subst (λ ts. WereLast q i m old (items_of ts)) (sym g.0) back)
 

@@ -18,11 +18,11 @@ use Rattle.jtree.specs.Order.{tree_cmp, items_cmp}
 use Rattle.stored.specs.Objects.Fault as fault
 use Rattle.plan.specs.Pools.Pools.{Pools}
 use Rattle.plan.specs.Samples.Part.{IsPart}
-use Rattle.plan.specs.Samples.Sites.{Slot, item_site}
+use Rattle.plan.specs.Samples.Sites.{Slot}
 use Rattle.plan.specs.Samples.Candidates.{AreCandidates, HasCount, sort_of}
 use Rattle.plan.specs.Samples.ByPlace.{IsCandidateAt}
 use Rattle.std.specs.declared.cmp.Ordering.TheVariants.{Less}
-use Rattle.plan.specs.Samples.NoDeadEnd.{NoDeadEnd, items_then}
+use Rattle.plan.specs.Samples.NoDeadEnd.{items_then}
 use Rattle.plan.specs.declared.sort.Sort.TheVariants as sort
 use Rattle.plan.specs.Samples.Sizes.{AreFillings, filled_nodes, Before, HasMore, CanFill}
 use Rattle.plan.specs.Samples.RuleOfParts.{RuleOfParts, members_in}
@@ -46,7 +46,7 @@ use Rattle.enumerate.proofs.walks.Least.{next_same, tree_order, not_itself}
 use Rattle.enumerate.proofs.leaves.Lemmas.{NoneBefore, candidates_same, index_of}
 use Rattle.enumerate.proofs.pages.Lemmas.{goes_past}
 use Rattle.enumerate.proofs.rows.Moves.{never_begins}
-use Rattle.enumerate.proofs.lists.Lemmas.{some_nodes, first_more, some_items, none_follow, then_count, then_nodes, items_pushed}
+use Rattle.enumerate.proofs.lists.Lemmas.{HasItems, some_nodes, first_more, some_items, none_follow, then_count, then_nodes, items_pushed}
 use Rattle.enumerate.proofs.lists.Walks.{all_left, walk_first, walk_fits, walk_next, list_moved}
 use Rattle.enumerate.proofs.walks.Nulls.{row_next_part}
 use Rattle.enumerate.proofs.rows.Lemmas.{AreFilled, filled_out, filled_in, can_fill, next_after_out, next_after_in, next_value}
@@ -185,7 +185,7 @@ items_last : (front : Items) (u c : Data) → items_with_last (items_then front 
 items_last no_items u c = refl
 items_last (item d front) u c = next_last d (items_then front (item u no_items)) c (some_items_then front u) ∙ ap (λ ds. item d ds) (items_last front u c)
 
-module _ (q : Question) (i c : ℕ) (rule : RuleOfParts q.pools q.limit (site q i)) (ends : NoDeadEnd q.pools q.limit (site q i)) (item_is : item_site q.pools (site q i) ≡ Some (site q c)) (is_list : sort_of (site q i) ≡ sort.List) (top : q.limit ≤ most_nodes) where
+module _ (q : Question) (i c : ℕ) (laws : HasItems q i c) (is_list : sort_of (site q i) ≡ sort.List) (top : q.limit ≤ most_nodes) where
   module _ (front : Items) where
     abbrev whole : Data → Items
     whole u = items_then front (item u no_items)
@@ -195,13 +195,13 @@ module _ (q : Question) (i c : ℕ) (rule : RuleOfParts q.pools q.limit (site q 
     nothing_follows u w part within unused =
         let old = whole u in
         let before = all_left q i old in
-        let first = first_more q i c (node_count u) front w (walk_first q i c rule ends item_is old part within top 0 front u before) unused in
-        let fits = walk_fits q i c rule ends item_is old part within top 0 front u before in
+        let first = first_more q i c (node_count u) front w (walk_first q i c laws old part within top 0 front u before) unused in
+        let fits = walk_fits q i c laws old part within top 0 front u before in
         let none : fits.1.0 ≡ 0 = omega (arith, fits.1.1.1) in
         let count : fault.items_count front + 1 ≡ fault.items_count (whole w) = omega (arith, then_count front (item w no_items)) in
         let more = subst (λ k. HasMore q.pools q.limit (site q i) k 0) count (subst (HasMore q.pools q.limit (site q i) (fault.items_count front + 1)) none fits.1.1.0) in
         let few : 1 + items_count (whole w) + 0 ≤ q.limit = omega (arith, within, then_nodes front (item u no_items), then_nodes front (item w no_items), unused.part.nodes_are) in
-        let ds = some_items q i c rule ends item_is (whole w) 0 few first more in
+        let ds = some_items q i c laws (whole w) 0 few first more in
         none_follow q i (whole w) ds.0 ds.1
 
     -- where values follow in the place of the last item, they do so in the list
@@ -212,8 +212,8 @@ module _ (q : Question) (i c : ℕ) (rule : RuleOfParts q.pools q.limit (site q 
         let old = whole u in
         let w = with_last u x in
         let n = 1 + items_count old in
-        let moved = walk_next q i c rule ends item_is old part within top 0 front u (all_left q i old) w no_items f.0 (nothing_follows u w part within f.0.is.0) in
-        let next = list_moved q i rule is_list old within (whole w) moved in
+        let moved = walk_next q i c laws old part within top 0 front u (all_left q i old) w no_items f.0 (nothing_follows u w part within f.0.is.0) in
+        let next = list_moved q i laws.rule is_list old within (whole w) moved in
         let same : list (whole w) ≡ with_last (list old) x = sym (list_last old x (some_items_then front u) ∙ ap list (items_last front u x)) in
         let nodes : items_count (whole w) ≡ items_count old = moved.is.0.nodes_are in
         let later = follow_list w cs moved.is.0.part (omega (arith, nodes, within)) (subst (λ k. Follow (IsUnusedItem q i c k front) w cs) (sym f.0.is.0.part.nodes_are) f.1) in (

@@ -7,9 +7,9 @@ pub returns-in_ok-grow_items : goal.first_items-returns-in_ok-grow_items
 returns-in_ok-grow_items g t c =
     let q = c.args.self.now.plan.now in
     record {
-      ok = adds_grown q c.args.list.now.node c.args.list.now.child c.laws_of.ensures.rule c.laws_of.ensures.completed c.in_ok-grow_items.field-0 c.args.room c.args.items.now.items c.grow_items.new.items.items
+      ok = adds_grown q c.args.list.now.node c.args.list.now.child (record { rule = c.laws_of.ensures.rule; ends = c.laws_of.ensures.completed; item = c.requires.follow.first.item }) c.in_ok-grow_items.field-0 c.args.room c.args.items.now.items c.grow_items.new.items.items
           (omega (arith, c.if-room-gt0.true)) (omega (arith, c.ranges.room.fits)) c.requires.follow c.in_ok-grow_items.ensures.ok;
-      following = grown_items_continue q c.args.list.now.node c.args.list.now.child c.laws_of.ensures.rule c.laws_of.ensures.completed c.in_ok-grow_items.field-0 c.args.room c.args.items.now.items c.grow_items.new.items.items (stack_of c.grow_items.new.scratch.following.items)
+      following = grown_items_continue q c.args.list.now.node c.args.list.now.child (record { rule = c.laws_of.ensures.rule; ends = c.laws_of.ensures.completed; item = c.requires.follow.first.item }) c.in_ok-grow_items.field-0 c.args.room c.args.items.now.items c.grow_items.new.items.items (stack_of c.grow_items.new.scratch.following.items)
           (omega (arith, c.if-room-gt0.true)) (omega (arith, c.ranges.room.fits)) c.requires.follow c.in_ok-grow_items.ensures.ok c.in_ok-grow_items.ensures.following;
       steps = c.grow_items.ensures.steps;
     }
@@ -19,7 +19,7 @@ returns-else-room-gt0 g t c =
     record {
       ok =
           let q = c.args.self.now.plan.now in
-          adds_none q c.args.list.now.node c.args.list.now.child c.laws_of.ensures.rule c.laws_of.ensures.completed c.args.room c.args.items.now.items (omega (arith, c.if-room-gt0.false)) c.requires.follow;
+          adds_none q c.args.list.now.node c.args.list.now.child (record { rule = c.laws_of.ensures.rule; ends = c.laws_of.ensures.completed; item = c.requires.follow.first.item }) c.args.room c.args.items.now.items (omega (arith, c.if-room-gt0.false)) c.requires.follow;
       following = c.requires.following;
       steps = λ w wide. omega arith;
     }

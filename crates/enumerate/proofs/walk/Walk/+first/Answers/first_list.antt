@@ -54,13 +54,12 @@ returns g t c =
           let i = c.args.node in
           let n = c.args.size in
           let rule = c.laws_of.ensures.rule in
-          let ends = c.laws_of.ensures.completed in
           elim c.if-size-gt1.branch [
             | first_list-then-size-gt1+in-Some+in_ok-first_items b ↦
                 let first = list_first q i rule c.requires.list n some c.requires.limit c.requires.no_null _ (subst (λ l. AddsItems q i (n - 1) l b.first_items.new.items.items) c.new-items.ensures.items b.in_ok-first_items.ensures.ok) in
                 subst (λ s. Continue (IsPartOf q i n) (list_data (items_of c.if-size-gt1.items.items)) (stack_of s.following.items)) (sym b.scratch-is)
                 (subst (λ v. Continue (IsPartOf q i n) (list_data (items_of v.items)) (stack_of b.first_items.new.scratch.following.items)) (sym b.items-is)
-                (list_continues q i b.in-Some.child rule ends b.in-Some.ensures.some c.requires.list (omega (arith, c.laws_of.ensures.limit)) n (items_of b.first_items.new.items.items) (stack_of b.first_items.new.scratch.following.items) first.is c.requires.limit b.in_ok-first_items.ensures.following))
+                (list_continues q i b.in-Some.child (record { rule = rule; ends = c.laws_of.ensures.completed; item = b.in-Some.ensures.some }) c.requires.list (omega (arith, c.laws_of.ensures.limit)) n (items_of b.first_items.new.items.items) (stack_of b.first_items.new.scratch.following.items) first.is c.requires.limit b.in_ok-first_items.ensures.following))
             | first_list-else-size-gt1 b ↦ subst (λ s. Continue (IsPartOf q i n) (list_data (items_of c.if-size-gt1.items.items)) (stack_of s.following.items)) (sym b.scratch-is) (subst (λ l. Continue (IsPartOf q i n) (list_data (items_of c.if-size-gt1.items.items)) (stack_of l)) (sym c.clear.ensures.items) tt)
           ];
       steps = elim c.if-size-gt1.branch [

@@ -39,7 +39,7 @@ first_here g t c =
     let one = c.in-Some.item in
     let within : 1 + items_count old ≤ q.limit = omega (arith, c.requires.limit) in
     let top : q.limit ≤ most_nodes = omega (arith, c.laws_of.ensures.limit) in
-    front_first q i k c.laws_of.ensures.rule c.laws_of.ensures.completed c.requires.item old c.requires.part within top c.loop-item.room c.loop-item.items.items front one c.in-Some.ensures.items c.loop-item.invariant.last
+    front_first q i k (record { rule = c.laws_of.ensures.rule; ends = c.laws_of.ensures.completed; item = c.requires.item }) old c.requires.part within top c.loop-item.room c.loop-item.items.items front one c.in-Some.ensures.items c.loop-item.invariant.last
 
 last_here : (g : Over) (t : ℕ) (c : next_items-In-Last g t) → IsNext tree_cmp (IsUnusedItem c.args.self.now.plan.now c.args.list.now.node c.args.list.now.child (node_count (data_of c.in-Some.item)) (items_of c.pop.new.self.items)) (data_of c.in-Some.item) None × (node_count (data_of c.in-Some.item) ≡ c.in-Last.size)
 last_here g t c = item_moved c.args.self.now.plan.now c.args.list.now c.in-Some.item c.as_slice.result.now c.pop.new.self.items c.in_ok-next.field-0 (tree_next.Last c.in-Last.size) c.as_slice.ensures.value c.in-Last.is c.in_ok-next.ensures.ok
@@ -55,7 +55,7 @@ walked_here g t c st now grown =
     let within : 1 + items_count old ≤ q.limit = omega (arith, c.requires.limit) in
     let top : q.limit ≤ most_nodes = omega (arith, c.laws_of.ensures.limit) in
     let last = last_here g t c in
-    front_walked q i k c.laws_of.ensures.rule c.laws_of.ensures.completed c.requires.item old c.requires.part within top c.loop-item.room c.loop-item.items.items c.pop.new.self.items c.in-Some.item c.in-Some.ensures.items c.loop-item.invariant.last last.0 st c.in-Last.size now last.1 grown
+    front_walked q i k (record { rule = c.laws_of.ensures.rule; ends = c.laws_of.ensures.completed; item = c.requires.item }) old c.requires.part within top c.loop-item.room c.loop-item.items.items c.pop.new.self.items c.in-Some.item c.in-Some.ensures.items c.loop-item.invariant.last last.0 st c.in-Last.size now last.1 grown
 
 -- a move of the item leaves as much as it takes to grow other items in its place
 item_cost : (g : Over) (t : ℕ) (c : next_items-After-next_item g t) (w : ℕ) → IsWidth c.args.self.now.plan.now.pools c.args.self.now.plan.now.root w → c.next_item.new.scratch.meter + (w + 1) * c.loop-item.room ≤ c.args.scratch.now.meter + (w + 1) * (3 * items_count (items_of c.args.items.now.items))
@@ -108,7 +108,7 @@ next_item-requires g t c κs within-it =
           (
             subst (λ l. AreFirst q i k (items_of l)) (sym c.as_slice.ensures.value) (first_here g t (goal.at.next_items-next_item-requires g t c).In-Some),
             (
-              subst (λ l. IsUnusedItem q i k (node_count (data_of one)) (items_of l) (data_of one)) (sym c.as_slice.ensures.value) (front_unused q i k c.laws_of.ensures.rule c.laws_of.ensures.completed c.requires.item old c.requires.part within top c.loop-item.room c.loop-item.items.items front one c.in-Some.ensures.items c.loop-item.invariant.last),
+              subst (λ l. IsUnusedItem q i k (node_count (data_of one)) (items_of l) (data_of one)) (sym c.as_slice.ensures.value) (front_unused q i k (record { rule = c.laws_of.ensures.rule; ends = c.laws_of.ensures.completed; item = c.requires.item }) old c.requires.part within top c.loop-item.room c.loop-item.items.items front one c.in-Some.ensures.items c.loop-item.invariant.last),
               omega (arith, nodes, within, ap (λ l. items_count (items_of l)) c.as_slice.ensures.value),
             ),
           ),
@@ -144,7 +144,7 @@ put_item-requires g t c =
           let old = items_of c.args.items.now.items in
           let within : 1 + items_count old ≤ q.limit = omega (arith, c.requires.limit) in
           let top : q.limit ≤ most_nodes = omega (arith, c.laws_of.ensures.limit) in
-          front_follow q i k c.laws_of.ensures.rule c.laws_of.ensures.completed c.requires.item old c.requires.part within top c.loop-item.room c.loop-item.items.items front c.in-Some.item c.in-Some.ensures.items c.loop-item.invariant.last next (front ++ next ∷ []) to.0 refl;
+          front_follow q i k (record { rule = c.laws_of.ensures.rule; ends = c.laws_of.ensures.completed; item = c.requires.item }) old c.requires.part within top c.loop-item.room c.loop-item.items.items front c.in-Some.item c.in-Some.ensures.items c.loop-item.invariant.last next (front ++ next ∷ []) to.0 refl;
       following =
           let one = data_of c.in-Some.item in
           let cs = stack_of c.next_item.new.scratch.following.items in
@@ -175,7 +175,7 @@ returns-in-To g t c =
       ok =
           let within : 1 + items_count (items_of old) ≤ q.limit = omega (arith, c.requires.limit) in
           let top : q.limit ≤ most_nodes = omega (arith, c.laws_of.ensures.limit) in (
-            front_next q i k c.laws_of.ensures.rule c.laws_of.ensures.completed c.requires.item (items_of old) c.requires.part within top c.loop-item.room left front one c.in-Some.ensures.items c.loop-item.invariant.last next new to.0 adds,
+            front_next q i k (record { rule = c.laws_of.ensures.rule; ends = c.laws_of.ensures.completed; item = c.requires.item }) (items_of old) c.requires.part within top c.loop-item.room left front one c.in-Some.ensures.items c.loop-item.invariant.last next new to.0 adds,
             if_last c.loop-item.room depth c.below-depth.result (list_data (items_of old)) (list_data (items_of new)) c.below-depth.ensures.last c.below-depth.ensures.other (λ empty.
                 let all = all_items q i (items_of old) (items_of left) (subst (λ n. WereLast q i n (items_of old) (items_of left)) empty c.loop-item.invariant.last) in
                 let added = subst (λ n. AddsItems q i n (front ++ next ∷ []) new) empty adds in

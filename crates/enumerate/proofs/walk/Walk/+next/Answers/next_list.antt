@@ -99,7 +99,6 @@ returns-in-Made g t c =
           subst (λ d. IsNext tree_cmp (IsPartOf q i (node_count d)) d (Some (list_data new)) × DiffersAt c.in-Made.depth d (list_data new)) (sym is) (list_moved q i rule c.requires.sort old within new next.0, next.1);
       following =
           let rule = c.laws_of.ensures.rule in
-          let ends = c.laws_of.ensures.completed in
           let v = data_of c.args.tree in
           let is : v ≡ list_data old = c.in-Some.ensures.some in
           let count : node_count v ≡ 1 + items_count old = ap node_count is in
@@ -107,7 +106,7 @@ returns-in-Made g t c =
           let new = items_of c.next_items.new.items.items in
           let cs = stack_of c.next_items.new.scratch.following.items in
           let next = subst (λ d. IsNext tree_cmp (IsPartOf q i (node_count d)) d (Some (list_data new))) (sym is) (list_moved q i rule c.requires.sort old within new (subst (λ s. AreNextItems s q i old new) c.in-Made.is c.in_ok-depth.ensures.ok).0) in
-          list_continues q i c.in-Some-item.child rule ends c.in-Some-item.ensures.some c.requires.sort (omega (arith, c.laws_of.ensures.limit)) (node_count v) new cs next.is.0 c.requires.limit
+          list_continues q i c.in-Some-item.child (record { rule = rule; ends = c.laws_of.ensures.completed; item = c.in-Some-item.ensures.some }) c.requires.sort (omega (arith, c.laws_of.ensures.limit)) (node_count v) new cs next.is.0 c.requires.limit
           (subst (λ s. GrownItemsContinue s q i c.in-Some-item.child new cs) c.in-Made.is c.in_ok-depth.ensures.following);
       steps = (list_cost g t (goal.at.next_list-returns-in-Made g t c).After-next_items, tt);
     }
