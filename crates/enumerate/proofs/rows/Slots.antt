@@ -3,7 +3,7 @@ use Rattle.std.specs.Prelude.{◌≡◌, ◌↔◌, ℕ, zero, suc, ◌+◌, ◌
 use Rattle.std.proofs.Common.{refl, ap, sym, ◌∙◌, subst, inl, inr, arith, [], ◌∷◌, length, append-nil}
 use Rattle.std.proofs.Math.ListN.{drop_of_length-le}
 use Rattle.std.proofs.Math.Seq.{drop-cons}
-use Rattle.std.proofs.lemmas.List.{length-map, length-drop, append_assoc}
+use Rattle.std.proofs.lemmas.List.{length-map, append_assoc}
 use Rattle.std.proofs.lemmas.Option.{slice_get_within, get_or_from_slice_get}
 use Rattle.std.specs.declared.cmp.Ordering.TheVariants.{Less}
 use Rattle.jtree.specs.Data.{Data, no_members, member}
@@ -316,9 +316,3 @@ key_of q i place t used sound law slot key known = record {
   known = subst (λ ss. AreUsed q.pools ss used) slot.first known;
   tuples = slot.later;
 }
-
-pub place_within : (q : Question) (i place : ℕ) → slots_from q i place ≡ slot_in q i place ∷ slots_from q i (place + 1) → place + 1 ≤ length (slots q.pools (site q i))
-place_within q i place first =
-    let e = ap (λ (xs : List Slot). length xs) first in
-    let n = length-drop place (slots q.pools (site q i)) in
-    omega (arith, e, n)

@@ -21,11 +21,6 @@ past_next : (q : Question) (old : Data) (next : Option Data) → IsNext tree_cmp
 past_next q old (Some v) h = record { is = record { sample = h.is.0; past = h.is.1 }; least = λ u p. h.least u (p.sample, p.past) }
 past_next q old None h = λ v p. h v p.sample p.past
 
--- from size 0 on the first sample is the first of all
-pub first_sample : (q : Question) (found : Option Data) → IsFirstFrom q 0 found → IsNextSample q None found
-first_sample q (Some v) h = record { is = record { sample = h.is.0; past = tt }; least = λ u p. h.least u (p.sample, omega arith) }
-first_sample q None h = λ v p. h v (p.sample, omega arith)
-
 pub few : (q : Question) (v : Data) → q.limit < 4294967296 → IsSampleOf q v → node_count v ≤ q.limit
 few q v small h = omega (arith, h.within, small)
 

@@ -102,22 +102,23 @@ IsUnused ss used key = Contains (used_keys ss used) key → ⊥
 abbrev pub still_used : Slot → Data → List Data → List Data
 still_used s v used = agreeing_if s.key s.name v used
 
--- how the row may end, what is before the slots, how many nodes they have together, and the used rows that agree with what is before them
+-- how the row may end after them, what is before them, how many nodes they have together, and the used rows that agree with what is before
+-- them
 pub record Demand : Type 0 where
   pub ending : Ending
   pub before : Before
   pub room : ℕ
   pub used : List Data
 
--- of the slots of a whole row
+-- what is asked of a whole row
 abbrev pub row_demand : Question → ℕ → ℕ → List Data → Demand
 row_demand q i room used = record { ending = ending_at q i; before = nothing; room = room; used = used }
 
--- of the slots of a row from a place on, where this is ahead
+-- what is asked from a place of a row on, where this is ahead
 abbrev pub demand_at : Question → ℕ → Ahead → Demand
 demand_at q i a = record { ending = ending_at q i; before = a.before; room = a.room; used = used_rows a.used }
 
--- of the slots after one that has this value, where so many nodes are left for them
+-- what is asked of the slots after one that has this value, where so many nodes are left for them
 abbrev pub demand_after : Slot → Data → ℕ → Demand → Demand
 demand_after s v room d = record { ending = d.ending; before = filled s.bit d.before; room = room; used = still_used s v d.used }
 
@@ -125,7 +126,7 @@ demand_after s v room d = record { ending = d.ending; before = filled s.bit d.be
 abbrev pub CanMeet : Pools → List Slot → Demand → Type 0
 CanMeet P ss d = CanFill P ss d.ending d.before d.room
 
--- they are filled so, and no used row has the same values under all keys
+-- the slots are filled as is asked: no used row has the same values under all keys
 pub record IsRest (P : Pools) (ss : List Slot) (d : Demand) (gs : List (Option Data)) : Type 0 where
   pub are : AreFillings P ss gs
   pub ends : MayEnd d.ending (state_after ss gs d.before)
@@ -179,7 +180,7 @@ IsGrown (Last n) P s ss d from old new = (new ≡ old) × IsEmptyFrom (FitsSlot 
 
 -- ---- what is ahead at a place
 
--- the same with so many nodes more
+-- what is ahead, with so many nodes more
 abbrev pub larger : Ahead → ℕ → Ahead
 larger a n = record { before = a.before; room = a.room + n; used = a.used }
 
@@ -195,9 +196,9 @@ AddsFirstAt q i place a old new = AddsFirst q.pools (slots_from q i place) (dema
 abbrev pub IsGrownAt : NextParts → Question → RowSlot → Ahead → ℕ → List Member → List Member → Type 0
 IsGrownAt next q t a from old new = IsGrown next q.pools (slot_there q t) (slots_after q t) (demand_at q t.node a) from old new
 
--- a size for the slot, where this is before it and so many nodes are ahead
+-- a size for the slot, where this is before it and so many nodes are ahead, whichever rows are used
 abbrev pub FitsAt : Question → RowSlot → Before → ℕ → ℕ → Type 0
-FitsAt q t x room n = IsSplit (HasSize q.pools (slot_there q t).site) (CanFill q.pools (slots_after q t) (ending_at q t.node) (filled (slot_there q t).bit x)) room n
+FitsAt q t x room n = FitsSlot q.pools (slot_there q t) (slots_after q t) (record { ending = ending_at q t.node; before = x; room = room; used = [] }) n
 
 -- what is asked of the slots after this one, where this value is in it
 abbrev pub demand_past : Question → RowSlot → Data → Ahead → Demand
