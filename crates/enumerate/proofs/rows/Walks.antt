@@ -308,10 +308,10 @@ module _ (q : Question) (i : ℕ) (sound : HasSoundParts q.pools (site q i)) (us
   so_many place gs front are = omega (arith, count_at place ss gs nothing front are)
 
   -- what is asked from a place on
-  abbrev pub Asked : ℕ → List (Option Data) → Demand
-  Asked place gs = demand_from place ss gs (demand_of q i used gs)
+  abbrev pub asked_from : ℕ → List (Option Data) → Demand
+  asked_from place gs = demand_from place ss gs (demand_of q i used gs)
 
-  rest_at : (place : ℕ) (gs : List (Option Data)) → filled_nodes gs ≤ most_nodes → IsRest P ss (demand_of q i used gs) gs → IsRest P (slots_from q i place) (Asked place gs) (drop place gs)
+  rest_at : (place : ℕ) (gs : List (Option Data)) → filled_nodes gs ≤ most_nodes → IsRest P ss (demand_of q i used gs) gs → IsRest P (slots_from q i place) (asked_from place gs) (drop place gs)
   rest_at place gs small whole = filled_from P place ss gs (demand_of q i used gs) (record { keys = keys; small = small; rest = whole })
 
   -- nothing was removed
@@ -331,7 +331,7 @@ module _ (q : Question) (i : ℕ) (sound : HasSoundParts q.pools (site q i)) (us
           after_are = sym (ap (λ us. members_in us (drop n gs)) no_slots ∙ ap (members_in []) past);
         };
         room_is = none;
-        last = nothing_after P (slots_from q i n) (Asked n gs) (drop n gs) (rest_at n gs small h.rest).are none none;
+        last = nothing_after P (slots_from q i n) (asked_from n gs) (drop n gs) (rest_at n gs small h.rest).are none none;
         known = λ some. absurd (some refl);
       }
 
@@ -346,7 +346,7 @@ module _ (q : Question) (i : ℕ) (sound : HasSoundParts q.pools (site q i)) (us
     so_far gs = before_at place ss gs nothing
 
     abbrev asked : List (Option Data) → Demand
-    asked gs = Asked place gs
+    asked gs = asked_from place gs
 
     next_place : place + 1 ≡ suc place
     next_place = omega arith
@@ -391,7 +391,7 @@ module _ (q : Question) (i : ℕ) (sound : HasSoundParts q.pools (site q i)) (us
     pub out_walked : (r : Removed) (members : List Member) (gs : List (Option Data)) → AreUsed P ss used → IsWalkedTo q i (place + 1) r used members gs → (EndsIn here.name members → ⊥) → IsLeftOut r members gs
     out_walked r members gs known w other =
         let o = out_at P place ss here gs members w.cut.whole.are first_so (w.cut.front ∙ ap (λ n. members_to n ss gs) next_place) other in
-        let same : Asked (place + 1) gs ≡ asked gs = ap (λ n. Asked n gs) next_place ∙ past_out place ss gs (demand_of q i used gs) o.0 in
+        let same : asked_from (place + 1) gs ≡ asked gs = ap (λ n. asked_from n gs) next_place ∙ past_out place ss gs (demand_of q i used gs) o.0 in
         let nodes : filled_nodes (drop place gs) ≡ r.room = ap filled_nodes o.0 ∙ ap (λ n. filled_nodes (drop n gs)) (sym next_place) ∙ w.room_is in
         let before = ap (λ (d : Demand). d.before) same in
         let cut : IsCut q i place used members gs = record {
@@ -454,7 +454,7 @@ module _ (q : Question) (i : ℕ) (sound : HasSoundParts q.pools (site q i)) (us
         let cut : IsCut q i place used front gs = record { small = w.cut.small; whole = w.cut.whole; front = o.1; after = one ∷ w.cut.after; after_are = are } in
         let f = filled_here q i place sound first (asked gs) one w.cut.after (drop place gs) small (record { are = are; rest = rest_at place gs w.cut.small w.cut.whole }) name in
         let rest : hs ≡ f.rest = rest_same v hs f.rest (sym o.0 ∙ f.is) in
-        let same : Asked (place + 1) gs ≡ demand_after here v (filled_nodes hs) (asked gs) = ap (λ n. Asked n gs) next_place ∙ past_in place ss here gs v (demand_of q i used gs) first_so o.0 in
+        let same : asked_from (place + 1) gs ≡ demand_after here v (filled_nodes hs) (asked gs) = ap (λ n. asked_from n gs) next_place ∙ past_in place ss here gs v (demand_of q i used gs) first_so o.0 in
         let last = subst (λ us. IsNext fill_cmp (IsRest P after (demand_after here v (filled_nodes hs) (asked gs))) us None) (ap (λ n. drop n gs) next_place) (subst (λ d. IsNext fill_cmp (IsRest P after d) (drop (place + 1) gs) None) same w.last) in
         record {
           cut = cut;

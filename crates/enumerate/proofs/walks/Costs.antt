@@ -108,6 +108,7 @@ abbrev pub Removes : ℕ → NextParts → Type 0
 Removes n (Made d) = Unit {0}
 Removes n (Last m) = n ≡ m
 
+-- all that is asked of slots is removed from them
 pub removes_all : (made : NextParts) (P : Pools) (ss : List Slot) (d : Demand) (gs : List (Option Data)) (new : List Member) → AreNextMembers made P ss d gs new → Removes d.room made
 removes_all (Made n) P ss d gs new h = tt
 removes_all (Last m) P ss d gs new h = h.1

@@ -9,7 +9,7 @@ use Rattle.plan.specs.Samples.Sizes.{Before, nothing}
 use Rattle.enumerate.specs.Internal.Candidates.{used_rows, stack_of}
 use Rattle.enumerate.specs.Internal.Following.{GrownContinueAt}
 use Rattle.enumerate.specs.Internal.Moves.{demand_of}
-use Rattle.enumerate.specs.Internal.Prefixes.{members_to, before_at, used_at, agreeing_rows}
+use Rattle.enumerate.specs.Internal.Prefixes.{before_at, agreeing_rows}
 use Rattle.enumerate.specs.Internal.Rows.{slots_from, slots_at, slots_after, slot_there, Demand, demand_at, IsGrownAt, IsOpen, FitsAt}
 use Rattle.enumerate.specs.declared.row.Ahead.{Ahead}
 use Rattle.enumerate.specs.declared.siblings.Rows.{Rows}
@@ -75,19 +75,15 @@ returns-then-removed-eq0-clause-ok g c = (
 pub prefix_at-requires-clause-limit : goal.prefix_at-requires-clause-limit
 prefix_at-requires-clause-limit g c = omega (arith, ap (λ (l : List Member). length l) c.as_slice.ensures.value, fewer_members c.args.members.now.items, c.requires.limit)
 
--- the used rows that agree with what is before it
-agree_here : (g : Over) (c : In_ok-prefix g) (gs : List (Option Data)) → IsWalkedTo c.args.self.now.plan.now c.args.here.now.node (c.args.here.now.place + 1) c.args.removed.now (used_rows c.args.used.now) c.args.members.now.items gs → members_of c.args.members.now.items ≡ members_to c.args.here.now.place (slots_from c.args.self.now.plan.now c.args.here.now.node 0) gs
-    → agreeing_rows c.in_ok-prefix.prefix.agreeing (used_rows c.args.used.now) ≡ used_at c.args.here.now.place (slots_from c.args.self.now.plan.now c.args.here.now.node 0) gs (used_rows c.args.used.now)
-agree_here g c gs w are = (c.in_ok-prefix.ensures.prefix gs w.cut.whole.are (ap members_of c.as_slice.ensures.value ∙ are)).rows
-
 -- what is ahead is what was removed
 ahead_is : (g : Over) (c : In_ok-prefix g) (gs : List (Option Data)) → IsWalkedTo c.args.self.now.plan.now c.args.here.now.node (c.args.here.now.place + 1) c.args.removed.now (used_rows c.args.used.now) c.args.members.now.items gs
     → IsLeftOut c.args.self.now.plan.now c.args.here.now.node c.laws_of.ensures.sound (used_rows c.args.used.now) c.args.here.now.place c.requires.here.slot.first c.args.removed.now c.args.members.now.items gs
     → (rows : Rows) → used_rows rows ≡ agreeing_rows c.in_ok-prefix.prefix.agreeing (used_rows c.args.used.now)
     → demand_at c.args.self.now.plan.now c.args.here.now.node (record { before = c.args.removed.now.before; room = c.args.removed.now.room; used = rows }) ≡ demand_from c.args.here.now.place (slots_from c.args.self.now.plan.now c.args.here.now.node 0) gs (demand_of c.args.self.now.plan.now c.args.here.now.node (used_rows c.args.used.now) gs)
 ahead_is g c gs w out rows same =
+    let prefix = c.in_ok-prefix.ensures.prefix gs w.cut.whole.are (ap members_of c.as_slice.ensures.value ∙ out.cut.front) in
     asked_is c.args.self.now.plan.now c.args.here.now.node c.laws_of.ensures.sound (used_rows c.args.used.now) c.args.here.now.place c.requires.here.slot.first (record { before = c.args.removed.now.before; room = c.args.removed.now.room; used = rows }) gs
-    (out.known (λ e. omega (arith, e, c.if-removed-eq0.false))) out.room_is (same ∙ agree_here g c gs w out.cut.front)
+    (out.known (λ e. omega (arith, e, c.if-removed-eq0.false))) out.room_is (same ∙ prefix.rows)
 
 pub grow_members-requires-clause-open : goal.grow_members-requires-clause-open
 grow_members-requires-clause-open g c =
