@@ -1,7 +1,7 @@
 -- What a path adds to the lines.
-use Rattle.std.proofs.Common.{◌≡◌, ◌+◌, ◌≤◌, ◌<◌, ◌⊎◌, ℕ, List, [], ◌∷◌, ◌++◌, Bool, true, false, Option, Some, None, refl, sym, ap, subst, ◌∙◌, inl, inr, arith, All, Contains, map, length, get_or, take}
+use Rattle.std.proofs.Common.{◌≡◌, ◌+◌, ◌≤◌, ◌<◌, ◌⊎◌, ℕ, List, [], ◌∷◌, ◌++◌, Bool, true, false, Option, Some, None, refl, sym, ap, subst, ◌∙◌, inl, inr, arith, All, Contains, map, length, get_or, take, drop}
 use Rattle.std.specs.Prelude.{string_bytes}
-use Rattle.std.proofs.lemmas.List.{get_or-map, map-append, length-map, take_more, take_all}
+use Rattle.std.proofs.lemmas.List.{get_or-map, map-append, length-map, take_more, take_all, take-append-drop}
 use Rattle.std.proofs.lemmas.List.Elements.{All-map, All-weaker, All-contains}
 use Rattle.jtree.specs.Data.{Data}
 use Rattle.jtree.specs.Order.{tree_cmp}
@@ -29,8 +29,12 @@ use Rattle.cover.specs.View.{line_of, lines_of, covered_of}
 use Rattle.cover.specs.Internal.Narrowed.{narrowed, narrower}
 use Rattle.cover.specs.declared.covering.Line.{Line as CodeLine}
 use Rattle.cover.specs.declared.covering.Covered.{Covered as CodeCovered}
-use Rattle.cover.proofs.PathLemmas.{OneText}
+use Rattle.plan.specs.Samples.Site.{below}
+use Rattle.cover.specs.Internal.Ways.{step_of, path_of}
+use Rattle.cover.specs.declared.way.PathStep.{PathStep}
+use Rattle.cover.proofs.PathLemmas.{OneText, text_below}
 use Rattle.cover.proofs.NarrowLemmas.{StoredLaw}
+use Rattle.cover.proofs.ThereLemmas.{there_before}
 use Rattle.cover.proofs.SampleLemmas.{has_text, text_there, first_has, none_has}
 
 -- ---- faults
@@ -147,3 +151,26 @@ added_missed one root P N limit q is p text e narrow c d none kept pushed = subs
 
 pub samples_of : (q : Question) (ls : List Line) → All (λ l. Has q l.path l.object) ls → All (λ l. IsSampleOf q l.object) ls
 samples_of q ls h = All-weaker (λ l. Has q l.path l.object) (λ l. IsSampleOf q l.object) (λ l x. x.0) ls h
+
+-- ---- a path of which a beginning is missed
+
+pub missed_line : OneText → (root : Node) (P : Pools) (limit : ℕ) (q : Question) → q ≡ record { root = root; pools = P; limit = limit } → (p a b : FieldPath) (text : List ℕ) → path_text p ≡ text → p ≡ a ++ b
+    → (c d : CodeCovered) → All (λ t. (v : Data) → ¬ Has q t v) c.missed.items → Contains c.missed.items (path_text a) → d.lines.items ≡ c.lines.items
+    → d.missed.items ≡ c.missed.items ++ text ∷ [] → Adds q text (covered_of c) (covered_of d)
+missed_line one root P limit q is p a b text e split c d none has kept pushed =
+    let after : covered_of d ≡ record { lines = lines_of c.lines.items; missed = c.missed.items ++ text ∷ [] } = rw (kept, pushed) refl in
+    let nowhere = All-contains (λ t. (v : Data) → ¬ Has q t v) c.missed.items (path_text a) none has in
+    subst (λ x. Adds q text (covered_of c) x) (sym after) (never (λ v h.
+    nowhere v (has_text q a v (path_text a) refl h.0 (there_before a b v (subst (λ x. is_there x v ≡ true) split (text_there one q p v text e h))))))
+
+-- ---- the beginnings of a path in the code
+
+pub next_beginning : (xs : List PathStep) (i : ℕ) (x : PathStep) (front next : List ℕ) → i < length xs → x ≡ get_or xs i x → front ≡ path_text (path_of (take i xs)) → next ≡ below front (step_of x)
+    → next ≡ path_text (path_of (take (i + 1) xs))
+next_beginning xs i x front next lt is e n =
+    let step : path_of (take (i + 1) xs) ≡ path_of (take i xs) ++ step_of x ∷ [] =
+    ap path_of (take_more xs i x lt ∙ ap (λ y. take i xs ++ y ∷ []) (sym is)) ∙ map-append step_of (take i xs) (x ∷ []) in
+    n ∙ (ap (λ t. below t (step_of x)) e ∙ (text_below (path_of (take i xs)) (step_of x) ∙ sym (ap path_text step)))
+
+pub path_split : (xs : List PathStep) (n : ℕ) → path_of xs ≡ path_of (take n xs) ++ path_of (drop n xs)
+path_split xs n = ap path_of (sym (take-append-drop n xs)) ∙ map-append step_of (take n xs) (drop n xs)

@@ -1,5 +1,5 @@
 -- Where a path is there, the rest of it is there in the parts to which its first step leads.
-use Rattle.std.proofs.Common.{◌≡◌, ◌⊎◌, ◌<◌, ℕ, zero, suc, List, [], ◌∷◌, Bool, true, false, Option, Some, None, refl, sym, ap, subst, ◌∙◌, inl, inr, arith}
+use Rattle.std.proofs.Common.{◌≡◌, ◌⊎◌, ◌<◌, ℕ, zero, suc, List, [], ◌∷◌, ◌++◌, Bool, true, false, Option, Some, None, refl, sym, ap, subst, ◌∙◌, inl, inr, arith}
 use Rattle.std.specs.Prelude.{◌&&◌, ◌||◌, ◌==◌, not, nat_lt, is_some, length}
 use Rattle.jtree.specs.View.{items_of, members_of}
 use Rattle.jtree.specs.declared.value.Tree.{Tree}
@@ -175,3 +175,37 @@ items_passed test (t ∷ ts) all = all ∙ ap not (sym (ne_eqb (length (t ∷ ts
 pub values_passed : (test : Data → Bool) (ms : List Member) → all_values test (members_of ms) ≡ true → has_values test (members_of ms) ≡ not (length ms == 0)
 values_passed test [] all = refl
 values_passed test (m ∷ ms) all = all ∙ ap not (sym (ne_eqb (length (m ∷ ms)) 0 (λ e. absurd (omega (arith, e)))))
+
+-- ---- a path of which a beginning is nowhere
+
+items_more : (s t : Data → Bool) → ((w : Data) → s w ≡ true → t w ≡ true) → (ds : Items) → all_items s ds ≡ true → all_items t ds ≡ true
+items_more s t more no_items all = refl
+items_more s t more (item d ds) all =
+    let parts = and_parts (s d) (all_items s ds) all in
+    and_from (t d) (all_items t ds) (more d parts.0) (items_more s t more ds parts.1)
+
+values_more : (s t : Data → Bool) → ((w : Data) → s w ≡ true → t w ≡ true) → (ms : Members) → all_values s ms ≡ true → all_values t ms ≡ true
+values_more s t more no_members all = refl
+values_more s t more (member k d ms) all =
+    let parts = and_parts (s d) (all_values s ms) all in
+    and_from (t d) (all_values t ms) (more d parts.0) (values_more s t more ms parts.1)
+
+some_items_more : (s t : Data → Bool) → ((w : Data) → s w ≡ true → t w ≡ true) → (ds : Items) → has_items s ds ≡ true → has_items t ds ≡ true
+some_items_more s t more no_items has = has
+some_items_more s t more (item d ds) has = items_more s t more (item d ds) has
+
+some_values_more : (s t : Data → Bool) → ((w : Data) → s w ≡ true → t w ≡ true) → (ms : Members) → has_values s ms ≡ true → has_values t ms ≡ true
+some_values_more s t more no_members has = has
+some_values_more s t more (member k d ms) has = values_more s t more (member k d ms) has
+
+value_more : (s t : Data → Bool) → ((w : Data) → s w ≡ true → t w ≡ true) → (v : Option Data) → has_value s v ≡ true → has_value t v ≡ true
+value_more s t more None has = has
+value_more s t more (Some v) has = more v has
+
+-- where a path is there, each beginning of it is
+pub there_before : (a b : FieldPath) (v : Data) → is_there (a ++ b) v ≡ true → is_there a v ≡ true
+there_before [] b v there = refl
+there_before (field k ∷ a) b (tree.object ms) there = value_more (λ w. is_there (a ++ b) w) (λ w. is_there a w) (λ w h. there_before a b w h) (member_at k ms) there
+there_before (value ∷ a) b (tree.object ms) there = some_values_more (λ w. is_there (a ++ b) w) (λ w. is_there a w) (λ w h. there_before a b w h) ms there
+there_before (item_step ∷ a) b (tree.list ds) there = some_items_more (λ w. is_there (a ++ b) w) (λ w. is_there a w) (λ w h. there_before a b w h) ds there
+there_before (s ∷ a) b v there = absurd (cc)

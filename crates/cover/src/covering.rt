@@ -1,5 +1,5 @@
 //! The lines of the declared paths of a schema, one after the other.
-ghost use Rattle.std.specs.Prelude.{◌≡◌, ◌≤◌, ◌<◌, true, false, ℕ, IfOk, List, Contains, All, map};
+ghost use Rattle.std.specs.Prelude.{◌≡◌, ◌≤◌, ◌<◌, ◌++◌, true, false, ℕ, IfOk, List, Contains, All, map};
 ghost use Rattle.jtree.specs.View.{data_of};
 ghost use Rattle.explain.specs.Fields.Declared.{AreFields, IsDeclared};
 ghost use Rattle.explain.specs.Fields.Field.{Field as FieldData};
@@ -7,7 +7,10 @@ ghost use Rattle.explain.specs.Fields.PathFault.{IsTextOf};
 ghost use Rattle.plan.specs.Pools.PlanFault.{HasGoodPaths};
 ghost use Rattle.plan.specs.Samples.Question.{Question};
 ghost use Rattle.cover.specs.There.{is_there as is_there_of};
-ghost use Rattle.cover.specs.Cover.{Adds, AreCovered};
+ghost use Rattle.cover.specs.Cover.{Adds, AreCovered, Has};
+ghost use Rattle.jtree.specs.Data.{Data};
+ghost use Rattle.explain.specs.Paths.FieldPath.{FieldPath};
+ghost use Rattle.explain.specs.Paths.PathText.{path_text};
 ghost use Rattle.cover.specs.View.{covered_of};
 ghost use Rattle.enumerate.specs.Page.{IsSampleOf};
 ghost use Rattle.cover.specs.Internal.Ways.{path_of};
@@ -16,7 +19,7 @@ ghost use Rattle.cover.specs.declared.covering.Line.{Line as CodeLine};
 use crate::first::first_sample;
 use crate::narrowing::narrowed;
 use crate::there::is_there;
-use crate::way::{PathStep, steps_of};
+use crate::way::{PathStep, below, steps_of};
 use explain::{Listing, paths_have_one_text};
 use jtree::{Text, Tree};
 use plan::{Plan, Pools, SizeSet};
@@ -80,7 +83,7 @@ fn add_path<Z: SizeSet>(
     requires declared { IsTextOf (IsDeclared schema) path.now }
     ensures schema { IfOk result (λ s. s ≡ schema) }
     ensures adds { IfOk result (λ _. (q : Question) → q ≡ record { root = schema; pools = pools.now; limit = limit }
-        → All (λ l. IsSampleOf q l.object) (covered_of covered.old).lines → Adds q path.now (covered_of covered.old) (covered_of covered.new)) }
+        → All (λ l. IsSampleOf q l.object) (covered_of covered.old).lines → All (λ t. (v : Data) → ¬ Has q t v) covered.old.missed.items → Adds q path.now (covered_of covered.old) (covered_of covered.new)) }
 {
     let steps = steps_of(alloc, &schema, path)?;
     if is_had(covered.lines.as_slice(), steps.as_slice()) {
@@ -89,6 +92,10 @@ fn add_path<Z: SizeSet>(
     // for their contracts alone
     paths_have_one_text();
     stored_by_parts();
+    if is_missed(alloc, covered.missed.as_slice(), steps.as_slice())? {
+        covered.missed.push(Text::from_str(alloc, path)?)?;
+        return Ok(schema);
+    }
     let narrow = narrowed(alloc, pools, steps.as_slice())?;
     let (schema, tree) = first_sample::<Z>(alloc, schema, narrow, limit)?;
     let path = Text::from_str(alloc, path)?;
@@ -106,6 +113,31 @@ fn is_had(lines: &[Line], steps: &[PathStep]) -> bool
 {
     for line in lines {
         if is_there(steps, &line.tree) {
+            return true;
+        }
+    }
+    false
+}
+
+/// Whether the path of the steps, or a beginning of it, has one of these texts.
+fn is_missed(alloc: Global, missed: &[Text], steps: &[PathStep]) -> Result<bool, AllocError>
+    ensures { IfOk result (λ is. is ≡ true → (a : FieldPath) × (b : FieldPath) × ((path_of steps.now ≡ a ++ b) × Contains missed.now (path_text a))) }
+{
+    let mut front = String::new(alloc);
+    for step in steps {
+        front = below(alloc, &front, step)?;
+        if has_text(missed, &front) {
+            return Ok(true);
+        }
+    }
+    Ok(false)
+}
+
+fn has_text(texts: &[Text], text: &str) -> bool
+    ensures { result ≡ true → Contains texts.now text.now }
+{
+    for other in texts {
+        if text == other.as_str() {
             return true;
         }
     }

@@ -4,7 +4,7 @@ use Rattle.explain.specs.Fields.PathFault.{IsTextOf}
 use Rattle.explain.specs.Fields.View.{field_of}
 use Rattle.cover.specs.Cover.{Adds, AreCovered, Covered, none}
 use Rattle.cover.specs.View.{covered_of}
-use Rattle.cover.proofs.CoverLemmas.{lines_samples}
+use Rattle.cover.proofs.CoverLemmas.{is_cover, lines_samples}
 use Rattle.cover.proofs.LineLemmas.{declared_field, same_question, samples_of, next_covered, all_covered}
 use Rattle.cover.proofs.covering.cover.Goals as goal
 
@@ -28,7 +28,7 @@ loop-field-preserved g c =
     let before = covered_of c.loop-field.covered in
     let after = covered_of c.add_path.new.covered in
     let same = same_question q c.loop-field.schema c.into_parts-schema.result.1 c.limit-limit.result inv.schema c.into_parts-schema.ensures.pools c.limit-limit.ensures in
-    let adds = c.in_ok-schema.ensures.adds q same (samples_of q before.lines (lines_samples q _ before inv.covered)) in
+    let adds = c.in_ok-schema.ensures.adds q same (samples_of q before.lines (lines_samples q _ before inv.covered)) (is_cover q _ before inv.covered).missed in
     record {
       schema = c.in_ok-schema.ensures.schema ∙ inv.schema;
       covered = next_covered q c.fields-field-items.result.now c.loop-field.field-index c.field-item.result before after (omega arith) (sym c.field-item.is) inv.covered
