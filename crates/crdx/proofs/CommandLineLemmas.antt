@@ -1,14 +1,17 @@
 -- What the matches of `clap` say of a command and its arguments.
-use Rattle.std.proofs.Common.{◌≡◌, ℕ, List, [], Option, Some, None, Bor, Box, refl, ap, subst, ◌∙◌, inl, inr, true}
-use Rattle.std.specs.Prelude.{◌≢◌, ◌<◌, ◌^◌, Result, Ok, Err, option_map, unwrap_or}
+use Rattle.std.proofs.Common.{◌≡◌, ℕ, List, [], Option, Some, None, Bor, Box, refl, sym, ap, subst, find, ◌∙◌, inl, inr, true}
+use Rattle.std.specs.Prelude.{◌≢◌, ◌<◌, ◌^◌, Result, Ok, Err, option_map, option_and_then, unwrap_or}
+use Rattle.std.specs.Str.{bytes_eq}
 use Rattle.std.specs.Str.Parse.{IsNumeral, ParsesUnsigned, without_leading_plus}
 use Rattle.std.specs.Box.{box_value}
-use Rattle.clap.specs.Matches.{first_value, ReadsOne}
+use Rattle.clap.specs.Facts.{Entry}
+use Rattle.clap.specs.Matches.{first_value, matched_of, ReadsOne}
+use Rattle.clap.specs.declared.parser.matches.MatchedArg.{MatchedArg}
 use Rattle.clap.specs.Faults.{fault_of, is_simple_and_free}
 use Rattle.clap.specs.Kinds.{HasKind}
 use Rattle.clap.specs.Simple.{is_simple, subcommand_of, subcommand_rows}
 use Rattle.clap.specs.Values.{kind_of}
-use Rattle.clap.specs.Walk.{Row, Text, rows_of}
+use Rattle.clap.specs.Walk.{Row, Text, row_of, rows_of}
 use Rattle.clap.specs.declared.parser.matches.Found.{Found}
 use Rattle.clap.specs.declared.parser.matches.SubCommand.{SubCommand}
 use Rattle.clap.specs.declared.parser.matches.ArgMatches.TheViews.{out-SubCommand}
@@ -16,10 +19,10 @@ use Rattle.clap.specs.declared.error.Error.{Error}
 use Rattle.clap.specs.declared.error.kind.ErrorKind.{ErrorKind}
 use Rattle.clap.specs.declared.error.kind.ErrorKind.TheVariants.{OutOfMemory}
 use Rattle.std.proofs.lemmas.List.Elements.{All-from_recursion}
-use Rattle.clap.proofs.WalkLemmas.{first_value-rows}
+use Rattle.clap.proofs.WalkLemmas.{find_row, first_value-rows}
 use Rattle.crdx.specs.Program.CommandLine.{crdx_app, entered, faults, value_of, decimal_value, command_names, IsCommand, IsHelp, IsRequestOf, IsUsageErrorOrMemory, Asks}
 use Rattle.crdx.specs.declared.arguments.request.Request.{Request}
-use Rattle.crdx.specs.declared.arguments.request.Request.TheVariants.{Check, Explain, Object, SuggestPools, Sample, Help, UsageError, NoMemory}
+use Rattle.crdx.specs.declared.arguments.request.Request.TheVariants.{Check, Explain, Object, ObjectLines, SuggestPools, Sample, Help, UsageError, NoMemory}
 
 -- the command that was met has this name and these rows
 pub met_as : {Z : Type 0} (s : Option (Box SubCommand Z)) (name : Text) (rows : List Row) → option_map (λ b. (out-SubCommand (box_value b)).name.now) s ≡ Some name
@@ -47,6 +50,14 @@ pub number_read : {E : Type 0} (gives : List ℕ → Result ℕ E → Type 0) �
 number_read gives parses t (Some v) read numeral fits = ap (λ k. Some k) (parses t (Ok v) read).1
 number_read gives parses t None read numeral fits = absurd (parses t (Err read.0) read.1 (numeral, fits))
 
+-- where the values of an option come from, by the rows
+pub source_rows : (f : Found) (id : Text) → option_and_then (λ a. a.source) (matched_of f id) ≡ option_and_then (λ r. r.source) (find (λ r. bytes_eq r.id id) (rows_of f))
+source_rows f id = go (find (λ (x : Entry). bytes_eq x.0.now id) f.entries.items) ∙ ap (option_and_then (λ (r : Row). r.source)) (sym (find_row f.entries.items id))
+  where
+    go : (o : Option Entry) → option_and_then (λ (a : MatchedArg). a.source) (option_map (λ e. e.1) o) ≡ option_and_then (λ (r : Row). r.source) (option_map row_of o)
+    go None = refl
+    go (Some e) = refl
+
 pub crdx_is_simple : is_simple crdx_app ≡ true
 crdx_is_simple = refl
 
@@ -66,6 +77,7 @@ pub asks_command : (arguments : List Text) (named : Option (Text × List Row)) (
 asks_command arguments named (Check w) same none is = (none, subst (λ n. IsCommand n (Check w)) same is)
 asks_command arguments named (Explain w) same none is = (none, subst (λ n. IsCommand n (Explain w)) same is)
 asks_command arguments named (Object w) same none is = (none, subst (λ n. IsCommand n (Object w)) same is)
+asks_command arguments named (ObjectLines w) same none is = (none, subst (λ n. IsCommand n (ObjectLines w)) same is)
 asks_command arguments named (SuggestPools w) same none is = (none, subst (λ n. IsCommand n (SuggestPools w)) same is)
 asks_command arguments named (Sample w) same none is = (none, subst (λ n. IsCommand n (Sample w)) same is)
 asks_command arguments named (Help text) same none is = absurd is
@@ -80,6 +92,7 @@ pub asks_refused : (arguments : List Text) (e : Error) (o : Request) → HasKind
 asks_refused arguments e (Check w) has is = absurd is
 asks_refused arguments e (Explain w) has is = absurd is
 asks_refused arguments e (Object w) has is = absurd is
+asks_refused arguments e (ObjectLines w) has is = absurd is
 asks_refused arguments e (SuggestPools w) has is = absurd is
 asks_refused arguments e (Sample w) has is = absurd is
 asks_refused arguments e (Help text) (inl memory) is = absurd (no_help (kind_of e) memory is)

@@ -8,6 +8,7 @@
 -- The command line: `CommandLineLemmas` says what the matches of `clap` ask for.
 -- Answers: `CheckLemmas` has those of `check`, `ObjectLemmas` those of `validate`, `prune`, `default` and `leaves`, `LineLemmas` texts
 -- and choices as they are printed.
+-- `LineAnswerLemmas` has the answers to lines, one after the other.
 -- Runs: `RunLemmas` says, by the documents at hand, why a run has no answer, and which result the run has with each cause.
 pub mod PageLemmas
 pub mod StopLemmas
@@ -15,6 +16,7 @@ pub mod WrittenLemmas
 pub mod WalkLemmas
 pub mod ObjectLemmas
 pub mod LineLemmas
+pub mod LineAnswerLemmas
 pub mod RunLemmas
 pub mod CheckLemmas
 pub mod CommandLineLemmas

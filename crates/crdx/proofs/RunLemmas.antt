@@ -18,7 +18,7 @@ use Rattle.crdx.specs.Program.RunResult.{Effects, WritesNothing, IsRunResult, an
 use Rattle.crdx.specs.Output.Line.{lines}
 use Rattle.crdx.specs.Output.PartialOutput.{IsPartialOutput}
 use Rattle.crdx.specs.Output.Walk.{WritesPage}
-use Rattle.crdx.specs.Program.Requested.{limits_of, pool_limits_of, IsRequested, IsRequestedCrd, IsRequestedSchema, IsRequestedRoot, HasAcceptedSchema, IsCrdRefused, ArePools, AreRootAndPools}
+use Rattle.crdx.specs.Program.Requested.{limits_of, pool_limits_of, total_of, IsRequested, IsRequestedCrd, IsRequestedSchema, IsRequestedRoot, HasAcceptedSchema, IsCrdRefused, ArePools, AreRootAndPools}
 use Rattle.crdx.specs.Program.Documents.{Documents, file_name, AreAmong}
 use Rattle.crdx.specs.Internal.ExitStatus.{status, cause_of_reading, cause_of_refusal, cause_of_pools, cause_of_walk, IsWritten}
 use Rattle.crdx.specs.Internal.Cause.{IsReadFailure, IsReadCause, IsBrokenCause, IsSchemaCause, IsPoolsCause, IsPlanCause, IsTextCause, IsSamplingCause, IsFieldCause, IsObjectCause, IsDocumentCause, IsInputCause, IsSampleCause, IsWalkCause}
@@ -35,7 +35,7 @@ use Rattle.crdx.specs.declared.walk.line.Envelope.{Envelope}
 use Rattle.crdx.specs.declared.running.causes.Input.TheVariants as input
 use Rattle.crdx.specs.declared.running.causes.PlaceCode.TheVariants as code
 use Rattle.crdx.specs.declared.running.causes.Cause.{Cause}
-use Rattle.crdx.specs.declared.running.causes.Cause.TheVariants.{Read, Document, Crd, Pools as PoolsCause, Place, Violations, NoField, NotStored, NotASample, Write, NoMemory}
+use Rattle.crdx.specs.declared.running.causes.Cause.TheVariants.{Read, Document, Line, Crd, Pools as PoolsCause, Place, Violations, NoField, NotStored, NotASample, Write, NoMemory}
 use Rattle.crdx.specs.declared.running.answer.Answer.{Answer}
 use Rattle.crdx.specs.declared.arguments.request.CommonArguments.{CommonArguments}
 use Rattle.crdx.specs.declared.arguments.request.ExplainArguments.{ExplainArguments}
@@ -212,6 +212,7 @@ module _ (run : Effects) (request : Request) where
   result_of_input (Violations vs) code why nothing (inl e) = rw e (answered_no why nothing)
   result_of_input (NoField fault) code why nothing (inl e) = rw e (answered_no why nothing)
   result_of_input NotStored code why nothing (inl e) = rw e (answered_no why nothing)
+  result_of_input (Line n fault) code why nothing (inl e) = absurd why
   result_of_input NotASample code why nothing (inl e) = absurd why
   result_of_input (Write n) code why nothing (inl e) = absurd why
   result_of_input NoMemory code why nothing (inl e) = result_of_nothing code nothing e
@@ -255,7 +256,7 @@ flush_cause law q after count e lines_out n end old new before now sample wrote 
 
 module _ (run : Effects) (arguments : SampleArguments) where
   abbrev IsWalkCauseOf : Question → Option Data → Option Envelope → Cause → Type 0
-  IsWalkCauseOf q after e = IsWalkCause q after arguments.count e run.output_before run.output run.failed_writes_before run.failed_writes
+  IsWalkCauseOf q after e = IsWalkCause q after (total_of arguments) e run.output_before run.output run.failed_writes_before run.failed_writes
 
   -- the tree to go on from is no sample
   result_of_no_sample : (q : Question) (after : Option Data) (e : Option Envelope) → IsRequested run.documents arguments q after e → IsSomeAnd after (λ a. IsSampleOf q a → ⊥) → WritesNothing run
@@ -283,7 +284,7 @@ module _ (run : Effects) (arguments : SampleArguments) where
   -- samples were listed, or it was said why not all of them
   pub result_of_sample : (r : Result Walked Cause) (code : ℕ)
       → IfOk r (λ walked. (q : Question) × (after : Option Data) × (e : Option Envelope) × IsRequested run.documents arguments q after e × IfSome after (IsSampleOf q)
-      × WritesPage q after arguments.count e walked.lines walked.end run.output_before run.output)
+      × WritesPage q after (total_of arguments) e walked.lines walked.end run.output_before run.output)
       → OnOk r (run.failed_writes ≡ run.failed_writes_before) → IfErr r (IsSampleCause run arguments)
       → OnOk r (code ≡ 0) → IfErr r (λ cause. (code ≡ status cause) ⊎ (code ≡ 5)) → IsRunResult run (Sample arguments) code
   result_of_sample (Ok walked) code (q, after, e, asked, sample, wrote) unfailed why done said =

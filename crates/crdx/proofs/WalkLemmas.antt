@@ -23,7 +23,8 @@ use Rattle.crdx.specs.declared.walk.line.Envelope.{Envelope}
 use Rattle.crdx.specs.declared.walk.fault.WFault.{WFault}
 use Rattle.crdx.specs.declared.walk.fault.WFault.TheVariants.{NotASample, NoMemory, Write}
 use Rattle.crdx.proofs.PageLemmas.{PagesAgree, begins, longer, page_after, page_counted, page_of_total}
-use Rattle.crdx.proofs.WrittenLemmas.{lines-append, lines_front, cut_within}
+use Rattle.crdx.proofs.WrittenLemmas.{lines-append, lines_front, cut_within, cut_before_line}
+use Rattle.jtree.specs.Failures.{HasFailed}
 
 module _ (law : PagesAgree) (q : Question) (after : Option Data) (total : ℕ) (e : Option Envelope) (old mid new : Option (List ℕ)) (unfailed failed : ℕ) where
   -- a page was written in part after others: so it is with the items of any page with all the room
@@ -186,6 +187,29 @@ module _ (q : Question) (after : Option Data) (total : ℕ) (e : Option Envelope
         partial_output_of_lines law q after total e old mid new unfailed failed s.items items (length s.items + k) lines_then end fault sample s.counted
         (page_onto q after k s.items items end (subst (IsPage q after (length s.items) s.items) not_yet s.page) page) (omega (arith, s.counted, le)) s.written stopped
   ]
+
+  -- a flush takes nothing
+  pub still_so_far : (lines_now : ℕ) (at : Option Data) (goes : Bool) (old mid new : Option (List ℕ)) → Keeps mid new → IsSoFar q after total e lines_now goes at old mid → IsSoFar q after total e lines_now goes at old new
+  still_so_far lines_now at goes old mid new keeps s = record {
+    items = s.items;
+    page = s.page;
+    counted = s.counted;
+    short = s.short;
+    next = s.next;
+    written = Appends-kept old mid new (lines e s.items) s.written keeps;
+  }
+
+  -- the flush of the lines so far failed, and more are to come
+  pub cut_flush : PagesAgree → (lines_now : ℕ) (at : Option Data) (goes : Bool) (old mid new : Option (List ℕ)) (unfailed failed : ℕ) → IfSome after (IsSampleOf q) → goes ≡ false → lines_now < total
+      → IsSoFar q after total e lines_now goes at old mid → Keeps mid new → HasFailed unfailed failed → IsPartialOutput q after total e old new unfailed failed (Write lines_now)
+  cut_flush law lines_now at goes old mid new unfailed failed sample not_yet lt s keeps has =
+      let page = subst (IsPage q after (length s.items) s.items) not_yet s.page in
+      let out = Appends-kept old mid new (lines e s.items) s.written keeps in
+      rw (s.counted) (
+        has,
+        sample,
+        λ us d r. cut_before_line e us (length s.items) old new (partial_output_of_pages law q after total e old new s.items us d page (omega (arith, s.counted, lt)) out r),
+      )
 
 -- the steps of some lines, after others
 pub within_lines : (before items lines delay old new : ℕ) → items ≡ lines → new ≤ old + items * delay → new + before * delay ≤ old + (before + lines) * delay

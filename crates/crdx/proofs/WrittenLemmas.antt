@@ -10,12 +10,12 @@ use Rattle.std.proofs.lemmas.Grind.{flat_map-append}
 use Rattle.std.proofs.lemmas.List.{same_from_push, take_more, take_all, take-append-drop, take_rest, take-append-le, get_or_append_left, get_or-append-add}
 use Rattle.std.proofs.lemmas.Option.{slice_get_cases, slice_get-get_or, get_or_from_slice_get}
 use Rattle.jtree.specs.Data.{Data}
-use Rattle.crdx.specs.Output.Line.{newline, line, lines}
+use Rattle.crdx.specs.Output.Line.{newline, printed, line, lines}
 use Rattle.jtree.specs.Text.{compact}
 use Rattle.jtree.specs.Last.{last_depth, with_last}
 use Rattle.jtree.specs.PartText.{front_text}
 use Rattle.crdx.specs.Output.Sink.{failures_after}
-use Rattle.crdx.specs.Output.PartialOutput.{IsCutWithinLine}
+use Rattle.crdx.specs.Output.PartialOutput.{IsCutBetweenLines, IsCutWithinLine}
 use Rattle.crdx.specs.Internal.Block.{HasEnds, Holds, IsFrontOf, IsLineOf, TakesLines, IsCountOfEnds}
 use Rattle.crdx.specs.declared.walk.blocks.Front.{Front}
 use Rattle.crdx.specs.declared.walk.line.Envelope.{Envelope}
@@ -89,6 +89,19 @@ module _ (e : Option Envelope) where
             let full : length (lines e items) ≤ taken = subst (λ us. length (lines e us) ≤ taken) all low in
             absurd (omega (arith, full, lt))
       ]
+
+  -- where not all lines are out, nothing of the next one is
+  pub cut_before_line : (items : List Data) (n : ℕ) (old new : Option (List ℕ)) → IsCutBetweenLines e items n old new → IsCutWithinLine e items n old new
+  cut_before_line items n old new b = elim (slice_get_cases items n).1 [
+    | inl found ↦ record {
+      next = found.0;
+      is = found.2;
+      part = [];
+      beginning = (0, omega (arith, length-append (compact (printed e found.0)) (newline ∷ [])), refl);
+      out = subst (Appends old new) (sym (append-nil (lines e (take n items)))) b.out;
+    }
+    | inr past ↦ absurd (omega (arith, past.0, b.fewer))
+  ]
 
   -- the lines of one item more
   pub takes_more : (e_then e_now : Option Envelope) (items : List Data) (v : Data) (bytes ends mid_bytes mid_ends new_bytes new_ends : List ℕ) (n : ℕ) (known_then known : Bool) (line_then l : List ℕ) (front_then f : Option Front) → e_now ≡ e_then

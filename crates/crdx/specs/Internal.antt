@@ -6,5 +6,6 @@ pub mod PartialLines
 pub mod Progress
 pub mod Cause
 pub mod Found
+pub mod LineProgress
 pub mod ExitStatus
 pub mod CheckText

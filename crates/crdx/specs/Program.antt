@@ -10,4 +10,5 @@ pub mod ObjectAnswer
 pub mod FieldLines
 pub mod FieldAnswer
 pub mod Requested
+pub mod LineAnswers
 pub mod RunResult

@@ -1,15 +1,17 @@
 //! Where documents come from.
 
-ghost use Rattle.std.specs.Prelude.{◌≡◌, ◌≢◌, ◌⊎◌, ◌<◌, ℕ, List, Option, Result, length, Ok, Err, IfOk, IfErr, IfSome};
+ghost use Rattle.std.specs.Prelude.{◌≡◌, ◌≢◌, ◌⊎◌, ◌<◌, ℕ, List, [], ◌∷◌, true, false, Option, Result, length, Ok, Err, IfOk, IfErr, OnOk, IfSome};
 ghost use Rattle.jtree.specs.Data.{Data};
+ghost use Rattle.jtree.specs.Failures.{one_more};
 ghost use Rattle.jtree.specs.Reads.{Reads};
 ghost use Rattle.jtree.specs.View.{data_of};
-ghost use Rattle.jtree.specs.declared.fault.JFault.TheVariants.{NoMemory, ReadFailed};
-ghost use Rattle.crdx.specs.Program.Documents.{file_name, AreAmong};
-ghost use Rattle.crdx.specs.Program.InputFault.{IsInputFault, IsFaultOf, input_fault, failures_after_read};
+ghost use Rattle.jtree.specs.declared.fault.JFault.TheVariants.{NoMemory, ReadFailed, TooLong};
+ghost use Rattle.crdx.specs.Program.Documents.{file_name, AreAmong, AreLinesAmong};
+ghost use Rattle.crdx.specs.Program.InputFault.{IsInputFault, IsFaultOf, IsOpenFault, IsLineFault, input_fault, failures_after_read};
 ghost use Rattle.jtree.specs.declared.fault.JFault.{JFault};
 ghost use Rattle.crdx.specs.declared.inputs.InFault.TheVariants.{Failed, Document};
 
+use jtree::lines::{LineFeed, LineSource};
 use jtree::source::{Feed, read_bytes};
 use jtree::{JFault, Tree};
 use std::alloc::Global;
@@ -40,12 +42,20 @@ impl From<JFault> for InFault {
     }
 }
 
-/// A place that has documents.
+/// A place that has documents, and lines with a document each.
 pub trait Inputs {
     // What the file of this name has, or the standard input where there is no name: a document, or why there is none.
     ghost has: { Self → Option (List ℕ) → Result Data JFault → Type 0 };
 
-    // How often a document could not be opened or read, up to the greatest count.
+    // The lines of the file of this name, or of the standard input where there is no name: those of its bytes (`AreLines`).
+    ghost lines: { Self → Option (List ℕ) → List (List ℕ) → Type 0 };
+
+    // The lines still to come of the input that was opened last.
+    ghost coming: { Self → List (List ℕ) → Type 0 };
+
+    ghost some_coming: { (now : Self) → (lines : List (List ℕ)) × coming now lines };
+
+    // How often an input could not be opened or read, up to the greatest count.
     ghost failures: { Self → ℕ };
 
     /// The document of the file of this name, or of the standard input where there is no name.
@@ -55,6 +65,26 @@ pub trait Inputs {
         ensures document { IfOk result (λ t. has self.old (file_name name.entry) (Ok (data_of t))) }
         ensures refused { IfErr result (IsInputFault (has self.old) (file_name name.entry)) }
         ensures stays { AreAmong (has self.new) (has self.old) }
+        ensures lines { AreLinesAmong (lines self.new) (lines self.old) }
+        ensures counts { failures self.new ≡ failures_after_read (failures self.old) result };
+
+    /// Opens the file of this name, or the standard input where there is no name, to read its lines by `next_line`.
+    ///
+    /// `Failed` where it cannot be opened, and `Document(NoMemory)` where an allocation fails.
+    fn open_lines(&mut self, name: Option<&str>) -> Result<(), InFault>
+        ensures opened { OnOk result ((ls : List (List ℕ)) → coming self.new ls → lines self.old (file_name name.entry) ls) }
+        ensures refused { IfErr result IsOpenFault }
+        ensures counts { failures self.new ≡ failures_after_read (failures self.old) result };
+
+    /// Makes `line` the next line of the input that was opened last, without the newline at its end, which the last line may lack,
+    /// and answers whether there is one.
+    ///
+    /// `Failed` where the read fails, `Document(TooLong)` where the line has more than `MOST_BYTES` bytes, and `Document(NoMemory)`
+    /// where an allocation fails.
+    fn next_line(&mut self, line: &mut Vec<u8>) -> Result<bool, InFault>
+        ensures line { IfOk result (λ more. more ≡ true → (ls : List (List ℕ)) → coming self.new ls → coming self.old (line.new.items ∷ ls)) }
+        ensures end { IfOk result (λ more. more ≡ false → coming self.old []) }
+        ensures refused { IfErr result (IsLineFault (coming self.old)) }
         ensures counts { failures self.new ≡ failures_after_read (failures self.old) result };
 
     /// The bytes of the document that was refused last, as far as they were read.
@@ -64,22 +94,52 @@ pub trait Inputs {
     fn size(&self, name: Option<&str>) -> Option<u64>;
 }
 
+/// A file or the standard input, whose lines are read.
+#[derive(Drop)]
+enum OpenLines<F, S> {
+    File(LineFeed<Feed<F>>),
+    Standard(LineFeed<Feed<S>>),
+}
+
+impl<F: Read, S: Read> OpenLines<F, S> {
+    fn next_line(&mut self, line: &mut Vec<u8>) -> Result<bool, JFault>
+        ensures { IfErr result (λ e. (e ≡ TooLong) ⊎ ((e ≡ ReadFailed) ⊎ (e ≡ NoMemory))) }
+    {
+        match self {
+            OpenLines::File(lines) => lines.next_line(line),
+            OpenLines::Standard(lines) => lines.next_line(line),
+        }
+    }
+}
+
 /// The files and the standard input of a runtime.
 #[derive(Drop)]
-pub struct HostInputs<'a, R> {
+pub struct HostInputs<'a, R: Files + Input> {
     rt: &'a R,
     failures: u64,
     refused: Option<Vec<u8>>,
+    lines: Option<OpenLines<R::File, R::Reader>>,
 }
 
-impl<'a, R> HostInputs<'a, R> {
+impl<'a, R: Files + Input> HostInputs<'a, R> {
     /// The files and the standard input of this runtime.
     pub fn new(rt: &'a R) -> HostInputs<'a, R> {
         HostInputs {
             rt,
             failures: 0,
             refused: None,
+            lines: None,
         }
+    }
+}
+
+impl<R: Files + Input> HostInputs<'_, R> {
+    fn count_failure(&mut self) -> InFault
+        ensures fault { result ≡ Failed }
+        ensures failures { self.new.failures ≡ one_more self.old.failures }
+    {
+        self.failures = self.failures.saturating_add(1);
+        InFault::Failed
     }
 }
 
@@ -97,22 +157,64 @@ impl<R: Files + Input + AllocGlobal> HostInputs<'_, R> {
             None => read_document(alloc, self.rt.reader(), &mut self.refused),
         }
     }
+
+    fn open(&self, name: Option<&str>) -> Result<OpenLines<R::File, R::Reader>, InFault>
+        ensures { IfErr result IsOpenFault }
+    {
+        let alloc = self.rt.alloc();
+        match name {
+            Some(name) => match fs::open(self.rt, name) {
+                Ok(file) => Ok(OpenLines::File(LineFeed::new(alloc, Feed::new(file)))),
+                Err(error) => Err(fault_of(error.kind())),
+            },
+            None => {
+                let lines = LineFeed::new(alloc, Feed::new(self.rt.reader()));
+                Ok(OpenLines::Standard(lines))
+            }
+        }
+    }
 }
 
 impl<R: Files + Input + AllocGlobal> Inputs for HostInputs<'_, R> {
     // Nothing is known of files.
     ghost has = { λ _ _ _. Unit {0} };
 
+    ghost lines = { λ _ _ _. Unit {0} };
+
+    ghost coming = { λ _ _. Unit {0} };
+
+    ghost some_coming = { λ _. ([], tt) };
+
     ghost failures = { λ s. s.failures };
 
     fn tree(&mut self, name: Option<&str>) -> Result<Tree, InFault> {
         match self.read(name) {
             Ok(tree) => Ok(tree),
-            Err(InFault::Failed) => {
-                self.failures = self.failures.saturating_add(1);
-                Err(InFault::Failed)
-            }
+            Err(InFault::Failed) => Err(self.count_failure()),
             Err(fault) => Err(fault),
+        }
+    }
+
+    fn open_lines(&mut self, name: Option<&str>) -> Result<(), InFault> {
+        match self.open(name) {
+            Ok(lines) => {
+                self.lines = Some(lines);
+                Ok(())
+            }
+            Err(InFault::Failed) => Err(self.count_failure()),
+            Err(fault) => Err(fault),
+        }
+    }
+
+    fn next_line(&mut self, line: &mut Vec<u8>) -> Result<bool, InFault> {
+        let Some(lines) = &mut self.lines else {
+            return Ok(false);
+        };
+        match lines.next_line(line) {
+            Ok(more) => Ok(more),
+            Err(JFault::ReadFailed) => Err(self.count_failure()),
+            Err(JFault::TooLong) => Err(InFault::Document(JFault::TooLong)),
+            Err(_) => Err(InFault::Document(JFault::NoMemory)),
         }
     }
 

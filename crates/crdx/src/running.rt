@@ -11,6 +11,7 @@ mod checking;
 mod documents;
 mod explaining;
 mod explanation;
+mod line_answers;
 mod lines;
 mod objects;
 mod reporting;
@@ -24,8 +25,9 @@ use crate::running::causes::Cause;
 use crate::running::checking::check;
 use crate::running::explaining::explain;
 use crate::running::explanation::Explanation;
+use crate::running::line_answers::judge_lines;
 use crate::running::objects::judge_object;
-use crate::running::reporting::{finish, finish_samples, report_alone, write_answer};
+use crate::running::reporting::{finish, finish_lines, finish_samples, report_alone, write_answer};
 use crate::running::sampling::sample;
 use crate::running::suggesting::suggest_pools;
 use crate::sink::{Sink, put_all};
@@ -43,6 +45,7 @@ pub fn run<I: Inputs, W: Sink, E: Sink>(
 ) -> u8
     ensures { (request : Request) × Asks (map string_bytes arguments.now) request × IsRunResult (record {
       documents = I.has inputs.old;
+      lines = I.lines inputs.old;
       failed_reads_before = I.failures inputs.old;
       failed_reads = I.failures inputs.new;
       output_before = W.taken out.old;
@@ -66,6 +69,11 @@ pub fn run<I: Inputs, W: Sink, E: Sink>(
             let mut explanation = Explanation::new(arguments.common.why);
             let answer = judge_object(alloc, &arguments, inputs, &mut explanation);
             finish(alloc, &answer, &explanation, out, err)
+        }
+        Request::ObjectLines(arguments) => {
+            let mut explanation = Explanation::new(arguments.common.why);
+            let answered = judge_lines(alloc, &arguments, inputs, &mut explanation, out);
+            finish_lines(alloc, &answered, &explanation, err)
         }
         Request::SuggestPools(arguments) => {
             let mut explanation = Explanation::new(arguments.why);

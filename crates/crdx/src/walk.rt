@@ -7,4 +7,4 @@ mod walking;
 
 pub use fault::WFault;
 pub use line::Envelope;
-pub use walking::{Walked, walk};
+pub use walking::{Walked, walk, walk_to_end};

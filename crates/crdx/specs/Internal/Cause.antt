@@ -12,8 +12,10 @@ use Rattle.jtree.specs.Failures.{HasFailed}
 use Rattle.crdx.specs.Program.Documents.{Documents, file_name}
 use Rattle.crdx.specs.Program.FieldAnswer.{IsFieldAnswer}
 use Rattle.crdx.specs.Program.ObjectAnswer.{IsObjectAnswer}
-use Rattle.crdx.specs.Program.Requested.{IsRequestedSchema, HasReadFault, HasPoolsFault, IsRequested}
-use Rattle.crdx.specs.Program.RunResult.{IsAnswer, IsInputRefused, Effects, WritesNothing}
+use Rattle.crdx.specs.Program.Requested.{IsRequestedSchema, HasReadFault, HasPoolsFault, IsRequested, total_of}
+use Rattle.crdx.specs.Program.RunResult.{IsAnswer, IsInputRefused, Effects, WritesNothing, lines_of}
+use Rattle.crdx.specs.Program.Requested.{IsRequestedRoot}
+use Rattle.crdx.specs.Internal.LineProgress.{IsLinesCause}
 use Rattle.plan.specs.Pools.Pools.{Pools as PoolsData}
 use Rattle.plan.specs.declared.pool_limits.PoolLimits.{PoolLimits}
 use Rattle.plan.specs.Pools.PlanFault.{HasGoodPaths, IsFirstBadPath}
@@ -23,7 +25,7 @@ use Rattle.jtree.specs.Reads.{IsNoDocument}
 use Rattle.crdx.specs.Program.InputFault.{IsOfBytes}
 use Rattle.crdx.specs.declared.walk.line.Envelope.{Envelope}
 use Rattle.crdx.specs.declared.arguments.request.Request.{Request}
-use Rattle.crdx.specs.declared.arguments.request.Request.TheVariants.{Sample}
+use Rattle.crdx.specs.declared.arguments.request.Request.TheVariants.{ObjectLines, Sample}
 use Rattle.crdx.specs.declared.arguments.request.CommonArguments.{CommonArguments}
 use Rattle.crdx.specs.declared.arguments.request.ObjectArguments.{ObjectArguments}
 use Rattle.crdx.specs.declared.arguments.request.ObjectCommand.{ObjectCommand}
@@ -33,7 +35,7 @@ use Rattle.crdx.specs.declared.running.causes.Input.{Input}
 use Rattle.crdx.specs.declared.running.causes.Input.TheVariants as input
 use Rattle.crdx.specs.declared.running.causes.PlaceCode.TheVariants as code
 use Rattle.crdx.specs.declared.running.causes.Cause.{Cause}
-use Rattle.crdx.specs.declared.running.causes.Cause.TheVariants.{Read, Document, Crd, Pools, Place, Violations, NoField, NotStored, NotASample, Write, NoMemory}
+use Rattle.crdx.specs.declared.running.causes.Cause.TheVariants.{Read, Document, Line, Crd, Pools, Place, Violations, NoField, NotStored, NotASample, Write, NoMemory}
 
 -- why an input gives no document
 abbrev pub IsReadFailure : Documents → ℕ → ℕ → Input → Option (List ℕ) → Cause → Type 0
@@ -115,6 +117,7 @@ IsInputCause has before now request (Read i) = HasFailed before now
 IsInputCause has before now request (Violations vs) = IsAnswer has request 1 []
 IsInputCause has before now request (NoField fault) = IsAnswer has request 1 []
 IsInputCause has before now request NotStored = IsAnswer has request 1 []
+IsInputCause has before now request (Line n fault) = ⊥
 IsInputCause has before now request NotASample = ⊥
 IsInputCause has before now request (Write n) = ⊥
 IsInputCause has before now request NoMemory = Unit {0}
@@ -134,4 +137,11 @@ abbrev pub IsSampleCause : Effects → SampleArguments → Cause → Type 0
 IsSampleCause run arguments cause =
     (IsInputCause run.documents run.failed_reads_before run.failed_reads (Sample arguments) cause × WritesNothing run)
     ⊎ ((q : Question) × (after : Option Data) × (e : Option Envelope) × IsRequested run.documents arguments q after e
-    × IsWalkCause q after arguments.count e run.output_before run.output run.failed_writes_before run.failed_writes cause)
+    × IsWalkCause q after (total_of arguments) e run.output_before run.output run.failed_writes_before run.failed_writes cause)
+
+-- why not all lines of the input that is asked about have an answer
+abbrev pub IsObjectsCause : Effects → ObjectArguments → Cause → Type 0
+IsObjectsCause run arguments cause =
+    (IsInputCause run.documents run.failed_reads_before run.failed_reads (ObjectLines arguments) cause × WritesNothing run)
+    ⊎ ((N : Node) × IsRequestedRoot run.documents arguments.common N
+    × IsLinesCause (lines_of run arguments) N arguments.command run.failed_reads_before run.failed_reads run.output_before run.output run.failed_writes_before run.failed_writes cause)

@@ -65,6 +65,7 @@ cause_of_walk (w.Write n) = cause.Write n
 abbrev pub status : Cause → ℕ
 status (cause.Read i) = 4
 status (cause.Document i fault) = 3
+status (cause.Line n fault) = 3
 status (cause.Crd fault) = 3
 status (cause.Pools fault) = 3
 status (cause.Place i c pointer) = 3

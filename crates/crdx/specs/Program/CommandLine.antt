@@ -1,8 +1,9 @@
 -- The command line as `clap` reads it, and what its arguments ask for (this project's own).
-use Rattle.std.specs.Prelude.{◌≡◌, ◌≢◌, ◌⊎◌, ◌≤◌, ℕ, List, [], ◌∷◌, All, Bool, true, false, Option, Some, None, pos, if◌then◌else◌, option_map, option_and_then, unwrap_or, codes}
+use Rattle.std.specs.Prelude.{◌≡◌, ◌≢◌, ◌⊎◌, ◌≤◌, ℕ, List, [], ◌∷◌, All, Bool, true, false, Option, Some, None, find, pos, if◌then◌else◌, option_map, option_and_then, unwrap_or, codes}
 use Rattle.std.specs.Str.{bytes_eq}
 use Rattle.std.specs.Str.Parse.{IsNumeral, digits_value, without_leading_plus}
 use Rattle.clap.specs.Walk.{Row, Rule, Text, first_of, one_of}
+use Rattle.clap.specs.declared.parser.matches.ValueSource.TheVariants.{CommandLine}
 use Rattle.clap.specs.Simple.{App, new_app, new_rule, with_rule, with_subcommand, on_top, subcommand_of}
 use Rattle.clap.specs.Faults.{fault_of}
 use Rattle.clap.specs.Kinds.{Kinds, IsAmong}
@@ -18,7 +19,7 @@ use Rattle.crdx.specs.declared.arguments.request.ObjectCommand.{ObjectCommand}
 use Rattle.crdx.specs.declared.arguments.request.ObjectCommand.TheVariants.{Validate, Prune, Default, Leaves}
 use Rattle.crdx.specs.declared.arguments.request.SampleArguments.{SampleArguments}
 use Rattle.crdx.specs.declared.arguments.request.Request.{Request}
-use Rattle.crdx.specs.declared.arguments.request.Request.TheVariants.{Check, Explain, Object, SuggestPools, Sample, Help, UsageError, NoMemory}
+use Rattle.crdx.specs.declared.arguments.request.Request.TheVariants.{Check, Explain, Object, ObjectLines, SuggestPools, Sample, Help, UsageError, NoMemory}
 
 -- a word that has to be there
 abbrev pub required_rule : Text → Rule
@@ -44,14 +45,14 @@ abbrev pub explain_app : App
 explain_app = with_rule (crd_app (codes "explain")) (new_rule (codes "PATH"))
 
 abbrev pub object_app : Text → App
-object_app name = with_rule (crd_app name) (new_rule (codes "OBJECT"))
+object_app name = with_rule (with_rule (crd_app name) (new_rule (codes "OBJECT"))) (flag_rule (codes "lines"))
 
 abbrev pub validate_app : App
 validate_app = with_rule (object_app (codes "validate")) (flag_rule (codes "strict"))
 
 abbrev pub sample_app : App
-sample_app = with_rule (with_rule (with_rule (with_rule (with_rule (crd_app (codes "sample")) (option_rule (codes "pools")))
-    (number_rule (codes "limit") 127 (codes "8"))) (number_rule (codes "count") 10000 (codes "100"))) (option_rule (codes "after"))) (option_rule (codes "name"))
+sample_app = with_rule (with_rule (with_rule (with_rule (with_rule (with_rule (crd_app (codes "sample")) (option_rule (codes "pools")))
+    (number_rule (codes "limit") 127 (codes "8"))) (number_rule (codes "count") 10000 (codes "100"))) (flag_rule (codes "all"))) (option_rule (codes "after"))) (option_rule (codes "name"))
 
 abbrev pub top_app : App
 top_app = on_top (λ s. record s { has_version = true; subcommand_required = true }) (new_app (codes "crdx"))
@@ -82,6 +83,10 @@ IsNumberOf id most rows n = (t : Text) → one_of id rows ≡ Some t → IsNumer
 -- whether an option without a value is there
 abbrev pub IsFlagOf : Text → List Row → Bool → Type 0
 IsFlagOf id rows b = (one_of id rows ≡ None → b ≡ false) × (one_of id rows ≡ Some (codes "false") → b ≡ false) × (one_of id rows ≡ Some (codes "true") → b ≡ true)
+
+-- the words give the option, which else has its usual value
+abbrev pub IsGiven : Text → List Row → Type 0
+IsGiven id rows = option_and_then (λ r. r.source) (find (λ r. bytes_eq r.id id) rows) ≡ Some CommandLine
 
 -- the input that a word names: none for `-`, which is the standard input, and else a file
 abbrev pub input_of : Text → Option Text
@@ -120,6 +125,7 @@ abbrev pub AreSampleArguments : List Row → SampleArguments → Type 0
 AreSampleArguments rows arguments = AreCommonArguments rows arguments.common × (option_map file_name arguments.pools ≡ pools_input rows)
     × (option_map (λ s. s.now) arguments.after ≡ first_of (codes "after") rows) × (option_map (λ s. s.now) arguments.name ≡ first_of (codes "name") rows)
     × IsNumberOf (codes "limit") 127 rows arguments.limit × IsNumberOf (codes "count") 10000 rows arguments.count
+    × IsFlagOf (codes "all") rows arguments.all
 
 abbrev pub object_command_name : ObjectCommand → Text
 object_command_name (Validate strict) = codes "validate"
@@ -135,16 +141,23 @@ abbrev pub ReadsInputTwice : Option (Text × List Row) → Type 0
 ReadsInputTwice named = (rows : List Row) × (((command : ObjectCommand) × (named ≡ Some (object_command_name command, rows)) × IsReadTwice rows (Some (object_input rows)))
     ⊎ ((named ≡ Some (codes "sample", rows)) × IsReadTwice rows (pools_input rows)))
 
+-- all samples are asked for, and a number of them too
+abbrev pub AsksAllAndSome : Option (Text × List Row) → Type 0
+AsksAllAndSome named = (rows : List Row) × (named ≡ Some (codes "sample", rows)) × IsFlagOf (codes "all") rows true × IsGiven (codes "count") rows
+
 -- what a command that was named asks for
 abbrev pub IsCommand : Option (Text × List Row) → Request → Type 0
 IsCommand named (Check arguments) = (rows : List Row) × (named ≡ Some (codes "check", rows)) × AreCommonArguments rows arguments
 IsCommand named (Explain arguments) = (rows : List Row) × (named ≡ Some (codes "explain", rows)) × AreExplainArguments rows arguments
 IsCommand named (Object arguments) = (rows : List Row) × (named ≡ Some (object_command_name arguments.command, rows)) × AreObjectArguments arguments.command rows arguments
-    × (IsReadTwice rows (Some (object_input rows)) → ⊥)
+    × (IsReadTwice rows (Some (object_input rows)) → ⊥) × IsFlagOf (codes "lines") rows false
+IsCommand named (ObjectLines arguments) = (rows : List Row) × (named ≡ Some (object_command_name arguments.command, rows)) × AreObjectArguments arguments.command rows arguments
+    × (IsReadTwice rows (Some (object_input rows)) → ⊥) × IsFlagOf (codes "lines") rows true
 IsCommand named (SuggestPools arguments) = (rows : List Row) × (named ≡ Some (codes "pools", rows)) × AreCommonArguments rows arguments
 IsCommand named (Sample arguments) = (rows : List Row) × (named ≡ Some (codes "sample", rows)) × AreSampleArguments rows arguments × (IsReadTwice rows (pools_input rows) → ⊥)
+    × (arguments.all ≡ true → IsGiven (codes "count") rows → ⊥)
 IsCommand named (Help text) = ⊥
-IsCommand named (UsageError text) = All (λ name. (rows : List Row) → named ≢ Some (name, rows)) command_names ⊎ ReadsInputTwice named
+IsCommand named (UsageError text) = All (λ name. (rows : List Row) → named ≢ Some (name, rows)) command_names ⊎ (ReadsInputTwice named ⊎ AsksAllAndSome named)
 IsCommand named NoMemory = Unit {0}
 
 abbrev pub IsHelp : ErrorKind → Type 0
@@ -162,12 +175,13 @@ IsUsageErrorOrMemory (UsageError text) = Unit {0}
 IsUsageErrorOrMemory NoMemory = Unit {0}
 IsUsageErrorOrMemory _ = ⊥
 
--- what the arguments ask for: a command, or help; or they are refused, by `clap` or since the command names the standard input
--- twice. Running out of memory says nothing of them.
+-- what the arguments ask for: a command, or help; or they are refused, by `clap`, or since the command names the standard input
+-- twice or asks for all samples and for a number of them. Running out of memory says nothing of them.
 abbrev pub Asks : List Text → Request → Type 0
 Asks arguments (Check w) = (faults arguments ≡ []) × IsCommand (entered arguments) (Check w)
 Asks arguments (Explain w) = (faults arguments ≡ []) × IsCommand (entered arguments) (Explain w)
 Asks arguments (Object w) = (faults arguments ≡ []) × IsCommand (entered arguments) (Object w)
+Asks arguments (ObjectLines w) = (faults arguments ≡ []) × IsCommand (entered arguments) (ObjectLines w)
 Asks arguments (SuggestPools w) = (faults arguments ≡ []) × IsCommand (entered arguments) (SuggestPools w)
 Asks arguments (Sample w) = (faults arguments ≡ []) × IsCommand (entered arguments) (Sample w)
 Asks arguments (Help text) = (k : ErrorKind) × IsAmong k (faults arguments) × IsHelp k

@@ -1,8 +1,8 @@
 -- Why an input gives no document, and what bytes are read as (this project's own).
-use Rattle.std.specs.Prelude.{◌≢◌, ℕ, List, Option, Result, Ok, Err}
+use Rattle.std.specs.Prelude.{◌≢◌, ◌<◌, ℕ, List, ◌∷◌, length, Option, Result, Ok, Err}
 use Rattle.jtree.specs.Data.{Data}
 use Rattle.jtree.specs.Failures.{one_more}
-use Rattle.jtree.specs.Reads.{Reads, IsNoDocument}
+use Rattle.jtree.specs.Reads.{Reads, IsNoDocument, most_bytes}
 use Rattle.jtree.specs.declared.fault.JFault.{JFault}
 use Rattle.jtree.specs.declared.fault.JFault.TheVariants.{NotAnInteger, NoMemory, NotJson, TooLong, ReadFailed}
 use Rattle.crdx.specs.Program.Documents.{Documents}
@@ -36,6 +36,19 @@ IsInputFault has name (Document NotJson) = has name (Err NotJson)
 IsInputFault has name (Document TooLong) = has name (Err TooLong)
 IsInputFault has name (Document NoMemory) = Unit {0}
 IsInputFault has name (Document ReadFailed) = ⊥
+
+-- why an input was not opened: it could not be, or memory ran out
+abbrev pub IsOpenFault : InFault → Type 0
+IsOpenFault Failed = Unit {0}
+IsOpenFault (Document NoMemory) = Unit {0}
+IsOpenFault (Document _) = ⊥
+
+-- why no line was read of those that are coming: the read failed, memory ran out, or the line is longer than a document
+abbrev pub IsLineFault : (List (List ℕ) → Type 0) → InFault → Type 0
+IsLineFault coming Failed = Unit {0}
+IsLineFault coming (Document NoMemory) = Unit {0}
+IsLineFault coming (Document TooLong) = (line : List ℕ) × (lines : List (List ℕ)) × coming (line ∷ lines) × (most_bytes < length line)
+IsLineFault coming (Document _) = ⊥
 
 -- a document that could not be opened or read is one failure
 abbrev pub failures_after_read : {T : Type 0} → ℕ → Result T InFault → ℕ

@@ -32,6 +32,7 @@ use Rattle.crdx.specs.Program.InputFault.{IsOfBytes}
 use Rattle.crdx.specs.declared.arguments.request.CommonArguments.{CommonArguments}
 use Rattle.crdx.specs.declared.arguments.request.ObjectArguments.{ObjectArguments}
 use Rattle.crdx.specs.declared.arguments.request.SampleArguments.{SampleArguments}
+use Rattle.crdx.specs.Output.Walk.{most_lines}
 use Rattle.crdx.specs.declared.walk.line.Envelope.{Envelope}
 
 -- the limits of a definition and of pools that the arguments ask for
@@ -90,6 +91,10 @@ ArePoolsRefused has limits pools = ((fault : JFault) × IsOfBytes fault × IsSom
 pub record AreRootAndPools (has : Documents) (arguments : SampleArguments) (N : Node) (P : Pools) : Type 0 where
   pub root : IsRequestedRoot has arguments.common N
   pub pools : ArePools has (pool_limits_of arguments.common) arguments.pools P
+
+-- how many samples the arguments ask for at most: the greatest number that is counted where they ask for all
+abbrev pub total_of : SampleArguments → ℕ
+total_of arguments = if arguments.all then most_lines else arguments.count
 
 -- the tree to go on from: the body of what the text is read as, and nothing without a text
 abbrev pub IsAfter : Option (Bor (List ℕ)) → Option Data → Type 0

@@ -1,5 +1,5 @@
 -- What a run answers: its exit status, and what it leaves on standard output (this project's own).
-use Rattle.std.specs.Prelude.{◌≡◌, ◌≢◌, ◌⊎◌, ℕ, List, [], take, Bool, true, false, Option, Some, None, IfSome, String, map, string_bytes, codes}
+use Rattle.std.specs.Prelude.{◌≡◌, ◌≢◌, ◌⊎◌, ℕ, List, [], ◌∷◌, take, Bool, true, false, Option, Some, None, IfSome, String, map, string_bytes, codes}
 use Rattle.std.specs.Global.{Global}
 use Rattle.std.specs.Io.KnownBytes.{Appends, Keeps}
 use Rattle.jtree.specs.Data.{Data}
@@ -11,12 +11,16 @@ use Rattle.stored.specs.Schemas.Accepted.{IsBroken}
 use Rattle.crdx.specs.Output.Line.{line, lines}
 use Rattle.crdx.specs.Output.PartialOutput.{IsCutBetweenLines, IsCutByFailure}
 use Rattle.jtree.specs.Failures.{HasFailed}
-use Rattle.crdx.specs.Program.Documents.{Documents}
+use Rattle.jtree.specs.Reads.{IsNoDocument}
+use Rattle.jtree.specs.declared.fault.JFault.{JFault}
+use Rattle.crdx.specs.Program.Documents.{Documents, Lines, file_name}
 use Rattle.crdx.specs.Program.FieldAnswer.{IsFieldAnswer}
+use Rattle.crdx.specs.Program.InputFault.{IsOfBytes}
+use Rattle.crdx.specs.Program.LineAnswers.{AreAnswered, AreOut, AreCut}
 use Rattle.crdx.specs.Program.ObjectAnswer.{IsObjectAnswer}
 use Rattle.crdx.specs.Program.ViolationLines.{violation_lines, explained_lines}
 use Rattle.suggest.specs.Suggested.Document.{suggested_document}
-use Rattle.crdx.specs.Program.Requested.{pool_limits_of, IsRequestedSchema, HasAcceptedSchema, IsCrdRefused, AreRootAndPools, IsAfterRefused, IsRequested, ArePoolsRefused, IsRequestedRoot, IsRequestedObject, IsObjectRefused}
+use Rattle.crdx.specs.Program.Requested.{pool_limits_of, total_of, IsRequestedSchema, HasAcceptedSchema, IsCrdRefused, AreRootAndPools, IsAfterRefused, IsRequested, ArePoolsRefused, IsRequestedRoot, IsRequestedObject, IsObjectRefused}
 use Rattle.plan.specs.Pools.Pools.{Pools}
 use Rattle.plan.specs.Pools.PlanFault.{HasGoodPaths, IsFirstBadPath}
 use Rattle.plan.specs.Samples.Question.{Question}
@@ -27,7 +31,7 @@ use Rattle.crdx.specs.declared.arguments.request.ExplainArguments.{ExplainArgume
 use Rattle.crdx.specs.declared.arguments.request.ObjectArguments.{ObjectArguments}
 use Rattle.crdx.specs.declared.arguments.request.SampleArguments.{SampleArguments}
 use Rattle.crdx.specs.declared.arguments.request.Request.{Request}
-use Rattle.crdx.specs.declared.arguments.request.Request.TheVariants.{Check, Explain, Object, SuggestPools, Sample, Help, UsageError}
+use Rattle.crdx.specs.declared.arguments.request.Request.TheVariants.{Check, Explain, Object, ObjectLines, SuggestPools, Sample, Help, UsageError}
 
 -- these are all breaks of the schema that is asked for, and there are some
 abbrev pub HasBreaks : Documents → CommonArguments → List Break → Type 0
@@ -48,10 +52,11 @@ pub data IsAnswer (has : Documents) : Request → ℕ → List ℕ → Type 0 wh
   object : (arguments : ObjectArguments) (N : Node) (document : Data) (status : ℕ) (answer : List ℕ) → IsRequestedObject has arguments N document
       → IsObjectAnswer N document arguments.command status answer → IsAnswer has (Object arguments) status answer
   no_object : (arguments : ObjectArguments) (breaks : List Break) → HasBreaks has arguments.common breaks → IsAnswer has (Object arguments) 1 []
+  no_objects : (arguments : ObjectArguments) (breaks : List Break) → HasBreaks has arguments.common breaks → IsAnswer has (ObjectLines arguments) 1 []
   pools : (arguments : CommonArguments) (N : Node) → IsRequestedRoot has arguments N → IsAnswer has (SuggestPools arguments) 0 (line None (suggested_document N))
   no_pools : (arguments : CommonArguments) (breaks : List Break) → HasBreaks has arguments breaks → IsAnswer has (SuggestPools arguments) 1 []
   samples : (arguments : SampleArguments) (q : Question) (after : Option Data) (e : Option Envelope) (items : List Data) (end : Bool) → IsRequested has arguments q after e
-      → IfSome after (IsSampleOf q) → IsPage q after arguments.count items end → IsAnswer has (Sample arguments) 0 (lines e items)
+      → IfSome after (IsSampleOf q) → IsPage q after (total_of arguments) items end → IsAnswer has (Sample arguments) 0 (lines e items)
   -- the tree to go on from is no sample
   no_sample : (arguments : SampleArguments) (q : Question) (after : Data) (e : Option Envelope) → IsRequested has arguments q (Some after) e → (IsSampleOf q after → ⊥)
       → IsAnswer has (Sample arguments) 1 []
@@ -66,6 +71,7 @@ IsInputRefused has (Check arguments) = IsCrdRefused has arguments
 IsInputRefused has (Explain arguments) = IsCrdRefused has arguments.common
 IsInputRefused has (Object arguments) = IsCrdRefused has arguments.common
     ⊎ (HasAcceptedSchema has arguments.common × IsObjectRefused has arguments)
+IsInputRefused has (ObjectLines arguments) = IsCrdRefused has arguments.common
 IsInputRefused has (SuggestPools arguments) = IsCrdRefused has arguments
 IsInputRefused has (Sample arguments) = IsCrdRefused has arguments.common
     ⊎ ((HasAcceptedSchema has arguments.common × ArePoolsRefused has (pool_limits_of arguments.common) arguments.pools)
@@ -73,10 +79,11 @@ IsInputRefused has (Sample arguments) = IsCrdRefused has arguments.common
     × (((text : List ℕ) × IsFirstBadPath N P text) ⊎ (HasGoodPaths N P × IsAfterRefused arguments.after))))
 IsInputRefused has _ = ⊥
 
--- What a run finds outside of it and leaves there: the documents at hand before it, and, before it and after it, how often reads
+-- What a run finds outside of it and leaves there: the documents and the lines at hand before it, and, before it and after it, how often reads
 -- of inputs have failed, what standard output holds, and how often that has failed.
 pub record Effects : Type 1 where
   pub documents : Documents
+  pub lines : Lines
   pub failed_reads_before : ℕ
   pub failed_reads : ℕ
   pub output_before : Option (List ℕ)
@@ -93,15 +100,33 @@ pub record WritesNothing (run : Effects) : Type 0 where
 abbrev pub IsCutByWrite : Effects → Request → Type 0
 IsCutByWrite run (Sample arguments) =
     (q : Question) × (after : Option Data) × (e : Option Envelope) × IsRequested run.documents arguments q after e × IfSome after (IsSampleOf q)
-    × ((items : List Data) (end : Bool) → IsPage q after arguments.count items end → IsCutByFailure e items run.output_before run.output)
+    × ((items : List Data) (end : Bool) → IsPage q after (total_of arguments) items end → IsCutByFailure e items run.output_before run.output)
 IsCutByWrite run request = (status : ℕ) × (answer : List ℕ) × IsAnswer run.documents request status answer × (n : ℕ) × Appends run.output_before run.output (take n answer)
 
 -- what is out where memory ran out: nothing, or whole lines of samples, as a walk past a sample, or past nothing, leaves them
 abbrev pub IsCutByMemory : Effects → Request → Type 0
 IsCutByMemory run (Sample arguments) = Keeps run.output_before run.output
     ⊎ ((q : Question) × (after : Option Data) × (e : Option Envelope) × IsRequested run.documents arguments q after e × IfSome after (IsSampleOf q)
-    × (n : ℕ) × ((items : List Data) (end : Bool) → IsPage q after arguments.count items end → IsCutBetweenLines e items n run.output_before run.output))
+    × (n : ℕ) × ((items : List Data) (end : Bool) → IsPage q after (total_of arguments) items end → IsCutBetweenLines e items n run.output_before run.output))
 IsCutByMemory run request = Keeps run.output_before run.output
+
+-- The lines of the input that is asked about.
+abbrev pub lines_of : Effects → ObjectArguments → List (List ℕ) → Type 0
+lines_of run arguments = run.lines (file_name arguments.object)
+
+-- The exit status of a run on lines, at the node of their bodies: that of the answers to all lines; or the answers to the first ones
+-- are out, and 3 the next line is no document, 4 a read failed, 5 out of memory; or a beginning of them is, since a write failed.
+pub data IsLinesResult (run : Effects) (N : Node) (arguments : ObjectArguments) : ℕ → Type 0 where
+  all_answered : (lines : List (List ℕ)) (status : ℕ) (text : List ℕ) → AreAnswered (lines_of run arguments) N arguments.command lines [] status text
+      → Appends run.output_before run.output text → run.failed_writes ≡ run.failed_writes_before → IsLinesResult run N arguments status
+  line_refused : (line : List ℕ) (rest : List (List ℕ)) (fault : JFault) → IsOfBytes fault → IsNoDocument line fault
+      → AreOut (lines_of run arguments) N arguments.command (line ∷ rest) run.output_before run.output → run.failed_writes ≡ run.failed_writes_before → IsLinesResult run N arguments 3
+  line_unread : (rest : List (List ℕ)) → HasFailed run.failed_reads_before run.failed_reads
+      → AreOut (lines_of run arguments) N arguments.command rest run.output_before run.output → run.failed_writes ≡ run.failed_writes_before → IsLinesResult run N arguments 4
+  line_unwritten : (rest : List (List ℕ)) (status : ℕ) → (status ≡ 4) ⊎ (status ≡ 5) → HasFailed run.failed_writes_before run.failed_writes
+      → AreCut (lines_of run arguments) N arguments.command rest run.output_before run.output → IsLinesResult run N arguments status
+  lines_left : (rest : List (List ℕ)) → AreOut (lines_of run arguments) N arguments.command rest run.output_before run.output → run.failed_writes ≡ run.failed_writes_before
+      → IsLinesResult run N arguments 5
 
 -- The exit status of a run with these effects: 3 an input is refused, 4 a read or a write failed, 5 out of memory, if only for
 -- the line on a failed write.
@@ -112,3 +137,5 @@ pub data IsRunResult (run : Effects) (request : Request) : ℕ → Type 0 where
   read_failed : HasFailed run.failed_reads_before run.failed_reads → WritesNothing run → IsRunResult run request 4
   write_failed : (status : ℕ) → (status ≡ 4) ⊎ (status ≡ 5) → HasFailed run.failed_writes_before run.failed_writes → IsCutByWrite run request → IsRunResult run request status
   no_memory : IsCutByMemory run request → run.failed_writes ≡ run.failed_writes_before → IsRunResult run request 5
+  on_lines : (arguments : ObjectArguments) (N : Node) (status : ℕ) → request ≡ ObjectLines arguments → IsRequestedRoot run.documents arguments.common N → IsLinesResult run N arguments status
+      → IsRunResult run request status

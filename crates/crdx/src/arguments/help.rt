@@ -313,7 +313,7 @@ of an `enum`, and of true and false.
 
 Samples with fewer nodes come first. None comes twice, and none is passed over.
 Standard error says `crdx: end` where no sample is left, else `crdx: more`. The
-last line, given back by --after, goes on from there.
+last line, given back by --after, goes on from there. --all lists all at once.
 
 `crdx: end` alone is the whole answer where there is no sample: where a required
 field has no value in the pools that is valid, such as a text without --pools,
@@ -346,6 +346,14 @@ that the API server drops nothing of it. So a misspelled field is
 found.";
 
 pub(super) const OBJECT: &str = "A JSON file with the object; - or nothing is standard input";
+
+pub(super) const LINES: &str = "Takes an object on each line";
+
+pub(super) const LINES_LONG: &str =
+    "Takes an object on each line, as `crdx sample` prints them, of at most
+1,048,576 bytes each, and any number of them. A line that is no JSON
+document ends the run, and standard error has its number, such as
+`crdx: object: 7: J3`.";
 
 pub(super) const LARGE: &str = "Reads definitions and pools of real size";
 
@@ -392,6 +400,13 @@ object is one node. Names do not count. So {"spec":{"a":0}} has
 three nodes."#;
 
 pub(super) const COUNT: &str = "The most samples to list, 1 to 10,000";
+
+pub(super) const ALL: &str = "Lists all samples, in place of a number of them";
+
+pub(super) const ALL_LONG: &str =
+    "Lists all samples, in place of a number of them: --count cannot be
+given too. What reads the lines gets them while the listing goes on,
+and `crdx: end` comes after the last one.";
 
 pub(super) const AFTER: &str = "The sample to go on from, as JSON";
 

@@ -1,5 +1,5 @@
 // Reads the arguments by `clap`.
-ghost use Rattle.std.specs.Prelude.{◌≡◌, ◌≤◌, false, Some, map, option_map, IfOk, string_bytes, codes};
+ghost use Rattle.std.specs.Prelude.{◌≡◌, ◌≢◌, ◌≤◌, false, true, Some, map, option_map, IfOk, string_bytes, codes};
 ghost use Rattle.clap.specs.Words.{found_of};
 ghost use Rattle.clap.specs.Kinds.{FailsBy};
 ghost use Rattle.clap.specs.Values.{kind_of};
@@ -7,8 +7,9 @@ ghost use Rattle.clap.specs.Walk.{Rule, rule_of, rows_of};
 ghost use Rattle.clap.specs.Simple.{App, app_of, new_rule, subcommand_rows_of, with_rule, with_subcommand};
 ghost use Rattle.clap.specs.declared.builder.command.Command.TheViews.{out-Command};
 ghost use Rattle.clap.specs.declared.error.kind.ErrorKind.TheVariants.{ArgumentConflict};
+ghost use Rattle.clap.specs.declared.parser.matches.ValueSource.TheVariants.{CommandLine};
 ghost use Rattle.crdx.specs.Program.Documents.{file_name};
-ghost use Rattle.crdx.specs.Program.CommandLine.{required_rule, option_rule, flag_rule, number_rule, top_app, crd_app, explain_app, object_app, validate_app, sample_app, crdx_app, faults, entered, input_of, crd_input, object_input, pools_input, object_command_name, IsCommand, AreCommonArguments, AreExplainArguments, HasOptions, AreObjectArguments, AreSampleArguments, Asks, IsRequestOf, IsUsageErrorOrMemory, IsNumberOf};
+ghost use Rattle.crdx.specs.Program.CommandLine.{required_rule, option_rule, flag_rule, number_rule, top_app, crd_app, explain_app, object_app, validate_app, sample_app, crdx_app, faults, entered, input_of, crd_input, object_input, pools_input, object_command_name, IsCommand, AreCommonArguments, AreExplainArguments, HasOptions, IsFlagOf, IsGiven, AreObjectArguments, AreSampleArguments, Asks, IsRequestOf, IsUsageErrorOrMemory, IsNumberOf};
 
 use crate::arguments::help;
 use crate::arguments::help::CommandHelp;
@@ -16,6 +17,7 @@ use crate::arguments::request::{
     CommonArguments, ExplainArguments, ObjectArguments, ObjectCommand, Request, SampleArguments,
 };
 use clap::error::ErrorKind;
+use clap::parser::ValueSource;
 use clap::{Arg, ArgAction, ArgMatches, Command, Error};
 use std::alloc::{AllocError, Global};
 
@@ -81,27 +83,33 @@ fn object_request<'a>(alloc: Global, command: ObjectCommand, found: &ArgMatches<
 {
     let arguments = object_arguments(command, found);
     match (arguments.common.crd, arguments.object) {
-        (None, None) => read_twice(alloc, "CRD and OBJECT cannot both be the standard input"),
-        _ => Request::Object(arguments),
+        (None, None) => refuse(alloc, "CRD and OBJECT cannot both be the standard input"),
+        _ => {
+            if flag_of(found, "lines") {
+                Request::ObjectLines(arguments)
+            } else {
+                Request::Object(arguments)
+            }
+        }
     }
 }
 
-/// The request of `sample`, which may read the standard input for one of its two inputs.
+/// The request of `sample`, which may read the standard input for one of its two inputs, and which lists all samples or a number of them.
 fn sample_request<'a>(alloc: Global, found: &ArgMatches<'a>) -> Request<'a>
     ensures { IsCommand (Some (codes "sample", rows_of (found_of found.now))) result }
 {
     let arguments = sample_arguments(found);
+    if arguments.all && is_given(found, "count") {
+        return refuse(alloc, "--all and --count cannot both be given");
+    }
     match (arguments.common.crd, arguments.pools) {
-        (None, Some(None)) => read_twice(
-            alloc,
-            "CRD and --pools cannot both be the standard input",
-        ),
+        (None, Some(None)) => refuse(alloc, "CRD and --pools cannot both be the standard input"),
         _ => Request::Sample(arguments),
     }
 }
 
-/// The refusal of a command that would read the standard input for two inputs.
-fn read_twice<'a>(alloc: Global, message: &str) -> Request<'a>
+/// The refusal of arguments that do not go together.
+fn refuse<'a>(alloc: Global, message: &str) -> Request<'a>
     ensures { IsUsageErrorOrMemory result }
 {
     match conflict(alloc, message) {
@@ -292,7 +300,9 @@ fn object_command<'a>(
     ensures local { IfOk result (λ c. (out-Command c).has_globals ≡ false) }
 {
     let command = crd_command(alloc, name, help);
-    add_argument(command, optional_argument(alloc, "OBJECT", help::OBJECT))
+    let object = optional_argument(alloc, "OBJECT", help::OBJECT);
+    let command = add_argument(command, object);
+    add_argument(command, flag(alloc, "lines", help::LINES, help::LINES_LONG))
 }
 
 /// The arguments that `validate` takes.
@@ -323,6 +333,7 @@ fn sample_command<'a>(alloc: Global) -> Result<Command<'a>, AllocError>
     let command = add_argument(command, pools);
     let command = add_argument(command, limit_option(alloc));
     let command = add_argument(command, count_option(alloc));
+    let command = add_argument(command, flag(alloc, "all", help::ALL, help::ALL_LONG));
     let after = text_option(alloc, "after", "JSON", help::AFTER, help::AFTER_LONG);
     let command = add_argument(command, after);
     let name = text_option(alloc, "name", "NAME", help::NAME, help::NAME_LONG);
@@ -395,6 +406,7 @@ fn sample_arguments<'a>(matches: &ArgMatches<'a>) -> SampleArguments<'a>
         name: matches.get_str("name"),
         limit: number_of(matches, "limit", USUAL_LIMIT, MOST_LIMIT),
         count: number_of(matches, "count", USUAL_COUNT, MOST_COUNT),
+        all: flag_of(matches, "all"),
     }
 }
 
@@ -427,6 +439,34 @@ fn input_named(word: &str) -> Option<&str>
     ensures { file_name result ≡ input_of word.now }
 {
     if word == "-" { None } else { Some(word) }
+}
+
+/// Whether an option without a value is there.
+fn flag_of(matches: &ArgMatches<'_>, name: &str) -> bool
+    ensures { IsFlagOf name.now (rows_of (found_of matches.now)) result }
+{
+    matches.get_flag(name)
+}
+
+/// Whether the words give an option, which else has its usual value.
+fn is_given(matches: &ArgMatches<'_>, name: &str) -> bool
+    ensures given { result ≡ true → IsGiven name.now (rows_of (found_of matches.now)) }
+    ensures not_given { result ≡ false → IsGiven name.now (rows_of (found_of matches.now)) → ⊥ }
+{
+    match matches.value_source(name) {
+        Some(source) => is_of_words(source),
+        None => false,
+    }
+}
+
+fn is_of_words(source: ValueSource) -> bool
+    ensures words { result ≡ true → source ≡ CommandLine }
+    ensures other { result ≡ false → source ≢ CommandLine }
+{
+    match source {
+        ValueSource::CommandLine => true,
+        ValueSource::DefaultValue => false,
+    }
 }
 
 /// The number of an option, which the parse has seen to be 1 to `last`.

@@ -26,8 +26,10 @@ pub struct SampleArguments<'a> {
     pub name: Option<&'a str>,
     /// The node limit, 1 to 127.
     pub limit: u32,
-    /// How many samples are asked for, 1 to 10,000.
+    /// How many samples are asked for, 1 to 10,000, where `all` is not.
     pub count: u32,
+    /// Whether `--all` is given: whether all samples are asked for, and no number of them.
+    pub all: bool,
     ghost limit_least: { 1 ≤ limit },
     ghost limit_most: { limit ≤ 127 },
     ghost count_least: { 1 ≤ count },
@@ -63,7 +65,7 @@ pub enum ObjectCommand {
 pub struct ObjectArguments<'a> {
     pub common: CommonArguments<'a>,
     pub command: ObjectCommand,
-    /// The file of the object; `None` for the standard input.
+    /// The file of the object, or of the objects; `None` for the standard input.
     pub object: Option<&'a str>,
 }
 
@@ -76,6 +78,8 @@ pub enum Request<'a> {
     Explain(ExplainArguments<'a>),
     /// To say what becomes of an object.
     Object(ObjectArguments<'a>),
+    /// To say what becomes of each object of an input that has one on each line.
+    ObjectLines(ObjectArguments<'a>),
     /// To make a pools document to start with.
     SuggestPools(CommonArguments<'a>),
     /// To list samples.

@@ -68,6 +68,8 @@ pub(crate) enum Cause {
     Read(Input),
     /// An input is no document.
     Document(Input, JFault),
+    /// The line of this number is no document.
+    Line(u64, JFault),
     /// The CustomResourceDefinition has no such version or schema.
     Crd(SFault),
     /// The pools or the limit are refused.
@@ -95,7 +97,8 @@ impl Cause {
     {
         match self {
             Cause::Violations(_) | Cause::NoField(_) | Cause::NotStored | Cause::NotASample => 1,
-            Cause::Document(_, _) | Cause::Crd(_) | Cause::Pools(_) | Cause::Place(_, _, _) => 3,
+            Cause::Document(_, _) | Cause::Line(_, _) => 3,
+            Cause::Crd(_) | Cause::Pools(_) | Cause::Place(_, _, _) => 3,
             Cause::Read(_) | Cause::Write(_) => 4,
             Cause::NoMemory => 5,
         }

@@ -8,7 +8,7 @@ ghost use Rattle.schema.specs.Rules.Breaks.{IsUnbroken};
 ghost use Rattle.stored.specs.Schemas.Accepted.{IsBroken};
 ghost use Rattle.crdx.specs.Internal.Cause.{IsReadFailure, IsReadCause, IsSchemaCause, IsPoolsCause, IsAfterCause, IsTextCause};
 ghost use Rattle.crdx.specs.Program.Requested.{limits_of, pool_limits_of, IsRequestedCrd, ArePools, IsAfter};
-ghost use Rattle.crdx.specs.Program.Documents.{AreAmong, file_name};
+ghost use Rattle.crdx.specs.Program.Documents.{AreAmong, AreLinesAmong, file_name};
 ghost use Rattle.crdx.specs.Program.Envelope.{body_of as body};
 
 use crate::arguments::{CommonArguments, SampleArguments};
@@ -40,6 +40,7 @@ pub(crate) fn accepted_schema<I: Inputs>(
     ensures accepted { IfOk result (λ a. (raw : Data) × IsRequestedCrd (I.has inputs.old) arguments.now a.group a.kind raw × IsUnbroken (IsBroken raw) × AreNodesOf true a.schema raw) }
     ensures cause { IfErr result (IsSchemaCause (I.has inputs.old) (I.failures inputs.old) (I.failures inputs.new) arguments.now) }
     ensures stays { AreAmong (I.has inputs.new) (I.has inputs.old) }
+    ensures lines { AreLinesAmong (I.lines inputs.new) (I.lines inputs.old) }
     ensures unfailed { OnOk result (I.failures inputs.new ≡ I.failures inputs.old) }
 {
     let crd = crd_of(alloc, arguments, inputs, explanation)?;
@@ -62,6 +63,7 @@ pub(crate) fn crd_of<I: Inputs>(
     ensures ok { IfOk result (λ c. IsRequestedCrd (I.has inputs.old) arguments.now c.group c.kind c.raw) }
     ensures cause { IfErr result (IsReadCause (I.has inputs.old) (I.failures inputs.old) (I.failures inputs.new) arguments.now) }
     ensures stays { AreAmong (I.has inputs.new) (I.has inputs.old) }
+    ensures lines { AreLinesAmong (I.lines inputs.new) (I.lines inputs.old) }
     ensures unfailed { OnOk result (I.failures inputs.new ≡ I.failures inputs.old) }
 {
     let document = document(alloc, inputs, Input::Crd, arguments.crd, explanation)?;
@@ -134,6 +136,7 @@ pub(crate) fn document<I: Inputs>(
     ensures ok { IfOk result (λ t. I.has inputs.old (file_name name.entry) (Ok (data_of t))) }
     ensures cause { IfErr result (IsReadFailure (I.has inputs.old) (I.failures inputs.old) (I.failures inputs.new) input (file_name name.entry)) }
     ensures stays { AreAmong (I.has inputs.new) (I.has inputs.old) }
+    ensures lines { AreLinesAmong (I.lines inputs.new) (I.lines inputs.old) }
     ensures unfailed { OnOk result (I.failures inputs.new ≡ I.failures inputs.old) }
 {
     match inputs.tree(name) {

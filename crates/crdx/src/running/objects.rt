@@ -72,7 +72,7 @@ fn judge_at<I: Inputs>(
 }
 
 /// What is said of a document at the node of its body.
-fn answer_of(
+pub(crate) fn answer_of(
     alloc: Global,
     command: ObjectCommand,
     node: &Node,

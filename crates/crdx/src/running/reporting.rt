@@ -51,7 +51,8 @@ pub(crate) fn write_answer<W: Sink, E: Sink>(
     report_alone(alloc, &Cause::Write(newlines(&text[..taken])), err)
 }
 
-fn newlines(text: &[u8]) -> u64 {
+/// How many lines end in the text.
+pub(crate) fn newlines(text: &[u8]) -> u64 {
     text.iter().filter(|byte| **byte == b'\n').count() as u64
 }
 
@@ -102,6 +103,22 @@ pub(crate) fn finish_samples<E: Sink>(
     }
 }
 
+/// Says on `err` why not all lines of an input were answered, where they were not, and answers the exit status.
+pub(crate) fn finish_lines<E: Sink>(
+    alloc: Global,
+    answered: &Result<u8, Cause>,
+    explanation: &Explanation,
+    err: &mut E,
+) -> u8
+    ensures done { IfOk answered.now (λ status. result ≡ status) }
+    ensures said { IfErr answered.now (λ cause. (result ≡ status cause) ⊎ (result ≡ 5)) }
+{
+    match answered {
+        Ok(status) => *status,
+        Err(cause) => report(alloc, cause, explanation, err),
+    }
+}
+
 /// Says on `err` whether more samples are left.
 fn say_end<E: Sink>(walked: &Walked, err: &mut E) {
     let line: &[u8] = if walked.end {
@@ -130,6 +147,7 @@ fn line_of(alloc: Global, cause: &Cause) -> Result<String, AllocError> {
     match cause {
         Cause::Read(input) => format!(in alloc; "crdx: {input}: read failed\n"),
         Cause::Document(input, fault) => format!(in alloc; "crdx: {input}: {fault}\n"),
+        Cause::Line(number, fault) => format!(in alloc; "crdx: object: {number}: {fault}\n"),
         Cause::Crd(fault) => format!(in alloc; "crdx: crd: {fault}\n"),
         Cause::Pools(fault) => format!(in alloc; "crdx: pools: {fault}\n"),
         Cause::Place(input, code, pointer) => {

@@ -1,5 +1,5 @@
 // What `sample` writes.
-ghost use Rattle.std.specs.Prelude.{◌≡◌, ◌≤◌, ◌<◌, Option, IfOk, IfErr, OnOk, IfSome, option_map};
+ghost use Rattle.std.specs.Prelude.{◌≡◌, ◌<◌, Option, IfOk, IfErr, OnOk, IfSome, option_map};
 ghost use Rattle.jtree.specs.Data.{Data};
 ghost use Rattle.jtree.specs.View.{data_of};
 ghost use Rattle.plan.specs.Pools.PlanFault.{HasGoodPaths};
@@ -7,7 +7,8 @@ ghost use Rattle.plan.specs.Samples.Question.{Question};
 ghost use Rattle.enumerate.specs.Page.{IsSampleOf};
 ghost use Rattle.crdx.specs.Internal.Cause.{IsInputCause, IsSamplingCause, IsSampleCause, IsWalkCause};
 ghost use Rattle.crdx.specs.Output.Walk.{WritesPage};
-ghost use Rattle.crdx.specs.Program.Requested.{IsRequested, IsAfter, envelope_for};
+ghost use Rattle.crdx.specs.Output.PartialOutput.{IsPartialOutput};
+ghost use Rattle.crdx.specs.Program.Requested.{IsRequested, IsAfter, envelope_for, total_of};
 ghost use Rattle.crdx.specs.declared.arguments.request.Request.TheVariants.{Sample};
 ghost use Rattle.crdx.specs.declared.walk.line.Envelope.{Envelope as EnvelopeData};
 
@@ -17,10 +18,10 @@ use crate::running::causes::Cause;
 use crate::running::documents::{Accepted, accepted_schema, after_of, pools_of};
 use crate::running::explanation::Explanation;
 use crate::sink::Sink;
-use crate::walk::{Envelope, Walked, walk};
+use crate::walk::{Envelope, WFault, Walked, walk, walk_to_end};
 use enumerate::pages_agree;
 use jtree::{Text, Tree};
-use plan::{Plan, Pools, SizeSet};
+use plan::{Meter, Plan, Pools, SizeSet};
 use std::alloc::{AllocError, Global};
 
 /// The most lines that are held at a time.
@@ -47,10 +48,11 @@ pub(crate) fn sample<I: Inputs, W: Sink>(
     out: &mut W,
 ) -> Result<Walked, Cause>
     ensures sampled { IfOk result (λ walked. (q : Question) × (after : Option Data) × (e : Option EnvelopeData) × IsRequested (I.has inputs.old) arguments.now q after e
-        × IfSome after (IsSampleOf q) × WritesPage q after arguments.now.count e walked.lines walked.end (W.taken out.old) (W.taken out.new)) }
+        × IfSome after (IsSampleOf q) × WritesPage q after (total_of arguments.now) e walked.lines walked.end (W.taken out.old) (W.taken out.new)) }
     ensures unfailed { OnOk result (W.failures out.new ≡ W.failures out.old) }
     ensures cause { IfErr result (IsSampleCause (record {
       documents = I.has inputs.old;
+      lines = I.lines inputs.old;
       failed_reads_before = I.failures inputs.old;
       failed_reads = I.failures inputs.new;
       output_before = W.taken out.old;
@@ -76,10 +78,11 @@ fn sample_with<Z: SizeSet, I: Inputs, W: Sink>(
 ) -> Result<Walked, Cause>
     requires { arguments.now.limit < Z.BITS }
     ensures sampled { IfOk result (λ walked. (q : Question) × (after : Option Data) × (e : Option EnvelopeData) × IsRequested (I.has inputs.old) arguments.now q after e
-        × IfSome after (IsSampleOf q) × WritesPage q after arguments.now.count e walked.lines walked.end (W.taken out.old) (W.taken out.new)) }
+        × IfSome after (IsSampleOf q) × WritesPage q after (total_of arguments.now) e walked.lines walked.end (W.taken out.old) (W.taken out.new)) }
     ensures unfailed { OnOk result (W.failures out.new ≡ W.failures out.old) }
     ensures cause { IfErr result (IsSampleCause (record {
       documents = I.has inputs.old;
+      lines = I.lines inputs.old;
       failed_reads_before = I.failures inputs.old;
       failed_reads = I.failures inputs.new;
       output_before = W.taken out.old;
@@ -89,40 +92,61 @@ fn sample_with<Z: SizeSet, I: Inputs, W: Sink>(
     }) arguments.now) }
 {
     let mut sample_inputs = sample_inputs::<Z, I>(alloc, arguments, inputs, explanation)?;
-    write_samples(alloc, &mut sample_inputs, arguments.count, out)
+    write_samples(alloc, arguments, &mut sample_inputs, out)
 }
 
-/// Writes the first `count` samples past the tree to go on from, and flushes.
+/// Writes the samples that are asked for past the tree to go on from, and flushes.
 fn write_samples<Z: SizeSet, W: Sink>(
     alloc: Global,
+    arguments: &SampleArguments<'_>,
     inputs: &mut SampleInputs<Z>,
-    count: u32,
     out: &mut W,
 ) -> Result<Walked, Cause>
-    requires least { 1 ≤ count }
-    requires most { count ≤ 10000 }
     ensures sampled { IfOk result (λ walked. IfSome (option_map data_of inputs.old.after) (IsSampleOf inputs.old.plan)
-        × WritesPage inputs.old.plan (option_map data_of inputs.old.after) count inputs.old.envelope walked.lines walked.end (W.taken out.old) (W.taken out.new)) }
+        × WritesPage inputs.old.plan (option_map data_of inputs.old.after) (total_of arguments.now) inputs.old.envelope walked.lines walked.end (W.taken out.old) (W.taken out.new)) }
     ensures unfailed { OnOk result (W.failures out.new ≡ W.failures out.old) }
-    ensures cause { IfErr result (IsWalkCause inputs.old.plan (option_map data_of inputs.old.after) count inputs.old.envelope
+    ensures cause { IfErr result (IsWalkCause inputs.old.plan (option_map data_of inputs.old.after) (total_of arguments.now) inputs.old.envelope
         (W.taken out.old) (W.taken out.new) (W.failures out.old) (W.failures out.new)) }
 {
     // for its contract alone
     pages_agree();
     let mut meter = inputs.plan.meter();
-    let walked = walk(
-        alloc,
-        &inputs.plan,
-        inputs.after.as_ref(),
-        PAGE,
-        count,
-        inputs.envelope.as_ref(),
-        &mut meter,
-        out,
-    )?;
+    let walked = walk_asked(alloc, arguments, inputs, &mut meter, out)?;
     match out.flush() {
         Ok(()) => Ok(walked),
         Err(_) => Err(Cause::Write(walked.lines)),
+    }
+}
+
+/// Writes all samples past the tree to go on from, or the number of them that is asked for.
+fn walk_asked<Z: SizeSet, W: Sink>(
+    alloc: Global,
+    arguments: &SampleArguments<'_>,
+    inputs: &SampleInputs<Z>,
+    meter: &mut Meter,
+    out: &mut W,
+) -> Result<Walked, WFault>
+    ensures lines { IfOk result (λ walked. WritesPage inputs.now.plan (option_map data_of inputs.now.after) (total_of arguments.now) inputs.now.envelope walked.lines walked.end (W.taken out.old) (W.taken out.new)) }
+    ensures sample { OnOk result (IfSome (option_map data_of inputs.now.after) (IsSampleOf inputs.now.plan)) }
+    ensures cut { IfErr result (IsPartialOutput inputs.now.plan (option_map data_of inputs.now.after) (total_of arguments.now) inputs.now.envelope (W.taken out.old) (W.taken out.new) (W.failures out.old) (W.failures out.new)) }
+    ensures unfailed { OnOk result (W.failures out.new ≡ W.failures out.old) }
+{
+    let after = inputs.after.as_ref();
+    let envelope = inputs.envelope.as_ref();
+    let plan = &inputs.plan;
+    if arguments.all {
+        walk_to_end(alloc, plan, after, envelope, meter, out)
+    } else {
+        walk(
+            alloc,
+            plan,
+            after,
+            PAGE,
+            arguments.count,
+            envelope,
+            meter,
+            out,
+        )
     }
 }
 

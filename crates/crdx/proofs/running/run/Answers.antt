@@ -1,8 +1,9 @@
 use Rattle.std.proofs.Common.{◌≡◌, [], refl, inl, inr}
 use Rattle.std.proofs.KnownBytes.{Keeps-refl, Appends-nil}
 use Rattle.crdx.specs.Program.RunResult.{answered, help, usage_error}
-use Rattle.crdx.specs.declared.arguments.request.Request.TheVariants.{Check, Explain, Object, SuggestPools, Sample, Help, UsageError, NoMemory}
+use Rattle.crdx.specs.declared.arguments.request.Request.TheVariants.{Check, Explain, Object, ObjectLines, SuggestPools, Sample, Help, UsageError, NoMemory}
 use Rattle.crdx.proofs.RunLemmas.{result_of_finished, result_of_written, result_of_sample, result_of_nothing}
+use Rattle.crdx.proofs.LineAnswerLemmas.{result_of_lines}
 use Rattle.crdx.proofs.running.run.Goals as goal
 
 pub returns-in-Check : goal.returns-in-Check
@@ -30,6 +31,15 @@ returns-in-Object g c =
       c.in-Object.ensures,
       result_of_finished _ request c.judge_object-answer.result c.finish-in-Object.result c.judge_object-answer.ensures.answer c.judge_object-answer.ensures.cause (λ status text is n out. (status, text, is, n, out))
           c.finish-in-Object.ensures.written c.finish-in-Object.ensures.said c.finish-in-Object.ensures.kept c.finish-in-Object.ensures.unfailed,
+    )
+
+pub returns-in-ObjectLines : goal.returns-in-ObjectLines
+returns-in-ObjectLines g c =
+    let arguments = c.in-ObjectLines.arguments in (
+      ObjectLines arguments,
+      c.in-ObjectLines.ensures,
+      result_of_lines _ arguments c.judge_lines-answered.result c.finish_lines.result c.judge_lines-answered.ensures.answered c.judge_lines-answered.ensures.unfailed c.judge_lines-answered.ensures.cause
+          c.finish_lines.ensures.done c.finish_lines.ensures.said,
     )
 
 pub returns-in-SuggestPools : goal.returns-in-SuggestPools

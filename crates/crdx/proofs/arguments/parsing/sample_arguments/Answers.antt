@@ -12,4 +12,5 @@ returns c =
       c.get_str-2.ensures ∙ first_value-rows f (codes "name"),
       c.number_of.ensures.number,
       c.number_of-2.ensures.number,
+      c.flag_of.ensures,
     )

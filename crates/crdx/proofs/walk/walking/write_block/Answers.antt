@@ -18,9 +18,6 @@ few g c =
 pub returns-in-Err-clause-envelope : goal.returns-in-Err-clause-envelope
 returns-in-Err-clause-envelope g c = let t = c.lend_page.ensures.taken in t.1.same ∙ c.clear.ensures.same
 
-pub overflow_cast-result-in-Ok-put_all : goal.overflow_cast-result-in-Ok-put_all
-overflow_cast-result-in-Ok-put_all g c = omega (arith, few g c, c.requires.most)
-
 pub overflow_add-result : goal.overflow_add-result
 overflow_add-result g c = omega (arith, few g c, c.requires.most)
 
@@ -63,3 +60,10 @@ returns-in-Err-put_all-clause-err g c = λ place first.
     let fewer = subst (λ bs. c.in-Err-put_all.taken < length bs) bytes c.in-Err-put_all.ensures.fewer in
     let part = subst (λ bs. Appends old new (take c.in-Err-put_all.taken bs)) bytes c.in-Err-put_all.ensures.part in
     inr (l.items, c.in-Ok.end, l.page, (c.in-Err-put_all.ensures.failed, (c.whole_lines-whole.result, refl, cut_lines e l.items c.lend_page.new.taker.ends.items c.in-Err-put_all.taken c.whole_lines-whole.result old new ended count fewer part)))
+
+pub overflow_add-result-in-Err-put_all : goal.overflow_add-result-in-Err-put_all
+overflow_add-result-in-Err-put_all g c =
+    let t = c.lend_page.ensures.taken in
+    let held = t.1.holds [] c.clear.ensures.none in
+    let ends = ap (λ es. length es) c.as_slice-in-Err-put_all.ensures.value in
+    omega (arith, held.ended.each, t.2, c.whole_lines-whole.ensures.within, ends, c.requires.most)

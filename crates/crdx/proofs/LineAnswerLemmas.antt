@@ -1,0 +1,190 @@
+-- What the answers to lines say together, one line after the other, and what is out where they end early.
+use Rattle.std.proofs.Common.{◌≡◌, ℕ, suc, ◌+◌, List, [], ◌∷◌, ◌++◌, length, take, ◌<◌, ◌⊎◌, Bool, Option, Ok, Err, refl, sym, ap, ◌∙◌, subst, inl, inr, arith, length-append, append-nil, append_assoc}
+use Rattle.std.specs.Prelude.{max, Result, IfOk, IfErr, OnOk}
+use Rattle.std.proofs.Math.ListN.{replicate}
+use Rattle.std.proofs.lemmas.List.{length-replicate}
+use Rattle.std.specs.Io.KnownBytes.{Appends, Keeps}
+use Rattle.std.proofs.KnownBytes.{Appends-nil, Appends-trans, Appends-kept, Keeps-refl}
+use Rattle.std.proofs.Math.Seq.{take-append-add}
+use Rattle.jtree.specs.declared.fault.JFault.TheVariants as f
+use Rattle.schema.specs.Nodes.Node.{Node}
+use Rattle.crdx.specs.Program.LineAnswers.{IsLineAnswer, AreLineAnswers, AreAnswered, AreOut, AreCut}
+use Rattle.crdx.specs.Internal.LineProgress.{IsAnsweredSoFar, AddsAnswer, IsLineCause, IsLinesCause, cause_of_line}
+use Rattle.crdx.specs.Internal.Cause.{IsObjectsCause}
+use Rattle.crdx.specs.Internal.ExitStatus.{status}
+use Rattle.crdx.specs.Program.InputFault.{IsLineFault, failures_after_read}
+use Rattle.crdx.specs.Program.Requested.{IsRequestedRoot}
+use Rattle.crdx.specs.Program.RunResult.{Effects, IsRunResult, IsLinesResult, lines_of, read_failed, on_lines, all_answered, line_refused, line_unread, line_unwritten, lines_left}
+use Rattle.crdx.specs.declared.arguments.request.ObjectArguments.{ObjectArguments}
+use Rattle.crdx.specs.declared.arguments.request.Request.TheVariants.{ObjectLines}
+use Rattle.crdx.specs.declared.inputs.InFault.{InFault}
+use Rattle.crdx.specs.declared.inputs.InFault.TheVariants.{Failed, Document}
+use Rattle.crdx.proofs.RunLemmas.{failed_once, result_of_nothing, result_of_input}
+use Rattle.crdx.specs.declared.arguments.request.ObjectCommand.{ObjectCommand}
+use Rattle.crdx.specs.declared.running.causes.Cause.{Cause}
+use Rattle.crdx.specs.declared.running.causes.Cause.TheVariants.{Line, Write, NoMemory, Read}
+
+module _ (N : Node) (command : ObjectCommand) where
+  -- one line more
+  pub answers_more : (number : ℕ) (lines : List (List ℕ)) (status : ℕ) (text line : List ℕ) (s : ℕ) (t : List ℕ) → AreLineAnswers N command number lines status text
+      → IsLineAnswer N command (number + length lines) line s t → AreLineAnswers N command number (lines ++ line ∷ []) (max status s) (text ++ t)
+  answers_more number [] status text line s t (zero, none) is =
+      let here : number + 0 ≡ number = omega arith in
+      let least : max status s ≡ max s 0 = omega (arith, zero) in
+      let said : text ++ t ≡ t ++ [] = ap (λ l. l ++ t) none ∙ sym (append-nil t) in
+      (s, t, 0, [], subst (λ n. IsLineAnswer N command n line s t) here is, (refl, refl), least, said)
+  answers_more number (first ∷ lines) status text line s t (a, said, later, more, answer, rest, greatest, joined) is =
+      let there : number + suc (length lines) ≡ (number + 1) + length lines = omega arith in
+      let next = answers_more (number + 1) lines later more line s t rest (subst (λ n. IsLineAnswer N command n line s t) there is) in
+      let all : max status s ≡ max a (max later s) = omega (arith, greatest) in
+      (a, said, max later s, more ++ t, answer, next, all, ap (λ l. l ++ t) joined ∙ append_assoc said more t)
+
+  module _ (first : List (List ℕ) → Type 0) where
+    -- nothing is answered yet
+    pub none_answered : (out : Option (List ℕ)) → IsAnsweredSoFar first first N command 0 0 out out
+    none_answered out = record {
+      lines = [];
+      text = [];
+      after = λ rest is. is;
+      answers = (refl, refl);
+      counted = refl;
+      out = Appends-nil out;
+    }
+
+    module _ (now : List (List ℕ) → Type 0) (count status : ℕ) (old new : Option (List ℕ)) (s : IsAnsweredSoFar first now N command count status old new) where
+      -- and those that were answered are all
+      pub all_answered_at_end : now [] → AreAnswered first N command s.lines [] status s.text
+      all_answered_at_end end = record { there = s.after [] end; answers = s.answers }
+
+      -- they are out, where others come
+      pub out_so_far : (rest : List (List ℕ)) (later : Option (List ℕ)) → now rest → Keeps new later → AreOut first N command rest old later
+      out_so_far rest later come keeps = record {
+        lines = s.lines;
+        status = status;
+        text = s.text;
+        answered = record { there = s.after rest come; answers = s.answers };
+        out = Appends-kept old new later s.text s.out keeps;
+      }
+
+      -- why the line after them was not read
+      pub unread_cause : (some : (rest : List (List ℕ)) × now rest) (number unread read unfailed failed : ℕ) (fault : InFault) → failed ≡ unfailed → read ≡ failures_after_read {T = Bool} unread (Err fault)
+          → IsLineFault now fault → IsLinesCause first N command unread read old new unfailed failed (cause_of_line number fault)
+      unread_cause some number unread read unfailed failed Failed same counts why = (failed_once unread read counts, same, inr (some.0, out_so_far some.0 new some.1 (Keeps-refl new)))
+      unread_cause some number unread read unfailed failed (Document f.NoMemory) same counts why = (same, inr (some.0, out_so_far some.0 new some.1 (Keeps-refl new)))
+      unread_cause some number unread read unfailed failed (Document f.TooLong) same counts (line, rest, come, long) =
+          ((λ e. cc, λ e. cc), same, (line, rest, long, out_so_far (line ∷ rest) new come (Keeps-refl new)))
+      unread_cause some number unread read unfailed failed (Document f.NotAnInteger) same counts why = absurd why
+      unread_cause some number unread read unfailed failed (Document f.NotJson) same counts why = absurd why
+      unread_cause some number unread read unfailed failed (Document f.ReadFailed) same counts why = absurd why
+
+      module _ (line : List ℕ) (next : List (List ℕ) → Type 0) (takes : (rest : List (List ℕ)) → next rest → now (line ∷ rest)) where
+        after_line : (rest : List (List ℕ)) → next rest → first ((s.lines ++ line ∷ []) ++ rest)
+        after_line rest come = subst first (sym (append_assoc s.lines (line ∷ []) rest)) (s.after (line ∷ rest) (takes rest come))
+
+        answer_there : (here : ℕ) (t : List ℕ) → IsLineAnswer N command (count + 1) line here t → AreLineAnswers N command 1 (s.lines ++ line ∷ []) (max status here) (s.text ++ t)
+        answer_there here t is =
+            let number : count + 1 ≡ 1 + length s.lines = omega (arith, s.counted) in
+            answers_more 1 s.lines status s.text line here t s.answers (subst (λ n. IsLineAnswer N command n line here t) number is)
+
+        pub answered_more : (here : ℕ) (later : Option (List ℕ)) → AddsAnswer N command (count + 1) line here new later → IsAnsweredSoFar first next N command (count + 1) (max status here) old later
+        answered_more here later (t, is, out) = record {
+          lines = s.lines ++ line ∷ [];
+          text = s.text ++ t;
+          after = after_line;
+          answers = answer_there here t is;
+          counted = omega (arith, s.counted, length-append s.lines (line ∷ []));
+          out = Appends-trans old new later s.text t s.out out;
+        }
+
+        -- a beginning of the answer to the line is out
+        pub cut_in_answer : (rest : List (List ℕ)) (here bytes : ℕ) (t : List ℕ) (later : Option (List ℕ)) → next rest → IsLineAnswer N command (count + 1) line here t → Appends new later (take bytes t)
+            → AreCut first N command rest old later
+        cut_in_answer rest here bytes t later come is out = record {
+          lines = s.lines ++ line ∷ [];
+          status = max status here;
+          text = s.text ++ t;
+          answered = record { there = after_line rest come; answers = answer_there here t is };
+          bytes = length s.text + bytes;
+          out = subst (Appends old later) (sym (take-append-add s.text t bytes)) (Appends-trans old new later s.text (take bytes t) s.out out);
+        }
+
+        -- why the line was not answered, or not all of its answer is out
+        pub lines_cause : (some : (rest : List (List ℕ)) × next rest) (unread read unfailed failed : ℕ) (later : Option (List ℕ)) (cause : Cause) → IsLineCause N command (count + 1) line new later unfailed failed cause
+            → IsLinesCause first N command unread read old later unfailed failed cause
+        lines_cause some unread read unfailed failed later (Write n) (has, (here, t, bytes, is, out)) = (has, (some.0, cut_in_answer some.0 here bytes t later some.1 is out))
+        lines_cause some unread read unfailed failed later (Line n fault) (why, keeps, same) =
+            (why.0, same, (line, some.0, why.1, out_so_far (line ∷ some.0) later (takes some.0 some.1) keeps))
+        lines_cause some unread read unfailed failed later NoMemory (why, keeps, same) = (same, inr (line ∷ some.0, out_so_far (line ∷ some.0) later (takes some.0 some.1) keeps))
+        lines_cause some unread read unfailed failed later _ why = absurd why.0
+
+-- the lines at hand later were at hand before
+module _ (N : Node) (command : ObjectCommand) (later before : List (List ℕ) → Type 0) (among : (lines : List (List ℕ)) → later lines → before lines) where
+  pub answered_before : (lines rest : List (List ℕ)) (status : ℕ) (text : List ℕ) → AreAnswered later N command lines rest status text → AreAnswered before N command lines rest status text
+  answered_before lines rest status text a = record { there = among (lines ++ rest) a.there; answers = a.answers }
+
+  out_before : (rest : List (List ℕ)) (old new : Option (List ℕ)) → AreOut later N command rest old new → AreOut before N command rest old new
+  out_before rest old new o = record {
+    lines = o.lines;
+    status = o.status;
+    text = o.text;
+    answered = answered_before o.lines rest o.status o.text o.answered;
+    out = o.out;
+  }
+
+  cut_before : (rest : List (List ℕ)) (old new : Option (List ℕ)) → AreCut later N command rest old new → AreCut before N command rest old new
+  cut_before rest old new o = record {
+    lines = o.lines;
+    status = o.status;
+    text = o.text;
+    answered = answered_before o.lines rest o.status o.text o.answered;
+    bytes = o.bytes;
+    out = o.out;
+  }
+
+  pub cause_before : (unread read : ℕ) (old new : Option (List ℕ)) (unfailed failed : ℕ) (cause : Cause) → IsLinesCause later N command unread read old new unfailed failed cause
+      → IsLinesCause before N command unread read old new unfailed failed cause
+  cause_before unread read old new unfailed failed (Read i) (has, same, inl keeps) = (has, same, inl keeps)
+  cause_before unread read old new unfailed failed (Read i) (has, same, inr (rest, out)) = (has, same, inr (rest, out_before rest old new out))
+  cause_before unread read old new unfailed failed (Line n fault) (why, same, (line, rest, bad, out)) = (why, same, (line, rest, bad, out_before (line ∷ rest) old new out))
+  cause_before unread read old new unfailed failed (Write n) (has, (rest, cut)) = (has, (rest, cut_before rest old new cut))
+  cause_before unread read old new unfailed failed NoMemory (same, inl keeps) = (same, inl keeps)
+  cause_before unread read old new unfailed failed NoMemory (same, inr (rest, out)) = (same, inr (rest, out_before rest old new out))
+  cause_before unread read old new unfailed failed _ why = absurd why
+
+module _ (run : Effects) (arguments : ObjectArguments) where
+  abbrev IsCauseOf : Node → Cause → Type 0
+  IsCauseOf N = IsLinesCause (lines_of run arguments) N arguments.command run.failed_reads_before run.failed_reads run.output_before run.output run.failed_writes_before run.failed_writes
+
+  module _ (N : Node) (root : IsRequestedRoot run.documents arguments.common N) where
+    on_these : (status : ℕ) → IsLinesResult run N arguments status → IsRunResult run (ObjectLines arguments) status
+    on_these status is = on_lines arguments N status refl root is
+
+    no_more : (code : ℕ) → run.failed_writes ≡ run.failed_writes_before
+        → Keeps run.output_before run.output ⊎ ((rest : List (List ℕ)) × AreOut (lines_of run arguments) N arguments.command rest run.output_before run.output) → code ≡ 5 → IsRunResult run (ObjectLines arguments) code
+    no_more code same (inl keeps) five = result_of_nothing run (ObjectLines arguments) code (record { kept = keeps; unfailed = same }) five
+    no_more code same (inr (rest, out)) five = rw five (on_these 5 (lines_left rest out same))
+
+    result_of_lines_cause : (cause : Cause) (code : ℕ) → IsCauseOf N cause → (code ≡ status cause) ⊎ (code ≡ 5) → IsRunResult run (ObjectLines arguments) code
+    result_of_lines_cause (Read i) code (has, same, inl keeps) (inl four) = rw four (read_failed has (record { kept = keeps; unfailed = same }))
+    result_of_lines_cause (Read i) code (has, same, inr (rest, out)) (inl four) = rw four (on_these 4 (line_unread rest has out same))
+    result_of_lines_cause (Read i) code (has, same, out) (inr five) = no_more code same out five
+    result_of_lines_cause (Line n fault) code (why, same, (line, rest, bad, out)) (inl three) = rw three (on_these 3 (line_refused line rest fault why bad out same))
+    result_of_lines_cause (Line n fault) code (why, same, (line, rest, bad, out)) (inr five) = no_more code same (inr (line ∷ rest, out)) five
+    result_of_lines_cause (Write n) code (has, (rest, cut)) is = on_these code (line_unwritten rest code is has cut)
+    result_of_lines_cause NoMemory code (same, out) (inl five) = no_more code same out five
+    result_of_lines_cause NoMemory code (same, out) (inr five) = no_more code same out five
+    result_of_lines_cause _ code why is = absurd why
+
+  -- all lines were answered, or it was said why not
+  pub result_of_lines : (r : Result ℕ Cause) (code : ℕ)
+      → IfOk r (λ status. (N : Node) × IsRequestedRoot run.documents arguments.common N × (lines : List (List ℕ)) × (text : List ℕ)
+      × AreAnswered (lines_of run arguments) N arguments.command lines [] status text × Appends run.output_before run.output text)
+      → OnOk r (run.failed_writes ≡ run.failed_writes_before) → IfErr r (IsObjectsCause run arguments)
+      → IfOk r (λ status. code ≡ status) → IfErr r (λ cause. (code ≡ status cause) ⊎ (code ≡ 5)) → IsRunResult run (ObjectLines arguments) code
+  result_of_lines (Ok done) code (N, root, lines, text, answered, out) unfailed why is said = rw is (on_these N root done (all_answered lines done text answered out unfailed))
+  result_of_lines (Err cause) code answered unfailed (inl (input, nothing)) is said = result_of_input run (ObjectLines arguments) cause code input nothing said
+  result_of_lines (Err cause) code answered unfailed (inr (N, root, why)) is said = result_of_lines_cause N root cause code why said
+
+-- a line that is longer than this
+pub long_line : (n : ℕ) → (line : List ℕ) × (n < length line)
+long_line n = (replicate {A = ℕ} (n + 1) 0, omega (arith, length-replicate {A = ℕ} (n + 1) 0))
