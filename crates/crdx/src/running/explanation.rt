@@ -5,6 +5,7 @@ mod documents;
 mod fields;
 mod objects;
 mod pools;
+mod samples;
 mod values;
 
 use crate::running::explanation::definitions::definition_text;
@@ -12,9 +13,10 @@ use crate::running::explanation::documents::{after_text, document_text};
 use crate::running::explanation::fields::field_text;
 use crate::running::explanation::objects::unstored_text;
 use crate::running::explanation::pools::{path_text, pools_text};
+use crate::running::explanation::samples::no_sample_text;
 use crate::running::lines::all_lines;
 use jtree::Tree;
-use plan::{PFault, PoolLimits, Pools};
+use plan::{PFault, Plan, PoolLimits, Pools, SizeSet};
 use schema::{Limits, Node, RawSchema};
 use std::alloc::{AllocError, Global};
 use stored::{Schema, explained};
@@ -95,6 +97,14 @@ impl Explanation {
     pub fn explain_after(&mut self, alloc: Global, limit: u32, after: Option<&Tree>) {
         if self.is_asked {
             self.say(alloc, after_text(alloc, limit, after));
+        }
+    }
+
+    /// Why there is no sample, where a listing is empty; of any other listing nothing is said.
+    pub fn explain_end<Z: SizeSet>(&mut self, alloc: Global, plan: Plan<Z>, is_empty: bool) {
+        self.lines = Ok(None);
+        if self.is_asked && is_empty {
+            self.say(alloc, no_sample_text(alloc, plan));
         }
     }
 

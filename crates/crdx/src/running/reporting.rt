@@ -84,7 +84,8 @@ pub(crate) fn report_alone<E: Sink>(alloc: Global, cause: &Cause, err: &mut E) -
     report(alloc, cause, &Explanation::new(false), err)
 }
 
-/// Says on `err` whether more samples are left, or why the listing of samples ended early, and answers the exit status.
+/// Says on `err` whether more samples are left, with the explanation of a listing that is empty, or why the listing ended early, and
+/// answers the exit status. Where there is no memory for the explanation, it is left out.
 pub(crate) fn finish_samples<E: Sink>(
     alloc: Global,
     walked: &Result<Walked, Cause>,
@@ -97,6 +98,9 @@ pub(crate) fn finish_samples<E: Sink>(
     match walked {
         Ok(walked) => {
             say_end(walked, err);
+            if let Ok(Some(lines)) = explanation.lines() {
+                let _ = put_all(err, lines.as_bytes());
+            }
             0
         }
         Err(cause) => report(alloc, cause, explanation, err),

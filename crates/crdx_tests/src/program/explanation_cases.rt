@@ -358,6 +358,100 @@ V01 "/properties/b" missing type
     ),
 ];
 
+// Listings, most of them empty: what is said below `crdx: end`.
+static LISTINGS: [(&str, &str, &str, &str, &str, &str, u8); 10] = [
+    (
+        "a required field without a value",
+        "crdx sample crd.json v1 --why",
+        r#"{"type":"object","required":["s"],"properties":{"s":{"type":"object","required":["a","b"],"properties":{"a":{"type":"boolean"},"b":{"type":"string"},"c":{"type":"integer"}}}}}"#,
+        "",
+        "",
+        "crdx: end\n    found no value of at most 127 nodes for \"/s/b\", which has to be there\n",
+        0,
+    ),
+    (
+        "a field with a default, whose value is not in the pools",
+        "crdx sample crd.json v1 --why",
+        r#"{"type":"object","properties":{"n":{"type":"integer","default":7},"z":{"type":"string"}}}"#,
+        "",
+        "",
+        "crdx: end\n    found no value of at most 127 nodes for \"/n\", which has to be there\n",
+        0,
+    ),
+    (
+        "a present field without a value",
+        "crdx sample crd.json v1 --pools pools.json --why",
+        r#"{"type":"object","properties":{"a/b":{"type":"string"}}}"#,
+        r#"{"present":["/a~1b"]}"#,
+        "",
+        "crdx: end\n    found no value of at most 127 nodes for \"/a~1b\", which has to be there\n",
+        0,
+    ),
+    (
+        "a field that is there and may have no value",
+        "crdx sample crd.json v1 --pools pools.json --why",
+        r#"{"type":"object","required":["a"],"properties":{"a":{"type":"boolean"}}}"#,
+        r#"{"fixed":{"/a":[]}}"#,
+        "",
+        "crdx: end\n    found no value of at most 127 nodes for \"/a\", which has to be there\n",
+        0,
+    ),
+    (
+        "a list that has to have items, which have no value",
+        "crdx sample crd.json v1 --why",
+        r#"{"type":"object","required":["l"],"properties":{"l":{"type":"array","minItems":1,"items":{"type":"string"}}}}"#,
+        "",
+        "",
+        "crdx: end\n    found no value of at most 127 nodes for \"/l\", which has to be there\n",
+        0,
+    ),
+    (
+        "a root that needs more fields than have a value",
+        "crdx sample crd.json v1 --why",
+        r#"{"type":"object","anyOf":[{"required":["a"]}],"properties":{"a":{"type":"string"}}}"#,
+        "",
+        "",
+        "crdx: end\n    found no sample of at most 127 nodes\n",
+        0,
+    ),
+    (
+        "a limit below the fewest nodes",
+        "crdx sample crd.json v1 --limit 3 --why",
+        r#"{"type":"object","required":["s"],"properties":{"s":{"type":"object","required":["a","b"],"properties":{"a":{"type":"boolean"},"b":{"type":"boolean"}}}}}"#,
+        "",
+        "",
+        "crdx: end\n    found a least sample of 4 nodes; allowed are 3 (--limit)\n",
+        0,
+    ),
+    (
+        "the same without --why",
+        "crdx sample crd.json v1 --limit 3",
+        r#"{"type":"object","required":["s"],"properties":{"s":{"type":"object","required":["a","b"],"properties":{"a":{"type":"boolean"},"b":{"type":"boolean"}}}}}"#,
+        "",
+        "",
+        "crdx: end\n",
+        0,
+    ),
+    (
+        "nothing after the last sample",
+        r#"crdx sample crd.json v1 --pools pools.json --limit 3 --why --after {"spec":{"a":1}}"#,
+        SPEC,
+        ZERO_AND_ONE,
+        "",
+        "crdx: end\n",
+        0,
+    ),
+    (
+        "words of 128 bits",
+        "crdx sample crd.json v1 --limit 64 --why",
+        r#"{"type":"object","required":["a"],"properties":{"a":{"type":"string"}}}"#,
+        "",
+        "",
+        "crdx: end\n    found no value of at most 127 nodes for \"/a\", which has to be there\n",
+        0,
+    ),
+];
+
 #[test]
 fn documents(rt: HostRuntime) -> Result<(), Fail> {
     Ok(all_runs(&rt, rt.alloc(), &DOCUMENTS)?)
@@ -366,4 +460,9 @@ fn documents(rt: HostRuntime) -> Result<(), Fail> {
 #[test]
 fn schemas(rt: HostRuntime) -> Result<(), Fail> {
     Ok(all_runs_by_schema(&rt, rt.alloc(), &SCHEMAS)?)
+}
+
+#[test]
+fn listings(rt: HostRuntime) -> Result<(), Fail> {
+    Ok(all_runs_by_schema(&rt, rt.alloc(), &LISTINGS)?)
 }
