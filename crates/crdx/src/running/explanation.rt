@@ -8,6 +8,7 @@ mod pools;
 mod samples;
 mod values;
 
+use crate::running::causes::Cause;
 use crate::running::explanation::definitions::definition_text;
 use crate::running::explanation::documents::{after_text, document_text};
 use crate::running::explanation::fields::field_text;
@@ -15,6 +16,7 @@ use crate::running::explanation::objects::unstored_text;
 use crate::running::explanation::pools::{path_text, pools_text};
 use crate::running::explanation::samples::no_sample_text;
 use crate::running::lines::all_lines;
+use crate::walk::Walked;
 use jtree::Tree;
 use plan::{PFault, Plan, PoolLimits, Pools, SizeSet};
 use schema::{Limits, Node, RawSchema};
@@ -100,10 +102,19 @@ impl Explanation {
         }
     }
 
-    /// Why there is no sample, where a listing is empty; of any other listing nothing is said.
-    pub fn explain_end<Z: SizeSet>(&mut self, alloc: Global, plan: Plan<Z>, is_empty: bool) {
+    /// Why there is no sample, where a listing from the first one on is empty; of any other listing that did not fail nothing is said.
+    pub fn explain_end<Z: SizeSet>(
+        &mut self,
+        alloc: Global,
+        plan: Plan<Z>,
+        after: Option<&str>,
+        walked: &Result<Walked, Cause>,
+    ) {
+        let Ok(walked) = walked else {
+            return;
+        };
         self.lines = Ok(None);
-        if self.is_asked && is_empty {
+        if self.is_asked && after.is_none() && walked.lines == 0 {
             self.say(alloc, no_sample_text(alloc, plan));
         }
     }

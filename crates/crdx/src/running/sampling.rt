@@ -92,10 +92,9 @@ fn sample_with<Z: SizeSet, I: Inputs, W: Sink>(
     }) arguments.now) }
 {
     let mut sample_inputs = sample_inputs::<Z, I>(alloc, arguments, inputs, explanation)?;
-    let walked = write_samples(alloc, arguments, &mut sample_inputs, out)?;
-    let is_empty = walked.lines == 0 && sample_inputs.after.is_none();
-    explanation.explain_end(alloc, sample_inputs.plan, is_empty);
-    Ok(walked)
+    let walked = write_samples(alloc, arguments, &mut sample_inputs, out);
+    explanation.explain_end(alloc, sample_inputs.plan, arguments.after, &walked);
+    walked
 }
 
 /// Writes the samples that are asked for past the tree to go on from, and flushes.
