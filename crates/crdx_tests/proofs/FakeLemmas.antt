@@ -1,6 +1,10 @@
 -- Why one of two documents that are at hand under every name is none.
-use Rattle.std.proofs.Common.{ℕ, List, Option, inl, inr}
-use Rattle.std.specs.Prelude.{◌⊎◌}
+use Rattle.std.proofs.Common.{◌⊎◌, ◌<◌, ◌+◌, ℕ, List, [], ◌∷◌, length, Option, Some, None, inl, inr, arith}
+use Rattle.std.proofs.Math.ListN.{replicate}
+use Rattle.std.proofs.lemmas.List.{length-replicate}
+use Rattle.jtree.specs.Lines.{TakesLine, HasLongLine}
+use Rattle.jtree.specs.Reads.{most_bytes}
+use Rattle.crdx_tests.specs.ComingLines.{AreComing, some_lines}
 use Rattle.jtree.specs.declared.fault.JFault.TheVariants.{NotAnInteger, NoMemory, NotJson, TooLong, ReadFailed}
 use Rattle.crdx.specs.Program.InputFault.{IsReading, IsFaultOf, IsInputFault}
 use Rattle.crdx.specs.declared.inputs.InFault.{InFault}
@@ -22,3 +26,17 @@ module _ (first second : List ℕ) (name : Option (List ℕ)) where
   fault_of_second (Document TooLong) h = inr h
   fault_of_second (Document NoMemory) h = tt
   fault_of_second (Document ReadFailed) h = absurd h
+
+-- ---- lines
+
+pub taken_line : (old new : Option (List ℕ)) (line : List ℕ) → TakesLine old new line → (lines : List (List ℕ)) → AreComing new lines → AreComing old (line ∷ lines)
+taken_line None new line takes lines are = tt
+taken_line (Some bytes) None line takes lines are = absurd takes
+taken_line (Some bytes) (Some rest) line takes lines are = (rest, takes, are)
+
+long_text : (n : ℕ) → (line : List ℕ) × (n < length line)
+long_text n = (replicate {A = ℕ} (n + 1) 0, omega (arith, length-replicate {A = ℕ} (n + 1) 0))
+
+pub long_line : (known : Option (List ℕ)) → HasLongLine known → (line : List ℕ) × (lines : List (List ℕ)) × AreComing known (line ∷ lines) × (most_bytes < length line)
+long_line None long = let text = long_text most_bytes in (text.0, [], tt, text.1)
+long_line (Some bytes) (line, rest, first, long) = let later = some_lines rest in (line, later.0, (rest, first, later.1), long)

@@ -26,6 +26,8 @@
 //! | `enumerate_tests/wide_cases` | plans over words of 128 bits |
 //! | `program/argument_cases` | the arguments, mistakes in them, and help |
 //! | `program/check_cases`, `validate_cases`, `prune_cases`, `sample_cases` | what each command prints |
+//! | `program/all_cases` | `sample --all`: all lines, past 10,000 too, flushes, and sinks that fail |
+//! | `program/line_cases` | `validate`, `prune`, `default` and `leaves` of objects on lines |
 //! | `program/why_cases` | the reasons that `check --why` prints |
 //! | `program/limit_cases` | `sample` with limits up to 127 |
 //! | `program/path_cases`, `bad_path_cases` | `sample` with values listed for the paths of fields, and paths that are refused |

@@ -1,3 +1,4 @@
+mod all_cases;
 mod argument_cases;
 mod bad_path_cases;
 mod broken_sink_cases;
@@ -11,6 +12,7 @@ mod input_cases;
 mod large_cases;
 mod leaf_cases;
 mod limit_cases;
+mod line_cases;
 mod path_cases;
 mod presence_cases;
 mod present_path_cases;

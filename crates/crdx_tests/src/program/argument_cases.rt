@@ -13,8 +13,8 @@ use std::process::Abort;
 use std::test::Fail;
 
 // A name, a command line, and what it asks for: the definition, the version, and the object, or the pools, the sample to go on
-// from, the name, the limit and the count. What is read of the standard input is (input), and - is nothing.
-static REQUESTS: [(&str, &str, &str); 28] = [
+// from, the name, the limit and the count, or all. What is read of the standard input is (input), and - is nothing.
+static REQUESTS: [(&str, &str, &str); 33] = [
     (
         "a sample",
         "crdx sample c.json v1",
@@ -122,6 +122,21 @@ static REQUESTS: [(&str, &str, &str); 28] = [
         "leaves c.json v1 o.json",
     ),
     (
+        "objects on lines, strictly",
+        "crdx validate c.json v1 o.jsonl --lines --strict",
+        "lines: validate strictly c.json v1 o.jsonl",
+    ),
+    (
+        "the defaults of objects on the lines of the standard input",
+        "crdx default --lines --why c.json v1",
+        "lines: default c.json v1 with reasons (input)",
+    ),
+    (
+        "the leaves of objects on the lines of the standard input, of a definition of real size",
+        "crdx leaves c.json v1 - --large --lines",
+        "lines: leaves c.json v1 large (input)",
+    ),
+    (
         "all fields",
         "crdx explain c.json v1",
         "explain c.json v1 -",
@@ -151,12 +166,22 @@ static REQUESTS: [(&str, &str, &str); 28] = [
         "crdx sample c.json v1 --name w --after {\"a\":0}",
         "sample c.json v1 - {\"a\":0} w 8 100",
     ),
+    (
+        "all samples",
+        "crdx sample c.json v1 --all --limit 3",
+        "sample c.json v1 - - - 3 all",
+    ),
+    (
+        "all samples past one, with a name",
+        "crdx sample --all c.json v1 --name w --after {}",
+        "sample c.json v1 - {} w 8 all",
+    ),
 ];
 
 const MISSING: &str = "error: the following required arguments were not provided:\n";
 
 // A name, a command line, and the first line of standard error. The status is 2.
-static MISTAKES: [(&str, &str, &str); 27] = [
+static MISTAKES: [(&str, &str, &str); 35] = [
     (
         "no command",
         "crdx",
@@ -263,6 +288,46 @@ static MISTAKES: [(&str, &str, &str); 27] = [
         "a limit that is no number",
         "crdx sample crd.json v1 --limit x",
         "error: invalid value 'x' for '--limit <N>': invalid digit found in string\n",
+    ),
+    (
+        "all samples and a number of them",
+        "crdx sample crd.json v1 --all --count 5",
+        "error: --all and --count cannot both be given\n",
+    ),
+    (
+        "the usual number of samples and all of them",
+        "crdx sample --count=100 crd.json v1 --all",
+        "error: --all and --count cannot both be given\n",
+    ),
+    (
+        "all samples twice",
+        "crdx sample crd.json v1 --all --all",
+        "error: the argument '--all' cannot be used multiple times\n",
+    ),
+    (
+        "all samples and a number that is refused",
+        "crdx sample crd.json v1 --all --count 0",
+        "error: invalid value '0' for '--count <N>': 0 is not in 1..=10000\n",
+    ),
+    (
+        "the standard input for a definition and for objects",
+        "crdx prune - v1 --lines",
+        "error: CRD and OBJECT cannot both be the standard input\n",
+    ),
+    (
+        "lines of a sample",
+        "crdx sample crd.json v1 --lines",
+        "error: unexpected argument '--lines' found\n",
+    ),
+    (
+        "lines twice",
+        "crdx leaves crd.json v1 --lines --lines",
+        "error: the argument '--lines' cannot be used multiple times\n",
+    ),
+    (
+        "all of a check",
+        "crdx check crd.json v1 --all",
+        "error: unexpected argument '--all' found\n",
     ),
 ];
 
@@ -401,6 +466,19 @@ fn common_text(alloc: Global, common: &CommonArguments<'_>) -> Result<String, Al
     format!(in alloc; "{crd} {version}{options}")
 }
 
+fn object_text(alloc: Global, arguments: &ObjectArguments<'_>) -> Result<String, AllocError> {
+    let command = match arguments.command {
+        ObjectCommand::Validate { strict: false } => "validate",
+        ObjectCommand::Validate { strict: true } => "validate strictly",
+        ObjectCommand::Prune => "prune",
+        ObjectCommand::Default => "default",
+        ObjectCommand::Leaves => "leaves",
+    };
+    let common = common_text(alloc, &arguments.common)?;
+    let object = input_text(arguments.object);
+    format!(in alloc; "{command} {common} {object}")
+}
+
 fn said(alloc: Global, request: &Request<'_>) -> Result<String, AllocError> {
     match request {
         Request::Sample(
@@ -411,6 +489,7 @@ fn said(alloc: Global, request: &Request<'_>) -> Result<String, AllocError> {
                 name,
                 limit,
                 count,
+                all,
             },
         ) => {
             let common = common_text(alloc, common)?;
@@ -420,6 +499,9 @@ fn said(alloc: Global, request: &Request<'_>) -> Result<String, AllocError> {
             };
             let after = after.unwrap_or("-");
             let name = name.unwrap_or("-");
+            if *all {
+                return format!(in alloc; "sample {common} {pools} {after} {name} {limit} all");
+            }
             format!(in alloc; "sample {common} {pools} {after} {name} {limit} {count}")
         }
         Request::Check(common) => {
@@ -436,23 +518,10 @@ fn said(alloc: Global, request: &Request<'_>) -> Result<String, AllocError> {
             let path = path.unwrap_or("-");
             format!(in alloc; "explain {common} {path}")
         }
-        Request::Object(
-            ObjectArguments {
-                command,
-                common,
-                object,
-            },
-        ) => {
-            let command = match command {
-                ObjectCommand::Validate { strict: false } => "validate",
-                ObjectCommand::Validate { strict: true } => "validate strictly",
-                ObjectCommand::Prune => "prune",
-                ObjectCommand::Default => "default",
-                ObjectCommand::Leaves => "leaves",
-            };
-            let common = common_text(alloc, common)?;
-            let object = input_text(*object);
-            format!(in alloc; "{command} {common} {object}")
+        Request::Object(arguments) => object_text(alloc, arguments),
+        Request::ObjectLines(arguments) => {
+            let text = object_text(alloc, arguments)?;
+            format!(in alloc; "lines: {text}")
         }
         _ => String::from_str(alloc, "another request"),
     }

@@ -32,10 +32,18 @@ F01 "/integers/1" kind
 "#;
 
 // A name, a command line, a definition, standard output, standard error and the status.
-static RUNS: [(&str, &str, &str, &str, &str, u8); 7] = [
+static RUNS: [(&str, &str, &str, &str, &str, u8); 8] = [
     (
         "a sample",
         "crdx sample crd.json v1 --pools pools.json --limit 4",
+        WIDGET,
+        TEN_LINES,
+        "crdx: end\n",
+        0,
+    ),
+    (
+        "all samples",
+        "crdx sample crd.json v1 --pools pools.json --limit 4 --all",
         WIDGET,
         TEN_LINES,
         "crdx: end\n",

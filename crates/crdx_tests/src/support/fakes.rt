@@ -1,11 +1,16 @@
 //! Sinks and sources that can fail, and documents of memory.
-ghost use Rattle.std.specs.Prelude.{Some, Ok, ◌≡◌, ◌⊎◌, IfOk, IfErr};
+ghost use Rattle.std.specs.Prelude.{Some, Ok, Err, ◌≡◌, ◌⊎◌, ◌<◌, ◌∷◌, [], ℕ, List, true, false, length, IfOk, IfErr, IfSome};
+ghost use Rattle.jtree.specs.Reads.{most_bytes};
+ghost use Rattle.jtree.specs.declared.fault.JFault.TheVariants.{TooLong};
+ghost use Rattle.jtree.specs.Lines.{AreLines};
+ghost use Rattle.crdx_tests.specs.ComingLines.{AreComing, some_of_feed};
 ghost use Rattle.jtree.specs.View.{data_of};
 ghost use Rattle.crdx.specs.Program.InputFault.{IsReading, IsFaultOf, failures_after_read};
 ghost use Rattle.crdx.specs.Output.Sink.{failures_after};
 
 use crdx::inputs::{InFault, Inputs};
 use crdx::sink::{Sink, SinkFault};
+use jtree::lines::{LineFeed, LineSource};
 use jtree::source::{Source, SourceFault};
 use jtree::{JFault, Tree};
 use std::alloc::Global;
@@ -20,6 +25,8 @@ pub struct FailingSink {
     pub answers_zero: bool,
     pub flush_fails: bool,
     pub failures: u64,
+    /// How often it was flushed.
+    pub flushes: u64,
 }
 
 impl FailingSink {
@@ -31,6 +38,7 @@ impl FailingSink {
             answers_zero,
             flush_fails: false,
             failures: 0,
+            flushes: 0,
         }
     }
 
@@ -87,6 +95,7 @@ impl Sink for FailingSink {
     }
 
     fn flush(&mut self) -> Result<(), SinkFault> {
+        self.flushes = self.flushes.saturating_add(1);
         if self.flush_fails {
             self.failures = self.failures.saturating_add(1);
             return Err(SinkFault::Failed);
@@ -105,7 +114,9 @@ pub struct FailingSource<'a> {
 }
 
 impl<'a> FailingSource<'a> {
-    pub fn new(bytes: &'a [u8], step: usize, left: usize) -> FailingSource<'a> {
+    pub fn new(bytes: &'a [u8], step: usize, left: usize) -> FailingSource<'a>
+        ensures { result.bytes.now ≡ bytes.entry.now }
+    {
         FailingSource {
             bytes,
             step,
@@ -157,6 +168,8 @@ pub struct FakeInputs<'a> {
     pub reads: Reads,
     pub failures: u64,
     pub refused: &'a [u8],
+    /// The lines of the input that was opened last.
+    pub feed: Option<LineFeed<FailingSource<'a>>>,
 }
 
 impl<'a> FakeInputs<'a> {
@@ -175,6 +188,7 @@ impl<'a> FakeInputs<'a> {
             },
             failures: 0,
             refused: &[],
+            feed: None,
         }
     }
 
@@ -206,8 +220,31 @@ impl<'a> FakeInputs<'a> {
     }
 }
 
-impl Inputs for FakeInputs<'_> {
+/// The lines of these bytes, of which reading fails after so many.
+fn line_feed<'a>(alloc: Global, bytes: &'a [u8], left: usize) -> LineFeed<FailingSource<'a>>
+    ensures { ⟦<LineFeed<FailingSource<'a>> as LineSource>⟧.remaining result ≡ Some bytes.entry.now }
+{
+    LineFeed::new(alloc, FailingSource::new(bytes, 1, left))
+}
+
+/// The next line of these.
+fn next_of<'a>(feed: &mut LineFeed<FailingSource<'a>>, line: &mut Vec<u8>) -> Result<bool, JFault>
+    ensures line { IfOk result (λ more. more ≡ true → (ls : List (List ℕ)) → AreComing (⟦<LineFeed<FailingSource<'a>> as LineSource>⟧.remaining feed.new) ls
+        → AreComing (⟦<LineFeed<FailingSource<'a>> as LineSource>⟧.remaining feed.old) (line.new.items ∷ ls)) }
+    ensures end { IfOk result (λ more. more ≡ false → AreComing (⟦<LineFeed<FailingSource<'a>> as LineSource>⟧.remaining feed.old) []) }
+    ensures too_long { result ≡ Err TooLong → (l : List ℕ) × (ls : List (List ℕ)) × AreComing (⟦<LineFeed<FailingSource<'a>> as LineSource>⟧.remaining feed.old) (l ∷ ls) × (most_bytes < length l) }
+{
+    feed.next_line(line)
+}
+
+impl<'a> Inputs for FakeInputs<'a> {
     ghost has = { λ s name read. IsReading s.crd.now read ⊎ IsReading s.second.now read };
+
+    ghost lines = { λ s name lines. AreLines s.second.now lines };
+
+    ghost coming = { λ s lines. IfSome s.feed (λ f. AreComing (⟦<LineFeed<FailingSource<'a>> as LineSource>⟧.remaining f) lines) };
+
+    ghost some_coming = { λ s. some_of_feed (⟦<LineFeed<FailingSource<'a>> as LineSource>⟧.remaining) s.feed };
 
     ghost failures = { λ s. s.failures };
 
@@ -235,6 +272,41 @@ impl Inputs for FakeInputs<'_> {
                 self.failures = self.failures.saturating_add(1);
                 Err(InFault::Failed)
             }
+        }
+    }
+
+    fn open_lines(&mut self, name: Option<&str>) -> Result<(), InFault> {
+        match name {
+            Some("object.json") => {
+                self.reads.object = self.reads.object.saturating_add(1);
+                self.feed = Some(line_feed(self.alloc, self.second, self.second_left));
+                Ok(())
+            }
+            None => {
+                self.reads.other = self.reads.other.saturating_add(1);
+                self.feed = Some(line_feed(self.alloc, self.second, self.second_left));
+                Ok(())
+            }
+            Some(_) => {
+                self.reads.other = self.reads.other.saturating_add(1);
+                self.failures = self.failures.saturating_add(1);
+                Err(InFault::Failed)
+            }
+        }
+    }
+
+    fn next_line(&mut self, line: &mut Vec<u8>) -> Result<bool, InFault> {
+        let Some(feed) = &mut self.feed else {
+            return Ok(false);
+        };
+        match next_of(feed, line) {
+            Ok(more) => Ok(more),
+            Err(JFault::ReadFailed) => {
+                self.failures = self.failures.saturating_add(1);
+                Err(InFault::Failed)
+            }
+            Err(JFault::TooLong) => Err(InFault::Document(JFault::TooLong)),
+            Err(_) => Err(InFault::Document(JFault::NoMemory)),
         }
     }
 

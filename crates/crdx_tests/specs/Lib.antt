@@ -1,0 +1,2 @@
+-- Which lines the fake inputs have.
+pub mod ComingLines
