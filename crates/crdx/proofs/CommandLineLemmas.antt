@@ -22,7 +22,7 @@ use Rattle.std.proofs.lemmas.List.Elements.{All-from_recursion}
 use Rattle.clap.proofs.WalkLemmas.{find_row, first_value-rows}
 use Rattle.crdx.specs.Program.CommandLine.{crdx_app, entered, faults, value_of, decimal_value, command_names, IsCommand, IsHelp, IsRequestOf, IsUsageErrorOrMemory, Asks}
 use Rattle.crdx.specs.declared.arguments.request.Request.{Request}
-use Rattle.crdx.specs.declared.arguments.request.Request.TheVariants.{Check, Explain, Object, ObjectLines, SuggestPools, Sample, Help, UsageError, NoMemory}
+use Rattle.crdx.specs.declared.arguments.request.Request.TheVariants.{Check, Explain, Object, ObjectLines, SuggestPools, Sample, Cover, Help, UsageError, NoMemory}
 
 -- the command that was met has this name and these rows
 pub met_as : {Z : Type 0} (s : Option (Box SubCommand Z)) (name : Text) (rows : List Row) → option_map (λ b. (out-SubCommand (box_value b)).name.now) s ≡ Some name
@@ -33,7 +33,7 @@ met_as (Some b) name rows named listed = cc
 -- no command was met
 pub none_met : {Z : Type 0} (s : Option (Box SubCommand Z)) (o : Request) → option_map (λ b. (out-SubCommand (box_value b)).name.now) s ≡ None → IsUsageErrorOrMemory o → IsCommand (subcommand_rows s) o
 none_met None (UsageError text) none is = inl (All-from_recursion (λ name. (rows : List Row) → ◌≢◌ {A = Option (Text × List Row)} None (Some (name, rows))) command_names
-    (λ rows e. cc, (λ rows e. cc, (λ rows e. cc, (λ rows e. cc, (λ rows e. cc, (λ rows e. cc, (λ rows e. cc, (λ rows e. cc, tt)))))))))
+    (λ rows e. cc, (λ rows e. cc, (λ rows e. cc, (λ rows e. cc, (λ rows e. cc, (λ rows e. cc, (λ rows e. cc, (λ rows e. cc, (λ rows e. cc, tt))))))))))
 none_met None NoMemory none is = tt
 none_met None _ none is = absurd is
 none_met (Some b) o none is = cc
@@ -80,6 +80,7 @@ asks_command arguments named (Object w) same none is = (none, subst (λ n. IsCom
 asks_command arguments named (ObjectLines w) same none is = (none, subst (λ n. IsCommand n (ObjectLines w)) same is)
 asks_command arguments named (SuggestPools w) same none is = (none, subst (λ n. IsCommand n (SuggestPools w)) same is)
 asks_command arguments named (Sample w) same none is = (none, subst (λ n. IsCommand n (Sample w)) same is)
+asks_command arguments named (Cover w) same none is = (none, subst (λ n. IsCommand n (Cover w)) same is)
 asks_command arguments named (Help text) same none is = absurd is
 asks_command arguments named (UsageError text) same none is = inr (none, subst (λ n. IsCommand n (UsageError text)) same is)
 asks_command arguments named NoMemory same none is = tt
@@ -95,6 +96,7 @@ asks_refused arguments e (Object w) has is = absurd is
 asks_refused arguments e (ObjectLines w) has is = absurd is
 asks_refused arguments e (SuggestPools w) has is = absurd is
 asks_refused arguments e (Sample w) has is = absurd is
+asks_refused arguments e (Cover w) has is = absurd is
 asks_refused arguments e (Help text) (inl memory) is = absurd (no_help (kind_of e) memory is)
 asks_refused arguments e (Help text) (inr among) is = (kind_of e, among, is)
 asks_refused arguments e (UsageError text) (inl memory) is = absurd (is.0 memory)

@@ -14,7 +14,7 @@ use Rattle.schema.specs.Document.ReadFault.{IsReadFault}
 use Rattle.schema.specs.declared.fault.SFault.{SFault}
 use Rattle.schema.specs.declared.fault.SFault.TheVariants as s
 use Rattle.schema.specs.declared.violation.Violation.{Violation}
-use Rattle.crdx.specs.Program.RunResult.{Effects, WritesNothing, IsRunResult, answered, refused, read_failed, write_failed, no_memory, IsInputRefused, IsAnswer, fields, object, samples, no_sample, HasBreaks, IsCutByMemory, IsCutByWrite}
+use Rattle.crdx.specs.Program.RunResult.{Effects, WritesNothing, IsRunResult, answered, refused, read_failed, write_failed, no_memory, IsInputRefused, IsAnswer, fields, object, samples, no_sample, no_cover, HasBreaks, IsCutByMemory, IsCutByWrite}
 use Rattle.crdx.specs.Output.Line.{lines}
 use Rattle.crdx.specs.Output.PartialOutput.{IsPartialOutput}
 use Rattle.crdx.specs.Output.Walk.{WritesPage}
@@ -42,7 +42,7 @@ use Rattle.crdx.specs.declared.arguments.request.ExplainArguments.{ExplainArgume
 use Rattle.crdx.specs.declared.arguments.request.ObjectArguments.{ObjectArguments}
 use Rattle.crdx.specs.declared.arguments.request.SampleArguments.{SampleArguments}
 use Rattle.crdx.specs.declared.arguments.request.Request.{Request}
-use Rattle.crdx.specs.declared.arguments.request.Request.TheVariants.{Explain, Object, Sample}
+use Rattle.crdx.specs.declared.arguments.request.Request.TheVariants.{Explain, Object, Sample, Cover}
 use Rattle.crdx.specs.declared.walk.walking.Walked.{Walked}
 use Rattle.crdx.specs.declared.walk.fault.WFault.{WFault}
 use Rattle.crdx.specs.declared.walk.fault.WFault.TheVariants as w
@@ -293,3 +293,17 @@ module _ (run : Effects) (arguments : SampleArguments) where
 
 pub failed_once : (before now : ℕ) → now ≡ one_more before → HasFailed before now
 failed_once before now is = grind (arith, nat_tests)
+
+-- why no samples are listed is why nothing is covered
+pub cover_input : (has : Documents) (unread read : ℕ) (arguments : SampleArguments) (cause : Cause) → IsInputCause has unread read (Sample arguments) cause → IsInputCause has unread read (Cover arguments) cause
+cover_input has unread read arguments (Read i) why = why
+cover_input has unread read arguments (Document i fault) why = why
+cover_input has unread read arguments (Crd fault) why = why
+cover_input has unread read arguments (PoolsCause fault) why = why
+cover_input has unread read arguments (Place i c p) why = why
+cover_input has unread read arguments (Violations vs) why = no_cover arguments why
+cover_input has unread read arguments (NoField fault) why = no_cover arguments why
+cover_input has unread read arguments NotStored why = no_cover arguments why
+cover_input has unread read arguments NotASample why = why
+cover_input has unread read arguments (Write n) why = why
+cover_input has unread read arguments NoMemory why = why

@@ -8,6 +8,7 @@ ghost use Rattle.crdx.specs.declared.arguments.request.Request.{Request};
 mod answer;
 mod causes;
 mod checking;
+mod covering;
 mod documents;
 mod explaining;
 mod explanation;
@@ -23,11 +24,14 @@ use crate::inputs::Inputs;
 use crate::running::answer::Answer;
 use crate::running::causes::Cause;
 use crate::running::checking::check;
+use crate::running::covering::cover_paths;
 use crate::running::explaining::explain;
 use crate::running::explanation::Explanation;
 use crate::running::line_answers::judge_lines;
 use crate::running::objects::judge_object;
-use crate::running::reporting::{finish, finish_lines, finish_samples, report_alone, write_answer};
+use crate::running::reporting::{
+    finish, finish_cover, finish_lines, finish_samples, report_alone, write_answer,
+};
 use crate::running::sampling::sample;
 use crate::running::suggesting::suggest_pools;
 use crate::sink::{Sink, put_all};
@@ -84,6 +88,12 @@ pub fn run<I: Inputs, W: Sink, E: Sink>(
             let mut explanation = Explanation::new(arguments.common.why);
             let walked = sample(alloc, &arguments, inputs, &mut explanation, out);
             finish_samples(alloc, &walked, &explanation, err)
+        }
+        Request::Cover(arguments) => {
+            let mut explanation = Explanation::new(arguments.common.why);
+            let mut said = String::new(alloc);
+            let answer = cover_paths(alloc, &arguments, inputs, &mut explanation, &mut said);
+            finish_cover(alloc, &answer, &said, &explanation, out, err)
         }
         Request::Help(text) => write_answer(alloc, &Answer { status: 0, text }, out, err),
         Request::UsageError(text) => {

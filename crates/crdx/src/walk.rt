@@ -7,4 +7,5 @@ mod walking;
 
 pub use fault::WFault;
 pub use line::Envelope;
+pub(crate) use line::with_envelope;
 pub use walking::{Walked, walk, walk_to_end};

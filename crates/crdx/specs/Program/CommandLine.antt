@@ -19,7 +19,7 @@ use Rattle.crdx.specs.declared.arguments.request.ObjectCommand.{ObjectCommand}
 use Rattle.crdx.specs.declared.arguments.request.ObjectCommand.TheVariants.{Validate, Prune, Default, Leaves}
 use Rattle.crdx.specs.declared.arguments.request.SampleArguments.{SampleArguments}
 use Rattle.crdx.specs.declared.arguments.request.Request.{Request}
-use Rattle.crdx.specs.declared.arguments.request.Request.TheVariants.{Check, Explain, Object, ObjectLines, SuggestPools, Sample, Help, UsageError, NoMemory}
+use Rattle.crdx.specs.declared.arguments.request.Request.TheVariants.{Check, Explain, Object, ObjectLines, SuggestPools, Sample, Cover, Help, UsageError, NoMemory}
 
 -- a word that has to be there
 abbrev pub required_rule : Text → Rule
@@ -54,13 +54,16 @@ abbrev pub sample_app : App
 sample_app = with_rule (with_rule (with_rule (with_rule (with_rule (with_rule (crd_app (codes "sample")) (option_rule (codes "pools")))
     (number_rule (codes "limit") 127 (codes "8"))) (number_rule (codes "count") 10000 (codes "100"))) (flag_rule (codes "all"))) (option_rule (codes "after"))) (option_rule (codes "name"))
 
+abbrev pub cover_app : App
+cover_app = with_rule (with_rule (with_rule (crd_app (codes "cover")) (option_rule (codes "pools"))) (number_rule (codes "limit") 127 (codes "127"))) (option_rule (codes "name"))
+
 abbrev pub top_app : App
 top_app = on_top (λ s. record s { has_version = true; subcommand_required = true }) (new_app (codes "crdx"))
 
 abbrev pub crdx_app : App
-crdx_app = with_subcommand (with_subcommand (with_subcommand (with_subcommand (with_subcommand (with_subcommand (with_subcommand (with_subcommand top_app
+crdx_app = with_subcommand (with_subcommand (with_subcommand (with_subcommand (with_subcommand (with_subcommand (with_subcommand (with_subcommand (with_subcommand top_app
     (crd_app (codes "check")).top) explain_app.top) validate_app.top) (object_app (codes "prune")).top) (object_app (codes "default")).top)
-    (object_app (codes "leaves")).top) (crd_app (codes "pools")).top) sample_app.top
+    (object_app (codes "leaves")).top) (crd_app (codes "pools")).top) sample_app.top) cover_app.top
 
 -- what `clap` refuses of the arguments after the program's name, and the command that they name with the value of each of its arguments
 unfoldable pub faults : List Text → Kinds
@@ -127,6 +130,12 @@ AreSampleArguments rows arguments = AreCommonArguments rows arguments.common × 
     × IsNumberOf (codes "limit") 127 rows arguments.limit × IsNumberOf (codes "count") 10000 rows arguments.count
     × IsFlagOf (codes "all") rows arguments.all
 
+-- there is nothing to go on from
+abbrev pub AreCoverArguments : List Row → SampleArguments → Type 0
+AreCoverArguments rows arguments = AreCommonArguments rows arguments.common × (option_map file_name arguments.pools ≡ pools_input rows)
+    × (option_map (λ s. s.now) arguments.after ≡ None) × (option_map (λ s. s.now) arguments.name ≡ first_of (codes "name") rows)
+    × IsNumberOf (codes "limit") 127 rows arguments.limit
+
 abbrev pub object_command_name : ObjectCommand → Text
 object_command_name (Validate strict) = codes "validate"
 object_command_name Prune = codes "prune"
@@ -134,12 +143,12 @@ object_command_name Default = codes "default"
 object_command_name Leaves = codes "leaves"
 
 abbrev pub command_names : List Text
-command_names = codes "check" ∷ codes "explain" ∷ codes "validate" ∷ codes "prune" ∷ codes "default" ∷ codes "leaves" ∷ codes "pools" ∷ codes "sample" ∷ []
+command_names = codes "check" ∷ codes "explain" ∷ codes "validate" ∷ codes "prune" ∷ codes "default" ∷ codes "leaves" ∷ codes "pools" ∷ codes "sample" ∷ codes "cover" ∷ []
 
 -- the command that was named reads the standard input for two of its inputs
 abbrev pub ReadsInputTwice : Option (Text × List Row) → Type 0
 ReadsInputTwice named = (rows : List Row) × (((command : ObjectCommand) × (named ≡ Some (object_command_name command, rows)) × IsReadTwice rows (Some (object_input rows)))
-    ⊎ ((named ≡ Some (codes "sample", rows)) × IsReadTwice rows (pools_input rows)))
+    ⊎ (((named ≡ Some (codes "sample", rows)) × IsReadTwice rows (pools_input rows)) ⊎ ((named ≡ Some (codes "cover", rows)) × IsReadTwice rows (pools_input rows))))
 
 -- all samples are asked for, and a number of them too
 abbrev pub AsksAllAndSome : Option (Text × List Row) → Type 0
@@ -156,6 +165,7 @@ IsCommand named (ObjectLines arguments) = (rows : List Row) × (named ≡ Some (
 IsCommand named (SuggestPools arguments) = (rows : List Row) × (named ≡ Some (codes "pools", rows)) × AreCommonArguments rows arguments
 IsCommand named (Sample arguments) = (rows : List Row) × (named ≡ Some (codes "sample", rows)) × AreSampleArguments rows arguments × (IsReadTwice rows (pools_input rows) → ⊥)
     × (arguments.all ≡ true → IsGiven (codes "count") rows → ⊥)
+IsCommand named (Cover arguments) = (rows : List Row) × (named ≡ Some (codes "cover", rows)) × AreCoverArguments rows arguments × (IsReadTwice rows (pools_input rows) → ⊥)
 IsCommand named (Help text) = ⊥
 IsCommand named (UsageError text) = All (λ name. (rows : List Row) → named ≢ Some (name, rows)) command_names ⊎ (ReadsInputTwice named ⊎ AsksAllAndSome named)
 IsCommand named NoMemory = Unit {0}
@@ -184,6 +194,7 @@ Asks arguments (Object w) = (faults arguments ≡ []) × IsCommand (entered argu
 Asks arguments (ObjectLines w) = (faults arguments ≡ []) × IsCommand (entered arguments) (ObjectLines w)
 Asks arguments (SuggestPools w) = (faults arguments ≡ []) × IsCommand (entered arguments) (SuggestPools w)
 Asks arguments (Sample w) = (faults arguments ≡ []) × IsCommand (entered arguments) (Sample w)
+Asks arguments (Cover w) = (faults arguments ≡ []) × IsCommand (entered arguments) (Cover w)
 Asks arguments (Help text) = (k : ErrorKind) × IsAmong k (faults arguments) × IsHelp k
 Asks arguments (UsageError text) = ((k : ErrorKind) × IsAmong k (faults arguments) × (IsHelp k → ⊥)) ⊎ ((faults arguments ≡ []) × IsCommand (entered arguments) (UsageError text))
 Asks arguments NoMemory = Unit {0}

@@ -25,13 +25,16 @@ use Rattle.plan.specs.Pools.Pools.{Pools}
 use Rattle.plan.specs.Pools.PlanFault.{HasGoodPaths, IsFirstBadPath}
 use Rattle.plan.specs.Samples.Question.{Question}
 use Rattle.enumerate.specs.Page.{IsPage, IsSampleOf}
+use Rattle.explain.specs.Fields.Declared.{AreFields}
+use Rattle.explain.specs.Fields.Field.{Field}
+use Rattle.cover.specs.Cover.{Covered, AreCovered}
 use Rattle.crdx.specs.declared.walk.line.Envelope.{Envelope}
 use Rattle.crdx.specs.declared.arguments.request.CommonArguments.{CommonArguments}
 use Rattle.crdx.specs.declared.arguments.request.ExplainArguments.{ExplainArguments}
 use Rattle.crdx.specs.declared.arguments.request.ObjectArguments.{ObjectArguments}
 use Rattle.crdx.specs.declared.arguments.request.SampleArguments.{SampleArguments}
 use Rattle.crdx.specs.declared.arguments.request.Request.{Request}
-use Rattle.crdx.specs.declared.arguments.request.Request.TheVariants.{Check, Explain, Object, ObjectLines, SuggestPools, Sample, Help, UsageError}
+use Rattle.crdx.specs.declared.arguments.request.Request.TheVariants.{Check, Explain, Object, ObjectLines, SuggestPools, Sample, Cover, Help, UsageError}
 
 -- these are all breaks of the schema that is asked for, and there are some
 abbrev pub HasBreaks : Documents → CommonArguments → List Break → Type 0
@@ -61,11 +64,22 @@ pub data IsAnswer (has : Documents) : Request → ℕ → List ℕ → Type 0 wh
   no_sample : (arguments : SampleArguments) (q : Question) (after : Data) (e : Option Envelope) → IsRequested has arguments q (Some after) e → (IsSampleOf q after → ⊥)
       → IsAnswer has (Sample arguments) 1 []
   no_samples : (arguments : SampleArguments) (breaks : List Break) → HasBreaks has arguments.common breaks → IsAnswer has (Sample arguments) 1 []
+  -- for each path, in the order of `explain`, the first sample in which it is there, where it is there in none of those before
+  covers : (arguments : SampleArguments) (q : Question) (after : Option Data) (e : Option Envelope) (fields : List Field) (c : Covered) → IsRequested has arguments q after e
+      → AreFields q.root fields → AreCovered q (map (λ f. f.path) fields) c → IsAnswer has (Cover arguments) 0 (lines e (map (λ l. l.object) c.lines))
+  -- nothing is covered where no samples are listed
+  no_cover : (arguments : SampleArguments) → IsAnswer has (Sample arguments) 1 [] → IsAnswer has (Cover arguments) 1 []
   help : (said : String Global) → IsAnswer has (Help said) 0 (string_bytes said)
   usage_error : (said : String Global) → IsAnswer has (UsageError said) 2 []
 
 -- an input of the request is refused: an object or pools only where the schema is taken, a path of the pools only where their
 -- document is, and the tree to go on from only where all paths are
+abbrev pub IsSamplingRefused : Documents → SampleArguments → Type 0
+IsSamplingRefused has arguments = IsCrdRefused has arguments.common
+    ⊎ ((HasAcceptedSchema has arguments.common × ArePoolsRefused has (pool_limits_of arguments.common) arguments.pools)
+    ⊎ ((N : Node) × (P : Pools) × AreRootAndPools has arguments N P
+    × (((text : List ℕ) × IsFirstBadPath N P text) ⊎ (HasGoodPaths N P × IsAfterRefused arguments.after))))
+
 abbrev pub IsInputRefused : Documents → Request → Type 0
 IsInputRefused has (Check arguments) = IsCrdRefused has arguments
 IsInputRefused has (Explain arguments) = IsCrdRefused has arguments.common
@@ -73,10 +87,8 @@ IsInputRefused has (Object arguments) = IsCrdRefused has arguments.common
     ⊎ (HasAcceptedSchema has arguments.common × IsObjectRefused has arguments)
 IsInputRefused has (ObjectLines arguments) = IsCrdRefused has arguments.common
 IsInputRefused has (SuggestPools arguments) = IsCrdRefused has arguments
-IsInputRefused has (Sample arguments) = IsCrdRefused has arguments.common
-    ⊎ ((HasAcceptedSchema has arguments.common × ArePoolsRefused has (pool_limits_of arguments.common) arguments.pools)
-    ⊎ ((N : Node) × (P : Pools) × AreRootAndPools has arguments N P
-    × (((text : List ℕ) × IsFirstBadPath N P text) ⊎ (HasGoodPaths N P × IsAfterRefused arguments.after))))
+IsInputRefused has (Sample arguments) = IsSamplingRefused has arguments
+IsInputRefused has (Cover arguments) = IsSamplingRefused has arguments
 IsInputRefused has _ = ⊥
 
 -- What a run finds outside of it and leaves there: the documents and the lines at hand before it, and, before it and after it, how often reads

@@ -331,6 +331,27 @@ The first lists ten objects, from {} to {"spec":{"a":1,"b":true}}.
 exit status."#,
 };
 
+pub(super) const COVER: CommandHelp = CommandHelp {
+    about: "Lists, for each field, the first sample that has it",
+    long_about: r#"Lists sample objects that have every field of a schema, one on each line, as
+JSON: for each path, in the order of `crdx explain`, the first sample in which
+it is there, where it is there in no sample listed before.
+
+A path is there where each name on the way is, and an item of each list and of
+each map, with the rest of the path in every item. So nothing is below a null.
+What a sample is, `crdx sample --help` says.
+
+The last line on standard error says how many paths are there in no sample of so
+few nodes, such as a text without --pools; with --why each of them is on a line
+below. `crdx pools` prints values to start with."#,
+    end: r#"Examples, at the top of the repository:
+  ./crdx cover examples/issuer/crd.json v1 \
+      --pools examples/issuer/pools.json
+
+`crdx --help` explains the rules, the codes of inputs that are refused, and the
+exit status."#,
+};
+
 pub(super) const CRD: &str = "A JSON file with a CustomResourceDefinition; - is standard input";
 
 pub(super) const CRD_VERSION: &str = "The name of one of its versions, such as v1";

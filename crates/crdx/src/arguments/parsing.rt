@@ -9,7 +9,7 @@ ghost use Rattle.clap.specs.declared.builder.command.Command.TheViews.{out-Comma
 ghost use Rattle.clap.specs.declared.error.kind.ErrorKind.TheVariants.{ArgumentConflict};
 ghost use Rattle.clap.specs.declared.parser.matches.ValueSource.TheVariants.{CommandLine};
 ghost use Rattle.crdx.specs.Program.Documents.{file_name};
-ghost use Rattle.crdx.specs.Program.CommandLine.{required_rule, option_rule, flag_rule, number_rule, top_app, crd_app, explain_app, object_app, validate_app, sample_app, crdx_app, faults, entered, input_of, crd_input, object_input, pools_input, object_command_name, IsCommand, AreCommonArguments, AreExplainArguments, HasOptions, IsFlagOf, IsGiven, AreObjectArguments, AreSampleArguments, Asks, IsRequestOf, IsUsageErrorOrMemory, IsNumberOf};
+ghost use Rattle.crdx.specs.Program.CommandLine.{required_rule, option_rule, flag_rule, number_rule, top_app, crd_app, explain_app, object_app, validate_app, sample_app, cover_app, crdx_app, faults, entered, input_of, crd_input, object_input, pools_input, object_command_name, IsCommand, AreCommonArguments, AreExplainArguments, HasOptions, IsFlagOf, IsGiven, AreObjectArguments, AreSampleArguments, AreCoverArguments, Asks, IsRequestOf, IsUsageErrorOrMemory, IsNumberOf};
 
 use crate::arguments::help;
 use crate::arguments::help::CommandHelp;
@@ -62,6 +62,7 @@ fn request_of_named<'a>(alloc: Global, name: &str, found: &ArgMatches<'a>) -> Re
         "leaves" => object_request(alloc, ObjectCommand::Leaves, found),
         "pools" => Request::SuggestPools(common_arguments(found)),
         "sample" => sample_request(alloc, found),
+        "cover" => cover_request(alloc, found),
         _ => usage_error(alloc, "error: no such command\n"),
     }
 }
@@ -108,6 +109,20 @@ fn sample_request<'a>(alloc: Global, found: &ArgMatches<'a>) -> Request<'a>
     }
 }
 
+/// The request of `cover`, which may read the standard input for one of its two inputs.
+fn cover_request<'a>(alloc: Global, found: &ArgMatches<'a>) -> Request<'a>
+    ensures { IsCommand (Some (codes "cover", rows_of (found_of found.now))) result }
+{
+    let arguments = cover_arguments(found);
+    match (arguments.common.crd, arguments.pools) {
+        (None, Some(None)) => refuse(
+            alloc,
+            "CRD and --pools cannot both be the standard input",
+        ),
+        _ => Request::Cover(arguments),
+    }
+}
+
 /// The refusal of arguments that do not go together.
 fn refuse<'a>(alloc: Global, message: &str) -> Request<'a>
     ensures { IsUsageErrorOrMemory result }
@@ -150,7 +165,8 @@ fn crdx_command<'a>(alloc: Global) -> Result<Command<'a>, AllocError>
     let command = add_command(command, leaves);
     let pools = crd_command(alloc, "pools", help::POOLS);
     let command = add_command(command, pools);
-    add_command(command, sample_command(alloc))
+    let command = add_command(command, sample_command(alloc));
+    add_command(command, cover_command(alloc))
 }
 
 /// The program's own name, version and help.
@@ -340,6 +356,39 @@ fn sample_command<'a>(alloc: Global) -> Result<Command<'a>, AllocError>
     add_argument(command, name)
 }
 
+/// The arguments that `cover` takes.
+fn cover_command<'a>(alloc: Global) -> Result<Command<'a>, AllocError>
+    ensures app { IfOk result (λ c. app_of c ≡ cover_app) }
+    ensures local { IfOk result (λ c. (out-Command c).has_globals ≡ false) }
+{
+    let command = crd_command(alloc, "cover", help::COVER);
+    let pools = text_option(
+        alloc,
+        "pools",
+        "FILE",
+        help::POOLS_OPTION,
+        help::POOLS_OPTION_LONG,
+    );
+    let command = add_argument(command, pools);
+    let command = add_argument(command, cover_limit_option(alloc));
+    let name = text_option(alloc, "name", "NAME", help::NAME, help::NAME_LONG);
+    add_argument(command, name)
+}
+
+/// The limit of `cover`, which is the greatest where none is given.
+fn cover_limit_option<'a>(alloc: Global) -> Arg<'a>
+    ensures rule { rule_of result ≡ number_rule (codes "limit") 127 (codes "127") }
+    ensures local { result.global ≡ false }
+{
+    Arg::new(alloc, "limit")
+        .long("limit")
+        .value_name("N")
+        .help(help::LIMIT)
+        .long_help(help::LIMIT_LONG)
+        .value_parser(clap::value_parser!(u32).range(1..=127))
+        .default_value("127")
+}
+
 fn limit_option<'a>(alloc: Global) -> Arg<'a>
     ensures rule { rule_of result ≡ number_rule (codes "limit") 127 (codes "8") }
     ensures local { result.global ≡ false }
@@ -407,6 +456,20 @@ fn sample_arguments<'a>(matches: &ArgMatches<'a>) -> SampleArguments<'a>
         limit: number_of(matches, "limit", USUAL_LIMIT, MOST_LIMIT),
         count: number_of(matches, "count", USUAL_COUNT, MOST_COUNT),
         all: flag_of(matches, "all"),
+    }
+}
+
+fn cover_arguments<'a>(matches: &ArgMatches<'a>) -> SampleArguments<'a>
+    ensures { AreCoverArguments (rows_of (found_of matches.now)) result }
+{
+    SampleArguments {
+        common: common_arguments(matches),
+        pools: pools_of(matches),
+        after: None,
+        name: matches.get_str("name"),
+        limit: number_of(matches, "limit", MOST_LIMIT, MOST_LIMIT),
+        count: 1,
+        all: false,
     }
 }
 

@@ -84,6 +84,8 @@ pub enum Request<'a> {
     SuggestPools(CommonArguments<'a>),
     /// To list samples.
     Sample(SampleArguments<'a>),
+    /// To cover the paths of a schema by samples; there is nothing to go on from, and the count says nothing.
+    Cover(SampleArguments<'a>),
     /// To print this text of help or of the version on standard output, with status 0.
     Help(String),
     /// Nothing that there is: this text goes to standard error, with status 2.

@@ -31,6 +31,27 @@ pub(crate) fn finish<W: Sink, E: Sink>(
     }
 }
 
+/// As `finish`, of `cover`: where the answer is written, `said` follows on `err`.
+pub(crate) fn finish_cover<W: Sink, E: Sink>(
+    alloc: Global,
+    answer: &Result<Answer, Cause>,
+    said: &str,
+    explanation: &Explanation,
+    out: &mut W,
+    err: &mut E,
+) -> u8
+    ensures written { IfOk answer.now (λ a. IsWritten a (W.taken out.old) (W.taken out.new) (W.failures out.old) (W.failures out.new) result) }
+    ensures said { IfErr answer.now (λ cause. (result ≡ status cause) ⊎ (result ≡ 5)) }
+    ensures kept { OnErr answer.now (Keeps (W.taken out.old) (W.taken out.new)) }
+    ensures unfailed { OnErr answer.now (W.failures out.new ≡ W.failures out.old) }
+{
+    let status = finish(alloc, answer, explanation, out, err);
+    if status == 0 {
+        let _ = put_all(err, said.as_bytes());
+    }
+    status
+}
+
 /// Writes an answer and answers its status; where standard output fails, the status of that.
 pub(crate) fn write_answer<W: Sink, E: Sink>(
     alloc: Global,

@@ -28,14 +28,14 @@ use std::alloc::{AllocError, Global};
 const PAGE: u32 = 64;
 
 /// The node limits below this have plans over words of 64 bits.
-const WORD: u32 = 64;
+pub(crate) const WORD: u32 = 64;
 
 /// What samples are listed from: a plan, the tree to go on from, and the envelope that they are printed with.
 #[derive(Drop)]
-struct SampleInputs<Z: SizeSet> {
-    plan: Plan<Z>,
-    after: Option<Tree>,
-    envelope: Option<Envelope>,
+pub(crate) struct SampleInputs<Z: SizeSet> {
+    pub plan: Plan<Z>,
+    pub after: Option<Tree>,
+    pub envelope: Option<Envelope>,
 }
 
 /// Lists samples. Inputs are judged in the order CustomResourceDefinition, its schema, pools, their paths, the tree to go on
@@ -153,7 +153,7 @@ fn walk_asked<Z: SizeSet, W: Sink>(
 }
 
 /// What the arguments ask for: a plan of the schema and the pools, the tree to go on from, and the envelope.
-fn sample_inputs<Z: SizeSet, I: Inputs>(
+pub(crate) fn sample_inputs<Z: SizeSet, I: Inputs>(
     alloc: Global,
     arguments: &SampleArguments<'_>,
     inputs: &mut I,

@@ -35,7 +35,11 @@ pub(crate) fn append_line(
 }
 
 /// A copy of the tree in the envelope.
-fn with_envelope(alloc: Global, tree: &Tree, envelope: &Envelope) -> Result<Tree, AllocError>
+pub(crate) fn with_envelope(
+    alloc: Global,
+    tree: &Tree,
+    envelope: &Envelope,
+) -> Result<Tree, AllocError>
     ensures { IfOk result (λ t. data_of t ≡ in_envelope envelope.now (data_of tree.now)) }
 {
     // for its contract alone: a proof learns that it is a tree

@@ -1,7 +1,7 @@
 use Rattle.std.proofs.Common.{◌≡◌, [], refl, inl, inr}
 use Rattle.std.proofs.KnownBytes.{Keeps-refl, Appends-nil}
 use Rattle.crdx.specs.Program.RunResult.{answered, help, usage_error}
-use Rattle.crdx.specs.declared.arguments.request.Request.TheVariants.{Check, Explain, Object, ObjectLines, SuggestPools, Sample, Help, UsageError, NoMemory}
+use Rattle.crdx.specs.declared.arguments.request.Request.TheVariants.{Check, Explain, Object, ObjectLines, SuggestPools, Sample, Cover, Help, UsageError, NoMemory}
 use Rattle.crdx.proofs.RunLemmas.{result_of_finished, result_of_written, result_of_sample, result_of_nothing}
 use Rattle.crdx.proofs.LineAnswerLemmas.{result_of_lines}
 use Rattle.crdx.proofs.running.run.Goals as goal
@@ -58,6 +58,15 @@ returns-in-Sample g c =
       c.in-Sample.ensures,
       result_of_sample _ arguments c.sample-walked.result c.finish_samples.result c.sample-walked.ensures.sampled c.sample-walked.ensures.unfailed c.sample-walked.ensures.cause c.finish_samples.ensures.done
           c.finish_samples.ensures.said,
+    )
+
+pub returns-in-Cover : goal.returns-in-Cover
+returns-in-Cover g c =
+    let request = Cover c.in-Cover.arguments in (
+      request,
+      c.in-Cover.ensures,
+      result_of_finished _ request c.cover_paths-answer.result c.finish_cover.result c.cover_paths-answer.ensures.answer c.cover_paths-answer.ensures.cause (λ status text is n out. (status, text, is, n, out))
+          c.finish_cover.ensures.written c.finish_cover.ensures.said c.finish_cover.ensures.kept c.finish_cover.ensures.unfailed,
     )
 
 pub returns-in-Help : goal.returns-in-Help

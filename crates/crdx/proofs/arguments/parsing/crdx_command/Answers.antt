@@ -1,5 +1,5 @@
 use Rattle.std.proofs.Common.{codes}
-use Rattle.crdx.specs.Program.CommandLine.{top_app, crd_app, explain_app, object_app, validate_app, sample_app}
+use Rattle.crdx.specs.Program.CommandLine.{top_app, crd_app, explain_app, object_app, validate_app, sample_app, cover_app}
 use Rattle.crdx.proofs.arguments.parsing.crdx_command.Goals as goal
 
 pub returns : goal.returns
@@ -11,4 +11,5 @@ returns c =
     let default = c.add_command-command-5.ensures _ (object_app (codes "default")) prune c.object_command-default.ensures.app in
     let leaves = c.add_command-command-6.ensures _ (object_app (codes "leaves")) default c.object_command-leaves.ensures.app in
     let pools = c.add_command-command-7.ensures _ (crd_app (codes "pools")) leaves c.crd_command-pools.ensures.app in
-    c.add_command.ensures _ sample_app pools c.sample_command.ensures.app
+    let sample = c.add_command-command-8.ensures _ sample_app pools c.sample_command.ensures.app in
+    c.add_command.ensures _ cover_app sample c.cover_command.ensures.app
