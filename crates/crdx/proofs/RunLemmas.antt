@@ -304,6 +304,7 @@ cover_input has unread read arguments (Place i c p) why = why
 cover_input has unread read arguments (Violations vs) why = no_cover arguments why
 cover_input has unread read arguments (NoField fault) why = no_cover arguments why
 cover_input has unread read arguments NotStored why = no_cover arguments why
+cover_input has unread read arguments (Line n fault) why = absurd why
 cover_input has unread read arguments NotASample why = why
 cover_input has unread read arguments (Write n) why = why
 cover_input has unread read arguments NoMemory why = why
