@@ -115,10 +115,7 @@ fn cover_request<'a>(alloc: Global, found: &ArgMatches<'a>) -> Request<'a>
 {
     let arguments = cover_arguments(found);
     match (arguments.common.crd, arguments.pools) {
-        (None, Some(None)) => refuse(
-            alloc,
-            "CRD and --pools cannot both be the standard input",
-        ),
+        (None, Some(None)) => refuse(alloc, "CRD and --pools cannot both be the standard input"),
         _ => Request::Cover(arguments),
     }
 }

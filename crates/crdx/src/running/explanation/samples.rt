@@ -32,14 +32,18 @@ pub(crate) fn no_sample_text<Z: SizeSet>(
 /// The same, by the plan with the greatest limit.
 fn reason_text(alloc: Global, plan: &mut Plan<u128>, limit: u32) -> Result<String, AllocError> {
     if let Some(fewest) = plan.sizes(plan.root()).next(0) {
-        return format!(in alloc; "found a least sample of {fewest} nodes; allowed are {limit} (--limit)");
+        return format!(in alloc;
+            "found a least sample of {fewest} nodes; allowed are {limit} (--limit)"
+        );
     }
     let path = missing_path(alloc, plan)?;
     if path.is_empty() {
         return format!(in alloc; "found no sample of at most {MOST_NODES} nodes");
     }
     let path = json_text(alloc, &path)?;
-    format!(in alloc; "found no value of at most {MOST_NODES} nodes for {path}, which has to be there")
+    format!(in alloc;
+        "found no value of at most {MOST_NODES} nodes for {path}, which has to be there"
+    )
 }
 
 /// The path of the first field that has to be there and has no value; empty where the root has none for another reason.
@@ -58,11 +62,7 @@ fn missing_path(alloc: Global, plan: &mut Plan<u128>) -> Result<String, AllocErr
 }
 
 /// The first slot of a node that has to be filled and has no value.
-fn missing_slot<'p>(
-    plan: &'p Plan<u128>,
-    node: PlanNode,
-    meter: &mut Meter,
-) -> Option<Slot<'p>>
+fn missing_slot<'p>(plan: &'p Plan<u128>, node: PlanNode, meter: &mut Meter) -> Option<Slot<'p>>
     requires { node < length (sites_of plan.now.pools plan.now.root) }
     ensures { IfSome result (λ slot. slot.node < node) }
 {
