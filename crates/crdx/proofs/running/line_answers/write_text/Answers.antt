@@ -1,4 +1,4 @@
-use Rattle.std.proofs.Common.{length, sym, subst, take}
+use Rattle.std.proofs.Common.{length, sym, subst}
 use Rattle.std.specs.Io.KnownBytes.{Appends}
 use Rattle.std.proofs.KnownBytes.{Appends-kept}
 use Rattle.std.proofs.Math.Seq.{take-length}
