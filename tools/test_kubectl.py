@@ -502,7 +502,7 @@ class Yaml(Runs):
 FOLDER = ROOT / "tools" / "test_kubectl"
 FAULTS = {
     "backup": (1, ['F04 "/spec/keep" minimum']),
-    "cache": (1, ['F07 "/spec/labels/tier" maxLength', "valid"]),
+    "cache": (1, ['1: F07 "/spec/labels/tier" maxLength']),
     "queue": (1, ['F14 "/spec/retries" junctor', 'F10 "/spec/workers" minProperties']),
     "route": (1, ['F14 "/spec" junctor', 'F04 "/spec/forward/0/port" minimum', 'F13 "/spec/hosts/2" duplicate']),
 }
