@@ -2,9 +2,9 @@
 """Runs the sessions of README.md and of pages in docs/, and compares what they print with what the pages say.
 
 Usage: tools/test_sessions.py [TEST..], as `unittest` takes them
-In an indented block a line that begins with `$` is a command for bash, and lines that begin with `>` go on with it. What follows is what it
-prints, on both streams; `...` stands for any lines. Lines that begin with `#` are not run. The commands of a page run one after another, in
-an empty folder with links to what is in this one. A page is skipped where a program that it uses is not installed.
+In an indented block a line that begins with `$` is a command for bash, and lines right below it that begin with `>` go on with it. What
+follows is what it prints, on both streams; `...` stands for any lines. Lines that begin with `#` are not run. The commands of a page run
+one after another, in an empty folder with links to what is in this one. A page is skipped where a program that it uses is not installed.
 """
 import re
 import shutil
@@ -27,7 +27,7 @@ def commands_of(page):
             if line.startswith(("$ ", "#")):
                 is_run = line.startswith("$ ")
                 commands += [(line[2:], [])] if is_run else []
-            elif is_run and line.startswith("> "):
+            elif is_run and line.startswith("> ") and not commands[-1][1]:
                 commands[-1] = (f"{commands[-1][0]}\n{line[2:]}", [])
             elif is_run:
                 commands[-1][1].append(line)
