@@ -3,8 +3,9 @@
 
 Usage: tools/test_sessions.py [TEST..], as `unittest` takes them
 In an indented block a line that begins with `$` is a command for bash, and lines right below it that begin with `>` go on with it. What
-follows is what it prints, on both streams; `...` stands for any lines. Lines that begin with `#` are not run. The commands of a page run
-one after another, in an empty folder with links to what is in this one. A page is skipped where a program that it uses is not installed.
+follows is what it prints, on both streams; `...` stands for any lines. Lines that begin with `#` are not run, but for one that begins with
+`# $` and ends in `(run where NAME is installed)`, where that program is. The commands of a page run one after another, in an empty folder
+with links to what is in this one. A page is skipped where a program that it uses is not installed.
 """
 import re
 import shutil
@@ -16,6 +17,7 @@ from pathlib import Path
 ROOT = Path(__file__).resolve().parent.parent
 PAGES = ["README.md", "docs/RELAX.md", "docs/WALKTHROUGH.md"]
 MARK = "@@ test_sessions.py @@"
+OPTIONAL = re.compile(r"# (\$ .*?) +\(run where (\S+) is installed\)")
 
 
 def commands_of(page):
@@ -24,6 +26,9 @@ def commands_of(page):
     for block in re.findall(r"(?:^    .*\n)+", (ROOT / page).read_text(encoding="utf-8"), re.M):
         is_run = False
         for line in (line[4:] for line in block.splitlines()):
+            optional = OPTIONAL.fullmatch(line)
+            if optional and shutil.which(optional[2]):
+                line = optional[1]
             if line.startswith(("$ ", "#")):
                 is_run = line.startswith("$ ")
                 commands += [(line[2:], [])] if is_run else []
