@@ -213,6 +213,26 @@ Usage: crdx <COMMAND>
 
 For more information, try '--help'.
 LINES
+# objects on lines: one without faults, one with three, and one after which there is no newline
+{ echo '{"r":"x"}' && cat "$folder/object.json" && printf '{}'; } >"$folder/object-lines"
+{ sed 's/^/2: /' "$folder/faults" && echo '3: F12 "/r" required'; } >"$folder/line-faults"
+{ cat "$folder/stored.json" "$folder/object.json" "$folder/stored.json"; } >"$folder/stored-lines"
+{ cat "$folder/stored.json" "$folder/completed" "$folder/stored.json"; } >"$folder/completed-lines"
+{ sed 's/^/1: /' "$folder/leaves" && echo '2: L1' && sed 's/^/3: /' "$folder/leaves"; } >"$folder/line-leaves"
+{ cat "$folder/object.json" "$folder/fraction.json" "$folder/object.json"; } >"$folder/broken-lines"
+cat >"$folder/broken-line" <<'LINES'
+crdx: object: 2: J1
+    found 1.50 at "/s/1"; allowed are integers of 64 bits
+LINES
+sed -n '2,3p;5p' "$folder/map-lists" >"$folder/covering"
+echo 'crdx: all paths are in some sample' >"$folder/covered"
+sed -n 2p "$folder/map-lists" >"$folder/covering-of-2-nodes"
+cat >"$folder/missed" <<'LINES'
+crdx: 3 paths are in no sample of at most 2 nodes
+    "/m/[]"
+    "/m/[]/k"
+    "/m/[]/v"
+LINES
 widget=examples/widget
 
 row 'sample of the widget' lines 0 $widget/samples-of-4-nodes.txt "$folder/end" \
@@ -258,6 +278,17 @@ row 'explain of a map list' nothing 0 "$folder/map-list-fields" /dev/null explai
 row 'validate of items with equal keys' nothing 1 "$folder/alike" /dev/null validate "$folder/map-list.json" v1 "$folder/alike.json"
 row 'default of nulls' nothing 0 "$folder/no-null" /dev/null default "$folder/nulls.json" v1 "$folder/null.json"
 row 'leaves of each kind of list' nothing 0 "$folder/owned" /dev/null leaves "$folder/spec.json" v1 "$folder/owned.json"
+row 'all samples of the widget' lines 0 $widget/samples-of-4-nodes.txt "$folder/end" \
+    sample $widget/crd.json v1 --pools $widget/pools.json --limit 4 --all
+row 'validate of lines' lines 1 "$folder/line-faults" /dev/null validate "$folder/crd.json" v1 "$folder/object-lines" --lines
+input=$folder/stored-lines row 'default of lines of the standard input' lines 0 "$folder/completed-lines" /dev/null \
+    default "$folder/crd.json" v1 --lines
+row 'leaves of lines' lines 1 "$folder/line-leaves" /dev/null leaves "$folder/crd.json" v1 "$folder/stored-lines" --lines
+row 'prune of a line that is no document, explained' lines 3 "$folder/pruned" "$folder/broken-line" \
+    prune "$folder/crd.json" v1 "$folder/broken-lines" --lines --why
+row 'cover of a map list' nothing 0 "$folder/covering" "$folder/covered" cover "$folder/map-list.json" v1 --pools "$folder/pools.json"
+row 'cover with missed paths, named' nothing 0 "$folder/covering-of-2-nodes" "$folder/missed" \
+    cover "$folder/map-list.json" v1 --pools "$folder/pools.json" --limit 2 --why
 row 'validate by a schema that breaks rules' nothing 1 /dev/null "$folder/broken" validate "$folder/broken.json" v1
 
 printf '%s\n' "${counts[@]}"

@@ -6,7 +6,7 @@ set -euo pipefail
 program=${1:+$(realpath -- "$1")}
 cd "$(dirname "$0")/.."
 program=${program:-$PWD/crates/crdx_cli/out/crdx_cli}
-widget=$PWD/examples/widget
+widget=$PWD/examples/widget issuer=$PWD/examples/issuer
 
 stop() {
     echo "streams.sh: $1" >&2
@@ -30,6 +30,15 @@ says 'check on a full device' 4 'crdx: write failed after 0 lines'
 ended=0
 "$program" sample "$widget/crd.json" v1 --pools "$widget/pools.json" --limit 4 >/dev/full 2>"$folder/err" || ended=$?
 says 'sample on a full device' 4 'crdx: write failed after 0 lines'
+ended=0
+"$program" sample "$widget/crd.json" v1 --pools "$widget/pools.json" --limit 4 --all >/dev/full 2>"$folder/err" || ended=$?
+says 'sample --all on a full device' 4 'crdx: write failed after 0 lines'
+ended=0
+"$program" cover "$widget/crd.json" v1 --pools "$widget/pools.json" >/dev/full 2>"$folder/err" || ended=$?
+says 'cover on a full device' 4 'crdx: write failed after 0 lines'
+ended=0
+"$program" default "$widget/crd.json" v1 --lines <"$widget/samples-of-4-nodes.txt" >/dev/full 2>"$folder/err" || ended=$?
+says 'default --lines on a full device' 4 'crdx: write failed after 0 lines'
 
 # a reader that goes away after the first line: 10,000 lines are more than a pipe holds
 cat >"$folder/optional.json" <<'CRD'
@@ -56,6 +65,49 @@ head -n "$lines" "$folder/whole" >"$folder/joined"
     --after "$(tail -n 1 "$folder/joined")" >>"$folder/joined" 2>"$folder/err"
 cmp -s "$folder/joined" "$folder/whole" || stop 'the walk that goes on does not write what is missing'
 
+# the same of a listing that has no end in a lifetime, 65^9 lines, and of 10,000 answers: the run ends by itself
+echo "{\"integers\":[$(seq -s , 64)]}" >"$folder/many.json"
+all=("$program" sample "$folder/optional.json" v1 --pools "$folder/many.json" --limit 63 --all)
+answers=("$program" default "$folder/optional.json" v1 --lines "$folder/whole")
+for name in all answers; do
+    declare -n run=$name
+    {
+        ended=0
+        (
+            ulimit -t 10
+            exec "${run[@]}"
+        ) 2>"$folder/err" || ended=$?
+        echo "$ended" >"$folder/status"
+    } | head -n 3 >"$folder/first"
+    ended=$(cat "$folder/status")
+    [ "$(sed -n '1p;$=' "$folder/first")" = $'{}\n3' ] || stop "$name into head: not three lines from {} on"
+    lines=$(sed -n 's/^crdx: write failed after \([0-9]*\) lines$/\1/p' "$folder/err")
+    says "$name into head" 4 "crdx: write failed after ${lines:-N} lines"
+    [ "$lines" -ge 3 ] || stop "$name into head: $lines whole lines were taken"
+done
+
+# a pipe that nobody reads
+exec 3> >(:)
+wait $!
+ended=0
+"$program" cover "$widget/crd.json" v1 --pools "$widget/pools.json" >&3 2>"$folder/err" || ended=$?
+exec 3>&-
+says 'cover into a pipe that nobody reads' 4 'crdx: write failed after 0 lines'
+
+# the answer to a line is there before the next line is
+mkfifo "$folder/lines" "$folder/answers"
+"$program" default "$issuer/crd.json" v1 --lines <"$folder/lines" >"$folder/answers" 2>"$folder/err" &
+exec 3>"$folder/lines" 4<"$folder/answers"
+for number in 1 2 3; do
+    cat "$issuer/object.prune.json" >&3
+    read -r -t 10 answer <&4 || stop "default --lines: no answer to line $number while its input is open"
+    [ "$answer" = "$(cat "$issuer/object.default.json")" ] || stop "default --lines: another answer to line $number than to the object alone"
+done
+exec 3>&- 4<&-
+ended=0
+wait $! || ended=$?
+says 'default --lines of a pipe' 0 ''
+
 # standard input that is a folder, or closed
 ended=0
 "$program" prune "$widget/crd.json" v1 <"$folder" >"$folder/out" 2>"$folder/err" || ended=$?
@@ -63,9 +115,11 @@ says 'a folder as standard input' 4 'crdx: object: read failed'
 ended=0
 "$program" prune "$widget/crd.json" v1 <&- >"$folder/out" 2>"$folder/err" || ended=$?
 says 'closed standard input' 4 'crdx: object: read failed'
+ended=0
+"$program" default "$widget/crd.json" v1 --lines <"$folder" >"$folder/out" 2>"$folder/err" || ended=$?
+says 'a folder as lines' 4 'crdx: object: read failed'
 
 # an object that comes byte by byte is the one that comes at once
-issuer=$PWD/examples/issuer
 ended=0
 dd bs=1 status=none <"$issuer/object.json" | "$program" prune "$issuer/crd.json" v1 >"$folder/out" 2>"$folder/err" || ended=$?
 says 'an object byte by byte' 0 ''
@@ -78,21 +132,37 @@ ended=0
     exec "$program" check /dev/zero v1 >"$folder/out" 2>"$folder/err"
 ) || ended=$?
 says 'a file without end' 3 'crdx: crd: J4'
+ended=0
+(
+    ulimit -t 5
+    exec "$program" default "$widget/crd.json" v1 --lines /dev/zero >"$folder/out" 2>"$folder/err"
+) || ended=$?
+says 'a line without end' 3 'crdx: object: 1: J4'
 
 # a folder as a definition, and a file that may not be read, by another user, since root may read all
 ended=0
 "$program" check "$folder" v1 >"$folder/out" 2>"$folder/err" || ended=$?
 says 'a folder as a definition' 4 'crdx: crd: read failed'
+for command in 'sample --all' cover; do
+    ended=0
+    read -ra words <<<"$command"
+    "$program" "${words[@]}" "$widget/crd.json" v1 --pools "$folder" >"$folder/out" 2>"$folder/err" || ended=$?
+    says "a folder as pools of $command" 4 'crdx: pools: read failed'
+done
 if [ "$(id -u)" -eq 0 ]; then
     cp "$program" "$folder/program"
     cp "$widget/crd.json" "$folder/secret.json"
-    chmod 755 "$folder" "$folder/program"
+    cp "$widget/crd.json" "$folder/open.json"
+    chmod 755 "$folder" "$folder/program" "$folder/open.json"
     chmod 600 "$folder/secret.json"
     another=(setpriv --reuid 65534 --regid 65534 --clear-groups "$folder/program")
     if "${another[@]}" --version >"$folder/out" 2>"$folder/err"; then
         ended=0
         "${another[@]}" check "$folder/secret.json" v1 >"$folder/out" 2>"$folder/err" || ended=$?
         says 'a file that may not be read' 4 'crdx: crd: read failed'
+        ended=0
+        "${another[@]}" default "$folder/open.json" v1 --lines "$folder/secret.json" >"$folder/out" 2>"$folder/err" || ended=$?
+        says 'lines that may not be read' 4 'crdx: object: read failed'
     else
         echo 'streams.sh: no other user can run the program here, so a file that may not be read is left out'
     fi
