@@ -306,6 +306,23 @@ against_plain() {
     compare "$shape, instructions for each sample, against a plain program (at most 10)" instructions 10000 "$one" "$other" 10
 }
 
+# all_against_plain: 1,000,000 samples, as `crdx sample --all` lists them, against the plain program's lines: the same bytes, the times,
+# and how much more memory it takes than for the first 10,000
+all_against_plain() {
+    local crdx plain one other
+    crdx=(crates/crdx_cli/out/crdx_cli sample "$folder/six" v1 --pools "$folder/nine" --limit 7)
+    plain=("$folder/plain" million 1000000)
+    "${crdx[@]}" --all 2>"$folder/errors" | cmp - <("${plain[@]}") >&2 || stop 'million: other lines than tools/plain.rs writes'
+    [ "$(cat "$folder/errors")" = 'crdx: end' ] || stop "million: $(head -n 1 "$folder/errors")"
+    one=$(best "${crdx[@]}" --all)
+    other=$(best "${plain[@]}")
+    ratio 'million, all of them, against a plain program (at most 4)' "$one" "$other" 4
+    one=$(peak "${crdx[@]}" --all)
+    other=$(peak "${crdx[@]}" --count 10000)
+    echo "million, peak memory (at most 512 KiB more than for 10,000): $one KiB, $other KiB"
+    [ "$one" -le $((other + 512)) ] || above 'million, peak memory'
+}
+
 # measure NAME FILE WORD..: what a run of these words costs, with the size of the document that is large
 measure() {
     local name=$1 file=$2
@@ -395,6 +412,19 @@ for pools in pools-of-16000-places large-pools; do
 done
 within 'a sample of 1024 optional fields' 1 32768 sample "$folder/truths" v1 --large --limit 63 --count 1
 
+# `cover` makes plans for each path that no line has yet, so it takes the square of the places or more: some 3 s here, and the limit leaves
+# room for a machine that does other work too
+python3 tools/large_schema.py 2021 117 >"$folder/2021-places"
+echo '{"integers":[1],"strings":["a"],"names":["k"]}' >"$folder/small-pools"
+within 'cover of 2021 places' 8 65536 cover "$folder/2021-places" v1 --large --pools "$folder/small-pools"
+
+# objects on lines: samples are valid, so of each nothing is written
+issuer=examples/issuer
+crates/crdx_cli/out/crdx_cli sample $issuer/crd.json v1 --pools $issuer/pools.json --limit 63 --count 10000 >"$folder/issuers" 2>"$folder/errors"
+[ "$(wc -l <"$folder/issuers")" -eq 10000 ] || stop "samples of the issuer: $(wc -l <"$folder/issuers"), and not 10,000"
+within "validate --lines of 10,000 samples, $(stat -c %s "$folder/issuers") bytes" 0.2 8192 validate $issuer/crd.json v1 --lines "$folder/issuers"
+[ ! -s "$folder/output" ] || stop "validate --lines of samples: $(head -n 1 "$folder/output")"
+
 # 640 samples past the first with two of these fields, and past the millionth
 past_truths() {
     ./crdx sample "$folder/truths" v1 --large --limit 63 --count 640 --after "$(two_of_truths "$1")"
@@ -451,14 +481,17 @@ without=$(best named_plan 0)
 ratio 'a plan with two named fields at each object, against none (at most 2)' "$(best named_plan 2)" "$without" 2
 ratio 'a plan with four named fields at each object, against none (at most 5)' "$(best named_plan 4)" "$without" 5
 
-# three shapes, against a plain program for these alone
+# four shapes, against a plain program for these alone
 echo '{"type":"object","properties":{"m":{"type":"array","x-kubernetes-list-type":"map","x-kubernetes-list-map-keys":["host","port"],"items":{"type":"object","required":["host","port"],"properties":{"host":{"type":"string"},"port":{"type":"integer"}}}}}}' | define >"$folder/keys"
 echo '{"strings":["a","b","c","d"],"integers":[0,1,2,3]}' >"$folder/four"
+optional 6 | define >"$folder/six"
+echo '{"integers":[0,1,2,3,4,5,6,7,8]}' >"$folder/nine"
 if has rustc 'what samples cost against a plain program'; then
     rustc --edition 2021 -O -o "$folder/plain" tools/plain.rs || stop 'tools/plain.rs does not compile'
     against_plain optional "$folder/optional" v1 --pools "$folder/two" --limit 8
     against_plain keys "$folder/keys" v1 --pools "$folder/four" --limit 14
     against_plain fifteen "$folder/fifteen" v1 --limit 63
+    all_against_plain
 fi
 
 [ "$failures" -eq 0 ] || stop "figures above their limits: $failures"

@@ -1,9 +1,10 @@
-//! A plain enumerator of three fixed shapes, without contracts. It writes the lines that `crdx sample` writes for them: each object
+//! A plain enumerator of four fixed shapes, without contracts. It writes the lines that `crdx sample` writes for them: each object
 //! once, by the number of its nodes and then in the tree order. tools/cost.sh measures crdx against it.
 //!
 //! Usage: `plain SHAPE COUNT`, which writes the first COUNT lines of a shape:
 //!
 //! - `optional`: twelve optional integers `a` to `l`, each 0 or 1, in objects of at most 8 nodes
+//! - `million`: six optional integers `a` to `f`, each from 0 to 8, which are 1,000,000 objects
 //! - `keys`: an optional map list `m` with the keys `host`, a string from `a` to `d`, and `port`, an integer from 0 to 3, in objects
 //!   of at most 14 nodes
 //! - `fifteen`: a list `t` of fifteen objects of three booleans `a`, `b` and `c`
@@ -41,35 +42,54 @@ impl Lines {
     }
 }
 
-const LAST_FIELD: u8 = b'l';
+/// Optional integers of one digit, from the field `a` on.
+struct Integers {
+    last_field: u8,
+    last_digit: u8,
+}
+
 /// An object and 7 integers are 8 nodes.
 const MOST_FIELDS: u8 = 7;
 
 fn optional(lines: &mut Lines) -> ControlFlow<()> {
-    (0..=MOST_FIELDS).try_for_each(|fields| put_fields(lines, &mut b"{".to_vec(), b'a', fields))
+    let integers = Integers {
+        last_field: b'l',
+        last_digit: b'1',
+    };
+    (0..=MOST_FIELDS).try_for_each(|fields| integers.put(lines, &mut b"{".to_vec(), b'a', fields))
 }
 
-/// Writes the objects that begin with `line` and have `more` more fields, from `field` on.
-fn put_fields(lines: &mut Lines, line: &mut Vec<u8>, field: u8, more: u8) -> ControlFlow<()> {
-    if field > LAST_FIELD {
-        return lines.put(line, b"}\n");
-    }
-    if more <= LAST_FIELD - field {
-        put_fields(lines, line, field + 1, more)?;
-    }
-    if more == 0 {
-        return Continue(());
-    }
-    let start = line.len();
-    for value in [b'0', b'1'] {
-        if start > 1 {
-            line.push(b',');
+fn million(lines: &mut Lines) -> ControlFlow<()> {
+    let integers = Integers {
+        last_field: b'f',
+        last_digit: b'8',
+    };
+    (0..=6).try_for_each(|fields| integers.put(lines, &mut b"{".to_vec(), b'a', fields))
+}
+
+impl Integers {
+    /// Writes the objects that begin with `line` and have `more` more fields, from `field` on.
+    fn put(&self, lines: &mut Lines, line: &mut Vec<u8>, field: u8, more: u8) -> ControlFlow<()> {
+        if field > self.last_field {
+            return lines.put(line, b"}\n");
         }
-        line.extend_from_slice(&[b'"', field, b'"', b':', value]);
-        put_fields(lines, line, field + 1, more - 1)?;
-        line.truncate(start);
+        if more <= self.last_field - field {
+            self.put(lines, line, field + 1, more)?;
+        }
+        if more == 0 {
+            return Continue(());
+        }
+        let start = line.len();
+        for value in b'0'..=self.last_digit {
+            if start > 1 {
+                line.push(b',');
+            }
+            line.extend_from_slice(&[b'"', field, b'"', b':', value]);
+            self.put(lines, line, field + 1, more - 1)?;
+            line.truncate(start);
+        }
+        Continue(())
     }
-    Continue(())
 }
 
 /// An object, its list and 4 items of 3 nodes are 14 nodes.
@@ -167,6 +187,7 @@ fn arguments() -> Option<(Shape, usize)> {
     let mut words = env::args().skip(1);
     let shape: Shape = match words.next()?.as_str() {
         "optional" => optional,
+        "million" => million,
         "keys" => keys,
         "fifteen" => fifteen,
         _ => return None,
@@ -177,7 +198,7 @@ fn arguments() -> Option<(Shape, usize)> {
 
 fn main() -> ExitCode {
     let Some((shape, wanted)) = arguments() else {
-        eprintln!("usage: plain optional|keys|fifteen COUNT");
+        eprintln!("usage: plain optional|million|keys|fifteen COUNT");
         return ExitCode::FAILURE;
     };
     let mut lines = Lines {
