@@ -2,7 +2,9 @@
 //!
 //! The plain way would be to write the text of each sample anew. A line is made from the one before instead, from where the sample
 //! differs on: with the candidates that `enumerate` keeps for the last node, 10,000 samples of twelve optional integers take 3.1 ms in
-//! place of 9.4. Lists of objects need `likely_depth` besides: without it, samples of fifteen objects take half as many instructions more.
+//! place of 9.4. Lists of objects need `likely_depth` and the deeper front that
+//! `rewrite_part` looks for besides: without the first, samples of fifteen objects take half as many instructions more; without the
+//! second, those of a map list take more than ten times as many as a plain program.
 ghost use Rattle.std.specs.Prelude.{◌≡◌, ◌-◌, ◌^◌, ◌≤◌, [], length, min, take, None, Some, true, false, IfSome, IfOk, OnOk};
 ghost use Rattle.jtree.specs.Data.{Data};
 ghost use Rattle.jtree.specs.Last.{last_depth, last_of, with_last, with_part};
@@ -145,6 +147,9 @@ impl<'a> Block<'a> {
             return Ok(false);
         };
         self.rewrite_from(sample, front)?;
+        if front.depth < depth {
+            self.find_front(sample, depth)?;
+        }
         Ok(true)
     }
 
