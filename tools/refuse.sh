@@ -181,7 +181,17 @@ cat >"$folder/owned" <<'LINES'
 ["f:spec","f:tags","v:\"t\""]
 LINES
 echo 'crdx: pools: P5 "/spec/acme/privateKeySecretRef/key"' >"$folder/bad-path"
-printf '{"any":["a",{}],"integers":[-1,0,1,2,65534,65535,65536],"names":["a","b"],"strings":["a","%s"]}\n' "$(printf 'a%.0s' {1..64})" >"$folder/issuer-pools"
+longest=$(printf 'a%.0s' {1..64})
+cat >"$folder/issuer-pools" <<EOF
+{"any":["a",{}],"integers":[-1,0,1,2,65534,65535,65536],"names":["a","b"],"paths":{"/spec/acme/privateKeySecretRef/key":["tls.key","a","$longest"],"/spec/acme/solvers/[]/http01/port":[8089,1,2,65534,65535,"a","$longest"],"/status/conditions/[]/lastTransitionTime":["1970-01-01T00:00:00Z","2030-12-31T23:59:59Z"]},"strings":["a","$longest"]}
+EOF
+printf '{"spec":{"a":7}}\n{"kind":"Widget","spec":{"a":8,"b":true}}\n' >"$folder/two-widgets"
+printf '{\n"spec":{"a":7,\n"b":true}}\n' >"$folder/one-widget"
+printf '{}\n{"spec":1.5}\n' >"$folder/broken-widgets"
+echo '{"any":["a",{}],"integers":[0,1],"names":["a","b"],"paths":{"/spec/a":[7,8],"/spec/b":[true]},"strings":["a"]}' >"$folder/widget-values"
+echo '{"any":["a",{}],"fixed":{"/spec/b":[true]},"integers":[0,1],"names":["a","b"],"paths":{"/spec/a":[7,0,1]},"present":["/spec","/spec/b"],"strings":["a"]}' >"$folder/around-widget"
+echo 'crdx: object: 2: J1' >"$folder/broken-widget"
+printf 'crdx: pools: P6 "/spec/a"\n    found 2 objects; --vary takes one\n' >"$folder/not-one"
 fields=$(seq -s , -f '"f%g":{"type":"boolean"}' 33)
 define "{\"type\":\"object\",\"properties\":{$fields}}" >"$folder/wide.json"
 cat >"$folder/too-wide" <<'LINES'
@@ -253,6 +263,12 @@ row 'sample with a bad path, explained' nothing 3 /dev/null "$folder/bad-path-ex
     sample $widget/crd.json v1 --pools examples/issuer/chosen-values.json --why
 row 'pools of the issuer' nothing 0 "$folder/issuer-pools" /dev/null \
     pools examples/issuer/crd.json v1
+row 'pools of objects on lines' nothing 0 "$folder/widget-values" /dev/null pools $widget/crd.json v1 --from "$folder/two-widgets"
+row 'pools around an object over several lines' nothing 0 "$folder/around-widget" /dev/null \
+    pools $widget/crd.json v1 --from "$folder/one-widget" --vary /spec/a
+row 'pools of a broken line' nothing 3 /dev/null "$folder/broken-widget" pools $widget/crd.json v1 --from "$folder/broken-widgets"
+row 'pools around two objects, explained' nothing 3 /dev/null "$folder/not-one" \
+    pools $widget/crd.json v1 --from "$folder/two-widgets" --vary /spec/a --why
 row 'the standard input for two inputs' nothing 2 /dev/null "$folder/read-twice" \
     validate - v1
 input=$widget/pools.json row 'sample over pools of the standard input' lines 0 $widget/samples-of-4-nodes.txt "$folder/end" \

@@ -29,7 +29,10 @@ USAGES = {
     "check": "<CRD> <VERSION>", "explain": "<CRD> <VERSION> [PATH]", "validate": "<CRD> <VERSION> [OBJECT]", "pools": "<CRD> <VERSION>",
     "sample": "<CRD> <VERSION>", "leaves": "<CRD> <VERSION> [OBJECT]",
 }
-MORE = {"sample": "      --pools <FILE>  Pools\\n      --limit <N>  Limit\\n      --all  All\\n", "leaves": "      --lines  Lines\\n"}
+MORE = {
+    "sample": "      --pools <FILE>  Pools\\n      --limit <N>  Limit\\n      --all  All\\n", "leaves": "      --lines  Lines\\n",
+    "pools": "      --from <OBJECT>  Object\\n      --vary <PATH>  Path\\n",
+}
 command, *words = sys.argv[1:]
 if command not in USAGES:
     sys.exit("error: unrecognized subcommand")
@@ -40,7 +43,7 @@ def seen(word):
     option, sign, file = word.rpartition("=")
     return option + sign + open(file).read() if file.startswith("/dev/fd/") else word
 if command == "pools" and "POOLS" in os.environ:
-    print(os.environ["POOLS"])
+    print(os.environ["POOLS"] or json.dumps({"any": [*map(seen, words)]}))
 else:
     print(json.dumps([command, *map(seen, words)]))
 sys.exit(int(os.environ.get("STATUS", 0)))
@@ -333,6 +336,25 @@ class Values(Runs):
         status, out, err = self.run_plugin("pools", "-f", "crd.json", **self.pools)
         self.assertEqual((status, json.loads(out), err), (0, self.TWO, lines(STORAGE, NOT_JUDGED)))
         self.assertEqual(self.run_plugin("pools", "-f", "crd.json", STATUS="3", **self.pools), (3, "", lines(STORAGE, NOT_JUDGED)))
+
+    def test_lists_of_crdx(self):
+        """Values that the pattern lets through come in place of those that crdx suggests, but for those of objects."""
+        self.file("object.json", {"x": "v2"})
+        pools = {"POOLS": json.dumps({**self.SUGGESTED, "paths": {"/x": ["a"], "/y": [1]}})}
+        for words, values in [([], ["v1", "v1beta1"]), (["--from", "object.json"], ["a"])]:
+            with self.subTest(words):
+                _, out, _ = self.run_plugin("pools", "-f", "crd.json", *words, **pools)
+                self.assertEqual(json.loads(out)["paths"], {"/x": values, "/y": [1]})
+
+    def test_objects(self):
+        """Each object of --from is on a line of its own."""
+        self.file("list.json", {"kind": "List", "items": [widget(1), widget(2)]})
+        words = ["--from", "list.json", "--vary", "/x", "--vary=/y"]
+        _, out, _ = self.run_plugin("pools", "-f", "crd.json", *words, POOLS="")
+        given = json.loads(out)["any"]
+        self.assertEqual([given[:2], given[3:5]], [ALWAYS, ["--vary=/x", "--vary=/y"]])
+        objects = [json.loads(line) for line in given[2].removeprefix("--from=").splitlines()]
+        self.assertEqual(objects, [widget(1), widget(2)])
 
     def test_samples_over_these_pools(self):
         given = self.given("sample", "-f", "crd.json", "--limit", "5", "--all", said=[STORAGE, NOT_JUDGED], **self.pools)

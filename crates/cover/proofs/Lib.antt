@@ -2,8 +2,8 @@
 -- Ways: `WayLemmas` says where paths lead from a node, `PathLemmas` which texts are those of the beginnings of a path.
 -- Narrowed pools: `PoolLemmas` says what they ask for and fix, `KeptLemmas` what is left of lists of fixed values, `ThereLemmas` where
 -- the rest of a path is there, `NarrowLemmas` what is over them, `SampleLemmas` that their samples are those in which the path is
--- there, `GoodLemmas` that their paths are good.
--- Covers: `LineLemmas` says what a path adds, `CoverLemmas` is the law `lines_cover`.
+-- there, `GoodLemmas` that their paths are good, `ValueLemmas` that candidates of scalars may be wanted.
+-- Covers: `AheadLemmas` says that what is found by a look ahead is the first of all, `LineLemmas` says what a path adds, `CoverLemmas` is the law `lines_cover`.
 pub mod WayLemmas
 pub mod PathLemmas
 pub mod PoolLemmas
@@ -12,5 +12,7 @@ pub mod ThereLemmas
 pub mod NarrowLemmas
 pub mod SampleLemmas
 pub mod GoodLemmas
+pub mod ValueLemmas
+pub mod AheadLemmas
 pub mod LineLemmas
 pub mod CoverLemmas

@@ -1,5 +1,5 @@
 -- What a path adds to the lines.
-use Rattle.std.proofs.Common.{◌≡◌, ◌+◌, ◌≤◌, ◌<◌, ◌⊎◌, ℕ, List, [], ◌∷◌, ◌++◌, Bool, true, false, Option, Some, None, refl, sym, ap, subst, ◌∙◌, inl, inr, arith, All, Contains, map, length, get_or, take, drop}
+use Rattle.std.proofs.Common.{append_assoc, ◌≡◌, ◌+◌, ◌≤◌, ◌<◌, ◌⊎◌, ℕ, List, [], ◌∷◌, ◌++◌, Bool, true, false, Option, Some, None, refl, sym, ap, subst, ◌∙◌, inl, inr, arith, All, Contains, map, length, get_or, take, drop}
 use Rattle.std.specs.Prelude.{string_bytes}
 use Rattle.std.proofs.lemmas.List.{get_or-map, map-append, length-map, take_more, take_all, take-append-drop}
 use Rattle.std.proofs.lemmas.List.Elements.{All-map, All-weaker, All-contains}
@@ -24,18 +24,21 @@ use Rattle.enumerate.specs.Live.{IsNextSample}
 use Rattle.enumerate.specs.Page.{IsSampleOf}
 use Rattle.enumerate.specs.View.{tree_of}
 use Rattle.cover.specs.There.{is_there}
+use Rattle.cover.specs.Wanted.{Wanted, with_any, with_value}
 use Rattle.cover.specs.Cover.{Line, Covered, Has, Adds, had, never, first, AreCovered, more}
-use Rattle.cover.specs.View.{line_of, lines_of, covered_of}
-use Rattle.cover.specs.Internal.Narrowed.{narrowed, narrower}
+use Rattle.cover.specs.View.{wanted_of, line_of, lines_of, covered_of}
+use Rattle.cover.specs.Internal.Ahead.{IsFirstSample}
 use Rattle.cover.specs.declared.covering.Line.{Line as CodeLine}
 use Rattle.cover.specs.declared.covering.Covered.{Covered as CodeCovered}
+use Rattle.cover.specs.declared.covering.Wanted.{Wanted as CodeWanted}
+use Rattle.cover.proofs.CoverLemmas.{is_cover, lines_samples}
 use Rattle.plan.specs.Samples.Site.{below}
 use Rattle.cover.specs.Internal.Ways.{step_of, path_of}
 use Rattle.cover.specs.declared.way.PathStep.{PathStep}
 use Rattle.cover.proofs.PathLemmas.{OneText, text_below}
 use Rattle.cover.proofs.NarrowLemmas.{StoredLaw}
 use Rattle.cover.proofs.ThereLemmas.{there_before}
-use Rattle.cover.proofs.SampleLemmas.{has_text, text_there, first_has, none_has}
+use Rattle.cover.proofs.SampleLemmas.{has_text, text_there, first_has}
 
 -- ---- faults
 
@@ -58,30 +61,31 @@ only_memory root P limit bits room good TooLarge f = absurd f
 contains_map : {A B : Type 0} (f : A → B) (xs : List A) (x : A) → Contains xs x → Contains (map f xs) (f x)
 contains_map f xs x h = let long = length-map xs f in let lt = h.1 in (h.0, omega arith, get_or-map f xs h.0 x (f x) h.1 ∙ ap f h.2)
 
-pub had_line : (q : Question) (p : FieldPath) (text : List ℕ) → path_text p ≡ text → (c : CodeCovered) → All (λ l. IsSampleOf q l.object) (lines_of c.lines.items)
-    → (l : CodeLine) → Contains c.lines.items l → is_there p (data_of l.tree) ≡ true → Adds q text (covered_of c) (covered_of c)
-had_line q p text e c samples l has there =
+pub had_line : (q : Question) (w : Wanted) (p : FieldPath) → path_text p ≡ w.path → (c : CodeCovered) → All (λ l. IsSampleOf q l.object) (lines_of c.lines.items)
+    → (l : CodeLine) → Contains c.lines.items l → is_there w.value p (data_of l.tree) ≡ true → Adds q w (covered_of c) (covered_of c)
+had_line q w p e c samples l has there =
     let line = contains_map line_of c.lines.items l has in
-    had (line_of l, (line, has_text q p (data_of l.tree) text e (All-contains (λ l. IsSampleOf q l.object) (lines_of c.lines.items) (line_of l) samples line) there))
+    had (line_of l, (line, has_text q w p (data_of l.tree) e (All-contains (λ l. IsSampleOf q l.object) (lines_of c.lines.items) (line_of l) samples line) there))
 
-new_lines : OneText → (q : Question) (p : FieldPath) (text : List ℕ) → path_text p ≡ text → (ls : List CodeLine) → All (λ l. is_there p (data_of l.tree) ≡ false) ls → All (λ l. ¬ Has q text l.object) (lines_of ls)
-new_lines one q p text e ls new = All-map (λ l. ¬ Has q text l.object) line_of ls
-    (All-weaker (λ l. is_there p (data_of l.tree) ≡ false) (λ l. ¬ Has q text (data_of l.tree)) (λ l f h. let t = text_there one q p (data_of l.tree) text e h in cc) ls new)
+new_lines : OneText → (q : Question) (w : Wanted) (p : FieldPath) → path_text p ≡ w.path → (ls : List CodeLine) → All (λ l. is_there w.value p (data_of l.tree) ≡ false) ls → All (λ l. ¬ Has q w l.object) (lines_of ls)
+new_lines one q w p e ls new = All-map (λ l. ¬ Has q w l.object) line_of ls
+    (All-weaker (λ l. is_there w.value p (data_of l.tree) ≡ false) (λ l. ¬ Has q w (data_of l.tree)) (λ l f h. let t = text_there one q w p (data_of l.tree) e h in cc) ls new)
 
-pub first_line : OneText → StoredLaw → (q : Question) (p : FieldPath) (text : List ℕ) → path_text p ≡ text → IsDeclared q.root p → (c d : CodeCovered) (l : CodeLine)
-    → All (λ l. is_there p (data_of l.tree) ≡ false) c.lines.items → IsNextSample (narrower q p) None (Some (data_of l.tree)) → l.path ≡ text
-    → d.lines.items ≡ c.lines.items ++ l ∷ [] → d.missed.items ≡ c.missed.items → Adds q text (covered_of c) (covered_of d)
-first_line one law q p text e declared c d l new least named pushed kept =
-    let after : covered_of d ≡ record { lines = lines_of c.lines.items ++ record { path = text; object = data_of l.tree } ∷ []; missed = c.missed.items } =
+first_line : OneText → (q : Question) (w : Wanted) (p : FieldPath) → path_text p ≡ w.path → (c d : CodeCovered) (l : CodeLine)
+    → All (λ l. is_there w.value p (data_of l.tree) ≡ false) c.lines.items → IsFirstSample q w.value p (Some (data_of l.tree)) → wanted_of l.wanted ≡ w
+    → d.lines.items ≡ c.lines.items ++ l ∷ [] → d.missed.items ≡ c.missed.items → Adds q w (covered_of c) (covered_of d)
+first_line one q w p e c d l new least named pushed kept =
+    let after : covered_of d ≡ record { lines = lines_of c.lines.items ++ record { wanted = w; object = data_of l.tree } ∷ []; missed = map wanted_of c.missed.items } =
     rw (pushed, kept, map-append line_of c.lines.items (l ∷ []), named) refl in
-    subst (λ x. Adds q text (covered_of c) x) (sym after)
-    (first (new_lines one q p text e c.lines.items new) (data_of l.tree) (first_has one law q p (data_of l.tree) text e declared least))
+    subst (λ x. Adds q w (covered_of c) x) (sym after)
+    (first (new_lines one q w p e c.lines.items new) (data_of l.tree) (first_has one q w p (data_of l.tree) e least))
 
-pub never_line : OneText → (q : Question) (p : FieldPath) (text : List ℕ) → path_text p ≡ text → (c d : CodeCovered) → IsNextSample (narrower q p) None None
-    → d.lines.items ≡ c.lines.items → d.missed.items ≡ c.missed.items ++ text ∷ [] → Adds q text (covered_of c) (covered_of d)
-never_line one q p text e c d none kept pushed =
-    let after : covered_of d ≡ record { lines = lines_of c.lines.items; missed = c.missed.items ++ text ∷ [] } = rw (kept, pushed) refl in
-    subst (λ x. Adds q text (covered_of c) x) (sym after) (never (none_has one q p text e none))
+missed_more : (q : Question) (w : Wanted) (c d : CodeCovered) (x : CodeWanted) → d.lines.items ≡ c.lines.items → d.missed.items ≡ c.missed.items ++ x ∷ [] → wanted_of x ≡ w
+    → ((v : Data) → ¬ Has q w v) → Adds q w (covered_of c) (covered_of d)
+missed_more q w c d x kept pushed named none =
+    let after : covered_of d ≡ record { lines = lines_of c.lines.items; missed = map wanted_of c.missed.items ++ w ∷ [] } =
+    rw (kept, pushed, map-append wanted_of c.missed.items (x ∷ []), named) refl in
+    subst (λ y. Adds q w (covered_of c) y) (sym after) (never none)
 
 -- ---- declared paths
 
@@ -113,14 +117,11 @@ texts_of : (fs : List CodeField) → map text_of fs ≡ map (λ f. f.path) (map 
 texts_of [] = refl
 texts_of (f ∷ fs) = ap (λ ps. text_of f ∷ ps) (texts_of fs)
 
-pub next_covered : (q : Question) (fs : List CodeField) (i : ℕ) (f : CodeField) (before after : Covered) → i < length fs → get_or fs i f ≡ f
-    → AreCovered q (map text_of (take i fs)) before → Adds q (text_of f) before after → AreCovered q (map text_of (take (i + 1) fs)) after
-next_covered q fs i f before after lt is covered adds =
-    subst (λ ps. AreCovered q ps after) (sym (ap (map text_of) (take_more fs i f lt) ∙ (map-append text_of (take i fs) (get_or fs i f ∷ []) ∙ ap (λ g. map text_of (take i fs) ++ text_of g ∷ []) is)))
-    (more (map text_of (take i fs)) before (text_of f) after covered adds)
+pub next_paths : (fs : List CodeField) (i : ℕ) (f : CodeField) → i < length fs → get_or fs i f ≡ f → map text_of (take (i + 1) fs) ≡ map text_of (take i fs) ++ text_of f ∷ []
+next_paths fs i f lt is = ap (map text_of) (take_more fs i f lt) ∙ (map-append text_of (take i fs) (get_or fs i f ∷ []) ∙ ap (λ g. map text_of (take i fs) ++ text_of g ∷ []) is)
 
-pub all_covered : (q : Question) (fs : List CodeField) (i : ℕ) (c : Covered) → length fs ≤ i → AreCovered q (map text_of (take i fs)) c → AreCovered q (map (λ f. f.path) (map field_of fs)) c
-all_covered q fs i c long covered = subst (λ ps. AreCovered q ps c) (ap (map text_of) (take_all i fs long) ∙ texts_of fs) covered
+pub all_paths : (fs : List CodeField) (i : ℕ) → length fs ≤ i → map text_of (take i fs) ≡ map (λ f. f.path) (map field_of fs)
+all_paths fs i long = ap (map text_of) (take_all i fs long) ∙ texts_of fs
 
 pub declared_field : (root : Node) (listing : List Field) (fs : List CodeField) (i : ℕ) (f : CodeField) → AreFields root listing → map field_of fs ≡ listing → i < length fs → f ≡ get_or fs i f
     → IsTextOf (IsDeclared root) (text_of f)
@@ -133,43 +134,58 @@ declared_field root listing fs i f a same lt is =
 pub same_question : (q : Question) (root : Node) (P : Pools) (limit : ℕ) → root ≡ q.root → P ≡ q.pools → limit ≡ q.limit → q ≡ record { root = root; pools = P; limit = limit }
 same_question q root P limit a b c = rw (a, b, c) refl
 
--- ---- one path
+-- ---- the values of a path
 
-pub added_line : OneText → StoredLaw → (root : Node) (P N : Pools) (limit : ℕ) (q : Question) → q ≡ record { root = root; pools = P; limit = limit } → (p : FieldPath) (text : List ℕ) → path_text p ≡ text
-    → IsDeclared root p → N ≡ narrowed P p → (c d : CodeCovered) (l : CodeLine) → All (λ l. is_there p (data_of l.tree) ≡ false) c.lines.items
-    → IsNextSample (record { root = root; pools = N; limit = limit }) None (Some (data_of l.tree)) → l.path ≡ text → d.lines.items ≡ c.lines.items ++ l ∷ [] → d.missed.items ≡ c.missed.items
-    → Adds q text (covered_of c) (covered_of d)
-added_line one law root P N limit q is p text e declared narrow c d l new least named pushed kept = subst (λ x. Adds x text (covered_of c) (covered_of d)) (sym is)
-    (first_line one law (record { root = root; pools = P; limit = limit }) p text e declared c d l new
-    (subst (λ M. IsNextSample (record { root = root; pools = M; limit = limit }) None (Some (data_of l.tree))) narrow least) named pushed kept)
+pub more_values : (wanted : List Wanted) (path : List ℕ) (xs : List Tree) (i : ℕ) (x : Tree) → i < length xs → x ≡ get_or xs i x
+    → (wanted ++ map (with_value path) (map (λ v. data_of v) (take i xs))) ++ with_value path (data_of x) ∷ [] ≡ wanted ++ map (with_value path) (map (λ v. data_of v) (take (i + 1) xs))
+more_values wanted path xs i x lt is =
+    let step : take (i + 1) xs ≡ take i xs ++ x ∷ [] = take_more xs i x lt ∙ ap (λ y. take i xs ++ y ∷ []) (sym is) in
+    let all : map (with_value path) (map (λ v. data_of v) (take (i + 1) xs)) ≡ map (with_value path) (map (λ v. data_of v) (take i xs)) ++ with_value path (data_of x) ∷ [] =
+    ap (λ ys. map (with_value path) (map (λ v. data_of v) ys)) step ∙ (ap (map (with_value path)) (map-append (λ v. data_of v) (take i xs) (x ∷ []))
+    ∙ map-append (with_value path) (map (λ v. data_of v) (take i xs)) (data_of x ∷ [])) in
+    append_assoc wanted (map (with_value path) (map (λ v. data_of v) (take i xs))) (with_value path (data_of x) ∷ []) ∙ ap (λ ys. wanted ++ ys) (sym all)
 
-pub added_missed : OneText → (root : Node) (P N : Pools) (limit : ℕ) (q : Question) → q ≡ record { root = root; pools = P; limit = limit } → (p : FieldPath) (text : List ℕ) → path_text p ≡ text
-    → N ≡ narrowed P p → (c d : CodeCovered) → IsNextSample (record { root = root; pools = N; limit = limit }) None None → d.lines.items ≡ c.lines.items
-    → d.missed.items ≡ c.missed.items ++ text ∷ [] → Adds q text (covered_of c) (covered_of d)
-added_missed one root P N limit q is p text e narrow c d none kept pushed = subst (λ x. Adds x text (covered_of c) (covered_of d)) (sym is)
-    (never_line one (record { root = root; pools = P; limit = limit }) p text e c d (subst (λ M. IsNextSample (record { root = root; pools = M; limit = limit }) None None) narrow none) kept pushed)
+-- ---- one wanted thing
 
-pub samples_of : (q : Question) (ls : List Line) → All (λ l. Has q l.path l.object) ls → All (λ l. IsSampleOf q l.object) ls
-samples_of q ls h = All-weaker (λ l. Has q l.path l.object) (λ l. IsSampleOf q l.object) (λ l x. x.0) ls h
+abbrev AreSamples : Question → List Line → Type 0
+AreSamples q ls = All (λ l. IsSampleOf q l.object) ls
 
--- ---- a path of which a beginning is missed
+samples_of : (q : Question) (wanted : List Wanted) (c : Covered) → AreCovered q wanted c → AreSamples q c.lines
+samples_of q wanted c a = All-weaker (λ l. Has q l.wanted l.object) (λ l. IsSampleOf q l.object) (λ l x. x.0) c.lines (lines_samples q wanted c a)
 
-pub missed_line : OneText → (root : Node) (P : Pools) (limit : ℕ) (q : Question) → q ≡ record { root = root; pools = P; limit = limit } → (p a b : FieldPath) (text : List ℕ) → path_text p ≡ text → p ≡ a ++ b
-    → (c d : CodeCovered) → All (λ t. (v : Data) → ¬ Has q t v) c.missed.items → Contains c.missed.items (path_text a) → d.lines.items ≡ c.lines.items
-    → d.missed.items ≡ c.missed.items ++ text ∷ [] → Adds q text (covered_of c) (covered_of d)
-missed_line one root P limit q is p a b text e split c d none has kept pushed =
-    let after : covered_of d ≡ record { lines = lines_of c.lines.items; missed = c.missed.items ++ text ∷ [] } = rw (kept, pushed) refl in
-    let nowhere = All-contains (λ t. (v : Data) → ¬ Has q t v) c.missed.items (path_text a) none has in
-    subst (λ x. Adds q text (covered_of c) x) (sym after) (never (λ v h.
-    nowhere v (has_text q a v (path_text a) refl h.0 (there_before a b v (subst (λ x. is_there x v ≡ true) split (text_there one q p v text e h))))))
+-- what one more adds
+pub added_had : (q : Question) (wanted : List Wanted) (w : Wanted) (p : FieldPath) → path_text p ≡ w.path → (c : CodeCovered) → AreCovered q wanted (covered_of c)
+    → (l : CodeLine) → Contains c.lines.items l → is_there w.value p (data_of l.tree) ≡ true → AreCovered q (wanted ++ w ∷ []) (covered_of c)
+added_had q wanted w p e c a l has there = more wanted (covered_of c) w (covered_of c) a (had_line q w p e c (samples_of q wanted (covered_of c) a) l has there)
+
+pub added_line : OneText → (q : Question) (wanted : List Wanted) (w : Wanted) (p : FieldPath) → path_text p ≡ w.path → (c d : CodeCovered) (l : CodeLine) → AreCovered q wanted (covered_of c)
+    → All (λ l. is_there w.value p (data_of l.tree) ≡ false) c.lines.items → IsFirstSample q w.value p (Some (data_of l.tree)) → wanted_of l.wanted ≡ w
+    → d.lines.items ≡ c.lines.items ++ l ∷ [] → d.missed.items ≡ c.missed.items → AreCovered q (wanted ++ w ∷ []) (covered_of d)
+added_line one q wanted w p e c d l a new least named pushed kept = more wanted (covered_of c) w (covered_of d) a (first_line one q w p e c d l new least named pushed kept)
+
+pub added_missed : OneText → (q : Question) (wanted : List Wanted) (w : Wanted) (p : FieldPath) → path_text p ≡ w.path → (c d : CodeCovered) (x : CodeWanted) → AreCovered q wanted (covered_of c)
+    → IsFirstSample q w.value p None → wanted_of x ≡ w → d.lines.items ≡ c.lines.items → d.missed.items ≡ c.missed.items ++ x ∷ [] → AreCovered q (wanted ++ w ∷ []) (covered_of d)
+added_missed one q wanted w p e c d x a none named kept pushed = more wanted (covered_of c) w (covered_of d) a
+    (missed_more q w c d x kept pushed named (λ v h. none v (h.0, text_there one q w p v e h)))
+
+-- a beginning of its path is missed
+pub added_below : OneText → (q : Question) (wanted : List Wanted) (w : Wanted) (p a b : FieldPath) → path_text p ≡ w.path → p ≡ a ++ b
+    → (c d : CodeCovered) (x : CodeWanted) → AreCovered q wanted (covered_of c) → Contains (map wanted_of c.missed.items) (with_any (path_text a)) → wanted_of x ≡ w → d.lines.items ≡ c.lines.items
+    → d.missed.items ≡ c.missed.items ++ x ∷ [] → AreCovered q (wanted ++ w ∷ []) (covered_of d)
+added_below one q wanted w p a b e split c d x covered has named kept pushed =
+    let nowhere = All-contains (λ t. (v : Data) → ¬ Has q t v) (map wanted_of c.missed.items) (with_any (path_text a)) (is_cover q wanted (covered_of c) covered).missed has in
+    more wanted (covered_of c) w (covered_of d) covered (missed_more q w c d x kept pushed named
+    (λ v h. nowhere v (has_text q (with_any (path_text a)) a v refl h.0 (there_before w.value a b v (subst (λ x. is_there w.value x v ≡ true) split (text_there one q w p v e h))))))
 
 -- ---- the beginnings of a path in the code
+
+pub more_steps : (xs : List PathStep) (i : ℕ) (x : PathStep) → i < length xs → x ≡ get_or xs i x → path_of (take (i + 1) xs) ≡ path_of (take i xs) ++ step_of x ∷ []
+more_steps xs i x lt is = ap path_of (take_more xs i x lt ∙ ap (λ y. take i xs ++ y ∷ []) (sym is)) ∙ map-append step_of (take i xs) (x ∷ [])
 
 pub next_beginning : (xs : List PathStep) (i : ℕ) (x : PathStep) (front next : List ℕ) → i < length xs → x ≡ get_or xs i x → front ≡ path_text (path_of (take i xs)) → next ≡ below front (step_of x)
     → next ≡ path_text (path_of (take (i + 1) xs))
 next_beginning xs i x front next lt is e n =
-    let step : path_of (take (i + 1) xs) ≡ path_of (take i xs) ++ step_of x ∷ [] =
-    ap path_of (take_more xs i x lt ∙ ap (λ y. take i xs ++ y ∷ []) (sym is)) ∙ map-append step_of (take i xs) (x ∷ []) in
+    let step = more_steps xs i x lt is in
     n ∙ (ap (λ t. below t (step_of x)) e ∙ (text_below (path_of (take i xs)) (step_of x) ∙ sym (ap path_text step)))
 
 pub path_split : (xs : List PathStep) (n : ℕ) → path_of xs ≡ path_of (take n xs) ++ path_of (drop n xs)

@@ -83,3 +83,8 @@ is_left one p front s r = (
       let same : x.0 ≡ r = cc in
       there ∙ ap Some same,
 )
+
+-- nothing is left after the whole path
+pub last_left : OneText → (front : FieldPath) (s : FieldStep) (p : FieldPath) → rest_at [] (front ++ s ∷ p) (path_text (front ++ s ∷ p)) ≡ Some []
+last_left one front s [] = subst (λ t. rest_at [] (front ++ s ∷ []) t ≡ Some []) (text_below front s) ((is_left one (front ++ s ∷ []) front s []).1 refl)
+last_left one front s (t ∷ p) = subst (λ q. rest_at [] q (path_text q) ≡ Some []) (append_one front s (t ∷ p)) (last_left one (front ++ s ∷ []) t p)

@@ -85,23 +85,23 @@ value_of test (Some v) w has found = let same : v ≡ w = cc in subst (λ x. tes
 
 -- ---- of a value
 
-there_below : (t : FieldStep) (p : FieldPath) (s : Step) (v w : Data) → is_there (t ∷ p) v ≡ true → StepFollows s t → part_by v s ≡ Some w → is_there p w ≡ true
-there_below (field l) p (part.name k) (tree.object ms) w there follows found =
-    value_of (λ x. is_there p x) (member_at l ms) w there (ap (λ n. member_at n ms) (sym follows) ∙ found)
-there_below value p (part.name k) (tree.object ms) w there follows found = value_passes (λ x. is_there p x) ms k w (has_all_values (λ x. is_there p x) ms there) found
-there_below item_step p (part.index i) (tree.list ds) w there follows found = item_passes (λ x. is_there p x) ds i w (has_all_items (λ x. is_there p x) ds there) found
-there_below (field l) p (part.index i) v w there follows found = absurd follows
-there_below value p (part.index i) v w there follows found = absurd follows
-there_below item_step p (part.name k) v w there follows found = absurd follows
-there_below t p s v w there follows found = absurd (cc)
+there_below : (o : Option Data) (t : FieldStep) (p : FieldPath) (s : Step) (v w : Data) → is_there o (t ∷ p) v ≡ true → StepFollows s t → part_by v s ≡ Some w → is_there o p w ≡ true
+there_below o (field l) p (part.name k) (tree.object ms) w there follows found =
+    value_of (λ x. is_there o p x) (member_at l ms) w there (ap (λ n. member_at n ms) (sym follows) ∙ found)
+there_below o value p (part.name k) (tree.object ms) w there follows found = value_passes (λ x. is_there o p x) ms k w (has_all_values (λ x. is_there o p x) ms there) found
+there_below o item_step p (part.index i) (tree.list ds) w there follows found = item_passes (λ x. is_there o p x) ds i w (has_all_items (λ x. is_there o p x) ds there) found
+there_below o (field l) p (part.index i) v w there follows found = absurd follows
+there_below o value p (part.index i) v w there follows found = absurd follows
+there_below o item_step p (part.name k) v w there follows found = absurd follows
+there_below o t p s v w there follows found = absurd (cc)
 
 -- what is left of the path, where something is
-abbrev pub left_there : Option FieldPath → Data → Bool
-left_there None v = true
-left_there (Some p) v = is_there p v
+abbrev pub left_there : Option Data → Option FieldPath → Data → Bool
+left_there o None v = true
+left_there o (Some p) v = is_there o p v
 
-pub below_there : (t : FieldStep) (p : FieldPath) (s : Step) (v w : Data) → is_there (t ∷ p) v ≡ true → StepFollows s t → part_by v s ≡ Some w → is_there p w ≡ true
-below_there t p s v w there follows found = there_below t p s v w there follows found
+pub below_there : (o : Option Data) (t : FieldStep) (p : FieldPath) (s : Step) (v w : Data) → is_there o (t ∷ p) v ≡ true → StepFollows s t → part_by v s ≡ Some w → is_there o p w ≡ true
+below_there o t p s v w there follows found = there_below o t p s v w there follows found
 
 -- ---- values that are kept
 
@@ -110,7 +110,7 @@ equal_order Less e = absurd (cc)
 equal_order Equal e = refl
 equal_order Greater e = absurd (cc)
 
-tree_same_by : (v d : Data) → is_same v d ≡ true → v ≡ d
+pub tree_same_by : (v d : Data) → is_same v d ≡ true → v ≡ d
 tree_same_by v d same = tree_same v d (equal_order (tree_cmp v d) same)
 
 pub or_right : (a b : Bool) → b ≡ true → (a || b) ≡ true
@@ -202,10 +202,10 @@ value_more : (s t : Data → Bool) → ((w : Data) → s w ≡ true → t w ≡ 
 value_more s t more None has = has
 value_more s t more (Some v) has = more v has
 
--- where a path is there, each beginning of it is
-pub there_before : (a b : FieldPath) (v : Data) → is_there (a ++ b) v ≡ true → is_there a v ≡ true
-there_before [] b v there = refl
-there_before (field k ∷ a) b (tree.object ms) there = value_more (λ w. is_there (a ++ b) w) (λ w. is_there a w) (λ w h. there_before a b w h) (member_at k ms) there
-there_before (value ∷ a) b (tree.object ms) there = some_values_more (λ w. is_there (a ++ b) w) (λ w. is_there a w) (λ w h. there_before a b w h) ms there
-there_before (item_step ∷ a) b (tree.list ds) there = some_items_more (λ w. is_there (a ++ b) w) (λ w. is_there a w) (λ w h. there_before a b w h) ds there
-there_before (s ∷ a) b v there = absurd (cc)
+-- where a path is there, with a value or with any, each beginning of it is
+pub there_before : (o : Option Data) (a b : FieldPath) (v : Data) → is_there o (a ++ b) v ≡ true → is_there None a v ≡ true
+there_before o [] b v there = refl
+there_before o (field k ∷ a) b (tree.object ms) there = value_more (λ w. is_there o (a ++ b) w) (λ w. is_there None a w) (λ w h. there_before o a b w h) (member_at k ms) there
+there_before o (value ∷ a) b (tree.object ms) there = some_values_more (λ w. is_there o (a ++ b) w) (λ w. is_there None a w) (λ w h. there_before o a b w h) ms there
+there_before o (item_step ∷ a) b (tree.list ds) there = some_items_more (λ w. is_there o (a ++ b) w) (λ w. is_there None a w) (λ w h. there_before o a b w h) ds there
+there_before o (s ∷ a) b v there = absurd (cc)

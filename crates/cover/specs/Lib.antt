@@ -1,5 +1,6 @@
 -- What the contracts of this crate say, in words of its subject.
 pub mod There
+pub mod Wanted
 pub mod Cover
 pub mod View
 pub mod Internal

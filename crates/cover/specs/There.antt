@@ -1,9 +1,11 @@
 -- A path of a field is there in a value: under each name on the way there is a member, and each list and each map on the way has
--- an item, in every one of which the rest of the path is there. So nothing is below a null (this project's own).
+-- an item, in every one of which the rest of the path is there. So nothing is below a null. With a value, each value at its end is
+-- that one (this project's own).
 use Rattle.std.specs.Prelude.{List, [], ◌∷◌, Bool, true, false, Option, Some, None, ◌&&◌}
 use Rattle.jtree.specs.Data.{Data, Items, no_items, item, Members, no_members, member}
 use Rattle.jtree.specs.Data as tree
 use Rattle.jtree.specs.Path.{member_at}
+use Rattle.stored.specs.Objects.Tests.{is_same}
 use Rattle.explain.specs.Paths.FieldPath.{FieldPath}
 use Rattle.explain.specs.Paths.FieldPath as step
 
@@ -28,9 +30,14 @@ abbrev pub has_values : (Data → Bool) → Members → Bool
 has_values test no_members = false
 has_values test (member k d ms) = all_values test (member k d ms)
 
-abbrev pub is_there : FieldPath → Data → Bool
-is_there [] v = true
-is_there (step.field k ∷ p) (tree.object ms) = has_value (λ w. is_there p w) (member_at k ms)
-is_there (step.item ∷ p) (tree.list ds) = has_items (λ w. is_there p w) ds
-is_there (step.value ∷ p) (tree.object ms) = has_values (λ w. is_there p w) ms
-is_there _ _ = false
+-- any value, or this one
+abbrev pub is_one : Option Data → Data → Bool
+is_one None v = true
+is_one (Some w) v = is_same v w
+
+abbrev pub is_there : Option Data → FieldPath → Data → Bool
+is_there o [] v = is_one o v
+is_there o (step.field k ∷ p) (tree.object ms) = has_value (λ w. is_there o p w) (member_at k ms)
+is_there o (step.item ∷ p) (tree.list ds) = has_items (λ w. is_there o p w) ds
+is_there o (step.value ∷ p) (tree.object ms) = has_values (λ w. is_there o p w) ms
+is_there o _ _ = false

@@ -1,143 +1,205 @@
-//! The lines of the declared paths of a schema, one after the other.
-ghost use Rattle.std.specs.Prelude.{◌≡◌, ◌≤◌, ◌<◌, ◌++◌, true, false, ℕ, IfOk, List, Contains, All, map};
+//! The lines of what is wanted of a schema, one after the other.
+ghost use Rattle.std.specs.Prelude.{◌≡◌, ◌≤◌, ◌<◌, ◌++◌, ◌∷◌, [], true, false, ℕ, IfOk, List, Contains, All, map, option_map};
 ghost use Rattle.jtree.specs.View.{data_of};
 ghost use Rattle.explain.specs.Fields.Declared.{AreFields, IsDeclared};
 ghost use Rattle.explain.specs.Fields.Field.{Field as FieldData};
 ghost use Rattle.explain.specs.Fields.PathFault.{IsTextOf};
-ghost use Rattle.plan.specs.Pools.PlanFault.{HasGoodPaths};
-ghost use Rattle.plan.specs.Samples.Question.{Question};
-ghost use Rattle.cover.specs.There.{is_there as is_there_of};
-ghost use Rattle.cover.specs.Cover.{Adds, AreCovered, Has};
-ghost use Rattle.jtree.specs.Data.{Data};
 ghost use Rattle.explain.specs.Paths.FieldPath.{FieldPath};
 ghost use Rattle.explain.specs.Paths.PathText.{path_text};
-ghost use Rattle.cover.specs.View.{covered_of};
-ghost use Rattle.enumerate.specs.Page.{IsSampleOf};
+ghost use Rattle.plan.specs.Pools.PlanFault.{HasGoodPaths};
+ghost use Rattle.plan.specs.Samples.Question.{Question};
+ghost use Rattle.cover.specs.Cover.{AreCovered};
+ghost use Rattle.cover.specs.There.{is_there as is_there_of};
+ghost use Rattle.cover.specs.View.{covered_of, wanted_of as wanted_data_of};
+ghost use Rattle.cover.specs.Wanted.{AreValuesOf, AreWanted, Wanted as WantedData, with_any, with_value};
+ghost use Rattle.cover.specs.Internal.Ahead.{IsAhead};
+ghost use Rattle.cover.specs.Internal.Narrowed.{MayBeWanted};
 ghost use Rattle.cover.specs.Internal.Ways.{path_of};
 ghost use Rattle.cover.specs.declared.covering.Line.{Line as CodeLine};
 
-use crate::first::first_sample;
-use crate::narrowing::narrowed;
+use crate::ahead::{Ahead, Aim, find_first};
+use crate::narrowing::copy_of;
 use crate::there::is_there;
+use crate::values::values_of;
 use crate::way::{PathStep, below, steps_of};
 use explain::{Listing, paths_have_one_text};
 use jtree::{Text, Tree};
 use plan::{Plan, Pools, SizeSet};
 use std::alloc::{AllocError, Global};
-use stored::{Schema, stored_by_parts};
+use stored::Schema;
 
-/// The text of a declared path, and the first sample in which that path is there.
+/// What is wanted of a sample: that the path of this text is there, or that it is there with this value.
+#[derive(Drop)]
+pub struct Wanted {
+    pub path: Text,
+    pub value: Option<Tree>,
+}
+
+/// What is wanted, and the first sample that has it.
 #[derive(Drop)]
 pub struct Line {
-    pub path: Text,
+    pub wanted: Wanted,
     pub tree: Tree,
 }
 
-/// The lines of some paths, and the texts of those that are there in no sample.
+/// The lines of what is wanted, and what no sample has.
 #[derive(Drop)]
 pub struct Covered {
     pub lines: Vec<Line>,
-    pub missed: Vec<Text>,
+    pub missed: Vec<Wanted>,
+}
+
+/// The lines so far, and the looks ahead that may serve what comes next.
+#[derive(Drop)]
+struct State {
+    covered: Covered,
+    ahead: Vec<Ahead>,
 }
 
 /// For each declared path of the plan's schema, in the order of the listing: nothing where the path is there in the sample of a line
-/// before, else a line with the first sample in which it is there, and where there is no such sample, the path is missed.
+/// before, else a line with the first sample in which it is there, and where there is no such sample, the path is missed. With
+/// `values`, after a path that leads to a scalar the same for that path with each of its candidates over the pools, in the tree order.
 ///
 /// A path is there where each name on the way is, and an item of each list and of each map, with the rest of the path in every item.
-/// `AllocError` where an allocation fails.
-pub fn cover<Z: SizeSet>(alloc: Global, plan: Plan<Z>) -> Result<Covered, AllocError>
+/// It is there with a value where each value at its end is that one. `AllocError` where an allocation fails.
+pub fn cover<Z: SizeSet>(alloc: Global, plan: Plan<Z>, values: bool) -> Result<Covered, AllocError>
     requires paths { HasGoodPaths plan.root plan.pools }
-    ensures { IfOk result (λ c. (fields : List FieldData) × AreFields plan.root fields × AreCovered plan (map (λ f. f.path) fields) (covered_of c)) }
+    ensures { IfOk result (λ c. (fields : List FieldData) × AreFields plan.root fields × (wanted : List WantedData) × AreWanted values plan (map (λ f. f.path) fields) wanted × AreCovered plan wanted (covered_of c)) }
 {
     let limit = plan.limit();
     let (mut schema, pools) = plan.into_parts();
     let listing = Listing::new(alloc, &schema)?;
-    let mut covered = Covered {
-        lines: Vec::new(alloc),
-        missed: Vec::new(alloc),
+    let mut state = State {
+        covered: Covered {
+            lines: Vec::new(alloc),
+            missed: Vec::new(alloc),
+        },
+        ahead: Vec::new(alloc),
     };
     for field in listing.fields() {
-        schema = add_path::<Z>(
-            alloc,
-            schema,
-            &pools,
-            limit,
-            field.path.as_str(),
-            &mut covered,
-        )?;
+        let path = field.path.as_str();
+        let found = values_of(alloc, values, &schema, &pools, path)?;
+        schema = add_wanted::<Z>(alloc, schema, &pools, limit, path, None, &mut state)?;
+        schema = add_values::<Z>(alloc, schema, &pools, limit, path, &found, &mut state)?;
     }
+    let State { covered, ahead: _ } = state;
     Ok(covered)
 }
 
-/// Adds what the declared path of this text adds, and answers the schema.
-fn add_path<Z: SizeSet>(
+/// Adds what the declared path of this text adds with each of these values, and answers the schema.
+fn add_values<Z: SizeSet>(
     alloc: Global,
     schema: Schema,
     pools: &Pools,
     limit: u32,
     path: &str,
-    covered: &mut Covered,
+    values: &[Tree],
+    state: &mut State,
 ) -> Result<Schema, AllocError>
     requires limit { (1 ≤ limit) × (limit < Z.BITS) }
     requires paths { HasGoodPaths schema pools.now }
     requires declared { IsTextOf (IsDeclared schema) path.now }
+    requires values { (p : FieldPath) → path_text p ≡ path.now → All (λ v. MayBeWanted schema pools.now (Some (data_of v)) p) values.now }
     ensures schema { IfOk result (λ s. s ≡ schema) }
-    ensures adds { IfOk result (λ _. (q : Question) → q ≡ record { root = schema; pools = pools.now; limit = limit }
-        → All (λ l. IsSampleOf q l.object) (covered_of covered.old).lines → All (λ t. (v : Data) → ¬ Has q t v) covered.old.missed.items → Adds q path.now (covered_of covered.old) (covered_of covered.new)) }
+    ensures adds { IfOk result (λ _. (q : Question) (wanted : List WantedData) → q ≡ record { root = schema; pools = pools.now; limit = limit } → All (IsAhead q) state.old.ahead.items → AreCovered q wanted (covered_of state.old.covered)
+        → AreCovered q (wanted ++ map (with_value path.now) (map (λ v. data_of v) values.now)) (covered_of state.new.covered)) }
+    ensures ahead { IfOk result (λ _. (q : Question) → q ≡ record { root = schema; pools = pools.now; limit = limit } → All (IsAhead q) state.old.ahead.items → All (IsAhead q) state.new.ahead.items) }
 {
-    let steps = steps_of(alloc, &schema, path)?;
-    if is_had(covered.lines.as_slice(), steps.as_slice()) {
-        return Ok(schema);
-    }
-    // for their contracts alone
-    paths_have_one_text();
-    stored_by_parts();
-    if is_missed(alloc, covered.missed.as_slice(), steps.as_slice())? {
-        covered.missed.push(Text::from_str(alloc, path)?)?;
-        return Ok(schema);
-    }
-    let narrow = narrowed(alloc, pools, steps.as_slice())?;
-    let (schema, tree) = first_sample::<Z>(alloc, schema, narrow, limit)?;
-    let path = Text::from_str(alloc, path)?;
-    match tree {
-        Some(tree) => covered.lines.push(Line { path, tree })?,
-        None => covered.missed.push(path)?,
+    let mut schema = schema;
+    for value in values {
+        schema = add_wanted::<Z>(alloc, schema, pools, limit, path, Some(value), state)?;
     }
     Ok(schema)
 }
 
-/// Whether the path of the steps is there in the tree of a line.
-fn is_had(lines: &[Line], steps: &[PathStep]) -> bool
-    ensures had { result ≡ true → (l : CodeLine) × (Contains lines.now l × (is_there_of (path_of steps.now) (data_of l.tree) ≡ true)) }
-    ensures new { result ≡ false → All (λ l. is_there_of (path_of steps.now) (data_of l.tree) ≡ false) lines.now }
+/// Adds what the declared path of this text adds, or that path with the value, and answers the schema.
+fn add_wanted<Z: SizeSet>(
+    alloc: Global,
+    schema: Schema,
+    pools: &Pools,
+    limit: u32,
+    path: &str,
+    value: Option<&Tree>,
+    state: &mut State,
+) -> Result<Schema, AllocError>
+    requires limit { (1 ≤ limit) × (limit < Z.BITS) }
+    requires paths { HasGoodPaths schema pools.now }
+    requires declared { IsTextOf (IsDeclared schema) path.now }
+    requires value { (p : FieldPath) → path_text p ≡ path.now → MayBeWanted schema pools.now (option_map (λ v. data_of v.now) value) p }
+    ensures schema { IfOk result (λ s. s ≡ schema) }
+    ensures adds { IfOk result (λ _. (q : Question) (wanted : List WantedData) → q ≡ record { root = schema; pools = pools.now; limit = limit } → All (IsAhead q) state.old.ahead.items → AreCovered q wanted (covered_of state.old.covered)
+        → AreCovered q (wanted ++ record { path = path.now; value = option_map (λ v. data_of v.now) value.entry } ∷ []) (covered_of state.new.covered)) }
+    ensures ahead { IfOk result (λ _. (q : Question) → q ≡ record { root = schema; pools = pools.now; limit = limit } → All (IsAhead q) state.old.ahead.items → All (IsAhead q) state.new.ahead.items) }
+{
+    let steps = steps_of(alloc, &schema, path)?;
+    // for its contract alone
+    paths_have_one_text();
+    if is_had(state.covered.lines.as_slice(), value, steps.as_slice()) {
+        return Ok(schema);
+    }
+    let wanted = wanted_of(alloc, path, value)?;
+    if is_missed(alloc, state.covered.missed.as_slice(), steps.as_slice())? {
+        state.covered.missed.push(wanted)?;
+        return Ok(schema);
+    }
+    let aim = Aim {
+        path,
+        value,
+        steps: steps.as_slice(),
+    };
+    let (schema, tree) = find_first::<Z>(alloc, schema, pools, limit, aim, &mut state.ahead)?;
+    match tree {
+        Some(tree) => state.covered.lines.push(Line { wanted, tree })?,
+        None => state.covered.missed.push(wanted)?,
+    }
+    Ok(schema)
+}
+
+/// That the path of this text is there, or that it is there with the value.
+fn wanted_of(alloc: Global, path: &str, value: Option<&Tree>) -> Result<Wanted, AllocError>
+    ensures { IfOk result (λ w. wanted_data_of w ≡ record { path = path.now; value = option_map (λ v. data_of v.now) value.entry }) }
+{
+    let path = Text::from_str(alloc, path)?;
+    let value = match value {
+        Some(value) => Some(copy_of(alloc, value)?),
+        None => None,
+    };
+    Ok(Wanted { path, value })
+}
+
+/// Whether the path of the steps is there in the tree of a line, with the value where one is wanted.
+fn is_had(lines: &[Line], value: Option<&Tree>, steps: &[PathStep]) -> bool
+    ensures had { result ≡ true → (l : CodeLine) × (Contains lines.now l × (is_there_of (option_map (λ v. data_of v.now) value.entry) (path_of steps.now) (data_of l.tree) ≡ true)) }
+    ensures new { result ≡ false → All (λ l. is_there_of (option_map (λ v. data_of v.now) value.entry) (path_of steps.now) (data_of l.tree) ≡ false) lines.now }
 {
     for line in lines {
-        if is_there(steps, &line.tree) {
+        if is_there(value, steps, &line.tree) {
             return true;
         }
     }
     false
 }
 
-/// Whether the path of the steps, or a beginning of it, has one of these texts.
-fn is_missed(alloc: Global, missed: &[Text], steps: &[PathStep]) -> Result<bool, AllocError>
-    ensures { IfOk result (λ is. is ≡ true → (a : FieldPath) × (b : FieldPath) × ((path_of steps.now ≡ a ++ b) × Contains missed.now (path_text a))) }
+/// Whether the path of the steps, or a beginning of it, is missed.
+fn is_missed(alloc: Global, missed: &[Wanted], steps: &[PathStep]) -> Result<bool, AllocError>
+    ensures { IfOk result (λ is. is ≡ true → (a : FieldPath) × (b : FieldPath) × ((path_of steps.now ≡ a ++ b) × Contains (map wanted_data_of missed.now) (with_any (path_text a)))) }
 {
     let mut front = String::new(alloc);
     for step in steps {
         front = below(alloc, &front, step)?;
-        if has_text(missed, &front) {
+        if has_path(missed, &front) {
             return Ok(true);
         }
     }
     Ok(false)
 }
 
-fn has_text(texts: &[Text], text: &str) -> bool
-    ensures { result ≡ true → Contains texts.now text.now }
+/// Whether the path of this text is among them, with any value.
+fn has_path(missed: &[Wanted], text: &str) -> bool
+    ensures { result ≡ true → Contains (map wanted_data_of missed.now) (with_any text.now) }
 {
-    for other in texts {
-        if text == other.as_str() {
+    for other in missed {
+        if other.value.is_none() && text == other.path.as_str() {
             return true;
         }
     }

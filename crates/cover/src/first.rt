@@ -13,7 +13,7 @@ use std::alloc::{AllocError, Global};
 use stored::Schema;
 
 /// The limit at which a sample is looked for first: most paths are in a sample of so few nodes, and such a plan is made faster.
-const FEW: u32 = 15;
+pub(crate) const FEW: u32 = 15;
 
 /// The first sample of this schema over these pools and within this limit, `None` where there is none; and the schema.
 ///
@@ -66,7 +66,7 @@ fn first_within<Z: SizeSet>(
 }
 
 /// Of a plan whose limit and paths are good no other fault is left.
-fn memory_fault(fault: PFault) -> AllocError
+pub(crate) fn memory_fault(fault: PFault) -> AllocError
     requires { fault ≡ NoMemory }
 {
     drop(fault);

@@ -1,12 +1,14 @@
-//! Samples that cover the paths of a schema: for each path the first one in which it is there.
+//! Samples that cover a schema: for each path the first one in which it is there, and for each value of a scalar the first one with it.
 #![tactic(auto)]
 
+mod ahead;
 mod covering;
 mod first;
 mod law;
 mod narrowing;
 mod there;
+mod values;
 mod way;
 
-pub use covering::{Covered, Line, cover};
+pub use covering::{Covered, Line, Wanted, cover};
 pub use law::lines_cover;

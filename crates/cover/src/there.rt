@@ -1,38 +1,48 @@
 //! Whether a path is there in a value.
-ghost use Rattle.std.specs.Prelude.{◌≡◌, List};
+ghost use Rattle.std.specs.Prelude.{◌≡◌, List, option_map};
 ghost use Rattle.jtree.specs.View.{data_of};
-ghost use Rattle.cover.specs.There.{is_there as is_there_of, has_items, has_values};
+ghost use Rattle.cover.specs.There.{is_there as is_there_of, is_one as is_one_of, has_items, has_values};
 ghost use Rattle.cover.specs.Internal.Ways.{path_of};
 
 use crate::way::PathStep;
 use jtree::{Items, Members, Tree};
 
 /// Whether the path of these steps is there: each name on the way, and an item of each list and of each map, with the rest of the
-/// path in every one.
+/// path in every one. Where a value is wanted, each value at the end of the path is that one.
 #[cycle(there)]
-pub(crate) fn is_there(steps: &[PathStep], tree: &Tree) -> bool
-    ensures { result ≡ is_there_of (path_of steps.now) (data_of tree.now) }
+pub(crate) fn is_there(value: Option<&Tree>, steps: &[PathStep], tree: &Tree) -> bool
+    ensures { result ≡ is_there_of (option_map (λ w. data_of w.now) value.entry) (path_of steps.now) (data_of tree.now) }
 {
     let [step, rest @ ..] = steps else {
-        return true;
+        return is_one(value, tree);
     };
     match (step, tree) {
         (PathStep::Field(name), Tree::Object(members)) => match members.get(name.as_str()) {
-            Some(value) => is_there(rest, value),
+            Some(below) => is_there(value, rest, below),
             None => false,
         },
-        (PathStep::Item, Tree::List(items)) => is_in_items(rest, items),
-        (PathStep::Value, Tree::Object(members)) => is_in_values(rest, members),
+        (PathStep::Item, Tree::List(items)) => is_in_items(value, rest, items),
+        (PathStep::Value, Tree::Object(members)) => is_in_values(value, rest, members),
         _ => false,
     }
 }
 
+/// Whether any value is wanted, or this one.
+fn is_one(value: Option<&Tree>, tree: &Tree) -> bool
+    ensures { result ≡ is_one_of (option_map (λ w. data_of w.now) value.entry) (data_of tree.now) }
+{
+    match value {
+        Some(value) => tree == value,
+        None => true,
+    }
+}
+
 #[cycle(there)]
-fn is_in_items(rest: &[PathStep], items: &Items) -> bool
-    ensures { result ≡ has_items (is_there_of (path_of rest.now)) items.now }
+fn is_in_items(value: Option<&Tree>, rest: &[PathStep], items: &Items) -> bool
+    ensures { result ≡ has_items (is_there_of (option_map (λ w. data_of w.now) value.entry) (path_of rest.now)) items.now }
 {
     for item in &items.items {
-        if !is_there(rest, item) {
+        if !is_there(value, rest, item) {
             return false;
         }
     }
@@ -40,11 +50,11 @@ fn is_in_items(rest: &[PathStep], items: &Items) -> bool
 }
 
 #[cycle(there)]
-fn is_in_values(rest: &[PathStep], members: &Members) -> bool
-    ensures { result ≡ has_values (is_there_of (path_of rest.now)) members.now }
+fn is_in_values(value: Option<&Tree>, rest: &[PathStep], members: &Members) -> bool
+    ensures { result ≡ has_values (is_there_of (option_map (λ w. data_of w.now) value.entry) (path_of rest.now)) members.now }
 {
     for member in &members.members {
-        if !is_there(rest, &member.tree) {
+        if !is_there(value, rest, &member.tree) {
             return false;
         }
     }

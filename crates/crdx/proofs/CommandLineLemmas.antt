@@ -1,5 +1,5 @@
 -- What the matches of `clap` say of a command and its arguments.
-use Rattle.std.proofs.Common.{◌≡◌, ℕ, List, [], Option, Some, None, Bor, Box, refl, sym, ap, subst, find, ◌∙◌, inl, inr, true}
+use Rattle.std.proofs.Common.{◌≡◌, ℕ, List, [], Option, Some, None, Bor, Box, refl, sym, ap, subst, find, ◌∙◌, inl, inr, true, map, codes, length, arith, ◌∷◌, ◌⊎◌}
 use Rattle.std.specs.Prelude.{◌≢◌, ◌<◌, ◌^◌, Result, Ok, Err, option_map, option_and_then, unwrap_or}
 use Rattle.std.specs.Str.{bytes_eq}
 use Rattle.std.specs.Str.Parse.{IsNumeral, ParsesUnsigned, without_leading_plus}
@@ -18,9 +18,10 @@ use Rattle.clap.specs.declared.parser.matches.ArgMatches.TheViews.{out-SubComman
 use Rattle.clap.specs.declared.error.Error.{Error}
 use Rattle.clap.specs.declared.error.kind.ErrorKind.{ErrorKind}
 use Rattle.clap.specs.declared.error.kind.ErrorKind.TheVariants.{OutOfMemory}
+use Rattle.std.proofs.lemmas.List.{length-map}
 use Rattle.std.proofs.lemmas.List.Elements.{All-from_recursion}
 use Rattle.clap.proofs.WalkLemmas.{find_row, first_value-rows}
-use Rattle.crdx.specs.Program.CommandLine.{crdx_app, entered, faults, value_of, decimal_value, command_names, IsCommand, IsHelp, IsRequestOf, IsUsageErrorOrMemory, Asks}
+use Rattle.crdx.specs.Program.CommandLine.{crdx_app, entered, faults, value_of, values_of, crd_input, input_of, standard_inputs, decimal_value, command_names, ReadsObjectsTwice, VariesNoObject, IsCommand, IsHelp, IsRequestOf, IsUsageErrorOrMemory, Asks}
 use Rattle.crdx.specs.declared.arguments.request.Request.{Request}
 use Rattle.crdx.specs.declared.arguments.request.Request.TheVariants.{Check, Explain, Object, ObjectLines, SuggestPools, Sample, Cover, Help, UsageError, NoMemory}
 
@@ -49,6 +50,37 @@ pub number_read : {E : Type 0} (gives : List ℕ → Result ℕ E → Type 0) �
     → IsNumeral 10 (without_leading_plus t) → decimal_value t < 2 ^ 32 → n ≡ Some (decimal_value t)
 number_read gives parses t (Some v) read numeral fits = ap (λ k. Some k) (parses t (Ok v) read).1
 number_read gives parses t None read numeral fits = absurd (parses t (Err read.0) read.1 (numeral, fits))
+
+-- `pools` with objects that do not go together
+pub refused_pools : (rows : List Row) (o : Request) → IsUsageErrorOrMemory o → ReadsObjectsTwice rows ⊎ VariesNoObject rows → IsCommand (Some (codes "pools", rows)) o
+refused_pools rows (UsageError text) is mixes = inr (inr (inr (rows, refl, mixes)))
+refused_pools rows NoMemory is mixes = tt
+refused_pools rows _ is mixes = absurd is
+
+-- an object is to be varied, by the rows
+pub varies_by_rows : (rows : List Row) (from varied : List (Bor Text)) → map (λ w. w.now) from ≡ values_of (codes "from") rows → map (λ w. w.now) varied ≡ values_of (codes "vary") rows
+    → (length varied ≢ 0) × (length from ≢ 1) → VariesNoObject rows
+varies_by_rows rows from varied f v (some, other) =
+    (λ none. some (sym (length-map varied (λ w. w.now)) ∙ ap length (v ∙ none)), λ one. other (sym (length-map from (λ w. w.now)) ∙ ap length f ∙ one))
+
+rows_vary : (rows : List Row) (varied : List (Bor Text)) → map (λ w. w.now) varied ≡ values_of (codes "vary") rows → values_of (codes "vary") rows ≢ [] → length varied ≢ 0
+rows_vary rows [] v some zero = some (sym v)
+rows_vary rows (w ∷ varied) v some zero = absurd (omega (arith, zero))
+
+pub rows_vary_none : (rows : List Row) (from varied : List (Bor Text)) → map (λ w. w.now) from ≡ values_of (codes "from") rows → map (λ w. w.now) varied ≡ values_of (codes "vary") rows
+    → (length varied ≢ 0 → length from ≢ 1 → ⊥) → VariesNoObject rows → ⊥
+rows_vary_none rows from varied f v never (some, other) = never (rows_vary rows varied v some) (λ one. other (sym (ap length f) ∙ length-map from (λ w. w.now) ∙ one))
+
+-- the inputs that words name
+inputs_of : (words : List (Bor Text)) → map (λ w. input_of w.now) words ≡ map input_of (map (λ w. w.now) words)
+inputs_of [] = refl
+inputs_of (w ∷ words) = ap (λ is. input_of w.now ∷ is) (inputs_of words)
+
+-- all inputs of `pools`, by the rows
+pub inputs_by_rows : (rows : List Row) (crd : Option Text) (words : List (Bor Text)) → crd ≡ crd_input rows → map (λ w. w.now) words ≡ values_of (codes "from") rows
+    → standard_inputs (crd ∷ map (λ w. input_of w.now) words) ≡ standard_inputs (crd_input rows ∷ map input_of (values_of (codes "from") rows))
+inputs_by_rows rows crd words here named = ap (λ i. standard_inputs (i ∷ map (λ w. input_of w.now) words)) here
+    ∙ ap (λ is. standard_inputs (crd_input rows ∷ is)) (inputs_of words ∙ ap (map input_of) named)
 
 -- where the values of an option come from, by the rows
 pub source_rows : (f : Found) (id : Text) → option_and_then (λ a. a.source) (matched_of f id) ≡ option_and_then (λ r. r.source) (find (λ r. bytes_eq r.id id) (rows_of f))

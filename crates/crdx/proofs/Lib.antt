@@ -8,8 +8,9 @@
 -- The command line: `CommandLineLemmas` says what the matches of `clap` ask for.
 -- Answers: `CheckLemmas` has those of `check`, `ObjectLemmas` those of `validate`, `prune`, `default` and `leaves`, `LineLemmas` texts
 -- and choices as they are printed.
--- `LineAnswerLemmas` has the answers to lines, one after the other.
--- Runs: `RunLemmas` says, by the documents at hand, why a run has no answer, and which result the run has with each cause.
+-- `LineAnswerLemmas` has the answers to lines, one after the other. `ObjectInputLemmas` has the documents on lines, and over lines.
+-- Runs: `RunLemmas` says, by the documents at hand, why a run has no answer, and which result the run has with each cause; `PoolsLemmas`
+-- says it of `pools`.
 pub mod PageLemmas
 pub mod StopLemmas
 pub mod WrittenLemmas
@@ -18,6 +19,8 @@ pub mod ObjectLemmas
 pub mod LineLemmas
 pub mod LineAnswerLemmas
 pub mod RunLemmas
+pub mod PoolsLemmas
+pub mod ObjectInputLemmas
 pub mod CheckLemmas
 pub mod CommandLineLemmas
 pub mod NameLemmas

@@ -40,6 +40,7 @@ use Rattle.crdx.specs.declared.running.answer.Answer.{Answer}
 use Rattle.crdx.specs.declared.arguments.request.CommonArguments.{CommonArguments}
 use Rattle.crdx.specs.declared.arguments.request.ExplainArguments.{ExplainArguments}
 use Rattle.crdx.specs.declared.arguments.request.ObjectArguments.{ObjectArguments}
+use Rattle.crdx.specs.declared.arguments.request.CoverArguments.{CoverArguments}
 use Rattle.crdx.specs.declared.arguments.request.SampleArguments.{SampleArguments}
 use Rattle.crdx.specs.declared.arguments.request.Request.{Request}
 use Rattle.crdx.specs.declared.arguments.request.Request.TheVariants.{Explain, Object, Sample, Cover}
@@ -295,7 +296,7 @@ pub failed_once : (before now : ℕ) → now ≡ one_more before → HasFailed b
 failed_once before now is = grind (arith, nat_tests)
 
 -- why no samples are listed is why nothing is covered
-pub cover_input : (has : Documents) (unread read : ℕ) (arguments : SampleArguments) (cause : Cause) → IsInputCause has unread read (Sample arguments) cause → IsInputCause has unread read (Cover arguments) cause
+pub cover_input : (has : Documents) (unread read : ℕ) (arguments : CoverArguments) (cause : Cause) → IsInputCause has unread read (Sample arguments.samples) cause → IsInputCause has unread read (Cover arguments) cause
 cover_input has unread read arguments (Read i) why = why
 cover_input has unread read arguments (Document i fault) why = why
 cover_input has unread read arguments (Crd fault) why = why

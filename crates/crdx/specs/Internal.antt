@@ -7,5 +7,6 @@ pub mod Progress
 pub mod Cause
 pub mod Found
 pub mod LineProgress
+pub mod ObjectInputs
 pub mod ExitStatus
 pub mod CheckText

@@ -11,4 +11,5 @@ pub mod FieldLines
 pub mod FieldAnswer
 pub mod Requested
 pub mod LineAnswers
+pub mod Objects
 pub mod RunResult

@@ -74,6 +74,7 @@ pub trait Inputs {
     fn open_lines(&mut self, name: Option<&str>) -> Result<(), InFault>
         ensures opened { OnOk result ((ls : List (List ℕ)) → coming self.new ls → lines self.old (file_name name.entry) ls) }
         ensures refused { IfErr result IsOpenFault }
+        ensures lines { AreLinesAmong (lines self.new) (lines self.old) }
         ensures counts { failures self.new ≡ failures_after_read (failures self.old) result };
 
     /// Makes `line` the next line of the input that was opened last, without the newline at its end, which the last line may lack,
@@ -85,6 +86,7 @@ pub trait Inputs {
         ensures line { IfOk result (λ more. more ≡ true → (ls : List (List ℕ)) → coming self.new ls → coming self.old (line.new.items ∷ ls)) }
         ensures end { IfOk result (λ more. more ≡ false → coming self.old []) }
         ensures refused { IfErr result (IsLineFault (coming self.old)) }
+        ensures lines { AreLinesAmong (lines self.new) (lines self.old) }
         ensures counts { failures self.new ≡ failures_after_read (failures self.old) result };
 
     /// The bytes of the document that was refused last, as far as they were read.

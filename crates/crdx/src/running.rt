@@ -14,6 +14,7 @@ mod explaining;
 mod explanation;
 mod line_answers;
 mod lines;
+mod object_inputs;
 mod objects;
 mod reporting;
 mod sampling;
@@ -80,7 +81,7 @@ pub fn run<I: Inputs, W: Sink, E: Sink>(
             finish_lines(alloc, &answered, &explanation, err)
         }
         Request::SuggestPools(arguments) => {
-            let mut explanation = Explanation::new(arguments.why);
+            let mut explanation = Explanation::new(arguments.common.why);
             let answer = suggest_pools(alloc, &arguments, inputs, &mut explanation);
             finish(alloc, &answer, &explanation, out, err)
         }
@@ -90,7 +91,7 @@ pub fn run<I: Inputs, W: Sink, E: Sink>(
             finish_samples(alloc, &walked, &explanation, err)
         }
         Request::Cover(arguments) => {
-            let mut explanation = Explanation::new(arguments.common.why);
+            let mut explanation = Explanation::new(arguments.samples.common.why);
             let mut said = String::new(alloc);
             let answer = cover_paths(alloc, &arguments, inputs, &mut explanation, &mut said);
             finish_cover(alloc, &answer, &said, &explanation, out, err)

@@ -18,7 +18,7 @@
 //! | `plan_tests/pools_cases` | documents of pools |
 //! | `plan_tests/size_set_cases` | sets of sizes |
 //! | `plan_tests/plan_cases` | plans: their nodes, sizes, candidates and slots |
-//! | `suggest_tests/document_cases` | the pools document that is suggested for a schema |
+//! | `suggest_tests/document_cases` | the pools document that is suggested for a schema, for objects, and around an object |
 //! | `enumerate_tests/lending_cases` | samples lent to a taker, page by page |
 //! | `enumerate_tests/page_cases` | pages, walks and enumerations, with their steps |
 //! | `enumerate_tests/reference_cases` | the plain reference, and walks, against lists made by hand |

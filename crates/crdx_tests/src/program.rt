@@ -15,6 +15,7 @@ mod leaf_cases;
 mod limit_cases;
 mod line_cases;
 mod path_cases;
+mod pools_cases;
 mod presence_cases;
 mod present_path_cases;
 mod prune_cases;

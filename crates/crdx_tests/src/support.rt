@@ -4,6 +4,7 @@ pub mod fakes;
 pub mod harness;
 pub mod nodes;
 pub mod pages;
+pub mod plain_cover;
 pub mod plans;
 pub mod reference;
 pub mod texts;

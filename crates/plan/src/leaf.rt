@@ -1,5 +1,5 @@
 //! The candidates of a leaf: a scalar, an open node, or a node whose values are fixed.
-ghost use Rattle.std.specs.Prelude.{◌≡◌, ℕ, ◌≤◌, ◌<◌, ◌↔◌, ◌⊎◌, ◌∷◌, IfOk, option_map};
+ghost use Rattle.std.specs.Prelude.{◌≡◌, ℕ, ◌≤◌, ◌<◌, ◌↔◌, ◌⊎◌, ◌∷◌, IfOk, map, option_map};
 ghost use Rattle.std.specs.List.{slice_get};
 ghost use Rattle.std.specs.Option.{option_copied};
 ghost use Rattle.jtree.specs.Data.{null};
@@ -8,7 +8,7 @@ ghost use Rattle.jtree.specs.View.{data_of};
 ghost use Rattle.jtree.specs.declared.value.Tree.{Tree};
 ghost use Rattle.schema.specs.Nodes.View.{node_of};
 ghost use Rattle.plan.specs.Pools.Pools.{Pools as PoolsData};
-ghost use Rattle.plan.specs.Samples.Sites.{Site, where_fixed};
+ghost use Rattle.plan.specs.Samples.Sites.{Site, plain, where_fixed};
 ghost use Rattle.plan.specs.Samples.Over.{listed_for, listed};
 ghost use Rattle.plan.specs.Samples.Candidates.{sort_at, sort_of, AreCandidates};
 ghost use Rattle.plan.specs.Samples.Sizes.{HasSize, IsUpTo};
@@ -56,6 +56,33 @@ pub(crate) fn leaf_of(
     let base = base_for(alloc, pools, fixed, path, node)?;
     let places = stored_places(alloc, node, base.trees(values))?;
     Ok(Leaf { base, places })
+}
+
+/// The candidates of a leaf, in the tree order, each once: the values that a scalar or an open node with this path can have, or, where
+/// the pools fix its values, those of them that are stored there. `AllocError` where an allocation fails.
+pub fn candidates(
+    alloc: Global,
+    pools: &Pools,
+    path: &str,
+    node: &Node,
+) -> Result<Vec<Tree>, AllocError>
+    ensures { IfOk result (λ vs. sort_at (node_of node.now) ≡ LeafSort → AreCandidates pools.now (plain pools.now path.now (node_of node.now)) (map (λ v. data_of v) vs.items)) }
+{
+    let values = Values::new(alloc, pools)?;
+    let leaf = leaf_of(alloc, pools, &values, pools.fixed_at(path), path, node)?;
+    copies(alloc, &values, &leaf)
+}
+
+/// Copies of the leaf's candidates.
+fn copies(alloc: Global, values: &Values, leaf: &Leaf) -> Result<Vec<Tree>, AllocError>
+    ensures { IfOk result (λ vs. trees_of vs.items ≡ candidates_of values.now leaf.now) }
+{
+    let mut copies = Vec::new(alloc);
+    for place in &leaf.places {
+        let tree = leaf.base.tree(values, *place);
+        copies.push(tree.copy(alloc).map_err(|_| AllocError)?)?;
+    }
+    Ok(copies)
 }
 
 /// The base with the choices of a leaf at this path.

@@ -28,10 +28,11 @@ mod word;
 
 pub use arena::PlanNode;
 pub use fault::PFault;
+pub use leaf::candidates;
 pub use meter::Meter;
 pub use plan::{Plan, Slot};
 pub use pool_limits::{PoolLimits, named_pool_limits};
-pub use pool_paths::first_bad_path;
+pub use pool_paths::{first_bad_path, is_fixable_path};
 pub use pool_sizes::{Oversized, PoolName, oversized_pool};
 pub use pools::Pools;
 pub use size_set::SizeSet;

@@ -128,8 +128,8 @@ fn is_declared_path(schema: &Schema, text: &str) -> bool
     }
 }
 
-/// Whether the text is that of a path whose values may be fixed.
-fn is_fixable_path(schema: &Schema, text: &str) -> bool
+/// Whether the text is that of a declared path whose values may be fixed: of any but the item of a map list.
+pub fn is_fixable_path(schema: &Schema, text: &str) -> bool
     ensures { IsTrue result ↔ IsFixablePath schema.now text.now }
 {
     // for its contract alone

@@ -1,10 +1,20 @@
--- Lists of trees as the code makes them.
-use Rattle.std.proofs.Common.{◌≡◌, List, [], ◌∷◌, ◌++◌, map, refl, ap}
-use Rattle.jtree.specs.Data.{item, IsTree, AreTrees}
+-- Lists of trees as the code makes them, the members of a document, and what is said with its pools.
+use Rattle.std.proofs.Common.{◌≡◌, ◌∙◌, ℕ, suc, length, List, [], ◌∷◌, ◌++◌, Bool, true, not, ◌==◌, Some, map, refl, ap, arith}
+use Rattle.std.proofs.lemmas.Bool.Decides.{nat_tests}
+use Rattle.std.specs.Borrow.{Bor}
+use Rattle.std.specs.Prelude.{codes}
+use Rattle.jtree.specs.Data.{Data, text, list, object, item, IsTree, AreTrees, Members, no_members, member}
 use Rattle.jtree.specs.View as view
-use Rattle.jtree.specs.View.{data_of}
+use Rattle.jtree.specs.View.{data_of, members_of}
+use Rattle.jtree.specs.declared.value.Member.{Member}
 use Rattle.jtree.specs.declared.value.Tree.{Tree}
-use Rattle.suggest.specs.Suggested.Document.{items_of}
+use Rattle.schema.specs.Nodes.Node.{Node}
+use Rattle.plan.specs.declared.pool_limits.PoolLimits.{PoolLimits}
+use Rattle.suggest.specs.View.{texts_at}
+use Rattle.suggest.specs.Suggested.Document.{items_of, with_member, document_with, general_of, all_free, single, said_by}
+use Rattle.suggest.specs.Suggested.Varied.{said_below}
+use Rattle.suggest.specs.Suggested.Wanted.{Wanted}
+use Rattle.suggest.specs.Internal.Parts.{with_lists_member, with_texts_member, general_with, said_from}
 
 pub items_are : (ts : List Tree) → view.items_of ts ≡ items_of (map (λ t. data_of t) ts)
 items_are [] = refl
@@ -13,3 +23,32 @@ items_are (t ∷ ts) = ap (item (data_of t)) (items_are ts)
 pub one_tree_more : (ts : List Tree) (t : Tree) → AreTrees (view.items_of ts) → IsTree (data_of t) → AreTrees (view.items_of (ts ++ t ∷ []))
 one_tree_more [] t h one = (one, tt)
 one_tree_more (u ∷ ts) t h one = (h.0, one_tree_more ts t h.1 one)
+
+-- ---- the members of a document, each put where it belongs
+
+pub some_lists : (k : List ℕ) (ls : List Member) (ms : Members) → (length ls ≡ 0 → ⊥) → with_lists_member k (members_of ls) ms ≡ with_member k (object (members_of ls)) ms
+some_lists k [] ms some = absurd (some refl)
+some_lists k (l ∷ ls) ms some = refl
+
+pub in_place : (any : List Data) (fixed : Members) (integers : List Data) (names : List (List ℕ)) (paths : Members) (present : List (List ℕ)) (strings : List Data)
+    → object (with_member (codes "strings") (list (items_of strings)) (with_texts_member (codes "present") present (with_lists_member (codes "paths") paths (
+    with_member (codes "names") (list (items_of (map (λ t. text t) names))) (with_member (codes "integers") (list (items_of integers)) (
+    with_lists_member (codes "fixed") fixed (with_member (codes "any") (list (items_of any)) no_members))))))) ≡ document_with any fixed integers names paths present strings
+in_place any no_members integers names no_members [] strings = refl
+in_place any no_members integers names no_members (t ∷ ts) strings = refl
+in_place any no_members integers names (member k d ms) [] strings = refl
+in_place any no_members integers names (member k d ms) (t ∷ ts) strings = refl
+in_place any (member l e ns) integers names no_members [] strings = refl
+in_place any (member l e ns) integers names no_members (t ∷ ts) strings = refl
+in_place any (member l e ns) integers names (member k d ms) [] strings = refl
+in_place any (member l e ns) integers names (member k d ms) (t ∷ ts) strings = refl
+
+-- ---- what is said with the pools that suit
+
+some_more : (n : ℕ) → not (suc n == 0) ≡ true
+some_more n = grind (arith, nat_tests)
+
+pub said_around : (varied : List (Bor (List ℕ))) (beside : Bool) (limits : PoolLimits) (raw : Data) (root : Node) (w : Wanted) → beside ≡ not (length varied == 0)
+    → said_from (texts_at varied) (general_with beside limits root) w raw root ≡ said_by (texts_at varied) (general_of limits root) w raw root
+said_around [] beside limits raw root w is = ap (λ b. all_free (general_with b limits root) w raw root) is
+said_around (t ∷ ts) beside limits raw root w is = ap (λ b. said_below (general_with b limits root) (texts_at (t ∷ ts)) (single w.objects) (Some raw) [] root) (is ∙ some_more (length ts))

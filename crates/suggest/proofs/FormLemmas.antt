@@ -1,20 +1,24 @@
 -- The suggested document is one that pools are read from.
-use Rattle.std.proofs.Common.{◌≡◌, ◌⊎◌, ◌≤◌, ℕ, zero, suc, ℤ, List, [], ◌∷◌, Bool, true, false, Some, map, take, length, filter_map, refl, sym, ap, ◌∙◌, subst, inl, inr, arith}
-use Rattle.std.specs.Prelude.{codes}
+use Rattle.std.proofs.Common.{◌≡◌, ◌⊎◌, ℕ, zero, suc, ℤ, List, [], ◌∷◌, ◌++◌, Bool, true, false, Some, map, take, filter_map, refl, sym, ap, ◌∙◌, subst, inl, inr}
+use Rattle.std.specs.Prelude.{codes, filter, not}
+use Rattle.std.specs.List.{fold}
 use Rattle.std.specs.Str.{bytes_eq}
-use Rattle.std.proofs.lemmas.List.{length-take, length-map}
 use Rattle.std.proofs.lemmas.Option.{same_Some, none-some}
 use Rattle.jtree.specs.Data.{Data, integer, text, list, object, Items, Members, no_members, member}
 use Rattle.jtree.specs.Kind.{is_integer, is_text, is_list, is_object}
 use Rattle.jtree.specs.Path.{Path, item_at, member_at}
-use Rattle.jtree.specs.Internal.Lookups.{bool_cases, same_name}
+use Rattle.jtree.specs.Order.{text_cmp}
+use Rattle.jtree.specs.Internal.Lookups.{bool_cases, ordering_cases, same_name}
+use Rattle.schema.specs.Document.Texts.{is_among}
 use Rattle.schema.specs.Nodes.Node.{Node}
-use Rattle.jtree.specs.Internal.Rising.{contained}
-use Rattle.plan.specs.Pools.Pools.{items_list, standard, AreSmall}
-use Rattle.plan.specs.Pools.Document.{PoolForm, entries, pool_form, BreaksPool, other_name, no_list, other_entry, no_lists, no_list_at, BreaksForm, no_object, in_member, HasForm, integer_of, text_of, pools_of}
-use Rattle.plan.specs.Pools.PlanFault.{HasGoodPaths}
+use Rattle.plan.specs.Pools.Pools.{items_list, standard}
+use Rattle.plan.specs.declared.pool_limits.PoolLimits.{PoolLimits}
+use Rattle.plan.specs.Pools.Document.{PoolForm, entries, lists, pool_form, BreaksPool, other_name, no_list, other_entry, no_lists, no_list_at, BreaksForm, no_object, in_member, HasForm, integer_of, text_of, pools_of}
 use Rattle.suggest.specs.Suggested.Values.{all_integers, all_lengths}
-use Rattle.suggest.specs.Suggested.Document.{items_of, letters, suggested_any, suggested_names, suggested_integers, suggested_strings, suggested_document}
+use Rattle.suggest.specs.Suggested.Document.{items_of, letters, suggested_any, suggested_integers, suggested_strings, with_member, with_entry, members_from, without_entry, usual_names, lists_member, texts_member, document_with, document_of}
+use Rattle.suggest.specs.Suggested.Chosen.{chosen_names}
+use Rattle.suggest.specs.Suggested.Lists.{Entry}
+use Rattle.suggest.specs.Suggested.Varied.{Said}
 
 -- ---- what breaks the form
 
@@ -79,76 +83,179 @@ unbroken test ds all d path same b = elim (list_cases (entries test) d path b) [
       cc
 ]
 
--- ---- the four members
+-- ---- each member is of its form
 
-abbrev four : (any integers names strings : List Data) → Members
-four any integers names strings = member (codes "any") (list (items_of any)) (member (codes "integers") (list (items_of integers)) (member (codes "names") (list (items_of names)) (member (codes "strings") (list (items_of strings)) no_members)))
+-- nothing is broken in the member of this name
+abbrev IsUnbroken : List ℕ → Data → Type 0
+IsUnbroken k d = (path : Path) → BreaksPool (pool_form k) d path → ⊥
 
-member_cases : (any integers names strings : List Data) → AllPass (λ d. true) any → AllPass is_integer integers → AllPass is_text names → AllPass is_text strings
-    → (k : List ℕ) (v : Data) (path : Path) → member_at k (four any integers names strings) ≡ Some v → BreaksPool (pool_form k) v path → ⊥
-member_cases any integers names strings pa pi pn ps k v path there b = elim (bool_cases (bytes_eq k (codes "any"))) [
-  | inl t ↦ unbroken (λ d. true) any pa v path (same_Some _ v (rw t at there)) (subst (λ n. BreaksPool (pool_form n) v path) (same_name k (codes "any") t) b)
-  | inr f ↦ let there' = rw f at there in elim (bool_cases (bytes_eq k (codes "integers"))) [
-    | inl t ↦ unbroken is_integer integers pi v path (same_Some _ v (rw t at there')) (subst (λ n. BreaksPool (pool_form n) v path) (same_name k (codes "integers") t) b)
-    | inr g ↦ let there'' = rw g at there' in elim (bool_cases (bytes_eq k (codes "names"))) [
-      | inl t ↦ unbroken is_text names pn v path (same_Some _ v (rw t at there'')) (subst (λ n. BreaksPool (pool_form n) v path) (same_name k (codes "names") t) b)
-      | inr h ↦ let there3 = rw h at there'' in elim (bool_cases (bytes_eq k (codes "strings"))) [
-        | inl t ↦ unbroken is_text strings ps v path (same_Some _ v (rw t at there3)) (subst (λ n. BreaksPool (pool_form n) v path) (same_name k (codes "strings") t) b)
-        | inr l ↦ absurd (none-some v (rw l at there3))
-      ]
-    ]
-  ]
+abbrev AreUnbroken : Members → Type 0
+AreUnbroken no_members = Unit {0}
+AreUnbroken (member k d ms) = IsUnbroken k d × AreUnbroken ms
+
+unbroken_at : (ms : Members) → AreUnbroken ms → (k : List ℕ) (v : Data) → member_at k ms ≡ Some v → IsUnbroken k v
+unbroken_at no_members all k v there = absurd (none-some v there)
+unbroken_at (member l d ms) all k v there = elim (bool_cases (bytes_eq k l)) [
+  | inl t ↦ subst (IsUnbroken k) (same_Some d v (rw t at there)) (subst (λ n. IsUnbroken n d) (sym (same_name k l t)) all.0)
+  | inr f ↦ unbroken_at ms all.1 k v (rw f at there)
 ]
 
-has_form : (any integers names strings : List Data) → AllPass (λ d. true) any → AllPass is_integer integers → AllPass is_text names → AllPass is_text strings
-    → HasForm (object (four any integers names strings))
-has_form any integers names strings pa pi pn ps path b = elim (break_cases (object (four any integers names strings)) path b) [
+form_of : (ms : Members) → AreUnbroken ms → HasForm (object ms)
+form_of ms all path b = elim (break_cases (object ms) path b) [
   | inl e ↦ cc
   | inr m ↦
-      let same : four any integers names strings ≡ m.members = let is = m.is in cc in
-      member_cases any integers names strings pa pi pn ps m.name m.value m.path (subst (λ ms. member_at m.name ms ≡ Some m.value) (sym same) m.there) m.breaks
+      let same : ms ≡ m.members = let is = m.is in cc in
+      unbroken_at ms all m.name m.value (subst (λ ns. member_at m.name ns ≡ Some m.value) (sym same) m.there) m.path m.breaks
 ]
 
-pub suggested_form : (root : Node) → HasForm (suggested_document root)
-suggested_form root = has_form suggested_any (suggested_integers root) suggested_names (suggested_strings root) (refl, (refl, tt))
-    (all_of is_integer (λ z. integer z) (λ z. refl) (take standard.entries (all_integers root))) (refl, (refl, tt))
-    (all_of is_text (λ n. text (letters n)) (λ n. refl) (take standard.entries (all_lengths root)))
+-- ---- objects of lists
+
+abbrev pub AreLists : Members → Type 0
+AreLists no_members = Unit {0}
+AreLists (member k d ms) = (is_list d ≡ true) × AreLists ms
+
+with_lists : (k : List ℕ) (ds : List Data) (ms : Members) → AreLists ms → AreLists (with_member k (list (items_of ds)) ms)
+with_lists k ds no_members all = (refl, tt)
+with_lists k ds (member l e ms) all = elim (ordering_cases (text_cmp k l)) [
+  | inl h ↦ rw h (refl, all)
+  | inr (inl h) ↦ rw h (refl, all.1)
+  | inr (inr h) ↦ rw h (all.0, with_lists k ds ms all.1)
+]
+
+lists_from : (es : List Entry) (ms : Members) → AreLists ms → AreLists (fold with_entry ms es)
+lists_from [] ms all = all
+lists_from (e ∷ es) ms all = lists_from es (with_entry ms e) (with_lists e.path e.values ms all)
+
+pub members_are_lists : (es : List Entry) → AreLists (members_from es)
+members_are_lists es = lists_from es no_members tt
+
+list_there : (ms : Members) → AreLists ms → (k : List ℕ) (v : Data) → member_at k ms ≡ Some v → is_list v ≡ true
+list_there no_members all k v there = absurd (none-some v there)
+list_there (member l d ms) all k v there = elim (bool_cases (bytes_eq k l)) [
+  | inl t ↦ subst (λ e. is_list e ≡ true) (same_Some d v (rw t at there)) all.0
+  | inr f ↦ list_there ms all.1 k v (rw f at there)
+]
+
+record IsNoList (d : Data) : Type 0 where
+  pub members : Members
+  pub is : d ≡ object members
+  pub name : List ℕ
+  pub value : Data
+  pub there : member_at name members ≡ Some value
+  pub other : is_list value ≡ false
+
+abbrev IsBrokenLists : PoolForm → Data → Type 0
+IsBrokenLists lists d = (is_object d ≡ false) ⊎ IsNoList d
+IsBrokenLists _ d = Unit {0}
+
+lists_cases : (f : PoolForm) (d : Data) (path : Path) → BreaksPool f d path → IsBrokenLists f d
+lists_cases f d path (other_name _) = tt
+lists_cases f d path (no_list test _ e) = tt
+lists_cases f d path (other_entry test ds i v there fails) = tt
+lists_cases f d path (no_lists _ e) = inl e
+lists_cases f d path (no_list_at ms k v there e) = inr (record { members = ms; is = refl; name = k; value = v; there = there; other = e })
+
+unbroken_lists : (ms : Members) → AreLists ms → (path : Path) → BreaksPool lists (object ms) path → ⊥
+unbroken_lists ms all path b = elim (lists_cases lists (object ms) path b) [
+  | inl e ↦ cc
+  | inr n ↦
+      let same : n.members ≡ ms = let is = n.is in cc in
+      let t = list_there ms all n.name n.value (subst (λ ns. member_at n.name ns ≡ Some n.value) same n.there) in
+      let o = n.other in
+      cc
+]
+
+-- ---- the document
+
+unbroken_entries : (test : Data → Bool) (ds : List Data) → AllPass test ds → (path : Path) → BreaksPool (entries test) (list (items_of ds)) path → ⊥
+unbroken_entries test ds all path b = unbroken test ds all (list (items_of ds)) path refl b
+
+lists_member_form : (k : List ℕ) (fs ms : Members) → pool_form k ≡ lists → AreLists fs → AreUnbroken ms → AreUnbroken (lists_member k fs ms)
+lists_member_form k no_members ms is all rest = rest
+lists_member_form k (member l d fs) ms is all rest = (λ path b. unbroken_lists (member l d fs) all path (subst (λ f. BreaksPool f (object (member l d fs)) path) is b), rest)
+
+texts_pass : (ts : List (List ℕ)) → AllPass is_text (map (λ t. text t) ts)
+texts_pass ts = all_of is_text (λ t. text t) (λ t. refl) ts
+
+texts_member_form : (k : List ℕ) (ts : List (List ℕ)) (ms : Members) → pool_form k ≡ entries is_text → AreUnbroken ms → AreUnbroken (texts_member k ts ms)
+texts_member_form k [] ms is rest = rest
+texts_member_form k (t ∷ ts) ms is rest =
+    (λ path b. unbroken_entries is_text (map (λ s. text s) (t ∷ ts)) (texts_pass (t ∷ ts)) path (subst (λ f. BreaksPool f (list (items_of (map (λ s. text s) (t ∷ ts)))) path) is b), rest)
+
+all_pass : (ds : List Data) → AllPass (λ d. true) ds
+all_pass [] = tt
+all_pass (d ∷ ds) = (refl, all_pass ds)
+
+form_with : (any : List Data) (fixed : Members) (integers : List Data) (names : List (List ℕ)) (paths : Members) (present : List (List ℕ)) (strings : List Data)
+    → AllPass is_integer integers → AllPass is_text strings → AreLists fixed → AreLists paths → HasForm (document_with any fixed integers names paths present strings)
+form_with any fixed integers names paths present strings pi ps lf lp = form_of _ (
+  (λ path b. unbroken_entries (λ d. true) any (all_pass any) path b),
+  lists_member_form (codes "fixed") fixed _ refl lf (
+    (λ path b. unbroken_entries is_integer integers pi path b),
+    (
+      (λ path b. unbroken_entries is_text (map (λ t. text t) names) (texts_pass names) path b),
+      lists_member_form (codes "paths") paths _ refl lp (
+          texts_member_form (codes "present") present _ refl ((λ path b. unbroken_entries is_text strings ps path b), tt)),
+    ),
+  ),
+)
+
+pub suggested_form : (limits : PoolLimits) (root : Node) (without : List (List ℕ)) (said : Said) → HasForm (document_of limits root without said)
+suggested_form limits root without said = form_with suggested_any _ (suggested_integers root) _ _ _ (suggested_strings root)
+    (all_of is_integer (λ z. integer z) (λ z. refl) (take standard.entries (all_integers root))) (all_of is_text (λ n. text (letters n)) (λ n. refl) (take standard.entries (all_lengths root)))
+    (members_are_lists (said.fixed ++ map without_entry without)) (members_are_lists (take limits.paths said.lists))
 
 -- ---- its pools
+
+texts_back : {X : Type 0} (f : X → List ℕ) (xs : List X) → filter_map text_of (items_list (items_of (map (λ x. text (f x)) xs))) ≡ map f xs
+texts_back f [] = refl
+texts_back f (x ∷ xs) = ap (λ ys. f x ∷ ys) (texts_back f xs)
+
+texts_same : (ts : List (List ℕ)) → filter_map text_of (items_list (items_of (map (λ t. text t) ts))) ≡ ts
+texts_same [] = refl
+texts_same (t ∷ ts) = ap (λ ys. t ∷ ys) (texts_same ts)
 
 integers_back : (zs : List ℤ) → filter_map integer_of (items_list (items_of (map (λ z. integer z) zs))) ≡ zs
 integers_back [] = refl
 integers_back (z ∷ zs) = ap (λ xs. z ∷ xs) (integers_back zs)
 
-texts_back : (ns : List ℕ) → filter_map text_of (items_list (items_of (map (λ n. text (letters n)) ns))) ≡ map letters ns
-texts_back [] = refl
-texts_back (n ∷ ns) = ap (λ xs. letters n ∷ xs) (texts_back ns)
+pub listed_back : (ds : List Data) → items_list (items_of ds) ≡ ds
+listed_back [] = refl
+listed_back (d ∷ ds) = ap (λ es. d ∷ es) (listed_back ds)
 
-pub pool_integers : (root : Node) → (pools_of (suggested_document root)).integers ≡ take standard.entries (all_integers root)
-pool_integers root = integers_back (take standard.entries (all_integers root))
+record HasPools (d : Data) (fixed : Members) (integers : List Data) (paths : Members) (present : List (List ℕ)) (strings : List Data) : Type 0 where
+  pub fixed_is : (pools_of d).fixed ≡ fixed
+  pub integers_are : (pools_of d).integers ≡ filter_map integer_of (items_list (items_of integers))
+  pub paths_are : (pools_of d).paths ≡ paths
+  pub present_is : (pools_of d).present ≡ present
+  pub strings_are : (pools_of d).strings ≡ filter_map text_of (items_list (items_of strings))
 
-pub pool_strings : (root : Node) → (pools_of (suggested_document root)).strings ≡ map letters (take standard.entries (all_lengths root))
-pool_strings root = texts_back (take standard.entries (all_lengths root))
+pools_with : (any : List Data) (fixed : Members) (integers : List Data) (names : List (List ℕ)) (paths : Members) (present : List (List ℕ)) (strings : List Data)
+    → HasPools (document_with any fixed integers names paths present strings) fixed integers paths present strings
+pools_with any no_members integers names no_members [] strings = record { fixed_is = refl; integers_are = refl; paths_are = refl; present_is = refl; strings_are = refl }
+pools_with any no_members integers names no_members (t ∷ ts) strings = record { fixed_is = refl; integers_are = refl; paths_are = refl; present_is = texts_same (t ∷ ts); strings_are = refl }
+pools_with any no_members integers names (member k d ms) [] strings = record { fixed_is = refl; integers_are = refl; paths_are = refl; present_is = refl; strings_are = refl }
+pools_with any no_members integers names (member k d ms) (t ∷ ts) strings = record { fixed_is = refl; integers_are = refl; paths_are = refl; present_is = texts_same (t ∷ ts); strings_are = refl }
+pools_with any (member l e ns) integers names no_members [] strings = record { fixed_is = refl; integers_are = refl; paths_are = refl; present_is = refl; strings_are = refl }
+pools_with any (member l e ns) integers names no_members (t ∷ ts) strings = record { fixed_is = refl; integers_are = refl; paths_are = refl; present_is = texts_same (t ∷ ts); strings_are = refl }
+pools_with any (member l e ns) integers names (member k d ms) [] strings = record { fixed_is = refl; integers_are = refl; paths_are = refl; present_is = refl; strings_are = refl }
+pools_with any (member l e ns) integers names (member k d ms) (t ∷ ts) strings = record { fixed_is = refl; integers_are = refl; paths_are = refl; present_is = texts_same (t ∷ ts); strings_are = refl }
 
-at_most : {X : Type 0} (n : ℕ) (xs : List X) → length (take n xs) ≤ n
-at_most n xs = omega (arith, length-take n xs)
+module _ (limits : PoolLimits) (root : Node) (without : List (List ℕ)) (said : Said) where
+  parts : HasPools (document_of limits root without said) (members_from (said.fixed ++ map without_entry without)) (suggested_integers root) (members_from (take limits.paths said.lists)) (filter (λ t. not (is_among t without)) said.present) (suggested_strings root)
+  parts = pools_with suggested_any (members_from (said.fixed ++ map without_entry without)) (suggested_integers root) (chosen_names limits.names (said.names ++ usual_names)) (members_from (take limits.paths said.lists)) (filter (λ t. not (is_among t without)) said.present) (suggested_strings root)
 
-pub suggested_small : (root : Node) → AreSmall standard (pools_of (suggested_document root))
-suggested_small root = record {
-  integers = subst (λ zs. length zs ≤ standard.entries) (sym (pool_integers root)) (at_most standard.entries (all_integers root));
-  strings = subst (λ ts. length ts ≤ standard.entries) (sym (pool_strings root)) (omega (arith, length-map (take standard.entries (all_lengths root)) letters, at_most standard.entries (all_lengths root)));
-  names = omega arith;
-  any = omega arith;
-  paths = omega arith;
-  at_paths = λ path ds e. absurd (none-some ds e);
-  fixed = omega arith;
-  at_fixed = λ path ds e. absurd (none-some ds e);
-  present = omega arith;
-}
+  pub pool_fixed : (pools_of (document_of limits root without said)).fixed ≡ members_from (said.fixed ++ map without_entry without)
+  pool_fixed = parts.fixed_is
 
-pub suggested_paths : (root : Node) → HasGoodPaths root (pools_of (suggested_document root))
-suggested_paths root = record {
-  paths = λ path h. absurd (none-some h.0 h.1);
-  fixed = λ path h. absurd (none-some h.0 h.1);
-  present = λ path h. absurd (contained [] path h);
-}
+  pub pool_paths : (pools_of (document_of limits root without said)).paths ≡ members_from (take limits.paths said.lists)
+  pool_paths = parts.paths_are
+
+  pub pool_present : (pools_of (document_of limits root without said)).present ≡ filter (λ t. not (is_among t without)) said.present
+  pool_present = parts.present_is
+
+  pub pool_integers : (pools_of (document_of limits root without said)).integers ≡ take standard.entries (all_integers root)
+  pool_integers = parts.integers_are ∙ integers_back (take standard.entries (all_integers root))
+
+  pub pool_strings : (pools_of (document_of limits root without said)).strings ≡ map letters (take standard.entries (all_lengths root))
+  pool_strings = parts.strings_are ∙ texts_back letters (take standard.entries (all_lengths root))

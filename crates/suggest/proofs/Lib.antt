@@ -1,10 +1,32 @@
 -- The lemmas of this crate, by subject.
 -- Ascending lists: `AscendingLemmas` says that sorting keeps the elements, each once, and that the result is the only such list.
--- The document: `DocumentLemmas` is about lists of trees as the code makes them, `FormLemmas` says that pools are read from the
--- document, `TextLemmas` that its text is short enough to be read.
--- The law `suggested_values_reach_scalars`: `ReachLemmas` says which scalars the suggested values reach.
+-- What is found: `ListedLemmas` is about the values of a node, `VaryLemmas` about what is said around an object, `JudgingLemmas` about
+-- the first text that has a fault.
+-- The document: `DocumentLemmas` is about lists of trees and members as the code makes them, `MemberLemmas` about members that are put
+-- where they belong. `FormLemmas` says that pools are read from the document, and which. `PathLemmas` says where what is said stands in
+-- the schema, `RootLemmas` that the root is no leaf, and `GoodLemmas` that all paths of the document lead where they have to.
+-- The law `suggested_values_reach_scalars`: `FitLemmas` says that the integers have 64 bits, `ReachLemmas` which scalars the suggested
+-- values reach.
+-- Pools around an object: `EntryLemmas` says what is found under a text in a suggested document, `SaidLemmas` what is said at a text,
+-- `AroundLemmas` is the law `samples_are_the_object_outside`. Of the law `the_object_is_a_sample`, `UncutLemmas` is about values and
+-- names that are chosen, `LeadingLemmas` about where texts of varied paths lead, `FreeLemmas` about parts at varied paths and below,
+-- and `ObjectLemmas` about those on the way there, and the whole.
 pub mod AscendingLemmas
+pub mod ListedLemmas
+pub mod VaryLemmas
+pub mod JudgingLemmas
 pub mod DocumentLemmas
+pub mod MemberLemmas
 pub mod FormLemmas
+pub mod PathLemmas
+pub mod RootLemmas
+pub mod GoodLemmas
+pub mod FitLemmas
 pub mod ReachLemmas
-pub mod TextLemmas
+pub mod EntryLemmas
+pub mod SaidLemmas
+pub mod AroundLemmas
+pub mod UncutLemmas
+pub mod LeadingLemmas
+pub mod FreeLemmas
+pub mod ObjectLemmas

@@ -1,13 +1,14 @@
 -- The suggested values reach the scalars of a schema.
-use Rattle.std.proofs.Common.{◌≡◌, ◌⊎◌, ◌≤◌, ◌↔◌, ◌≤ℤ◌, ◌<ℤ◌, ℕ, zero, suc, ℤ, pos, negsuc, ◌+ℤ◌, ◌-ℤ◌, List, [], ◌∷◌, ◌++◌, Bool, true, false, Option, Some, None, FitsSigned, map, length, refl, sym, ap, ◌∙◌, subst, inl, inr, arith}
-use Rattle.std.specs.Prelude.{option_map, ◌&&◌, ◌||◌, not, chars, filter, nat_le, int_lt, int_le}
+use Rattle.std.proofs.Common.{◌≡◌, ◌⊎◌, ◌≤◌, ◌<◌, ◌+◌, take, ◌≤ℤ◌, ◌<ℤ◌, ℕ, zero, suc, ℤ, pos, negsuc, ◌+ℤ◌, ◌-ℤ◌, List, [], ◌∷◌, ◌++◌, Bool, true, false, Option, Some, None, FitsSigned, map, length, refl, sym, ap, ◌∙◌, subst, inl, inr, arith}
+use Rattle.std.specs.Prelude.{option_map, ◌&&◌, ◌||◌, not, chars, filter, nat_le, nat_lt, int_lt, int_le, option_and_then, unwrap_or, is_some, codes}
+use Rattle.std.proofs.lemmas.Bool.{and_parts, and_from}
 use Rattle.std.specs.Int.{w64}
 use Rattle.std.specs.Str.{bytes_eq}
 use Rattle.std.specs.Ordering.{is_eq, int_cmp, nat_cmp}
 use Rattle.std.proofs.lemmas.Bool.Decides.{nat_tests}
 use Rattle.std.proofs.lemmas.Cmp.{tied_itself}
 use Rattle.std.proofs.lemmas.Int.{ints}
-use Rattle.std.proofs.lemmas.List.{take_all}
+use Rattle.std.proofs.lemmas.List.{take_all, length-append, length-take}
 use Rattle.std.proofs.lemmas.Map.Lookups.{exact_signed, exact_unsigned}
 use Rattle.std.proofs.lemmas.Option.{same_Some, none-some}
 use Rattle.std.proofs.lemmas.Str.{chars-IsAscii}
@@ -18,30 +19,38 @@ use Rattle.jtree.specs.Data as tree
 use Rattle.jtree.specs.Order.{kind}
 use Rattle.jtree.specs.Internal.Lookups.{bool_cases, option_cases}
 use Rattle.jtree.specs.Internal.OrderLaws.{tree_total}
-use Rattle.jtree.specs.Internal.Rising.{Among, among_left, among_right}
+use Rattle.jtree.specs.Internal.Rising.{Among, among_left, among_right, among_parts}
 use Rattle.schema.specs.Document.Places.{Step, Place, property, map_value, items, all_of, any_of, one_of, negation}
-use Rattle.schema.specs.Nodes.Node.{Validations, validations, Branches, Node, node, scalar, object, map as map_node, list, open_, Fields, no_fields, field}
+use Rattle.schema.specs.Nodes.Node.{Validations, validations, Branches, Node, node, scalar, object, map as map_node, list, open_, Fields, no_fields, field, IsNode}
 use Rattle.schema.specs.Nodes.ByPlace.{field_at, node_below, node_at}
 use Rattle.schema.specs.declared.node.Constraints.{Constraints}
 use Rattle.schema.specs.declared.node.ScalarKind.{ScalarKind}
 use Rattle.schema.specs.declared.node.ScalarKind.TheVariants.{Boolean, Integer, String, IntOrString}
 use Rattle.stored.specs.Objects.Becomes.{IsStored}
-use Rattle.stored.specs.Objects.StoredByParts.{StoredByParts}
 use Rattle.stored.specs.Objects.Tests.{accepts_scalar, is_same, is_below, is_above, is_below_minimum, is_above_maximum, meets_constraints, meets_branch, holds}
 use Rattle.explain.specs.Paths.FieldPath.{FieldPath, place_step, place_of}
 use Rattle.explain.specs.Paths.PathText.{path_text}
-use Rattle.plan.specs.Pools.Pools.{Pools, standard}
-use Rattle.plan.specs.Pools.Document.{pools_of}
+use Rattle.plan.specs.Pools.Pools.{Pools, standard, entries_in, list_at, fixed_at}
+use Rattle.jtree.specs.Path.{member_at, under}
+use Rattle.schema.specs.Rules.Keywords.{text_under}
+use Rattle.std.specs.Option.{option_to_list}
+use Rattle.std.specs.List.{fold}
 use Rattle.plan.specs.Samples.Over.{is_in, scalars_of, IsOver}
 use Rattle.suggest.specs.Suggested.Scalars.{in_scalar, in_branches, in_scalars, in_fields}
 use Rattle.suggest.specs.Suggested.Values.{fits_64_bits, around, around_bounds, longest, short_length, short_lengths, all_integers, all_lengths}
-use Rattle.suggest.specs.Suggested.Document.{letters, suggested_document}
-use Rattle.suggest.specs.Suggested.Reached.{HasBoundsAlone, IsBounded, IsWithinReach, HasCandidateLike}
+use Rattle.suggest.specs.Suggested.Document.{letters, suggested_integers, suggested_strings, members_from, general_of, nothing_wanted, said_by}
+use Rattle.suggest.specs.Suggested.Reached.{HasBoundsAlone, IsBounded, IsWithinReach, suggested_alone, HasCandidateLike}
+use Rattle.suggest.specs.Suggested.Chosen.{with_value, chosen_values}
+use Rattle.suggest.specs.Suggested.Formats.{texts_of_format}
+use Rattle.suggest.specs.Suggested.Listed.{General, takes, lists_itself, takes_texts_alone, own_values, format_values, few, general_values, hinted_from, hinted_values, listed_values}
+use Rattle.suggest.specs.Suggested.Lists.{Entry, lists_at}
+use Rattle.suggest.specs.Suggested.Varied.{Said}
 use Rattle.suggest.proofs.AscendingLemmas.{ascending_has}
-use Rattle.suggest.proofs.FormLemmas.{pool_integers, pool_strings}
-
-abbrev pub StoredLaw : Type 0
-StoredLaw = (N : Node) (v : Data) → IsStored N v ↔ StoredByParts N v
+use Rattle.suggest.proofs.FitLemmas.{integer_fits}
+use Rattle.suggest.proofs.FormLemmas.{listed_back, pool_fixed, pool_paths, pool_integers, pool_strings}
+use Rattle.suggest.proofs.GoodLemmas.{value_of_entry, among_taken, among_kept}
+use Rattle.suggest.proofs.PathLemmas.{lists_listed}
+use Rattle.suggest.proofs.ListedLemmas.{StoredLaw}
 
 -- ---- what is found at a node is found from the root
 
@@ -257,15 +266,33 @@ no_below n d kind cs (any_of i) = refl
 no_below n d kind cs (one_of i) = refl
 no_below n d kind cs negation = refl
 
-abbrev Pool : Node → Pools
-Pool root = pools_of (suggested_document root)
+-- ---- the pools that are suggested for a schema alone
 
-over : (root : Node) (n : Bool) (d : Option (List ℕ)) (kind : ScalarKind) (t : Constraints) (all any one negated : Branches) (at : List ℕ) (v : Data) → t.choices ≡ None → is_in v (scalars_of (Pool root)) ≡ true
-    → IsOver (Pool root) None at (node n d (scalar kind (validations t all any one negated))) v
-over root n d kind t all any one negated at v none there [] [] = rw (none, there) refl
-over root n d kind t all any one negated at v none there [] (s ∷ p) = tt
-over root n d kind t all any one negated at v none there (s ∷ path) [] = tt
-over root n d kind t all any one negated at v none there (s ∷ path) (q ∷ p) = λ M w follows leads found. absurd (none-some M (rw (no_below n d kind (validations t all any one negated) (place_step q)) at leads))
+abbrev general : Node → General
+general root = general_of standard root
+
+abbrev said_alone : Data → Node → Said
+said_alone raw root = said_by [] (general root) nothing_wanted raw root
+
+abbrev Pool : Data → Node → Pools
+Pool raw root = suggested_alone raw root
+
+abbrev lists_alone : Data → Node → List Entry
+lists_alone raw root = lists_at (general root) [] None (Some raw) [] root
+
+fixed_none : (raw : Data) (root : Node) (text : List ℕ) → fixed_at text (Pool raw root) ≡ None
+fixed_none raw root text = ap (λ ms. option_and_then entries_in (member_at text ms)) (pool_fixed standard root [] (said_alone raw root))
+
+-- what the pools list at the path, or for all scalars
+abbrev listed_at : Data → Node → List ℕ → List Data
+listed_at raw root at = unwrap_or (list_at at (Pool raw root)) (scalars_of (Pool raw root))
+
+over : (raw : Data) (root : Node) (n : Bool) (d : Option (List ℕ)) (kind : ScalarKind) (t : Constraints) (all any one negated : Branches) (at : List ℕ) (v : Data) → t.choices ≡ None → is_in v (listed_at raw root at) ≡ true
+    → IsOver (Pool raw root) None at (node n d (scalar kind (validations t all any one negated))) v
+over raw root n d kind t all any one negated at v none there [] [] = rw (none, there) refl
+over raw root n d kind t all any one negated at v none there [] (s ∷ p) = tt
+over raw root n d kind t all any one negated at v none there (s ∷ path) [] = tt
+over raw root n d kind t all any one negated at v none there (s ∷ path) (q ∷ p) = λ M w follows leads found. absurd (none-some M (rw (no_below n d kind (validations t all any one negated) (place_step q)) at leads))
 
 -- ---- the constraints of a scalar
 
@@ -308,58 +335,393 @@ same_text Integer s t = refl
 same_text String s t = refl
 same_text IntOrString s t = refl
 
+-- ---- values that a scalar takes
+
+taken_parts : (k : ScalarKind) (cs : Validations) (v : Data) → (accepts_scalar k v && holds cs v) ≡ true → (accepts_scalar k v ≡ true) × (holds cs v ≡ true)
+taken_parts k cs v e = and_parts (accepts_scalar k v) (holds cs v) e
+
+-- a value of the list that is taken there and is of the kind
+record IsChoice (raw : Data) (root : Node) (at : List ℕ) (N : Node) (v : Data) : Type 0 where
+  pub value : Data
+  pub alike : kind value ≡ kind v
+  pub tree : IsTree value
+  pub stored : IsStored N value
+  pub listed : is_in value (listed_at raw root at) ≡ true
+
+stored_integer : StoredLaw → (n : Bool) (d : Option (List ℕ)) (k : ScalarKind) (cs : Validations) (z : ℤ) → takes (node n d (scalar k cs)) (tree.integer z) ≡ true → IsStored (node n d (scalar k cs)) (tree.integer z)
+stored_integer law n d k cs z e = (law (node n d (scalar k cs)) (tree.integer z)).1 (taken_parts k cs (tree.integer z) e, tt)
+
+stored_text : StoredLaw → (n : Bool) (d : Option (List ℕ)) (k : ScalarKind) (cs : Validations) (s : List ℕ) → takes (node n d (scalar k cs)) (tree.text s) ≡ true → IsStored (node n d (scalar k cs)) (tree.text s)
+stored_text law n d k cs s e = (law (node n d (scalar k cs)) (tree.text s)).1 (taken_parts k cs (tree.text s) e, tt)
+
+-- ---- the values that are chosen
+
+in_more : (x : Data) (xs ys : List Data) → is_in x xs ≡ true → is_in x (xs ++ ys) ≡ true
+in_more x [] ys e = absurd (cc)
+in_more x (y ∷ xs) ys e = elim (bool_cases (is_same x y)) [
+  | inl t ↦ rw t refl
+  | inr f ↦ rw f (in_more x xs ys (rw f at e))
+]
+
+in_last : (x : Data) (xs : List Data) → is_in x (xs ++ x ∷ []) ≡ true
+in_last x [] = let own : is_same x x ≡ true = ap is_eq (tied_itself tree_total x) in rw own refl
+in_last x (y ∷ xs) = rw (in_last x xs) (or_true (is_same x y))
+
+with_value_has : (n : ℕ) (xs : List Data) (y : Data) → length xs < n → is_in y (with_value n xs y) ≡ true
+with_value_has n xs y lt =
+    let room : nat_lt (length xs) n ≡ true = grind (arith, nat_tests) in
+    elim (bool_cases (is_in y xs)) [
+      | inl t ↦ rw (room, t) t
+      | inr f ↦ rw (room, f) (in_last y xs)
+    ]
+
+with_value_keeps : (n : ℕ) (xs : List Data) (y x : Data) → is_in x xs ≡ true → is_in x (with_value n xs y) ≡ true
+with_value_keeps n xs y x e = elim (bool_cases (nat_lt (length xs) n && not (is_in y xs))) [
+  | inl t ↦ rw t (in_more x xs (y ∷ []) e)
+  | inr f ↦ rw f e
+]
+
+with_value_length : (n : ℕ) (xs : List Data) (y : Data) → length (with_value n xs y) ≤ length xs + 1
+with_value_length n xs y = elim (bool_cases (nat_lt (length xs) n && not (is_in y xs))) [
+  | inl t ↦ rw t (omega (arith, length-append xs (y ∷ [])))
+  | inr f ↦ rw f (omega arith)
+]
+
+chosen_keeps : (n : ℕ) (ys xs : List Data) (x : Data) → is_in x xs ≡ true → is_in x (fold (with_value n) xs ys) ≡ true
+chosen_keeps n [] xs x e = e
+chosen_keeps n (y ∷ ys) xs x e = chosen_keeps n ys (with_value n xs y) x (with_value_keeps n xs y x e)
+
+chosen_has : (n : ℕ) (ys xs : List Data) (x : Data) → length xs + length ys ≤ n → Among ys x → is_in x (fold (with_value n) xs ys) ≡ true
+chosen_has n [] xs x le a = absurd a
+chosen_has n (y ∷ ys) xs x le (inl e) = chosen_keeps n ys (with_value n xs y) x (subst (λ z. is_in z (with_value n xs y) ≡ true) e (with_value_has n xs y (omega arith)))
+chosen_has n (y ∷ ys) xs x le (inr a) = chosen_has n ys (with_value n xs y) x (omega (arith, with_value_length n xs y)) a
+
+with_value_only : (n : ℕ) (xs : List Data) (y x : Data) → Among (with_value n xs y) x → Among xs x ⊎ (y ≡ x)
+with_value_only n xs y x a = elim (bool_cases (nat_lt (length xs) n && not (is_in y xs))) [
+  | inl t ↦ elim (among_parts xs (y ∷ []) x (rw t at a)) as (λ _. Among xs x ⊎ (y ≡ x)) [ inl b ↦ inl b | inr b ↦ elim b as (λ _. Among xs x ⊎ (y ≡ x)) [ inl e ↦ inr e | inr c ↦ absurd c ] ]
+  | inr f ↦ inl (rw f at a)
+]
+
+chosen_only : (n : ℕ) (ys xs : List Data) (x : Data) → Among (fold (with_value n) xs ys) x → Among xs x ⊎ Among ys x
+chosen_only n [] xs x a = inl a
+chosen_only n (y ∷ ys) xs x a = elim (chosen_only n ys (with_value n xs y) x a) as (λ _. Among xs x ⊎ Among (y ∷ ys) x) [
+  | inl b ↦ elim (with_value_only n xs y x b) as (λ _. Among xs x ⊎ Among (y ∷ ys) x) [ inl c ↦ inl c | inr e ↦ inr (inl e) ]
+  | inr b ↦ inr (inr b)
+]
+
+kept_length : {X : Type 0} (p : X → Bool) (xs : List X) → length (filter p xs) ≤ length xs
+kept_length p [] = omega arith
+kept_length p (x ∷ xs) = elim (bool_cases (p x)) [
+  | inl t ↦ rw t (omega (arith, kept_length p xs))
+  | inr f ↦ rw f (omega (arith, kept_length p xs))
+]
+
+-- ---- what is hinted for a scalar
+
+take_first : (n : ℕ) (x : Data) (xs : List Data) → 0 < n → Among (take n (x ∷ xs)) x
+take_first zero x xs lt = absurd (omega arith)
+take_first (suc n) x xs lt = inl refl
+
+among_passing : (T : Data → Bool) (xs : List Data) (x : Data) → Among xs x → T x ≡ true → Among (filter T xs) x
+among_passing T [] x a t = absurd a
+among_passing T (y ∷ xs) x (inl e) t = let same : T y ≡ true = subst (λ z. T z ≡ true) (sym e) t in rw same (inl e)
+among_passing T (y ∷ xs) x (inr a) t = elim (bool_cases (T y)) [
+  | inl s ↦ rw s (inr (among_passing T xs x a t))
+  | inr f ↦ rw f (among_passing T xs x a t)
+]
+
+-- one of the few that are taken of a pool, where one is taken
+record IsTaken (T : Data → Bool) (pool : List Data) : Type 0 where
+  pub value : Data
+  pub few : Among (take few (filter T pool)) value
+  pub among : Among pool value
+  pub takes : T value ≡ true
+
+first_taken : (T : Data → Bool) (pool xs : List Data) (x : Data) → filter T pool ≡ xs → Among xs x → IsTaken T pool
+first_taken T pool [] x is a = absurd a
+first_taken T pool (y ∷ ys) x is a =
+    let h = among_kept T pool y (subst (λ zs. Among zs y) (sym is) (inl refl)) in
+    record { value = y; few = subst (λ zs. Among (take few zs) y) (sym is) (take_first few y ys (omega arith)); among = h.0; takes = h.1 }
+
+some_taken : (T : Data → Bool) (pool : List Data) (x : Data) → Among pool x → T x ≡ true → IsTaken T pool
+some_taken T pool x a t = first_taken T pool (filter T pool) x refl (among_passing T pool x a t)
+
+option_length : (o : Option Data) → length (option_to_list o) ≤ 1
+option_length None = omega arith
+option_length (Some v) = omega arith
+
+own_length : (N : Node) (default schema : Option Data) → length (own_values N default schema) ≤ 2
+own_length N default schema =
+    let example = option_and_then (λ s. under s (codes "example")) schema in
+    omega (arith, kept_length (takes N) (option_to_list default ++ option_to_list example), length-append (option_to_list default) (option_to_list example), option_length default, option_length example)
+
+few_length : (T : Data → Bool) (pool : List Data) → length (take few (filter T pool)) ≤ 30
+few_length T pool = omega (arith, length-take few (filter T pool))
+
+hinted_has : (own general : List Data) (y : Data) → (hinted_from own [] general ≡ [] → ⊥) → Among general y → Among (hinted_from own [] general) y
+hinted_has [] general y some a = absurd (some refl)
+hinted_has (x ∷ own) general y some a = among_right (x ∷ own) general y a
+
+hinted_length : (own general : List Data) → length (hinted_from own [] general) ≤ length own + length general
+hinted_length [] general = omega arith
+hinted_length (x ∷ own) general = omega (arith, length-append (x ∷ own) general)
+
+hinted_only : (own texts general : List Data) (y : Data) → Among (hinted_from own texts general) y → Among own y ⊎ (Among texts y ⊎ Among general y)
+hinted_only [] [] general y a = absurd a
+hinted_only (x ∷ own) [] general y a = elim (among_parts (x ∷ own) general y a) [ inl b ↦ inl b | inr b ↦ inr (inr b) ]
+hinted_only [] (t ∷ texts) general y a = inr (inl a)
+hinted_only (x ∷ own) (t ∷ texts) general y a = elim (among_parts (x ∷ own) (t ∷ texts) y a) [ inl b ↦ inl b | inr b ↦ inr (inl b) ]
+
+none_chosen : (n : ℕ) (xs : List Data) → xs ≡ [] → chosen_values n xs ≡ []
+none_chosen n xs e = ap (chosen_values n) e
+
+-- what is listed for the node at a path, where there is a list
+record IsHinted (root N : Node) (ds : List Data) : Type 0 where
+  pub default : Option Data
+  pub schema : Option Data
+  pub is : ds ≡ chosen_values 64 (hinted_values (general root) N default schema)
+  pub some : ds ≡ [] → ⊥
+
+abbrev OneText : Type 0
+OneText = (p q : FieldPath) → path_text p ≡ path_text q → p ≡ q
+
+list_found : OneText → (raw : Data) (root : Node) → IsNode root → (p : FieldPath) (N : Node) → node_at root (place_of p) ≡ Some N → (ds : List Data) → list_at (path_text p) (Pool raw root) ≡ Some ds → IsHinted root N ds
+list_found one raw root ordered p N there ds found =
+    let es = take standard.entries (lists_alone raw root) in
+    let listed : option_and_then entries_in (member_at (path_text p) (members_from es)) ≡ Some ds =
+    subst (λ ms. option_and_then entries_in (member_at (path_text p) ms) ≡ Some ds) (pool_paths standard root [] (said_alone raw root)) found in
+    elim (option_cases (member_at (path_text p) (members_from es))) [
+      | inl none ↦ absurd (none-some ds (rw none at listed))
+      | inr m ↦
+          let e = value_of_entry es (path_text p) m.0 m.1 in
+          let values : ds ≡ e.entry.values = same_Some ds e.entry.values (sym (rw m.1 at listed) ∙ (ap entries_in (sym e.value) ∙ ap Some (listed_back e.entry.values))) in
+          let l = lists_listed (general root) [] None (Some raw) [] root ordered e.entry (among_taken standard.entries (lists_alone raw root) e.entry e.among) in
+          let path : l.leaf.path ≡ p = one l.leaf.path p (sym l.leaf.is ∙ e.is) in
+          let same : l.leaf.node ≡ N = same_Some l.leaf.node N (sym (subst (λ q. node_at root (place_of q) ≡ Some l.leaf.node) path l.leaf.there) ∙ there) in
+          record {
+            default = l.default;
+            schema = l.schema;
+            is = values ∙ (l.values ∙ λ j. listed_values (general root) (l.none refl j) l.default l.schema (same j));
+            some = λ none. l.some (sym values ∙ none);
+          }
+    ]
+
+-- a value of the pools that is taken is in the list, where no text of a format comes before
+general_in : (root N : Node) (ds : List Data) (h : IsHinted root N ds) → lists_itself N ≡ false → takes_texts_alone N ≡ false → length (general_values (general root) N) ≤ 60 → (y : Data) → Among (general_values (general root) N) y → is_in y ds ≡ true
+general_in root N ds h itself alone short y a =
+    let G = general root in
+    let own = own_values N h.default h.schema in
+    let gen = general_values G N in
+    let hinted : hinted_values G N h.default h.schema ≡ hinted_from own [] gen = rw (itself, alone) refl in
+    let some : hinted_from own [] gen ≡ [] → ⊥ = λ e. h.some (h.is ∙ none_chosen 64 (hinted_values G N h.default h.schema) (hinted ∙ e)) in
+    let among = hinted_has own gen y some a in
+    subst (λ xs. is_in y xs ≡ true) (sym (h.is ∙ ap (chosen_values 64) hinted))
+    (chosen_has 64 (hinted_from own [] gen) [] y (omega (arith, hinted_length own gen, own_length N h.default h.schema, short)) among)
+
+hinted_taken : (G : General) (n : Bool) (d : Option (List ℕ)) (k : ScalarKind) (cs : Validations) (default schema : Option Data) (y : Data)
+    → Among (hinted_values G (node n d (scalar k cs)) default schema) y → takes (node n d (scalar k cs)) y ≡ true
+hinted_taken G n d k cs default schema y a =
+    let N = node n d (scalar k cs) in
+    let few_taken = λ (pool : List Data) (b : Among (take few (filter (takes N) pool)) y). (among_kept (takes N) pool y (among_taken few (filter (takes N) pool) y b)).1 in
+    elim (bool_cases (lists_itself N)) [
+      | inl t ↦ absurd (rw t at a)
+      | inr f ↦ elim (hinted_only (own_values N default schema) (format_values N schema) (general_values G N) y (rw f at a)) [
+        | inl b ↦ (among_kept (takes N) (option_to_list default ++ option_to_list (option_and_then (λ s. under s (codes "example")) schema)) y b).1
+        | inr (inl b) ↦ elim (bool_cases (takes_texts_alone N)) [
+          | inl t ↦ (among_kept (takes N) (map (λ s. tree.text s) (texts_of_format (unwrap_or (option_and_then (λ s. text_under s (codes "format")) schema) []))) y (rw t at b)).1
+          | inr g ↦ absurd (rw g at b)
+        ]
+        | inr (inr b) ↦ elim (among_parts (take few (filter (takes N) G.integers)) (take few (filter (takes N) G.strings)) y b) [ inl c ↦ few_taken G.integers c | inr c ↦ few_taken G.strings c ]
+      ]
+    ]
+
+-- ---- a choice
+
+first_choice : (raw : Data) (root : Node) (at : List ℕ) (ds : List Data) (v : Data) → list_at at (Pool raw root) ≡ Some ds → is_in v ds ≡ true → is_in v (listed_at raw root at) ≡ true
+first_choice raw root at ds v e is = subst (λ xs. is_in v xs ≡ true) (sym (ap (λ o. unwrap_or o (scalars_of (Pool raw root))) e)) is
+
+pool_choice : (raw : Data) (root : Node) (at : List ℕ) (v : Data) → list_at at (Pool raw root) ≡ None → is_in v (scalars_of (Pool raw root)) ≡ true → is_in v (listed_at raw root at) ≡ true
+pool_choice raw root at v e is = subst (λ xs. is_in v xs ≡ true) (sym (ap (λ o. unwrap_or o (scalars_of (Pool raw root))) e)) is
+
+mapped : (P : Data → Type 0) {X : Type 0} (f : X → Data) (xs : List X) → ((x : X) → Among xs x → P (f x)) → (d : Data) → Among (map f xs) d → P d
+mapped P f [] h d a = absurd a
+mapped P f (x ∷ xs) h d (inl e) = subst P e (h x (inl refl))
+mapped P f (x ∷ xs) h d (inr a) = mapped P f xs (λ y b. h y (inr b)) d a
+
+record IsFitting (y : Data) : Type 0 where
+  pub integer : ℤ
+  pub fits : FitsSigned w64 integer
+  pub is : tree.integer integer ≡ y
+
+pool_fitting : (root : Node) (y : Data) → Among (suggested_integers root) y → IsFitting y
+pool_fitting root y a = mapped IsFitting (λ z. tree.integer z) (take standard.entries (all_integers root))
+    (λ z b. record { integer = z; fits = fits z (integer_fits root z (among_taken standard.entries (all_integers root) z b)); is = refl }) y a
+
+record IsLettered (y : Data) : Type 0 where
+  pub text : List ℕ
+  pub is : tree.text text ≡ y
+
+pool_lettered : (root : Node) (y : Data) → Among (suggested_strings root) y → IsLettered y
+pool_lettered root y a = mapped IsLettered (λ n. tree.text (letters n)) (take standard.entries (all_lengths root)) (λ n b. record { text = letters n; is = refl }) y a
+
+general_length : (root : Node) (n : Bool) (d : Option (List ℕ)) (k : ScalarKind) (cs : Validations) → length (general_values (general root) (node n d (scalar k cs))) ≤ 60
+general_length root n d k cs =
+    let T = takes (node n d (scalar k cs)) in
+    omega (arith, length-append (take few (filter T (suggested_integers root))) (take few (filter T (suggested_strings root))), few_length T (suggested_integers root), few_length T (suggested_strings root))
+
+integer_choice : StoredLaw → (raw : Data) (root : Node) (at : List ℕ) (n : Bool) (d : Option (List ℕ)) (k : ScalarKind) (cs : Validations) (ds : List Data) (z v : ℤ) → list_at at (Pool raw root) ≡ Some ds → IsHinted root (node n d (scalar k cs)) ds
+    → lists_itself (node n d (scalar k cs)) ≡ false → takes_texts_alone (node n d (scalar k cs)) ≡ false → Among (suggested_integers root) (tree.integer z) → takes (node n d (scalar k cs)) (tree.integer z) ≡ true
+    → IsChoice raw root at (node n d (scalar k cs)) (tree.integer v)
+integer_choice law raw root at n d k cs ds z v found h itself alone among taken =
+    let N = node n d (scalar k cs) in
+    let c = some_taken (takes N) (suggested_integers root) (tree.integer z) among taken in
+    let f = pool_fitting root c.value c.among in
+    let general_has = among_left (take few (filter (takes N) (suggested_integers root))) (take few (filter (takes N) (suggested_strings root))) c.value c.few in
+    record {
+      value = tree.integer f.integer;
+      alike = refl;
+      tree = f.fits;
+      stored = stored_integer law n d k cs f.integer (subst (λ y. takes N y ≡ true) (sym f.is) c.takes);
+      listed = first_choice raw root at ds (tree.integer f.integer) found (subst (λ y. is_in y ds ≡ true) (sym f.is) (general_in root N ds h itself alone (general_length root n d k cs) c.value general_has));
+    }
+
+text_choice : StoredLaw → (raw : Data) (root : Node) (at : List ℕ) (n : Bool) (d : Option (List ℕ)) (k : ScalarKind) (cs : Validations) (ds : List Data) (s v : List ℕ) → list_at at (Pool raw root) ≡ Some ds → IsHinted root (node n d (scalar k cs)) ds
+    → lists_itself (node n d (scalar k cs)) ≡ false → takes_texts_alone (node n d (scalar k cs)) ≡ false → Among (suggested_strings root) (tree.text s) → takes (node n d (scalar k cs)) (tree.text s) ≡ true
+    → IsChoice raw root at (node n d (scalar k cs)) (tree.text v)
+text_choice law raw root at n d k cs ds s v found h itself alone among taken =
+    let N = node n d (scalar k cs) in
+    let c = some_taken (takes N) (suggested_strings root) (tree.text s) among taken in
+    let f = pool_lettered root c.value c.among in
+    let general_has = among_right (take few (filter (takes N) (suggested_integers root))) (take few (filter (takes N) (suggested_strings root))) c.value c.few in
+    record {
+      value = tree.text f.text;
+      alike = refl;
+      tree = tt;
+      stored = stored_text law n d k cs f.text (subst (λ y. takes N y ≡ true) (sym f.is) c.takes);
+      listed = first_choice raw root at ds (tree.text f.text) found (subst (λ y. is_in y ds ≡ true) (sym f.is) (general_in root N ds h itself alone (general_length root n d k cs) c.value general_has));
+    }
+
+-- where texts alone are taken, each value of the list is a text
+string_value : StoredLaw → (raw : Data) (root : Node) (at : List ℕ) (n : Bool) (d : Option (List ℕ)) (cs : Validations) (ds : List Data) (v : List ℕ) (y : Data) → is_in y (listed_at raw root at) ≡ true
+    → takes (node n d (scalar String cs)) y ≡ true → IsChoice raw root at (node n d (scalar String cs)) (tree.text v)
+string_value law raw root at n d cs ds v (tree.text s) listed taken = record { value = tree.text s; alike = refl; tree = tt; stored = stored_text law n d String cs s taken; listed = listed }
+string_value law raw root at n d cs ds v tree.null listed taken = absurd (cc)
+string_value law raw root at n d cs ds v (tree.boolean b) listed taken = absurd (cc)
+string_value law raw root at n d cs ds v (tree.integer z) listed taken = absurd (cc)
+string_value law raw root at n d cs ds v (tree.list es) listed taken = absurd (cc)
+string_value law raw root at n d cs ds v (tree.object ms) listed taken = absurd (cc)
+
+string_choice : StoredLaw → (raw : Data) (root : Node) (at : List ℕ) (n : Bool) (d : Option (List ℕ)) (cs : Validations) (ds : List Data) (v : List ℕ) → list_at at (Pool raw root) ≡ Some ds → IsHinted root (node n d (scalar String cs)) ds
+    → IsChoice raw root at (node n d (scalar String cs)) (tree.text v)
+string_choice law raw root at n d cs [] v found h = absurd (h.some refl)
+string_choice law raw root at n d cs (y ∷ ys) v found h =
+    let N = node n d (scalar String cs) in
+    let among = subst (λ xs. Among xs y) h.is (inl refl) in
+    let hinted : Among (hinted_values (general root) N h.default h.schema) y = elim (chosen_only 64 (hinted_values (general root) N h.default h.schema) [] y among) [ inl none ↦ absurd none | inr a ↦ a ] in
+    string_value law raw root at n d cs (y ∷ ys) v y (first_choice raw root at (y ∷ ys) y found (is_listed y (y ∷ ys) (inl refl))) (hinted_taken (general root) n d String cs h.default h.schema y hinted)
+
 -- ---- a candidate
 
-reach_scalar : StoredLaw → (root : Node) (p : FieldPath) (n : Bool) (d : Option (List ℕ)) (k : ScalarKind) (t : Constraints) (all any one negated : Branches) (v : Data)
-    → node_at root (place_of p) ≡ Some (node n d (scalar k (validations t all any one negated))) → HasBoundsAlone (validations t all any one negated) → IsTree v
-    → IsStored (node n d (scalar k (validations t all any one negated))) v → IsWithinReach root v → HasCandidateLike root p (node n d (scalar k (validations t all any one negated))) v
-reach_scalar law root p n d k t all any one negated tree.null there h sound stored within = absurd within
-reach_scalar law root p n d k t all any one negated (tree.list ds) there h sound stored within = absurd within
-reach_scalar law root p n d k t all any one negated (tree.object ms) there h sound stored within = absurd within
-reach_scalar law root p n d k t all any one negated (tree.boolean b) there h sound stored within = record {
-  candidate = tree.boolean b;
-  alike = refl;
-  part = record { tree = sound; stored = stored; over = over root n d k t all any one negated (path_text p) (tree.boolean b) h.0 (boolean_listed (Pool root) b) };
+chosen_candidate : (raw : Data) (root : Node) (p : FieldPath) (n : Bool) (d : Option (List ℕ)) (k : ScalarKind) (t : Constraints) (all any one negated : Branches) (v : Data) → t.choices ≡ None
+    → IsChoice raw root (path_text p) (node n d (scalar k (validations t all any one negated))) v → HasCandidateLike raw root p (node n d (scalar k (validations t all any one negated))) v
+chosen_candidate raw root p n d k t all any one negated v none c = record {
+  candidate = c.value;
+  alike = c.alike;
+  part = record {
+    tree = c.tree;
+    stored = c.stored;
+    over = subst (λ o. IsOver (Pool raw root) o (path_text p) (node n d (scalar k (validations t all any one negated))) c.value) (sym (fixed_none raw root (path_text p)))
+        (over raw root n d k t all any one negated (path_text p) c.value none c.listed);
+  };
 }
-reach_scalar law root p n d k t all any one negated (tree.integer z) there h sound stored within =
-    let N = node n d (scalar k (validations t all any one negated)) in
-    let here = ((law N (tree.integer z)).0 stored).0 in
-    let both = two_fail _ _ (sym (bounds_alone t all any one negated (tree.integer z) h ∙ integer_test t z h.0) ∙ here.1) in
-    let r = integer_found t (in_scalars around_bounds root) (λ w a. found around_bounds root (place_of p) N w there (own_found around_bounds t all any one negated w a)) z sound (record { low = both.0; high = both.1 }) in
-    let asked : holds (validations t all any one negated) (tree.integer r.value) ≡ true = bounds_alone t all any one negated (tree.integer r.value) h ∙ (integer_test t r.value h.0 ∙ rw (r.allowed.low, r.allowed.high) refl) in
-    let among : Among (Pool root).integers r.value = subst (λ zs. Among zs r.value) (sym (pool_integers root ∙ take_all standard.entries (all_integers root) within)) (ascending_has int_cmp exact_signed (pos 0 ∷ pos 1 ∷ in_scalars around_bounds root) r.value r.among) in
-    record {
-      candidate = tree.integer r.value;
-      alike = refl;
-      part = record {
-        tree = r.fits;
-        stored = (law N (tree.integer r.value)).1 ((same_integer k r.value z ∙ here.0, asked), tt);
-        over = over root n d k t all any one negated (path_text p) (tree.integer r.value) h.0 (integer_listed (Pool root) r.value among);
-      };
-    }
-reach_scalar law root p n d k t all any one negated (tree.text s) there h sound stored within =
-    let N = node n d (scalar k (validations t all any one negated)) in
-    let here = ((law N (tree.text s)).0 stored).0 in
-    let both = two_fail _ _ (sym (bounds_alone t all any one negated (tree.text s) h ∙ text_test t s h.0) ∙ here.1) in
-    let r = least_found t.lengths.least t.lengths.most (length (chars s)) within.0 both.0 both.1 in
-    let w = letters r.0 in
-    let asked : holds (validations t all any one negated) (tree.text w) ≡ true = bounds_alone t all any one negated (tree.text w) h ∙ (text_test t w h.0 ∙ rw (letters_count r.0, r.2, r.3) refl) in
-    let near = wider r.0 (short_lengths t) (in_scalars short_lengths root) (λ m a. found short_lengths root (place_of p) N m there (own_found short_lengths t all any one negated m a)) r.1 in
-    let among : Among (Pool root).strings w =
-    subst (λ ts. Among ts w) (sym (pool_strings root ∙ ap (map letters) (take_all standard.entries (all_lengths root) within.1))) (among_map letters (all_lengths root) r.0 (ascending_has nat_cmp exact_unsigned (1 ∷ in_scalars short_lengths root) r.0 near)) in
-    record {
-      candidate = tree.text w;
-      alike = refl;
-      part = record {
-        tree = tt;
-        stored = (law N (tree.text w)).1 ((same_text k w s ∙ here.0, asked), tt);
-        over = over root n d k t all any one negated (path_text p) (tree.text w) h.0 (text_listed (Pool root) w among);
-      };
-    }
 
-pub reach : StoredLaw → (root : Node) (p : FieldPath) (N : Node) (v : Data) → node_at root (place_of p) ≡ Some N → IsBounded N → IsTree v → IsStored N v → IsWithinReach root v → HasCandidateLike root p N v
-reach law root p (node n d (scalar k (validations t all any one negated))) v there bounded sound stored within = reach_scalar law root p n d k t all any one negated v there bounded sound stored within
-reach law root p (node n d (object fs preserves type bounds cs)) v there bounded sound stored within = absurd bounded
-reach law root p (node n d (map_node N type bounds)) v there bounded sound stored within = absurd bounded
-reach law root p (node n d (list N type keys bounds)) v there bounded sound stored within = absurd bounded
-reach law root p (node n d open_) v there bounded sound stored within = absurd bounded
+module _ (law : StoredLaw) (one_text : OneText) (raw : Data) (root : Node) (ordered : IsNode root) (p : FieldPath) (n : Bool) (d : Option (List ℕ)) (t : Constraints) (all any one negated : Branches)
+    (bounded : HasBoundsAlone (validations t all any one negated)) where
+  abbrev cs : Validations
+  cs = validations t all any one negated
+
+  no_choices : is_some t.choices ≡ false
+  no_choices = ap is_some bounded.0
+
+  reach_boolean : (k : ScalarKind) (b : Bool) → node_at root (place_of p) ≡ Some (node n d (scalar k cs)) → accepts_scalar k (tree.boolean b) ≡ true → IsStored (node n d (scalar k cs)) (tree.boolean b) → IsChoice raw root (path_text p) (node n d (scalar k cs)) (tree.boolean b)
+  reach_boolean Integer b there accepted stored = absurd (cc)
+  reach_boolean String b there accepted stored = absurd (cc)
+  reach_boolean IntOrString b there accepted stored = absurd (cc)
+  reach_boolean Boolean b there accepted stored = elim (option_cases (list_at (path_text p) (Pool raw root))) [
+    | inl none ↦ record { value = tree.boolean b; alike = refl; tree = tt; stored = stored; listed = pool_choice raw root (path_text p) (tree.boolean b) none (boolean_listed (Pool raw root) b) }
+    | inr f ↦ let h = list_found one_text raw root ordered p (node n d (scalar Boolean cs)) there f.0 f.1 in absurd (h.some h.is)
+  ]
+
+  listed_integer : (k : ScalarKind) (z v : ℤ) → node_at root (place_of p) ≡ Some (node n d (scalar k cs)) → accepts_scalar k (tree.integer z) ≡ true → holds cs (tree.integer z) ≡ true → Among (suggested_integers root) (tree.integer z)
+      → (ds : List Data) → list_at (path_text p) (Pool raw root) ≡ Some ds → IsChoice raw root (path_text p) (node n d (scalar k cs)) (tree.integer v)
+  listed_integer Boolean z v there accepted asked among ds found = absurd (cc)
+  listed_integer String z v there accepted asked among ds found = absurd (cc)
+  listed_integer Integer z v there accepted asked among ds found =
+      integer_choice law raw root (path_text p) n d Integer cs ds z v found (list_found one_text raw root ordered p (node n d (scalar Integer cs)) there ds found) no_choices refl among (and_from _ _ accepted asked)
+  listed_integer IntOrString z v there accepted asked among ds found =
+      integer_choice law raw root (path_text p) n d IntOrString cs ds z v found (list_found one_text raw root ordered p (node n d (scalar IntOrString cs)) there ds found) no_choices refl among (and_from _ _ accepted asked)
+
+  listed_text : (k : ScalarKind) (s v : List ℕ) → node_at root (place_of p) ≡ Some (node n d (scalar k cs)) → accepts_scalar k (tree.text s) ≡ true → holds cs (tree.text s) ≡ true → Among (suggested_strings root) (tree.text s)
+      → (ds : List Data) → list_at (path_text p) (Pool raw root) ≡ Some ds → IsChoice raw root (path_text p) (node n d (scalar k cs)) (tree.text v)
+  listed_text Boolean s v there accepted asked among ds found = absurd (cc)
+  listed_text Integer s v there accepted asked among ds found = absurd (cc)
+  listed_text String s v there accepted asked among ds found =
+      string_choice law raw root (path_text p) n d cs ds v found (list_found one_text raw root ordered p (node n d (scalar String cs)) there ds found)
+  listed_text IntOrString s v there accepted asked among ds found =
+      text_choice law raw root (path_text p) n d IntOrString cs ds s v found (list_found one_text raw root ordered p (node n d (scalar IntOrString cs)) there ds found) no_choices refl among (and_from _ _ accepted asked)
+
+  reach_value : (k : ScalarKind) (v : Data) → node_at root (place_of p) ≡ Some (node n d (scalar k cs)) → IsTree v → IsStored (node n d (scalar k cs)) v → IsWithinReach root v → IsChoice raw root (path_text p) (node n d (scalar k cs)) v
+  reach_value k tree.null there sound stored within = absurd within
+  reach_value k (tree.list ds) there sound stored within = absurd within
+  reach_value k (tree.object ms) there sound stored within = absurd within
+  reach_value k (tree.boolean b) there sound stored within = reach_boolean k b there ((law (node n d (scalar k cs)) (tree.boolean b)).0 stored).0.0 stored
+  reach_value k (tree.integer z) there sound stored within =
+      let N = node n d (scalar k cs) in
+      let here = ((law N (tree.integer z)).0 stored).0 in
+      let both = two_fail _ _ (sym (bounds_alone t all any one negated (tree.integer z) bounded ∙ integer_test t z bounded.0) ∙ here.1) in
+      let r = integer_found t (in_scalars around_bounds root) (λ w a. found around_bounds root (place_of p) N w there (own_found around_bounds t all any one negated w a)) z sound (record { low = both.0; high = both.1 }) in
+      let asked : holds cs (tree.integer r.value) ≡ true = bounds_alone t all any one negated (tree.integer r.value) bounded ∙ (integer_test t r.value bounded.0 ∙ rw (r.allowed.low, r.allowed.high) refl) in
+      let accepted : accepts_scalar k (tree.integer r.value) ≡ true = same_integer k r.value z ∙ here.0 in
+      let taken : Among (take standard.entries (all_integers root)) r.value =
+      subst (λ zs. Among zs r.value) (sym (take_all standard.entries (all_integers root) within)) (ascending_has int_cmp exact_signed (pos 0 ∷ pos 1 ∷ in_scalars around_bounds root) r.value r.among) in
+      let among = subst (λ zs. Among zs r.value) (sym (pool_integers standard root [] (said_alone raw root))) taken in
+      elim (option_cases (list_at (path_text p) (Pool raw root))) [
+        | inl none ↦ record {
+          value = tree.integer r.value;
+          alike = refl;
+          tree = r.fits;
+          stored = (law N (tree.integer r.value)).1 ((accepted, asked), tt);
+          listed = pool_choice raw root (path_text p) (tree.integer r.value) none (integer_listed (Pool raw root) r.value among);
+        }
+        | inr f ↦ listed_integer k r.value z there accepted asked (among_map (λ z. tree.integer z) (take standard.entries (all_integers root)) r.value taken) f.0 f.1
+      ]
+  reach_value k (tree.text s) there sound stored within =
+      let N = node n d (scalar k cs) in
+      let here = ((law N (tree.text s)).0 stored).0 in
+      let both = two_fail _ _ (sym (bounds_alone t all any one negated (tree.text s) bounded ∙ text_test t s bounded.0) ∙ here.1) in
+      let r = least_found t.lengths.least t.lengths.most (length (chars s)) within.0 both.0 both.1 in
+      let w = letters r.0 in
+      let asked : holds cs (tree.text w) ≡ true = bounds_alone t all any one negated (tree.text w) bounded ∙ (text_test t w bounded.0 ∙ rw (letters_count r.0, r.2, r.3) refl) in
+      let accepted : accepts_scalar k (tree.text w) ≡ true = same_text k w s ∙ here.0 in
+      let near = wider r.0 (short_lengths t) (in_scalars short_lengths root) (λ m a. found short_lengths root (place_of p) N m there (own_found short_lengths t all any one negated m a)) r.1 in
+      let taken : Among (take standard.entries (all_lengths root)) r.0 =
+      subst (λ ns. Among ns r.0) (sym (take_all standard.entries (all_lengths root) within.1)) (ascending_has nat_cmp exact_unsigned (1 ∷ in_scalars short_lengths root) r.0 near) in
+      let among : Among (Pool raw root).strings w = subst (λ ts. Among ts w) (sym (pool_strings standard root [] (said_alone raw root))) (among_map letters (take standard.entries (all_lengths root)) r.0 taken) in
+      elim (option_cases (list_at (path_text p) (Pool raw root))) [
+        | inl none ↦ record {
+          value = tree.text w;
+          alike = refl;
+          tree = tt;
+          stored = (law N (tree.text w)).1 ((accepted, asked), tt);
+          listed = pool_choice raw root (path_text p) (tree.text w) none (text_listed (Pool raw root) w among);
+        }
+        | inr f ↦ listed_text k w s there accepted asked (among_map (λ n. tree.text (letters n)) (take standard.entries (all_lengths root)) r.0 taken) f.0 f.1
+      ]
+
+pub reach : StoredLaw → OneText → (raw : Data) (root : Node) (p : FieldPath) (N : Node) (v : Data) → IsNode root → node_at root (place_of p) ≡ Some N → IsBounded N → IsTree v → IsStored N v → IsWithinReach root v → HasCandidateLike raw root p N v
+reach law one_text raw root p (node n d (scalar k (validations t all any one negated))) v ordered there bounded sound stored within =
+    chosen_candidate raw root p n d k t all any one negated v bounded.0 (reach_value law one_text raw root ordered p n d t all any one negated bounded k v there sound stored within)
+reach law one_text raw root p (node n d (object fs preserves type bounds cs)) v ordered there bounded sound stored within = absurd bounded
+reach law one_text raw root p (node n d (map_node N type bounds)) v ordered there bounded sound stored within = absurd bounded
+reach law one_text raw root p (node n d (list N type keys bounds)) v ordered there bounded sound stored within = absurd bounded
+reach law one_text raw root p (node n d open_) v ordered there bounded sound stored within = absurd bounded

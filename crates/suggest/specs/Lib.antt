@@ -1,3 +1,4 @@
 -- What the contracts of this crate say, in words of its subject.
 pub mod Suggested
+pub mod View
 pub mod Internal

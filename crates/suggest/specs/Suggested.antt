@@ -2,5 +2,14 @@
 pub mod Scalars
 pub mod Ascending
 pub mod Values
+pub mod Formats
+pub mod Chosen
+pub mod Standing
+pub mod Listed
+pub mod Lists
+pub mod Varied
+pub mod Wanted
 pub mod Document
+pub mod Fault
+pub mod Around
 pub mod Reached

@@ -1,116 +1,244 @@
 //! The pools document that is suggested for a schema.
-ghost use Rattle.std.specs.Prelude.{◌≡◌, ◌≤◌, IfOk, length, map, codes};
+ghost use Rattle.std.specs.Prelude.{◌≡◌, ◌≤◌, ◌++◌, [], Some, None, IfOk, IfErr, OnOk, length, map, filter, take, not};
+ghost use Rattle.jtree.specs.Data.{depth, no_members as none};
 ghost use Rattle.jtree.specs.Reads.{most_bytes, most_depth};
 ghost use Rattle.jtree.specs.Text.{compact};
-ghost use Rattle.jtree.specs.Data.{IsTree, depth, integer, text, list as list_of, object as object_of, no_members};
 ghost use Rattle.jtree.specs.View.{data_of};
+ghost use Rattle.schema.specs.Document.Texts.{is_among as is_among_of};
 ghost use Rattle.schema.specs.Nodes.View.{node_of};
-ghost use Rattle.plan.specs.Pools.Pools.{standard, AreSmall};
+ghost use Rattle.plan.specs.Pools.Pools.{AreSmall};
 ghost use Rattle.plan.specs.Pools.Document.{HasForm, pools_of};
 ghost use Rattle.plan.specs.Pools.PlanFault.{HasGoodPaths};
-ghost use Rattle.suggest.specs.Suggested.Document.{items_of, letters, suggested_any, suggested_names, suggested_document};
+ghost use Rattle.suggest.specs.View.{trees_of, texts_at, wanted_of};
+ghost use Rattle.suggest.specs.Internal.Parts.{general_of as general_from, said_of, said_from, entries_of, document_from, with_lists_member, with_texts_member};
+ghost use Rattle.suggest.specs.Suggested.Chosen.{chosen_names};
+ghost use Rattle.suggest.specs.Suggested.Document.{members_from, without_entry, usual_names, suggested_document};
+ghost use Rattle.suggest.specs.Suggested.Lists.{lists_at, names_at};
+ghost use Rattle.suggest.specs.Suggested.Fault.{IsSuggestFault};
 
-use crate::finding::find;
-use jtree::{Items, Member, Members, Text, Tree};
+use crate::chosen::push_name;
+use crate::entry::{Entry, Listed, Said};
+use crate::fault::SuggestFault;
+use crate::general::{General, general_pools};
+use crate::judging::{can_be_read, check_varied, check_without, single};
+use crate::listed::Hints;
+use crate::lists::add_lists;
+use crate::members::{list, text_list, with, with_lists};
+use crate::varying::{Around, add_below, is_among};
+use crate::wanted::Wanted;
+use jtree::{Members, Text, Tree};
+use plan::PoolLimits;
 use schema::Node;
 use std::alloc::{AllocError, Global};
 use stored::Schema;
 
-/// A pools document to start with, which `Pools::read` and, for the schema, `Plan::new` accept. It has four members.
+/// A pools document to start with, which `Pools::read_within` these limits and, for the schema, `Plan::new` accept.
 ///
 /// `integers` are 0 and 1, and each `minimum` and `maximum` of scalars, in branches of their junctors too, with the integer before
 /// and the one after it, as far as they have 64 bits. `strings` are texts of letters `a`: one of a single letter, and one for each
 /// `minLength` and `maxLength` of scalars, in branches too, that is at most 64. Both are in ascending order, each value once, and are
-/// cut after 64 values. `names` are `a` and `b`, and `any` has the text `a` and the empty object. The text is not longer, and the
-/// document not deeper, than what is read.
+/// cut after 64 values. `any` has the text `a` and the empty object. `names` are those of the members of maps in the objects, then `a`
+/// and `b`, as many as the limits allow.
 ///
-/// `AllocError` where an allocation fails.
-pub fn suggested_pools(alloc: Global, schema: &Schema) -> Result<Tree, AllocError>
-    ensures document { IfOk result (λ d. data_of d ≡ suggested_document schema.now) }
-    ensures form { HasForm (suggested_document schema.now) }
-    ensures small { AreSmall standard (pools_of (suggested_document schema.now)) }
-    ensures paths { HasGoodPaths schema.now (pools_of (suggested_document schema.now)) }
-    ensures shallow { depth (suggested_document schema.now) ≤ most_depth }
-    ensures short { length (compact (suggested_document schema.now)) ≤ most_bytes }
+/// `paths` lists what stands at each scalar or open node in the objects. Where nothing stands there that is stored, it lists the
+/// default, the example and two texts of the format, as far as they are stored there; without such a text some of the pools besides.
+/// Nothing of that kind is listed for a truth value or an `enum`. The first paths are listed, as many as the limits allow.
+///
+/// Where paths are varied, all else is as it is in the one object, by `fixed` and `present`, and values are listed at the varied paths
+/// and below them alone. What stands there in the object comes first, and what would be listed without it besides, or, where that is
+/// nothing, some of the pools. Nothing is listed for a truth value or an `enum` there, so that all its values are candidates.
+///
+/// A path of `without` has an empty list under `fixed`. `raw` is the schema as written, of which formats and examples are read.
+///
+/// `BadPath` with the first varied path that is not a declared path of names, or, where all can be varied, with the first path of
+/// `without` whose values cannot be fixed. `NotInObject` with the first varied path whose last field belongs to nothing in the object,
+/// or where there is not one object alone. `TooLarge` where the document would not be read again. `NoMemory` where an allocation fails.
+pub fn suggested_pools(
+    alloc: Global,
+    raw: &Tree,
+    schema: &Schema,
+    wanted: &Wanted<'_>,
+    limits: PoolLimits,
+) -> Result<Tree, SuggestFault>
+    ensures document { IfOk result (λ d. data_of d ≡ suggested_document limits (data_of raw.now) schema.now (wanted_of wanted.now)) }
+    ensures form { IfOk result (λ d. HasForm (data_of d)) }
+    ensures small { IfOk result (λ d. AreSmall limits (pools_of (data_of d))) }
+    ensures paths { IfOk result (λ d. HasGoodPaths schema.now (pools_of (data_of d))) }
+    ensures short { IfOk result (λ d. length (compact (data_of d)) ≤ most_bytes) }
+    ensures shallow { IfOk result (λ d. depth (data_of d) ≤ most_depth) }
+    ensures err { IfErr result (IsSuggestFault limits (data_of raw.now) schema.now (wanted_of wanted.now)) }
 {
-    document(alloc, schema.root())
+    check_varied(alloc, schema, wanted)?;
+    check_without(alloc, schema, wanted)?;
+    let beside = !wanted.varied.is_empty();
+    let general = general_pools(alloc, schema.root(), limits, beside)?;
+    let said = said(alloc, &general, raw, schema.root(), wanted)?;
+    let document = document(alloc, &general, &said, wanted.without)?;
+    drop(general);
+    drop(said);
+    if !can_be_read(alloc, &document, limits)? {
+        drop(document);
+        return Err(SuggestFault::TooLarge);
+    }
+    Ok(document)
 }
 
-/// The document for a schema with this root.
-fn document(alloc: Global, root: &Node) -> Result<Tree, AllocError>
-    ensures { IfOk result (λ d. data_of d ≡ suggested_document (node_of root.now)) }
+/// What the pools say, with these values for all scalars and open nodes.
+fn said(
+    alloc: Global,
+    general: &General,
+    raw: &Tree,
+    root: &Node,
+    wanted: &Wanted<'_>,
+) -> Result<Said, AllocError>
+    ensures { IfOk result (λ s. said_of s ≡ said_from (wanted_of wanted.now).varied (general_from general.now) (wanted_of wanted.now) (data_of raw.now) (node_of root.now)) }
 {
-    let found = find(alloc, root)?;
-    let mut members = Vec::with_capacity(alloc, 4)?;
-    members.push(list_member(alloc, "any", any(alloc)?)?)?;
-    members.push(list_member(alloc, "integers", integers(alloc, &found.integers)?)?)?;
-    members.push(list_member(alloc, "names", names(alloc)?)?)?;
-    members.push(list_member(alloc, "strings", strings(alloc, &found.lengths)?)?)?;
-    Ok(Tree::Object(Members { members }))
+    let mut said = Said {
+        listed: Listed {
+            lists: Vec::new(alloc),
+            names: Vec::new(alloc),
+        },
+        fixed: Vec::new(alloc),
+        present: Vec::new(alloc),
+    };
+    if wanted.varied.is_empty() {
+        add_all(alloc, general, raw, root, wanted.objects, &mut said.listed)?;
+    } else {
+        let around = Around {
+            general,
+            varied: wanted.varied,
+        };
+        let object = single(wanted.objects);
+        add_below(alloc, &around, root, object, Some(raw), "", &mut said)?;
+    }
+    Ok(said)
 }
 
-/// A member that is a list.
-fn list_member(alloc: Global, name: &str, items: Items) -> Result<Member, AllocError>
-    ensures name { IfOk result (λ m. m.name ≡ name.now) }
-    ensures tree { IfOk result (λ m. data_of m.tree ≡ list_of items) }
-    ensures sound { IfOk result (λ m. IsTree (data_of m.tree)) }
+/// Adds what is listed where all is free.
+fn add_all(
+    alloc: Global,
+    general: &General,
+    raw: &Tree,
+    root: &Node,
+    objects: &[Tree],
+    listed: &mut Listed,
+) -> Result<(), AllocError>
+    ensures lists { OnOk result (entries_of listed.new.lists.items ≡ entries_of listed.old.lists.items ++ lists_at (general_from general.now) (trees_of objects.now) None (Some (data_of raw.now)) [] (node_of root.now)) }
+    ensures names { OnOk result (listed.new.names.items ≡ listed.old.names.items ++ names_at (trees_of objects.now) (node_of root.now)) }
 {
-    // for its contract alone: a proof learns that each item is a tree
-    items.reveal_invariant();
-    Ok(Member {
-        name: Text::from_str(alloc, name)?,
-        tree: Tree::List(items),
-    })
+    let mut standing = Vec::with_capacity(alloc, objects.len())?;
+    for object in objects {
+        standing.push(object)?;
+    }
+    let hints = Hints {
+        default: None,
+        schema: Some(raw),
+    };
+    add_lists(alloc, general, root, &standing, &hints, "", listed)
 }
 
-/// Values of open nodes, in the tree order.
-fn any(alloc: Global) -> Result<Items, AllocError>
-    ensures { IfOk result (λ ds. ds ≡ items_of suggested_any) }
+/// The document that says it.
+fn document(
+    alloc: Global,
+    general: &General,
+    said: &Said,
+    without: &[&str],
+) -> Result<Tree, AllocError>
+    ensures { IfOk result (λ d. data_of d ≡ document_from (general_from general.now) (texts_at without.now) (said_of said.now)) }
 {
-    let mut items = Vec::with_capacity(alloc, 2)?;
-    items.push(text(alloc, "a")?)?;
-    items.push(Tree::Object(Members {
+    let mut members = no_members(alloc);
+    members = with(alloc, members, "any", list(alloc, &general.any)?)?;
+    let fixed = fixed_lists(alloc, &said.fixed, without)?;
+    members = with_object(alloc, members, "fixed", fixed)?;
+    members = with(alloc, members, "integers", list(alloc, &general.integers)?)?;
+    let names = names(alloc, general.limits.names, &said.listed.names)?;
+    members = with(alloc, members, "names", text_list(alloc, &names)?)?;
+    let lists = first_lists(alloc, general.limits.paths, &said.listed.lists)?;
+    members = with_object(alloc, members, "paths", lists)?;
+    let present = present(alloc, &said.present, without)?;
+    members = with_texts(alloc, members, "present", &present)?;
+    members = with(alloc, members, "strings", list(alloc, &general.strings)?)?;
+    Ok(Tree::Object(members))
+}
+
+/// The fixed values, and the paths that never occur.
+fn fixed_lists(alloc: Global, fixed: &[Entry], without: &[&str]) -> Result<Members, AllocError>
+    ensures { IfOk result (λ ms. ms ≡ members_from (entries_of fixed.now ++ map without_entry (texts_at without.now))) }
+{
+    let mut lists = with_lists(alloc, no_members(alloc), fixed)?;
+    for path in without {
+        lists = with(alloc, lists, path, list(alloc, &[])?)?;
+    }
+    Ok(lists)
+}
+
+fn no_members(alloc: Global) -> Members
+    ensures { result ≡ none }
+{
+    Members {
         members: Vec::new(alloc),
-    }))?;
-    Ok(Items { items })
-}
-
-/// Names of the members of maps.
-fn names(alloc: Global) -> Result<Items, AllocError>
-    ensures { IfOk result (λ ds. ds ≡ items_of suggested_names) }
-{
-    let mut items = Vec::with_capacity(alloc, 2)?;
-    items.push(text(alloc, "a")?)?;
-    items.push(text(alloc, "b")?)?;
-    Ok(Items { items })
-}
-
-fn text(alloc: Global, letters: &str) -> Result<Tree, AllocError>
-    ensures { IfOk result (λ t. data_of t ≡ text letters.now) }
-{
-    Ok(Tree::Text(Text::from_str(alloc, letters)?))
-}
-
-/// A list of these integers.
-fn integers(alloc: Global, integers: &[i64]) -> Result<Items, AllocError>
-    ensures { IfOk result (λ ds. ds ≡ items_of (map (λ z. integer z) integers.now)) }
-{
-    let mut items = Vec::with_capacity(alloc, integers.len())?;
-    for integer in integers {
-        items.push(Tree::Int(*integer))?;
     }
-    Ok(Items { items })
 }
 
-/// A list of texts of these lengths.
-fn strings(alloc: Global, lengths: &[usize]) -> Result<Items, AllocError>
-    ensures { IfOk result (λ ds. ds ≡ items_of (map (λ n. text (letters n)) lengths.now)) }
+/// The members with an object of these lists, where there are some.
+fn with_object(
+    alloc: Global,
+    members: Members,
+    name: &str,
+    lists: Members,
+) -> Result<Members, AllocError>
+    ensures { IfOk result (λ ms. ms ≡ with_lists_member name.now lists members) }
 {
-    let mut items = Vec::with_capacity(alloc, lengths.len())?;
-    for length in lengths {
-        items.push(Tree::Text(Text {
-            text: "a".repeat(alloc, *length)?,
-        }))?;
+    if lists.members.is_empty() {
+        return Ok(members);
     }
-    Ok(Items { items })
+    with(alloc, members, name, Tree::Object(lists))
+}
+
+/// The members with a list of these texts, where there are some.
+fn with_texts(
+    alloc: Global,
+    members: Members,
+    name: &str,
+    texts: &[Text],
+) -> Result<Members, AllocError>
+    ensures { IfOk result (λ ms. ms ≡ with_texts_member name.now texts.now members) }
+{
+    if texts.is_empty() {
+        return Ok(members);
+    }
+    with(alloc, members, name, text_list(alloc, texts)?)
+}
+
+/// The names, and usual ones.
+fn names(alloc: Global, most: usize, found: &[Text]) -> Result<Vec<Text>, AllocError>
+    ensures { IfOk result (λ ts. ts.items ≡ chosen_names most (found.now ++ usual_names)) }
+{
+    let mut names = Vec::new(alloc);
+    for name in found {
+        push_name(alloc, most, &mut names, name.as_str())?;
+    }
+    push_name(alloc, most, &mut names, "a")?;
+    push_name(alloc, most, &mut names, "b")?;
+    Ok(names)
+}
+
+/// The first lists, no more than `most`.
+fn first_lists(alloc: Global, most: usize, lists: &[Entry]) -> Result<Members, AllocError>
+    ensures { IfOk result (λ ms. ms ≡ members_from (take most (entries_of lists.now))) }
+{
+    with_lists(alloc, no_members(alloc), &lists[..most.min(lists.len())])
+}
+
+/// The paths that are always there, but for those that never occur.
+fn present(alloc: Global, found: &[Text], without: &[&str]) -> Result<Vec<Text>, AllocError>
+    ensures { IfOk result (λ ts. ts.items ≡ filter (λ t. not (is_among_of t (texts_at without.now))) found.now) }
+{
+    let mut present = Vec::new(alloc);
+    for path in found {
+        if !is_among(path.as_str(), without) {
+            present.push(path.copy(alloc)?)?;
+        }
+    }
+    Ok(present)
 }

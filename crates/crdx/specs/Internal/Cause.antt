@@ -1,19 +1,25 @@
 -- Why a run has no answer, said of the documents at hand; the counts are those of the reads that failed, before and now.
-use Rattle.std.specs.Prelude.{◌≡◌, ◌≢◌, ◌⊎◌, ℕ, List, [], Bool, Option, IfSome, IsSomeAnd, Ok, Err, string_bytes}
+use Rattle.std.specs.Prelude.{◌≡◌, ◌≢◌, ◌⊎◌, ℕ, List, [], Bool, true, Option, IfSome, map, IsSomeAnd, Ok, Err, string_bytes}
 use Rattle.std.specs.Borrow.{Bor}
 use Rattle.std.specs.Io.KnownBytes.{Keeps}
 use Rattle.jtree.specs.Data.{Data}
 use Rattle.schema.specs.Nodes.Node.{Node}
+use Rattle.schema.specs.Nodes.ByPlace.{AreNodesOf}
 use Rattle.schema.specs.Rules.Breaks.{AreViolations}
 use Rattle.schema.specs.declared.fault.SFault.TheVariants as s
 use Rattle.stored.specs.Schemas.Accepted.{IsBroken}
 use Rattle.crdx.specs.Output.PartialOutput.{IsCutBetweenLines, IsCutByFailure}
 use Rattle.jtree.specs.Failures.{HasFailed}
-use Rattle.crdx.specs.Program.Documents.{Documents, file_name}
+use Rattle.crdx.specs.Program.Documents.{Documents, Lines, file_name}
+use Rattle.crdx.specs.Internal.ExitStatus.{cause_of_suggestion}
+use Rattle.suggest.specs.Suggested.Fault.{IsSuggestFault}
+use Rattle.suggest.specs.Suggested.Wanted.{Wanted}
+use Rattle.suggest.specs.declared.fault.SuggestFault.{SuggestFault}
 use Rattle.crdx.specs.Program.FieldAnswer.{IsFieldAnswer}
 use Rattle.crdx.specs.Program.ObjectAnswer.{IsObjectAnswer}
-use Rattle.crdx.specs.Program.Requested.{IsRequestedSchema, HasReadFault, HasPoolsFault, IsRequested, total_of}
-use Rattle.crdx.specs.Program.RunResult.{IsAnswer, IsInputRefused, Effects, WritesNothing, lines_of}
+use Rattle.crdx.specs.Program.Requested.{IsRequestedSchema, HasReadFault, HasPoolsFault, IsAcceptedSchema, IsRequested, pool_limits_of, total_of}
+use Rattle.crdx.specs.Program.Objects.{HasInput, IsNoText, IsBrokenAt}
+use Rattle.crdx.specs.Program.RunResult.{IsAnswer, IsInputRefused, IsWanted, IsPoolsRequest, Effects, WritesNothing, lines_of}
 use Rattle.crdx.specs.Program.Requested.{IsRequestedRoot}
 use Rattle.crdx.specs.Internal.LineProgress.{IsLinesCause}
 use Rattle.plan.specs.Pools.Pools.{Pools as PoolsData}
@@ -25,10 +31,11 @@ use Rattle.jtree.specs.Reads.{IsNoDocument}
 use Rattle.crdx.specs.Program.InputFault.{IsOfBytes}
 use Rattle.crdx.specs.declared.walk.line.Envelope.{Envelope}
 use Rattle.crdx.specs.declared.arguments.request.Request.{Request}
-use Rattle.crdx.specs.declared.arguments.request.Request.TheVariants.{ObjectLines, Sample}
+use Rattle.crdx.specs.declared.arguments.request.Request.TheVariants.{ObjectLines, Sample, SuggestPools}
 use Rattle.crdx.specs.declared.arguments.request.CommonArguments.{CommonArguments}
 use Rattle.crdx.specs.declared.arguments.request.ObjectArguments.{ObjectArguments}
 use Rattle.crdx.specs.declared.arguments.request.ObjectCommand.{ObjectCommand}
+use Rattle.crdx.specs.declared.arguments.request.PoolsArguments.{PoolsArguments}
 use Rattle.crdx.specs.declared.arguments.request.SampleArguments.{SampleArguments}
 use Rattle.plan.specs.declared.fault.PFault.TheVariants.{Form}
 use Rattle.crdx.specs.declared.running.causes.Input.{Input}
@@ -145,3 +152,30 @@ IsObjectsCause run arguments cause =
     (IsInputCause run.documents run.failed_reads_before run.failed_reads (ObjectLines arguments) cause × WritesNothing run)
     ⊎ ((N : Node) × IsRequestedRoot run.documents arguments.common N
     × IsLinesCause (lines_of run arguments) N arguments.command run.failed_reads_before run.failed_reads run.output_before run.output run.failed_writes_before run.failed_writes cause)
+
+-- why an input of which these lines are at hand has no documents
+abbrev pub IsObjectInputCause : ((List (List ℕ) → Type 0) → Type 0) → ℕ → ℕ → Cause → Type 0
+IsObjectInputCause Has before now (Read i) = HasFailed before now
+IsObjectInputCause Has before now (Document i fault) = IsOfBytes fault × Has (IsNoText fault)
+IsObjectInputCause Has before now (Line number fault) = IsOfBytes fault × Has (IsBrokenAt number fault)
+IsObjectInputCause Has before now NoMemory = Unit {0}
+IsObjectInputCause Has before now _ = ⊥
+
+-- of lines that are coming, some are so
+abbrev pub HasComing : (List (List ℕ) → Type 0) → (List (List ℕ) → Type 0) → Type 0
+HasComing coming Is = (lines : List (List ℕ)) × coming lines × Is lines
+
+-- why no document is suggested for a schema and what is asked for besides
+abbrev pub IsNotSuggested : Lines → PoolsArguments → Data → Node → Cause → Type 0
+IsNotSuggested at_hand arguments raw N cause =
+    (w : Wanted) × (fault : SuggestFault) × IsWanted at_hand arguments w × IsSuggestFault (pool_limits_of arguments.common) raw N w fault × (cause ≡ cause_of_suggestion fault)
+
+-- why `pools` prints no document for an accepted schema
+abbrev pub IsSuggestionCause : Lines → ℕ → ℕ → PoolsArguments → Data → Node → Cause → Type 0
+IsSuggestionCause at_hand before now arguments raw N cause = IsObjectInputCause (HasInput at_hand (map (λ s. s.now) arguments.from.items)) before now cause
+    ⊎ IsNotSuggested at_hand arguments raw N cause
+
+-- why `pools` prints no document
+abbrev pub IsPoolsRequestCause : Documents → Lines → ℕ → ℕ → PoolsArguments → Cause → Type 0
+IsPoolsRequestCause has at_hand before now arguments cause = IsInputCause has before now (SuggestPools arguments) cause
+    ⊎ ((raw : Data) × (N : Node) × IsAcceptedSchema has arguments.common raw × AreNodesOf true N raw × IsSuggestionCause at_hand before now arguments raw N cause)

@@ -18,6 +18,8 @@ use Rattle.stored.specs.declared.fault.LFault.{LFault}
 use Rattle.stored.specs.declared.fault.LFault.TheVariants as l
 use Rattle.plan.specs.declared.fault.PFault.{PFault}
 use Rattle.plan.specs.declared.fault.PFault.TheVariants as p
+use Rattle.suggest.specs.declared.fault.SuggestFault.{SuggestFault}
+use Rattle.suggest.specs.declared.fault.SuggestFault.TheVariants as suggest
 use Rattle.crdx.specs.declared.walk.fault.WFault.{WFault}
 use Rattle.crdx.specs.declared.walk.fault.WFault.TheVariants as w
 
@@ -32,6 +34,7 @@ code_name code.KeywordForm = codes "S3"
 code_name code.TooLarge = codes "S4"
 code_name code.Form = codes "P1"
 code_name code.BadPath = codes "P5"
+code_name code.NotInObject = codes "P6"
 
 -- running out of memory is no fault of a document
 abbrev pub cause_of_reading : SFault → Cause
@@ -55,6 +58,12 @@ cause_of_pools p.TooLarge = cause.Pools p.TooLarge
 cause_of_pools p.NoMemory = cause.NoMemory
 cause_of_pools p.BadLimit = cause.Pools p.BadLimit
 cause_of_pools (p.BadPath path) = cause.Place input.Pools code.BadPath path
+
+abbrev pub cause_of_suggestion : SuggestFault → Cause
+cause_of_suggestion (suggest.BadPath path) = cause.Place input.Pools code.BadPath path
+cause_of_suggestion (suggest.NotInObject path) = cause.Place input.Pools code.NotInObject path
+cause_of_suggestion suggest.TooLarge = cause.Pools p.TooLarge
+cause_of_suggestion suggest.NoMemory = cause.NoMemory
 
 abbrev pub cause_of_walk : WFault → Cause
 cause_of_walk w.NotASample = cause.NotASample

@@ -1,22 +1,24 @@
 -- The command line as `clap` reads it, and what its arguments ask for (this project's own).
-use Rattle.std.specs.Prelude.{◌≡◌, ◌≢◌, ◌⊎◌, ◌≤◌, ℕ, List, [], ◌∷◌, All, Bool, true, false, Option, Some, None, find, pos, if◌then◌else◌, option_map, option_and_then, unwrap_or, codes}
+use Rattle.std.specs.Prelude.{◌≡◌, ◌≢◌, ◌⊎◌, ◌+◌, ◌≤◌, ◌<◌, ℕ, List, [], ◌∷◌, length, map, All, Bool, true, false, Option, Some, None, find, pos, if◌then◌else◌, option_map, option_and_then, unwrap_or, codes}
 use Rattle.std.specs.Str.{bytes_eq}
 use Rattle.std.specs.Str.Parse.{IsNumeral, digits_value, without_leading_plus}
-use Rattle.clap.specs.Walk.{Row, Rule, Text, first_of, one_of}
+use Rattle.clap.specs.Walk.{Row, Rule, Text, all_of, first_of, one_of}
 use Rattle.clap.specs.declared.parser.matches.ValueSource.TheVariants.{CommandLine}
 use Rattle.clap.specs.Simple.{App, new_app, new_rule, with_rule, with_subcommand, on_top, subcommand_of}
 use Rattle.clap.specs.Faults.{fault_of}
 use Rattle.clap.specs.Kinds.{Kinds, IsAmong}
-use Rattle.clap.specs.declared.builder.action.ArgAction.TheVariants.{SetTrue}
+use Rattle.clap.specs.declared.builder.action.ArgAction.TheVariants.{Append, SetTrue}
 use Rattle.clap.specs.declared.builder.value_parser.ValueParser.TheVariants.{Signed}
 use Rattle.clap.specs.declared.error.kind.ErrorKind.{ErrorKind}
 use Rattle.clap.specs.declared.error.kind.ErrorKind.TheVariants.{DisplayHelp, DisplayVersion, OutOfMemory}
 use Rattle.crdx.specs.Program.Documents.{file_name}
 use Rattle.crdx.specs.declared.arguments.request.CommonArguments.{CommonArguments}
+use Rattle.crdx.specs.declared.arguments.request.CoverArguments.{CoverArguments}
 use Rattle.crdx.specs.declared.arguments.request.ExplainArguments.{ExplainArguments}
 use Rattle.crdx.specs.declared.arguments.request.ObjectArguments.{ObjectArguments}
 use Rattle.crdx.specs.declared.arguments.request.ObjectCommand.{ObjectCommand}
 use Rattle.crdx.specs.declared.arguments.request.ObjectCommand.TheVariants.{Validate, Prune, Default, Leaves}
+use Rattle.crdx.specs.declared.arguments.request.PoolsArguments.{PoolsArguments}
 use Rattle.crdx.specs.declared.arguments.request.SampleArguments.{SampleArguments}
 use Rattle.crdx.specs.declared.arguments.request.Request.{Request}
 use Rattle.crdx.specs.declared.arguments.request.Request.TheVariants.{Check, Explain, Object, ObjectLines, SuggestPools, Sample, Cover, Help, UsageError, NoMemory}
@@ -28,6 +30,10 @@ required_rule id = record (new_rule id) { required = true }
 -- an option `--id VALUE`
 abbrev pub option_rule : Text → Rule
 option_rule id = record (new_rule id) { long = Some id; value_names = 1 }
+
+-- an option `--id VALUE` that may be given more than once
+abbrev pub options_rule : Text → Rule
+options_rule id = record (option_rule id) { action = Some Append }
 
 -- an option for a number from 1 to the greatest, which has this value where it is left out
 abbrev pub number_rule : Text → ℕ → Text → Rule
@@ -50,12 +56,16 @@ object_app name = with_rule (with_rule (crd_app name) (new_rule (codes "OBJECT")
 abbrev pub validate_app : App
 validate_app = with_rule (object_app (codes "validate")) (flag_rule (codes "strict"))
 
+abbrev pub pools_app : App
+pools_app = with_rule (with_rule (with_rule (crd_app (codes "pools")) (options_rule (codes "from"))) (options_rule (codes "vary"))) (options_rule (codes "without"))
+
 abbrev pub sample_app : App
 sample_app = with_rule (with_rule (with_rule (with_rule (with_rule (with_rule (crd_app (codes "sample")) (option_rule (codes "pools")))
     (number_rule (codes "limit") 127 (codes "8"))) (number_rule (codes "count") 10000 (codes "100"))) (flag_rule (codes "all"))) (option_rule (codes "after"))) (option_rule (codes "name"))
 
 abbrev pub cover_app : App
-cover_app = with_rule (with_rule (with_rule (crd_app (codes "cover")) (option_rule (codes "pools"))) (number_rule (codes "limit") 127 (codes "127"))) (option_rule (codes "name"))
+cover_app = with_rule (with_rule (with_rule (with_rule (crd_app (codes "cover")) (option_rule (codes "pools"))) (number_rule (codes "limit") 127 (codes "127")))
+    (option_rule (codes "name"))) (flag_rule (codes "values"))
 
 abbrev pub top_app : App
 top_app = on_top (λ s. record s { has_version = true; subcommand_required = true }) (new_app (codes "crdx"))
@@ -63,7 +73,7 @@ top_app = on_top (λ s. record s { has_version = true; subcommand_required = tru
 abbrev pub crdx_app : App
 crdx_app = with_subcommand (with_subcommand (with_subcommand (with_subcommand (with_subcommand (with_subcommand (with_subcommand (with_subcommand (with_subcommand top_app
     (crd_app (codes "check")).top) explain_app.top) validate_app.top) (object_app (codes "prune")).top) (object_app (codes "default")).top)
-    (object_app (codes "leaves")).top) (crd_app (codes "pools")).top) sample_app.top) cover_app.top
+    (object_app (codes "leaves")).top) pools_app.top) sample_app.top) cover_app.top
 
 -- what `clap` refuses of the arguments after the program's name, and the command that they name with the value of each of its arguments
 unfoldable pub faults : List Text → Kinds
@@ -105,6 +115,16 @@ object_input rows = option_and_then input_of (first_of (codes "OBJECT") rows)
 abbrev pub pools_input : List Row → Option (Option Text)
 pools_input rows = option_map input_of (first_of (codes "pools") rows)
 
+-- the values of an option that may be given more than once, in order
+abbrev pub values_of : Text → List Row → List Text
+values_of id rows = unwrap_or (all_of id rows) []
+
+-- how many of the inputs are the standard input
+abbrev pub standard_inputs : List (Option Text) → ℕ
+standard_inputs [] = 0
+standard_inputs (None ∷ inputs) = standard_inputs inputs + 1
+standard_inputs (Some file ∷ inputs) = standard_inputs inputs
+
 -- the definition and the other input are both the standard input
 abbrev pub IsReadTwice : List Row → Option (Option Text) → Type 0
 IsReadTwice rows other = (crd_input rows ≡ None) × (other ≡ Some None)
@@ -130,11 +150,19 @@ AreSampleArguments rows arguments = AreCommonArguments rows arguments.common × 
     × IsNumberOf (codes "limit") 127 rows arguments.limit × IsNumberOf (codes "count") 10000 rows arguments.count
     × IsFlagOf (codes "all") rows arguments.all
 
--- there is nothing to go on from
-abbrev pub AreCoverArguments : List Row → SampleArguments → Type 0
-AreCoverArguments rows arguments = AreCommonArguments rows arguments.common × (option_map file_name arguments.pools ≡ pools_input rows)
+-- the words after these options, in order
+abbrev pub ArePoolsArguments : List Row → PoolsArguments → Type 0
+ArePoolsArguments rows arguments = AreCommonArguments rows arguments.common × (map (λ s. s.now) arguments.from.items ≡ values_of (codes "from") rows)
+    × (map (λ s. s.now) arguments.varied.items ≡ values_of (codes "vary") rows) × (map (λ s. s.now) arguments.without.items ≡ values_of (codes "without") rows)
+
+-- what samples are chosen from, where there is nothing to go on from
+abbrev pub AreChoiceArguments : List Row → SampleArguments → Type 0
+AreChoiceArguments rows arguments = AreCommonArguments rows arguments.common × (option_map file_name arguments.pools ≡ pools_input rows)
     × (option_map (λ s. s.now) arguments.after ≡ None) × (option_map (λ s. s.now) arguments.name ≡ first_of (codes "name") rows)
     × IsNumberOf (codes "limit") 127 rows arguments.limit
+
+abbrev pub AreCoverArguments : List Row → CoverArguments → Type 0
+AreCoverArguments rows arguments = AreChoiceArguments rows arguments.samples × IsFlagOf (codes "values") rows arguments.values
 
 abbrev pub object_command_name : ObjectCommand → Text
 object_command_name (Validate strict) = codes "validate"
@@ -150,6 +178,17 @@ abbrev pub ReadsInputTwice : Option (Text × List Row) → Type 0
 ReadsInputTwice named = (rows : List Row) × (((command : ObjectCommand) × (named ≡ Some (object_command_name command, rows)) × IsReadTwice rows (Some (object_input rows)))
     ⊎ (((named ≡ Some (codes "sample", rows)) × IsReadTwice rows (pools_input rows)) ⊎ ((named ≡ Some (codes "cover", rows)) × IsReadTwice rows (pools_input rows))))
 
+-- two of the inputs are the standard input
+abbrev pub ReadsObjectsTwice : List Row → Type 0
+ReadsObjectsTwice rows = 1 < standard_inputs (crd_input rows ∷ map input_of (values_of (codes "from") rows))
+
+-- an object is to be varied, and not one input is named
+abbrev pub VariesNoObject : List Row → Type 0
+VariesNoObject rows = (values_of (codes "vary") rows ≢ []) × (length (values_of (codes "from") rows) ≢ 1)
+
+abbrev pub MixesObjects : Option (Text × List Row) → Type 0
+MixesObjects named = (rows : List Row) × (named ≡ Some (codes "pools", rows)) × (ReadsObjectsTwice rows ⊎ VariesNoObject rows)
+
 -- all samples are asked for, and a number of them too
 abbrev pub AsksAllAndSome : Option (Text × List Row) → Type 0
 AsksAllAndSome named = (rows : List Row) × (named ≡ Some (codes "sample", rows)) × IsFlagOf (codes "all") rows true × IsGiven (codes "count") rows
@@ -162,12 +201,13 @@ IsCommand named (Object arguments) = (rows : List Row) × (named ≡ Some (objec
     × (IsReadTwice rows (Some (object_input rows)) → ⊥) × IsFlagOf (codes "lines") rows false
 IsCommand named (ObjectLines arguments) = (rows : List Row) × (named ≡ Some (object_command_name arguments.command, rows)) × AreObjectArguments arguments.command rows arguments
     × (IsReadTwice rows (Some (object_input rows)) → ⊥) × IsFlagOf (codes "lines") rows true
-IsCommand named (SuggestPools arguments) = (rows : List Row) × (named ≡ Some (codes "pools", rows)) × AreCommonArguments rows arguments
+IsCommand named (SuggestPools arguments) = (rows : List Row) × (named ≡ Some (codes "pools", rows)) × ArePoolsArguments rows arguments
+    × (ReadsObjectsTwice rows → ⊥) × (VariesNoObject rows → ⊥)
 IsCommand named (Sample arguments) = (rows : List Row) × (named ≡ Some (codes "sample", rows)) × AreSampleArguments rows arguments × (IsReadTwice rows (pools_input rows) → ⊥)
     × (arguments.all ≡ true → IsGiven (codes "count") rows → ⊥)
 IsCommand named (Cover arguments) = (rows : List Row) × (named ≡ Some (codes "cover", rows)) × AreCoverArguments rows arguments × (IsReadTwice rows (pools_input rows) → ⊥)
 IsCommand named (Help text) = ⊥
-IsCommand named (UsageError text) = All (λ name. (rows : List Row) → named ≢ Some (name, rows)) command_names ⊎ (ReadsInputTwice named ⊎ AsksAllAndSome named)
+IsCommand named (UsageError text) = All (λ name. (rows : List Row) → named ≢ Some (name, rows)) command_names ⊎ (ReadsInputTwice named ⊎ (AsksAllAndSome named ⊎ MixesObjects named))
 IsCommand named NoMemory = Unit {0}
 
 abbrev pub IsHelp : ErrorKind → Type 0
@@ -186,7 +226,7 @@ IsUsageErrorOrMemory NoMemory = Unit {0}
 IsUsageErrorOrMemory _ = ⊥
 
 -- what the arguments ask for: a command, or help; or they are refused, by `clap`, or since the command names the standard input
--- twice or asks for all samples and for a number of them. Running out of memory says nothing of them.
+-- twice, asks for all samples and for a number of them, or varies no object or several. Running out of memory says nothing of them.
 abbrev pub Asks : List Text → Request → Type 0
 Asks arguments (Check w) = (faults arguments ≡ []) × IsCommand (entered arguments) (Check w)
 Asks arguments (Explain w) = (faults arguments ≡ []) × IsCommand (entered arguments) (Explain w)

@@ -4,6 +4,7 @@ use Rattle.std.specs.Global.{Global}
 use Rattle.std.specs.Io.KnownBytes.{Appends, Keeps}
 use Rattle.jtree.specs.Data.{Data}
 use Rattle.schema.specs.Nodes.Node.{Node}
+use Rattle.schema.specs.Nodes.ByPlace.{AreNodesOf}
 use Rattle.schema.specs.Rules.Breaks.{Break, AreBreaks, reported_of}
 use Rattle.schema.specs.Rules.Explained.{AreExplained}
 use Rattle.schema.specs.declared.reason.Explained.{Explained}
@@ -18,9 +19,14 @@ use Rattle.crdx.specs.Program.FieldAnswer.{IsFieldAnswer}
 use Rattle.crdx.specs.Program.InputFault.{IsOfBytes}
 use Rattle.crdx.specs.Program.LineAnswers.{AreAnswered, AreOut, AreCut}
 use Rattle.crdx.specs.Program.ObjectAnswer.{IsObjectAnswer}
+use Rattle.crdx.specs.Program.Objects.{AreObjects, AreRefused}
 use Rattle.crdx.specs.Program.ViolationLines.{violation_lines, explained_lines}
 use Rattle.suggest.specs.Suggested.Document.{suggested_document}
-use Rattle.crdx.specs.Program.Requested.{pool_limits_of, total_of, IsRequestedSchema, HasAcceptedSchema, IsCrdRefused, AreRootAndPools, IsAfterRefused, IsRequested, ArePoolsRefused, IsRequestedRoot, IsRequestedObject, IsObjectRefused}
+use Rattle.suggest.specs.Suggested.Fault.{IsSuggestFault}
+use Rattle.suggest.specs.Suggested.Wanted.{Wanted as PoolsWanted}
+use Rattle.suggest.specs.declared.fault.SuggestFault.{SuggestFault}
+use Rattle.suggest.specs.declared.fault.SuggestFault.TheVariants as suggest
+use Rattle.crdx.specs.Program.Requested.{pool_limits_of, total_of, IsRequestedSchema, IsAcceptedSchema, HasAcceptedSchema, IsCrdRefused, AreRootAndPools, IsAfterRefused, IsRequested, ArePoolsRefused, IsRequestedRoot, IsRequestedObject, IsObjectRefused}
 use Rattle.plan.specs.Pools.Pools.{Pools}
 use Rattle.plan.specs.Pools.PlanFault.{HasGoodPaths, IsFirstBadPath}
 use Rattle.plan.specs.Samples.Question.{Question}
@@ -28,10 +34,13 @@ use Rattle.enumerate.specs.Page.{IsPage, IsSampleOf}
 use Rattle.explain.specs.Fields.Declared.{AreFields}
 use Rattle.explain.specs.Fields.Field.{Field}
 use Rattle.cover.specs.Cover.{Covered, AreCovered}
+use Rattle.cover.specs.Wanted.{Wanted, AreWanted}
 use Rattle.crdx.specs.declared.walk.line.Envelope.{Envelope}
 use Rattle.crdx.specs.declared.arguments.request.CommonArguments.{CommonArguments}
+use Rattle.crdx.specs.declared.arguments.request.CoverArguments.{CoverArguments}
 use Rattle.crdx.specs.declared.arguments.request.ExplainArguments.{ExplainArguments}
 use Rattle.crdx.specs.declared.arguments.request.ObjectArguments.{ObjectArguments}
+use Rattle.crdx.specs.declared.arguments.request.PoolsArguments.{PoolsArguments}
 use Rattle.crdx.specs.declared.arguments.request.SampleArguments.{SampleArguments}
 use Rattle.crdx.specs.declared.arguments.request.Request.{Request}
 use Rattle.crdx.specs.declared.arguments.request.Request.TheVariants.{Check, Explain, Object, ObjectLines, SuggestPools, Sample, Cover, Help, UsageError}
@@ -56,19 +65,20 @@ pub data IsAnswer (has : Documents) : Request → ℕ → List ℕ → Type 0 wh
       → IsObjectAnswer N document arguments.command status answer → IsAnswer has (Object arguments) status answer
   no_object : (arguments : ObjectArguments) (breaks : List Break) → HasBreaks has arguments.common breaks → IsAnswer has (Object arguments) 1 []
   no_objects : (arguments : ObjectArguments) (breaks : List Break) → HasBreaks has arguments.common breaks → IsAnswer has (ObjectLines arguments) 1 []
-  pools : (arguments : CommonArguments) (N : Node) → IsRequestedRoot has arguments N → IsAnswer has (SuggestPools arguments) 0 (line None (suggested_document N))
-  no_pools : (arguments : CommonArguments) (breaks : List Break) → HasBreaks has arguments breaks → IsAnswer has (SuggestPools arguments) 1 []
+  no_pools : (arguments : PoolsArguments) (breaks : List Break) → HasBreaks has arguments.common breaks → IsAnswer has (SuggestPools arguments) 1 []
   samples : (arguments : SampleArguments) (q : Question) (after : Option Data) (e : Option Envelope) (items : List Data) (end : Bool) → IsRequested has arguments q after e
       → IfSome after (IsSampleOf q) → IsPage q after (total_of arguments) items end → IsAnswer has (Sample arguments) 0 (lines e items)
   -- the tree to go on from is no sample
   no_sample : (arguments : SampleArguments) (q : Question) (after : Data) (e : Option Envelope) → IsRequested has arguments q (Some after) e → (IsSampleOf q after → ⊥)
       → IsAnswer has (Sample arguments) 1 []
   no_samples : (arguments : SampleArguments) (breaks : List Break) → HasBreaks has arguments.common breaks → IsAnswer has (Sample arguments) 1 []
-  -- for each path, in the order of `explain`, the first sample in which it is there, where it is there in none of those before
-  covers : (arguments : SampleArguments) (q : Question) (after : Option Data) (e : Option Envelope) (fields : List Field) (c : Covered) → IsRequested has arguments q after e
-      → AreFields q.root fields → AreCovered q (map (λ f. f.path) fields) c → IsAnswer has (Cover arguments) 0 (lines e (map (λ l. l.object) c.lines))
+  -- for each path, in the order of `explain`, the first sample in which it is there, where it is there in none of those before; and where
+  -- values are asked for, then the same for each of its values
+  covers : (arguments : CoverArguments) (q : Question) (after : Option Data) (e : Option Envelope) (fields : List Field) (wanted : List Wanted) (c : Covered)
+      → IsRequested has arguments.samples q after e → AreFields q.root fields → AreWanted arguments.values q (map (λ f. f.path) fields) wanted → AreCovered q wanted c
+      → IsAnswer has (Cover arguments) 0 (lines e (map (λ l. l.object) c.lines))
   -- nothing is covered where no samples are listed
-  no_cover : (arguments : SampleArguments) → IsAnswer has (Sample arguments) 1 [] → IsAnswer has (Cover arguments) 1 []
+  no_cover : (arguments : CoverArguments) → IsAnswer has (Sample arguments.samples) 1 [] → IsAnswer has (Cover arguments) 1 []
   help : (said : String Global) → IsAnswer has (Help said) 0 (string_bytes said)
   usage_error : (said : String Global) → IsAnswer has (UsageError said) 2 []
 
@@ -86,9 +96,9 @@ IsInputRefused has (Explain arguments) = IsCrdRefused has arguments.common
 IsInputRefused has (Object arguments) = IsCrdRefused has arguments.common
     ⊎ (HasAcceptedSchema has arguments.common × IsObjectRefused has arguments)
 IsInputRefused has (ObjectLines arguments) = IsCrdRefused has arguments.common
-IsInputRefused has (SuggestPools arguments) = IsCrdRefused has arguments
+IsInputRefused has (SuggestPools arguments) = IsCrdRefused has arguments.common
 IsInputRefused has (Sample arguments) = IsSamplingRefused has arguments
-IsInputRefused has (Cover arguments) = IsSamplingRefused has arguments
+IsInputRefused has (Cover arguments) = IsSamplingRefused has arguments.samples
 IsInputRefused has _ = ⊥
 
 -- What a run finds outside of it and leaves there: the documents and the lines at hand before it, and, before it and after it, how often reads
@@ -140,6 +150,35 @@ pub data IsLinesResult (run : Effects) (N : Node) (arguments : ObjectArguments) 
   lines_left : (rest : List (List ℕ)) → AreOut (lines_of run arguments) N arguments.command rest run.output_before run.output → run.failed_writes ≡ run.failed_writes_before
       → IsLinesResult run N arguments 5
 
+-- ---- pools
+
+-- what `pools` is asked for besides a schema: the objects of the inputs that are named, and the paths
+pub record IsWanted (at_hand : Lines) (arguments : PoolsArguments) (w : PoolsWanted) : Type 0 where
+  pub objects : AreObjects at_hand (map (λ s. s.now) arguments.from.items) w.objects
+  pub varied : w.varied ≡ map (λ s. s.now) arguments.varied.items
+  pub without : w.without ≡ map (λ s. s.now) arguments.without.items
+
+-- the schema as written, its root, and what is asked for besides
+pub record IsPoolsRequest (has : Documents) (at_hand : Lines) (arguments : PoolsArguments) (raw : Data) (N : Node) (w : PoolsWanted) : Type 0 where
+  pub schema : IsAcceptedSchema has arguments.common raw
+  pub root : AreNodesOf true N raw
+  pub wanted : IsWanted at_hand arguments w
+
+-- the line of the document that is suggested
+abbrev pub pools_line : PoolsArguments → Data → Node → PoolsWanted → List ℕ
+pools_line arguments raw N w = line None (suggested_document (pool_limits_of arguments.common) raw N w)
+
+-- The exit status of a run of `pools` on a schema that is accepted: the document is out, or a beginning of it, since a write failed; or 3 an
+-- input that is named has no objects, or no document is suggested.
+pub data IsPoolsResult (run : Effects) (arguments : PoolsArguments) : ℕ → Type 0 where
+  suggested : (raw : Data) (N : Node) (w : PoolsWanted) → IsPoolsRequest run.documents run.lines arguments raw N w → Appends run.output_before run.output (pools_line arguments raw N w)
+      → run.failed_writes ≡ run.failed_writes_before → IsPoolsResult run arguments 0
+  unwritten : (raw : Data) (N : Node) (w : PoolsWanted) (status : ℕ) → IsPoolsRequest run.documents run.lines arguments raw N w → (status ≡ 4) ⊎ (status ≡ 5) → HasFailed run.failed_writes_before run.failed_writes
+      → (n : ℕ) → Appends run.output_before run.output (take n (pools_line arguments raw N w)) → IsPoolsResult run arguments status
+  unread_objects : HasAcceptedSchema run.documents arguments.common → AreRefused run.lines (map (λ s. s.now) arguments.from.items) → WritesNothing run → IsPoolsResult run arguments 3
+  not_suggested : (raw : Data) (N : Node) (w : PoolsWanted) (fault : SuggestFault) → IsPoolsRequest run.documents run.lines arguments raw N w → fault ≢ suggest.NoMemory
+      → IsSuggestFault (pool_limits_of arguments.common) raw N w fault → WritesNothing run → IsPoolsResult run arguments 3
+
 -- The exit status of a run with these effects: 3 an input is refused, 4 a read or a write failed, 5 out of memory, if only for
 -- the line on a failed write.
 pub data IsRunResult (run : Effects) (request : Request) : ℕ → Type 0 where
@@ -149,5 +188,6 @@ pub data IsRunResult (run : Effects) (request : Request) : ℕ → Type 0 where
   read_failed : HasFailed run.failed_reads_before run.failed_reads → WritesNothing run → IsRunResult run request 4
   write_failed : (status : ℕ) → (status ≡ 4) ⊎ (status ≡ 5) → HasFailed run.failed_writes_before run.failed_writes → IsCutByWrite run request → IsRunResult run request status
   no_memory : IsCutByMemory run request → run.failed_writes ≡ run.failed_writes_before → IsRunResult run request 5
+  on_objects : (arguments : PoolsArguments) (status : ℕ) → request ≡ SuggestPools arguments → IsPoolsResult run arguments status → IsRunResult run request status
   on_lines : (arguments : ObjectArguments) (N : Node) (status : ℕ) → request ≡ ObjectLines arguments → IsRequestedRoot run.documents arguments.common N → IsLinesResult run N arguments status
       → IsRunResult run request status

@@ -128,9 +128,14 @@ Codes of an input that is refused:
        objects of such lists of any values.
   P2   The pools have more than 64 integers, 64 strings, 32 names or 64 values
        of any kind, more than 64 paths in paths, fixed or present, or more than
-       64 values at a path; with --large, 1024 in place of 64.
+       64 values at a path; with --large, 1024 in place of 64. Or `crdx pools`
+       would print such pools, or more than 1 MiB.
   P5   A path of the pools leads to no field; or one in paths to an object, a
        map or a list; or one in fixed to the items of a list of list type map.
+       So with the path of --without. Or that of --vary leads to no field, or
+       through a list or a map.
+  P6   The object of --from has nothing that the field of --vary belongs to, or
+       there is more than one object.
 
 Codes of a path that leads to no field, and of an object without leaves:
   X1   The text is not written as a path.
@@ -140,7 +145,7 @@ Codes of a path that leads to no field, and of an object without leaves:
 
 A rule, a fault, S3, S4 and P1 come with a JSON pointer to the place. Of a
 schema it begins at openAPIV3Schema, of an object at the object, and "" is the
-whole. P5 comes with the path, as the pools have it. With --why the line of a
+whole. P5 and P6 come with the path, as it is given. With --why the line of a
 refusal is followed by one that says what was found and what is allowed."#;
 
 pub(super) const CHECK: CommandHelp = CommandHelp {
@@ -276,19 +281,26 @@ status.",
 };
 
 pub(super) const POOLS: CommandHelp = CommandHelp {
-    about: "Prints a pools document to start with",
+    about: "Prints a pools document, to start with or around an object",
     long_about: r#"Prints a pools document to start with, for `crdx sample`, as one line of JSON.
 
 Its integers are 0 and 1, and each minimum and maximum of the schema with the
 integers beside it. Its strings are texts of so many letters: one, and as many
 as each minLength and maxLength up to 64 says. Its names are two, and there are
 a text and {} for places that the schema leaves open. A list ends after 64.
+Under "paths" it lists, for a field that has a `default`, an `example` or a
+`format` such as date-time, these values or two texts of that format.
+
+With --from it lists under "paths" what objects have there, and with --vary it
+says that a sample is the one object but for what is at these paths.
 
 Then change it: put in the values that tell your controller's cases apart, and
 take out those that do not."#,
     end: "Example, at the top of the repository:
   ./crdx pools examples/issuer/crd.json v1 > pools.json
   ./crdx sample examples/issuer/crd.json v1 --pools pools.json
+  ./crdx pools examples/issuer/crd.json v1 \\
+      --from examples/issuer/object.default.json --vary /spec/acme/skipTLSVerify
 
 `crdx --help` explains the rules, the codes of inputs that are refused, and the
 exit status.",
@@ -335,7 +347,8 @@ pub(super) const COVER: CommandHelp = CommandHelp {
     about: "Lists, for each field, the first sample that has it",
     long_about: r#"Lists sample objects that have every field of a schema, one on each line, as
 JSON: for each path, in the order of `crdx explain`, the first sample in which
-it is there, where it is there in no sample listed before.
+it is there, where it is there in no sample listed before. With --values, after
+a path that leads to a scalar, the same for each value that the scalar can have.
 
 A path is there where each name on the way is, and an item of each list and of
 each map, with the rest of the path in every item. So nothing is below a null.
@@ -343,7 +356,8 @@ What a sample is, `crdx sample --help` says.
 
 The last line on standard error says how many paths are there in no sample of so
 few nodes, such as a text without --pools; with --why each of them is on a line
-below. `crdx pools` prints values to start with."#,
+below. With --values a line after these says it of values, where there are any.
+`crdx pools` prints values to start with."#,
     end: r#"Examples, at the top of the repository:
   ./crdx cover examples/issuer/crd.json v1 \
       --pools examples/issuer/pools.json
@@ -351,6 +365,14 @@ below. `crdx pools` prints values to start with."#,
 `crdx --help` explains the rules, the codes of inputs that are refused, and the
 exit status."#,
 };
+
+pub(super) const VALUES: &str = "Covers the values of scalars too";
+
+pub(super) const VALUES_LONG: &str =
+    "Covers the values of scalars too: for each value that a scalar can
+have over the pools, null among them, the first sample in which each
+value at the scalar's path is that one, where no sample listed before
+is such.";
 
 pub(super) const CRD: &str = "A JSON file with a CustomResourceDefinition; - is standard input";
 
@@ -390,6 +412,31 @@ pub(super) const WHY: &str = "Says why a schema or an input is refused";
 pub(super) const WHY_LONG: &str = "Prints below the line of a rule each reason: the keyword, what is
 wrong with it, and what can be done. Below the line of any other
 refusal: what was found, and what is allowed.";
+
+pub(super) const FROM: &str =
+    "A JSON file with an object, or with one on each line, whose values are listed";
+
+pub(super) const FROM_LONG: &str =
+    "A JSON file with an object, or with one on each line; - is standard
+input. The values that the objects have at a path are listed there in
+place of those that the schema suggests, and the names of the members
+of their maps are listed too. What is not valid at its path is left
+out. May be given more than once.";
+
+pub(super) const VARY: &str = "A path at which samples differ from the object of --from";
+
+pub(super) const VARY_LONG: &str =
+    "A path, as `crdx explain` prints it, at which samples differ from the
+object of --from: at all other paths they have what the object has,
+and lack what it lacks. The path leads through objects alone, and the
+object has the field above it. May be given more than once, with one
+object.";
+
+pub(super) const WITHOUT: &str = "A path of a field that no sample has";
+
+pub(super) const WITHOUT_LONG: &str =
+    "A path of a field that no sample has, such as /status. May be given
+more than once.";
 
 pub(super) const POOLS_OPTION: &str = "A JSON file with the values that samples may have";
 

@@ -1,5 +1,5 @@
 // Reads the arguments by `clap`.
-ghost use Rattle.std.specs.Prelude.{◌≡◌, ◌≢◌, ◌≤◌, false, true, Some, map, option_map, IfOk, string_bytes, codes};
+ghost use Rattle.std.specs.Prelude.{◌≡◌, ◌≢◌, ◌≤◌, ◌<◌, ◌+◌, ◌∷◌, if◌then◌else◌, length, false, true, Some, map, option_map, IfOk, string_bytes, codes};
 ghost use Rattle.clap.specs.Words.{found_of};
 ghost use Rattle.clap.specs.Kinds.{FailsBy};
 ghost use Rattle.clap.specs.Values.{kind_of};
@@ -9,12 +9,13 @@ ghost use Rattle.clap.specs.declared.builder.command.Command.TheViews.{out-Comma
 ghost use Rattle.clap.specs.declared.error.kind.ErrorKind.TheVariants.{ArgumentConflict};
 ghost use Rattle.clap.specs.declared.parser.matches.ValueSource.TheVariants.{CommandLine};
 ghost use Rattle.crdx.specs.Program.Documents.{file_name};
-ghost use Rattle.crdx.specs.Program.CommandLine.{required_rule, option_rule, flag_rule, number_rule, top_app, crd_app, explain_app, object_app, validate_app, sample_app, cover_app, crdx_app, faults, entered, input_of, crd_input, object_input, pools_input, object_command_name, IsCommand, AreCommonArguments, AreExplainArguments, HasOptions, IsFlagOf, IsGiven, AreObjectArguments, AreSampleArguments, AreCoverArguments, Asks, IsRequestOf, IsUsageErrorOrMemory, IsNumberOf};
+ghost use Rattle.crdx.specs.Program.CommandLine.{required_rule, option_rule, options_rule, flag_rule, number_rule, top_app, crd_app, explain_app, object_app, validate_app, pools_app, sample_app, cover_app, crdx_app, faults, entered, input_of, crd_input, object_input, pools_input, object_command_name, IsCommand, AreCommonArguments, AreExplainArguments, HasOptions, IsFlagOf, IsGiven, AreObjectArguments, ArePoolsArguments, values_of, standard_inputs, AreSampleArguments, AreCoverArguments, Asks, IsRequestOf, IsUsageErrorOrMemory, IsNumberOf};
 
 use crate::arguments::help;
 use crate::arguments::help::CommandHelp;
 use crate::arguments::request::{
-    CommonArguments, ExplainArguments, ObjectArguments, ObjectCommand, Request, SampleArguments,
+    CommonArguments, CoverArguments, ExplainArguments, ObjectArguments, ObjectCommand,
+    PoolsArguments, Request, SampleArguments,
 };
 use clap::error::ErrorKind;
 use clap::parser::ValueSource;
@@ -60,7 +61,7 @@ fn request_of_named<'a>(alloc: Global, name: &str, found: &ArgMatches<'a>) -> Re
         "prune" => object_request(alloc, ObjectCommand::Prune, found),
         "default" => object_request(alloc, ObjectCommand::Default, found),
         "leaves" => object_request(alloc, ObjectCommand::Leaves, found),
-        "pools" => Request::SuggestPools(common_arguments(found)),
+        "pools" => pools_request(alloc, found),
         "sample" => sample_request(alloc, found),
         "cover" => cover_request(alloc, found),
         _ => usage_error(alloc, "error: no such command\n"),
@@ -95,6 +96,58 @@ fn object_request<'a>(alloc: Global, command: ObjectCommand, found: &ArgMatches<
     }
 }
 
+/// The request of `pools`, which may read the standard input for one of its inputs, and which varies one object.
+fn pools_request<'a>(alloc: Global, found: &ArgMatches<'a>) -> Request<'a>
+    ensures { IsCommand (Some (codes "pools", rows_of (found_of found.now))) result }
+{
+    let Ok(arguments) = pools_arguments(alloc, found) else {
+        return Request::NoMemory;
+    };
+    if reads_twice(arguments.common.crd, arguments.from.as_slice()) {
+        drop(arguments);
+        return refuse(
+            alloc,
+            "only one of CRD and --from can be the standard input",
+        );
+    }
+    if varies_no_object(arguments.from.as_slice(), arguments.varied.as_slice()) {
+        drop(arguments);
+        return refuse(alloc, "--vary needs --from, once");
+    }
+    Request::SuggestPools(arguments)
+}
+
+/// Whether paths are varied, and not one input of objects is named.
+fn varies_no_object(from: &[&str], varied: &[&str]) -> bool
+    ensures yes { result ≡ true → (length varied.now ≢ 0) × (length from.now ≢ 1) }
+    ensures no { result ≡ false → length varied.now ≢ 0 → length from.now ≢ 1 → ⊥ }
+{
+    !varied.is_empty() && from.len() != 1
+}
+
+/// Whether more than one of these inputs is the standard input.
+fn reads_twice(crd: Option<&str>, words: &[&str]) -> bool
+    ensures twice { result ≡ true → 1 < standard_inputs (file_name crd.entry ∷ map (λ w. input_of w.now) words.now) }
+    ensures once { result ≡ false → standard_inputs (file_name crd.entry ∷ map (λ w. input_of w.now) words.now) ≤ 1 }
+{
+    is_read_again(crd.is_none(), words)
+}
+
+/// Whether the standard input is named by one of the words after it was named before, or by two of them.
+fn is_read_again(before: bool, words: &[&str]) -> bool
+    ensures again { result ≡ true → 1 < (if before then 1 else 0) + standard_inputs (map (λ w. input_of w.now) words.now) }
+    ensures once { result ≡ false → (if before then 1 else 0) + standard_inputs (map (λ w. input_of w.now) words.now) ≤ 1 }
+{
+    let [word, rest @ ..] = words else {
+        return false;
+    };
+    if *word == "-" {
+        before || is_read_again(true, rest)
+    } else {
+        is_read_again(before, rest)
+    }
+}
+
 /// The request of `sample`, which may read the standard input for one of its two inputs, and which lists all samples or a number of them.
 fn sample_request<'a>(alloc: Global, found: &ArgMatches<'a>) -> Request<'a>
     ensures { IsCommand (Some (codes "sample", rows_of (found_of found.now))) result }
@@ -114,7 +167,7 @@ fn cover_request<'a>(alloc: Global, found: &ArgMatches<'a>) -> Request<'a>
     ensures { IsCommand (Some (codes "cover", rows_of (found_of found.now))) result }
 {
     let arguments = cover_arguments(found);
-    match (arguments.common.crd, arguments.pools) {
+    match (arguments.samples.common.crd, arguments.samples.pools) {
         (None, Some(None)) => refuse(alloc, "CRD and --pools cannot both be the standard input"),
         _ => Request::Cover(arguments),
     }
@@ -160,8 +213,7 @@ fn crdx_command<'a>(alloc: Global) -> Result<Command<'a>, AllocError>
     let command = add_command(command, default);
     let leaves = object_command(alloc, "leaves", help::LEAVES);
     let command = add_command(command, leaves);
-    let pools = crd_command(alloc, "pools", help::POOLS);
-    let command = add_command(command, pools);
+    let command = add_command(command, pools_command(alloc));
     let command = add_command(command, sample_command(alloc));
     add_command(command, cover_command(alloc))
 }
@@ -294,6 +346,20 @@ fn text_option<'a>(
         .long_help(long_help)
 }
 
+/// An option with a text, which may be given more than once.
+fn text_options<'a>(
+    alloc: Global,
+    name: &'a str,
+    value_name: &'a str,
+    help: &'a str,
+    long_help: &'a str,
+) -> Arg<'a>
+    ensures rule { rule_of result ≡ options_rule name.now }
+    ensures local { result.global ≡ false }
+{
+    text_option(alloc, name, value_name, help, long_help).action(ArgAction::Append)
+}
+
 /// The arguments that `explain` takes.
 fn explain_command<'a>(alloc: Global) -> Result<Command<'a>, AllocError>
     ensures app { IfOk result (λ c. app_of c ≡ explain_app) }
@@ -328,6 +394,20 @@ fn validate_command<'a>(alloc: Global) -> Result<Command<'a>, AllocError>
         command,
         flag(alloc, "strict", help::STRICT, help::STRICT_LONG),
     )
+}
+
+/// The arguments that `pools` takes.
+fn pools_command<'a>(alloc: Global) -> Result<Command<'a>, AllocError>
+    ensures app { IfOk result (λ c. app_of c ≡ pools_app) }
+    ensures local { IfOk result (λ c. (out-Command c).has_globals ≡ false) }
+{
+    let command = crd_command(alloc, "pools", help::POOLS);
+    let from = text_options(alloc, "from", "OBJECT", help::FROM, help::FROM_LONG);
+    let command = add_argument(command, from);
+    let vary = text_options(alloc, "vary", "PATH", help::VARY, help::VARY_LONG);
+    let command = add_argument(command, vary);
+    let without = text_options(alloc, "without", "PATH", help::WITHOUT, help::WITHOUT_LONG);
+    add_argument(command, without)
 }
 
 /// The arguments that `sample` takes.
@@ -369,7 +449,9 @@ fn cover_command<'a>(alloc: Global) -> Result<Command<'a>, AllocError>
     let command = add_argument(command, pools);
     let command = add_argument(command, cover_limit_option(alloc));
     let name = text_option(alloc, "name", "NAME", help::NAME, help::NAME_LONG);
-    add_argument(command, name)
+    let command = add_argument(command, name);
+    let values = flag(alloc, "values", help::VALUES, help::VALUES_LONG);
+    add_argument(command, values)
 }
 
 /// The limit of `cover`, which is the greatest where none is given.
@@ -442,6 +524,34 @@ fn object_arguments<'a>(command: ObjectCommand, matches: &ArgMatches<'a>) -> Obj
     }
 }
 
+fn pools_arguments<'a>(
+    alloc: Global,
+    matches: &ArgMatches<'a>,
+) -> Result<PoolsArguments<'a>, AllocError>
+    ensures { IfOk result (ArePoolsArguments (rows_of (found_of matches.now))) }
+{
+    Ok(PoolsArguments {
+        common: common_arguments(matches),
+        from: values_of(alloc, matches, "from")?,
+        varied: values_of(alloc, matches, "vary")?,
+        without: values_of(alloc, matches, "without")?,
+    })
+}
+
+/// The values of an option that may be given more than once.
+fn values_of<'a>(
+    alloc: Global,
+    matches: &ArgMatches<'a>,
+    name: &str,
+) -> Result<Vec<&'a str>, AllocError>
+    ensures { IfOk result (λ words. map (λ s. s.now) words.items ≡ values_of name.now (rows_of (found_of matches.now))) }
+{
+    match matches.get_strs(name) {
+        Some(words) => Vec::from_slice(alloc, words),
+        None => Ok(Vec::new(alloc)),
+    }
+}
+
 fn sample_arguments<'a>(matches: &ArgMatches<'a>) -> SampleArguments<'a>
     ensures { AreSampleArguments (rows_of (found_of matches.now)) result }
 {
@@ -456,17 +566,20 @@ fn sample_arguments<'a>(matches: &ArgMatches<'a>) -> SampleArguments<'a>
     }
 }
 
-fn cover_arguments<'a>(matches: &ArgMatches<'a>) -> SampleArguments<'a>
+fn cover_arguments<'a>(matches: &ArgMatches<'a>) -> CoverArguments<'a>
     ensures { AreCoverArguments (rows_of (found_of matches.now)) result }
 {
-    SampleArguments {
-        common: common_arguments(matches),
-        pools: pools_of(matches),
-        after: None,
-        name: matches.get_str("name"),
-        limit: number_of(matches, "limit", MOST_LIMIT, MOST_LIMIT),
-        count: 1,
-        all: false,
+    CoverArguments {
+        samples: SampleArguments {
+            common: common_arguments(matches),
+            pools: pools_of(matches),
+            after: None,
+            name: matches.get_str("name"),
+            limit: number_of(matches, "limit", MOST_LIMIT, MOST_LIMIT),
+            count: 1,
+            all: false,
+        },
+        values: flag_of(matches, "values"),
     }
 }
 
@@ -495,7 +608,7 @@ fn pools_of<'a>(matches: &ArgMatches<'a>) -> Option<Option<&'a str>>
 }
 
 /// The input that a word names: the standard input for `-`, and else a file.
-fn input_named(word: &str) -> Option<&str>
+pub(crate) fn input_named(word: &str) -> Option<&str>
     ensures { file_name result ≡ input_of word.now }
 {
     if word == "-" { None } else { Some(word) }

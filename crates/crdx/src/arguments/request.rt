@@ -36,6 +36,27 @@ pub struct SampleArguments<'a> {
     ghost count_most: { count ≤ 10000 },
 }
 
+/// The arguments of `pools`.
+#[derive(Drop)]
+pub struct PoolsArguments<'a> {
+    pub common: CommonArguments<'a>,
+    /// The words that name the inputs of objects: a file, or `-` for the standard input.
+    pub from: Vec<&'a str>,
+    /// The texts of the paths at which the object is varied.
+    pub varied: Vec<&'a str>,
+    /// The texts of the paths that never occur.
+    pub without: Vec<&'a str>,
+}
+
+/// The arguments of `cover`.
+#[derive(Drop)]
+pub struct CoverArguments<'a> {
+    /// What the samples are chosen from; there is nothing to go on from, and the count says nothing.
+    pub samples: SampleArguments<'a>,
+    /// Whether `--values` is given: whether each value of each scalar is wanted too.
+    pub values: bool,
+}
+
 /// The arguments of `explain`.
 #[derive(Drop)]
 pub struct ExplainArguments<'a> {
@@ -80,12 +101,12 @@ pub enum Request<'a> {
     Object(ObjectArguments<'a>),
     /// To say what becomes of each object of an input that has one on each line.
     ObjectLines(ObjectArguments<'a>),
-    /// To make a pools document to start with.
-    SuggestPools(CommonArguments<'a>),
+    /// To make a pools document: one to start with, or one for the samples around an object.
+    SuggestPools(PoolsArguments<'a>),
     /// To list samples.
     Sample(SampleArguments<'a>),
-    /// To cover the paths of a schema by samples; there is nothing to go on from, and the count says nothing.
-    Cover(SampleArguments<'a>),
+    /// To cover a schema by samples.
+    Cover(CoverArguments<'a>),
     /// To print this text of help or of the version on standard output, with status 0.
     Help(String),
     /// Nothing that there is: this text goes to standard error, with status 2.

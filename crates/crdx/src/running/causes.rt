@@ -10,6 +10,7 @@ use schema::{Refused, SFault, Violation};
 use std::alloc::AllocError;
 use std::fmt;
 use stored::LFault;
+use suggest::SuggestFault;
 
 /// An input of the program.
 #[derive(Clone, Copy, Drop)]
@@ -43,6 +44,7 @@ pub(crate) enum PlaceCode {
     TooLarge,
     Form,
     BadPath,
+    NotInObject,
 }
 
 impl fmt::Display for PlaceCode {
@@ -57,6 +59,7 @@ impl fmt::Display for PlaceCode {
             PlaceCode::TooLarge => write!(f, "S4"),
             PlaceCode::Form => write!(f, "P1"),
             PlaceCode::BadPath => write!(f, "P5"),
+            PlaceCode::NotInObject => write!(f, "P6"),
         }
     }
 }
@@ -185,6 +188,24 @@ impl From<PFault> for Cause {
             PFault::BadPath(path) => Cause::Place(Input::Pools, PlaceCode::BadPath, path),
             PFault::NoMemory => Cause::NoMemory,
             other => Cause::Pools(other),
+        }
+    }
+}
+
+impl From<SuggestFault> for Cause {
+    ghost use Rattle.std.specs.Prelude.{◌≡◌};
+    ghost use Rattle.crdx.specs.Internal.ExitStatus.{cause_of_suggestion};
+
+    ghost from_gives = { λ fault cause. cause ≡ cause_of_suggestion fault };
+
+    fn from(fault: SuggestFault) -> Cause {
+        match fault {
+            SuggestFault::BadPath(path) => Cause::Place(Input::Pools, PlaceCode::BadPath, path),
+            SuggestFault::NotInObject(path) => {
+                Cause::Place(Input::Pools, PlaceCode::NotInObject, path)
+            }
+            SuggestFault::TooLarge => Cause::Pools(PFault::TooLarge),
+            SuggestFault::NoMemory => Cause::NoMemory,
         }
     }
 }

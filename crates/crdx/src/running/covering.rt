@@ -7,9 +7,9 @@ ghost use Rattle.crdx.specs.Output.Line.{line as line_of, lines as lines_of};
 ghost use Rattle.crdx.specs.Program.RunResult.{IsAnswer};
 ghost use Rattle.crdx.specs.declared.arguments.request.Request.TheVariants.{Cover};
 
-use crate::arguments::SampleArguments;
+use crate::arguments::{CoverArguments, SampleArguments};
 use crate::inputs::Inputs;
-use crate::running::answer::{Answer, json_line, json_text};
+use crate::running::answer::{Answer, json_line, json_text, json_tree};
 use crate::running::causes::Cause;
 use crate::running::explanation::Explanation;
 use crate::running::sampling::{SampleInputs, WORD, sample_inputs};
@@ -19,10 +19,10 @@ use jtree::Tree;
 use plan::SizeSet;
 use std::alloc::{AllocError, Global};
 
-/// The samples that cover the paths of a schema. What is to be said of the paths that are there in none is added to `said`.
+/// The samples that cover a schema. What is to be said of what none of them has is added to `said`.
 pub(crate) fn cover_paths<I: Inputs>(
     alloc: Global,
-    arguments: &SampleArguments<'_>,
+    arguments: &CoverArguments<'_>,
     inputs: &mut I,
     explanation: &mut Explanation,
     said: &mut String,
@@ -30,7 +30,7 @@ pub(crate) fn cover_paths<I: Inputs>(
     ensures answer { IfOk result (λ a. IsAnswer (I.has inputs.old) (Cover arguments.now) a.status (string_bytes a.text)) }
     ensures cause { IfErr result (IsInputCause (I.has inputs.old) (I.failures inputs.old) (I.failures inputs.new) (Cover arguments.now)) }
 {
-    if arguments.limit < WORD {
+    if arguments.samples.limit < WORD {
         cover_with::<u64, I>(alloc, arguments, inputs, explanation, said)
     } else {
         cover_with::<u128, I>(alloc, arguments, inputs, explanation, said)
@@ -40,23 +40,23 @@ pub(crate) fn cover_paths<I: Inputs>(
 /// As `cover_paths`, by plans over these sets of sizes.
 fn cover_with<Z: SizeSet, I: Inputs>(
     alloc: Global,
-    arguments: &SampleArguments<'_>,
+    arguments: &CoverArguments<'_>,
     inputs: &mut I,
     explanation: &mut Explanation,
     said: &mut String,
 ) -> Result<Answer, Cause>
-    requires { arguments.now.limit < Z.BITS }
+    requires { arguments.now.samples.limit < Z.BITS }
     ensures answer { IfOk result (λ a. IsAnswer (I.has inputs.old) (Cover arguments.now) a.status (string_bytes a.text)) }
     ensures cause { IfErr result (IsInputCause (I.has inputs.old) (I.failures inputs.old) (I.failures inputs.new) (Cover arguments.now)) }
 {
-    match sample_inputs::<Z, I>(alloc, arguments, inputs, explanation) {
+    match sample_inputs::<Z, I>(alloc, &arguments.samples, inputs, explanation) {
         Ok(found) => {
             let SampleInputs {
                 plan,
                 after: _,
                 envelope,
             } = found;
-            let covered = cover(alloc, plan)?;
+            let covered = cover(alloc, plan, arguments.values)?;
             let text = lines_text(alloc, covered.lines.as_slice(), envelope.as_ref())?;
             say_missed(alloc, &covered, arguments, said)?;
             Ok(Answer { status: 0, text })
@@ -90,15 +90,29 @@ fn line_text(alloc: Global, tree: &Tree, envelope: Option<&Envelope>) -> Result<
     }
 }
 
-/// How many paths are there in no sample, and with `--why` which ones.
+/// How many paths, and how many values, no sample has, and with `--why` which ones.
 fn say_missed(
+    alloc: Global,
+    covered: &Covered,
+    arguments: &CoverArguments<'_>,
+    said: &mut String,
+) -> Result<(), AllocError> {
+    if arguments.values && covered.missed.is_empty() {
+        return said.push_str("crdx: all paths and values are in some sample\n");
+    }
+    say_paths(alloc, covered, &arguments.samples, said)?;
+    say_values(alloc, covered, &arguments.samples, said)
+}
+
+fn say_paths(
     alloc: Global,
     covered: &Covered,
     arguments: &SampleArguments<'_>,
     said: &mut String,
 ) -> Result<(), AllocError> {
     let limit = arguments.limit;
-    let first = match covered.missed.len() {
+    let missed = covered.missed.iter().filter(|w| w.value.is_none()).count();
+    let first = match missed {
         0 => String::from_str(alloc, "crdx: all paths are in some sample\n")?,
         1 => format!(in alloc; "crdx: 1 path is in no sample of at most {limit} nodes\n")?,
         count => format!(in alloc;
@@ -107,10 +121,41 @@ fn say_missed(
     };
     said.push_str(first.as_str())?;
     if arguments.common.why {
-        for path in &covered.missed {
-            let path = json_text(alloc, path.as_str())?;
-            let line = format!(in alloc; "    {path}\n")?;
-            said.push_str(line.as_str())?;
+        for wanted in &covered.missed {
+            if wanted.value.is_none() {
+                let path = json_text(alloc, wanted.path.as_str())?;
+                let line = format!(in alloc; "    {path}\n")?;
+                said.push_str(line.as_str())?;
+            }
+        }
+    }
+    Ok(())
+}
+
+fn say_values(
+    alloc: Global,
+    covered: &Covered,
+    arguments: &SampleArguments<'_>,
+    said: &mut String,
+) -> Result<(), AllocError> {
+    let limit = arguments.limit;
+    let missed = covered.missed.iter().filter(|w| w.value.is_some()).count();
+    let first = match missed {
+        0 => return Ok(()),
+        1 => format!(in alloc; "crdx: 1 value is in no sample of at most {limit} nodes\n")?,
+        count => format!(in alloc;
+            "crdx: {count} values are in no sample of at most {limit} nodes\n"
+        )?,
+    };
+    said.push_str(first.as_str())?;
+    if arguments.common.why {
+        for wanted in &covered.missed {
+            if let Some(value) = &wanted.value {
+                let path = json_text(alloc, wanted.path.as_str())?;
+                let value = json_tree(alloc, value)?;
+                let line = format!(in alloc; "    {path} {value}\n")?;
+                said.push_str(line.as_str())?;
+            }
         }
     }
     Ok(())

@@ -89,7 +89,7 @@ fn limits_of(arguments: &CommonArguments<'_>) -> Limits
 }
 
 /// The limits of pools that the arguments ask for.
-fn pool_limits_of(arguments: &CommonArguments<'_>) -> PoolLimits
+pub(crate) fn pool_limits_of(arguments: &CommonArguments<'_>) -> PoolLimits
     ensures { result ≡ pool_limits_of arguments.now }
 {
     // for its contract alone

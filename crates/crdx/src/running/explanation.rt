@@ -13,7 +13,7 @@ use crate::running::explanation::definitions::definition_text;
 use crate::running::explanation::documents::{after_text, document_text};
 use crate::running::explanation::fields::field_text;
 use crate::running::explanation::objects::unstored_text;
-use crate::running::explanation::pools::{path_text, pools_text};
+use crate::running::explanation::pools::{path_text, pools_text, suggestion_text};
 use crate::running::explanation::samples::no_sample_text;
 use crate::running::lines::all_lines;
 use crate::walk::Walked;
@@ -22,6 +22,7 @@ use plan::{PFault, Plan, PoolLimits, Pools, SizeSet};
 use schema::{Limits, Node, RawSchema};
 use std::alloc::{AllocError, Global};
 use stored::{Schema, explained};
+use suggest::SuggestFault;
 
 /// What is said of a refusal where `--why` asks for it.
 #[derive(Drop)]
@@ -92,6 +93,23 @@ impl Explanation {
     pub fn explain_paths(&mut self, alloc: Global, schema: &Schema, pools: &Pools) {
         if self.is_asked {
             self.say(alloc, path_text(alloc, schema, pools));
+        }
+    }
+
+    /// Why no pools are suggested for a schema and so many objects.
+    pub fn explain_suggestion(
+        &mut self,
+        alloc: Global,
+        schema: &Schema,
+        fault: &SuggestFault,
+        objects: usize,
+        limits: PoolLimits,
+    ) {
+        if self.is_asked {
+            self.say(
+                alloc,
+                suggestion_text(alloc, schema, fault, objects, limits),
+            );
         }
     }
 

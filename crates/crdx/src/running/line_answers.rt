@@ -140,7 +140,7 @@ fn answer_lines<I: Inputs, W: Sink>(
 }
 
 /// Why the line after so many was not read; `line` has what was read of it.
-fn unread_line(
+pub(crate) fn unread_line(
     alloc: Global,
     lines: u64,
     fault: InFault,

@@ -1,43 +1,130 @@
 // What `pools` answers.
-ghost use Rattle.std.specs.Prelude.{◌≡◌, None, IfOk, IfErr, string_bytes};
-ghost use Rattle.crdx.specs.Internal.Cause.{IsInputCause};
-ghost use Rattle.crdx.specs.Output.Line.{line};
-ghost use Rattle.crdx.specs.Program.RunResult.{IsAnswer};
-ghost use Rattle.crdx.specs.declared.arguments.request.Request.TheVariants.{SuggestPools};
+ghost use Rattle.std.specs.Prelude.{◌≡◌, None, true, IfOk, IfErr, string_bytes};
+ghost use Rattle.jtree.specs.Data.{Data};
+ghost use Rattle.jtree.specs.View.{data_of};
+ghost use Rattle.schema.specs.Nodes.Node.{Node};
+ghost use Rattle.schema.specs.Nodes.ByPlace.{AreNodesOf};
+ghost use Rattle.schema.specs.Rules.Breaks.{IsUnbroken};
+ghost use Rattle.stored.specs.Schemas.Accepted.{IsBroken};
+ghost use Rattle.suggest.specs.View.{wanted_of};
 ghost use Rattle.suggest.specs.Suggested.Document.{suggested_document};
+ghost use Rattle.suggest.specs.Suggested.Fault.{IsSuggestFault};
+ghost use Rattle.suggest.specs.Suggested.Wanted.{Wanted as WantedData};
+ghost use Rattle.crdx.specs.Output.Line.{line};
+ghost use Rattle.crdx.specs.Internal.Cause.{IsPoolsRequestCause, IsSuggestionCause, IsBrokenCause};
+ghost use Rattle.crdx.specs.Program.RunResult.{IsWanted, IsPoolsRequest, pools_line};
 
-use crate::arguments::CommonArguments;
+use crate::arguments::PoolsArguments;
 use crate::inputs::Inputs;
 use crate::running::answer::{Answer, json_line};
 use crate::running::causes::Cause;
-use crate::running::documents::accepted_schema;
+use crate::running::documents::{crd_of, pool_limits_of};
 use crate::running::explanation::Explanation;
-use std::alloc::{AllocError, Global};
-use stored::Schema;
-use suggest::suggested_pools;
+use crate::running::object_inputs::read_objects;
+use jtree::Tree;
+use plan::PoolLimits;
+use schema::RawSchema;
+use std::alloc::Global;
+use stored::{Schema, accept};
+use suggest::{SuggestFault, Wanted, suggested_pools};
 
-/// A pools document to start with.
+/// A schema as it is written, and accepted.
+#[derive(Drop)]
+struct Written {
+    raw: Tree,
+    schema: Schema,
+}
+
+/// A pools document: one to start with, or one for the samples around an object. Inputs are judged in the order
+/// CustomResourceDefinition, its schema, objects, paths, and the first refusal ends the run.
 pub(crate) fn suggest_pools<I: Inputs>(
     alloc: Global,
-    arguments: &CommonArguments<'_>,
+    arguments: &PoolsArguments<'_>,
     inputs: &mut I,
     explanation: &mut Explanation,
 ) -> Result<Answer, Cause>
-    ensures answer { IfOk result (λ a. IsAnswer (I.has inputs.old) (SuggestPools arguments.now) a.status (string_bytes a.text)) }
-    ensures cause { IfErr result (IsInputCause (I.has inputs.old) (I.failures inputs.old) (I.failures inputs.new) (SuggestPools arguments.now)) }
+    ensures status { IfOk result (λ a. a.status ≡ 0) }
+    ensures answer { IfOk result (λ a. (raw : Data) × (N : Node) × (w : WantedData) × IsPoolsRequest (I.has inputs.old) (I.lines inputs.old) arguments.now raw N w
+        × (string_bytes a.text ≡ pools_line arguments.now raw N w)) }
+    ensures cause { IfErr result (IsPoolsRequestCause (I.has inputs.old) (I.lines inputs.old) (I.failures inputs.old) (I.failures inputs.new) arguments.now) }
 {
-    let accepted = accepted_schema(alloc, arguments, inputs, explanation)?;
-    let text = pools_line(alloc, &accepted.schema);
-    drop(accepted);
-    Ok(Answer {
-        status: 0,
-        text: text?,
-    })
+    let crd = match crd_of(alloc, &arguments.common, inputs, explanation) {
+        Ok(crd) => crd,
+        Err(cause) => return Err(cause),
+    };
+    explanation.explain_violations(alloc, &crd.raw);
+    let written = match accept_written(alloc, crd.raw) {
+        Ok(written) => written,
+        Err(cause) => return Err(cause),
+    };
+    let answer = suggest_at(alloc, arguments, &written, inputs, explanation);
+    drop(written);
+    answer
+}
+
+/// A schema that breaks no rule, with a copy of it as it is written.
+fn accept_written(alloc: Global, raw: RawSchema) -> Result<Written, Cause>
+    ensures raw { IfOk result (λ w. data_of w.raw ≡ raw) }
+    ensures unbroken { IfOk result (λ w. IsUnbroken (IsBroken raw) × AreNodesOf true w.schema raw) }
+    ensures cause { IfErr result (IsBrokenCause raw) }
+{
+    let copy = match raw.tree().copy(alloc) {
+        Ok(copy) => copy,
+        Err(_) => {
+            drop(raw);
+            return Err(Cause::NoMemory);
+        }
+    };
+    match accept(alloc, raw) {
+        Ok(schema) => Ok(Written { raw: copy, schema }),
+        Err(refused) => {
+            drop(copy);
+            Err(refused.into())
+        }
+    }
+}
+
+/// The line of the document for an accepted schema.
+fn suggest_at<I: Inputs>(
+    alloc: Global,
+    arguments: &PoolsArguments<'_>,
+    written: &Written,
+    inputs: &mut I,
+    explanation: &mut Explanation,
+) -> Result<Answer, Cause>
+    ensures status { IfOk result (λ a. a.status ≡ 0) }
+    ensures answer { IfOk result (λ a. (w : WantedData) × IsWanted (I.lines inputs.old) arguments.now w × (string_bytes a.text ≡ pools_line arguments.now (data_of written.now.raw) written.now.schema w)) }
+    ensures cause { IfErr result (IsSuggestionCause (I.lines inputs.old) (I.failures inputs.old) (I.failures inputs.new) arguments.now (data_of written.now.raw) written.now.schema) }
+{
+    let objects = match read_objects(alloc, inputs, arguments.from.as_slice(), explanation) {
+        Ok(objects) => objects,
+        Err(cause) => return Err(cause),
+    };
+    let wanted = Wanted {
+        objects: objects.as_slice(),
+        varied: arguments.varied.as_slice(),
+        without: arguments.without.as_slice(),
+    };
+    let limits = pool_limits_of(&arguments.common);
+    match suggested_line(alloc, written, &wanted, limits) {
+        Ok(text) => Ok(Answer { status: 0, text }),
+        Err(fault) => {
+            explanation.explain_suggestion(alloc, &written.schema, &fault, objects.len(), limits);
+            Err(fault.into())
+        }
+    }
 }
 
 /// The document as a line of JSON.
-fn pools_line(alloc: Global, schema: &Schema) -> Result<String, AllocError>
-    ensures { IfOk result (λ s. string_bytes s ≡ line None (suggested_document schema.now)) }
+fn suggested_line(
+    alloc: Global,
+    written: &Written,
+    wanted: &Wanted<'_>,
+    limits: PoolLimits,
+) -> Result<String, SuggestFault>
+    ensures text { IfOk result (λ s. string_bytes s ≡ line None (suggested_document limits (data_of written.now.raw) written.now.schema (wanted_of wanted.now))) }
+    ensures err { IfErr result (IsSuggestFault limits (data_of written.now.raw) written.now.schema (wanted_of wanted.now)) }
 {
-    json_line(alloc, &suggested_pools(alloc, schema)?)
+    let document = suggested_pools(alloc, &written.raw, &written.schema, wanted, limits)?;
+    Ok(json_line(alloc, &document)?)
 }

@@ -5,8 +5,9 @@ use crate::support::harness::{
     Output, holds, holds_of, is_number, is_said, is_text, run_on, words_of,
 };
 use crdx::arguments::{
-    CommonArguments, ExplainArguments, ObjectArguments, ObjectCommand, Request, SampleArguments,
-    parse_arguments,
+    CommonArguments, CoverArguments, ExplainArguments, ObjectArguments, ObjectCommand,
+    PoolsArguments, Request,
+    SampleArguments, parse_arguments,
 };
 use std::alloc::{AllocError, Global};
 use std::process::Abort;
@@ -14,7 +15,18 @@ use std::test::Fail;
 
 // A name, a command line, and what it asks for: the definition, the version, and the object, or the pools, the sample to go on
 // from, the name, the limit and the count, or all. What is read of the standard input is (input), and - is nothing.
-static REQUESTS: [(&str, &str, &str); 33] = [
+static REQUESTS: [(&str, &str, &str); 38] = [
+    ("a cover", "crdx cover c.json v1", "cover c.json v1 - - 127"),
+    (
+        "a cover with values",
+        "crdx cover --values c.json v1 --pools - --limit 15 --name w",
+        "cover c.json v1 (input) w 15 values",
+    ),
+    (
+        "a cover of the standard input, with reasons",
+        "crdx cover - v1 --why --large --pools p.json",
+        "cover (input) v1 large with reasons p.json - 127",
+    ),
     (
         "a sample",
         "crdx sample c.json v1",
@@ -75,6 +87,16 @@ static REQUESTS: [(&str, &str, &str); 33] = [
         "pools of the standard input",
         "crdx pools - v1",
         "pools (input) v1",
+    ),
+    (
+        "pools with values of objects",
+        "crdx pools c.json v1 --from o.json --from=- --without /status --without /a",
+        "pools c.json v1 from o.json from - without /status without /a",
+    ),
+    (
+        "pools around an object of the standard input",
+        "crdx pools --vary /b c.json --vary /a v1 --from -",
+        "pools c.json v1 from - vary /b vary /a",
     ),
     (
         "a version with the name -",
@@ -181,7 +203,27 @@ static REQUESTS: [(&str, &str, &str); 33] = [
 const MISSING: &str = "error: the following required arguments were not provided:\n";
 
 // A name, a command line, and the first line of standard error. The status is 2.
-static MISTAKES: [(&str, &str, &str); 35] = [
+static MISTAKES: [(&str, &str, &str); 44] = [
+    (
+        "the standard input for a definition and pools of a cover",
+        "crdx cover - v1 --pools -",
+        "error: CRD and --pools cannot both be the standard input\n",
+    ),
+    (
+        "limit 128 of a cover",
+        "crdx cover crd.json v1 --limit 128",
+        "error: invalid value '128' for '--limit <N>': 128 is not in 1..=127\n",
+    ),
+    (
+        "a number of lines of a cover",
+        "crdx cover crd.json v1 --count 1",
+        "error: unexpected argument '--count' found\n",
+    ),
+    (
+        "values of a sample",
+        "crdx sample crd.json v1 --values",
+        "error: unexpected argument '--values' found\n",
+    ),
     (
         "no command",
         "crdx",
@@ -222,6 +264,31 @@ static MISTAKES: [(&str, &str, &str); 35] = [
         "pools with a limit",
         "crdx pools crd.json v1 --limit 4",
         "error: unexpected argument '--limit' found\n",
+    ),
+    (
+        "pools around no object",
+        "crdx pools crd.json v1 --vary /spec",
+        "error: --vary needs --from, once\n",
+    ),
+    (
+        "pools around two objects",
+        "crdx pools crd.json v1 --from a.json --from b.json --vary /spec",
+        "error: --vary needs --from, once\n",
+    ),
+    (
+        "the standard input for a definition and an object of pools",
+        "crdx pools - v1 --from o.json --from -",
+        "error: only one of CRD and --from can be the standard input\n",
+    ),
+    (
+        "the standard input for two objects of pools",
+        "crdx pools crd.json v1 --from - --from -",
+        "error: only one of CRD and --from can be the standard input\n",
+    ),
+    (
+        "objects without a name",
+        "crdx pools crd.json v1 --from",
+        "error: a value is required for '--from <OBJECT>' but none was supplied\n",
     ),
     ("a sample of nothing", "crdx sample", MISSING),
     ("a sample of no version", "crdx sample crd.json", MISSING),
@@ -332,7 +399,12 @@ static MISTAKES: [(&str, &str, &str); 35] = [
 ];
 
 // A name, a command line, and a line of the help, or the version. The status is 0.
-static HELP: [(&str, &str, &str); 24] = [
+static HELP: [(&str, &str, &str); 25] = [
+    (
+        "an option of a cover",
+        "crdx cover --help",
+        "Usage: crdx cover [OPTIONS] <CRD> <VERSION>\n",
+    ),
     ("an option", "crdx --help", "Usage: crdx <COMMAND>\n"),
     ("a command", "crdx help", "Usage: crdx <COMMAND>\n"),
     (
@@ -436,9 +508,9 @@ static HELP: [(&str, &str, &str); 24] = [
 ];
 
 // What a run can answer, and the codes that it can print: each begins a line of the help.
-static ANSWERS: [&str; 19] = [
-    "0", "1", "2", "3", "4", "5", "J1", "J3", "J4", "S1", "S2", "S3", "S4", "P1", "P2", "P5", "L1",
-    "X1", "X2",
+static ANSWERS: [&str; 20] = [
+    "0", "1", "2", "3", "4", "5", "J1", "J3", "J4", "S1", "S2", "S3", "S4", "P1", "P2", "P5", "P6",
+    "L1", "X1", "X2",
 ];
 
 // The rules and the faults that a run can print: each begins a line of the help.
@@ -479,6 +551,17 @@ fn object_text(alloc: Global, arguments: &ObjectArguments<'_>) -> Result<String,
     format!(in alloc; "{command} {common} {object}")
 }
 
+/// Each word behind the front.
+fn joined(alloc: Global, front: &str, words: &[&str]) -> Result<String, AllocError> {
+    let mut text = String::new(alloc);
+    for word in words {
+        text.push_str(front)?;
+        text.push_str(" ")?;
+        text.push_str(word)?;
+    }
+    Ok(text)
+}
+
 fn said(alloc: Global, request: &Request<'_>) -> Result<String, AllocError> {
     match request {
         Request::Sample(
@@ -504,14 +587,35 @@ fn said(alloc: Global, request: &Request<'_>) -> Result<String, AllocError> {
             }
             format!(in alloc; "sample {common} {pools} {after} {name} {limit} {count}")
         }
+        Request::Cover(CoverArguments { samples, values }) => {
+            let common = common_text(alloc, &samples.common)?;
+            let pools = match samples.pools {
+                Some(pools) => input_text(pools),
+                None => "-",
+            };
+            let name = samples.name.unwrap_or("-");
+            let limit = samples.limit;
+            let values = if *values { " values" } else { "" };
+            format!(in alloc; "cover {common} {pools} {name} {limit}{values}")
+        }
         Request::Check(common) => {
             let reasons = if common.why { "" } else { " without reasons" };
             let common = common_text(alloc, common)?;
             format!(in alloc; "check {common}{reasons}")
         }
-        Request::SuggestPools(common) => {
+        Request::SuggestPools(
+            PoolsArguments {
+                common,
+                from,
+                varied,
+                without,
+            },
+        ) => {
             let common = common_text(alloc, common)?;
-            format!(in alloc; "pools {common}")
+            let from = joined(alloc, " from", from.as_slice())?;
+            let varied = joined(alloc, " vary", varied.as_slice())?;
+            let without = joined(alloc, " without", without.as_slice())?;
+            format!(in alloc; "pools {common}{from}{varied}{without}")
         }
         Request::Explain(ExplainArguments { common, path }) => {
             let common = common_text(alloc, common)?;

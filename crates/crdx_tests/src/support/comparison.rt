@@ -5,6 +5,7 @@ ghost use Rattle.plan.specs.Samples.Candidates.{sort_of};
 ghost use Rattle.plan.specs.declared.sort.Sort.TheVariants as sort;
 
 use crate::support::harness::{holds, is_number, is_same, made, pools_of, schema_of};
+use crate::support::plain_cover::try_cover;
 use crate::support::plans::{are_sizes, item_of, more_of, place_of, rest_of, slot_of};
 use crate::support::reference::{
     Before, Choice, Ending, map_ending, node_below, plain_more, plain_named, plain_parts,
@@ -485,9 +486,11 @@ fn try_made(
     meter: &mut Meter,
     name: &str,
 ) -> Result<(), Fail> {
-    let (schema, pools, _limit) = given;
+    let (schema, pools, limit) = given;
     let schema = schema_of(alloc, schema)?;
     let pools = pools_of(alloc, pools)?;
+    let samples = plain_parts(alloc, schema.root(), "", &pools, u64::from(limit))?;
+    try_cover(rt, alloc, given, &samples, name)?;
     try_given(rt, alloc, plan, &schema, &pools, meter, name)
 }
 

@@ -1,10 +1,24 @@
--- The pools document that is suggested for a schema: a start that its author changes (this project's own).
-use Rattle.std.specs.Prelude.{ℕ, List, [], ◌∷◌, map, take, codes}
-use Rattle.std.specs.List.{repeat}
-use Rattle.jtree.specs.Data.{Data, integer, text, list, object, Items, no_items, item, no_members, member}
+-- The pools document that is suggested for a schema: a start that its author changes, or one for the samples around an object (this
+-- project's own).
+use Rattle.std.specs.Prelude.{◌≤◌, ℕ, List, [], ◌∷◌, ◌++◌, Bool, true, false, Option, Some, None, map, filter, take, length, not, codes}
+use Rattle.std.specs.List.{repeat, fold}
+use Rattle.std.specs.declared.cmp.Ordering.{Ordering}
+use Rattle.std.specs.declared.cmp.Ordering.TheVariants.{Less, Equal, Greater}
+use Rattle.jtree.specs.Data.{Data, integer, text, list, object, Items, no_items, item, Members, no_members, member, depth}
+use Rattle.jtree.specs.Order.{text_cmp}
+use Rattle.jtree.specs.Reads.{most_bytes, most_depth}
+use Rattle.jtree.specs.Text.{compact}
+use Rattle.schema.specs.Document.Texts.{is_among}
 use Rattle.schema.specs.Nodes.Node.{Node}
-use Rattle.plan.specs.Pools.Pools.{standard}
+use Rattle.plan.specs.Pools.Document.{pools_of}
+use Rattle.plan.specs.Pools.Pools.{standard, AreSmall}
+use Rattle.plan.specs.declared.pool_limits.PoolLimits.{PoolLimits}
+use Rattle.suggest.specs.Suggested.Chosen.{chosen_names}
+use Rattle.suggest.specs.Suggested.Listed.{General}
+use Rattle.suggest.specs.Suggested.Lists.{Entry, lists_at, names_at}
 use Rattle.suggest.specs.Suggested.Values.{all_integers, all_lengths}
+use Rattle.suggest.specs.Suggested.Varied.{Said, said_below}
+use Rattle.suggest.specs.Suggested.Wanted.{Wanted}
 
 abbrev pub items_of : List Data → Items
 items_of [] = no_items
@@ -25,12 +39,90 @@ suggested_strings root = map (λ n. text (letters n)) (take standard.entries (al
 abbrev pub suggested_any : List Data
 suggested_any = text (codes "a") ∷ object no_members ∷ []
 
-abbrev pub suggested_names : List Data
-suggested_names = text (codes "a") ∷ text (codes "b") ∷ []
+abbrev pub usual_names : List (List ℕ)
+usual_names = codes "a" ∷ codes "b" ∷ []
 
-abbrev pub suggested_document : Node → Data
-suggested_document root = object (
-    member (codes "any") (list (items_of suggested_any)) (
-    member (codes "integers") (list (items_of (suggested_integers root))) (
-    member (codes "names") (list (items_of suggested_names)) (
-    member (codes "strings") (list (items_of (suggested_strings root))) no_members))))
+abbrev pub general_of : PoolLimits → Node → General
+general_of limits root = record { integers = suggested_integers root; strings = suggested_strings root; any = suggested_any; limits = limits; beside = false }
+
+-- around an object suggestions come besides what stands there
+abbrev pub beside_standing : General → General
+beside_standing G = record G { beside = true }
+
+-- ---- lists under names
+
+-- a member put into members that are in order; it takes the place of one of its name
+abbrev pub placed : Ordering → List ℕ → Data → List ℕ → Data → Members → Members → Members
+placed Less k d l e ms rest = member k d (member l e ms)
+placed Equal k d l e ms rest = member k d ms
+placed Greater k d l e ms rest = member l e rest
+
+abbrev pub with_member : List ℕ → Data → Members → Members
+with_member k d no_members = member k d no_members
+with_member k d (member l e ms) = placed (text_cmp k l) k d l e ms (with_member k d ms)
+
+abbrev pub with_entry : Members → Entry → Members
+with_entry ms e = with_member e.path (list (items_of e.values)) ms
+
+abbrev pub members_from : List Entry → Members
+members_from es = fold with_entry no_members es
+
+-- ---- what is said
+
+-- without a varied path all is free, the whole object too
+abbrev pub all_free : General → Wanted → Data → Node → Said
+all_free G w raw root = record { lists = lists_at G w.objects None (Some raw) [] root; names = names_at w.objects root; fixed = []; present = [] }
+
+-- the one object, where there is one alone
+abbrev pub single : List Data → Option Data
+single (v ∷ []) = Some v
+single _ = None
+
+abbrev pub said_by : List (List ℕ) → General → Wanted → Data → Node → Said
+said_by [] G w raw root = all_free G w raw root
+said_by ts G w raw root = said_below (beside_standing G) ts (single w.objects) (Some raw) [] root
+
+-- a path that never occurs
+abbrev pub without_entry : List ℕ → Entry
+without_entry path = record { path = path; values = [] }
+
+-- ---- the document
+
+-- a member that is a list, or an object of lists; none where there is nothing in it
+abbrev pub lists_member : List ℕ → Members → Members → Members
+lists_member k no_members ms = ms
+lists_member k lists ms = member k (object lists) ms
+
+abbrev pub texts_member : List ℕ → List (List ℕ) → Members → Members
+texts_member k [] ms = ms
+texts_member k ts ms = member k (list (items_of (map (λ t. text t) ts))) ms
+
+-- of these parts, in the order of their names
+abbrev pub document_with : List Data → Members → List Data → List (List ℕ) → Members → List (List ℕ) → List Data → Data
+document_with any fixed integers names paths present strings = object (
+    member (codes "any") (list (items_of any)) (
+    lists_member (codes "fixed") fixed (
+    member (codes "integers") (list (items_of integers)) (
+    member (codes "names") (list (items_of (map (λ t. text t) names))) (
+    lists_member (codes "paths") paths (
+    texts_member (codes "present") present (
+    member (codes "strings") (list (items_of strings)) no_members)))))))
+
+abbrev pub document_of : PoolLimits → Node → List (List ℕ) → Said → Data
+document_of limits root without said = document_with suggested_any (members_from (said.fixed ++ map without_entry without)) (suggested_integers root)
+    (chosen_names limits.names (said.names ++ usual_names)) (members_from (take limits.paths said.lists)) (filter (λ t. not (is_among t without)) said.present) (suggested_strings root)
+
+abbrev pub suggested_document : PoolLimits → Data → Node → Wanted → Data
+suggested_document limits raw root w = document_of limits root w.without (said_by w.varied (general_of limits root) w raw root)
+
+-- nothing but the schema is asked about
+abbrev pub nothing_wanted : Wanted
+nothing_wanted = record { objects = []; varied = []; without = [] }
+
+-- ---- whether it can be read again
+
+-- it is as short, as shallow and as small as pools that are read
+pub record CanBeRead (limits : PoolLimits) (document : Data) : Type 0 where
+  pub short : length (compact document) ≤ most_bytes
+  pub shallow : depth document ≤ most_depth
+  pub small : AreSmall limits (pools_of document)

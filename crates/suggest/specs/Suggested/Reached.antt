@@ -6,12 +6,12 @@ use Rattle.jtree.specs.Order.{kind}
 use Rattle.schema.specs.Nodes.Node.{Validations, validations, no_branches, Node, node, scalar}
 use Rattle.explain.specs.Paths.FieldPath.{FieldPath}
 use Rattle.explain.specs.Paths.PathText.{path_text}
-use Rattle.plan.specs.Pools.Pools.{standard}
+use Rattle.plan.specs.Pools.Pools.{Pools, standard}
 use Rattle.plan.specs.Pools.Document.{pools_of}
 use Rattle.plan.specs.Samples.Part.{IsPart}
 use Rattle.plan.specs.Samples.Site.{plain}
 use Rattle.suggest.specs.Suggested.Values.{longest, all_integers, all_lengths}
-use Rattle.suggest.specs.Suggested.Document.{suggested_document}
+use Rattle.suggest.specs.Suggested.Document.{suggested_document, nothing_wanted}
 
 -- it has no constraints but bounds and lengths
 abbrev pub HasBoundsAlone : Validations → Type 0
@@ -29,8 +29,12 @@ IsWithinReach root (integer z) = length (all_integers root) ≤ standard.entries
 IsWithinReach root (text s) = (length (chars s) ≤ longest) × (length (all_lengths root) ≤ standard.entries)
 IsWithinReach root _ = ⊥
 
+-- the pools that are suggested for a schema alone, by the standard limits
+abbrev pub suggested_alone : Data → Node → Pools
+suggested_alone raw root = pools_of (suggested_document standard raw root nothing_wanted)
+
 -- the suggested values have a candidate for the node at the path, of the kind of v
-pub record HasCandidateLike (root : Node) (p : FieldPath) (N : Node) (v : Data) : Type 0 where
+pub record HasCandidateLike (raw : Data) (root : Node) (p : FieldPath) (N : Node) (v : Data) : Type 0 where
   pub candidate : Data
   pub alike : kind candidate ≡ kind v
-  pub part : IsPart (pools_of (suggested_document root)) (plain (pools_of (suggested_document root)) (path_text p) N) candidate
+  pub part : IsPart (suggested_alone raw root) (plain (suggested_alone raw root) (path_text p) N) candidate

@@ -1,43 +1,90 @@
-use Rattle.std.proofs.Common.{◌≡◌, ◌∙◌, [], sym, subst, ap, refl, rules, arith, map}
+use Rattle.std.proofs.Common.{◌≡◌, ◌∙◌, ◌++◌, ◌∷◌, [], Some, sym, subst, ap, refl, rules, append_assoc, arith, All, map, take}
+use Rattle.std.proofs.lemmas.List.Elements.{All-nil}
+use Rattle.jtree.specs.View.{data_of}
 use Rattle.explain.specs.Fields.Declared.{AreFields, IsDeclared}
 use Rattle.explain.specs.Fields.PathFault.{IsTextOf}
 use Rattle.explain.specs.Fields.View.{field_of}
-use Rattle.cover.specs.Cover.{Adds, AreCovered, Covered, none}
+use Rattle.plan.specs.Pools.PlanFault.{HasGoodPaths}
+use Rattle.cover.specs.Cover.{AreCovered, none}
 use Rattle.cover.specs.View.{covered_of}
-use Rattle.cover.proofs.CoverLemmas.{is_cover, lines_samples}
-use Rattle.cover.proofs.LineLemmas.{declared_field, same_question, samples_of, next_covered, all_covered}
+use Rattle.cover.specs.Wanted.{AreValuesOf, AreWanted, with_any, with_value}
+use Rattle.cover.specs.Wanted as wanted
+use Rattle.cover.specs.Internal.Ahead.{IsAhead}
+use Rattle.cover.specs.Internal.Narrowed.{MayBeWanted}
+use Rattle.cover.proofs.LineLemmas.{text_of, declared_field, same_question, next_paths, all_paths}
 use Rattle.cover.proofs.covering.cover.Goals as goal
 
 pub loop-field-init : goal.loop-field-init
 loop-field-init g c = record {
   schema = c.into_parts-schema.ensures.schema;
+  wanted = [];
+  are = wanted.none;
   covered = rw (c.new-2.ensures.items, c.new-3.ensures.items) none;
+  ahead = subst (All (IsAhead c.args.plan)) (sym c.new-4.ensures.items) (All-nil (IsAhead c.args.plan));
 }
 
-pub add_path-requires-clause-declared : goal.add_path-requires-clause-declared
-add_path-requires-clause-declared g c =
-    subst (λ t. IsTextOf (IsDeclared c.loop-field.schema) t) (sym c.as_str.ensures)
+pub values_of-requires : goal.values_of-requires
+values_of-requires g c =
+    subst (λ t. IsTextOf (IsDeclared c.loop-field.schema) t) (sym c.as_str-path.ensures)
     (declared_field c.loop-field.schema c.in_ok-listing.listing c.fields-field-items.result.now c.loop-field.field-index c.field-item.result
     (subst (λ r. AreFields r c.in_ok-listing.listing) (c.into_parts-schema.ensures.schema ∙ sym c.loop-field.invariant.schema) c.in_ok-listing.ensures)
     c.fields-field-items.ensures (omega arith) c.field-item.is)
+
+pub add_wanted-requires-clause-declared : goal.add_wanted-requires-clause-declared
+add_wanted-requires-clause-declared g c =
+    subst (λ t. IsTextOf (IsDeclared c.loop-field.schema) t) (sym c.as_str-path.ensures)
+    (declared_field c.loop-field.schema c.in_ok-listing.listing c.fields-field-items.result.now c.loop-field.field-index c.field-item.result
+    (subst (λ r. AreFields r c.in_ok-listing.listing) (c.into_parts-schema.ensures.schema ∙ sym c.loop-field.invariant.schema) c.in_ok-listing.ensures)
+    c.fields-field-items.ensures (omega arith) c.field-item.is)
+
+pub add_values-requires-clause-declared : goal.add_values-requires-clause-declared
+add_values-requires-clause-declared g c =
+    let now = c.in_ok-schema.ensures.schema in
+    subst (λ t. IsTextOf (IsDeclared c.in_ok-schema.schema) t) (sym c.as_str-path.ensures)
+    (declared_field c.in_ok-schema.schema c.in_ok-listing.listing c.fields-field-items.result.now c.loop-field.field-index c.field-item.result
+    (subst (λ r. AreFields r c.in_ok-listing.listing) (c.into_parts-schema.ensures.schema ∙ (sym c.loop-field.invariant.schema ∙ sym now)) c.in_ok-listing.ensures)
+    c.fields-field-items.ensures (omega arith) c.field-item.is)
+
+pub add_values-requires-clause-values : goal.add_values-requires-clause-values
+add_values-requires-clause-values g c = λ p text.
+    subst (λ r. All (λ v. MayBeWanted r c.into_parts-schema.result.1 (Some (data_of v)) p) c.deref.result.now) (sym c.in_ok-schema.ensures.schema)
+    (subst (λ vs. All (λ v. MayBeWanted c.loop-field.schema c.into_parts-schema.result.1 (Some (data_of v)) p) vs) (sym c.deref.ensures.value) (c.in_ok-found.ensures.wanted p text))
 
 pub loop-field-preserved : goal.loop-field-preserved
 loop-field-preserved g c =
     let inv = c.loop-field.invariant in
     let q = c.args.plan in
-    let before = covered_of c.loop-field.covered in
-    let after = covered_of c.add_path.new.covered in
+    let fs = c.fields-field-items.result.now in
+    let i = c.loop-field.field-index in
+    let path = c.as_str-path.result.now in
+    let vs = map (λ v. data_of v) c.in_ok-found.found.items in
+    let now = c.in_ok-schema.ensures.schema in
+    let after = covered_of c.add_values.new.state.covered in
     let same = same_question q c.loop-field.schema c.into_parts-schema.result.1 c.limit-limit.result inv.schema c.into_parts-schema.ensures.pools c.limit-limit.ensures in
-    let adds = c.in_ok-schema.ensures.adds q same (samples_of q before.lines (lines_samples q _ before inv.covered)) (is_cover q _ before inv.covered).missed in
+    let next = same_question q c.in_ok-schema.schema c.into_parts-schema.result.1 c.limit-limit.result (now ∙ inv.schema) c.into_parts-schema.ensures.pools c.limit-limit.ensures in
+    let one = c.in_ok-schema.ensures.adds q inv.wanted same inv.ahead inv.covered in
+    let ahead = c.in_ok-schema.ensures.ahead q same inv.ahead in
+    let more = c.in_ok-schema-2.ensures.adds q (inv.wanted ++ with_any path ∷ []) next ahead one in
+    let found : AreValuesOf c.args.values q.root q.pools path vs =
+    subst (λ P. AreValuesOf c.args.values q.root P path vs) c.into_parts-schema.ensures.pools
+    (subst (λ r. AreValuesOf c.args.values r c.into_parts-schema.result.1 path vs) inv.schema c.in_ok-found.ensures.values) in
+    let paths = ap (λ t. map text_of (take i fs) ++ t ∷ []) c.as_str-path.ensures ∙ sym (next_paths fs i c.field-item.result (omega arith) (sym c.field-item.is)) in
     record {
-      schema = c.in_ok-schema.ensures.schema ∙ inv.schema;
-      covered = next_covered q c.fields-field-items.result.now c.loop-field.field-index c.field-item.result before after (omega arith) (sym c.field-item.is) inv.covered
-          (subst (λ t. Adds q t before after) c.as_str.ensures adds);
+      schema = c.in_ok-schema-2.ensures.schema ∙ (now ∙ inv.schema);
+      wanted = inv.wanted ++ with_any path ∷ map (with_value path) vs;
+      are = subst (λ ps. AreWanted c.args.values q ps (inv.wanted ++ with_any path ∷ map (with_value path) vs)) paths (wanted.more (map text_of (take i fs)) inv.wanted path vs inv.are found);
+      covered = subst (λ ws. AreCovered q ws after) (append_assoc inv.wanted (with_any path ∷ []) (map (with_value path) vs))
+          (subst (λ ts. AreCovered q ((inv.wanted ++ with_any path ∷ []) ++ map (with_value path) (map (λ v. data_of v) ts)) after) c.deref.ensures.value more);
+      ahead = c.in_ok-schema-2.ensures.ahead q next ahead;
     }
 
 pub returns : goal.returns
-returns g c = (
-  map field_of c.fields-field-items.result.now,
-  subst (λ fs. AreFields c.args.plan.root fs) (sym c.fields-field-items.ensures) (subst (λ r. AreFields r c.in_ok-listing.listing) c.into_parts-schema.ensures.schema c.in_ok-listing.ensures),
-  all_covered c.args.plan c.fields-field-items.result.now c.loop-field.field-index (covered_of c.loop-field.covered) (omega arith) c.loop-field.invariant.covered,
-)
+returns g c =
+    let fs = c.fields-field-items.result.now in
+    let all = all_paths fs c.loop-field.field-index (omega arith) in (
+      map field_of fs,
+      subst (λ fs. AreFields c.args.plan.root fs) (sym c.fields-field-items.ensures) (subst (λ r. AreFields r c.in_ok-listing.listing) c.into_parts-schema.ensures.schema c.in_ok-listing.ensures),
+      c.loop-field.invariant.wanted,
+      subst (λ ps. AreWanted c.args.values c.args.plan ps c.loop-field.invariant.wanted) all c.loop-field.invariant.are,
+      c.loop-field.invariant.covered,
+    )

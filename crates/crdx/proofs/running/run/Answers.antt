@@ -4,6 +4,7 @@ use Rattle.crdx.specs.Program.RunResult.{answered, help, usage_error}
 use Rattle.crdx.specs.declared.arguments.request.Request.TheVariants.{Check, Explain, Object, ObjectLines, SuggestPools, Sample, Cover, Help, UsageError, NoMemory}
 use Rattle.crdx.proofs.RunLemmas.{result_of_finished, result_of_written, result_of_sample, result_of_nothing}
 use Rattle.crdx.proofs.LineAnswerLemmas.{result_of_lines}
+use Rattle.crdx.proofs.PoolsLemmas.{result_of_pools}
 use Rattle.crdx.proofs.running.run.Goals as goal
 
 pub returns-in-Check : goal.returns-in-Check
@@ -47,7 +48,7 @@ returns-in-SuggestPools g c =
     let request = SuggestPools c.in-SuggestPools.arguments in (
       request,
       c.in-SuggestPools.ensures,
-      result_of_finished _ request c.suggest_pools-answer.result c.finish-in-SuggestPools.result c.suggest_pools-answer.ensures.answer c.suggest_pools-answer.ensures.cause (λ status text is n out. (status, text, is, n, out))
+      result_of_pools _ c.in-SuggestPools.arguments c.suggest_pools-answer.result c.finish-in-SuggestPools.result c.suggest_pools-answer.ensures.status c.suggest_pools-answer.ensures.answer c.suggest_pools-answer.ensures.cause
           c.finish-in-SuggestPools.ensures.written c.finish-in-SuggestPools.ensures.said c.finish-in-SuggestPools.ensures.kept c.finish-in-SuggestPools.ensures.unfailed,
     )
 

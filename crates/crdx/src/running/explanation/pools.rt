@@ -1,4 +1,4 @@
-//! Why a document is no pools, and why a path of pools is refused.
+//! Why a document is no pools, why a path of pools is refused, and why no pools are suggested.
 
 use crate::running::answer::json_text;
 use crate::running::explanation::values::found_text;
@@ -8,6 +8,7 @@ use plan::{PFault, PoolLimits, PoolName, Pools, first_bad_path, oversized_pool};
 use schema::{Node, Sort};
 use std::alloc::{AllocError, Global};
 use stored::Schema;
+use suggest::SuggestFault;
 
 /// What is wrong with a pools document.
 pub(crate) fn pools_text(
@@ -170,6 +171,57 @@ fn refused_path_text(schema: &Schema, pools: &Pools, path: &str) -> &'static str
         Ok(_) => {
             "found the path of the items of a map list; allowed are those of the list and of what is below its items"
         }
+    }
+}
+
+/// Why no pools are suggested for a schema and so many objects.
+pub(crate) fn suggestion_text(
+    alloc: Global,
+    schema: &Schema,
+    fault: &SuggestFault,
+    objects: usize,
+    limits: PoolLimits,
+) -> Result<Option<String>, AllocError> {
+    match fault {
+        SuggestFault::BadPath(path) => {
+            let text = bad_path_text(schema, path.as_str());
+            Ok(Some(String::from_str(alloc, text)?))
+        }
+        SuggestFault::NotInObject(_) if objects == 1 => Ok(Some(String::from_str(
+            alloc,
+            "the object has no object to which this field belongs; vary a path that is further up",
+        )?)),
+        SuggestFault::NotInObject(_) => Ok(Some(format!(in alloc;
+            "found {objects} objects; --vary takes one"
+        )?)),
+        SuggestFault::TooLarge => Ok(Some(large_text(alloc, limits)?)),
+        SuggestFault::NoMemory => Ok(None),
+    }
+}
+
+fn bad_path_text(schema: &Schema, path: &str) -> &'static str {
+    match resolve(schema, path) {
+        Err(XFault::BadPath) => "found a text that is no path; `crdx explain` lists the paths",
+        Err(XFault::NoSuchField) => {
+            "found a path that is not declared; `crdx explain` lists those that are"
+        }
+        Ok(_) => {
+            "found a path through a list or a map; --vary takes a path through objects alone, and --without none of the items of a map list"
+        }
+    }
+}
+
+fn large_text(alloc: Global, limits: PoolLimits) -> Result<String, AllocError> {
+    let most = limits.paths;
+    let large = PoolLimits::LARGE.paths;
+    if most < large {
+        format!(in alloc;
+            "the pools would be longer than 1048576 bytes, or have more than {most} paths in fixed or present, of which {large} are allowed with --large"
+        )
+    } else {
+        format!(in alloc;
+            "the pools would be longer than 1048576 bytes, or have more than {most} paths in fixed or present"
+        )
     }
 }
 

@@ -6,9 +6,6 @@ use Rattle.crdx.proofs.arguments.parsing.cover_arguments.Goals as goal
 pub returns : goal.returns
 returns c =
     let f = found_of c.args.matches.now in (
-      c.common_arguments.ensures,
-      c.pools_of.ensures,
-      refl,
-      c.get_str.ensures ∙ first_value-rows f (codes "name"),
-      c.number_of.ensures.number,
+      (c.common_arguments.ensures, c.pools_of.ensures, refl, c.get_str.ensures ∙ first_value-rows f (codes "name"), c.number_of.ensures.number),
+      c.flag_of.ensures,
     )

@@ -1,5 +1,5 @@
 use Rattle.std.proofs.Common.{codes}
-use Rattle.crdx.specs.Program.CommandLine.{top_app, crd_app, explain_app, object_app, validate_app, sample_app, cover_app}
+use Rattle.crdx.specs.Program.CommandLine.{top_app, crd_app, explain_app, object_app, validate_app, pools_app, sample_app, cover_app}
 use Rattle.crdx.proofs.arguments.parsing.crdx_command.Goals as goal
 
 pub returns : goal.returns
@@ -10,6 +10,6 @@ returns c =
     let prune = c.add_command-command-4.ensures _ (object_app (codes "prune")) validate c.object_command-prune.ensures.app in
     let default = c.add_command-command-5.ensures _ (object_app (codes "default")) prune c.object_command-default.ensures.app in
     let leaves = c.add_command-command-6.ensures _ (object_app (codes "leaves")) default c.object_command-leaves.ensures.app in
-    let pools = c.add_command-command-7.ensures _ (crd_app (codes "pools")) leaves c.crd_command-pools.ensures.app in
+    let pools = c.add_command-command-7.ensures _ pools_app leaves c.pools_command.ensures.app in
     let sample = c.add_command-command-8.ensures _ sample_app pools c.sample_command.ensures.app in
     c.add_command.ensures _ cover_app sample c.cover_command.ensures.app

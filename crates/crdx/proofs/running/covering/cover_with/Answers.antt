@@ -20,7 +20,7 @@ returns-in_ok-say_missed-in-Ok-clause-answer g c =
     let objects = ap (map (λ l. data_of l.tree)) c.as_slice.ensures.value ∙ sym (objects_of covered.lines.items) in
     let text : string_bytes c.in_ok-text-in-Ok.text ≡ lines found.envelope (map (λ l. l.object) (covered_of covered).lines) =
     c.in_ok-text-in-Ok.ensures ∙ (ap (λ e. lines e (map (λ l. data_of l.tree) c.as_slice.result.now)) c.as_ref.ensures.value ∙ ap (lines found.envelope) objects) in
-    rw text (covers c.args.arguments.now found.plan (option_map data_of found.after) found.envelope are.0 (covered_of covered) c.in-Ok.ensures.requested are.1 are.2)
+    rw text (covers c.args.arguments.now found.plan (option_map data_of found.after) found.envelope are.0 are.2 (covered_of covered) c.in-Ok.ensures.requested are.1 are.3 are.4)
 
 pub returns-in-Err-clause-cause : goal.returns-in-Err-clause-cause
 returns-in-Err-clause-cause g c =

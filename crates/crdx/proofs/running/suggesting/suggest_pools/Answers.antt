@@ -1,19 +1,57 @@
-use Rattle.std.proofs.lemmas.Result.{err_from_is_err_and}
-use Rattle.crdx.specs.Program.RunResult.{pools, no_pools}
+use Rattle.std.proofs.Common.{◌≡◌, inl, inr, subst, string_bytes}
+use Rattle.std.proofs.lemmas.Result.{IfOk-weaker, IfErr-weaker}
+use Rattle.crdx.specs.Internal.Cause.{IsSuggestionCause}
+use Rattle.crdx.specs.Program.RunResult.{no_pools, pools_line}
 use Rattle.crdx.specs.declared.arguments.request.Request.TheVariants.{SuggestPools}
-use Rattle.crdx.proofs.RunLemmas.{input_of_schema, requested_root}
+use Rattle.crdx.proofs.PoolsLemmas.{wanted_before, suggestion_before}
+use Rattle.crdx.proofs.RunLemmas.{input_of_schema}
 use Rattle.crdx.proofs.running.suggesting.suggest_pools.Goals as goal
 
-pub returns-in_err-accepted-clause-cause : goal.returns-in_err-accepted-clause-cause
-returns-in_err-accepted-clause-cause g c =
+pub returns-in-Err-clause-cause : goal.returns-in-Err-clause-cause
+returns-in-Err-clause-cause g c =
     let arguments = c.args.arguments.now in
-    let p = err_from_is_err_and c.from_residual.result c.from_residual.ensures.1 in
-    rw (p.1, p.2) (input_of_schema (g.I.Inputs.has c.args.inputs.now) (g.I.Inputs.failures c.args.inputs.now) (g.I.Inputs.failures c.accepted_schema.new.inputs) arguments
-    (SuggestPools arguments) (no_pools arguments) c.in_err-accepted.field-0.0 (λ r. r) c.in_err-accepted.ensures.cause)
+    inl (input_of_schema (g.I.Inputs.has c.args.inputs.now) (g.I.Inputs.failures c.args.inputs.now) (g.I.Inputs.failures c.crd_of.new.inputs) arguments.common (SuggestPools arguments)
+    (no_pools arguments) c.in-Err.cause (λ r. r) (inl c.in-Err.ensures.cause))
+
+pub returns-in-Err-accept_written-clause-cause : goal.returns-in-Err-accept_written-clause-cause
+returns-in-Err-accept_written-clause-cause g c =
+    let arguments = c.args.arguments.now in
+    let crd = c.in-Ok.crd in
+    inl (input_of_schema (g.I.Inputs.has c.args.inputs.now) (g.I.Inputs.failures c.args.inputs.now) (g.I.Inputs.failures c.crd_of.new.inputs) arguments.common (SuggestPools arguments)
+    (no_pools arguments) c.in-Err-accept_written.cause (λ r. r) (inr (crd.raw, (crd.group, (crd.kind, c.in-Ok.ensures.ok)), c.in-Err-accept_written.ensures.cause)))
 
 pub returns-clause-answer : goal.returns-clause-answer
 returns-clause-answer g c =
     let arguments = c.args.arguments.now in
-    let accepted = c.in_ok-accepted.accepted in
-    rw c.in_ok-text.ensures (pools arguments accepted.schema
-    (requested_root (g.I.Inputs.has c.args.inputs.now) arguments accepted.group accepted.kind accepted.schema c.in_ok-accepted.ensures.accepted))
+    let crd = c.in-Ok.crd in
+    let written = c.in-Ok-accept_written.ensures in
+    let N = c.in-Ok-accept_written.written.schema in
+    IfOk-weaker c.suggest_at-answer.result _ _ (λ a said. (
+      crd.raw,
+      N,
+      said.0,
+      record {
+        schema = record { asked = (crd.group, (crd.kind, c.in-Ok.ensures.ok)); unbroken = written.unbroken.0 };
+        root = written.unbroken.1;
+        wanted = wanted_before (g.I.Inputs.lines c.args.inputs.now) (g.I.Inputs.lines c.crd_of.new.inputs) c.in-Ok.ensures.lines arguments said.0 said.1;
+      },
+      subst (λ raw. string_bytes a.text ≡ pools_line arguments raw N said.0) written.raw said.2,
+    )) c.suggest_at-answer.ensures.answer
+
+pub returns-clause-cause : goal.returns-clause-cause
+returns-clause-cause g c =
+    let arguments = c.args.arguments.now in
+    let crd = c.in-Ok.crd in
+    let written = c.in-Ok-accept_written.ensures in
+    let N = c.in-Ok-accept_written.written.schema in
+    let later = g.I.Inputs.lines c.crd_of.new.inputs in
+    let unread = g.I.Inputs.failures c.args.inputs.now in
+    let read = g.I.Inputs.failures c.suggest_at-answer.new.inputs in
+    IfErr-weaker c.suggest_at-answer.result _ _ (λ cause why. inr (
+      crd.raw,
+      N,
+      record { asked = (crd.group, (crd.kind, c.in-Ok.ensures.ok)); unbroken = written.unbroken.0 },
+      written.unbroken.1,
+      suggestion_before (g.I.Inputs.lines c.args.inputs.now) later c.in-Ok.ensures.lines arguments unread read crd.raw N cause (subst (λ n. IsSuggestionCause later n read arguments crd.raw N cause) c.in-Ok.ensures.unfailed
+          (subst (λ raw. IsSuggestionCause later (g.I.Inputs.failures c.crd_of.new.inputs) read arguments raw N cause) written.raw why)),
+    )) c.suggest_at-answer.ensures.cause

@@ -1,0 +1,46 @@
+use Rattle.std.proofs.Common.{◌≡◌, ◌∷◌, [], Bool, List, ℕ, subst}
+use Rattle.std.proofs.lemmas.Result.{IfErr-weaker, on_ok_weaker}
+use Rattle.jtree.specs.Reads.{Reads}
+use Rattle.jtree.specs.View.{data_of}
+use Rattle.crdx.specs.Internal.ObjectInputs.{IsLaterCause, IsTextCause}
+use Rattle.crdx.specs.Program.Objects.{IsRefused}
+use Rattle.crdx.proofs.ObjectInputLemmas.{nothing_added, first_unread, lines_added, later_cause, whole_added, whole_cause}
+use Rattle.crdx.proofs.running.object_inputs.read_lines.Goals as goal
+
+pub returns-in-Ok-false-clause-objects : goal.returns-in-Ok-false-clause-objects
+returns-in-Ok-false-clause-objects g c =
+    on_ok_weaker c.add_text.result (λ d. nothing_added (g.I.Inputs.coming c.args.inputs.now) c.args.objects.now.items c.add_text.new.objects.items d.0 (c.in-Ok-false.ensures.end c.in-Ok-false.field-0-test) d.1 d.2) c.add_text.ensures.added
+
+pub returns-in-Err-clause-cause : goal.returns-in-Err-clause-cause
+returns-in-Err-clause-cause g c =
+    rw c.unread_text.ensures (first_unread (g.I.Inputs.coming c.args.inputs.now) (g.I.Inputs.failures c.args.inputs.now) (g.I.Inputs.failures c.next_line.new.self) c.in-Err.fault c.in-Err.ensures.counts c.in-Err.ensures.refused)
+
+pub returns-in-Ok-clause-objects : goal.returns-in-Ok-clause-objects
+returns-in-Ok-clause-objects g c =
+    let d = data_of c.in-Ok-Some.document in
+    let is = subst (λ l. Reads l d) c.as_slice-2.ensures.value (rw c.in-Ok-Some.field-0-is at c.in-Ok-Some.ensures) in
+    on_ok_weaker c.read_more.result (λ rest. lines_added (g.I.Inputs.coming c.args.inputs.now) (g.I.Inputs.coming c.next_line.new.self) c.next_line.new.line.items (c.in-Ok-true.ensures.line c.in-Ok-true.field-0-test)
+    c.args.objects.now.items c.push_body.new.objects.items c.read_more.new.objects.items d is c.in-Ok.ensures rest) c.read_more.ensures.objects
+
+pub returns-in-Ok-clause-cause : goal.returns-in-Ok-clause-cause
+returns-in-Ok-clause-cause g c =
+    let d = data_of c.in-Ok-Some.document in
+    let is = subst (λ l. Reads l d) c.as_slice-2.ensures.value (rw c.in-Ok-Some.field-0-is at c.in-Ok-Some.ensures) in
+    let later = g.I.Inputs.coming c.next_line.new.self in
+    let read = g.I.Inputs.failures c.read_more.new.inputs in
+    IfErr-weaker c.read_more.result _ _ (λ why rest. later_cause (g.I.Inputs.coming c.args.inputs.now) later c.next_line.new.line.items (c.in-Ok-true.ensures.line c.in-Ok-true.field-0-test)
+    (g.I.Inputs.failures c.args.inputs.now) read d why is (subst (λ n. IsLaterCause later n read why) c.in-Ok-true.ensures.counts rest)) c.read_more.ensures.cause
+
+pub returns-in-Ok-None-clause-objects : goal.returns-in-Ok-None-clause-objects
+returns-in-Ok-None-clause-objects g c =
+    let refused = subst IsRefused c.as_slice-2.ensures.value (rw c.in-Ok-None.field-0-is at c.in-Ok-None.ensures) in
+    on_ok_weaker c.read_on.result (λ all. whole_added (g.I.Inputs.coming c.args.inputs.now) (g.I.Inputs.coming c.next_line.new.self) c.next_line.new.line.items (c.in-Ok-true.ensures.line c.in-Ok-true.field-0-test)
+    refused c.args.objects.now.items c.read_on.new.objects.items all) c.read_on.ensures.objects
+
+pub returns-in-Ok-None-clause-cause : goal.returns-in-Ok-None-clause-cause
+returns-in-Ok-None-clause-cause g c =
+    let refused = subst IsRefused c.as_slice-2.ensures.value (rw c.in-Ok-None.field-0-is at c.in-Ok-None.ensures) in
+    let later = g.I.Inputs.coming c.next_line.new.self in
+    let read = g.I.Inputs.failures c.read_on.new.inputs in
+    IfErr-weaker c.read_on.result _ _ (λ why rest. whole_cause (g.I.Inputs.coming c.args.inputs.now) later c.next_line.new.line.items (c.in-Ok-true.ensures.line c.in-Ok-true.field-0-test)
+    refused (g.I.Inputs.failures c.args.inputs.now) read why (subst (λ n. IsTextCause later c.next_line.new.line.items n read why) c.in-Ok-true.ensures.counts rest)) c.read_on.ensures.cause

@@ -1,0 +1,241 @@
+// The objects that `pools` is given: inputs with one document, or with one on each line.
+ghost use Rattle.std.specs.Prelude.{◌≡◌, ◌++◌, ◌∷◌, [], ℕ, List, map, IfOk, IfErr, OnOk, MatchOption};
+ghost use Rattle.jtree.specs.Data.{Data};
+ghost use Rattle.jtree.specs.Reads.{Reads};
+ghost use Rattle.jtree.specs.View.{data_of};
+ghost use Rattle.crdx.specs.Internal.Cause.{IsObjectInputCause, HasComing};
+ghost use Rattle.crdx.specs.Internal.ObjectInputs.{AreAdded, AddsLines, AddsText, IsBrokenLine, IsLaterCause, IsTextCause, IsRefusedText, cause_of_text};
+ghost use Rattle.crdx.specs.Program.CommandLine.{input_of};
+ghost use Rattle.crdx.specs.Program.Documents.{AreLinesAmong};
+ghost use Rattle.crdx.specs.Program.Objects.{AreDocuments, AreObjects, HasInput, IsRefused};
+ghost use Rattle.jtree.specs.Lines.{newline};
+ghost use Rattle.crdx.specs.declared.running.causes.Cause.TheVariants.{Document};
+ghost use Rattle.crdx.specs.declared.running.causes.Input.TheVariants.{Object};
+
+use crate::arguments::input_named;
+use crate::envelope::split;
+use crate::inputs::{InFault, Inputs};
+use crate::running::causes::{Cause, Input};
+use crate::running::explanation::Explanation;
+use crate::running::line_answers::unread_line;
+use jtree::{JFault, MOST_BYTES, Tree};
+use std::alloc::{AllocError, Global};
+
+/// The bodies of the documents of the inputs that these words name, one input after the other: a file, or for `-` the standard input.
+pub(crate) fn read_objects<I: Inputs>(
+    alloc: Global,
+    inputs: &mut I,
+    words: &[&str],
+    explanation: &mut Explanation,
+) -> Result<Vec<Tree>, Cause>
+    ensures objects { IfOk result (λ os. AreObjects (I.lines inputs.old) (map (λ w. w.now) words.now) (map data_of os.items)) }
+    ensures cause { IfErr result (IsObjectInputCause (HasInput (I.lines inputs.old) (map (λ w. w.now) words.now)) (I.failures inputs.old) (I.failures inputs.new)) }
+{
+    let mut objects = Vec::new(alloc);
+    for word in words {
+        match read_input(alloc, inputs, word, explanation, &mut objects) {
+            Ok(()) => {}
+            Err(cause) => return Err(cause),
+        }
+    }
+    Ok(objects)
+}
+
+/// Adds the bodies of the documents of the input that a word names.
+fn read_input<I: Inputs>(
+    alloc: Global,
+    inputs: &mut I,
+    word: &str,
+    explanation: &mut Explanation,
+    objects: &mut Vec<Tree>,
+) -> Result<(), Cause>
+    ensures objects { OnOk result ((ls : List (List ℕ)) × I.lines inputs.old (input_of word.now) ls × (ds : List Data) × AreDocuments ls ds × AreAdded ds objects.old.items objects.new.items) }
+    ensures cause { IfErr result (IsObjectInputCause (HasComing (I.lines inputs.old (input_of word.now))) (I.failures inputs.old) (I.failures inputs.new)) }
+    ensures lines { AreLinesAmong (I.lines inputs.new) (I.lines inputs.old) }
+    ensures unfailed { OnOk result (I.failures inputs.new ≡ I.failures inputs.old) }
+{
+    let name = input_named(word);
+    match inputs.open_lines(name) {
+        Ok(()) => read_lines(alloc, inputs, explanation, objects),
+        Err(InFault::Failed) => Err(Cause::Read(Input::Object)),
+        Err(_) => Err(Cause::NoMemory),
+    }
+}
+
+/// Adds those of the input that was opened: one on each line where the first line has one, and else one on all lines together.
+fn read_lines<I: Inputs>(
+    alloc: Global,
+    inputs: &mut I,
+    explanation: &mut Explanation,
+    objects: &mut Vec<Tree>,
+) -> Result<(), Cause>
+    ensures objects { OnOk result ((ls : List (List ℕ)) × I.coming inputs.old ls × (ds : List Data) × AreDocuments ls ds × AreAdded ds objects.old.items objects.new.items) }
+    ensures cause { IfErr result (IsObjectInputCause (HasComing (I.coming inputs.old)) (I.failures inputs.old) (I.failures inputs.new)) }
+    ensures lines { AreLinesAmong (I.lines inputs.new) (I.lines inputs.old) }
+    ensures unfailed { OnOk result (I.failures inputs.new ≡ I.failures inputs.old) }
+{
+    let mut line = Vec::new(alloc);
+    match inputs.next_line(&mut line) {
+        Ok(true) => {}
+        Ok(false) => return add_text(alloc, &[], explanation, objects),
+        Err(fault) => return Err(unread_text(alloc, line.as_slice(), fault, explanation)),
+    }
+    match document_of(alloc, line.as_slice()) {
+        Ok(Some(document)) => match push_body(objects, document) {
+            Ok(()) => read_more(alloc, inputs, explanation, objects, line),
+            Err(_) => Err(Cause::NoMemory),
+        },
+        Ok(None) => read_on(alloc, inputs, explanation, objects, line),
+        Err(_) => Err(Cause::NoMemory),
+    }
+}
+
+/// The document that a line is, where it is one.
+fn document_of(alloc: Global, line: &[u8]) -> Result<Option<Tree>, AllocError>
+    ensures { IfOk result (λ d. MatchOption d (IsRefused line.now) (λ t. Reads line.now (data_of t))) }
+{
+    match Tree::from_bytes(alloc, line) {
+        Ok(document) => Ok(Some(document)),
+        Err(JFault::NoMemory) => Err(AllocError),
+        Err(_) => Ok(None),
+    }
+}
+
+/// Adds those on each line after the first one; what was read of that is overwritten.
+fn read_more<I: Inputs>(
+    alloc: Global,
+    inputs: &mut I,
+    explanation: &mut Explanation,
+    objects: &mut Vec<Tree>,
+    first: Vec<u8>,
+) -> Result<(), Cause>
+    ensures objects { OnOk result (AddsLines (I.coming inputs.old) objects.old.items objects.new.items) }
+    ensures cause { IfErr result (IsLaterCause (I.coming inputs.old) (I.failures inputs.old) (I.failures inputs.new)) }
+    ensures lines { AreLinesAmong (I.lines inputs.new) (I.lines inputs.old) }
+    ensures unfailed { OnOk result (I.failures inputs.new ≡ I.failures inputs.old) }
+{
+    let mut line = first;
+    let mut read: u64 = 1;
+    'lines: while read < u64::MAX {
+        match inputs.next_line(&mut line) {
+            Ok(true) => {}
+            Ok(false) => return Ok(()),
+            Err(fault) => return Err(unread_line(alloc, read, fault, line.as_slice(), explanation)),
+        }
+        match add_line(alloc, read + 1, line.as_slice(), explanation, objects) {
+            Ok(()) => {}
+            Err(cause) => return Err(cause),
+        }
+        read += 1;
+    }
+    Err(Cause::NoMemory)
+}
+
+/// Adds that of the line of this number.
+fn add_line(
+    alloc: Global,
+    number: u64,
+    line: &[u8],
+    explanation: &mut Explanation,
+    objects: &mut Vec<Tree>,
+) -> Result<(), Cause>
+    ensures added { OnOk result ((d : Data) × Reads line.now d × AreAdded (d ∷ []) objects.old.items objects.new.items) }
+    ensures cause { IfErr result (IsBrokenLine number line.now) }
+{
+    match Tree::from_bytes(alloc, line) {
+        Ok(document) => match push_body(objects, document) {
+            Ok(()) => Ok(()),
+            Err(_) => Err(Cause::NoMemory),
+        },
+        Err(JFault::NoMemory) => Err(Cause::NoMemory),
+        Err(fault) => {
+            explanation.explain_document(alloc, line, None);
+            Err(Cause::Line(number, fault))
+        }
+    }
+}
+
+/// Adds that of all lines together, of which the first one is read.
+fn read_on<I: Inputs>(
+    alloc: Global,
+    inputs: &mut I,
+    explanation: &mut Explanation,
+    objects: &mut Vec<Tree>,
+    first: Vec<u8>,
+) -> Result<(), Cause>
+    ensures objects { OnOk result (AddsText (I.coming inputs.old) first.items objects.old.items objects.new.items) }
+    ensures cause { IfErr result (IsTextCause (I.coming inputs.old) first.items (I.failures inputs.old) (I.failures inputs.new)) }
+    ensures lines { AreLinesAmong (I.lines inputs.new) (I.lines inputs.old) }
+    ensures unfailed { OnOk result (I.failures inputs.new ≡ I.failures inputs.old) }
+{
+    let mut text = first;
+    let mut line = Vec::new(alloc);
+    'lines: while text.len() <= MOST_BYTES {
+        match inputs.next_line(&mut line) {
+            Ok(true) => {}
+            Ok(false) => return add_text(alloc, text.as_slice(), explanation, objects),
+            Err(fault) => return Err(unread_text(alloc, line.as_slice(), fault, explanation)),
+        }
+        match add_to_text(&mut text, line.as_slice()) {
+            Ok(()) => {}
+            Err(_) => return Err(Cause::NoMemory),
+        }
+    }
+    Err(no_document(alloc, text.as_slice(), JFault::TooLong, explanation))
+}
+
+/// A line after those that there are.
+fn add_to_text(text: &mut Vec<u8>, line: &[u8]) -> Result<(), AllocError>
+    ensures { OnOk result (text.new.items ≡ text.old.items ++ newline ∷ line.now) }
+{
+    text.push(b'\n')?;
+    text.extend_from_slice(line)
+}
+
+/// Adds that of the text of an input.
+fn add_text(
+    alloc: Global,
+    text: &[u8],
+    explanation: &mut Explanation,
+    objects: &mut Vec<Tree>,
+) -> Result<(), Cause>
+    ensures added { OnOk result ((d : Data) × Reads text.now d × AreAdded (d ∷ []) objects.old.items objects.new.items) }
+    ensures cause { IfErr result (IsRefusedText text.now) }
+{
+    match Tree::from_bytes(alloc, text) {
+        Ok(document) => match push_body(objects, document) {
+            Ok(()) => Ok(()),
+            Err(_) => Err(Cause::NoMemory),
+        },
+        Err(JFault::NoMemory) => Err(Cause::NoMemory),
+        Err(fault) => Err(no_document(alloc, text, fault, explanation)),
+    }
+}
+
+/// Adds the body of a document.
+fn push_body(objects: &mut Vec<Tree>, document: Tree) -> Result<(), AllocError>
+    ensures { OnOk result (AreAdded (data_of document ∷ []) objects.old.items objects.new.items) }
+{
+    let mut body = document;
+    drop(split(&mut body));
+    Ok(objects.push(body)?)
+}
+
+/// Why an input has no document, which has this text as far as it was read.
+fn no_document(alloc: Global, text: &[u8], fault: JFault, explanation: &mut Explanation) -> Cause
+    ensures { result ≡ Document Object fault }
+{
+    explanation.explain_document(alloc, text, None);
+    Cause::Document(Input::Object, fault)
+}
+
+/// Why the next line was not read, and so no document is that goes over all of them.
+fn unread_text(alloc: Global, line: &[u8], fault: InFault, explanation: &mut Explanation) -> Cause
+    ensures { result ≡ cause_of_text fault }
+{
+    match fault {
+        InFault::Failed => Cause::Read(Input::Object),
+        InFault::Document(JFault::NoMemory) => Cause::NoMemory,
+        InFault::Document(fault) => no_document(alloc, line, fault, explanation),
+    }
+}
