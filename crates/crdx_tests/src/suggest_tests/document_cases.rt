@@ -5,7 +5,10 @@ use plan::{Plan, PoolLimits, Pools};
 use std::alloc::{AllocError, Global};
 use std::process::Abort;
 use std::test::Fail;
-use suggest::{SuggestFault, Wanted, suggested_pools, suggested_values_reach_scalars};
+use suggest::{
+    SuggestFault, Wanted, samples_are_the_object_outside, suggested_pools,
+    suggested_values_reach_scalars, the_object_is_a_sample,
+};
 
 // A name, the schema of a field, and the document that is suggested.
 static DOCUMENTS: [(&str, &str, &str); 19] = [
@@ -590,6 +593,8 @@ fn many_siblings(rt: HostRuntime) -> Result<(), Fail> {
 #[test]
 fn pools_and_a_plan(rt: HostRuntime) -> Result<(), Fail> {
     suggested_values_reach_scalars();
+    samples_are_the_object_outside();
+    the_object_is_a_sample();
     let schema = object_with_field(rt.alloc(), r#"{"type":"integer","minimum":2}"#)?;
     let limits = PoolLimits::STANDARD;
     let document = suggested(rt.alloc(), &schema, r#"[{"x":2}]"#, ("/x", ""), limits)??;
