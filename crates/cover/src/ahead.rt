@@ -18,11 +18,10 @@ use crate::narrowing::{copy_of, narrowed};
 use crate::there::is_there;
 use crate::way::{PathStep, below};
 use enumerate::{Page, page};
-use explain::paths_have_one_text;
 use jtree::Tree;
 use plan::{Plan, Pools, SizeSet};
 use std::alloc::{AllocError, Global};
-use stored::{Schema, stored_by_parts};
+use stored::Schema;
 
 /// The most samples that are looked at ahead.
 const MOST: u32 = 2_048;
@@ -61,9 +60,8 @@ pub(crate) fn find_first<Z: SizeSet>(
         → IsFirstSample q (option_map (λ v. data_of v.now) aim.entry.value) (path_of aim.entry.steps.now) (tree_of r.1)) }
     ensures ahead { OnOk result ((q : Question) → q ≡ record { root = schema; pools = pools.now; limit = limit } → All (IsAhead q) ahead.old.items → All (IsAhead q) ahead.new.items) }
 {
-    // for their contracts alone
-    paths_have_one_text();
-    stored_by_parts();
+    explain::laws::paths_have_one_text();
+    stored::laws::stored_by_parts();
     ahead.truncate(kept(ahead.as_slice(), aim.steps));
     let schema = look_ahead(alloc, schema, pools, limit, aim, ahead)?;
     match found_ahead(alloc, ahead.as_slice(), aim)? {
@@ -128,9 +126,8 @@ fn look_ahead(
     ensures schema { IfOk result (λ s. s ≡ schema) }
     ensures ahead { OnOk result ((q : Question) → q ≡ record { root = schema; pools = pools.now; limit = limit } → All (IsAhead q) ahead.old.items → All (IsAhead q) ahead.new.items) }
 {
-    // for their contracts alone
-    paths_have_one_text();
-    stored_by_parts();
+    explain::laws::paths_have_one_text();
+    stored::laws::stored_by_parts();
     let length = front_length(aim);
     if length == 0 || is_last(ahead.as_slice(), length) {
         return Ok(schema);

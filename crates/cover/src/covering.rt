@@ -22,7 +22,7 @@ use crate::narrowing::copy_of;
 use crate::there::is_there;
 use crate::values::values_of;
 use crate::way::{PathStep, below, steps_of};
-use explain::{Listing, paths_have_one_text};
+use explain::Listing;
 use jtree::{Text, Tree};
 use plan::{Plan, Pools, SizeSet};
 use std::alloc::{AllocError, Global};
@@ -132,8 +132,7 @@ fn add_wanted<Z: SizeSet>(
     ensures ahead { IfOk result (λ _. (q : Question) → q ≡ record { root = schema; pools = pools.now; limit = limit } → All (IsAhead q) state.old.ahead.items → All (IsAhead q) state.new.ahead.items) }
 {
     let steps = steps_of(alloc, &schema, path)?;
-    // for its contract alone
-    paths_have_one_text();
+    explain::laws::paths_have_one_text();
     if is_had(state.covered.lines.as_slice(), value, steps.as_slice()) {
         return Ok(schema);
     }

@@ -4,11 +4,10 @@
 mod ahead;
 mod covering;
 mod first;
-mod law;
+pub mod laws;
 mod narrowing;
 mod there;
 mod values;
 mod way;
 
 pub use covering::{Covered, Line, Wanted, cover};
-pub use law::lines_cover;

@@ -9,10 +9,10 @@ ghost use Rattle.explain.specs.Paths.PathText.{path_text};
 ghost use Rattle.cover.specs.Wanted.{AreValuesAt, AreValuesOf};
 ghost use Rattle.cover.specs.Internal.Narrowed.{MayBeWanted};
 
-use explain::{paths_have_one_text, resolve};
+use explain::resolve;
 use jtree::Tree;
 use plan::{Pools, candidates};
-use schema::{Node, Sort, items_are_distinct};
+use schema::{Node, Sort};
 use std::alloc::{AllocError, Global};
 use stored::Schema;
 
@@ -28,9 +28,8 @@ pub(crate) fn values_of(
     ensures values { IfOk result (λ vs. AreValuesOf values schema.now pools.now path.now (map (λ v. data_of v) vs.items)) }
     ensures wanted { IfOk result (λ vs. (p : FieldPath) → path_text p ≡ path.now → All (λ v. MayBeWanted schema.now pools.now (Some (data_of v)) p) vs.items) }
 {
-    // for their contracts alone
-    paths_have_one_text();
-    items_are_distinct();
+    explain::laws::paths_have_one_text();
+    schema::laws::items_are_distinct();
     schema.root();
     match resolve(schema, path) {
         Ok(node) => values_at(alloc, values, pools, path, node),

@@ -43,7 +43,6 @@ pub fn split(tree: &mut Tree) -> Parts
 {
     match tree {
         Tree::Object(members) => {
-            // for its contract alone: a proof learns that the names are in order, each once, here and below
             members.reveal_invariant();
             Parts {
                 api_version: take(members, "apiVersion"),

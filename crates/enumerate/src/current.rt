@@ -15,7 +15,7 @@ ghost use Rattle.enumerate.specs.Internal.Current.{ContinueSample, ChangesIf, Is
 
 use crate::taker::{Change, Replaced, Taker};
 use crate::walk::{NextTree, Scratch, Walk};
-use jtree::{Tree, last_node_is_replaced};
+use jtree::Tree;
 use plan::{Meter, Plan, SizeSet};
 use std::alloc::AllocError;
 use std::mem;
@@ -65,8 +65,7 @@ impl<'p> Current<'p> {
         ensures ok { IfOk result (λ more. Advances walk.now.plan.now self.old self.new more) }
         ensures steps { Costs walk.now.plan.now meter.old meter.new (3 * walk.now.plan.now.limit) }
     {
-        // for its contract alone
-        last_node_is_replaced();
+        jtree::laws::last_node_is_replaced();
         if let Some(replaced) = self.scratch.following.pop() {
             if let Some(next) = self.scratch.following.last() {
                 let depth = self.tree.set_last(walk.alloc, *next)?;

@@ -4,7 +4,7 @@
 mod copying;
 mod current;
 mod fault;
-mod law;
+pub mod laws;
 mod leaf;
 mod list;
 mod listed;
@@ -20,7 +20,6 @@ mod taker;
 mod walk;
 
 pub use fault::EFault;
-pub use law::pages_agree;
 pub use listed::Page;
 pub use live::Live;
 pub use paging::page;

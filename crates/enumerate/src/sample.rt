@@ -9,7 +9,7 @@ ghost use Rattle.enumerate.specs.Internal.Nodes.{Costs};
 ghost use Rattle.enumerate.specs.Internal.Roots.{IsFirstFrom};
 
 use crate::walk::{NextTree, Scratch, Walk};
-use jtree::{Tree, last_node_is_replaced};
+use jtree::Tree;
 use plan::{Meter, SizeSet};
 use std::alloc::AllocError;
 
@@ -24,10 +24,9 @@ impl<'p, Z: SizeSet> Walk<'p, Z> {
         ensures following { IfOk result (λ found. IfSome (tree_of found) (λ v. ContinueSample self.now.plan.now v (stack_of scratch.new.following.items))) }
         ensures steps { Costs self.now.plan.now scratch.old.meter scratch.new.meter self.now.plan.now.limit }
     {
-        // for its contract alone, as below
-        last_node_is_replaced();
+        jtree::laws::last_node_is_replaced();
         let root = self.plan.root();
-        // for its contract alone: a limit has 32 bits, so no sample has more nodes than can be counted
+        // a limit has 32 bits, so no sample has more nodes than can be counted
         let _ = self.plan.limit();
         match self.plan.sizes(root).next(from) {
             Some(size) => Ok(Some(self.first_part(root, size, scratch)?)),
@@ -46,7 +45,7 @@ impl<'p, Z: SizeSet> Walk<'p, Z> {
         ensures following { IfOk result (λ next. ContinueAfter self.now.plan.now next (stack_of scratch.new.following.items)) }
         ensures steps { Costs self.now.plan.now scratch.old.meter scratch.new.meter (3 * self.now.plan.now.limit) }
     {
-        last_node_is_replaced();
+        jtree::laws::last_node_is_replaced();
         let root = self.plan.root();
         let limit = self.plan.limit();
         match self.next_part(root, tree, scratch)? {

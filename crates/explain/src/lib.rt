@@ -4,8 +4,8 @@
 mod describing;
 mod fault;
 mod field;
+pub mod laws;
 mod listing;
-mod one_text;
 mod path_text;
 mod reading;
 mod resolving;
@@ -14,6 +14,5 @@ mod walk;
 pub use fault::XFault;
 pub use field::Field;
 pub use listing::Listing;
-pub use one_text::paths_have_one_text;
 pub use path_text::{Step, path_below};
 pub use resolving::resolve;

@@ -49,7 +49,6 @@ impl Listing {
         ensures { IfOk result (λ l. AreFields schema.now l) }
     {
         let root = schema.root();
-        // for its contract alone: a proof learns that declared names are in order, each once
         root.reveal_invariant();
         let mut walk = Walk {
             path: String::new(alloc),

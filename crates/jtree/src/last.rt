@@ -34,7 +34,6 @@ impl Tree {
         ensures depth { IfOk result (λ depth. depth ≡ min (last_depth (data_of self.old)) (2 ^ 64 - 1)) }
         ensures err { OnErr result (data_of self.new ≡ data_of self.old) }
     {
-        // for its contract alone: a proof learns that `value` is a tree
         value.reveal_invariant();
         set_last_node(self, alloc, value, 0)
     }
@@ -112,26 +111,6 @@ fn closing(tree: &Tree) -> u8
         _ => b'}',
     }
 }
-
-/// A law, called for its contract alone: a tree's text is the text before a part followed by the text from the part on, and the
-/// text before it depends neither on the part nor on what is deeper. The text around the last node does not depend on that node, and
-/// after it is one bracket for each step to it.
-pub fn parts_have_their_text()
-    ensures whole { (n : ℕ) (d : Data) → compact d ≡ front_text n d ++ part_text n d }
-    ensures front { (m n : ℕ) (d v : Data) → m ≤ n → front_text m (with_part n d v) ≡ front_text m d }
-    ensures last { (n : ℕ) (d v : Data) → n ≤ last_depth d → front_text n (with_last d v) ≡ front_text n d }
-    ensures around { (d : Data) → (front : List ℕ) × (rest : List ℕ) × (length rest ≡ last_depth d) × ((v : Data) → compact (with_last d v) ≡ front ++ (compact v ++ rest)) }
-{}
-
-/// A law, called for its contract alone: a node of count 1 that replaces the last node is itself the last node; to replace the
-/// last node by itself changes nothing; and a tree in its place adds its count to that of the other nodes.
-pub fn last_node_is_replaced()
-    ensures again { (d v w : Data) → node_count v ≡ 1 → with_last (with_last d v) w ≡ with_last d w }
-    ensures own { (d : Data) → with_last d (last_of d) ≡ d }
-    ensures count { (d v : Data) → node_count (with_last d v) + 1 ≡ node_count d + node_count v }
-    ensures last { (d v : Data) → node_count v ≡ 1 → last_of (with_last d v) ≡ v }
-    ensures depth { (d v : Data) → node_count v ≡ 1 → last_depth (with_last d v) ≡ last_depth d }
-{}
 
 #[cycle(set_last)]
 fn set_last_node(

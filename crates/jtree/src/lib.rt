@@ -4,6 +4,7 @@
 mod copy;
 mod fault;
 mod last;
+pub mod laws;
 pub mod lines;
 mod nodes;
 mod order;
@@ -17,10 +18,7 @@ mod value;
 mod write;
 
 pub use fault::JFault;
-pub use last::{last_node_is_replaced, parts_have_their_text};
-pub use order::{order_in_words, order_is_total};
 pub use pointer::{push_index, push_name};
 pub use read::MOST_BYTES;
 pub use refusal::Refusal;
 pub use value::{Items, Member, Members, Text, Tree};
-pub use write::texts_are_unique;

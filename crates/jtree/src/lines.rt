@@ -127,8 +127,3 @@ impl<T: Source> LineSource for LineFeed<T> {
         Err(JFault::TooLong)
     }
 }
-
-/// A law, and nothing that runs: bytes have one list of lines at most.
-pub fn lines_are_unique()
-    ensures { (bytes : List ℕ) (lines others : List (List ℕ)) → AreLines bytes lines → AreLines bytes others → lines ≡ others }
-{}

@@ -328,15 +328,3 @@ fn compare_members(left: &[Member], right: &[Member]) -> Compared
         order: shorter_first,
     })
 }
-
-/// A law, called for its contract alone: of two trees, `cmp` answers `Less` exactly where the first is before the second by
-/// `IsBefore`.
-pub fn order_in_words()
-    ensures in_words { (u v : Data) → IsTree u → IsTree v → ((tree_cmp u v ≡ Less) ↔ IsBefore u v) }
-{}
-
-/// A law, called for its contract alone: `cmp` is a total order of trees, and it answers `Equal` only for the same tree.
-pub fn order_is_total()
-    ensures total { IsTotalOrder tree_cmp }
-    ensures same { (u v : Data) → (tree_cmp u v ≡ Equal) ↔ (u ≡ v) }
-{}

@@ -108,7 +108,6 @@ fn read_items(alloc: Global, values: &Vec<Value>) -> Result<Items, JFault>
     let mut items = Vec::with_capacity(alloc, values.len())?;
     for value in values {
         let tree = read_tree(alloc, value)?;
-        // for its contract alone: a proof learns that it is a tree, here and for members below
         tree.reveal_invariant();
         items.push_reserved(tree);
     }

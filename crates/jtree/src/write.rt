@@ -33,7 +33,6 @@ impl Tree {
         ensures utf8 { OnOk result (IsUtf8 (compact (data_of self.now))) }
         ensures reads_back { OnOk result (ReadsBack (data_of self.now) (compact (data_of self.now))) }
     {
-        // for its contract alone: a proof learns that this is a tree
         self.reveal_invariant();
         let mut writer = Writer::new(out);
         write_tree(self, &mut writer)?;
@@ -88,8 +87,3 @@ fn write_members(members: &Members, out: &mut Writer) -> Result<(), AllocError>
     }
     out.end_object()
 }
-
-/// A law, called for its contract alone: trees with the same compact text are the same tree, however long and deep it is.
-pub fn texts_are_unique()
-    ensures { (u v : Data) → IsTree u → IsTree v → compact u ≡ compact v → u ≡ v }
-{}

@@ -76,7 +76,6 @@ fn build_object<Z: SizeSet>(
     ensures built { IfOk result (λ n. (m : Bool) (d : Option (List ℕ)) → takes_null_at pools.now path.now (node_with m d (object_of object.now)) ≡ nullable
         → IsBuilt Z.holds arena.old.limit pools.now arena.old.values arena.old.entries.items arena.new.entries.items None path.now (node_with m d (object_of object.now)) keys.now n) }
 {
-    // for its contract alone, as in the functions below: a proof learns that declared names are in order, each once
     object.fields.reveal_invariant();
     let named = named_fields(alloc, &object.junctors)?;
     let slots = build_fields(arena, alloc, pools, path, &object.fields, keys, &named)?;

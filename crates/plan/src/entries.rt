@@ -14,7 +14,7 @@ ghost use Rattle.plan.specs.declared.sort.Sort.TheVariants.{Row};
 
 use crate::SizeSet;
 use crate::arena::{Arena, Content, Entry, PlanNode, RowEntry, SlotEntry};
-use crate::laws::parts_one_level;
+use crate::laws;
 use crate::list_entries::tuples_from;
 use crate::rows::{Choice, tables};
 use crate::sizing::whole_sizes;
@@ -83,8 +83,7 @@ pub(crate) fn add_row<Z: SizeSet>(
         → IsNode (site_at sites n).node → sort_of (site_at sites n) ≡ Row → ending_of P (site_at sites n) ≡ record { bounds = bounds; asked = cs } → AreMet cs ends.now → admits_null P (site_at sites n) ≡ nullable
         → AreSlots arena.old.values.names.items sites n slots.items (slots_of P (site_at sites n)) → AreRight Z.holds arena.old.limit P arena.old.values sites arena.new.entries.items) }
 {
-    // for its contract alone
-    parts_one_level();
+    laws::parts_one_level();
     let choices = choices(arena, alloc, &slots)?;
     let later = later_tuples(arena, alloc, &slots)?;
     let tables = tables(alloc, &choices, bounds, ends, arena.limit)?;

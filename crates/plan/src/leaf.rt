@@ -16,7 +16,7 @@ ghost use Rattle.plan.specs.Internal.Values.{trees_of, IsBase, AreValues, base_o
 ghost use Rattle.plan.specs.declared.values.Values.{Values};
 ghost use Rattle.plan.specs.declared.sort.Sort.TheVariants.{Leaf as LeafSort};
 
-use crate::laws::parts_one_level;
+use crate::laws;
 use crate::values::{Values, in_order, with_null};
 use crate::{Pools, SizeSet};
 use jtree::Tree;
@@ -51,8 +51,7 @@ pub(crate) fn leaf_of(
 ) -> Result<Leaf, AllocError>
     ensures { IfOk result (λ l. (s : Site) → AreValues pools.now values.now → s.node ≡ node_of node.now → s.path ≡ path.now → s.fixed ≡ option_map (λ ts. trees_of ts.now) fixed.entry → sort_of s ≡ LeafSort → AreCandidates pools.now s (candidates_of values.now l)) }
 {
-    // for its contract alone
-    parts_one_level();
+    laws::parts_one_level();
     let base = base_for(alloc, pools, fixed, path, node)?;
     let places = stored_places(alloc, node, base.trees(values))?;
     Ok(Leaf { base, places })

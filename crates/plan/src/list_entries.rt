@@ -16,13 +16,12 @@ ghost use Rattle.plan.specs.Internal.Lists.{cut};
 ghost use Rattle.plan.specs.declared.sort.Sort.TheVariants.{Leaf, Row};
 
 use crate::arena::{Arena, Content, Entry, ListEntry, PlanNode, SlotEntry};
-use crate::laws::parts_one_level;
+use crate::laws;
 use crate::lists::more_sets;
 use crate::sizing::whole_sizes;
 use crate::{Distinct, SizeSet};
 use schema::{Bounds, ListNode, ListType};
 use std::alloc::{AllocError, Global};
-use stored::stored_by_parts;
 
 /// Adds the entry of a list with this item and these bounds on the number of its items.
 pub(crate) fn add_list<Z: SizeSet>(
@@ -42,8 +41,7 @@ pub(crate) fn add_list<Z: SizeSet>(
         → (site_at sites n).node ≡ node_with m d (list_of list.now) → admits_null P (site_at sites n) ≡ nullable → bounds_of P (site_at sites n) ≡ bounds → item_site P (site_at sites n) ≡ Some (site_at sites item) → IsNode (site_at sites n).node → HasSoundItems (site_at sites n).node
         → AreRight Z.holds arena.old.limit P arena.old.values sites arena.new.entries.items) }
 {
-    // for its contract alone
-    parts_one_level();
+    laws::parts_one_level();
     let limit = arena.limit;
     let bounds = item_bounds(arena, item, list, bounds);
     let more = more_sets(alloc, arena.entry(item).sizes, bounds, limit)?;
@@ -111,8 +109,8 @@ fn item_bounds<Z: SizeSet>(
         → (n : Bool) (d : Option (List ℕ)) → s.node ≡ node_with n d (list_of list.now) → bounds_of P s ≡ bounds → item_site P s ≡ Some (site_at sites item) → IsNode s.node → HasSoundItems s.node
         → IsCutTo P arena.now.limit s (site_at sites item) result }
 {
-    parts_one_level();
-    stored_by_parts();
+    laws::parts_one_level();
+    stored::laws::stored_by_parts();
     match list.list_type {
         ListType::Atomic => bounds,
         ListType::Set => cut_bounds(bounds, arena.count(item)),

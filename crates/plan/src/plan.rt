@@ -4,7 +4,7 @@ ghost use Rattle.plan.specs.Internal.Plan.{IsPlan};
 
 use crate::arena::{Arena, Content, PlanNode};
 use crate::building::build;
-use crate::laws::{laws_of_plans, schemas_are_sound};
+use crate::laws;
 use crate::leaf::candidate;
 use crate::pool_paths::check_paths;
 use crate::values::Values;
@@ -274,7 +274,6 @@ impl<Z: SizeSet> Plan<Z> {
         ensures none { IfNone result (length (slots_of self.now.pools (site_at (sites_of self.now.pools self.now.root) node)) ≤ place) }
         ensures step { meter.new ≡ counted meter.old 1 }
     {
-        // for its contract alone
         self.sound_parts();
         meter.step();
         match &self.arena.entry(node).content {
@@ -332,7 +331,7 @@ impl<Z: SizeSet> Plan<Z> {
         ensures parts { (s : Site) → Contains (sites_of self.now.pools self.now.root) s → RuleOfParts self.now.pools self.now.limit s }
         ensures completed { (s : Site) → Contains (sites_of self.now.pools self.now.root) s → NoDeadEnd self.now.pools self.now.limit s }
     {
-        laws_of_plans();
+        laws::plans_are_sound();
         let _ = self.schema.root();
     }
 
@@ -344,7 +343,7 @@ impl<Z: SizeSet> Plan<Z> {
         ensures counts { (s : Site) → Contains (sites_of self.now.pools self.now.root) s → (counts : List ℕ) × AreCounts self.now.pools (filter is_key (slots_of self.now.pools s)) counts }
         ensures free { (P : Pools) (ss : List SiteSlot) (used : List (List Data)) (counts : List ℕ) → All (IsTuple P ss) used → AllPairs (λ t u. t ≢ u) used → AreCounts P ss counts → HasFree P ss used [] ↔ (length used < product counts) }
     {
-        laws_of_plans();
+        laws::plans_are_sound();
         let _ = self.schema.root();
     }
 
@@ -373,8 +372,7 @@ fn entries<Z: SizeSet>(
         return Err(PFault::BadLimit);
     }
     check_paths(alloc, schema, pools)?;
-    // for its contract alone
-    schemas_are_sound();
+    laws::schemas_are_sound();
     let mut arena = Arena {
         values: Values::new(alloc, pools)?,
         limit,

@@ -63,7 +63,6 @@ pub(crate) fn check_form(alloc: Global, document: &Tree) -> Result<(), PFault>
     ensures ok { OnOk result (HasForm (data_of document.now)) }
     ensures err { (limits : PoolLimits) → IfErr result (IsPoolsFault limits (data_of document.now)) }
 {
-    // for its contract alone: a proof learns that it is a tree
     document.reveal_invariant();
     match first_break(alloc, document)? {
         None => Ok(()),

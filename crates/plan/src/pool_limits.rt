@@ -27,9 +27,3 @@ impl PoolLimits {
         paths: 1024,
     };
 }
-
-/// A law, called for its contract alone: the numbers of the limits that have a name.
-pub fn named_pool_limits()
-    ensures standard { PoolLimits.STANDARD ≡ standard }
-    ensures large { PoolLimits.LARGE ≡ large }
-{}

@@ -8,7 +8,7 @@ ghost use Rattle.plan.specs.Internal.PathLists.{IsPathsFault, IsMapListText, Lea
 ghost use Rattle.plan.specs.declared.sort.Sort.TheVariants.{Leaf};
 
 use crate::{PFault, Pools};
-use explain::{paths_have_one_text, resolve};
+use explain::resolve;
 use jtree::{Members, Text};
 use schema::{ListType, Node, Sort};
 use std::alloc::Global;
@@ -52,7 +52,6 @@ pub fn first_bad_path<'a>(schema: &Schema, pools: &'a Pools) -> Option<&'a str>
 fn first_bad_name<'a>(schema: &Schema, lists: &'a Members, to: Destination) -> Option<&'a str>
     ensures { MatchOption result (AreGood (HasName lists.now) (LeadsTo to schema.now)) (λ text. IsFirstBad (HasName lists.now) (LeadsTo to schema.now) text.now) }
 {
-    // for its contract alone: a proof learns that the names are in order, each once
     lists.reveal_invariant();
     for member in &lists.members {
         if !leads_to(schema, member.name.as_str(), to) {
@@ -102,8 +101,7 @@ fn leads_to(schema: &Schema, text: &str, to: Destination) -> bool
 fn is_leaf_path(schema: &Schema, text: &str) -> bool
     ensures { IsTrue result ↔ IsLeafPath schema.now text.now }
 {
-    // for its contract alone
-    paths_have_one_text();
+    explain::laws::paths_have_one_text();
     match resolve(schema, text) {
         Ok(node) => is_leaf(node),
         Err(_) => false,
@@ -120,8 +118,7 @@ fn is_leaf(node: &Node) -> bool
 fn is_declared_path(schema: &Schema, text: &str) -> bool
     ensures { IsTrue result ↔ IsDeclaredPath schema.now text.now }
 {
-    // for its contract alone
-    paths_have_one_text();
+    explain::laws::paths_have_one_text();
     match resolve(schema, text) {
         Ok(_) => true,
         Err(_) => false,
@@ -132,8 +129,7 @@ fn is_declared_path(schema: &Schema, text: &str) -> bool
 pub fn is_fixable_path(schema: &Schema, text: &str) -> bool
     ensures { IsTrue result ↔ IsFixablePath schema.now text.now }
 {
-    // for its contract alone
-    paths_have_one_text();
+    explain::laws::paths_have_one_text();
     match resolve(schema, text) {
         Ok(_) => match text.strip_suffix("/[]") {
             Some(list) => !leads_to_map_list(schema, list),
@@ -147,8 +143,7 @@ pub fn is_fixable_path(schema: &Schema, text: &str) -> bool
 fn leads_to_map_list(schema: &Schema, text: &str) -> bool
     ensures { IsTrue result ↔ IsMapListText schema.now text.now }
 {
-    // for its contract alone
-    paths_have_one_text();
+    explain::laws::paths_have_one_text();
     if text.is_empty() {
         return is_map_list(schema.root());
     }

@@ -100,7 +100,6 @@ fn lists_of<'a>(document: &'a Tree, name: &str) -> &'a [Member]
 {
     match document.get(name) {
         Some(Tree::Object(lists)) => {
-            // for its contract alone
             lists.reveal_invariant();
             lists.members.as_slice()
         }

@@ -11,7 +11,8 @@ ghost use Rattle.jtree.specs.Path.{under2, under3};
 
 use crate::fault::SFault;
 use crate::forms::{Form, check_form};
-use crate::limits::{Limits, limits_by_name};
+use crate::laws;
+use crate::limits::Limits;
 use crate::listing::list_places;
 use crate::raw::RawSchema;
 use crate::reading::copy_tree;
@@ -65,8 +66,7 @@ pub fn read_crd(alloc: Global, document: &Tree, version: &str) -> Result<Crd, SF
     ensures within { IfOk result (λ c. IsWithinLimits standard c.raw) }
     ensures err { IfErr result (IsReadFault standard (data_of document.now) version.now) }
 {
-    // for its contract alone
-    limits_by_name();
+    laws::limits_by_name();
     read_crd_within(alloc, document, version, Limits::STANDARD)
 }
 
@@ -133,7 +133,6 @@ fn check_schema(alloc: Global, schema: &Tree, limits: Limits) -> Result<(), SFau
     ensures within { OnOk result (IsWithinLimits limits (data_of schema.now)) }
     ensures err { IfErr result (IsSchemaFault limits (data_of schema.now)) }
 {
-    // for its contract alone: a proof learns that it is a tree
     schema.reveal_invariant();
     match check_form(alloc, Form::Object, schema) {
         Ok(()) => {}

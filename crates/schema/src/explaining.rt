@@ -56,7 +56,6 @@ fn findings_of(
     ensures { IfOk result (λ found. (raw : Data) → IsSubschema raw subschema.now → AreFindings raw (place_of subschema.now.place.items) rule found.items) }
 {
     let schema = subschema.schema;
-    // for its contract alone: a proof learns that the names are in order, each once
     schema.reveal_invariant();
     let facts = facts_of(subschema);
     let mut findings = Vec::new(alloc);

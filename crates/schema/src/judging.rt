@@ -40,7 +40,6 @@ pub(crate) fn subschemas_of<'a>(
 {
     match raw.tree() {
         Tree::Object(members) => {
-            // for its contract alone: a proof learns that the names are in order, each once
             members.reveal_invariant();
             Ok(list_places(alloc, raw.limits(), members)?)
         }

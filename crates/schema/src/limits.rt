@@ -56,12 +56,6 @@ impl Limits {
     }
 }
 
-/// A law, and nothing that runs: which limits the two constants are.
-pub fn limits_by_name()
-    ensures standard { Limits.STANDARD ≡ standard }
-    ensures large { Limits.LARGE ≡ large }
-{}
-
 /// What of a schema is limited.
 #[derive(Clone, Copy, Debug, PartialEq, Eq, Drop)]
 pub enum Limited {

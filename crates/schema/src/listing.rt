@@ -344,7 +344,6 @@ pub(crate) fn list_places<'a>(
     ensures within { OnOk result (IsWithinLimits limits (object schema.now)) }
     ensures err { IfErr result (IsLimitFaultOf limits (object schema.now)) }
 {
-    // for its contract alone: a proof learns that the names are in order, each once, here and below
     schema.reveal_invariant();
     let mut subschemas = Vec::new(alloc);
     list_schema(

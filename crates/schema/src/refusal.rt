@@ -124,7 +124,6 @@ fn schema_refusal<'a>(
     ensures refused { IfOk result (λ o. IfSome o (λ r. IsSchemaFault limits (data_of schema.now) (fault_of r))) }
     ensures read { IfOk result (λ o. o ≡ None → HasForms (data_of schema.now) × IsWithinLimits limits (data_of schema.now)) }
 {
-    // for its contract alone: a proof learns that it is a tree
     schema.reveal_invariant();
     match check_form(alloc, Form::Object, schema) {
         Ok(()) => {}

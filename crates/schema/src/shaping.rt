@@ -52,7 +52,6 @@ fn read_root(alloc: Global, raw: &RawSchema) -> Result<Node, AllocError>
     ensures { IfOk result (λ n. IsRootOf (node_of n) raw.now) }
 {
     let schema = raw.tree();
-    // for its contract alone: a proof learns that it is a tree
     schema.reveal_invariant();
     Ok(read_node(alloc, schema, true)?)
 }
@@ -171,7 +170,6 @@ fn read_below(alloc: Global, schema: &Tree) -> Result<Below, AllocError>
     ensures { IfOk result (λ b. IsNodeOf false b (data_of schema.now)) }
 {
     let node = read_node(alloc, schema, false)?;
-    // for its contract alone: a proof learns that it is a node of a schema
     node.reveal_invariant();
     Ok(Below {
         node: Box::new(alloc, node)?,
@@ -189,7 +187,6 @@ fn read_fields(
     requires { HaveNodes root properties.now }
     ensures { IfOk result (λ fs. AreFieldsOf fs (texts_under (data_of schema.now) (codes "required")) (declared_of root properties.now)) }
 {
-    // for its contract alone: a proof learns that the names are in order, each once
     properties.reveal_invariant();
     let mut fields = Vec::new(alloc);
     for property in &properties.members {

@@ -7,7 +7,7 @@ ghost use Rattle.stored.specs.Schemas.Accepted.{IsBroken, IsRootOf, IsSchema, Is
 ghost use Rattle.stored.specs.Internal.DefaultList.{defaults_of, AreAdded};
 
 use crate::defaults::find_bad;
-use schema::{Node, RawSchema, Refused, Shape, Violation, nodes_are_unique, shape};
+use schema::{Node, RawSchema, Refused, Shape, Violation, shape};
 use std::alloc::{AllocError, Global};
 use std::marker::Model;
 
@@ -95,9 +95,8 @@ fn judge_defaults(alloc: Global, raw: &RawSchema, shape: Shape) -> Result<Shape,
     ensures accepted { IfOk result (λ s. IsRootOf s raw.now) }
     ensures refused { IfErr result (IsRefusal raw.now) }
 {
-    // for their contracts alone: the keywords have their forms, and the schema has one tree of nodes
     raw.tree();
-    nodes_are_unique();
+    schema::laws::nodes_are_unique();
     let found = match bad_defaults(alloc, shape.root()) {
         Ok(found) => found,
         Err(_) => {

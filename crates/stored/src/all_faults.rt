@@ -47,7 +47,6 @@ fn all_faults(
 ) -> Result<Vec<Fault>, AllocError>
     ensures { IfOk result (λ found. AreReported (FailsWithin strict (node_of node.now) (data_of tree.now)) found.items) }
 {
-    // for their contracts alone: a proof learns that they are a node of a schema and a tree
     node.reveal_invariant();
     tree.reveal_invariant();
     let mut report = Report {

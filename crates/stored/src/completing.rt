@@ -28,15 +28,8 @@ pub fn complete(alloc: Global, node: &Node, tree: &Tree) -> Result<Tree, AllocEr
 {
     let mut pruned = copy_tree(alloc, tree)?;
     prune(node, &mut pruned);
-    // for its contract alone: a proof learns that it is a tree, here and below
     pruned.reveal_invariant();
     let completed = fill(alloc, node, pruned)?;
     completed.reveal_invariant();
     Ok(completed)
 }
-
-/// A law, and nothing that runs: a value becomes at most one tree, by pruning, by defaulting, and by both.
-pub fn becomes_one_tree()
-    ensures becomes { (lead : Leading) (N : NodeData) (v u w : Data) → IsTree u → IsTree w → Becomes lead N v u → Becomes lead N v w → u ≡ w }
-    ensures completed { (N : NodeData) (v u w : Data) → IsTree u → IsTree w → IsCompleted N v u → IsCompleted N v w → u ≡ w }
-{}

@@ -58,7 +58,6 @@ fn fill_items(alloc: Global, node: &Node, items: Items) -> Result<Items, AllocEr
     let mut filled = Vec::with_capacity(alloc, items.items.len())?;
     for item in items.items {
         let tree = fill(alloc, node, item)?;
-        // for its contract alone: a proof learns that it is a tree, here and below
         tree.reveal_invariant();
         filled.push(tree)?;
     }

@@ -108,7 +108,6 @@ fn is_good(alloc: Global, node: &Node, default: &Tree) -> Result<bool, AllocErro
         return Ok(false);
     }
     let value = fill(alloc, node, copy_tree(alloc, default)?)?;
-    // for its contract alone: a proof learns that it is a tree
     value.reveal_invariant();
     Ok(is_faultless(alloc, node, &value)?)
 }

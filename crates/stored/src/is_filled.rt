@@ -13,7 +13,6 @@ use schema::{Field, Fields, Node, Sort};
 pub(crate) fn is_filled(node: &Node, tree: &Tree) -> bool
     ensures { Decides result (IsFilled (node_of node.now) (data_of tree.now) (data_of tree.now)) }
 {
-    // for their contracts alone: a proof learns that they are a node of a schema and a tree
     node.reveal_invariant();
     tree.reveal_invariant();
     is_tree_filled(node, tree)

@@ -14,7 +14,6 @@ use schema::{Fields, Node, Sort};
 pub(crate) fn is_pruned(node: &Node, tree: &Tree) -> bool
     ensures { Decides result (IsPruned (node_of node.now) (data_of tree.now) (data_of tree.now)) }
 {
-    // for its contract alone: a proof learns that it is a tree
     tree.reveal_invariant();
     is_tree_pruned(tree, node)
 }

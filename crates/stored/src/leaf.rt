@@ -54,7 +54,6 @@ pub(crate) fn text_element(alloc: Global, prefix: &str, rest: &str) -> Result<Te
 fn members_among(alloc: Global, names: &[Text], members: &Members) -> Result<Members, AllocError>
     ensures { IfOk result (λ m. m ≡ members_among names.now members.now) }
 {
-    // for its contract alone: a proof learns that the names are in order, each once
     members.reveal_invariant();
     let mut copies = Vec::new(alloc);
     for member in &members.members {

@@ -4,8 +4,6 @@
 mod accepting;
 mod all_faults;
 mod ascending;
-mod by_parts;
-mod by_pruning;
 mod completing;
 mod defaulting;
 mod defaults;
@@ -14,6 +12,7 @@ mod fault;
 mod fields;
 mod is_filled;
 mod is_pruned;
+pub mod laws;
 mod leaf;
 mod listing;
 mod pruning;
@@ -24,9 +23,7 @@ mod validity;
 
 pub use accepting::{Schema, accept, violations};
 pub use all_faults::{faults, strict_faults};
-pub use by_parts::stored_by_parts;
-pub use by_pruning::strictly_valid_is_pruned;
-pub use completing::{becomes_one_tree, complete};
+pub use completing::complete;
 pub use explaining::explained;
 pub use fault::{Fault, LFault};
 pub use leaf::Leaf;

@@ -18,8 +18,8 @@ use crate::fault::LFault;
 use crate::fields::field_named;
 use crate::leaf::{Leaf, copy_texts, item_element, text_element};
 use crate::storing::check_stored;
-use jtree::{Items, Member, Members, Text, Tree, texts_are_unique};
-use schema::{Fields, ListNode, ListType, MapNode, MapType, Node, Sort, items_are_distinct};
+use jtree::{Items, Member, Members, Text, Tree};
+use schema::{Fields, ListNode, ListType, MapNode, MapType, Node, Sort};
 use std::alloc::{AllocError, Global};
 
 /// The leaves of a stored object at its node: what an applier owns of it, each as the elements of its path (apiextensions.k8s.io/v1,
@@ -38,10 +38,9 @@ pub fn leaves(alloc: Global, node: &Node, tree: &Tree) -> Result<Vec<Leaf>, LFau
     ensures apart { IfOk result (λ ls. (raw : Data) (root : NodeData) (p : Place) → IsRootOf root raw → node_at root p ≡ Some (node_of node.now) → AreApart (map elements_of ls.items)) }
     ensures covered { OnOk result (IsCovered (node_of node.now) (data_of tree.now)) }
 {
-    // for their contracts alone: it is a tree, and two laws
     tree.reveal_invariant();
-    items_are_distinct();
-    texts_are_unique();
+    schema::laws::items_are_distinct();
+    jtree::laws::texts_are_unique();
     if !check_stored(alloc, node, tree)? {
         return Err(LFault::NotStored);
     }

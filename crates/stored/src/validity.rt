@@ -21,7 +21,6 @@ use schema::{Bounds, Fields, ListNode, ListType, Node, Sort};
 pub fn valid(node: &Node, tree: &Tree) -> bool
     ensures { Decides result (IsValid (node_of node.now) (data_of tree.now)) }
 {
-    // for their contracts alone: a proof learns that they are a node of a schema and a tree
     node.reveal_invariant();
     tree.reveal_invariant();
     is_valid(node, tree)

@@ -14,7 +14,7 @@ use crate::general::{General, text};
 use jtree::Tree;
 use schema::{Node, ScalarKind, Sort};
 use std::alloc::{AllocError, Global};
-use stored::{is_stored, stored_by_parts};
+use stored::is_stored;
 
 /// The most values of a pool that are listed beside others.
 const FEW: usize = 30;
@@ -63,8 +63,7 @@ fn standing_values(alloc: Global, node: &Node, standing: &[&Tree]) -> Result<Vec
 fn takes(node: &Node, value: &Tree) -> bool
     ensures { result ≡ takes_of (node_of node.now) (data_of value.now) }
 {
-    // for its contract alone
-    stored_by_parts();
+    stored::laws::stored_by_parts();
     match (&node.sort, value) {
         (_, Tree::Null) => false,
         (Sort::Scalar(_), _) => is_stored(node, value),

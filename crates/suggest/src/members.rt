@@ -23,7 +23,6 @@ pub(crate) fn with(
 ) -> Result<Members, AllocError>
     ensures { IfOk result (λ ms. ms ≡ with_member name.now (data_of tree) members) }
 {
-    // for its contract alone: a proof learns that this is a tree
     tree.reveal_invariant();
     let member = Member {
         name: Text::from_str(alloc, name)?,
@@ -84,7 +83,6 @@ pub(crate) fn list(alloc: Global, trees: &[Tree]) -> Result<Tree, AllocError>
 {
     let mut items = Vec::with_capacity(alloc, trees.len())?;
     for tree in trees {
-        // for its contract alone: a proof learns that this is a tree
         tree.reveal_invariant();
         items.push(copy_of(alloc, tree)?)?;
     }

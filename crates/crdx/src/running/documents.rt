@@ -17,8 +17,8 @@ use crate::inputs::{InFault, Inputs};
 use crate::running::causes::{Cause, Input};
 use crate::running::explanation::Explanation;
 use jtree::{JFault, Text, Tree};
-use plan::{PoolLimits, Pools, named_pool_limits};
-use schema::{Crd, Limits, limits_by_name, read_crd_within};
+use plan::{PoolLimits, Pools};
+use schema::{Crd, Limits, read_crd_within};
 use std::alloc::Global;
 use stored::{Schema, accept};
 
@@ -79,8 +79,7 @@ pub(crate) fn crd_of<I: Inputs>(
 fn limits_of(arguments: &CommonArguments<'_>) -> Limits
     ensures { result ≡ limits_of arguments.now }
 {
-    // for its contract alone
-    limits_by_name();
+    schema::laws::limits_by_name();
     if arguments.large {
         Limits::LARGE
     } else {
@@ -92,8 +91,7 @@ fn limits_of(arguments: &CommonArguments<'_>) -> Limits
 pub(crate) fn pool_limits_of(arguments: &CommonArguments<'_>) -> PoolLimits
     ensures { result ≡ pool_limits_of arguments.now }
 {
-    // for its contract alone
-    named_pool_limits();
+    plan::laws::named_pool_limits();
     if arguments.large {
         PoolLimits::LARGE
     } else {

@@ -28,9 +28,7 @@ use crate::running::lines::{Lines, all_lines};
 use jtree::Tree;
 use schema::Node;
 use std::alloc::{AllocError, Global};
-use stored::{
-    Fault, Leaf, complete, faults, leaves, prune, strict_faults, strictly_valid_is_pruned,
-};
+use stored::{Fault, Leaf, complete, faults, leaves, prune, strict_faults};
 
 /// What is asked about an object, whose envelope is taken off before it is judged, and put back where it is printed. Inputs are
 /// judged in the order CustomResourceDefinition, its schema, object, and the first refusal ends the run.
@@ -119,8 +117,7 @@ fn validate(alloc: Global, node: &Node, body: &Tree, strict: bool) -> Result<Ans
     ensures answer { IfOk result (λ a. (document : Data) → body_of document ≡ data_of body.now → IsObjectAnswer (node_of node.now) document (Validate strict) a.status (string_bytes a.text)) }
     ensures memory { IfErr result (λ cause. cause ≡ NoMemory) }
 {
-    // for its contract alone
-    strictly_valid_is_pruned();
+    stored::laws::strictly_valid_is_pruned();
     let found = find_faults(alloc, node, body, strict)?;
     if found.as_slice().is_empty() {
         Ok(Answer {
@@ -156,7 +153,6 @@ fn print(alloc: Global, mut body: Tree, envelope: Parts) -> Result<Answer, Cause
     ensures answer { IfOk result (λ a. (a.status ≡ 0) × IsTree (data_of body) × ((whole : Data) × IsJoined (data_of body) envelope whole × (string_bytes a.text ≡ line None whole))) }
     ensures memory { IfErr result (λ cause. cause ≡ NoMemory) }
 {
-    // for its contract alone: a proof learns that it is a tree
     body.reveal_invariant();
     join(&mut body, envelope)?;
     Ok(Answer {

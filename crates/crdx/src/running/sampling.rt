@@ -19,7 +19,6 @@ use crate::running::documents::{Accepted, accepted_schema, after_of, pools_of};
 use crate::running::explanation::Explanation;
 use crate::sink::Sink;
 use crate::walk::{Envelope, WFault, Walked, walk, walk_to_end};
-use enumerate::pages_agree;
 use jtree::{Text, Tree};
 use plan::{Meter, Plan, Pools, SizeSet};
 use std::alloc::{AllocError, Global};
@@ -110,8 +109,7 @@ fn write_samples<Z: SizeSet, W: Sink>(
     ensures cause { IfErr result (IsWalkCause inputs.old.plan (option_map data_of inputs.old.after) (total_of arguments.now) inputs.old.envelope
         (W.taken out.old) (W.taken out.new) (W.failures out.old) (W.failures out.new)) }
 {
-    // for its contract alone
-    pages_agree();
+    enumerate::laws::pages_agree();
     let mut meter = inputs.plan.meter();
     let walked = walk_asked(alloc, arguments, inputs, &mut meter, out)?;
     match out.flush() {

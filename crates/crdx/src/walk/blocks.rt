@@ -17,7 +17,7 @@ ghost use Rattle.crdx.specs.Internal.Block.{Holds, IsFrontOf, IsLineOf, TakesLin
 
 use crate::walk::line::{Envelope, append_line};
 use enumerate::{Change, Replaced, Taker};
-use jtree::{Tree, last_node_is_replaced, parts_have_their_text};
+use jtree::Tree;
 use std::alloc::{AllocError, Global};
 use std::mem;
 
@@ -116,9 +116,8 @@ impl<'a> Block<'a> {
         ensures line { IfOk result (λ done. done ≡ true → IsLineOf None (data_of sample.now) self.new.line.items self.new.front) }
         ensures known { self.new.known ≡ self.old.known }
     {
-        // for their contracts alone, as with the laws in the functions below
-        parts_have_their_text();
-        last_node_is_replaced();
+        jtree::laws::parts_have_their_text();
+        jtree::laws::last_node_is_replaced();
         self.front = deep_front(self.front, change.depth);
         let after = change.depth.saturating_add(1);
         if change
@@ -142,7 +141,7 @@ impl<'a> Block<'a> {
         ensures line { IfOk result (λ done. done ≡ true → IsLineOf None (data_of sample.now) self.new.line.items self.new.front) }
         ensures known { self.new.known ≡ self.old.known }
     {
-        parts_have_their_text();
+        jtree::laws::parts_have_their_text();
         let Some(front) = deep_front(self.front, depth) else {
             return Ok(false);
         };
@@ -163,7 +162,7 @@ impl<'a> Block<'a> {
         ensures line { OnOk result (IsLineOf None (data_of sample.now) self.new.line.items self.new.front) }
         ensures known { self.new.known ≡ self.old.known }
     {
-        parts_have_their_text();
+        jtree::laws::parts_have_their_text();
         let mut line = mem::replace(&mut self.line, Vec::new(self.alloc));
         line.truncate(front.bytes);
         let mut line = sample.append_part(front.depth, line)?;
@@ -202,7 +201,7 @@ impl<'a> Block<'a> {
         ensures front { OnOk result (IsFrontOf (data_of sample.now) self.new.front) }
         ensures known { self.new.known ≡ self.old.known }
     {
-        parts_have_their_text();
+        jtree::laws::parts_have_their_text();
         let mut room = mem::replace(&mut self.scratch, Vec::new(self.alloc));
         room.clear();
         let part = sample.append_part(depth, room)?;

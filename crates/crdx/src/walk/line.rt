@@ -42,7 +42,6 @@ pub(crate) fn with_envelope(
 ) -> Result<Tree, AllocError>
     ensures { IfOk result (λ t. data_of t ≡ in_envelope envelope.now (data_of tree.now)) }
 {
-    // for its contract alone: a proof learns that it is a tree
     tree.reveal_invariant();
     let mut whole = match tree.copy(alloc) {
         Ok(whole) => whole,

@@ -17,7 +17,7 @@ use crate::sink::{Sink, put_all};
 use crate::walk::blocks::{Block, whole_lines};
 use crate::walk::fault::WFault;
 use crate::walk::line::Envelope;
-use enumerate::{EFault, Live, pages_agree};
+use enumerate::{EFault, Live};
 use jtree::Tree;
 use plan::{Meter, Plan, SizeSet};
 use std::alloc::Global;
@@ -147,8 +147,7 @@ fn walk_within<Z: SizeSet, W: Sink>(
     ensures steps { IfOk result (λ walked. (width : ℕ) → IsWidth plan.now.pools plan.now.root width
         → meter.new ≤ meter.old + (walked.lines + 1) * delay plan.now.limit width) }
 {
-    // for its contract alone
-    pages_agree();
+    enumerate::laws::pages_agree();
     let live = match Live::past(alloc, plan, after, meter) {
         Ok(live) => live,
         Err(EFault::NotASample) => return Err(WFault::NotASample),

@@ -7,7 +7,7 @@ use crate::support::fakes::FailingSink;
 use crate::support::harness::{holds, is_number, is_said, is_same, is_text, is_value, made};
 use crate::support::pages::{lines_of, place_of, walked};
 use crdx::walk::{WFault, Walked};
-use enumerate::{EFault, Live, page, pages_agree};
+use enumerate::{EFault, Live, page};
 use jtree::Tree;
 use plan::{Meter, Plan};
 use std::alloc::Global;
@@ -123,7 +123,7 @@ fn try_page(
 
 #[test]
 fn pages(rt: HostRuntime) -> Result<(), Fail> {
-    pages_agree();
+    enumerate::laws::pages_agree();
     for row in &PAGES {
         try_page(&rt, rt.alloc(), row)?;
     }

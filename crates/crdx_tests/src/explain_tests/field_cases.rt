@@ -2,7 +2,7 @@
 use crate::support::documents::MAP_LIST;
 use crate::support::harness::{holds, is_number, is_said, schema_of};
 use crate::support::nodes::{node_text, push_flag, push_keyword};
-use explain::{Field, Listing, XFault, paths_have_one_text, resolve};
+use explain::{Field, Listing, XFault, resolve};
 use schema::{ListType, MapType};
 use std::alloc::Global;
 use std::process::Abort;
@@ -75,7 +75,7 @@ fn are_said(
 
 #[test]
 fn fields_and_nodes_of_paths(rt: HostRuntime) -> Result<(), Fail> {
-    paths_have_one_text();
+    explain::laws::paths_have_one_text();
     let schema = schema_of(rt.alloc(), MAP_LIST)?;
     let listing = Listing::new(rt.alloc(), &schema)?;
     let fields = listing.fields();

@@ -2,7 +2,7 @@
 use crate::support::fakes::FailingSource;
 use crate::support::harness::is_said;
 use crate::support::texts::padded;
-use jtree::lines::{LineFeed, LineSource, lines_are_unique};
+use jtree::lines::{LineFeed, LineSource};
 use jtree::{JFault, MOST_BYTES, Tree};
 use std::alloc::Global;
 use std::test::Fail;
@@ -54,7 +54,7 @@ fn said_of(alloc: Global, source: FailingSource<'_>) -> Result<String, Fail> {
 /// The lines are the same in pieces of any length.
 #[test]
 fn lines(rt: HostRuntime) -> Result<(), Fail> {
-    lines_are_unique();
+    jtree::laws::lines_are_unique();
     for (name, bytes, wanted) in &LINES {
         for step in [1, 2, 3, usize::MAX] {
             let source = FailingSource::new(bytes.as_bytes(), step, usize::MAX);

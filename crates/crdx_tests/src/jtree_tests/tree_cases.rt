@@ -1,10 +1,7 @@
 //! Trees: reading and writing, their order, pointers and the value under a name.
 use crate::support::harness::{holds, is_number, is_said, is_text, is_tree};
 use crate::support::texts::nested;
-use jtree::{
-    Text, Tree, last_node_is_replaced, order_in_words, order_is_total, push_index, push_name,
-    texts_are_unique,
-};
+use jtree::{Text, Tree, push_index, push_name};
 use serde_json::Value;
 use std::alloc::Global;
 use std::process::Abort;
@@ -301,10 +298,10 @@ fn is_before(rt: &impl Abort, alloc: Global, row: &str, later: &str) -> Result<(
 
 #[test]
 fn order(rt: HostRuntime) -> Result<(), Fail> {
-    order_is_total();
-    order_in_words();
-    texts_are_unique();
-    last_node_is_replaced();
+    jtree::laws::order_is_total();
+    jtree::laws::order_in_words();
+    jtree::laws::texts_are_unique();
+    jtree::laws::last_node_is_replaced();
     for (earlier, later) in &ORDERED {
         is_before(&rt, rt.alloc(), earlier, later)?;
     }

@@ -9,11 +9,9 @@ use crate::support::documents::{
 use crate::support::harness::{holds, is_number, is_said, is_value, made, pools_of, schema_of};
 use crate::support::plans::{are_sizes, item_of, more_of, place_of, rest_of, slot_of};
 use plan::{Distinct, Meter, PFault, Plan, PlanNode, Sort};
-use schema::{items_are_distinct, junctors_name_fields};
 use std::alloc::{AllocError, Global};
 use std::process::Abort;
 use std::test::Fail;
-use stored::stored_by_parts;
 
 const THREE_KEYS: &str =
     r#"{"type":"object","properties":{"m":{"type":"array","x-kubernetes-list-type":"map","x-kubernetes-list-map-keys":["d","a","c"],"items":{"type":"object","properties":{"a":{"type":"integer"},"b":{"type":"string"},"c":{"type":"boolean"},"d":{"type":"string"}},"required":["a","c","d"]}}}}"#;
@@ -677,9 +675,9 @@ fn limits(rt: HostRuntime) -> Result<(), Fail> {
 /// The laws that nothing runs for end, and leave the plan as it is.
 #[test]
 fn laws(rt: HostRuntime) -> Result<(), Fail> {
-    items_are_distinct();
-    junctors_name_fields();
-    stored_by_parts();
+    schema::laws::items_are_distinct();
+    schema::laws::junctors_name_fields();
+    stored::laws::stored_by_parts();
     let plan = plan_of(&rt, rt.alloc(), (MAP_LIST, TWO_TEXTS, 8), "a map list")?;
     plan.no_dead_end();
     plan.sound_parts();

@@ -1,7 +1,7 @@
 //! The node of a schema, or why it has none.
 use crate::support::harness::{crd_of, is_said, object_with_field};
 use crate::support::nodes::{first_field, node_text};
-use schema::{Shape, nodes_are_unique, shape};
+use schema::{Shape, shape};
 use std::alloc::Global;
 use std::process::Abort;
 use std::test::Fail;
@@ -144,7 +144,7 @@ fn try_root(rt: &impl Abort, alloc: Global, row: &(&str, &str, &str)) -> Result<
 
 #[test]
 fn nodes(rt: HostRuntime) -> Result<(), Fail> {
-    nodes_are_unique();
+    schema::laws::nodes_are_unique();
     for row in &NODES {
         try_field(&rt, rt.alloc(), row)?;
     }

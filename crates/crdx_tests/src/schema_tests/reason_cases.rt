@@ -1,6 +1,6 @@
 //! Why rules with several conditions are broken: each reason, by the keyword that it is about.
 use crate::support::harness::{crd_of, is_said};
-use schema::{Explained, broken_for_a_reason};
+use schema::Explained;
 use std::alloc::{AllocError, Global};
 use std::test::Fail;
 
@@ -328,7 +328,7 @@ fn said_with_defaults(alloc: Global, schema: &str) -> Result<String, Fail> {
 
 #[test]
 fn reasons(rt: HostRuntime) -> Result<(), Fail> {
-    broken_for_a_reason();
+    schema::laws::broken_for_a_reason();
     for (name, schema, wanted) in &REASONS {
         is_said(&rt, said(rt.alloc(), schema), wanted, "the reasons", name)?;
     }

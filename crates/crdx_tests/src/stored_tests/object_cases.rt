@@ -6,10 +6,7 @@ use schema::{Node, RawSchema, Refused, Violation};
 use std::alloc::{AllocError, Global};
 use std::process::Abort;
 use std::test::Fail;
-use stored::{
-    Fault, accept, becomes_one_tree, complete, faults, is_stored, prune, strict_faults,
-    strictly_valid_is_pruned, valid, violations,
-};
+use stored::{Fault, accept, complete, faults, is_stored, prune, strict_faults, valid, violations};
 
 // A name, the schema of a field `x`, and values of the field: those that are valid there, and those that are not.
 static VALUES: [(&str, &str, &str, &str); 17] = [
@@ -329,7 +326,7 @@ fn try_lists(
 
 #[test]
 fn values(rt: HostRuntime) -> Result<(), Fail> {
-    becomes_one_tree();
+    stored::laws::becomes_one_tree();
     for row in &VALUES {
         try_values(&rt, rt.alloc(), row, false)?;
     }
@@ -473,7 +470,7 @@ fn strictly_faulty(alloc: Global, row: &(&str, &str, &str, &str)) -> Result<Stri
 
 #[test]
 fn strict(rt: HostRuntime) -> Result<(), Fail> {
-    strictly_valid_is_pruned();
+    stored::laws::strictly_valid_is_pruned();
     for row in &STRICT {
         let found = strictly_faulty(rt.alloc(), row);
         is_said(&rt, found, row.3, "the strict faults", row.0)?;

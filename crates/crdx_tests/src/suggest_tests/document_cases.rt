@@ -5,10 +5,7 @@ use plan::{Plan, PoolLimits, Pools};
 use std::alloc::{AllocError, Global};
 use std::process::Abort;
 use std::test::Fail;
-use suggest::{
-    SuggestFault, Wanted, samples_are_the_object_outside, suggested_pools,
-    suggested_values_reach_scalars, the_object_is_a_sample,
-};
+use suggest::{SuggestFault, Wanted, suggested_pools};
 
 // A name, the schema of a field, and the document that is suggested.
 static DOCUMENTS: [(&str, &str, &str); 19] = [
@@ -592,9 +589,9 @@ fn many_siblings(rt: HostRuntime) -> Result<(), Fail> {
 
 #[test]
 fn pools_and_a_plan(rt: HostRuntime) -> Result<(), Fail> {
-    suggested_values_reach_scalars();
-    samples_are_the_object_outside();
-    the_object_is_a_sample();
+    suggest::laws::suggested_values_reach_scalars();
+    suggest::laws::samples_are_the_object_outside();
+    suggest::laws::the_object_is_a_sample();
     let schema = object_with_field(rt.alloc(), r#"{"type":"integer","minimum":2}"#)?;
     let limits = PoolLimits::STANDARD;
     let document = suggested(rt.alloc(), &schema, r#"[{"x":2}]"#, ("/x", ""), limits)??;

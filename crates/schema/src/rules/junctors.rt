@@ -146,7 +146,6 @@ pub(crate) fn has_too_many_names(place: &[Step<'_>], schema: &Members) -> bool
 fn names_too_many(schema: &Members) -> bool
     ensures { IsTrue result ↔ NamesTooMany (object schema.now) }
 {
-    // for its contract alone: a proof learns that the names are in order, each once
     schema.reveal_invariant();
     has_fifth_name(schema)
 }

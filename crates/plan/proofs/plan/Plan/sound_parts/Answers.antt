@@ -4,7 +4,7 @@ use Rattle.plan.proofs.plan.Plan.sound_parts.Goals as goal
 
 pub returns : goal.returns
 returns g c =
-    let rules = plan_parts c.laws_of_plans.ensures.stored c.laws_of_plans.ensures.parts c.laws_of_plans.ensures.schemas c.self.inside.schema c.self.inside.pools c.self.inside.arena.limit c.args.self.now c.root.ensures.schema c.self.view_is in
+    let rules = plan_parts c.plans_are_sound.ensures.stored c.plans_are_sound.ensures.parts c.plans_are_sound.ensures.schemas c.self.inside.schema c.self.inside.pools c.self.inside.arena.limit c.args.self.now c.root.ensures.schema c.self.view_is in
     let counts =
     plan_counts g.Z.SizeSet.holds g.Z.SizeSet.BITS c.self.inside.schema c.self.inside.pools c.self.inside.arena.limit c.self.inside.arena.values c.self.inside.arena.entries.items c.self.inside.root c.args.self.now c.self.invariant c.self.view_is (λ s i. (rules s i).0)
     in

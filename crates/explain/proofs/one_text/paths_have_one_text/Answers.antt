@@ -1,5 +1,0 @@
-use Rattle.explain.proofs.LetterLemmas.{one_path}
-use Rattle.explain.proofs.one_text.paths_have_one_text.Goals as goal
-
-pub returns : goal.returns
-returns c = one_path

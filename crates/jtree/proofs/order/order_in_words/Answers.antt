@@ -1,5 +1,0 @@
-use Rattle.jtree.proofs.OrderWords.{less_is_before}
-use Rattle.jtree.proofs.order.order_in_words.Goals as goal
-
-pub returns : goal.returns
-returns c = record { in_words = less_is_before }

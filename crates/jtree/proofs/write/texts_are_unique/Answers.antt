@@ -1,5 +1,0 @@
-use Rattle.jtree.proofs.ReadBack.{same_text}
-use Rattle.jtree.proofs.write.texts_are_unique.Goals as goal
-
-pub returns : goal.returns
-returns c = λ u v tu tv same. same_text u v tu tv same

@@ -1,5 +1,0 @@
-use Rattle.schema.proofs.OneNode.{one_node}
-use Rattle.schema.proofs.by_place.nodes_are_unique.Goals as goal
-
-pub returns : goal.returns
-returns c = one_node

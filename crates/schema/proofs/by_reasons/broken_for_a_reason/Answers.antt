@@ -1,5 +1,0 @@
-use Rattle.schema.proofs.ReasonLaw.{exactly}
-use Rattle.schema.proofs.by_reasons.broken_for_a_reason.Goals as goal
-
-pub returns : goal.returns
-returns c = exactly

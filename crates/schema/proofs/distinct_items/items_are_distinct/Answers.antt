@@ -1,5 +1,0 @@
-use Rattle.schema.proofs.ItemLemmas.{sound_items_at}
-use Rattle.schema.proofs.distinct_items.items_are_distinct.Goals as goal
-
-pub returns : goal.returns
-returns c = sound_items_at

@@ -1,5 +1,0 @@
-use Rattle.schema.proofs.JunctorLemmas.{sound_junctors_at}
-use Rattle.schema.proofs.junctor_fields.junctors_name_fields.Goals as goal
-
-pub returns : goal.returns
-returns c = sound_junctors_at

@@ -1,0 +1,5 @@
+use Rattle.schema.proofs.OneNode.{one_node}
+use Rattle.schema.proofs.laws.nodes_are_unique.Goals as goal
+
+pub returns : goal.returns
+returns c = one_node

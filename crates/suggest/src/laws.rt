@@ -1,0 +1,37 @@
+//! Laws: calls that run nothing, for what their contracts say.
+ghost use Rattle.std.specs.Prelude.{◌≡◌, Some};
+ghost use Rattle.jtree.specs.Data.{Data, IsTree};
+ghost use Rattle.schema.specs.Nodes.Node.{Node, IsNode};
+ghost use Rattle.schema.specs.Nodes.ByPlace.{node_at};
+ghost use Rattle.stored.specs.Objects.Becomes.{IsStored};
+ghost use Rattle.explain.specs.Paths.FieldPath.{FieldPath, place_of};
+ghost use Rattle.suggest.specs.Suggested.Reached.{IsBounded, IsWithinReach, HasCandidateLike};
+ghost use Rattle.suggest.specs.Suggested.Around.{SamplesAreTheObjectOutside, TheObjectIsASample};
+
+/// Where a scalar without `enum` and junctors accepts some truth value, some integer, or some text of at most 64 characters, a
+/// value of that kind is a candidate for its node over the suggested pools. For integers and texts this holds where the suggested
+/// document was not cut after 64 of them.
+pub fn suggested_values_reach_scalars()
+    ensures { (raw : Data) (root : Node) (p : FieldPath) (N : Node) (v : Data) → IsNode root → node_at root (place_of p) ≡ Some N → IsBounded N → IsTree v → IsStored N v → IsWithinReach root v → HasCandidateLike raw root p N v }
+{
+    stored::laws::stored_by_parts();
+    explain::laws::paths_have_one_text();
+}
+
+/// Outside of the varied paths each sample over the pools around an object is as the object. Where the object has a value there the
+/// sample has the same value, and where it has none the sample has none.
+pub fn samples_are_the_object_outside()
+    ensures { SamplesAreTheObjectOutside }
+{
+    stored::laws::stored_by_parts();
+    explain::laws::paths_have_one_text();
+}
+
+/// An object that is stored and within the limit is itself a sample over the pools around it, where these cut nothing and where, on
+/// the way to varied paths, at these and below, objects have members of declared names alone.
+pub fn the_object_is_a_sample()
+    ensures { TheObjectIsASample }
+{
+    stored::laws::stored_by_parts();
+    explain::laws::paths_have_one_text();
+}
