@@ -1,3 +1,4 @@
+//! Tests of `enumerate`.
 mod lending_cases;
 mod page_cases;
 mod reference_cases;

@@ -1,1 +1,2 @@
+//! Tests of `explain`.
 mod field_cases;

@@ -1,3 +1,4 @@
+//! Tests of `jtree`.
 mod line_cases;
 mod refusal_cases;
 mod source_cases;

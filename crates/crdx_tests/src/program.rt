@@ -1,3 +1,4 @@
+//! Tests of whole runs.
 mod all_cases;
 mod argument_cases;
 mod bad_path_cases;

@@ -1,3 +1,4 @@
+//! Tests of `schema`.
 mod limit_cases;
 mod marker_cases;
 mod node_cases;

@@ -1,2 +1,3 @@
+//! Tests of `stored`.
 mod default_cases;
 mod object_cases;

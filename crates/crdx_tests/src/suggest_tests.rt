@@ -1,1 +1,2 @@
+//! Tests of `suggest`.
 mod document_cases;

@@ -1,3 +1,4 @@
+//! What the tests share.
 pub mod comparison;
 pub mod documents;
 pub mod fakes;

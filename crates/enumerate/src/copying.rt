@@ -1,3 +1,4 @@
+//! Copies of trees.
 ghost use Rattle.std.specs.Prelude.{◌≡◌, IfOk};
 ghost use Rattle.jtree.specs.View.{data_of};
 

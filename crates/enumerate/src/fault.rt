@@ -1,3 +1,4 @@
+//! Why there is no page, no enumeration or no next sample.
 ghost use Rattle.std.specs.Prelude.{◌≡◌};
 ghost use Rattle.enumerate.specs.declared.fault.EFault.TheVariants.{NoMemory};
 

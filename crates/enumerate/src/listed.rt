@@ -1,3 +1,4 @@
+//! A page of samples. It has a module of its own, since the function that makes one has the same name in small letters.
 use jtree::Tree;
 
 /// The first samples of a plan past a place.

@@ -26,8 +26,7 @@ impl<'p, Z: SizeSet> Walk<'p, Z> {
     {
         jtree::laws::last_node_is_replaced();
         let root = self.plan.root();
-        // a limit has 32 bits, so no sample has more nodes than can be counted
-        let _ = self.plan.limit();
+        self.reveal_limit();
         match self.plan.sizes(root).next(from) {
             Some(size) => Ok(Some(self.first_part(root, size, scratch)?)),
             None => Ok(None),

@@ -84,6 +84,13 @@ pub(crate) enum NextParts {
 }
 
 impl<'p, Z: SizeSet> Walk<'p, Z> {
+    /// Does nothing: a proof calls it to learn that a limit has 32 bits, so that the nodes of a sample can be counted.
+    pub(crate) fn reveal_limit(&self)
+        ensures { self.now.plan.now.limit < 4294967296 }
+    {
+        let _ = self.plan.limit();
+    }
+
     /// Does nothing: a proof calls it to learn the laws of a node's parts.
     pub(crate) fn laws_of(&self, node: PlanNode)
         requires node { IsNodeOf self.now.plan.now node }
@@ -97,7 +104,7 @@ impl<'p, Z: SizeSet> Walk<'p, Z> {
         let _ = node;
         self.plan.no_dead_end();
         self.plan.sound_parts();
-        self.plan.limit();
+        self.reveal_limit();
     }
 
     /// The first part of the given size, which some part of the node has.

@@ -1,3 +1,4 @@
+//! Why a path leads to no field.
 use thiserror::Error;
 
 /// Why a path leads to no field. Each is displayed as its code.

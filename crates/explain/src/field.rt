@@ -1,3 +1,4 @@
+//! What a schema says of a field.
 use jtree::{Items, Text, Tree};
 use schema::{ListType, MapType};
 

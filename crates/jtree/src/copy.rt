@@ -1,3 +1,4 @@
+//! Copies of texts and trees.
 ghost use Rattle.std.specs.Prelude.{◌≡◌, IfOk, IfErr, OnOk, OnErr};
 ghost use Rattle.jtree.specs.View.{data_of};
 ghost use Rattle.jtree.specs.declared.fault.JFault.TheVariants.{NoMemory};

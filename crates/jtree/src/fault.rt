@@ -1,3 +1,4 @@
+//! Why a tree was not read, copied or written.
 ghost use Rattle.std.specs.Prelude.{◌≡◌};
 ghost use Rattle.jtree.specs.declared.fault.JFault.TheVariants.{NoMemory, ReadFailed};
 

@@ -1,4 +1,4 @@
-// The first number of a JSON value that is not an integer of 64 bits: where it is, and how it is written.
+//! The first number of a JSON value that is not an integer of 64 bits: where it is, and how it is written.
 ghost use Rattle.std.specs.Prelude.{◌≡◌, ◌++◌, ℕ, List, true, Some, IfOk, OnOk, MatchOption, is_some, option_map, string_bytes};
 ghost use Rattle.serde_json.specs.Data.{Data as JsonData, Num, number, array, object};
 ghost use Rattle.serde_json.specs.Read.{of_json, number_of};

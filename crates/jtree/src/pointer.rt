@@ -1,4 +1,4 @@
-// The tokens of a pointer (RFC 6901), appended one after the other.
+//! The tokens of a pointer (RFC 6901), appended one after the other.
 ghost use Rattle.std.specs.Prelude.{◌≡◌, ◌++◌, OnOk, OnErr, IfOk, IfErr, flat_map, string_bytes};
 ghost use Rattle.std.specs.Char.{encode_utf8};
 ghost use Rattle.jtree.specs.Pointer.{escaped, name_token, index_token};

@@ -1,4 +1,4 @@
-// From bytes to a tree: `serde_json` reads the value, and the tree is made of it.
+//! From bytes to a tree: `serde_json` reads the value, and the tree is made of it.
 ghost use Rattle.std.specs.Prelude.{◌≡◌, ◌≢◌, ◌<◌, ◌⊎◌, ◌↔◌, length, Some, None, Err, IfOk, IfErr, IfSome, OnOk, IsErrOf};
 ghost use Rattle.std.specs.Io.KnownBytes.{IsAtEnd};
 ghost use Rattle.serde_json.specs.View.{view, items_view, members_view};

@@ -1,4 +1,4 @@
-// Why bytes are no document, in more words than a fault has.
+//! Why bytes are no document, in more words than a fault has.
 ghost use Rattle.std.specs.Prelude.{◌≡◌, ◌≤◌, length, IfOk, MatchOption};
 ghost use Rattle.serde_json.specs.View.{view};
 ghost use Rattle.jtree.specs.Data.{Data};

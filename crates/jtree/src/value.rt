@@ -1,3 +1,4 @@
+//! Trees: JSON values whose numbers are integers.
 use std::marker::Model;
 
 /// A JSON value whose numbers are integers.

@@ -1,4 +1,4 @@
-// From a tree to its text: the tokens of the tree go to the writer of `json`, without a value of `serde_json` in between.
+//! From a tree to its text: the tokens of the tree go to the writer of `json`, without a value of `serde_json` in between.
 ghost use Rattle.std.specs.Prelude.{◌≡◌, ◌++◌, OnOk, IfOk, IfErr, IsUtf8, string_bytes};
 ghost use Rattle.json.specs.Tree.{json_tokens, items_tokens, members_tokens};
 ghost use Rattle.serde_json.specs.Written.{outline, items_outline, members_outline};

@@ -1,3 +1,4 @@
+//! Why a pools document, a node limit or a path of the pools is refused.
 ghost use Rattle.std.specs.Prelude.{◌≡◌};
 ghost use Rattle.plan.specs.declared.fault.PFault.TheVariants.{NoMemory};
 

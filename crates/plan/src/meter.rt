@@ -1,3 +1,4 @@
+//! A counter of steps.
 use std::marker::Model;
 
 /// Counts steps: calls of a plan for a slot, an item or a candidate, whatever is answered. The count saturates at 2^64 - 1.

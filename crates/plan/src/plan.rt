@@ -1,3 +1,4 @@
+//! Plans: the nodes of a schema over pools and within a node limit.
 ghost use Rattle.std.specs.Prelude.{◌≡◌, ◌≤◌, ◌<◌, ℕ, IfOk, IfErr, OnOk};
 ghost use Rattle.plan.specs.Pools.PlanFault.{HasGoodPaths, IsPlanFault};
 ghost use Rattle.plan.specs.Internal.Plan.{IsPlan};

@@ -1,4 +1,4 @@
-// The form of a pools document, tested member by member in the order of their names.
+//! The form of a pools document, tested member by member in the order of their names.
 ghost use Rattle.std.specs.Prelude.{◌≡◌, ◌∷◌, [], OnOk, IfOk, IfErr, option_map, string_bytes};
 ghost use Rattle.jtree.specs.Path.{name as name_step, index as index_step};
 ghost use Rattle.jtree.specs.Pointer.{pointer as pointer_of};

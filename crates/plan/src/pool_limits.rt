@@ -1,3 +1,4 @@
+//! How large pools may be.
 ghost use Rattle.std.specs.Prelude.{◌≡◌};
 ghost use Rattle.plan.specs.Pools.Pools.{standard, large};
 

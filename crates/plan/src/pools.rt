@@ -1,3 +1,4 @@
+//! The values that samples may have.
 use crate::fault::PFault;
 use crate::pool_form::check_form;
 use crate::pool_limits::PoolLimits;

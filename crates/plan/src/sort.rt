@@ -1,3 +1,5 @@
+//! The sorts of node of a plan, and which items may not be in one list.
+
 /// The sorts of node of a plan.
 #[derive(Clone, Copy, Debug, PartialEq, Eq, Drop)]
 pub enum Sort {

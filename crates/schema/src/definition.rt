@@ -1,4 +1,4 @@
-// Reads a CustomResourceDefinition (apiextensions.k8s.io/v1).
+//! Reads a CustomResourceDefinition (apiextensions.k8s.io/v1).
 ghost use Rattle.std.specs.Prelude.{◌≡◌, ◌≢◌, ◌↔◌, ℕ, List, [], None, Some, option_map, codes, OnOk, IfOk, IfErr, IfSome, IsTrue};
 ghost use Rattle.jtree.specs.Data.{Data, Items as ItemsData, text as text_of};
 ghost use Rattle.jtree.specs.View.{data_of};

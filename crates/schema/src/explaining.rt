@@ -1,4 +1,4 @@
-// All breaks of the rules, each with its reasons.
+//! All breaks of the rules, each with its reasons.
 ghost use Rattle.std.specs.Prelude.{◌≡◌, OnOk, IfOk, IfErr};
 ghost use Rattle.jtree.specs.Data.{Data};
 ghost use Rattle.schema.specs.Internal.PlaceView.{place_of};

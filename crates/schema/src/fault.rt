@@ -1,3 +1,4 @@
+//! Why no schema is read of a document.
 ghost use Rattle.std.specs.Prelude.{◌≡◌};
 ghost use Rattle.schema.specs.declared.fault.SFault.TheVariants.{NoMemory};
 

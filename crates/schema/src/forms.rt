@@ -1,4 +1,4 @@
-// The form of each keyword's value, and the first value in path order that has not its form.
+//! The form of each keyword's value, and the first value in path order that has not its form.
 ghost use Rattle.std.specs.Prelude.{◌≡◌, ◌++◌, ℕ, Option, None, OnOk, IfOk, IfErr, string_bytes};
 ghost use Rattle.jtree.specs.Path.{Path, name as name_step, index as index_step};
 ghost use Rattle.jtree.specs.Pointer.{name_token, index_token};

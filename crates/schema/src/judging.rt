@@ -1,4 +1,4 @@
-// All breaks of the rules at the places of a schema.
+//! All breaks of the rules at the places of a schema.
 ghost use Rattle.std.specs.Prelude.{◌≡◌, [], All, OnOk, IfOk, IfErr};
 ghost use Rattle.jtree.specs.Data.{object, Members as MembersData, AreMembers};
 ghost use Rattle.schema.specs.Internal.PlaceView.{place_of};

@@ -1,4 +1,4 @@
-// What a rule reads of the keywords of a schema.
+//! What a rule reads of the keywords of a schema.
 ghost use Rattle.std.specs.Prelude.{◌≡◌, map, option_map, option_and_then};
 ghost use Rattle.jtree.specs.Data.{object, item, no_items};
 ghost use Rattle.jtree.specs.Path.{member_at, under};

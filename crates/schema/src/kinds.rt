@@ -1,4 +1,4 @@
-// The kind of a place that is in no branch of a junctor.
+//! The kind of a place that is in no branch of a junctor.
 ghost use Rattle.std.specs.Prelude.{◌≡◌, codes, option_map};
 ghost use Rattle.jtree.specs.Data.{object};
 ghost use Rattle.jtree.specs.Path.{under};

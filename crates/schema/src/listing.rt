@@ -1,4 +1,4 @@
-// The places of a schema in path order, each once, as far as no limit is passed.
+//! The places of a schema in path order, each once, as far as no limit is passed.
 ghost use Rattle.std.specs.Prelude.{◌≡◌, ℕ, ◌↔◌, ◌++◌, suc, List, ◌∷◌, [], Some, None, true, false, map, length, option_map, option_and_then, All, OnOk, IfOk, IfErr, IsTrue};
 ghost use Rattle.jtree.specs.Data.{Data, object, list, item, Items as ItemsData};
 ghost use Rattle.jtree.specs.Path.{member_at};

@@ -1,3 +1,4 @@
+//! The nodes of a schema.
 use crate::names::Names;
 use jtree::{Items, Text, Tree};
 use std::marker::Model;

@@ -1,4 +1,4 @@
-// The places of a schema, and their pointers.
+//! The places of a schema, and their pointers.
 ghost use Rattle.std.specs.Prelude.{◌≡◌, ◌++◌, ◌∷◌, [], OnOk, IfOk, IfErr, string_bytes};
 ghost use Rattle.jtree.specs.Path.{name as name_step, index as index_step};
 ghost use Rattle.jtree.specs.Pointer.{pointer, name_token, index_token};

@@ -1,3 +1,4 @@
+//! The schema of a version as it is written.
 use crate::limits::Limits;
 use jtree::Tree;
 use std::marker::Model;

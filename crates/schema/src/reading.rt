@@ -1,4 +1,4 @@
-// What a keyword of a schema says.
+//! What a keyword of a schema says.
 ghost use Rattle.std.specs.Prelude.{◌≡◌, option_map, IfOk};
 ghost use Rattle.jtree.specs.View.{data_of};
 ghost use Rattle.schema.specs.Rules.Keywords.{flag as flag_of, text_under, integer_under, count_under, list_under, texts_under, items_of, texts_of};

@@ -1,4 +1,4 @@
-// For which reasons a rule is broken at a place.
+//! For which reasons a rule is broken at a place.
 ghost use Rattle.std.specs.Prelude.{◌≡◌, ◌↔◌, IsTrue};
 ghost use Rattle.jtree.specs.Data.{Data, object};
 ghost use Rattle.schema.specs.Internal.PlaceView.{place_of};

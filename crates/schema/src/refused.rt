@@ -1,3 +1,4 @@
+//! Why a schema has no nodes.
 ghost use Rattle.std.specs.Prelude.{◌≡◌};
 ghost use Rattle.schema.specs.declared.refused.Refused.TheVariants.{NoMemory};
 

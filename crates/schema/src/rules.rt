@@ -1,4 +1,4 @@
-// Which rules a place breaks.
+//! Which rules a place breaks.
 ghost use Rattle.std.specs.Prelude.{◌≡◌, ◌↔◌, IsTrue};
 ghost use Rattle.jtree.specs.Data.{Data, object};
 ghost use Rattle.schema.specs.Document.Places.{property, ends_with, is_inside as is_inside_of, is_envelope as is_envelope_of};

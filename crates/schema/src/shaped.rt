@@ -1,3 +1,4 @@
+//! The nodes of a schema that breaks no rule.
 use crate::node::Node;
 use std::marker::Model;
 

@@ -1,4 +1,4 @@
-// The nodes of a schema that breaks no rule.
+//! The nodes of a schema that breaks no rule.
 ghost use Rattle.std.specs.Prelude.{◌≡◌, true, false, OnOk, IfOk, IfErr, option_map, codes};
 ghost use Rattle.jtree.specs.Data.{no_items, item};
 ghost use Rattle.jtree.specs.Path.{under};

@@ -1,4 +1,4 @@
-// What is asked of a scalar besides its kind, and what junctors ask.
+//! What is asked of a scalar besides its kind, and what junctors ask.
 ghost use Rattle.std.specs.Prelude.{◌≡◌, [], codes, IfOk};
 ghost use Rattle.jtree.specs.Path.{under};
 ghost use Rattle.jtree.specs.View.{data_of};

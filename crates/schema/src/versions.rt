@@ -1,4 +1,4 @@
-// The versions of a CustomResourceDefinition by their names.
+//! The versions of a CustomResourceDefinition by their names.
 ghost use Rattle.std.specs.Prelude.{◌≡◌, option_map, OnOk, IfOk, IfErr};
 ghost use Rattle.jtree.specs.View.{data_of};
 ghost use Rattle.schema.specs.Internal.Faults.{IsVersionsFault};

@@ -1,3 +1,4 @@
+//! The rules, and where one is broken.
 ghost use Rattle.std.specs.Prelude.{◌≡◌};
 ghost use Rattle.schema.specs.Rules.Breaks.{rule_name};
 

@@ -1,4 +1,4 @@
-// All that is broken in a schema, with the reasons.
+//! All that is broken in a schema, with the reasons.
 ghost use Rattle.std.specs.Prelude.{◌≡◌, [], All, IfOk, map};
 ghost use Rattle.schema.specs.Rules.Breaks.{reported};
 ghost use Rattle.schema.specs.Rules.Explained.{AreExplained};

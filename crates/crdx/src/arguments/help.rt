@@ -1,4 +1,4 @@
-// The texts of help: a short one for `-h` and a longer one for `--help`. clap prints their lines as they are here.
+//! The texts of help: a short one for `-h` and a longer one for `--help`. clap prints their lines as they are here.
 
 /// The texts of the help of a command.
 pub(super) struct CommandHelp {

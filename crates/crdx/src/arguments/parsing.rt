@@ -1,4 +1,4 @@
-// Reads the arguments by `clap`.
+//! Reads the arguments by `clap`.
 ghost use Rattle.std.specs.Prelude.{◌≡◌, ◌≢◌, ◌≤◌, ◌<◌, ◌+◌, ◌∷◌, if◌then◌else◌, length, false, true, Some, map, option_map, IfOk, string_bytes, codes};
 ghost use Rattle.clap.specs.Words.{found_of};
 ghost use Rattle.clap.specs.Kinds.{FailsBy};

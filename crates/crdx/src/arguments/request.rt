@@ -1,4 +1,4 @@
-// What the arguments of the command line can ask for.
+//! What the arguments of the command line can ask for.
 ghost use Rattle.std.specs.Prelude.{◌≤◌};
 
 /// The arguments that every command takes.

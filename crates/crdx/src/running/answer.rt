@@ -1,4 +1,4 @@
-// A whole answer.
+//! A whole answer.
 ghost use Rattle.std.specs.Prelude.{◌≡◌, None, IfOk, map, string_bytes};
 ghost use Rattle.jtree.specs.Data as tree;
 ghost use Rattle.jtree.specs.Text.{compact};

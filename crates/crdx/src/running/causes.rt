@@ -1,4 +1,4 @@
-// Why a run has no answer.
+//! Why a run has no answer.
 ghost use Rattle.std.specs.Prelude.{◌≡◌};
 ghost use Rattle.crdx.specs.Internal.ExitStatus.{status};
 

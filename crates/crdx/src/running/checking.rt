@@ -1,4 +1,4 @@
-// What `check` answers.
+//! What `check` answers.
 ghost use Rattle.std.specs.Prelude.{◌≡◌, ◌≢◌, [], IfOk, IfErr, string_bytes, codes};
 ghost use Rattle.schema.specs.Rules.Breaks.{reported};
 ghost use Rattle.crdx.specs.Internal.Cause.{IsInputCause};

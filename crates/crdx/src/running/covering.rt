@@ -1,4 +1,4 @@
-// What `cover` answers.
+//! What `cover` answers.
 ghost use Rattle.std.specs.Prelude.{◌≡◌, ◌<◌, IfOk, IfErr, map, string_bytes};
 ghost use Rattle.std.specs.Option.{option_copied};
 ghost use Rattle.jtree.specs.View.{data_of};

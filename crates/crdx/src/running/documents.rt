@@ -1,4 +1,4 @@
-// The schema, the pools and the tree to go on from that a request names.
+//! The schema, the pools and the tree to go on from that a request names.
 ghost use Rattle.std.specs.Prelude.{◌≡◌, true, Ok, IfOk, IfErr, OnOk, option_map};
 ghost use Rattle.jtree.specs.Data.{Data};
 ghost use Rattle.jtree.specs.Reads.{Reads};

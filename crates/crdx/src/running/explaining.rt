@@ -1,4 +1,4 @@
-// What `explain` answers.
+//! What `explain` answers.
 ghost use Rattle.std.specs.Prelude.{◌≡◌, None, Some, option_map, IfOk, IfErr, string_bytes};
 ghost use Rattle.jtree.specs.View.{data_of};
 ghost use Rattle.explain.specs.Fields.View.{field_of};

@@ -1,4 +1,4 @@
-// What `validate`, `prune`, `default` and `leaves` answer of the objects on the lines of an input.
+//! What `validate`, `prune`, `default` and `leaves` answer of the objects on the lines of an input.
 ghost use Rattle.std.specs.Prelude.{◌≡◌, ◌==◌, ◌+◌, ◌<◌, ◌-◌, ◌^◌, ℕ, List, [], ◌∷◌, ◌++◌, take, max, true, IfOk, IfErr, OnOk, OnErr, string_bytes};
 ghost use Rattle.std.specs.Io.KnownBytes.{Appends};
 ghost use Rattle.jtree.specs.Failures.{HasFailed};

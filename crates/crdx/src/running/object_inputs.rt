@@ -1,4 +1,4 @@
-// The objects that `pools` is given: inputs with one document, or with one on each line.
+//! The objects that `pools` is given: inputs with one document, or with one on each line.
 ghost use Rattle.std.specs.Prelude.{◌≡◌, ◌++◌, ◌∷◌, [], ℕ, List, map, IfOk, IfErr, OnOk, MatchOption};
 ghost use Rattle.jtree.specs.Data.{Data};
 ghost use Rattle.jtree.specs.Reads.{Reads};

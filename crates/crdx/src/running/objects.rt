@@ -1,4 +1,4 @@
-// What `validate`, `prune`, `default` and `leaves` answer.
+//! What `validate`, `prune`, `default` and `leaves` answer.
 ghost use Rattle.std.specs.Prelude.{◌≡◌, None, Ok, IfOk, IfErr, string_bytes};
 ghost use Rattle.jtree.specs.Data.{Data, IsTree};
 ghost use Rattle.jtree.specs.View.{data_of};

@@ -1,4 +1,4 @@
-// What is said on the standard streams, and the exit status.
+//! What is said on the standard streams, and the exit status.
 ghost use Rattle.std.specs.Prelude.{◌≡◌, ◌⊎◌, IfOk, IfErr, OnOk, OnErr};
 ghost use Rattle.std.specs.Io.KnownBytes.{Keeps};
 ghost use Rattle.crdx.specs.Internal.ExitStatus.{status, IsWritten};

@@ -1,4 +1,4 @@
-// What `sample` writes.
+//! What `sample` writes.
 ghost use Rattle.std.specs.Prelude.{◌≡◌, ◌<◌, Option, IfOk, IfErr, OnOk, IfSome, option_map};
 ghost use Rattle.jtree.specs.Data.{Data};
 ghost use Rattle.jtree.specs.View.{data_of};

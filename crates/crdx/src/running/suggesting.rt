@@ -1,4 +1,4 @@
-// What `pools` answers.
+//! What `pools` answers.
 ghost use Rattle.std.specs.Prelude.{◌≡◌, None, true, IfOk, IfErr, string_bytes};
 ghost use Rattle.jtree.specs.Data.{Data};
 ghost use Rattle.jtree.specs.View.{data_of};

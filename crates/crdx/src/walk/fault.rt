@@ -1,3 +1,4 @@
+//! Why a walk stopped early.
 use thiserror::Error;
 
 /// Why a walk stopped early.

@@ -1,4 +1,4 @@
-// The line of a sample.
+//! The line of a sample.
 ghost use Rattle.std.specs.Prelude.{◌≡◌, ◌++◌, IfOk};
 ghost use Rattle.jtree.specs.View.{data_of};
 ghost use Rattle.std.specs.Option.{option_copied};

@@ -1,3 +1,4 @@
+//! The walk over the samples of a plan, written line by line.
 ghost use Rattle.std.specs.Prelude.{◌≡◌, ◌⊎◌, ◌≤◌, ◌+◌, ◌-◌, ◌*◌, ◌^◌, ℕ, Err, IfOk, IfErr, OnOk, Option, IsSome, IfSome, IsSomeAnd};
 ghost use Rattle.std.specs.Io.KnownBytes.{Keeps};
 ghost use Rattle.jtree.specs.Data.{Data};

@@ -1,4 +1,4 @@
-// The reasons of the rule on junctors.
+//! The reasons of the rule on junctors.
 ghost use Rattle.std.specs.Prelude.{◌≡◌, ◌↔◌, IsTrue, option_map};
 ghost use Rattle.jtree.specs.Data.{Data, object};
 ghost use Rattle.schema.specs.Internal.PlaceView.{place_of};

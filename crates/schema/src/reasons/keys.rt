@@ -1,4 +1,4 @@
-// The reasons of the rules on keys of map lists and on items of sets.
+//! The reasons of the rules on keys of map lists and on items of sets.
 ghost use Rattle.std.specs.Prelude.{◌≡◌, ◌&&◌, not, codes, option_map};
 ghost use Rattle.std.specs.Str.{bytes_eq};
 ghost use Rattle.jtree.specs.Data.{object};

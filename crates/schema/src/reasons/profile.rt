@@ -1,4 +1,4 @@
-// The reasons of the rule on the profile.
+//! The reasons of the rule on the profile.
 ghost use Rattle.std.specs.Prelude.{◌≡◌, option_map};
 ghost use Rattle.jtree.specs.Data.{object};
 ghost use Rattle.schema.specs.Internal.KindView.{kind_view};

@@ -1,4 +1,4 @@
-// Where junctors may be, what their branches may say, and how many fields they may name.
+//! Where junctors may be, what their branches may say, and how many fields they may name.
 ghost use Rattle.std.specs.Prelude.{◌≡◌, ◌↔◌, [], true, false, map, option_map, option_and_then, IsTrue};
 ghost use Rattle.jtree.specs.Data.{object, item, no_items};
 ghost use Rattle.jtree.specs.View.{data_of, items_of};

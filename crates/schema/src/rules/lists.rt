@@ -1,4 +1,4 @@
-// The rules on list types and map types.
+//! The rules on list types and map types.
 ghost use Rattle.std.specs.Prelude.{◌≡◌, codes, option_map};
 ghost use Rattle.jtree.specs.Data.{object};
 ghost use Rattle.jtree.specs.View.{data_of, items_of};

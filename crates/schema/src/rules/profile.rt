@@ -1,4 +1,4 @@
-// What a place of each kind may have.
+//! What a place of each kind may have.
 ghost use Rattle.std.specs.Prelude.{◌≡◌, not, codes, option_map};
 ghost use Rattle.std.specs.Option.{is_some};
 ghost use Rattle.jtree.specs.Data.{object};

@@ -1,4 +1,4 @@
-use Rattle.std.proofs.Common.{◌<◌, arith, subst, sym}
+use Rattle.std.proofs.Common.{◌<◌, subst, sym}
 use Rattle.enumerate.specs.Internal.Candidates.{stack_of}
 use Rattle.enumerate.specs.Internal.Following.{Continue}
 use Rattle.enumerate.specs.Internal.Nodes.{IsPartOf}
@@ -13,7 +13,7 @@ returns-in_err-first_part-in-Some-clause-steps g c = costs_within c.args.self.no
 
 pub returns-in_ok-first_part-in-Some-clause-ok : goal.returns-in_ok-first_part-in-Some-clause-ok
 returns-in_ok-first_part-in-Some-clause-ok g c =
-    found_from c.args.self.now.plan.now c.root-root.result c.root-root.ensures.site (omega (arith, c.limit.ensures, c.limit.type_inv))
+    found_from c.args.self.now.plan.now c.root-root.result c.root-root.ensures.site c.reveal_limit.ensures
     (g.Z.SizeSet.holds c.sizes.result) c.sizes.ensures c.args.from c.in-Some.size (data_of c.in_ok-first_part-in-Some.field-0) c.in-Some.ensures c.in_ok-first_part-in-Some.ensures.ok
 
 pub returns-in_ok-first_part-in-Some-clause-steps : goal.returns-in_ok-first_part-in-Some-clause-steps
@@ -21,14 +21,14 @@ returns-in_ok-first_part-in-Some-clause-steps g c = costs_within c.args.self.now
 
 pub returns-in-None-clause-ok : goal.returns-in-None-clause-ok
 returns-in-None-clause-ok g c =
-    none_from c.args.self.now.plan.now c.root-root.result c.root-root.ensures.site (omega (arith, c.limit.ensures, c.limit.type_inv))
+    none_from c.args.self.now.plan.now c.root-root.result c.root-root.ensures.site c.reveal_limit.ensures
     (g.Z.SizeSet.holds c.sizes.result) c.sizes.ensures c.args.from c.in-None.ensures
 
 pub returns-in_ok-first_part-in-Some-clause-following : goal.returns-in_ok-first_part-in-Some-clause-following
 returns-in_ok-first_part-in-Some-clause-following g c =
     let q = c.args.self.now.plan.now in
     let i = c.root-root.result in
-    let small : q.limit < 4294967296 = omega (arith, c.limit.ensures, c.limit.type_inv) in
+    let small : q.limit < 4294967296 = c.reveal_limit.ensures in
     let v = data_of c.in_ok-first_part-in-Some.field-0 in
     let cs = stack_of c.first_part.new.scratch.following.items in
     let first = c.in_ok-first_part-in-Some.ensures.ok in

@@ -1,4 +1,3 @@
-use Rattle.std.proofs.Common.{arith}
 use Rattle.enumerate.proofs.lists.Lemmas.{site_among}
 use Rattle.enumerate.proofs.walk.Walk.laws_of.Goals as goal
 
@@ -11,5 +10,5 @@ returns g c =
       sound = c.sound_parts.ensures.parts _ there;
       counts = c.sound_parts.ensures.counts _ there;
       free = c.sound_parts.ensures.free;
-      limit = omega (arith, c.limit.ensures, c.limit.type_inv);
+      limit = c.reveal_limit.ensures;
     }
