@@ -8,4 +8,5 @@ mod walking;
 pub use fault::WFault;
 pub use line::Envelope;
 pub(crate) use line::with_envelope;
+pub(crate) use walking::BLOCK_LINES;
 pub use walking::{Walked, walk, walk_to_end};

@@ -275,7 +275,3 @@ map_met = record { whole = refl; each = one_met }
 pub object_met : (cs : Validations) (names : List (List ℕ)) (ends : List Bool) → names ≡ named cs → length ends ≡ 2 ^ length names
     → ((seen : ℕ) (b : Bool) → seen < length ends → get_or ends seen b ≡ meets_presence cs (is_seen names seen)) → AreMet cs ends
 object_met cs names ends same whole each = record { whole = rw same at whole; each = λ seen b l. rw same at (each seen b l) }
-
-pub some_branches : (cs : List DeclaredValidations) → 1 ≤ length cs → false ≡ is_absent (branches_of cs)
-some_branches [] some = absurd (omega arith)
-some_branches (c ∷ cs) some = refl

@@ -1,15 +1,16 @@
 //! Which fields have to be there by the junctors of an object.
-ghost use Rattle.std.specs.Prelude.{◌≡◌, ℕ, ◌≤◌, ◌<◌, ◌^◌, ◌++◌, ◌+◌, Bool, List, length, get_or, IfOk, OnOk, IfSome};
+ghost use Rattle.std.specs.Prelude.{◌≡◌, ℕ, ◌≤◌, ◌<◌, ◌^◌, ◌++◌, Bool, List, length, get_or, IfOk, OnOk, IfSome};
 ghost use Rattle.schema.specs.Nodes.View.{validations_of};
 ghost use Rattle.schema.specs.Nodes.Junctors.{names_in, names_of, most_named};
-ghost use Rattle.stored.specs.Objects.Tests.{has_names, has_all as has_all_of, holds_by, all_hold as all_hold_of, any_holds as any_holds_of, is_absent as is_absent_of, holding as holding_of, meets_junctors_by, meets_presence as meets_presence_of};
+ghost use Rattle.stored.specs.Objects.Tests.{has_names, has_all as has_all_of, meets_presence as meets_presence_of};
 ghost use Rattle.plan.specs.Samples.Presence.{named, bit_of as bit_of_name, is_set};
 ghost use Rattle.plan.specs.Internal.Tables.{is_seen};
 
 use crate::values::put_in_order;
 use jtree::Text;
-use schema::{Branches, Names, Validations};
+use schema::{Branches, Constraints, Names, Validations};
 use std::alloc::{AllocError, Global};
+use stored::junctors::{BranchTest, meets_junctors};
 
 /// The most fields that the junctors of an object name, by the rules of the schema.
 const MOST_NAMED: usize = 4;
@@ -97,76 +98,28 @@ pub(crate) fn ends(
     Ok(ends)
 }
 
+/// Those of the named fields that are there, by their bits.
+struct Seen<'a> {
+    names: &'a [Text],
+    bits: u8,
+    ghost few: { length names.now ≤ most_named },
+}
+
+impl BranchTest for Seen<'_> {
+    ghost test = { λ s. has_names (is_seen s.names.now s.bits) };
+
+    /// Whether all fields that the branch requires are there.
+    fn meets(&self, constraints: &Constraints) -> bool {
+        has_all(&constraints.required, self.names, self.bits)
+    }
+}
+
 /// Whether the junctors hold where exactly these of the named fields are there.
-#[cycle(branches)]
-fn meets_presence(validations: &Validations, names: &[Text], seen: u8) -> bool
+fn meets_presence(junctors: &Validations, names: &[Text], seen: u8) -> bool
     requires { length names.now ≤ most_named }
-    ensures { result ≡ meets_junctors_by (has_names (is_seen names.now seen)) (validations_of validations.now) }
+    ensures { result ≡ meets_presence_of (validations_of junctors.now) (is_seen names.now seen) }
 {
-    all_hold(&validations.all_of, names, seen)
-        && ((is_absent(&validations.any_of) || any_holds(&validations.any_of, names, seen))
-            && ((is_absent(&validations.one_of) || holding(&validations.one_of, names, seen) == 1)
-                && !any_holds(&validations.negated, names, seen)))
-}
-
-/// Whether a branch holds.
-#[cycle(branches)]
-fn holds(validations: &Validations, names: &[Text], seen: u8) -> bool
-    requires { length names.now ≤ most_named }
-    ensures { result ≡ holds_by (has_names (is_seen names.now seen)) (validations_of validations.now) }
-{
-    has_all(&validations.constraints.required, names, seen)
-        && meets_presence(validations, names, seen)
-}
-
-fn is_absent(branches: &Branches) -> bool
-    ensures { result ≡ is_absent_of branches.now }
-{
-    match branches.branches.as_slice() {
-        [] => true,
-        _ => false,
-    }
-}
-
-#[cycle(branches)]
-fn all_hold(branches: &Branches, names: &[Text], seen: u8) -> bool
-    requires { length names.now ≤ most_named }
-    ensures { result ≡ all_hold_of (has_names (is_seen names.now seen)) branches.now }
-{
-    for branch in &branches.branches {
-        if !holds(branch, names, seen) {
-            return false;
-        }
-    }
-    true
-}
-
-#[cycle(branches)]
-fn any_holds(branches: &Branches, names: &[Text], seen: u8) -> bool
-    requires { length names.now ≤ most_named }
-    ensures { result ≡ any_holds_of (has_names (is_seen names.now seen)) branches.now }
-{
-    for branch in &branches.branches {
-        if holds(branch, names, seen) {
-            return true;
-        }
-    }
-    false
-}
-
-/// How many branches hold.
-#[cycle(branches)]
-fn holding(branches: &Branches, names: &[Text], seen: u8) -> usize
-    requires { length names.now ≤ most_named }
-    ensures { result ≡ holding_of (has_names (is_seen names.now seen)) branches.now }
-{
-    let mut count = 0;
-    for branch in &branches.branches {
-        if holds(branch, names, seen) {
-            count += 1;
-        }
-    }
-    count
+    meets_junctors(&Seen { names, bits: seen }, junctors)
 }
 
 /// Whether all these fields are there.

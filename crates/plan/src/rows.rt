@@ -1,5 +1,5 @@
 //! The tables of a row: the sizes that its slots can still take, from each of them on.
-ghost use Rattle.std.specs.Prelude.{◌≡◌, ℕ, ◌+◌, ◌-◌, ◌^◌, ◌≤◌, ◌<◌, ◌↔◌, ◌⊎◌, true, false, List, [], ◌∷◌, length, min, All, IfOk, IfSome, Decides};
+ghost use Rattle.std.specs.Prelude.{◌≡◌, ℕ, ◌+◌, ◌-◌, ◌^◌, ◌≤◌, ◌<◌, ◌↔◌, ◌⊎◌, true, false, List, [], ◌∷◌, length, min, All, IfOk, IfSome};
 ghost use Rattle.schema.specs.Nodes.Junctors.{most_named};
 ghost use Rattle.stored.specs.Objects.StoredByParts.{IsWithin};
 ghost use Rattle.plan.specs.Pools.Pools.{Pools};
@@ -13,6 +13,7 @@ ghost use Rattle.plan.specs.declared.rows.Choice.{Choice as ChoiceDeclared};
 use crate::SizeSet;
 use schema::Bounds;
 use std::alloc::{AllocError, Global};
+use stored::is_within;
 
 /// The choices for a slot: the sizes of its parts, whether it has to be filled, and its place among the named fields.
 #[derive(Clone, Copy)]
@@ -32,13 +33,6 @@ pub(crate) fn end_sizes<Z: SizeSet>(count: u64, bounds: Bounds) -> Z
     } else {
         Z::empty()
     }
-}
-
-/// Whether this number is neither too small nor too great.
-fn is_within(bounds: Bounds, count: u64) -> bool
-    ensures { Decides result (IsWithin bounds count) }
-{
-    bounds.least.is_none_or(|least| least <= count) && bounds.most.is_none_or(|most| count <= most)
 }
 
 /// The number of members from which on the bounds treat all numbers alike; it saturates.

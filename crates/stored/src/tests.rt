@@ -1,11 +1,12 @@
 //! What is asked of a value: of a scalar, and of an object by its junctors.
-ghost use Rattle.std.specs.Prelude.{◌≡◌, ◌+◌, not, ◌&&◌, ◌||◌, nat_eq, length, chars};
+ghost use Rattle.std.specs.Prelude.{◌≡◌, not, ◌&&◌, length, chars};
 ghost use Rattle.jtree.specs.View.{data_of, items_of};
-ghost use Rattle.schema.specs.Nodes.View.{validations_of, branches_of};
-ghost use Rattle.stored.specs.Objects.Tests.{accepts_scalar as accepts_scalar_of, is_same, is_choice as is_choice_of, is_below as is_below_of, is_above as is_above_of, is_other_value as is_other_value_of, is_below_minimum as is_below_minimum_of, is_above_maximum as is_above_maximum_of, is_too_short as is_too_short_of, is_too_long as is_too_long_of, meets_constraints as meets_constraints_of, has_all as has_all_of, has_member, meets_branch as meets_branch_of, holds as holds_of, meets_junctors as meets_junctors_of, all_hold as all_hold_of, any_holds as any_holds_of, is_absent as is_absent_of, holding as holding_of};
+ghost use Rattle.schema.specs.Nodes.View.{validations_of};
+ghost use Rattle.stored.specs.Objects.Tests.{accepts_scalar as accepts_scalar_of, is_same, is_choice as is_choice_of, is_below as is_below_of, is_above as is_above_of, is_other_value as is_other_value_of, is_below_minimum as is_below_minimum_of, is_above_maximum as is_above_maximum_of, is_too_short as is_too_short_of, is_too_long as is_too_long_of, meets_constraints as meets_constraints_of, has_all as has_all_of, has_member, meets_branch as meets_branch_of, holds as holds_of, meets_junctors as meets_junctors_of};
 
+use crate::junctors::{self, BranchTest};
 use jtree::{Items, Members, Text, Tree};
-use schema::{Branches, Constraints, ScalarKind, Validations};
+use schema::{Bounds, Constraints, ScalarKind, Validations};
 
 /// Whether a value is a scalar of this kind.
 pub(crate) fn accepts_scalar(kind: ScalarKind, tree: &Tree) -> bool
@@ -32,23 +33,30 @@ fn is_choice(tree: &Tree, choices: &Items) -> bool
 }
 
 /// Whether a number is below a bound.
-pub(crate) fn is_below(least: Option<u64>, number: usize) -> bool
+pub(crate) fn is_below(least: Option<u64>, number: u64) -> bool
     ensures { result ≡ is_below_of least number }
 {
     match least {
-        Some(least) => (number as u64) < least,
+        Some(least) => number < least,
         None => false,
     }
 }
 
 /// Whether a number is above a bound.
-pub(crate) fn is_above(most: Option<u64>, number: usize) -> bool
+pub(crate) fn is_above(most: Option<u64>, number: u64) -> bool
     ensures { result ≡ is_above_of most number }
 {
     match most {
-        Some(most) => most < number as u64,
+        Some(most) => most < number,
         None => false,
     }
+}
+
+/// Whether a number of parts is neither below nor above the bounds.
+pub fn is_within(bounds: Bounds, count: u64) -> bool
+    ensures { result ≡ (not (is_below_of bounds.least count) && not (is_above_of bounds.most count)) }
+{
+    !is_below(bounds.least, count) && !is_above(bounds.most, count)
 }
 
 /// Whether a value is not in `enum`.
@@ -94,10 +102,10 @@ pub(crate) fn is_above_maximum(constraints: &Constraints, tree: &Tree) -> bool
 }
 
 /// How many Unicode scalar values a text has.
-fn scalar_values(text: &str) -> usize
+fn scalar_values(text: &str) -> u64
     ensures { result ≡ length (chars text.now) }
 {
-    text.chars().count()
+    text.chars().count() as u64
 }
 
 /// Whether a text is shorter than `minLength`, in Unicode scalar values.
@@ -142,78 +150,28 @@ fn has_all(names: &[Text], members: &Members) -> bool
     true
 }
 
-/// Whether a value meets what a branch asks itself.
-fn meets_branch(constraints: &Constraints, tree: &Tree) -> bool
-    ensures { result ≡ meets_branch_of (data_of tree.now) constraints.now }
-{
-    match tree {
-        Tree::Object(members) => has_all(&constraints.required.names, members),
-        _ => meets_constraints(constraints, tree),
+impl BranchTest for Tree {
+    ghost test = { λ t. meets_branch_of (data_of t) };
+
+    /// Whether the value has all members that the branch requires, where it is an object, and else whether it meets all constraints.
+    fn meets(&self, constraints: &Constraints) -> bool {
+        match self {
+            Tree::Object(members) => has_all(&constraints.required.names, members),
+            _ => meets_constraints(constraints, self),
+        }
     }
 }
 
 /// Whether a value meets what a branch or a scalar node asks, and its junctors.
-#[cycle(branches)]
 pub(crate) fn holds(validations: &Validations, tree: &Tree) -> bool
     ensures { result ≡ holds_of (validations_of validations.now) (data_of tree.now) }
 {
-    meets_branch(&validations.constraints, tree) && meets_junctors(validations, tree)
+    junctors::holds(tree, validations)
 }
 
 /// Whether a value meets the junctors.
-#[cycle(branches)]
 pub(crate) fn meets_junctors(validations: &Validations, tree: &Tree) -> bool
     ensures { result ≡ meets_junctors_of (validations_of validations.now) (data_of tree.now) }
 {
-    all_hold(&validations.all_of, tree)
-        && ((is_absent(&validations.any_of) || any_holds(&validations.any_of, tree))
-            && ((is_absent(&validations.one_of) || holding(&validations.one_of, tree) == 1)
-                && !any_holds(&validations.negated, tree)))
-}
-
-fn is_absent(branches: &Branches) -> bool
-    ensures { result ≡ is_absent_of branches.now }
-{
-    match branches.branches.as_slice() {
-        [] => true,
-        _ => false,
-    }
-}
-
-#[cycle(branches)]
-fn all_hold(branches: &Branches, tree: &Tree) -> bool
-    ensures { result ≡ all_hold_of (meets_branch_of (data_of tree.now)) branches.now }
-{
-    for branch in &branches.branches {
-        if !holds(branch, tree) {
-            return false;
-        }
-    }
-    true
-}
-
-#[cycle(branches)]
-fn any_holds(branches: &Branches, tree: &Tree) -> bool
-    ensures { result ≡ any_holds_of (meets_branch_of (data_of tree.now)) branches.now }
-{
-    for branch in &branches.branches {
-        if holds(branch, tree) {
-            return true;
-        }
-    }
-    false
-}
-
-/// How many branches hold.
-#[cycle(branches)]
-fn holding(branches: &Branches, tree: &Tree) -> usize
-    ensures { result ≡ holding_of (meets_branch_of (data_of tree.now)) branches.now }
-{
-    let mut count = 0;
-    for branch in &branches.branches {
-        if holds(branch, tree) {
-            count += 1;
-        }
-    }
-    count
+    junctors::meets_junctors(tree, validations)
 }

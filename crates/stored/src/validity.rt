@@ -8,12 +8,12 @@ ghost use Rattle.schema.specs.Nodes.View.{node_of};
 ghost use Rattle.stored.specs.Objects.Tests.{is_same};
 ghost use Rattle.stored.specs.Objects.Fault.{agree as agree_of, agree_at as agree_at_of, are_alike as are_alike_of, items_count as items_count_of, members_count as members_count_of, IsValid};
 ghost use Rattle.stored.specs.Objects.StoredByParts.{are_apart as are_apart_of};
-ghost use Rattle.stored.specs.Internal.ValidByLevel.{true_if_any, is_valid as is_valid_of, is_within as is_within_of, has_required as has_required_of, are_fields_valid as are_fields_valid_of, are_values_valid as are_values_valid_of, are_items_valid as are_items_valid_of};
+ghost use Rattle.stored.specs.Internal.ValidByLevel.{true_if_any, is_valid as is_valid_of, has_required as has_required_of, are_fields_valid as are_fields_valid_of, are_values_valid as are_values_valid_of, are_items_valid as are_items_valid_of};
 
 use crate::ascending::are_ordered;
-use crate::tests::{accepts_scalar, holds, is_above, is_below, meets_junctors};
+use crate::tests::{accepts_scalar, holds, is_within, meets_junctors};
 use jtree::{Items, Member, Members, Text, Tree};
-use schema::{Bounds, Fields, ListNode, ListType, Node, Sort};
+use schema::{Fields, ListNode, ListType, Node, Sort};
 
 /// Whether an object is valid at a node: no part of it has a fault (OpenAPI 3.0, Schema Object; apiextensions.k8s.io/v1,
 /// nullable and merge markers). It is judged as it is, and not completed first. It takes no memory. Work is linear in the
@@ -54,23 +54,16 @@ fn is_valid(node: &Node, tree: &Tree) -> bool
     }
 }
 
-/// Whether a number of parts keeps to the bounds.
-fn is_within(bounds: Bounds, count: usize) -> bool
-    ensures { result ≡ is_within_of bounds count }
-{
-    !is_below(bounds.least, count) && !is_above(bounds.most, count)
-}
-
-pub(crate) fn members_count(members: &Members) -> usize
+pub(crate) fn members_count(members: &Members) -> u64
     ensures { result ≡ members_count_of members.now }
 {
-    members.members.as_slice().len()
+    members.members.as_slice().len() as u64
 }
 
-pub(crate) fn items_count(items: &Items) -> usize
+pub(crate) fn items_count(items: &Items) -> u64
     ensures { result ≡ items_count_of items.now }
 {
-    items.items.as_slice().len()
+    items.items.as_slice().len() as u64
 }
 
 /// Whether no required field is absent.

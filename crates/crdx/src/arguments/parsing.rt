@@ -424,7 +424,7 @@ fn sample_command<'a>(alloc: Global) -> Result<Command<'a>, AllocError>
         help::POOLS_OPTION_LONG,
     );
     let command = add_argument(command, pools);
-    let command = add_argument(command, limit_option(alloc));
+    let command = add_argument(command, limit_option(alloc, "8"));
     let command = add_argument(command, count_option(alloc));
     let command = add_argument(command, flag(alloc, "all", help::ALL, help::ALL_LONG));
     let after = text_option(alloc, "after", "JSON", help::AFTER, help::AFTER_LONG);
@@ -447,16 +447,16 @@ fn cover_command<'a>(alloc: Global) -> Result<Command<'a>, AllocError>
         help::POOLS_OPTION_LONG,
     );
     let command = add_argument(command, pools);
-    let command = add_argument(command, cover_limit_option(alloc));
+    let command = add_argument(command, limit_option(alloc, "127"));
     let name = text_option(alloc, "name", "NAME", help::NAME, help::NAME_LONG);
     let command = add_argument(command, name);
     let values = flag(alloc, "values", help::VALUES, help::VALUES_LONG);
     add_argument(command, values)
 }
 
-/// The limit of `cover`, which is the greatest where none is given.
-fn cover_limit_option<'a>(alloc: Global) -> Arg<'a>
-    ensures rule { rule_of result ≡ number_rule (codes "limit") 127 (codes "127") }
+/// The node limit, which is this one where none is given.
+fn limit_option<'a>(alloc: Global, usual: &'a str) -> Arg<'a>
+    ensures rule { rule_of result ≡ number_rule (codes "limit") 127 usual.now }
     ensures local { result.global ≡ false }
 {
     Arg::new(alloc, "limit")
@@ -465,20 +465,7 @@ fn cover_limit_option<'a>(alloc: Global) -> Arg<'a>
         .help(help::LIMIT)
         .long_help(help::LIMIT_LONG)
         .value_parser(clap::value_parser!(u32).range(1..=127))
-        .default_value("127")
-}
-
-fn limit_option<'a>(alloc: Global) -> Arg<'a>
-    ensures rule { rule_of result ≡ number_rule (codes "limit") 127 (codes "8") }
-    ensures local { result.global ≡ false }
-{
-    Arg::new(alloc, "limit")
-        .long("limit")
-        .value_name("N")
-        .help(help::LIMIT)
-        .long_help(help::LIMIT_LONG)
-        .value_parser(clap::value_parser!(u32).range(1..=127))
-        .default_value("8")
+        .default_value(usual)
 }
 
 fn count_option<'a>(alloc: Global) -> Arg<'a>

@@ -18,13 +18,10 @@ use crate::running::causes::Cause;
 use crate::running::documents::{Accepted, accepted_schema, after_of, pools_of};
 use crate::running::explanation::Explanation;
 use crate::sink::Sink;
-use crate::walk::{Envelope, WFault, Walked, walk, walk_to_end};
+use crate::walk::{BLOCK_LINES, Envelope, WFault, Walked, walk, walk_to_end};
 use jtree::{Text, Tree};
 use plan::{Meter, Plan, Pools, SizeSet};
 use std::alloc::{AllocError, Global};
-
-/// The most lines that are held at a time.
-const PAGE: u32 = 64;
 
 /// The node limits below this have plans over words of 64 bits.
 pub(crate) const WORD: u32 = 64;
@@ -141,7 +138,7 @@ fn walk_asked<Z: SizeSet, W: Sink>(
             alloc,
             plan,
             after,
-            PAGE,
+            BLOCK_LINES,
             arguments.count,
             envelope,
             meter,

@@ -2,7 +2,7 @@ use Rattle.std.proofs.Common.{◌∙◌, ap}
 use Rattle.schema.specs.Nodes.View.{branches_of}
 use Rattle.stored.specs.Objects.Tests.{is_absent}
 use Rattle.stored.proofs.TestLemmas.{some_branches}
-use Rattle.stored.proofs.tests.is_absent.Goals as goal
+use Rattle.stored.proofs.junctors.is_absent.Goals as goal
 
 pub returns-in_default : goal.returns-in_default
 returns-in_default c =
