@@ -11,7 +11,7 @@ pub(super) struct CommandHelp {
 }
 
 /// The version, which `--version` prints after the program's name.
-pub(super) const VERSION: &str = "0.1.0";
+pub(super) const VERSION: &str = "0.2.0";
 
 pub(super) const PROGRAM: &str =
     "Checks the schema of a Kubernetes custom resource, and its objects";

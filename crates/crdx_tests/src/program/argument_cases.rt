@@ -503,8 +503,8 @@ static HELP: [(&str, &str, &str); 25] = [
         "crdx pools -h",
         "Usage: crdx pools [OPTIONS] <CRD> <VERSION>\n",
     ),
-    ("the version", "crdx --version", "crdx 0.1.0\n"),
-    ("the version, for short", "bin/crdx_cli -V", "crdx 0.1.0\n"),
+    ("the version", "crdx --version", "crdx 0.2.0\n"),
+    ("the version, for short", "bin/crdx_cli -V", "crdx 0.2.0\n"),
 ];
 
 // What a run can answer, and the codes that it can print: each begins a line of the help.
