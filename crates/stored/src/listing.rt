@@ -1,5 +1,5 @@
 //! All leaves of a stored object, in order.
-ghost use Rattle.std.specs.Prelude.{◌≡◌, ◌++◌, ℕ, ◌∷◌, [], OnOk, IfOk, IfErr, Some, map, codes};
+ghost use Rattle.std.specs.Prelude.{◌≡◌, ◌++◌, ℕ, ◌∷◌, [], OnOk, IfOk, IfErr, Some, map, option_map, codes};
 ghost use Rattle.jtree.specs.Data.{Data};
 ghost use Rattle.jtree.specs.Path.{name as name_step, index as index_step};
 ghost use Rattle.jtree.specs.View.{data_of};
@@ -159,8 +159,8 @@ fn list_field(
         (map (below (name_step member.now.name) (codes "f:" ++ member.now.name)) (part_leaves (field_node fields.now member.now.name) (data_of member.now.tree)))) }
 {
     match field_named(fields, member.name.as_str()) {
-        Some(field) => list_named(alloc, walk, member, &field.node),
-        None => add_named(alloc, walk, member),
+        Some(field) => list_named(alloc, walk, member, Some(&field.node)),
+        None => list_named(alloc, walk, member, None),
     }
 }
 
@@ -175,40 +175,44 @@ fn list_values(
     ensures { OnOk result (walked walk.new ≡ added (walked walk.old) (of_members (λ k. Some map.now.value) members.now)) }
 {
     for member in &members.members {
-        list_named(alloc, walk, member, &map.value.node)?;
+        list_named(alloc, walk, member, Some(&map.value.node))?;
     }
     Ok(())
 }
 
-/// Adds the leaves of a member.
+/// Adds the leaves of a member with a node, or a member as one leaf.
 #[cycle(list)]
 fn list_named(
     alloc: Global,
     walk: &mut Walk,
     member: &Member,
-    node: &Node,
+    node: Option<&Node>,
 ) -> Result<(), AllocError>
     ensures { OnOk result (walked walk.new ≡ added (walked walk.old)
-        (map (below (name_step member.now.name) (codes "f:" ++ member.now.name)) (leaves_by_level (node_of node.now) (data_of member.now.tree)))) }
+        (map (below (name_step member.now.name) (codes "f:" ++ member.now.name)) (part_leaves (option_map (λ n. node_of n.now) node.entry) (data_of member.now.tree)))) }
 {
     let depth = walk.way.len();
     walk.way
         .push(text_element(alloc, "f:", member.name.as_str())?)?;
-    list_tree(alloc, walk, &member.tree, node)?;
+    list_part(alloc, walk, &member.tree, node)?;
     walk.way.truncate(depth);
     Ok(())
 }
 
-/// Adds a member as one leaf.
-fn add_named(alloc: Global, walk: &mut Walk, member: &Member) -> Result<(), AllocError>
-    ensures { OnOk result (walked walk.new ≡ added (walked walk.old) (map (below (name_step member.now.name) (codes "f:" ++ member.now.name)) (here ∷ []))) }
+/// Adds the leaves of a value with a node, or the value as one leaf.
+#[cycle(list)]
+fn list_part(
+    alloc: Global,
+    walk: &mut Walk,
+    tree: &Tree,
+    node: Option<&Node>,
+) -> Result<(), AllocError>
+    ensures { OnOk result (walked walk.new ≡ added (walked walk.old) (part_leaves (option_map (λ n. node_of n.now) node.entry) (data_of tree.now))) }
 {
-    let depth = walk.way.len();
-    walk.way
-        .push(text_element(alloc, "f:", member.name.as_str())?)?;
-    walk.add_leaf(alloc)?;
-    walk.way.truncate(depth);
-    Ok(())
+    match node {
+        Some(node) => list_tree(alloc, walk, tree, node),
+        None => walk.add_leaf(alloc),
+    }
 }
 
 /// Adds the leaves of a set or a map list.

@@ -1,11 +1,11 @@
-use Rattle.std.proofs.Common.{ℕ, List, Option, ◌≡◌, ◌++◌, Some, subst, map, codes, arith}
+use Rattle.std.proofs.Common.{ℕ, List, Option, ◌≡◌, ◌++◌, Some, subst, map, option_map, codes, arith}
 use Rattle.jtree.specs.Path.{name, index}
 use Rattle.jtree.specs.View.{data_of}
 use Rattle.schema.specs.Nodes.Node.{Node}
 use Rattle.schema.specs.Nodes.View.{node_of}
 use Rattle.stored.specs.Objects.Leaves.{item_element, elements_of}
 use Rattle.stored.specs.Internal.Pruning.{field_node}
-use Rattle.stored.specs.Internal.LeavesByLevel.{below, of_members, of_items, leaves_by_level, walked, added}
+use Rattle.stored.specs.Internal.LeavesByLevel.{below, of_members, of_items, leaves_by_level, part_leaves, walked, added}
 use Rattle.stored.proofs.ListingLemmas.{part_listed, members_more, items_more}
 use Rattle.stored.proofs.listing.+list.Goals as goal
 
@@ -50,9 +50,9 @@ list_named-returns t c =
     let old = c.args.walk.now in
     let k = c.args.member.now.name in
     part_listed old.way.items c.push.new.self.items (map elements_of old.leaves.items) (name k) c.in_ok-text_element.field-0 (codes "f:" ++ k)
-    (leaves_by_level (node_of c.args.node.now) (data_of c.args.member.now.tree)) (walked c.list_tree.new.walk) c.len-depth.result c.truncate.new.self.items
+    (part_leaves (option_map (λ n. node_of n.now) c.args.node) (data_of c.args.member.now.tree)) (walked c.list_part.new.walk) c.len-depth.result c.truncate.new.self.items
     (rw c.as_str.ensures at c.in_ok-text_element.ensures)
     c.in_ok-push.ensures.items
-    c.in_ok-list_tree.ensures
+    c.in_ok-list_part.ensures
     (omega (arith, c.len-depth.ensures, old.way.ok.0))
     c.truncate.ensures.items
