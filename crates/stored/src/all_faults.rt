@@ -218,7 +218,7 @@ fn bound_tests(node: &Node, tree: &Tree) -> [(u8, bool); 4]
 {
     match (&node.sort, tree) {
         (Sort::List(list), Tree::List(items)) => {
-            let count = items_count(items);
+            let count = items_count(items) as u64;
             [
                 (8, is_below(list.bounds.least, count)),
                 (9, is_above(list.bounds.most, count)),
@@ -235,7 +235,7 @@ fn bound_tests(node: &Node, tree: &Tree) -> [(u8, bool); 4]
 fn member_tests(members: &Members, bounds: Bounds) -> [(u8, bool); 4]
     ensures { result ≡ (8, false) ∷ (9, false) ∷ (10, are_few bounds (members_count_of members.now)) ∷ (11, are_many bounds (members_count_of members.now)) ∷ [] }
 {
-    let count = members_count(members);
+    let count = members_count(members) as u64;
     [
         (8, false),
         (9, false),

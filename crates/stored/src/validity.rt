@@ -36,17 +36,17 @@ fn is_valid(node: &Node, tree: &Tree) -> bool
             accepts_scalar(scalar.kind, tree) && holds(&scalar.validations, tree)
         }
         (Sort::Object(object), Tree::Object(members)) => {
-            is_within(object.bounds, members_count(members))
+            is_within(object.bounds, members_count(members) as u64)
                 && (meets_junctors(&object.junctors, tree)
                     && (has_required(&object.fields, members)
                         && are_fields_valid(&object.fields, members)))
         }
         (Sort::Map(map), Tree::Object(members)) => {
-            is_within(map.bounds, members_count(members))
+            is_within(map.bounds, members_count(members) as u64)
                 && are_values_valid(&map.value.node, members)
         }
         (Sort::List(list), Tree::List(items)) => {
-            is_within(list.bounds, items_count(items))
+            is_within(list.bounds, items_count(items) as u64)
                 && (are_apart(list, items) && are_items_valid(&list.item.node, items))
         }
         (Sort::Open, _) => true,
@@ -54,16 +54,16 @@ fn is_valid(node: &Node, tree: &Tree) -> bool
     }
 }
 
-pub(crate) fn members_count(members: &Members) -> u64
+pub(crate) fn members_count(members: &Members) -> usize
     ensures { result ≡ members_count_of members.now }
 {
-    members.members.as_slice().len() as u64
+    members.members.as_slice().len()
 }
 
-pub(crate) fn items_count(items: &Items) -> u64
+pub(crate) fn items_count(items: &Items) -> usize
     ensures { result ≡ items_count_of items.now }
 {
-    items.items.as_slice().len() as u64
+    items.items.as_slice().len()
 }
 
 /// Whether no required field is absent.
