@@ -1,3 +1,4 @@
+// Not in the module of `page`: two names that differ only in case cannot be declared in one module.
 use jtree::Tree;
 
 /// The first samples of a plan past a place.

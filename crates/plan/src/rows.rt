@@ -41,7 +41,8 @@ fn is_within(bounds: Bounds, count: u64) -> bool
     bounds.least.is_none_or(|least| least <= count) && bounds.most.is_none_or(|most| count <= most)
 }
 
-/// The number of members from which on the bounds treat all numbers alike; it saturates.
+/// The number of members from which on the bounds treat all numbers alike; it saturates. The node limit is no cap: `rest` is answered
+/// for each number of members up to the place.
 fn cap(bounds: Bounds) -> u64
     ensures { result ≡ min (cap_of bounds) (2 ^ 64 - 1) }
 {

@@ -1,3 +1,4 @@
+// Not in the module of `shape`: two names that differ only in case cannot be declared in one module.
 use crate::node::Node;
 use std::marker::Model;
 
