@@ -35,6 +35,7 @@ impl From<JFault> for InFault {
     ghost from_gives = { λ fault e. e ≡ input_fault fault };
 
     fn from(fault: JFault) -> InFault {
+        // so no `Document` has J5, and a failed read never gives status 3
         match fault {
             JFault::ReadFailed => InFault::Failed,
             _ => InFault::Document(fault),

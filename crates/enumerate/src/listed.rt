@@ -1,4 +1,4 @@
-//! A page of samples. It has a module of its own, since the function that makes one has the same name in small letters.
+//! A page of samples. Not in the module of `page`: two names that differ only in case cannot be declared in one module.
 use jtree::Tree;
 
 /// The first samples of a plan past a place.

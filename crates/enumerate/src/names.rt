@@ -18,6 +18,7 @@ pub(crate) fn take_name(
 ) -> Result<Text, AllocError>
     ensures { IfOk result (λ text. text ≡ name.now) }
 {
+    // names are removed from the last slot to the first and put in from the first to the last, so the last one kept is mostly wanted
     let Some(mut text) = spare.pop() else {
         return Text::from_str(alloc, name);
     };

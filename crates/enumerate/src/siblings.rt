@@ -8,7 +8,8 @@ use jtree::{Items, Tree};
 use plan::Slot;
 use std::alloc::{AllocError, Global};
 
-/// Some items of a list.
+/// Some items of a list. A struct of its own, since the borrow checker does not cover a slice of references that is itself a variant of
+/// an enum.
 #[derive(Clone, Copy)]
 pub(crate) struct Chosen<'a> {
     pub rows: &'a [&'a Tree],

@@ -52,7 +52,8 @@ pub(crate) struct Scratch<'p> {
 impl<'p> Scratch<'p> {
     ghost use Rattle.std.specs.Prelude.{◌≡◌, [], ◌-◌, ◌^◌};
 
-    /// With nothing in it. Its meter takes the place of the caller's, which is put here while a walk goes on.
+    /// With nothing in it. Its meter takes the place of the caller's, which is put here while a walk goes on; it counts no more, so
+    /// that nothing can begin to count anew.
     pub(crate) fn new(alloc: Global) -> Scratch<'p>
         ensures following { result.following.items ≡ [] }
     {

@@ -9,7 +9,8 @@ use Rattle.jtree.specs.Data.{Data, null, boolean, integer, text, list, object, I
 use Rattle.jtree.specs.declared.fault.JFault.{JFault}
 use Rattle.jtree.specs.declared.fault.JFault.TheVariants.{NotAnInteger, NoMemory, NotJson, TooLong, ReadFailed}
 
--- the tree that a JSON value is, or none where some number is not an integer of 64 bits
+-- the tree that a JSON value is, or none where some number is not an integer of 64 bits: `serde_json` holds `-0` and `1e2` as floats,
+-- and reads no value of `1e999`
 abbrev mutual
   pub tree_of : json.Data → Option Data
   tree_of json.null = Some null

@@ -74,7 +74,7 @@ impl<T: Read> Source for Feed<T> {
     }
 }
 
-/// How often a read that a signal interrupts is repeated.
+/// How often a read that a signal interrupts is repeated: so it ends however often it is interrupted.
 const MOST_TRIES: u32 = 1000;
 
 /// One read, repeated where a signal interrupted it.

@@ -50,7 +50,8 @@ pub(crate) struct SlotEntry {
 }
 
 /// The slots of a row, how many tuples the keys after each have, and the sizes that the slots from each place on can take: the last
-/// place first, then by the named fields before it, and by the number of members before it, up to the cap of the bounds.
+/// place first, then by the named fields before it, and by the number of members before it, up to the cap of the bounds. By the tuples
+/// a key is chosen without a look ahead over the slots.
 #[derive(Drop)]
 pub(crate) struct RowEntry<Z> {
     pub slots: Vec<SlotEntry>,

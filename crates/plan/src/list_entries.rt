@@ -96,7 +96,7 @@ fn cut_bounds(bounds: Bounds, most: u64) -> Bounds
 }
 
 /// The bounds where no two items may be alike: a set has at most as many items as these have candidates, a map list at most as many as
-/// there are tuples of keys.
+/// there are tuples of keys. So the table of a plain list does, cut to so many items: any item can have any other key and keeps its size.
 fn item_bounds<Z: SizeSet>(
     arena: &Arena<Z>,
     item: PlanNode,

@@ -35,7 +35,8 @@ pub(crate) fn end_sizes<Z: SizeSet>(count: u64, bounds: Bounds) -> Z
     }
 }
 
-/// The number of members from which on the bounds treat all numbers alike; it saturates.
+/// The number of members from which on the bounds treat all numbers alike; it saturates. The node limit is no cap: `rest` is answered
+/// for each number of members up to the place.
 fn cap(bounds: Bounds) -> u64
     ensures { result ≡ min (cap_of bounds) (2 ^ 64 - 1) }
 {

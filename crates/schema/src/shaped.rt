@@ -1,4 +1,5 @@
-//! The nodes of a schema that breaks no rule.
+//! The nodes of a schema that breaks no rule. Not in the module of `shape`: two names that differ only in case cannot be declared in
+//! one module.
 use crate::node::Node;
 use std::marker::Model;
 

@@ -26,6 +26,7 @@ pub fn complete(alloc: Global, node: &Node, tree: &Tree) -> Result<Tree, AllocEr
     ensures completed { IfOk result (λ t. IsCompleted (node_of node.now) (data_of tree.now) (data_of t)) }
     ensures again { let N = node_of node.now in IfOk result (λ t. (root : NodeData) (p : Place) (w : Data) → HasGoodDefaults root → node_at root p ≡ Some N → IsTree w → (IsPruned N (data_of t) w ↔ (w ≡ data_of t)) × (IsCompleted N (data_of t) w ↔ (w ≡ data_of t))) }
 {
+    // one copy, pruned in place and filled by moving its parts: besides it only defaults are copied
     let mut pruned = copy_tree(alloc, tree)?;
     prune(node, &mut pruned);
     pruned.reveal_invariant();

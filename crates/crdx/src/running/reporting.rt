@@ -72,7 +72,7 @@ pub(crate) fn write_answer<W: Sink, E: Sink>(
     report_alone(alloc, &Cause::Write(newlines(&text[..taken])), err)
 }
 
-/// How many lines end in the text.
+/// How many lines end in the text, of whatever was written, so that of each command the first lines can be kept.
 pub(crate) fn newlines(text: &[u8]) -> u64 {
     text.iter().filter(|byte| **byte == b'\n').count() as u64
 }

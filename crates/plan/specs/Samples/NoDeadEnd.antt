@@ -66,7 +66,7 @@ begins (v ∷ vs) (w ∷ t) = is_same v w && begins vs t
 abbrev pub HasFree : Pools → List Slot → List (List Data) → List Data → Type 0
 HasFree P ss used chosen = (t : List Data) × (IsTuple P ss t × (Contains used (chosen ++ t) → ⊥))
 
--- ---- all of it
+-- ---- all of it: `rows` asks for a row, since a leaf has no slots either, and an empty object would have to be a part of it
 
 pub record NoDeadEnd (P : Pools) (limit : ℕ) (s : Site) : Type 0 where
   pub rows : (front : List (Option Data)) (place m : ℕ) → sort_of s ≡ Row → AreFillings P (take place (slots P s)) front → place ≤ length (slots P s)

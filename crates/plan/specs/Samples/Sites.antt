@@ -46,7 +46,7 @@ abbrev mutual
   sites_of_fields P path no_fields = []
   sites_of_fields P path (field k N required default fs) = sites_from P (fixed_at (below path (step.field k)) P) (below path (step.field k)) N [] ++ sites_of_fields P path fs
 
--- all sites of a schema
+-- all sites of a schema, in an order that its nodes and the pools determine: so a plan is known by its question alone
 abbrev pub sites_of : Pools → Node → List Site
 sites_of P root = sites_from P None [] root []
 

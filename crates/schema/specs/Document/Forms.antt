@@ -71,6 +71,7 @@ form_below some_objects (index i) = object
 form_below texts (index i) = text
 form_below f s = any_tree
 
+-- The form at a path depends on the path alone. Inside a value of a wrong kind any tree will do, so that value is the break.
 abbrev pub form_at : Form → Path → Form
 form_at f [] = f
 form_at f (s ∷ path) = form_at (form_below f s) path

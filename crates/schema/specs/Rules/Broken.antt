@@ -117,5 +117,5 @@ Broken raw p V15 = PassesOutside raw p (has_misplaced_default p)
 Broken raw p V16 = At raw p (BreaksJunctors p (schema_at raw (core p)))
 -- outside the profile
 Broken raw p V17 = PassesOutside raw p (is_outside_profile (is_root p))
--- what a default becomes is not judged here
+-- V14: what a default becomes is a matter of nodes, which the crate `stored` judges (`Accepted.antt` there)
 Broken raw p _ = ⊥

@@ -16,7 +16,8 @@ abbrev pub declares_fields : Option Kind → Bool
 declares_fields (Some object) = true
 declares_fields _ = false
 
--- ---- the branches: `outer` is the schema at the place without its steps into branches, where that is a place
+-- ---- the branches: `outer` is the schema at the place without its steps into branches, where that is a place. Where it is none, V02 or
+-- V03 is broken, and the branch is judged as one that asks of the value.
 
 -- a branch at an object with declared fields asks which of these are present
 abbrev pub asks_presence : Place → Option Data → Bool
@@ -56,6 +57,7 @@ requires_no_field p outer s = any_item (is_no_field (is_root (core p)) (fields_o
 abbrev pub NamesField : Data → List ℕ → Type 0
 NamesField s k = (p : Place) × (is_inside p ≡ true) × (core p ≡ []) × (t : Data) × (schema_at s p ≡ Some t) × (is_among k (texts_under t (codes "required")) ≡ true)
 
+-- the tables of a plan have an entry for each set of named fields: 16 for four of them
 abbrev pub most_named : ℕ
 most_named = 4
 

@@ -1,5 +1,6 @@
 -- Why a place breaks one of the rules V03, V05, V11, V12, V16 and V17: each reason, and the keyword of the place that it is
--- about. The other rules are broken in one way each, and have no reasons. This project's own.
+-- about: what is absent is told at the keyword that asks for it, as `items` of a list at `type`. A reason that says the same of several
+-- rules belongs to each. The other rules are broken in one way each, and have no reasons. This project's own.
 use Rattle.std.specs.Prelude.{◌≡◌, ◌⊎◌, ℕ, List, [], ◌∷◌, Bool, true, false, Option, Some, None, if◌then◌else◌, not, ◌&&◌, ◌||◌, codes}
 use Rattle.std.specs.Option.{is_some}
 use Rattle.std.specs.Str.{bytes_eq}

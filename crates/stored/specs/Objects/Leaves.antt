@@ -80,7 +80,8 @@ AreLeaves N v leaves = (ls : List LeafAt) × AreLeavesAt N v ls × (map (λ l. l
 
 -- ---- laws
 
--- the elements of none begin those of another, at a later place of the list or at an earlier one
+-- The elements of none begin those of another, at a later place of the list or at an earlier one. It takes a schema that breaks no rule:
+-- at other nodes a set could hold objects, or a map list items without keys.
 abbrev pub BeginsNone : List (List ℕ) → List (List ℕ) → Type 0
 BeginsNone e f = ((rest : List (List ℕ)) → e ++ rest ≢ f) × ((rest : List (List ℕ)) → f ++ rest ≢ e)
 

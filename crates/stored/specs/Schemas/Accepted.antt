@@ -14,7 +14,8 @@ use Rattle.schema.specs.declared.violation.Rule.{Rule}
 use Rattle.schema.specs.declared.violation.Rule.TheVariants.{V14}
 use Rattle.stored.specs.Schemas.Defaults.{IsGoodDefault, HasDefault, HasGoodDefaults}
 
--- V14: the field at the place has a default that is not good. Fields have the defaults of their places.
+-- V14: the field at the place has a default that is not good. Fields have the defaults of their places, and where no other rule is
+-- broken, no other place has a default (V03, V15).
 pub record HasBadDefault (raw : Data) (p : Place) : Type 0 where
   pub root : Node
   pub nodes : AreNodesOf true root raw

@@ -68,7 +68,8 @@ pub record HasDeclaredNames (root : Node) (ts : List (List ℕ)) (v : Data) : Ty
   pub at_varied : (ks : List (List ℕ)) (path : Path) (N : Node) (w : Data) → is_among (path_text (path_of_names ks)) ts ≡ true → part_by_path leads (at root v) (steps_of_names ks ++ path) ≡ Some (at N w) → are_declared N w ≡ true
 
 -- Nothing is cut: there are not more lists than there can be, and fewer values in each, and fewer names, than there can be. Where there
--- can be no values at all, lists are left out as if they were empty.
+-- can be no values at all, lists are left out as if they were empty. Nothing is asked of fixed and present paths, of which the document
+-- has all.
 pub record IsUncut (limits : PoolLimits) (said : Said) : Type 0 where
   pub some : 0 < limits.entries
   pub lists : length said.lists ≤ limits.paths

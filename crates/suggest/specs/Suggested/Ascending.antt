@@ -1,4 +1,4 @@
--- The elements of a list in ascending order, each once (this project's own).
+-- The elements of a list in ascending order, each once (this project's own): by insertion, where the code sorts and drops repeats.
 use Rattle.std.specs.Prelude.{List, [], ◌∷◌}
 use Rattle.std.specs.declared.cmp.Ordering.{Ordering}
 use Rattle.std.specs.declared.cmp.Ordering.TheVariants.{Less, Equal, Greater}

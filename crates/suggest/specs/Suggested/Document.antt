@@ -28,7 +28,7 @@ items_of (d ∷ ds) = item d (items_of ds)
 abbrev pub letters : ℕ → List ℕ
 letters n = repeat n (codes "a")
 
--- the first of each list, as many as pools may have
+-- the first of each list, as many as pools may have by the standard limits, with the large ones too
 abbrev pub suggested_integers : Node → List Data
 suggested_integers root = map (λ z. integer z) (take standard.entries (all_integers root))
 
