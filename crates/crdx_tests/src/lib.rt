@@ -42,11 +42,14 @@
 //! | `program/resume_cases` | walks that stop after each byte, and the walks that go on there |
 //! | `program/hostile_cases` | documents that are cut, deep or long, and places that are no samples |
 //! | `program/envelope_cases` | the envelope of a resource, taken off and put back |
+//! | `examples` | the examples at the heads of the crates |
 //! | `support` | documents, fakes, the plain reference, and what several files use |
 #![tactic(auto)]
 
 #[cfg(test)]
 mod enumerate_tests;
+#[cfg(test)]
+mod examples;
 #[cfg(test)]
 mod explain_tests;
 #[cfg(test)]

@@ -1,4 +1,16 @@
 //! Samples of a plan, each made from the one before it.
+//!
+//! [`page`] answers the first samples past an object, or from the first one on, and whether none is left. A [`Live`] stands at a sample,
+//! moves to the next one, and lends samples to a [`Taker`] without a copy.
+//!
+//! ```
+//! let mut meter = plan.meter();
+//! let first = page(alloc, &plan, None, 2, &mut meter)?;
+//! assert_eq!(rt; first.items.len(), 2);
+//! assert!(rt; !first.end, "more samples are left");
+//! ```
+//!
+//! The cost of a sample does not grow with how many come before it: its steps are bounded by the limit and the width of the plan.
 #![tactic(auto)]
 
 mod copying;

@@ -1,4 +1,16 @@
-//! JSON trees with integers only: their order, their text, and pointers into them.
+//! JSON trees whose numbers are integers of 64 bits: documents, their order, their compact text, and pointers into them.
+//!
+//! [`Tree::from_bytes`] reads a document, and [`Tree::to_text`] writes its compact text: no white space, members by the bytes of their
+//! names. Trees are ordered by their number of nodes, and then by kind and value.
+//!
+//! ```
+//! let tree = Tree::from_bytes(alloc, r#"{"b": [1, 2], "a": null}"#.as_bytes())?;
+//! let text = tree.to_text(alloc)?;
+//! assert_eq!(rt; text.as_str(), r#"{"a":null,"b":[1,2]}"#);
+//! assert_eq!(rt; tree.nodes(), 5);
+//! ```
+//!
+//! `source` is where bytes come from, `lines` reads one document a line, and `laws` says what holds of the definitions.
 #![tactic(auto)]
 
 mod copy;

@@ -1,4 +1,16 @@
 //! What samples are made of: pools of values, and a plan that joins them with a schema and a node limit.
+//!
+//! [`Pools::read`] reads a pools document, and [`Plan::new`] makes the plan: for each node its slots, items or candidates, and how many
+//! nodes what is begun can still have, so that whatever is begun within these sizes can be completed.
+//!
+//! ```
+//! let document = Tree::from_bytes(alloc, r#"{"integers":[0,1]}"#.as_bytes())?;
+//! let pools = Pools::read(alloc, &document)?;
+//! let plan: Plan<u64> = Plan::new(alloc, schema, pools, 4)?;
+//! assert_eq!(rt; plan.limit(), 4);
+//! ```
+//!
+//! Sets of sizes are words of 64 or 128 bits ([`SizeSet`]); the limit is below their number of bits.
 #![tactic(auto)]
 
 mod arena;

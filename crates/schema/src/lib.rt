@@ -1,4 +1,17 @@
-//! Reads a CustomResourceDefinition, and the schema of one of its versions.
+//! Reads a CustomResourceDefinition, and judges the schema of one of its versions (apiextensions.k8s.io/v1, structural schemas).
+//!
+//! [`read_crd`] reads the schema of a version as it is written, [`breaks`] lists the rules that it breaks, V14 aside, each with its
+//! place, and [`shape`] answers its nodes where it breaks none. Here `WIDGET` is a definition with an integer `a` and a truth value `b`
+//! below `spec`:
+//!
+//! ```
+//! let document = Tree::from_bytes(alloc, WIDGET.as_bytes())?;
+//! let crd = read_crd(alloc, &document, "v1")?;
+//! let broken = breaks(alloc, &crd.raw)?;
+//! assert!(rt; broken.is_empty(), "a schema that breaks no rule");
+//! ```
+//!
+//! A larger definition is read with other [`Limits`] by [`read_crd_within`]. `laws` says what holds of nodes and reasons.
 #![tactic(auto)]
 
 mod definition;

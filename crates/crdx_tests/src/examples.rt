@@ -1,0 +1,106 @@
+//! The examples at the heads of the crates, line by line, each a test.
+use crate::support::documents::{SPEC, WIDGET, ZERO_AND_ONE};
+use crate::support::fakes::{FailingSink, FakeInputs};
+use crate::support::harness::{made, schema_of, words_of};
+use cover::cover;
+use crdx::run;
+use enumerate::page;
+use explain::Listing;
+use jtree::Tree;
+use plan::{Plan, PoolLimits, Pools};
+use schema::{breaks, read_crd};
+use std::test::Fail;
+use stored::{accept, complete};
+use suggest::{Wanted, suggested_pools};
+
+#[test]
+fn jtree(rt: HostRuntime) -> Result<(), Fail> {
+    let alloc = rt.alloc();
+    let tree = Tree::from_bytes(alloc, r#"{"b": [1, 2], "a": null}"#.as_bytes())?;
+    let text = tree.to_text(alloc)?;
+    assert_eq!(rt; text.as_str(), r#"{"a":null,"b":[1,2]}"#);
+    assert_eq!(rt; tree.nodes(), 5);
+    Ok(())
+}
+
+#[test]
+fn schema_and_stored(rt: HostRuntime) -> Result<(), Fail> {
+    let alloc = rt.alloc();
+    let document = Tree::from_bytes(alloc, WIDGET.as_bytes())?;
+    let crd = read_crd(alloc, &document, "v1")?;
+    let broken = breaks(alloc, &crd.raw)?;
+    assert!(rt; broken.is_empty(), "a schema that breaks no rule");
+    let schema = accept(alloc, crd.raw)?;
+    let object = Tree::from_bytes(alloc, r#"{"spec":{"a":1,"z":2}}"#.as_bytes())?;
+    let completed = complete(alloc, schema.root(), &object)?;
+    let text = completed.to_text(alloc)?;
+    assert_eq!(rt; text.as_str(), r#"{"spec":{"a":1}}"#);
+    Ok(())
+}
+
+#[test]
+fn explain(rt: HostRuntime) -> Result<(), Fail> {
+    let alloc = rt.alloc();
+    let schema = schema_of(alloc, SPEC)?;
+    let listing = Listing::new(alloc, &schema)?;
+    let last = listing.fields().last().map(|field| field.path.as_str());
+    assert!(rt; last == Some("/spec/b"), "the last path");
+    Ok(())
+}
+
+#[test]
+fn plan(rt: HostRuntime) -> Result<(), Fail> {
+    let alloc = rt.alloc();
+    let schema = schema_of(alloc, SPEC)?;
+    let document = Tree::from_bytes(alloc, r#"{"integers":[0,1]}"#.as_bytes())?;
+    let pools = Pools::read(alloc, &document)?;
+    let plan: Plan<u64> = Plan::new(alloc, schema, pools, 4)?;
+    assert_eq!(rt; plan.limit(), 4);
+    Ok(())
+}
+
+#[test]
+fn enumerate(rt: HostRuntime) -> Result<(), Fail> {
+    let alloc = rt.alloc();
+    let mut plan = made(alloc, (SPEC, ZERO_AND_ONE, 4))?;
+    let mut meter = plan.meter();
+    let first = page(alloc, &plan, None, 2, &mut meter)?;
+    assert_eq!(rt; first.items.len(), 2);
+    assert!(rt; !first.end, "more samples are left");
+    Ok(())
+}
+
+#[test]
+fn cover_of_fields(rt: HostRuntime) -> Result<(), Fail> {
+    let alloc = rt.alloc();
+    let plan = made(alloc, (SPEC, ZERO_AND_ONE, 4))?;
+    let covered = cover(alloc, plan, false)?;
+    assert_eq!(rt; covered.lines.len(), 3);
+    assert!(rt; covered.missed.is_empty(), "each path is in some sample");
+    Ok(())
+}
+
+#[test]
+fn suggest(rt: HostRuntime) -> Result<(), Fail> {
+    let alloc = rt.alloc();
+    let raw = Tree::from_bytes(alloc, SPEC.as_bytes())?;
+    let schema = schema_of(alloc, SPEC)?;
+    let wanted = Wanted { objects: &[], varied: &[], without: &[] };
+    let pools = suggested_pools(alloc, &raw, &schema, &wanted, PoolLimits::STANDARD)?;
+    let text = pools.to_text(alloc)?;
+    assert_eq!(rt; text.as_str(), r#"{"any":["a",{}],"integers":[0,1],"names":["a","b"],"strings":["a"]}"#);
+    Ok(())
+}
+
+#[test]
+fn crdx(rt: HostRuntime) -> Result<(), Fail> {
+    let alloc = rt.alloc();
+    let mut inputs = FakeInputs::new(alloc, WIDGET, "");
+    let mut out = FailingSink::endless(alloc);
+    let mut err = FailingSink::endless(alloc);
+    let words = words_of(alloc, "crdx check crd.json v1")?;
+    let status = run(alloc, words.as_slice(), &mut inputs, &mut out, &mut err);
+    assert_eq!(rt; status, 0);
+    assert_eq!(rt; out.text(), "structural\n");
+    Ok(())
+}
