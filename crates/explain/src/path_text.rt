@@ -22,9 +22,18 @@ pub enum Step<'a> {
 pub fn path_below(alloc: Global, path: &str, step: Step<'_>) -> Result<String, AllocError>
     ensures { IfOk result (λ s. string_bytes s ≡ path.now ++ step_text (step_of step.entry)) }
 {
-    let mut text = String::from_str(alloc, path)?;
+    let mut text = String::with_capacity(alloc, path.len().saturating_add(room_of(step)))?;
+    text.push_str(path)?;
     push_step(&mut text, step)?;
     Ok(text)
+}
+
+/// How many bytes the text of a step takes, where nothing in it is escaped.
+fn room_of(step: Step<'_>) -> usize {
+    match step {
+        Step::Field(name) => name.len().saturating_add(1),
+        Step::Item | Step::Value => 3,
+    }
 }
 
 /// Appends the text of a step.

@@ -99,7 +99,7 @@ fn build_fields<Z: SizeSet>(
     ensures kept { IsKept arena.old arena.new }
     ensures built { IfOk result (λ slots. AreBuilt Z.holds arena.old.limit pools.now arena.old.values arena.old.entries.items arena.new.entries.items path.now fields.now keys.now named.now slots.items) }
 {
-    let mut slots = Vec::new(alloc);
+    let mut slots = Vec::with_capacity(alloc, fields.fields.len())?;
     for field in &fields.fields {
         let slot = build_field(arena, alloc, pools, path, field, keys, named)?;
         slots.push(slot)?;
@@ -264,7 +264,7 @@ fn value_slots(alloc: Global, count: usize, node: PlanNode) -> Result<Vec<SlotEn
     ensures slots { IfOk result (λ slots. (names : List (List ℕ)) (sites : List Site) (i : ℕ) (P : PoolsData) (path : List ℕ) (M : NodeData) → count ≡ length names → node < i → site_at sites node ≡ plain P (below path value_step) M
         → AreSlots names sites i slots.items (map_list (value_slot P path M) names)) }
 {
-    let mut slots = Vec::new(alloc);
+    let mut slots = Vec::with_capacity(alloc, count)?;
     for place in 0..count {
         slots.push(SlotEntry {
             name: SlotName::Pool(place),

@@ -30,7 +30,7 @@ fn choices<Z: SizeSet>(
     requires { All (λ (s : SlotEntry). s.node < length arena.now.entries.items) slots.now }
     ensures { IfOk result (λ choices. AreChosen arena.now.entries.items choices.items slots.now) }
 {
-    let mut choices = Vec::new(alloc);
+    let mut choices = Vec::with_capacity(alloc, slots.len())?;
     for slot in slots {
         choices.push(Choice {
             sizes: arena.entry(slot.node).sizes,
@@ -51,9 +51,9 @@ fn later_tuples<Z: SizeSet>(
     ensures later { IfOk result (λ later. (P : Pools) (sites : List Site) (i : ℕ) (ss : List Slot) → AreRight Z.holds arena.now.limit P arena.now.values sites arena.now.entries.items → i ≤ length arena.now.entries.items
         → AreSlots arena.now.values.names.items sites i slots.now ss → AreLater P ss later.items) }
 {
-    let mut later = Vec::new(alloc);
-    let mut tuples: u64 = 1;
     let count = slots.len();
+    let mut later = Vec::with_capacity(alloc, count)?;
+    let mut tuples: u64 = 1;
     for done in 0..count {
         later.push(tuples)?;
         tuples = tuples_from(arena, &slots[count - 1 - done], tuples);

@@ -128,7 +128,7 @@ fn base_by_node(alloc: Global, node: &Node) -> Result<Base, AllocError>
 fn stored_places(alloc: Global, node: &Node, trees: &[Tree]) -> Result<Vec<usize>, AllocError>
     ensures { IfOk result (λ places. (past : Tree) → AreStored (node_of node.now) (trees_of trees.now) (at_places past trees.now places.items)) }
 {
-    let mut places = Vec::new(alloc);
+    let mut places = Vec::with_capacity(alloc, trees.len())?;
     for (place, tree) in trees.iter().enumerate() {
         tree.reveal_invariant();
         if is_stored(node, tree) {

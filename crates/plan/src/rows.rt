@@ -94,7 +94,7 @@ fn last_level<Z: SizeSet>(
     ensures whole { IfOk result (λ level. length level.items ≡ columns_of bounds count) }
     ensures level { IfOk result (λ level. (P : Pools) (e : Ending) (seen : ℕ) → e.bounds ≡ bounds → holds ≡ meets_seen e.asked seen → IsLevel Z.holds limit e P [] seen level.items) }
 {
-    let mut level = Vec::new(alloc);
+    let mut level = Vec::with_capacity(alloc, columns(bounds, count))?;
     for taken in 0..columns(bounds, count) {
         level.push(row_end(taken as u64, bounds, holds))?;
     }
@@ -114,7 +114,7 @@ fn last_table<Z: SizeSet>(
     ensures shape { IfOk result (λ table. HasShape (length ends.now) (columns_of bounds count) table.items) }
     ensures table { IfOk result (λ table. (P : Pools) (e : Ending) → e.bounds ≡ bounds → AreMet e.asked ends.now → IsTable Z.holds limit e P [] table.items) }
 {
-    let mut table = Vec::new(alloc);
+    let mut table = Vec::with_capacity(alloc, ends.len())?;
     for seen in 0..ends.len() {
         let holds = ends[seen];
         let level = last_level(alloc, count, bounds, holds, limit)?;
@@ -142,7 +142,7 @@ fn slot_level<Z: SizeSet>(
     ensures level { IfOk result (λ level. (P : Pools) (s : Slot) (ss : List Slot) (e : Ending) (seen : ℕ) → e.bounds ≡ bounds → IsUpTo limit (Z.holds choice.now.sizes) (HasSize P s.site) → choice.now.must ≡ s.must → IsLevel Z.holds limit e P ss seen without.now
         → IsLevel Z.holds limit e P ss (with_bit s.bit seen) with.now → IsLevel Z.holds limit e P (s ∷ ss) seen level.items) }
 {
-    let mut level = Vec::new(alloc);
+    let mut level = Vec::with_capacity(alloc, columns(bounds, before))?;
     let last = with.len() - 1;
     for taken in 0..columns(bounds, before) {
         let more = (taken + 1).min(last);
@@ -178,7 +178,7 @@ fn slot_table<Z: SizeSet>(
     ensures shape { IfOk result (λ table. HasShape (length after.now) (columns_of bounds before) table.items) }
     ensures table { IfOk result (λ table. (P : Pools) (s : Slot) (ss : List Slot) (e : Ending) → e.bounds ≡ bounds → IsUpTo limit (Z.holds choice.now.sizes) (HasSize P s.site) → choice.now.must ≡ s.must → choice.now.bit ≡ s.bit → IsTable Z.holds limit e P ss after.now → IsTable Z.holds limit e P (s ∷ ss) table.items) }
 {
-    let mut table = Vec::new(alloc);
+    let mut table = Vec::with_capacity(alloc, after.len())?;
     for seen in 0..after.len() {
         let with = seen_with(choice.bit, seen);
         let level = slot_level(
@@ -211,8 +211,8 @@ pub(crate) fn tables<Z: SizeSet>(
     ensures shaped { IfOk result (λ tables. AreShaped bounds (length choices.now) (length ends.now) tables.items) }
     ensures tables { IfOk result (λ tables. (P : Pools) (ss : List Slot) (e : Ending) → e.bounds ≡ bounds → AreMet e.asked ends.now → AreChoices Z.holds limit P choices.now ss → AreTables Z.holds limit e P ss tables.items) }
 {
-    let mut tables = Vec::new(alloc);
     let count = choices.len();
+    let mut tables = Vec::with_capacity(alloc, count + 1)?;
     tables.push(last_table(alloc, count, bounds, ends, limit)?)?;
     for done in 0..count {
         let before = count - 1 - done;

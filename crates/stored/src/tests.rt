@@ -112,8 +112,8 @@ fn scalar_values(text: &str) -> u64
 pub(crate) fn is_too_short(constraints: &Constraints, tree: &Tree) -> bool
     ensures { result ≡ is_too_short_of constraints.now.lengths.least (data_of tree.now) }
 {
-    match tree {
-        Tree::Text(text) => is_below(constraints.lengths.least, scalar_values(text.as_str())),
+    match (constraints.lengths.least, tree) {
+        (Some(least), Tree::Text(text)) => scalar_values(text.as_str()) < least,
         _ => false,
     }
 }
@@ -122,8 +122,8 @@ pub(crate) fn is_too_short(constraints: &Constraints, tree: &Tree) -> bool
 pub(crate) fn is_too_long(constraints: &Constraints, tree: &Tree) -> bool
     ensures { result ≡ is_too_long_of constraints.now.lengths.most (data_of tree.now) }
 {
-    match tree {
-        Tree::Text(text) => is_above(constraints.lengths.most, scalar_values(text.as_str())),
+    match (constraints.lengths.most, tree) {
+        (Some(most), Tree::Text(text)) => most < scalar_values(text.as_str()),
         _ => false,
     }
 }

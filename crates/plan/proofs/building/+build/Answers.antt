@@ -78,7 +78,7 @@ build_field-returns-clause-slot g t c = record { name_is = λ names. c.in_ok-cop
 pub build_fields-loop-field-init : goal.build_fields-loop-field-init
 build_fields-loop-field-init g t c =
     let a = c.args.arena.now in
-    record { kept = (refl, refl); built = rw c.new-slots.ensures.items (no_fields_built g.Z.SizeSet.holds a.limit c.args.pools.now a.values a.entries.items c.args.path.now c.args.keys.now c.args.named.now) }
+    record { kept = (refl, refl); built = rw c.in_ok-slots.ensures.items (no_fields_built g.Z.SizeSet.holds a.limit c.args.pools.now a.values a.entries.items c.args.path.now c.args.keys.now c.args.named.now) }
 
 pub build_map-add_row-requires-clause-below : goal.build_map-add_row-requires-clause-below
 build_map-add_row-requires-clause-below g t c = λ k d l. let h = c.in_ok-slots.ensures.below k d l in omega (arith, c.in_ok-value.ensures.built.last)

@@ -8,7 +8,7 @@ pub loop-done-init : goal.loop-done-init
 loop-done-init g c =
     let xs = c.args.slots.now in
     let first : length xs - 0 ≡ length xs = omega arith in
-    rw c.new-later.ensures.items
+    rw c.in_ok-later.ensures.items
     (record {
       whole = omega arith;
       next = λ P sites i ss right inside slots. rw first (tuples_end P c.args.arena.now.values.names.items sites i xs ss slots);

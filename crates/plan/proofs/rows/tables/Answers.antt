@@ -7,7 +7,7 @@ use Rattle.plan.proofs.rows.tables.Goals as goal
 pub loop-done-init : goal.loop-done-init
 loop-done-init g c =
     let table = c.in_ok-last_table.field-0 in
-    let e = rw c.new-tables.ensures.items at c.in_ok-push.ensures.items in
+    let e = rw c.in_ok-tables.ensures.items at c.in_ok-push.ensures.items in
     rw e
     (record {
       whole = omega arith;
