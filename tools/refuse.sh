@@ -1,6 +1,6 @@
 #!/usr/bin/env bash
 # Runs the program again and again with one of its requests for memory refused: the first, the second, and so on until a run meets no refusal.
-# Each run has to give the row's own answer, or to end out of memory as docs/MEANING.md says: status 5, `crdx: out of memory`, and
+# Each run has to give the row's own answer, or to end out of memory as docs/reference/program.md says: status 5, `crdx: out of memory`, and
 # on standard output nothing, or whole lines with which the row's own output begins.
 # Usage: tools/refuse.sh [PROGRAM], by default the program that `rt ci` leaves.
 set -euo pipefail

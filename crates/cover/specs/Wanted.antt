@@ -22,7 +22,7 @@ abbrev pub with_value : List ℕ → Data → Wanted
 with_value path v = record { path = path; value = Some v }
 
 -- the values that are wanted at a node with this path: all candidates of a scalar over the pools, in the tree order, where values are
--- wanted at all; and else none
+-- wanted at all; and else none. What the pools fix above the node makes no difference; where they fix its own values, there are no others.
 abbrev pub AreValuesAt : Bool → Pools → List ℕ → Node → List Data → Type 0
 AreValuesAt true P path (node nullable description (scalar kind cs)) vs = AreCandidates P (plain P path (node nullable description (scalar kind cs))) vs
 AreValuesAt _ P path N vs = vs ≡ []

@@ -1,4 +1,5 @@
--- Where a sample differs from the one before it (this project's own).
+-- Where a sample differs from the one before it, and in nothing else: in its last node, with the last nodes of both and how many levels
+-- down they are, or in the part that is so many levels down by the last item or member (this project's own).
 use Rattle.std.specs.Prelude.{◌≡◌, ◌-◌, ◌^◌, min}
 use Rattle.jtree.specs.Data.{Data}
 use Rattle.jtree.specs.Last.{last_depth, last_of, with_last, with_part}

@@ -10,7 +10,7 @@ use Rattle.plan.specs.Samples.Steps.{delay}
 use Rattle.enumerate.specs.Least.{IsLeast}
 use Rattle.enumerate.specs.Page.{IsPage, IsPastSample}
 
--- the question of the plan, and the current sample; None once the enumeration has ended
+-- the question of the plan, and the current sample; None once the enumeration has ended: there is no next sample, or memory ran out
 pub record Enumeration : Type 0 where
   pub question : Question
   pub at : Option Data

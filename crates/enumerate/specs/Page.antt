@@ -1,4 +1,5 @@
--- A page of samples: the first ones past a place, each once, in the tree order (this project's own).
+-- A page of samples: the first ones past a place, each once, in the tree order (this project's own). A question has at most one page of
+-- a count past a place (`pages_agree`), whatever sets of sizes its plan has.
 use Rattle.std.specs.Prelude.{◌≡◌, ◌≤◌, ◌⊎◌, ◌↔◌, ℕ, List, length, Bool, false, IsTrue, Option, Some, None, All, AllPairs, Contains}
 use Rattle.std.specs.declared.cmp.Ordering.TheVariants.{Less}
 use Rattle.jtree.specs.Data.{Data}

@@ -1,4 +1,5 @@
--- Sets of sizes, each said by what its members are. This project's own.
+-- Sets of sizes, each said by what its members are. A set holds numbers below 64, or below 128, as the bits of a word, so a plan over
+-- it has a limit of 1 to 63, or to 127. This project's own.
 use Rattle.std.specs.Prelude.{◌≡◌, ℕ, ◌+◌, ◌≤◌, ◌<◌}
 use Rattle.std.specs.Int.{bit_at}
 

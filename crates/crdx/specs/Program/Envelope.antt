@@ -25,7 +25,7 @@ first_of None v = v
 first_of (Some d) v = Some d
 
 -- an object joined with an envelope: under each name is what the envelope has there, or else what the object has; another
--- tree is as it was
+-- tree is as it was. So the body of an object, joined with its envelope, is the object.
 abbrev pub IsJoined : Data → Members → Data → Type 0
 IsJoined (object ms) ps w = (ns : Members) × (w ≡ object ns) × AreMembers ns × ((k : List ℕ) → member_at k ns ≡ first_of (member_at k ps) (member_at k ms))
 IsJoined v ps w = w ≡ v

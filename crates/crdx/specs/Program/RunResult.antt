@@ -137,7 +137,8 @@ abbrev pub lines_of : Effects → ObjectArguments → List (List ℕ) → Type 0
 lines_of run arguments = run.lines (file_name arguments.object)
 
 -- The exit status of a run on lines, at the node of their bodies: that of the answers to all lines; or the answers to the first ones
--- are out, and 3 the next line is no document, 4 a read failed, 5 out of memory; or a beginning of them is, since a write failed.
+-- are out, and 3 the next line is no document, 4 a read failed, 5 out of memory, or 2^64 - 1 lines, as far as they are counted; or a
+-- beginning of them is, since a write failed.
 pub data IsLinesResult (run : Effects) (N : Node) (arguments : ObjectArguments) : ℕ → Type 0 where
   all_answered : (lines : List (List ℕ)) (status : ℕ) (text : List ℕ) → AreAnswered (lines_of run arguments) N arguments.command lines [] status text
       → Appends run.output_before run.output text → run.failed_writes ≡ run.failed_writes_before → IsLinesResult run N arguments status

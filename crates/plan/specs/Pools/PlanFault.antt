@@ -1,5 +1,5 @@
--- Why there is no plan: a node limit that is too great for the sets of sizes, or a path of the pools that does not lead where it has to
--- (this project's own).
+-- Why there is no plan: a node limit that is 0 or too great for the sets of sizes, or a path of the pools that does not lead where it
+-- has to (this project's own).
 use Rattle.std.specs.Prelude.{◌≡◌, ◌≢◌, ◌≤◌, ◌<◌, ◌⊎◌, ℕ, List, Some, Contains, string_bytes}
 use Rattle.std.specs.declared.cmp.Ordering.TheVariants.{Less}
 use Rattle.jtree.specs.Data.{Data, Members}

@@ -14,7 +14,7 @@ use Rattle.plan.specs.declared.sort.Distinct.TheVariants.{Free, Whole, Keys}
 use Rattle.plan.specs.declared.sort.Sort.{Sort}
 use Rattle.plan.specs.declared.sort.Sort.TheVariants.{Leaf, Row, List as ListSort}
 
--- a leaf holds one of its candidates, a row members under its slots
+-- a leaf holds one of its candidates, a row members under its slots, a list items that are parts of one site
 abbrev pub sort_at : Node → Sort
 sort_at (node nullable description (scalar kind cs)) = Leaf
 sort_at (node nullable description open_) = Leaf
@@ -38,7 +38,7 @@ distinct_at _ = Free
 abbrev pub distinct_of : Site → Distinct
 distinct_of s = where_fixed s.fixed Free (distinct_at s.node)
 
--- all parts of the site, in the tree order, each once
+-- all parts of the site, in the tree order, each once; null is one of them where it is accepted
 pub record AreCandidates (P : Pools) (s : Site) (vs : List Data) : Type 0 where
   pub each : (v : Data) → Contains vs v ↔ IsPart P s v
   pub ascending : AllPairs (λ u v. tree_cmp u v ≡ Less) vs

@@ -73,7 +73,8 @@ pub record NoDeadEnd (P : Pools) (limit : ℕ) (s : Site) : Type 0 where
       → HasRest P s place (state_after (take place (slots P s)) front nothing) m → RowCompletes P s place front m
   pub lists : (M : Site) (front : Items) (m : ℕ) → item_site P s ≡ Some M → AreParts P M front → are_apart (alike_at s) front ≡ true
       → HasMore P limit s (fault.items_count front) m → ListCompletes P s front m
-  -- the first keys of an item, where other items use these tuples
+  -- the first keys of an item, where other items use these tuples: one that no other item has is left exactly where fewer of them begin
+  -- with the chosen values than there are tuples of candidates of the later keys
   pub keys : (first later : List Slot) (used : List (List Data)) (chosen : List Data) (counts : List ℕ)
       → filter is_key (slots P s) ≡ first ++ later → IsTuple P first chosen → All (IsTuple P (first ++ later)) used → AllPairs (λ t u. t ≢ u) used
       → AreCounts P later counts → HasFree P later used chosen ↔ (length (filter (begins chosen) used) < product counts)

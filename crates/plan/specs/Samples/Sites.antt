@@ -46,7 +46,8 @@ abbrev mutual
   sites_of_fields P path no_fields = []
   sites_of_fields P path (field k N required default fs) = sites_from P (fixed_at (below path (step.field k)) P) (below path (step.field k)) N [] ++ sites_of_fields P path fs
 
--- all sites of a schema, in an order that its nodes and the pools determine: so a plan is known by its question alone
+-- all sites of a schema: those below a site before it, the fields of an object by their names, the root last. The order depends on its
+-- nodes and the pools alone, so a plan is known by its question.
 abbrev pub sites_of : Pools → Node → List Site
 sites_of P root = sites_from P None [] root []
 
@@ -78,7 +79,7 @@ field_slots P path keys names (field k N required default fs) =
 abbrev pub value_slot : Pools → List ℕ → Node → List ℕ → Slot
 value_slot P path N k = record { name = k; site = plain P (below path step.value) N; must = false; key = false; bit = None }
 
--- the declared names of an object, and the names of the pools at a map
+-- the declared names of an object; at a map the names of the pools by their bytes, each once, and each slot may stay empty
 abbrev pub slots_at : Pools → List ℕ → Node → List (List ℕ) → List Slot
 slots_at P path (node nullable description (object fs preserves type bounds cs)) keys = field_slots P path keys (named cs) fs
 slots_at P path (node nullable description (nodes.map N type bounds)) keys = map (value_slot P path N) (in_order P.names)

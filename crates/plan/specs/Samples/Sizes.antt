@@ -1,5 +1,5 @@
 -- The sizes of parts, and of what can still follow in an object, a map or a list that was begun: each said by existence (this
--- project's own). A size is a number of nodes.
+-- project's own). A size is a number of nodes. The node of the object, the map or the list itself counts in the sizes of the site alone.
 use Rattle.std.specs.Prelude.{◌≡◌, ℕ, zero, suc, ◌+◌, ◌≤◌, ◌↔◌, List, [], ◌∷◌, Bool, true, false, Option, Some, None, drop, max, unwrap_or}
 use Rattle.jtree.specs.Data.{Data, Items, no_items, item}
 use Rattle.jtree.specs.Data as tree
@@ -95,7 +95,9 @@ pub record CanFill (P : Pools) (ss : List Slot) (e : Ending) (x : Before) (m : �
   pub ends : MayEnd e (state_after ss fillings x)
   pub nodes_are : filled_nodes fillings ≡ m
 
--- the slots from a place on can be filled with m nodes so that the row may end
+-- The slots from a place on can be filled with m nodes so that the row may end. With three optional booleans a, b and c and
+-- `minProperties` 2, m is 2 or 3 at place 0; at place 1 it is 2 without a, and 1 or 2 with it; at place 2 there is none without both. With
+-- `oneOf` `[{"required":["a"]},{"required":["b"]}]` in its place, m is 0 or 1 at place 2 after one of a and b; after both or neither none.
 abbrev pub HasRest : Pools → Site → ℕ → Before → ℕ → Type 0
 HasRest P s place x m = CanFill P (drop place (slots P s)) (ending_of P s) x m
 
@@ -108,7 +110,8 @@ items_from (suc i) no_items = no_items
 items_from (suc i) (item d ds) = items_from i ds
 
 -- Some list that is a part of the site, with at most as many nodes as the limit, has at least t items, and those after the first
--- t have m nodes.
+-- t have m nodes. In a map list whose key has two values beside an optional integer with one, at limit 8, items have 2 or 3 nodes and
+-- no list has three items; so m is 0 or 2 to 6 for t = 0; 0, 2 or 3 for t = 1; and 0 for t = 2.
 pub record HasMore (P : Pools) (limit : ℕ) (s : Site) (t m : ℕ) : Type 0 where
   pub items : Items
   pub part : IsPart P s (tree.list items)

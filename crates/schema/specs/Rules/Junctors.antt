@@ -65,7 +65,7 @@ most_named = 4
 abbrev pub NamesTooMany : Data → Type 0
 NamesTooMany s = (names : List (List ℕ)) × AllPairs (λ k l. k ≢ l) names × All (NamesField s) names × (most_named < length names)
 
--- ---- junctors outside the profile: four conditions, in the order of docs/MEANING.md
+-- ---- junctors outside the profile: four conditions, in the order of docs/reference/schema-rules.md
 
 -- an outside place that is neither a scalar nor an object with declared fields
 abbrev pub takes_no_junctor : Place → Data → Bool

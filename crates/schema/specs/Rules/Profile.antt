@@ -105,7 +105,7 @@ abbrev pub has_other_choice : Option Kind → Data → Bool
 has_other_choice (Some (scalar k)) s = lists_other (accepts k) s
 has_other_choice _ s = false
 
--- ---- the profile: nine conditions, in the order of docs/MEANING.md
+-- ---- the profile: nine conditions, in the order of docs/reference/schema-rules.md
 
 abbrev pub is_root : Place → Bool
 is_root [] = true

@@ -1,5 +1,6 @@
 -- Which scalars the suggested values reach: each without `enum` and junctors that accepts a truth value, an integer or a text that is
--- not too long has a candidate of that kind (this project's own).
+-- not too long has a candidate of that kind (this project's own). Nothing is said of junctors, whose branches together can ask for a
+-- value that is next to none of their bounds.
 use Rattle.std.specs.Prelude.{◌≡◌, ◌≤◌, None, length, chars}
 use Rattle.jtree.specs.Data.{Data, boolean, integer, text}
 use Rattle.jtree.specs.Order.{kind}

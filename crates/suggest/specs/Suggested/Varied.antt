@@ -87,7 +87,8 @@ abbrev pub there_in : Option Data → Reach
 there_in (Some (tree.object ms)) = There
 there_in _ = Missing
 
--- Whether the text is that of a declared path of names from this node on, and whether the object has what the last of them belongs to.
+-- Whether the text is that of a declared path of names from this node on, since what is below a list or a map stands at many places; and
+-- whether the object has what the last of them belongs to.
 abbrev mutual
   pub reach : List ℕ → Option Data → List ℕ → Node → Reach
   reach text v path (node nullable description (object fs preserves type bounds cs)) = reach_by_fields text v path fs
