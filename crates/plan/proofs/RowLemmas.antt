@@ -1,7 +1,7 @@
 -- The sizes that the slots of a row can take, from the last slot to the first.
-use Rattle.std.specs.Prelude.{◌≡◌, ℕ, zero, suc, ◌+◌, ◌-◌, ◌≤◌, ◌<◌, ◌⊎◌, ◌↔◌, false, List, Option, Some, None, drop, min, option_map, unwrap_or}
+use Rattle.std.specs.Prelude.{◌≡◌, ℕ, zero, suc, ◌+◌, ◌-◌, ◌≤◌, ◌<◌, ◌⊎◌, ◌↔◌, true, false, not, ◌&&◌, List, Option, Some, None, drop, min, option_map, unwrap_or}
 use Rattle.std.proofs.Common.{refl, ap, sym, inl, inr, arith, [], ◌∷◌, ◌++◌, length, get_or}
-use Rattle.std.proofs.lemmas.Bool.{cases_lt, le-ltb, ltb-false}
+use Rattle.std.proofs.lemmas.Bool.{and_parts, and_from, cases_lt, le-ltb, ltb-false, not-true}
 use Rattle.std.specs.declared.vec.Vec.{Vec}
 use Rattle.std.specs.declared.alloc.Global.{Global}
 use Rattle.jtree.specs.Data.{Data}
@@ -17,6 +17,13 @@ use Rattle.plan.specs.Samples.Sizes.{HasSize, AreFillings, filled_nodes, Before,
 use Rattle.plan.specs.Internal.Tables.{cap, columns, IsLevel, IsTable, HasShape, AreChoices, AreShaped, AreTables}
 use Rattle.plan.specs.declared.rows.Choice.{Choice}
 use Rattle.plan.proofs.SizeLemmas.{sum_up_to, each_push}
+
+-- what the test of bounds says
+pub within_of : (b : Bounds) (n : ℕ) → (not (is_below b.least n) && not (is_above b.most n)) ≡ true → IsWithin b n
+within_of b n h = let both = and_parts _ _ h in (not-true _ both.0, not-true _ both.1)
+
+pub within_from : (b : Bounds) (n : ℕ) → IsWithin b n → (not (is_below b.least n) && not (is_above b.most n)) ≡ true
+within_from b n w = and_from _ _ (ap not w.0) (ap not w.1)
 
 no_fillings : (P : Pools) (e : Ending) (x : Before) (m : ℕ) (gs : List (Option Data)) → AreFillings P [] gs → MayEnd e (state_after [] gs x) → filled_nodes gs ≡ m → (m ≡ 0) × MayEnd e x
 no_fillings P e x m [] h ends nodes = (sym nodes, ends)
