@@ -12,12 +12,11 @@ ghost use Rattle.plan.specs.Internal.Tables.{IsClosed, AreMet};
 ghost use Rattle.plan.specs.declared.arena.SlotEntry.{SlotEntry};
 ghost use Rattle.plan.specs.declared.sort.Sort.TheVariants.{Row};
 
-use crate::SizeSet;
 use crate::arena::{Arena, Content, Entry, PlanNode, RowEntry, SlotEntry};
-use crate::laws;
 use crate::list_entries::tuples_from;
 use crate::rows::{Choice, tables};
 use crate::sizing::whole_sizes;
+use crate::{SizeSet, laws};
 use schema::Bounds;
 use std::alloc::{AllocError, Global};
 

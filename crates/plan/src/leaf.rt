@@ -16,9 +16,8 @@ ghost use Rattle.plan.specs.Internal.Values.{trees_of, IsBase, AreValues, base_o
 ghost use Rattle.plan.specs.declared.values.Values.{Values};
 ghost use Rattle.plan.specs.declared.sort.Sort.TheVariants.{Leaf as LeafSort};
 
-use crate::laws;
 use crate::values::{Values, in_order, with_null};
-use crate::{Pools, SizeSet};
+use crate::{Pools, SizeSet, laws};
 use jtree::Tree;
 use schema::{Node, Sort};
 use std::alloc::{AllocError, Global};

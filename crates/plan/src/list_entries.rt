@@ -16,10 +16,9 @@ ghost use Rattle.plan.specs.Internal.Lists.{cut};
 ghost use Rattle.plan.specs.declared.sort.Sort.TheVariants.{Leaf, Row};
 
 use crate::arena::{Arena, Content, Entry, ListEntry, PlanNode, SlotEntry};
-use crate::laws;
 use crate::lists::more_sets;
 use crate::sizing::whole_sizes;
-use crate::{Distinct, SizeSet};
+use crate::{Distinct, SizeSet, laws};
 use schema::{Bounds, ListNode, ListType};
 use std::alloc::{AllocError, Global};
 

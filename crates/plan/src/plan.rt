@@ -5,11 +5,10 @@ ghost use Rattle.plan.specs.Internal.Plan.{IsPlan};
 
 use crate::arena::{Arena, Content, PlanNode};
 use crate::building::build;
-use crate::laws;
 use crate::leaf::candidate;
 use crate::pool_paths::check_paths;
 use crate::values::Values;
-use crate::{Distinct, Meter, PFault, Pools, SizeSet, Sort};
+use crate::{Distinct, Meter, PFault, Pools, SizeSet, Sort, laws};
 use jtree::Tree;
 use std::alloc::Global;
 use std::marker::Model;
