@@ -99,6 +99,7 @@ pub(crate) fn ends(
 }
 
 /// Those of the named fields that are there, by their bits.
+#[derive(Drop)]
 struct Seen<'a> {
     names: &'a [Text],
     bits: u8,
