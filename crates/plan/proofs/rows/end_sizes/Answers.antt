@@ -8,8 +8,8 @@ returns-then-is_within g c = λ n. (
   λ h. (c.one.ensures n).1 h.0,
 )
 
-pub returns-then-not-is_within : goal.returns-then-not-is_within
-returns-then-not-is_within g c = λ n. (
+pub returns-else-is_within : goal.returns-else-is_within
+returns-else-is_within g c = λ n. (
   (λ h. absurd (c.empty.ensures n h)),
   λ h. let same : ◌≡◌ {A = Bool} true false = sym (within_from c.args.bounds c.args.count h.1) ∙ (sym c.is_within.ensures ∙ c.if-is_within.false) in absurd (cc),
 )
