@@ -85,10 +85,17 @@ fn suggest(rt: HostRuntime) -> Result<(), Fail> {
     let alloc = rt.alloc();
     let raw = Tree::from_bytes(alloc, SPEC.as_bytes())?;
     let schema = schema_of(alloc, SPEC)?;
-    let wanted = Wanted { objects: &[], varied: &[], without: &[] };
+    let wanted = Wanted {
+        objects: &[],
+        varied: &[],
+        without: &[],
+    };
     let pools = suggested_pools(alloc, &raw, &schema, &wanted, PoolLimits::STANDARD)?;
     let text = pools.to_text(alloc)?;
-    assert_eq!(rt; text.as_str(), r#"{"any":["a",{}],"integers":[0,1],"names":["a","b"],"strings":["a"]}"#);
+    assert_eq!(rt;
+        text.as_str(),
+        r#"{"any":["a",{}],"integers":[0,1],"names":["a","b"],"strings":["a"]}"#
+    );
     Ok(())
 }
 

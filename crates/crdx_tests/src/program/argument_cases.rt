@@ -6,8 +6,7 @@ use crate::support::harness::{
 };
 use crdx::arguments::{
     CommonArguments, CoverArguments, ExplainArguments, ObjectArguments, ObjectCommand,
-    PoolsArguments, Request,
-    SampleArguments, parse_arguments,
+    PoolsArguments, Request, SampleArguments, parse_arguments,
 };
 use std::alloc::{AllocError, Global};
 use std::process::Abort;
