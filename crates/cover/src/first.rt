@@ -13,7 +13,7 @@ use std::alloc::{AllocError, Global};
 use stored::Schema;
 
 /// The limit at which a sample is looked for first: most paths are in a sample of so few nodes, and such a plan is made faster.
-pub(crate) const FEW: u32 = 15;
+pub(crate) const FEW: u32 = 31;
 
 /// The first sample of this schema over these pools and within this limit, `None` where there is none; and the schema.
 ///
