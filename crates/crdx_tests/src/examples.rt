@@ -1,7 +1,7 @@
 //! The examples at the heads of the crates, line by line, each a test.
 use crate::support::documents::{SPEC, WIDGET, ZERO_AND_ONE};
 use crate::support::fakes::{FailingSink, FakeInputs};
-use crate::support::harness::{made, schema_of, words_of};
+use crate::support::harness::{made, pools_of, schema_of, words_of};
 use cover::cover;
 use crdx::run;
 use enumerate::page;
@@ -73,7 +73,9 @@ fn enumerate(rt: HostRuntime) -> Result<(), Fail> {
 #[test]
 fn cover_of_fields(rt: HostRuntime) -> Result<(), Fail> {
     let alloc = rt.alloc();
-    let plan = made(alloc, (SPEC, ZERO_AND_ONE, 4))?;
+    let schema = schema_of(alloc, SPEC)?;
+    let pools = pools_of(alloc, ZERO_AND_ONE)?;
+    let plan: Plan<u64> = Plan::new(alloc, schema, pools, 4)?;
     let covered = cover(alloc, plan, false)?;
     assert_eq!(rt; covered.lines.len(), 3);
     assert!(rt; covered.missed.is_empty(), "each path is in some sample");
