@@ -413,8 +413,7 @@ pub(super) const WHY_LONG: &str = "Prints below the line of a rule each reason: 
 wrong with it, and what can be done. Below the line of any other
 refusal: what was found, and what is allowed.";
 
-pub(super) const FROM: &str =
-    "A JSON file with an object, or with one on each line, whose values are listed";
+pub(super) const FROM: &str = "A JSON file of objects whose values are listed";
 
 pub(super) const FROM_LONG: &str =
     "A JSON file with an object, or with one on each line; - is standard
