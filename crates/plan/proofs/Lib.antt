@@ -9,12 +9,13 @@
 -- lists `KeyedLemmas` proves that lists without alike items have the sizes of lists of at most as many items as there are keys;
 -- `SetLemmas` and `MapListLemmas` say what the keys are, `TupleLemmas` how many tuples there are, over `ApartLemmas` on lists in
 -- which no element occurs twice; `CutLemmas` has the bounds with that many items.
--- Building: `ValueLemmas` has the values of the pools in order, `LeafLemmas` the candidates, `EntryLemmas` the entries,
+-- Building: `ValueLemmas` has the values of the pools in order, `LeafLemmas` the candidates, `KindLemmas` those of scalars by their kind,
+-- `EntryLemmas` the entries,
 -- `ListEntryLemmas` how many tuples the keys of slots have, `SoundLemmas` what is known of the nodes of a schema, `BuildingLemmas`
 -- what is added to a plan node by node.
 -- The laws: `DeadEndLemmas` has `no_dead_end` at one site, `SoundPartLemmas` `sound_parts`, `PlanSites` both at all sites of a plan.
 -- The pools document: `FirstBreak` has the first break of its form, `PoolLemmas` how long its lists are, `PoolPathLemmas` which of its
--- paths are good.
+-- paths are good, `LookupLemmas` what a search by halves finds among its paths.
 pub mod FixedLemmas
 pub mod SizeLemmas
 pub mod RowLemmas
@@ -34,9 +35,11 @@ pub mod ListEntryLemmas
 pub mod CutLemmas
 pub mod ValueLemmas
 pub mod LeafLemmas
+pub mod KindLemmas
 pub mod WordLemmas
 pub mod FirstBreak
 pub mod PoolLemmas
+pub mod LookupLemmas
 pub mod PoolPathLemmas
 pub mod ItemPathLemmas
 pub mod ApartLemmas

@@ -12,10 +12,11 @@ ghost use Rattle.plan.specs.Samples.Sites.{Site, plain, where_fixed};
 ghost use Rattle.plan.specs.Samples.Over.{listed_for, listed};
 ghost use Rattle.plan.specs.Samples.Candidates.{sort_at, sort_of, AreCandidates};
 ghost use Rattle.plan.specs.Samples.Sizes.{HasSize, IsUpTo};
-ghost use Rattle.plan.specs.Internal.Values.{trees_of, IsBase, AreValues, base_of, tree_of, at_places, AreStored, choices_at, candidates_of};
+ghost use Rattle.plan.specs.Internal.Values.{trees_of, IsBase, AreValues, base_of, tree_of, at_places, AreStored, AreKinds, choices_at, candidates_of};
 ghost use Rattle.plan.specs.declared.values.Values.{Values};
 ghost use Rattle.plan.specs.declared.sort.Sort.TheVariants.{Leaf as LeafSort};
 
+use crate::kinds::bare_kind;
 use crate::values::{Values, in_order, with_null};
 use crate::{Pools, SizeSet, laws};
 use jtree::Tree;
@@ -52,8 +53,23 @@ pub(crate) fn leaf_of(
 {
     laws::parts_one_level();
     let base = base_for(alloc, pools, fixed, path, node)?;
-    let places = stored_places(alloc, node, base.trees(values))?;
+    let places = places_in(alloc, values, &base, node)?;
     Ok(Leaf { base, places })
+}
+
+/// The places in its base of the candidates of a leaf.
+fn places_in(
+    alloc: Global,
+    values: &Values,
+    base: &Base,
+    node: &Node,
+) -> Result<Vec<usize>, AllocError>
+    ensures { IfOk result (λ places. AreKinds values.now.scalars.items values.now.kinds → (past : Tree) → AreStored (node_of node.now) (trees_of (base_of values.now base.now)) (at_places past (base_of values.now base.now) places.items)) }
+{
+    match (base, bare_kind(node)) {
+        (Base::Scalars, Some(kind)) => Vec::from_slice(alloc, values.kinds.places(kind)),
+        _ => stored_places(alloc, node, base.trees(values)),
+    }
 }
 
 /// The candidates of a leaf, in the tree order, each once: the values that a scalar or an open node with this path can have, or, where
@@ -124,7 +140,11 @@ fn base_by_node(alloc: Global, node: &Node) -> Result<Base, AllocError>
 }
 
 /// The places of the trees that are stored at the node.
-fn stored_places(alloc: Global, node: &Node, trees: &[Tree]) -> Result<Vec<usize>, AllocError>
+pub(crate) fn stored_places(
+    alloc: Global,
+    node: &Node,
+    trees: &[Tree],
+) -> Result<Vec<usize>, AllocError>
     ensures { IfOk result (λ places. (past : Tree) → AreStored (node_of node.now) (trees_of trees.now) (at_places past trees.now places.items)) }
 {
     let mut places = Vec::with_capacity(alloc, trees.len())?;

@@ -18,6 +18,7 @@ mod asked;
 mod building;
 mod entries;
 mod fault;
+mod kinds;
 pub mod laws;
 mod leaf;
 mod list_entries;

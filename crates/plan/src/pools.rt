@@ -5,6 +5,7 @@ use crate::pool_limits::PoolLimits;
 use crate::pool_sizes::oversized_pool;
 use jtree::{Member, Members, Text, Tree};
 use std::alloc::{AllocError, Global};
+use std::cmp::Ordering;
 use std::marker::Model;
 
 /// The values that samples may hold.
@@ -221,6 +222,7 @@ impl Pools {
 ghost use Rattle.std.specs.Int.{w64};
 ghost use Rattle.std.specs.Prelude.{◌≡◌, All, FitsSigned, IfOk, Some, map, filter_map, option_map, option_and_then};
 ghost use Rattle.jtree.specs.Data.{IsTree, no_members as no_members_of};
+ghost use Rattle.jtree.specs.Order.{text_cmp};
 ghost use Rattle.jtree.specs.Path.{member_at, under};
 ghost use Rattle.jtree.specs.View.{data_of};
 ghost use Rattle.plan.specs.Pools.Pools.{entries_in};
@@ -230,9 +232,25 @@ ghost use Rattle.plan.specs.Pools.Document.{entries_of, integer_of, text_of, mem
 fn list_under<'a>(lists: &'a Members, name: &str) -> Option<&'a [Tree]>
     ensures { option_map (λ ts. map data_of ts.now) result ≡ option_and_then entries_in (member_at name.now lists.now) }
 {
-    match lists.get(name) {
+    match value_under(lists, name) {
         Some(Tree::List(items)) => Some(items.items.as_slice()),
         _ => None,
+    }
+}
+
+/// The value of the member of a name. It is searched for by halves: there may be a path for each leaf, and each leaf looks for its own.
+fn value_under<'a>(members: &'a Members, name: &str) -> Option<&'a Tree>
+    ensures { option_map (λ t. data_of t.now) result ≡ member_at name.now members.now }
+{
+    members.reveal_invariant();
+    let found = members.members.binary_search_by(
+        |member: &Member| -> Ordering
+            ensures { result ≡ text_cmp member.now.name name.entry.now }
+        { member.name.as_str().cmp(name) },
+    );
+    match found {
+        Ok(place) => Some(&members.members[place].tree),
+        Err(_) => None,
     }
 }
 

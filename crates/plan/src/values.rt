@@ -8,6 +8,7 @@ ghost use Rattle.plan.specs.Internal.Values.{trees_of, IsInOrder, IsBase};
 
 use crate::Pools;
 use crate::arena::SlotName;
+use crate::kinds::Kinds;
 use jtree::{Text, Tree};
 use std::alloc::{AllocError, Global};
 
@@ -18,6 +19,8 @@ pub(crate) struct Values {
     pub null: Tree,
     /// Null, both truth values, the integers and the texts.
     pub scalars: Vec<Tree>,
+    /// The places of each kind among the scalars.
+    pub kinds: Kinds,
     /// Null, and the values of open nodes.
     pub any: Vec<Tree>,
     /// The names at maps.
@@ -45,8 +48,10 @@ impl Values {
     pub(crate) fn new(alloc: Global, pools: &Pools) -> Result<Values, AllocError>
         ensures { IfOk result (λ v. AreValues pools.now v) }
     {
+        let scalars = scalars(alloc, pools)?;
         Ok(Values {
-            scalars: scalars(alloc, pools)?,
+            kinds: Kinds::new(alloc, &scalars)?,
+            scalars,
             any: with_null(alloc, pools.any())?,
             names: names(alloc, pools.names())?,
             null: Tree::Null,

@@ -1,17 +1,21 @@
 -- The values of the pools, and the candidates of a leaf, as a plan keeps them.
-use Rattle.std.specs.Prelude.{◌≡◌, ◌↔◌, ℕ, List, ◌∷◌, Option, Some, None, map, get_or, Contains, AllPairs}
+use Rattle.std.specs.Prelude.{◌≡◌, ◌↔◌, ℕ, List, [], ◌∷◌, false, Option, Some, None, map, get_or, Contains, AllPairs}
 use Rattle.std.specs.declared.cmp.Ordering.{Ordering}
 use Rattle.std.specs.declared.cmp.Ordering.TheVariants.{Less}
 use Rattle.jtree.specs.Data.{Data, null, IsTree}
 use Rattle.jtree.specs.Order.{tree_cmp}
 use Rattle.jtree.specs.View.{data_of}
 use Rattle.jtree.specs.declared.value.Tree.{Tree}
-use Rattle.schema.specs.Nodes.Node.{Node}
+use Rattle.schema.specs.Nodes.Node.{Node, node, scalar, Validations, validations, no_branches}
+use Rattle.schema.specs.Nodes.Validations.{presence}
+use Rattle.schema.specs.declared.node.ScalarKind.{ScalarKind}
+use Rattle.schema.specs.declared.node.ScalarKind.TheVariants.{Boolean, Integer, String, IntOrString}
 use Rattle.stored.specs.Objects.Becomes.{IsStored}
 use Rattle.plan.specs.Pools.Pools.{Pools}
 use Rattle.plan.specs.Samples.Over.{scalars_of, listed}
 use Rattle.plan.specs.Samples.Names.{in_order}
 use Rattle.plan.specs.declared.values.Values.{Values}
+use Rattle.plan.specs.declared.kinds.Kinds.{Kinds}
 use Rattle.plan.specs.declared.leaf.Base.{Base}
 use Rattle.plan.specs.declared.leaf.Base.TheVariants.{Scalars, Any, Own}
 use Rattle.plan.specs.declared.leaf.Leaf.{Leaf}
@@ -28,8 +32,35 @@ pub record IsInOrder {X : Type 0} (cmp : X → X → Ordering) (xs ys : List X) 
 abbrev pub IsBase : List Data → List Tree → Type 0
 IsBase xs ts = IsInOrder tree_cmp xs (trees_of ts)
 
+-- the trees at these places, and another past the last
+abbrev pub at_places : Tree → List Tree → List ℕ → List Data
+at_places past ts places = map (λ i. data_of (get_or ts i past)) places
+
+-- those that are stored at the node, in the same order
+pub record AreStored (N : Node) (ds vs : List Data) : Type 0 where
+  pub each : (v : Data) → Contains vs v ↔ (Contains ds v × (IsTree v × IsStored N v))
+  pub ascending : AllPairs (λ u v. tree_cmp u v ≡ Less) ds → AllPairs (λ u v. tree_cmp u v ≡ Less) vs
+
+-- a scalar of which nothing is asked but its kind
+abbrev pub no_validations : Validations
+no_validations = validations (presence []) no_branches no_branches no_branches no_branches
+
+abbrev pub of_kind : ScalarKind → Node
+of_kind kind = node false None (scalar kind no_validations)
+
+abbrev pub places_of : Kinds → ScalarKind → List ℕ
+places_of k Boolean = k.booleans.items
+places_of k Integer = k.integers.items
+places_of k String = k.strings.items
+places_of k IntOrString = k.integers_and_strings.items
+
+-- where the values of each kind are among the trees
+abbrev pub AreKinds : List Tree → Kinds → Type 0
+AreKinds ts k = (kind : ScalarKind) (past : Tree) → AreStored (of_kind kind) (trees_of ts) (at_places past ts (places_of k kind))
+
 pub record AreValues (P : Pools) (v : Values) : Type 0 where
   pub scalars : IsBase (null ∷ scalars_of P) v.scalars.items
+  pub kinds : AreKinds v.scalars.items v.kinds
   pub any : IsBase (null ∷ P.any) v.any.items
   pub names : v.names.items ≡ in_order P.names
 
@@ -42,15 +73,6 @@ base_of v (Own ts) = ts.items
 abbrev pub choices_at : Pools → Option (List Data) → List ℕ → Node → List Data
 choices_at P (Some ds) path N = ds
 choices_at P None path N = null ∷ listed P path N
-
--- the trees at these places, and another past the last
-abbrev pub at_places : Tree → List Tree → List ℕ → List Data
-at_places past ts places = map (λ i. data_of (get_or ts i past)) places
-
--- those that are stored at the node, in the same order
-pub record AreStored (N : Node) (ds vs : List Data) : Type 0 where
-  pub each : (v : Data) → Contains vs v ↔ (Contains ds v × (IsTree v × IsStored N v))
-  pub ascending : AllPairs (λ u v. tree_cmp u v ≡ Less) ds → AllPairs (λ u v. tree_cmp u v ≡ Less) vs
 
 -- the tree at a place of a base
 abbrev pub tree_of : Values → Base → ℕ → Tree
