@@ -14,6 +14,7 @@
 //! | `schema_tests/node_cases` | the nodes of each sort |
 //! | `stored_tests/default_cases` | defaults that are misplaced or bad (V15, V14) |
 //! | `stored_tests/object_cases` | objects that are valid or not, pruned, completed |
+//! | `stored_tests/part_cases` | numbers of parts within bounds, and junctors by any test of a branch |
 //! | `explain_tests/field_cases` | the fields of a listing, and the field and the node of a path |
 //! | `plan_tests/pools_cases` | documents of pools |
 //! | `plan_tests/size_set_cases` | sets of sizes |

@@ -1,6 +1,6 @@
 -- Where no rule is broken the junctors of objects name declared fields, and few.
 use Rattle.std.proofs.Common.{◌≡◌, ◌≢◌, ◌⊎◌, ◌≤◌, ℕ, zero, suc, List, [], ◌∷◌, ◌++◌, length, Bool, true, false, Option, Some, None, refl, sym, ap, ◌∙◌, subst, inl, inr}
-use Rattle.std.specs.Prelude.{is_some, codes, ◌||◌, ◌&&◌, not, nat_lt, All, AllPairs, Contains}
+use Rattle.std.specs.Prelude.{is_some, codes, ◌||◌, ◌&&◌, if◌then◌else◌, not, nat_lt, All, AllPairs, Contains}
 use Rattle.std.proofs.lemmas.Bool.{ltb-true, ltb-false, or_left, or_right, or_parts}
 use Rattle.std.proofs.lemmas.List.{append-nil}
 use Rattle.std.proofs.lemmas.List.Elements.{filter-append}
@@ -13,8 +13,8 @@ use Rattle.schema.specs.Document.Places.{Step, Place, property, map_value, items
 use Rattle.schema.specs.Rules.Keywords.{texts_of, items_in, items_under, texts_under, members_in, members_under, any_item, has, has_keyword}
 use Rattle.schema.specs.Rules.Kinds as kinds
 use Rattle.schema.specs.Rules.Kinds.{kind_of}
-use Rattle.schema.specs.Rules.Profile.{is_root, is_foreign, profile_tests}
-use Rattle.schema.specs.Rules.Junctors.{is_presence_keyword, is_branch_keyword, is_no_field, requires_no_field, BreaksJunctors, NamesField, most_named}
+use Rattle.schema.specs.Rules.Profile.{is_root, is_foreign, is_no_field, profile_tests}
+use Rattle.schema.specs.Rules.Junctors.{is_presence_keyword, is_branch_keyword, requires_no_field, BreaksJunctors, NamesField, most_named}
 use Rattle.schema.specs.Nodes.Validations.{AreConstraintsOf, AreValidationsOf, AreBranchesOf, AreObjectJunctorsOf, one_item, presence}
 use Rattle.schema.specs.Nodes.Node.{Validations, validations, Branches, no_branches, branch, Node, node, scalar, object as object_node}
 use Rattle.schema.specs.Nodes.ByPlace.{field_at, node_at, AreNodesOf}
@@ -270,13 +270,13 @@ module _ (raw : Data) (root : Node) (is : IsRootOf root raw) (p : Place) (s : Da
   asks_no_more : kind_of s ≡ Some kinds.object → AsksNoMore false s
   asks_no_more kind q into alone t there = (or_parts (has_keyword (λ k. not (is_presence_keyword k)) t) _ (good_presence kind q into alone t there)).0
 
-  is_field : kind_of s ≡ Some kinds.object → (k : List ℕ) → IsNamed false s k → is_no_field (is_root p) (members_under s (codes "properties")) (text k) ≡ false
+  is_field : kind_of s ≡ Some kinds.object → (k : List ℕ) → IsNamed false s k → is_no_field (is_root p) false (members_under s (codes "properties")) (text k) ≡ false
   is_field kind k n =
       let good = (or_parts (has_keyword (λ k. not (is_presence_keyword k)) n.schema) _ (good_presence kind n.place n.inside n.alone n.schema n.at)).1 in
-      let declared : any_item (is_no_field (is_root p) (members_under s (codes "properties"))) (items_under n.schema (codes "required")) ≡ false =
-      subst (λ r. any_item (is_no_field (is_root r) (members_under s (codes "properties"))) (items_under n.schema (codes "required")) ≡ false) (core_joined p n.place out n.alone) good in
-      elim (bool_cases (is_no_field (is_root p) (members_under s (codes "properties")) (text k))) [
-        | inl t ↦ absurd (let never = any_text (is_no_field (is_root p) (members_under s (codes "properties"))) (items_under n.schema (codes "required")) k n.required t in cc)
+      let declared : any_item (is_no_field (is_root p) false (members_under s (codes "properties"))) (items_under n.schema (codes "required")) ≡ false =
+      subst (λ r. any_item (is_no_field (is_root r) false (members_under s (codes "properties"))) (items_under n.schema (codes "required")) ≡ false) (core_joined p n.place out n.alone) good in
+      elim (bool_cases (is_no_field (is_root p) false (members_under s (codes "properties")) (text k))) [
+        | inl t ↦ absurd (let never = any_text (is_no_field (is_root p) false (members_under s (codes "properties"))) (items_under n.schema (codes "required")) k n.required t in cc)
         | inr f ↦ f
       ]
 
@@ -300,9 +300,12 @@ module _ (raw : Data) (root : Node) (is : IsRootOf root raw) (p : Place) (s : Da
             is.unbroken p V17 (out, (s, at, holds_at (profile_tests (is_root p) s) 4 (keyword_found (is_foreign (kind_of s)) s (codes "required") own foreign)))
       ]
 
-either_not : (a b : Bool) → (not a || b) ≡ false → (a ≡ true) × (b ≡ false)
-either_not true b h = (refl, h)
-either_not false b h = cc
+-- a property that is no name of the envelope at the root
+property_outside : (declared here : Bool) → not (if here then false else declared) ≡ false → (declared ≡ true) × (here ≡ false)
+property_outside true true h = cc
+property_outside true false h = (refl, refl)
+property_outside false true h = cc
+property_outside false false h = cc
 
 not_both : (a b : Bool) → (a && b) ≡ false → (a && true) ≡ true → b ≡ true → ⊥
 not_both true b h is both = cc
@@ -325,7 +328,7 @@ sound_junctors (node n x (object_node fs pr t b cs)) raw root is p s at out form
     let named = λ (k : List ℕ) (c : Contains (names_in cs) k). object_named cs s k junctors (contained (names_in cs) k c) in
     record {
       declared = λ k c.
-          let no = either_not _ _ (is_field raw root is p s at out kind k (named k c)) in
+          let no = property_outside _ _ (is_field raw root is p s at out kind k (named k c)) in
           let d = some_value (member_at k (members_under s (codes "properties"))) no.0 in
           let e = property_place s d.0 k forms (under s (codes "properties")) refl d.1 in
           let N = node_of_below (is_root p && true) _ s e.0 (property k) h (refl, not_both (is_root p) (is_envelope_name k) no.1) e.1 in

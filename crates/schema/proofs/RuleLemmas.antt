@@ -6,7 +6,7 @@ use Rattle.jtree.specs.View.{items_of}
 use Rattle.jtree.specs.declared.value.Tree.{Tree}
 use Rattle.jtree.specs.Data.{Data}
 use Rattle.schema.specs.Document.Texts.{is_among}
-use Rattle.schema.specs.Document.Places.{Step, Place, property, is_junctor, is_inside, ends_with, schema_at}
+use Rattle.schema.specs.Document.Places.{Step, Place, property, is_inside, ends_with, schema_at}
 use Rattle.schema.specs.Internal.PlaceView.{step_of, place_of}
 use Rattle.schema.specs.declared.places.Step.{Step as CodeStep}
 use Rattle.schema.specs.Rules.Keywords.{is_empty}
@@ -20,12 +20,6 @@ some_trees [] some = absurd (omega arith)
 some_trees (x ∷ xs) some = refl
 
 -- ---- the steps of a place
-
-pub inside_next : (s : Step) (p : Place) → is_junctor s ≡ false → is_inside (s ∷ p) ≡ is_inside p
-inside_next s p h = rw h refl
-
-pub inside_here : (s : Step) (p : Place) → is_junctor s ≡ true → is_inside (s ∷ p) ≡ true
-inside_here s p h = rw h refl
 
 ends_at : (test : Step → Bool) (xs : List CodeStep) (k : ℕ) (d : CodeStep) → suc k ≡ length xs → ends_with test (place_of xs) ≡ test (step_of (get_or xs k d))
 ends_at test [] k d h = absurd (omega arith)

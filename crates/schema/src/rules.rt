@@ -13,6 +13,7 @@ ghost use Rattle.schema.specs.Internal.Subschemas.{IsSubschema};
 pub(crate) mod junctors;
 pub(crate) mod lists;
 pub(crate) mod profile;
+mod required;
 
 use crate::keywords::{Keywords, has, has_false, has_keyword, has_other_text, has_true};
 use crate::kinds::lacks_type;

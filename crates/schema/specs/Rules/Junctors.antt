@@ -1,15 +1,14 @@
 -- Where junctors may be, and what their branches may say (OpenAPI 3.0, `allOf`, `anyOf`, `oneOf` and `not`): at a scalar
 -- the branches ask of the value, at an object with declared fields they ask which of these are present. This project's own.
 use Rattle.std.specs.Prelude.{◌≡◌, ◌≢◌, ◌⊎◌, ◌<◌, ℕ, List, [], length, Bool, true, false, Option, Some, option_and_then, not, ◌&&◌, ◌||◌, codes, All, AllPairs}
-use Rattle.std.specs.Option.{is_some}
 use Rattle.std.specs.Str.{bytes_eq}
-use Rattle.jtree.specs.Data.{Data, text, Members}
-use Rattle.jtree.specs.Path.{under, member_at}
+use Rattle.jtree.specs.Data.{Data, Members}
+use Rattle.jtree.specs.Path.{under}
 use Rattle.schema.specs.Document.Texts.{is_among}
-use Rattle.schema.specs.Document.Places.{Place, schema_at, is_inside, core, is_envelope_name}
-use Rattle.schema.specs.Rules.Keywords.{has_keyword, any_item, members_in, items_under, texts_under}
+use Rattle.schema.specs.Document.Places.{Place, schema_at, is_inside, core}
+use Rattle.schema.specs.Rules.Keywords.{has_keyword, members_in, texts_under}
 use Rattle.schema.specs.Rules.Kinds.{Kind, object, kind_of, is_scalar_kind}
-use Rattle.schema.specs.Rules.Profile.{is_root, junctor_keywords, outside_keywords, unsupported_keywords, keywords_of_scalars, has_empty_enum, lists_other, is_scalar_value}
+use Rattle.schema.specs.Rules.Profile.{is_root, junctor_keywords, outside_keywords, unsupported_keywords, keywords_of_scalars, has_empty_enum, lists_other, is_scalar_value, lists_no_field}
 
 -- an object with declared fields, and no map
 abbrev pub declares_fields : Option Kind → Bool
@@ -39,17 +38,12 @@ is_presence_keyword k = (bytes_eq k (codes "required") || is_among k junctor_key
 abbrev pub is_branch_keyword : List ℕ → Bool
 is_branch_keyword k = (is_among k keywords_of_scalars || is_among k junctor_keywords) || is_judged_elsewhere k
 
--- the text names no property; at the root the envelope has none
-abbrev pub is_no_field : Bool → Members → Data → Bool
-is_no_field root properties (text k) = not (is_some (member_at k properties)) || (root && is_envelope_name k)
-is_no_field root properties _ = false
-
 abbrev pub fields_of : Option Data → Members
 fields_of outer = members_in (option_and_then (λ t. under t (codes "properties")) outer)
 
--- `required` lists what is no field of the object
+-- `required` lists what is no field of the object outside; the envelope does not count
 abbrev pub requires_no_field : Place → Option Data → Data → Bool
-requires_no_field p outer s = any_item (is_no_field (is_root (core p)) (fields_of outer)) (items_under s (codes "required"))
+requires_no_field p outer s = lists_no_field (is_root (core p)) false (fields_of outer) s
 
 -- ---- the fields that branches name
 

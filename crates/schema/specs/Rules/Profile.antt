@@ -1,6 +1,6 @@
 -- The rules that are this project's own: where a default may be, and which keywords a place of each kind may have.
 -- Keywords without effect are among them.
-use Rattle.std.specs.Prelude.{ℕ, List, [], ◌∷◌, Bool, true, false, Option, Some, None, not, ◌&&◌, ◌||◌, codes}
+use Rattle.std.specs.Prelude.{ℕ, List, [], ◌∷◌, Bool, true, false, Option, Some, None, not, ◌&&◌, ◌||◌, if◌then◌else◌, codes}
 use Rattle.std.specs.Option.{is_some}
 use Rattle.jtree.specs.Data.{Data, text, list, Members}
 use Rattle.jtree.specs.Kind.{is_boolean, is_integer, is_text}
@@ -149,14 +149,18 @@ has_foreign_keyword s = has_keyword (is_foreign (kind_of s)) s
 abbrev pub lacks_items : Data → Bool
 lacks_items s = is_list_kind (kind_of s) && not (is_some (schema_by s items))
 
--- the text names no property, and at the root nothing of the envelope
-abbrev pub is_undeclared : Bool → Members → Data → Bool
-is_undeclared root properties (text k) = not (is_some (member_at k properties) || (root && is_envelope_name k))
-is_undeclared root properties _ = false
+-- the text names no field: a field is a property, but at the root a name of the envelope is one exactly where the envelope counts
+abbrev pub is_no_field : Bool → Bool → Members → Data → Bool
+is_no_field root envelope properties (text k) = not (if root && is_envelope_name k then envelope else is_some (member_at k properties))
+is_no_field root envelope properties _ = false
 
--- such a text is required
+-- `required` lists such a text
+abbrev pub lists_no_field : Bool → Bool → Members → Data → Bool
+lists_no_field root envelope properties s = any_item (is_no_field root envelope properties) (items_under s (codes "required"))
+
+-- a place requires what is no field of it; the envelope counts
 abbrev pub requires_undeclared : Bool → Data → Bool
-requires_undeclared root s = any_item (is_undeclared root (members_under s (codes "properties"))) (items_under s (codes "required"))
+requires_undeclared root s = lists_no_field root true (members_under s (codes "properties")) s
 
 -- a scalar has no value to choose, or one that is not of its kind
 abbrev pub has_bad_choices : Data → Bool

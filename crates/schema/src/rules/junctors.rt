@@ -6,16 +6,17 @@ ghost use Rattle.schema.specs.Document.Places.{core};
 ghost use Rattle.schema.specs.Internal.Named.{name_part as name_part_of, part_names, item_names, member_names, other_of, has_others};
 ghost use Rattle.schema.specs.Internal.NamedView.{name_part_view};
 ghost use Rattle.schema.specs.Internal.PlaceView.{place_of};
-ghost use Rattle.schema.specs.Rules.Junctors.{BreaksJunctors, takes_no_junctor as takes_no_junctor_at, has_misplaced_junctor as has_misplaced_junctor_at, asks_presence as asks_presence_at, is_bad_presence as is_bad_presence_at, is_bad_value as is_bad_value_at, requires_no_field as requires_no_field_of, fields_of as fields_of_object, is_no_field as is_no_field_of, declares_fields as declares_fields_of, HasTooManyNames, NamesTooMany};
-ghost use Rattle.schema.specs.Rules.Keywords.{members_in, any_item, texts_of};
+ghost use Rattle.schema.specs.Rules.Junctors.{BreaksJunctors, takes_no_junctor as takes_no_junctor_at, has_misplaced_junctor as has_misplaced_junctor_at, asks_presence as asks_presence_at, is_bad_presence as is_bad_presence_at, is_bad_value as is_bad_value_at, requires_no_field as requires_no_field_of, fields_of as fields_of_object, declares_fields as declares_fields_of, HasTooManyNames, NamesTooMany};
+ghost use Rattle.schema.specs.Rules.Keywords.{members_in, texts_of};
 ghost use Rattle.schema.specs.Rules.Kinds.{kind_of as kind_of_schema};
 ghost use Rattle.schema.specs.Rules.Profile.{is_root as is_root_of};
 
 use crate::keywords::{Keywords, has_keyword, is_one_of};
 use crate::kinds::{declares_fields, is_scalar};
-use crate::places::{Step, is_envelope_name, is_junctor};
+use crate::places::{Step, is_junctor};
 use crate::rules::is_inside;
-use crate::rules::profile::{declares, has_empty_enum, lists_other, properties_of};
+use crate::rules::profile::{has_empty_enum, lists_other, properties_of};
+use crate::rules::required::{FieldNames, lists_no_field};
 use jtree::{Items, Members, Tree};
 
 /// V16: the junctors of a place, or what a branch has, is outside the profile.
@@ -85,12 +86,12 @@ pub(crate) fn requires_no_field(
 ) -> bool
     ensures { result ≡ requires_no_field_of (place_of place.now) (option_map (λ m. object m.now) outer.entry) (object schema.now) }
 {
-    match schema.get("required") {
-        Some(Tree::List(names)) => {
-            lists_no_field(is_in_root(place), fields_of(outer), names.items.as_slice())
-        }
-        _ => false,
-    }
+    let fields = FieldNames {
+        at_root: is_in_root(place),
+        envelope: false,
+        properties: fields_of(outer),
+    };
+    lists_no_field(&fields, schema)
 }
 
 /// Whether all steps of the place are into branches.
@@ -110,30 +111,6 @@ fn fields_of(outer: Option<&Members>) -> Option<&Members>
     ensures { members_in (option_map (λ m. object m.now) result) ≡ fields_of_object (option_map (λ m. object m.now) outer.entry) }
 {
     properties_of(outer?)
-}
-
-/// Whether one of these names is no field.
-fn lists_no_field(root: bool, fields: Option<&Members>, names: &[Tree]) -> bool
-    ensures { result ≡ any_item (is_no_field_of root (members_in (option_map (λ m. object m.now) fields.entry))) (items_of names.now) }
-{
-    for name in names {
-        if is_no_field(root, fields, name) {
-            return true;
-        }
-    }
-    false
-}
-
-fn is_no_field(root: bool, fields: Option<&Members>, name: &Tree) -> bool
-    ensures { result ≡ is_no_field_of root (members_in (option_map (λ m. object m.now) fields.entry)) (data_of name.now) }
-{
-    match name {
-        Tree::Text(name) => {
-            let name = name.as_str();
-            !declares(fields, name) || (root && is_envelope_name(name))
-        }
-        _ => false,
-    }
 }
 
 pub(crate) fn has_too_many_names(place: &[Step<'_>], schema: &Members) -> bool

@@ -1,20 +1,18 @@
 //! What a place of each kind may have.
 ghost use Rattle.std.specs.Prelude.{◌≡◌, not, codes, option_map};
-ghost use Rattle.std.specs.Option.{is_some};
 ghost use Rattle.jtree.specs.Data.{object};
-ghost use Rattle.jtree.specs.Path.{member_at};
 ghost use Rattle.jtree.specs.View.{data_of, items_of};
 ghost use Rattle.schema.specs.Internal.KindView.{is_accepted};
 ghost use Rattle.schema.specs.Rules.Keywords.{members_in, members_under, any_item};
 ghost use Rattle.schema.specs.Rules.Kinds.{kind_of as kind_of_schema, preserves as preserves_of};
-ghost use Rattle.schema.specs.Rules.Profile.{is_outside_profile as is_outside_profile_of, is_no_object as is_no_object_of, is_untyped_open as is_untyped_open_of, is_other_root as is_other_root_of, has_no_root_keyword as has_no_root_keyword_of, has_unknown_type as has_unknown_type_of, is_bad_preserving as is_bad_preserving_of, has_foreign_keyword as has_foreign_keyword_of, lacks_items as lacks_items_of, requires_undeclared as requires_undeclared_of, is_undeclared as is_undeclared_of, has_bad_choices as has_bad_choices_of, has_no_choice as has_no_choice_of, has_other_choice as has_other_choice_of, has_empty_enum as has_empty_enum_of, lists_other as lists_other_than};
+ghost use Rattle.schema.specs.Rules.Profile.{is_outside_profile as is_outside_profile_of, is_no_object as is_no_object_of, is_untyped_open as is_untyped_open_of, is_other_root as is_other_root_of, has_no_root_keyword as has_no_root_keyword_of, has_unknown_type as has_unknown_type_of, is_bad_preserving as is_bad_preserving_of, has_foreign_keyword as has_foreign_keyword_of, lacks_items as lacks_items_of, requires_undeclared as requires_undeclared_of, has_bad_choices as has_bad_choices_of, has_no_choice as has_no_choice_of, has_other_choice as has_other_choice_of, has_empty_enum as has_empty_enum_of, lists_other as lists_other_than};
 
 use crate::keywords::{
     Keywords, has, has_keyword, has_other_text, has_true, is_empty, object_under,
 };
 use crate::kinds::{Kind, is_list, is_untyped, kind_of_members};
 use crate::node::ScalarKind;
-use crate::places::is_envelope_name;
+use crate::rules::required::{FieldNames, lists_no_field};
 use jtree::{Members, Tree};
 
 /// V17: a place that is in no branch is outside the profile.
@@ -101,12 +99,12 @@ pub(crate) fn lacks_items(schema: &Members) -> bool
 pub(crate) fn requires_undeclared(root: bool, schema: &Members) -> bool
     ensures { result ≡ requires_undeclared_of root (object schema.now) }
 {
-    match schema.get("required") {
-        Some(Tree::List(names)) => {
-            are_undeclared(root, properties_of(schema), names.items.as_slice())
-        }
-        _ => false,
-    }
+    let fields = FieldNames {
+        at_root: root,
+        envelope: true,
+        properties: properties_of(schema),
+    };
+    lists_no_field(&fields, schema)
 }
 
 /// The properties of a schema, where they are an object.
@@ -116,40 +114,6 @@ pub(crate) fn properties_of(schema: &Members) -> Option<&Members>
     match schema.get("properties") {
         Some(Tree::Object(properties)) => Some(properties),
         _ => None,
-    }
-}
-
-/// Whether one of these names is none of the properties.
-fn are_undeclared(root: bool, properties: Option<&Members>, names: &[Tree]) -> bool
-    ensures { result ≡ any_item (is_undeclared_of root (members_in (option_map (λ m. object m.now) properties.entry))) (items_of names.now) }
-{
-    for name in names {
-        if is_undeclared(root, properties, name) {
-            return true;
-        }
-    }
-    false
-}
-
-fn is_undeclared(root: bool, properties: Option<&Members>, name: &Tree) -> bool
-    ensures { result ≡ is_undeclared_of root (members_in (option_map (λ m. object m.now) properties.entry)) (data_of name.now) }
-{
-    match name {
-        Tree::Text(name) => {
-            let name = name.as_str();
-            !(declares(properties, name) || (root && is_envelope_name(name)))
-        }
-        _ => false,
-    }
-}
-
-/// Whether there is a property of this name.
-pub(crate) fn declares(properties: Option<&Members>, name: &str) -> bool
-    ensures { result ≡ is_some (member_at name.now (members_in (option_map (λ m. object m.now) properties.entry))) }
-{
-    match properties {
-        Some(properties) => has(properties, name),
-        None => false,
     }
 }
 
