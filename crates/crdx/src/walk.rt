@@ -8,5 +8,4 @@ mod walking;
 pub use fault::WFault;
 pub use line::Envelope;
 pub(crate) use line::with_envelope;
-pub(crate) use walking::BLOCK_LINES;
 pub use walking::{Walked, walk, walk_to_end};

@@ -228,6 +228,7 @@ impl<'p, Z: SizeSet> Walk<'p, Z> {
     {
         scratch.following.clear();
         let mut place = self.plan.count(node);
+        scratch.following.reserve(place as usize)?;
         while place > 0 {
             place -= 1;
             let Some(tree) = self.plan.candidate(node, place, &mut scratch.meter) else {
@@ -237,7 +238,7 @@ impl<'p, Z: SizeSet> Walk<'p, Z> {
                 return Ok(());
             }
             if is_choice(size, used, tree) {
-                scratch.following.push(tree)?;
+                scratch.following.push_reserved(tree);
             }
         }
         Ok(())

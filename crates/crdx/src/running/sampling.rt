@@ -18,13 +18,16 @@ use crate::running::causes::Cause;
 use crate::running::documents::{Accepted, accepted_schema, after_of, pools_of};
 use crate::running::explanation::Explanation;
 use crate::sink::Sink;
-use crate::walk::{BLOCK_LINES, Envelope, WFault, Walked, walk, walk_to_end};
+use crate::walk::{Envelope, WFault, Walked, walk, walk_to_end};
 use jtree::{Text, Tree};
 use plan::{Meter, Plan, Pools, SizeSet};
 use std::alloc::{AllocError, Global};
 
 /// The node limits below this have plans over words of 64 bits.
 pub(crate) const WORD: u32 = 64;
+
+/// The most lines that are held at a time where not all samples are listed.
+const PAGE_LINES: u32 = 64;
 
 /// What samples are listed from: a plan, the tree to go on from, and the envelope that they are printed with.
 #[derive(Drop)]
@@ -138,7 +141,7 @@ fn walk_asked<Z: SizeSet, W: Sink>(
             alloc,
             plan,
             after,
-            BLOCK_LINES,
+            PAGE_LINES,
             arguments.count,
             envelope,
             meter,

@@ -24,7 +24,7 @@ use plan::{Meter, Plan, SizeSet};
 use std::alloc::Global;
 
 /// The most lines that are given to the sink in one call.
-pub(crate) const BLOCK_LINES: u32 = 64;
+const BLOCK_LINES: u32 = 128;
 
 /// What a walk wrote.
 #[derive(Clone, Copy, Debug, PartialEq, Eq, Drop)]

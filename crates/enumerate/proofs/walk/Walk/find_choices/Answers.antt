@@ -18,7 +18,12 @@ loop-place-init g c =
     let i = c.args.node in
     let C = IsChoice q i c.args.size (resume_point c.args.after) c.args.used.now in
     let none = none_chosen q i C (λ u h. h.part.part) c.count-place.result c.count-place.ensures in
-    record { chosen = subst (λ l. Chosen q i C (λ u h. h.part.part) (stack_of l) c.count-place.result) (sym c.clear.ensures.items) none; within = omega arith; steps = omega arith }
+    record {
+      chosen = subst (λ l. Chosen q i C (λ u h. h.part.part) (stack_of l) c.count-place.result) (sym (c.reserve.ensures.items ∙ c.clear.ensures.items)) none;
+      within = omega arith;
+      room = c.in_ok-reserve.ensures.ok;
+      steps = omega arith;
+    }
 
 -- the candidate at the place
 candidate_here : (q : Question) (i place : ℕ) (o : Option (Bor Tree)) (x : Bor Tree) → o ≡ Some x → IsCandidateAt q.pools (site q i) place (option_map data_of (option_copied o)) → IsCandidateAt q.pools (site q i) place (Some (data_of x.now))
@@ -37,11 +42,12 @@ loop-place-preserved g c =
     record {
       chosen = chosen_same q i C (λ u h. h.part.part) vs x place candidate (λ h. let yes = c.is_choice.ensures.1 (h.part.nodes_are, h.free) in let no = c.if-is_choice.false in cc) (subst (Chosen q i C (λ u h. h.part.part) vs) back c.loop-place.invariant.chosen);
       within = omega (arith, c.loop-place.invariant.within);
+      room = omega (arith, c.loop-place.invariant.room, c.loop-place-test.true);
       steps = omega (arith, c.loop-place.invariant.steps, c.candidate.ensures.step, c.loop-place-test.true);
     }
 
-pub loop-place-preserved-in-Continue-1 : goal.loop-place-preserved-in-Continue-1
-loop-place-preserved-in-Continue-1 g c =
+pub loop-place-preserved-then-is_choice : goal.loop-place-preserved-then-is_choice
+loop-place-preserved-then-is_choice g c =
     let q = c.args.self.now.plan.now in
     let i = c.args.node in
     let C = IsChoice q i c.args.size (resume_point c.args.after) c.args.used.now in
@@ -53,10 +59,11 @@ loop-place-preserved-in-Continue-1 g c =
     let is = c.is_choice.ensures.0 c.if-is_choice.true in
     let past = c.is_past.ensures.0 c.if-not-is_past.false in
     let choice : C x = record { part = record { part = candidate_part q i place x candidate; nodes_are = is.0 }; past = past; free = is.1 } in
-    let pushed : stack_of c.push.new.self.items ≡ x ∷ vs = ap stack_of c.in_ok-push.ensures.items ∙ stack_pushed c.loop-place.scratch.following.items c.in-Some.tree in
+    let pushed : stack_of c.push_reserved.new.self.items ≡ x ∷ vs = ap stack_of c.push_reserved.ensures.items ∙ stack_pushed c.loop-place.scratch.following.items c.in-Some.tree in
     record {
       chosen = subst (λ us. Chosen q i C (λ u h. h.part.part) us place) (sym pushed) (chosen_more q i C (λ u h. h.part.part) vs x place choice candidate (subst (Chosen q i C (λ u h. h.part.part) vs) back c.loop-place.invariant.chosen));
       within = omega (arith, c.loop-place.invariant.within);
+      room = omega (arith, c.loop-place.invariant.room, c.loop-place-test.true, c.push_reserved.ensures.len, c.push_reserved.ensures.capacity);
       steps = omega (arith, c.loop-place.invariant.steps, c.candidate.ensures.step, c.loop-place-test.true);
     }
 
@@ -93,11 +100,6 @@ returns-in_default-clause-steps g c w width =
 
 pub returns-then-not-is_past-clause-steps : goal.returns-then-not-is_past-clause-steps
 returns-then-not-is_past-clause-steps g c w width =
-    let within = count_within c.args.self.now.plan.now c.args.node c.requires.node c.requires.leaf c.count-place.result c.count-place.ensures w width in
-    omega (arith, within, c.loop-place.invariant.steps, c.candidate.ensures.step, c.loop-place-test.true)
-
-pub returns-in_err-push-clause-steps : goal.returns-in_err-push-clause-steps
-returns-in_err-push-clause-steps g c w width =
     let within = count_within c.args.self.now.plan.now c.args.node c.requires.node c.requires.leaf c.count-place.result c.count-place.ensures w width in
     omega (arith, within, c.loop-place.invariant.steps, c.candidate.ensures.step, c.loop-place-test.true)
 
