@@ -8,4 +8,5 @@ pub mod pages;
 pub mod plain_cover;
 pub mod plans;
 pub mod reference;
+pub mod report;
 pub mod texts;
