@@ -5,6 +5,7 @@ pub mod fakes;
 pub mod harness;
 pub mod nodes;
 pub mod pages;
+pub mod phrases;
 pub mod plain_cover;
 pub mod plans;
 pub mod reference;
