@@ -6,6 +6,7 @@ pub mod harness;
 pub mod nodes;
 pub mod pages;
 pub mod plain_cover;
+pub mod plain_stored;
 pub mod plans;
 pub mod reference;
 pub mod texts;

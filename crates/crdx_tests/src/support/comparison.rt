@@ -6,10 +6,11 @@ ghost use Rattle.plan.specs.declared.sort.Sort.TheVariants as sort;
 
 use crate::support::harness::{holds, is_number, is_same, made, pools_of, schema_of};
 use crate::support::plain_cover::try_cover;
+use crate::support::plain_stored::{Before, is_plainly_stored};
 use crate::support::plans::{are_sizes, item_of, more_of, place_of, rest_of, slot_of};
 use crate::support::reference::{
-    Before, Choice, Ending, map_ending, node_below, plain_more, plain_named, plain_parts,
-    plain_rest, plain_slots,
+    Choice, Ending, map_ending, node_below, plain_more, plain_named, plain_parts, plain_rest,
+    plain_slots, plain_values,
 };
 use enumerate::page;
 use explain::{Step, path_below};
@@ -19,7 +20,7 @@ use schema::{Fields, Node, Sort as NodeSort};
 use std::alloc::Global;
 use std::process::Abort;
 use std::test::Fail;
-use stored::Schema;
+use stored::{Schema, is_stored};
 
 fn are_candidates(
     rt: &impl Abort,
@@ -452,6 +453,22 @@ fn try_samples(
     Ok(())
 }
 
+/// `is_stored` answers of each value that is made as the plain reference does.
+fn try_stored(
+    rt: &impl Abort,
+    alloc: Global,
+    node: &Node,
+    pools: &Pools,
+    limit: u32,
+    name: &str,
+) -> Result<(), Fail> {
+    for value in plain_values(alloc, node, "", pools, u64::from(limit))? {
+        let is_same = is_stored(node, &value) == is_plainly_stored(node, &value);
+        holds(rt, is_same, "what is stored", name);
+    }
+    Ok(())
+}
+
 fn try_given(
     rt: &impl Abort,
     alloc: Global,
@@ -462,6 +479,7 @@ fn try_given(
     name: &str,
 ) -> Result<(), Fail> {
     let root = schema.root();
+    try_stored(rt, alloc, root, pools, plan.limit(), name)?;
     let samples = plain_parts(alloc, root, "", pools, u64::from(plan.limit()))?;
     try_samples(rt, alloc, plan, &samples, meter, name)?;
     try_nodes(
