@@ -9,4 +9,5 @@ pub mod plain_cover;
 pub mod plain_stored;
 pub mod plans;
 pub mod reference;
+pub mod report;
 pub mod texts;
