@@ -2,6 +2,7 @@
 pub mod comparison;
 pub mod documents;
 pub mod fakes;
+pub mod given;
 pub mod harness;
 pub mod nodes;
 pub mod pages;
