@@ -3,4 +3,5 @@ mod lending_cases;
 mod page_cases;
 mod reference_cases;
 mod small_plan_cases;
+mod stored_cases;
 mod wide_cases;

@@ -22,7 +22,8 @@
 //! | `enumerate_tests/lending_cases` | samples lent to a taker, page by page |
 //! | `enumerate_tests/page_cases` | pages, walks and enumerations, with their steps |
 //! | `enumerate_tests/reference_cases` | the plain reference, and walks, against lists made by hand |
-//! | `enumerate_tests/small_plan_cases` | 2,124 small plans, 402 of them with a list for a path, 546 with fixed values and 216 with present paths, and their pages against the plain reference |
+//! | `enumerate_tests/small_plan_cases` | 2,124 small plans against the plain reference: their nodes, their pages and what is stored |
+//! | `enumerate_tests/stored_cases` | what is stored, by the plain reference and by `stored`, against values that were judged by hand |
 //! | `enumerate_tests/wide_cases` | plans over words of 128 bits |
 //! | `program/argument_cases` | the arguments, mistakes in them, and help |
 //! | `program/check_cases`, `validate_cases`, `prune_cases`, `sample_cases` | what each command prints |

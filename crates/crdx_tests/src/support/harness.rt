@@ -3,7 +3,7 @@ use crate::support::fakes::{FailingSink, FakeInputs, Reads};
 use crate::support::phrases::with_phrases;
 use crate::support::report::Report;
 use jtree::Tree;
-use plan::{Plan, Pools};
+use plan::Pools;
 use schema::{Crd, SFault, read_crd};
 use std::alloc::{AllocError, Global};
 use std::test::Fail;
@@ -201,14 +201,6 @@ pub fn schema_of(alloc: Global, schema: &str) -> Result<Schema, Fail> {
 pub fn pools_of(alloc: Global, pools: &str) -> Result<Pools, Fail> {
     let document = Tree::from_bytes(alloc, pools.as_bytes())?;
     Ok(Pools::read(alloc, &document)?)
-}
-
-/// The plan of a schema, pools and a node limit.
-pub fn made(alloc: Global, given: (&str, &str, u32)) -> Result<Plan<u64>, Fail> {
-    let (schema, pools, limit) = given;
-    let schema = schema_of(alloc, schema)?;
-    let pools = pools_of(alloc, pools)?;
-    Ok(Plan::new(alloc, schema, pools, limit)?)
 }
 
 /// What is read of version `v1` of a document.

@@ -4,18 +4,17 @@ ghost use Rattle.plan.specs.Samples.Sites.{site_at, sites_of};
 ghost use Rattle.plan.specs.Samples.Candidates.{sort_of};
 ghost use Rattle.plan.specs.declared.sort.Sort.TheVariants as sort;
 
-use crate::support::harness::is_value;
+use crate::support::report::Report;
 use plan::{Meter, Plan, PlanNode, SizeSet, Sort};
 use std::alloc::Global;
-use std::process::Abort;
 use std::test::Fail;
 
-// A place in a short table.
+/// A place in a short table.
 pub fn place_of(index: usize) -> u64 {
     index.min(99) as u64
 }
 
-// The node of a slot.
+/// The node of a slot.
 pub fn slot_of(plan: &Plan<u64>, node: PlanNode, place: u64, meter: &mut Meter) -> Option<PlanNode>
     requires { node < length (sites_of plan.now.pools plan.now.root) }
     ensures { IfSome result (λ n. n < length (sites_of plan.now.pools plan.now.root)) }
@@ -39,14 +38,13 @@ pub fn item_of(plan: &Plan<u64>, node: PlanNode, place: u32, meter: &mut Meter) 
     }
 }
 
-/// Fails unless a set has these sizes, and no other.
+/// Notes it unless a set has these sizes, and no other.
 pub fn are_sizes<S: SizeSet>(
-    rt: &impl Abort,
+    report: &mut Report,
     alloc: Global,
+    what: &str,
     set: S,
     wanted: &[u32],
-    what: &str,
-    name: &str,
 ) -> Result<(), Fail> {
     let mut sizes = Vec::new(alloc);
     for n in 0..S::BITS {
@@ -54,11 +52,10 @@ pub fn are_sizes<S: SizeSet>(
             sizes.push(n)?;
         }
     }
-    is_value(rt, &sizes.as_slice(), &wanted, what, name);
-    Ok(())
+    Ok(report.is_value(what, &sizes.as_slice(), &wanted)?)
 }
 
-// The sizes that the slots of a row from a place on can take; none where there is no such place.
+/// The sizes that the slots of a row from a place on can take; none where there is no such place.
 pub fn rest_of(
     plan: &Plan<u64>,
     node: PlanNode,
