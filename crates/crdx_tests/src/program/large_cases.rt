@@ -201,27 +201,27 @@ fn wide(alloc: Global, count: usize) -> Result<String, AllocError> {
 }
 
 /// How many properties there are, and what is said of a limit.
-struct Wide {
+struct WideObject {
     name: &'static str,
     command: &'static str,
     properties: usize,
     err: &'static str,
 }
 
-static PROPERTIES: [Wide; 3] = [
-    Wide {
+static PROPERTIES: [WideObject; 3] = [
+    WideObject {
         name: "33 properties",
         command: STANDARD,
         properties: 33,
         err: "crdx: crd: S4 \"/properties\"\n    found 33 properties; allowed are 32, and 1024 with --large\n",
     },
-    Wide {
+    WideObject {
         name: "1,024 properties",
         command: LARGE,
         properties: 1024,
         err: "",
     },
-    Wide {
+    WideObject {
         name: "1,025 properties",
         command: LARGE,
         properties: 1025,
@@ -229,7 +229,7 @@ static PROPERTIES: [Wide; 3] = [
     },
 ];
 
-fn try_properties(report: &mut Report, alloc: Global, row: &Wide) -> Result<(), Fail> {
+fn try_properties(report: &mut Report, alloc: Global, row: &WideObject) -> Result<(), Fail> {
     let schema = wide(alloc, row.properties)?;
     try_judged(report, alloc, row.command, schema.as_str(), row.err)
 }

@@ -80,15 +80,15 @@ const PRESERVING: &str = r#"{
 }"#;
 
 /// An object by a schema, and its leaves.
-struct Leaves {
+struct ObjectLeaves {
     name: &'static str,
     schema: &'static str,
     object: &'static str,
     out: &'static str,
 }
 
-static LEAVES: [Leaves; 15] = [
-    Leaves {
+static LEAVES: [ObjectLeaves; 15] = [
+    ObjectLeaves {
         name: "a list, a map list, an empty map and a set",
         schema: SPEC,
         object: r#"{"spec":{"args":["x","y"],"ports":[{"name":"w","port":80}],"sel":{},"tags":["t"]}}"#,
@@ -99,19 +99,19 @@ static LEAVES: [Leaves; 15] = [
 ["f:spec","f:tags","v:\"t\""]
 "#,
     },
-    Leaves {
+    ObjectLeaves {
         name: "an empty body, with an envelope",
         schema: SPEC,
         object: r#"{"kind":"K"}"#,
         out: "[]\n",
     },
-    Leaves {
+    ObjectLeaves {
         name: "an empty body",
         schema: SPEC,
         object: "{}",
         out: "[]\n",
     },
-    Leaves {
+    ObjectLeaves {
         name: "the envelope is no leaf",
         schema: SPEC,
         object: r#"{"apiVersion":"v1","kind":"K","metadata":{"name":"n"},"spec":{"sel":{"b":"","a":"x"}}}"#,
@@ -119,7 +119,7 @@ static LEAVES: [Leaves; 15] = [
 ["f:spec","f:sel","f:b"]
 "#,
     },
-    Leaves {
+    ObjectLeaves {
         name: "a set of integers and texts, in its own order",
         schema: MARKERS,
         object: r#"{"s":[2,"1",1]}"#,
@@ -128,7 +128,7 @@ static LEAVES: [Leaves; 15] = [
 ["f:s","v:1"]
 "#,
     },
-    Leaves {
+    ObjectLeaves {
         name: "atomic beside granular",
         schema: MARKERS,
         object: r#"{
@@ -145,7 +145,7 @@ static LEAVES: [Leaves; 15] = [
 ["f:m","k:{\"k\":false}"]
 "#,
     },
-    Leaves {
+    ObjectLeaves {
         name: "all that can be empty",
         schema: MARKERS,
         object: r#"{"al":[],"am":{},"ao":{},"gm":{},"go":{},"m":[],"s":[]}"#,
@@ -158,7 +158,7 @@ static LEAVES: [Leaves; 15] = [
 ["f:s"]
 "#,
     },
-    Leaves {
+    ObjectLeaves {
         name: "items in their own order, keys by name",
         schema: TWO_KEYS,
         object: r#"{"m":[{"port":2,"protocol":"TCP"},{"name":"n","port":1,"protocol":"TCP"},{"port":1,"protocol":"UDP"}]}"#,
@@ -171,14 +171,14 @@ static LEAVES: [Leaves; 15] = [
 ["f:m","k:{\"port\":1,\"protocol\":\"UDP\"}","f:protocol"]
 "#,
     },
-    Leaves {
+    ObjectLeaves {
         name: "texts that are escaped, once in an element and once more in the line",
         schema: MAP_LIST,
         object: r#"{"m":[{"k":"a\"\n"}]}"#,
         out: r#"["f:m","k:{\"k\":\"a\\\"\\n\"}","f:k"]
 "#,
     },
-    Leaves {
+    ObjectLeaves {
         name: "members that are not declared, and the value of an open node",
         schema: PRESERVING,
         object: r#"{"a":[{"b":1}],"m":{"c":{"q":[1,{"r":null}]},"d":{"x":1},"e\"":null},"o":{"z":[1]},"p":{}}"#,
@@ -190,7 +190,7 @@ static LEAVES: [Leaves; 15] = [
 ["f:p"]
 "#,
     },
-    Leaves {
+    ObjectLeaves {
         name: "an open value that is empty, and an object that only preserves",
         schema: PRESERVING,
         object: r#"{"m":{},"o":{}}"#,
@@ -198,7 +198,7 @@ static LEAVES: [Leaves; 15] = [
 ["f:o"]
 "#,
     },
-    Leaves {
+    ObjectLeaves {
         name: "a null at each sort of node",
         schema: NULLABLE,
         object: r#"{"a":null,"b":null,"c":null,"d":null,"e":null,"f":null,"g":null}"#,
@@ -211,7 +211,7 @@ static LEAVES: [Leaves; 15] = [
 ["f:g"]
 "#,
     },
-    Leaves {
+    ObjectLeaves {
         name: "nulls below each sort of node",
         schema: NULLABLE,
         object: r#"{"b":{"x":null},"c":{"k":null},"d":[null],"f":[{"k":1,"v":null}],"g":[null]}"#,
@@ -223,7 +223,7 @@ static LEAVES: [Leaves; 15] = [
 ["f:g"]
 "#,
     },
-    Leaves {
+    ObjectLeaves {
         name: "names with letters of elements",
         schema: r#"{"type":"object","properties":{
             "f:a":{"type":"object","additionalProperties":{"type":"boolean"}},"":{"type":"boolean"}
@@ -234,7 +234,7 @@ static LEAVES: [Leaves; 15] = [
 ["f:f:a","f:k:{}"]
 "#,
     },
-    Leaves {
+    ObjectLeaves {
         name: "an atomic map list item inside of a map, and a set inside of a map list",
         schema: r#"{"type":"object","properties":{"x":{
             "type":"object",
@@ -309,7 +309,7 @@ static OTHERS: [NotStored; 9] = [
     },
 ];
 
-fn try_leaves(report: &mut Report, alloc: Global, row: &Leaves) -> Result<(), Fail> {
+fn try_leaves(report: &mut Report, alloc: Global, row: &ObjectLeaves) -> Result<(), Fail> {
     let run = SchemaRun {
         name: row.name,
         command: COMMAND,

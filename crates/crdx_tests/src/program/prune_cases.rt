@@ -5,7 +5,7 @@ use std::alloc::Global;
 use std::test::Fail;
 
 /// An object by a schema, and what `prune` and `default` print of it.
-struct Printed {
+struct PrintedForms {
     name: &'static str,
     schema: &'static str,
     object: &'static str,
@@ -13,8 +13,8 @@ struct Printed {
     completed: &'static str,
 }
 
-static ROWS: [Printed; 15] = [
-    Printed {
+static ROWS: [PrintedForms; 15] = [
+    PrintedForms {
         name: "nulls under names with and without a default",
         schema: r#"{"type":"object","properties":{"spec":{
             "type":"object",
@@ -27,7 +27,7 @@ static ROWS: [Printed; 15] = [
         pruned: "{\"spec\":{\"bar\":null,\"baz\":null,\"foo\":null}}\n",
         completed: "{\"spec\":{\"bar\":null,\"foo\":\"default\"}}\n",
     },
-    Printed {
+    PrintedForms {
         name: "members that are kept and others",
         schema: r#"{"type":"object","properties":{"spec":{
             "type":"object","x-kubernetes-preserve-unknown-fields":true,
@@ -37,7 +37,7 @@ static ROWS: [Printed; 15] = [
         pruned: "{\"kind\":\"K\",\"spec\":{\"a\":{\"b\":1},\"u\":{\"q\":null}}}\n",
         completed: "{\"kind\":\"K\",\"spec\":{\"a\":{\"b\":1},\"u\":{\"q\":null}}}\n",
     },
-    Printed {
+    PrintedForms {
         name: "a null that is kept, and one that goes",
         schema: r#"{"type":"object","properties":{"spec":{
             "type":"object","x-kubernetes-preserve-unknown-fields":true,
@@ -47,7 +47,7 @@ static ROWS: [Printed; 15] = [
         pruned: "{\"spec\":{\"a\":null,\"u\":null}}\n",
         completed: "{\"spec\":{\"u\":null}}\n",
     },
-    Printed {
+    PrintedForms {
         name: "a default below a default",
         schema: r#"{"type":"object","properties":{"spec":{
             "type":"object","default":{},"properties":{"f":{"type":"integer","default":7}}
@@ -56,7 +56,7 @@ static ROWS: [Printed; 15] = [
         pruned: "{}\n",
         completed: "{\"spec\":{\"f\":7}}\n",
     },
-    Printed {
+    PrintedForms {
         name: "a null in place of an object with a default",
         schema: r#"{"type":"object","properties":{"spec":{
             "type":"object","default":{},"properties":{"f":{"type":"integer","default":7}}
@@ -65,7 +65,7 @@ static ROWS: [Printed; 15] = [
         pruned: "{\"spec\":null}\n",
         completed: "{\"spec\":{\"f\":7}}\n",
     },
-    Printed {
+    PrintedForms {
         name: "an empty object with an envelope",
         schema: r#"{"type":"object","properties":{"spec":{
             "type":"object","default":{},"properties":{"f":{"type":"integer","default":7}}
@@ -74,21 +74,21 @@ static ROWS: [Printed; 15] = [
         pruned: "{\"apiVersion\":\"x/v1\",\"spec\":{}}\n",
         completed: "{\"apiVersion\":\"x/v1\",\"spec\":{\"f\":7}}\n",
     },
-    Printed {
+    PrintedForms {
         name: "a null in a map",
         schema: r#"{"type":"object","properties":{"m":{"type":"object","additionalProperties":{"type":"string"}}}}"#,
         object: r#"{"m":{"a":null,"b":"x"}}"#,
         pruned: "{\"m\":{\"a\":null,\"b\":\"x\"}}\n",
         completed: "{\"m\":{\"b\":\"x\"}}\n",
     },
-    Printed {
+    PrintedForms {
         name: "a null in a list",
         schema: r#"{"type":"object","properties":{"l":{"type":"array","items":{"type":"string"}}}}"#,
         object: r#"{"l":[null]}"#,
         pruned: "{\"l\":[null]}\n",
         completed: "{\"l\":[null]}\n",
     },
-    Printed {
+    PrintedForms {
         name: "an envelope of other values",
         schema: r#"{"type":"object","properties":{
             "kind":{"type":"string"},"metadata":{"type":"object","properties":{"name":{"type":"string"}}},
@@ -98,14 +98,14 @@ static ROWS: [Printed; 15] = [
         pruned: "{\"apiVersion\":[{\"z\":null}],\"kind\":null,\"metadata\":{\"labels\":{\"a\":null}}}\n",
         completed: "{\"apiVersion\":[{\"z\":null}],\"kind\":null,\"metadata\":{\"labels\":{\"a\":null}},\"z\":0}\n",
     },
-    Printed {
+    PrintedForms {
         name: "names of the envelope below the root",
         schema: r#"{"type":"object","properties":{"spec":{"type":"object","properties":{"kind":{"type":"string","default":"x"}}}}}"#,
         object: r#"{"metadata":{},"spec":{"apiVersion":"v1","metadata":{}}}"#,
         pruned: "{\"metadata\":{},\"spec\":{}}\n",
         completed: "{\"metadata\":{},\"spec\":{\"kind\":\"x\"}}\n",
     },
-    Printed {
+    PrintedForms {
         name: "defaults three deep, below a map and below items",
         schema: r#"{"type":"object","properties":{
             "l":{"type":"array","items":{"type":"object","properties":{"f":{
@@ -125,7 +125,7 @@ static ROWS: [Printed; 15] = [
         pruned: "{\"l\":[{},7],\"m\":{\"p\":{}}}\n",
         completed: "{\"l\":[{\"f\":false},7],\"m\":{\"p\":{\"a\":{\"b\":{\"c\":1}}}}}\n",
     },
-    Printed {
+    PrintedForms {
         name: "values that are not valid",
         schema: r#"{"type":"object","required":["r"],"properties":{
             "n":{"type":"integer"},"o":{"type":"object","properties":{"a":{"type":"integer","default":1}}},
@@ -135,21 +135,21 @@ static ROWS: [Printed; 15] = [
         pruned: "{\"n\":\"x\",\"o\":[{\"z\":null}]}\n",
         completed: "{\"n\":\"x\",\"o\":[{\"z\":null}]}\n",
     },
-    Printed {
+    PrintedForms {
         name: "a list in place of the object",
         schema: r#"{"type":"object","properties":{"a":{"type":"integer","default":1}}}"#,
         object: r#"[{"kind":"K","z":null}]"#,
         pruned: "[{\"kind\":\"K\",\"z\":null}]\n",
         completed: "[{\"kind\":\"K\",\"z\":null}]\n",
     },
-    Printed {
+    PrintedForms {
         name: "a null in place of the object",
         schema: r#"{"type":"object","properties":{"a":{"type":"integer","default":1}}}"#,
         object: "null",
         pruned: "null\n",
         completed: "null\n",
     },
-    Printed {
+    PrintedForms {
         name: "white space, names out of order, and texts with escapes",
         schema: r#"{"type":"object","properties":{"a":{"type":"string"},"b":{"type":"integer"}}}"#,
         object: r#" { "b" : 2 , "a" : "\/\u00e9\u001f\n" } "#,
@@ -158,7 +158,7 @@ static ROWS: [Printed; 15] = [
     },
 ];
 
-fn try_row(report: &mut Report, alloc: Global, row: &Printed) -> Result<(), Fail> {
+fn try_row(report: &mut Report, alloc: Global, row: &PrintedForms) -> Result<(), Fail> {
     let prune = SchemaRun {
         name: row.name,
         command: "crdx prune crd.json v1",

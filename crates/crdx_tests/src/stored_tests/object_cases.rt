@@ -9,7 +9,7 @@ use std::test::Fail;
 use stored::{Fault, accept, complete, faults, is_stored, prune, strict_faults, valid, violations};
 
 /// The schema of a field `x`, good values of it, and bad ones.
-struct Values {
+struct FieldValues {
     name: &'static str,
     field: &'static str,
     good: &'static str,
@@ -17,80 +17,80 @@ struct Values {
 }
 
 // Good values are valid.
-static VALUES: [Values; 17] = [
-    Values {
+static VALUES: [FieldValues; 17] = [
+    FieldValues {
         name: "lengths in characters, and `not`",
         field: r#"{"type":"string","minLength":2,"not":{"enum":["ab"]}}"#,
         good: r#"["éé","abc","😀😀"]"#,
         bad: r#"["a","ab","é","😀",1,null]"#,
     },
-    Values {
+    FieldValues {
         name: "an exclusive minimum",
         field: r#"{"type":"integer","minimum":3,"exclusiveMinimum":true}"#,
         good: "[4]",
         bad: r#"[3,2,-4,"4",true]"#,
     },
-    Values {
+    FieldValues {
         name: "an exclusive flag without its bound",
         field: r#"{"type":"integer","exclusiveMinimum":true,"exclusiveMaximum":true}"#,
         good: "[0,-1]",
         bad: "[false]",
     },
-    Values {
+    FieldValues {
         name: "exactly one branch",
         field: r#"{"type":"integer","oneOf":[{"minimum":1},{"maximum":3}]}"#,
         good: "[0,4]",
         bad: "[1,2,3]",
     },
-    Values {
+    FieldValues {
         name: "at least one branch",
         field: r#"{"type":"integer","anyOf":[{"maximum":1},{"minimum":1},{"enum":[9]}]}"#,
         good: "[0,1,2]",
         bad: r#"["x"]"#,
     },
-    Values {
+    FieldValues {
         name: "none of the branches",
         field: r#"{"type":"integer","anyOf":[{"maximum":1},{"minimum":5}]}"#,
         good: "[1,5]",
         bad: "[2,4]",
     },
-    Values {
+    FieldValues {
         name: "junctors three deep",
         field: r#"{"type":"integer","allOf":[{"anyOf":[{"not":{"minimum":5}},{"enum":[7]}]}]}"#,
         good: "[4,7]",
         bad: "[5,6,8]",
     },
-    Values {
+    FieldValues {
         name: "bounds and lengths of an integer or a text",
         field: r#"{"x-kubernetes-int-or-string":true,"minimum":2,"maxLength":1}"#,
         good: r#"[2,10,"","1"]"#,
         bad: r#"[1,"12",true,{},[]]"#,
     },
-    Values {
+    FieldValues {
         name: "a null with an enum",
         field: r#"{"type":"string","nullable":true,"enum":["x","x"]}"#,
         good: r#"[null,"x"]"#,
         bad: r#"["y",""]"#,
     },
-    Values {
+    FieldValues {
         name: "a set",
         field: r#"{"type":"array","items":{"type":"integer"},"x-kubernetes-list-type":"set"}"#,
         good: "[[1,2,3],[3,2,1],[]]",
         bad: r#"[[1,1],[1,2,2],[2,1,2],["1"],[null],{},null]"#,
     },
-    Values {
+    FieldValues {
         name: "a set of integers and texts",
         field: r#"{"type":"array","items":{"x-kubernetes-int-or-string":true},"x-kubernetes-list-type":"set"}"#,
         good: r#"[[1,"1"]]"#,
         bad: r#"[["1",1,"1"]]"#,
     },
-    Values {
+    FieldValues {
         name: "an atomic list with bounds",
         field: r#"{"type":"array","items":{"type":"integer"},"minItems":1,"maxItems":2}"#,
         good: "[[1],[1,1]]",
         bad: "[[],[1,2,3]]",
     },
-    Values {
+    FieldValues {
         name: "a map list",
         field: r#"{
             "type":"array","x-kubernetes-list-type":"map","x-kubernetes-list-map-keys":["host","port"],
@@ -105,7 +105,7 @@ static VALUES: [Values; 17] = [
             [{"host":"x","port":0},{"host":"y"},1]
         ]"#,
     },
-    Values {
+    FieldValues {
         name: "keys that are absent on both sides",
         field: r#"{
             "type":"array","x-kubernetes-list-type":"map","x-kubernetes-list-map-keys":["k"],
@@ -116,19 +116,19 @@ static VALUES: [Values; 17] = [
         good: r#"[[{"v":1},{"k":""}]]"#,
         bad: r#"[[{"v":1},{"v":2}],[{"k":"a"},{"k":"b"},{"k":"a","v":1}]]"#,
     },
-    Values {
+    FieldValues {
         name: "a map with bounds",
         field: r#"{"type":"object","additionalProperties":{"type":"integer","nullable":true},"minProperties":1,"maxProperties":2}"#,
         good: r#"[{"a":1},{"a":null,"b":2}]"#,
         bad: r#"[{},{"a":1,"b":2,"c":3},{"a":"x"},[]]"#,
     },
-    Values {
+    FieldValues {
         name: "any value",
         field: r#"{"x-kubernetes-preserve-unknown-fields":true}"#,
         good: r#"[0,"",[null],{"a":{"b":null}}]"#,
         bad: "[null]",
     },
-    Values {
+    FieldValues {
         name: "a nullable object below a list",
         field: r#"{"type":"array","items":{"type":"object","nullable":true,"properties":{"a":{"type":"integer"}}}}"#,
         good: r#"[[null,{}],[{"a":1}]]"#,
@@ -137,20 +137,20 @@ static VALUES: [Values; 17] = [
 ];
 
 // Good values are stored as they are.
-static STORED: [Values; 5] = [
-    Values {
+static STORED: [FieldValues; 5] = [
+    FieldValues {
         name: "a default",
         field: r#"{"type":"object","properties":{"f":{"type":"integer","default":7}}}"#,
         good: r#"[{"f":7},{"f":0}]"#,
         bad: r#"[{},{"f":null},{"f":7,"z":1},{"f":""},null]"#,
     },
-    Values {
+    FieldValues {
         name: "nulls that are accepted and others",
         field: r#"{"type":"object","properties":{"a":{"type":"integer"},"b":{"type":"integer","nullable":true,"default":1}}}"#,
         good: r#"[{"b":null},{"a":1,"b":1}]"#,
         bad: r#"[{},{"a":null,"b":1}]"#,
     },
-    Values {
+    FieldValues {
         name: "a default below a map and a list",
         field: r#"{"type":"object","additionalProperties":{
             "type":"array","items":{"type":"object","properties":{"f":{"type":"integer","default":7}}}
@@ -158,13 +158,13 @@ static STORED: [Values; 5] = [
         good: r#"[{},{"m":[]},{"m":[{"f":7}]}]"#,
         bad: r#"[{"m":[{}]},{"m":[{"f":7},{"f":7,"z":1}]},{"m":null}]"#,
     },
-    Values {
+    FieldValues {
         name: "fields that are kept",
         field: r#"{"type":"object","x-kubernetes-preserve-unknown-fields":true,"properties":{"a":{"type":"object","properties":{}}}}"#,
         good: r#"[{"z":null,"a":{}}]"#,
         bad: r#"[{"a":{"z":1}}]"#,
     },
-    Values {
+    FieldValues {
         name: "a set",
         field: r#"{"type":"array","items":{"type":"integer"},"x-kubernetes-list-type":"set"}"#,
         good: "[[1,2]]",
@@ -430,7 +430,7 @@ fn try_lists(
     report: &mut Report,
     alloc: Global,
     root: &Node,
-    row: &Values,
+    row: &FieldValues,
     good: Good,
 ) -> Result<(), Fail> {
     let node = first_field(root)?;
@@ -438,7 +438,12 @@ fn try_lists(
     try_list(report, alloc, node, row.bad, good, false)
 }
 
-fn try_values(report: &mut Report, alloc: Global, row: &Values, good: Good) -> Result<(), Fail> {
+fn try_values(
+    report: &mut Report,
+    alloc: Global,
+    row: &FieldValues,
+    good: Good,
+) -> Result<(), Fail> {
     let schema = schema_of_field(alloc, row.field)?;
     try_lists(report, alloc, schema.root(), row, good)
 }
@@ -515,27 +520,27 @@ fn objects(rt: HostRuntime) -> Result<(), Fail> {
 }
 
 /// An object by a schema, and its strict faults: a number and a pointer a line.
-struct Strict {
+struct StrictFaults {
     name: &'static str,
     schema: &'static str,
     object: &'static str,
     faults: &'static str,
 }
 
-static STRICT: [Strict; 11] = [
-    Strict {
+static STRICT: [StrictFaults; 11] = [
+    StrictFaults {
         name: "a member that is not declared, and what is below it",
         schema: r#"{"type":"object","properties":{"spec":{"type":"object","properties":{"a":{"type":"integer"}}}}}"#,
         object: r#"{"spec":{"a":1,"b":{"c":{"d":1}}}}"#,
         faults: "15 /spec/b\n",
     },
-    Strict {
+    StrictFaults {
         name: "names before, between and after the fields",
         schema: r#"{"type":"object","required":["d"],"properties":{"b":{"type":"integer"},"d":{"type":"integer"}}}"#,
         object: r#"{"a":null,"b":"","c":0,"e":[0]}"#,
         faults: "15 /a\n1 /b\n15 /c\n12 /d\n15 /e\n",
     },
-    Strict {
+    StrictFaults {
         name: "below a list and a map",
         schema: r#"{"type":"object","properties":{
             "l":{"type":"array","items":{
@@ -548,7 +553,7 @@ static STRICT: [Strict; 11] = [
         object: r#"{"l":[null,{"a":1,"z":null}],"m":{"p":{"y":1},"q":{"a":1}}}"#,
         faults: "15 /l/1/z\n15 /m/p/y\n",
     },
-    Strict {
+    StrictFaults {
         name: "a member that is kept, and one below a field beside it",
         schema: r#"{"type":"object","properties":{"spec":{
             "type":"object","x-kubernetes-preserve-unknown-fields":true,
@@ -557,13 +562,13 @@ static STRICT: [Strict; 11] = [
         object: r#"{"spec":{"a":{"y":1},"z":{"w":2}}}"#,
         faults: "15 /spec/a/y\n",
     },
-    Strict {
+    StrictFaults {
         name: "below a place of any value",
         schema: r#"{"type":"object","properties":{"x":{"x-kubernetes-preserve-unknown-fields":true}}}"#,
         object: r#"{"x":{"a":[null,{"b":null}]},"y":1}"#,
         faults: "15 /y\n",
     },
-    Strict {
+    StrictFaults {
         name: "below a value of another kind",
         schema: r#"{"type":"object","properties":{
             "l":{"type":"array","items":{"type":"object","properties":{}}},
@@ -572,13 +577,13 @@ static STRICT: [Strict; 11] = [
         object: r#"{"l":{"z":1},"o":null}"#,
         faults: "1 /l\n2 /o\n",
     },
-    Strict {
+    StrictFaults {
         name: "names in the order of their bytes, with a tilde and a slash",
         schema: r#"{"type":"object","properties":{"B":{"type":"integer"}}}"#,
         object: r#"{"A~":1,"B":1,"a/b":1}"#,
         faults: "15 /A~0\n15 /a~1b\n",
     },
-    Strict {
+    StrictFaults {
         name: "an item that repeats another",
         schema: r#"{"type":"object","properties":{"m":{
             "type":"array","x-kubernetes-list-type":"map","x-kubernetes-list-map-keys":["k"],
@@ -587,19 +592,19 @@ static STRICT: [Strict; 11] = [
         object: r#"{"m":[{"k":"a"},{"j":1,"k":"a"}]}"#,
         faults: "13 /m/1\n15 /m/1/j\n",
     },
-    Strict {
+    StrictFaults {
         name: "a member too many",
         schema: r#"{"type":"object","properties":{"o":{"type":"object","maxProperties":1,"properties":{"a":{"type":"integer"}}}}}"#,
         object: r#"{"o":{"a":1,"z":1}}"#,
         faults: "11 /o\n15 /o/z\n",
     },
-    Strict {
+    StrictFaults {
         name: "no field at all",
         schema: r#"{"type":"object","properties":{"o":{"type":"object"}}}"#,
         object: r#"{"o":{"a":1,"b":2}}"#,
         faults: "15 /o/a\n15 /o/b\n",
     },
-    Strict {
+    StrictFaults {
         name: "a default that is absent",
         schema: r#"{"type":"object","properties":{"f":{"type":"integer","default":7}}}"#,
         object: "{}",
@@ -607,7 +612,7 @@ static STRICT: [Strict; 11] = [
     },
 ];
 
-fn strictly_faulty(alloc: Global, row: &Strict) -> Result<String, Fail> {
+fn strictly_faulty(alloc: Global, row: &StrictFaults) -> Result<String, Fail> {
     let tree = Tree::from_bytes(alloc, row.object.as_bytes())?;
     let schema = schema_of(alloc, row.schema)?;
     let found = strict_faults(alloc, schema.root(), &tree)?;
