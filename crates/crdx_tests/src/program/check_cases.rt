@@ -1,4 +1,5 @@
 //! `check`: the rules that a schema breaks, and what is said of the inputs that are refused.
+use crate::support::documents::{ONE_BOUND, SPEC, TRUTHS};
 use crate::support::harness::{Checked, SchemaRun, all_checked, all_schema_runs};
 use crate::support::report::Report;
 use std::test::Fail;
@@ -6,9 +7,7 @@ use std::test::Fail;
 static SOUND: [Checked<'static>; 14] = [
     Checked {
         name: "two fields",
-        schema: r#"{"type":"object","properties":{"spec":{
-            "type":"object","properties":{"a":{"type":"integer"},"b":{"type":"boolean"}}
-        }}}"#,
+        schema: SPEC,
         out: "structural\n",
     },
     Checked {
@@ -70,7 +69,7 @@ static SOUND: [Checked<'static>; 14] = [
     },
     Checked {
         name: "junctors of a test",
-        schema: r#"{"type":"object","required":["n"],"properties":{"n":{"type":"integer","oneOf":[{"minimum":1},{"maximum":3}]}}}"#,
+        schema: ONE_BOUND,
         out: "structural\n",
     },
     Checked {
@@ -99,10 +98,7 @@ static SOUND: [Checked<'static>; 14] = [
     },
     Checked {
         name: "a number of fields",
-        schema: r#"{"type":"object","properties":{"o":{
-            "type":"object","minProperties":2,
-            "properties":{"a":{"type":"boolean"},"b":{"type":"boolean"},"c":{"type":"boolean"}}
-        }}}"#,
+        schema: TRUTHS,
         out: "structural\n",
     },
     Checked {

@@ -1,13 +1,13 @@
 //! `cover`: for each path the first sample in which it is there, and with `--values` for each value the first one with it.
-use crate::support::documents::{ONE_OF_TWO, SPEC};
+use crate::support::documents::{AT_MOST_ONE, LIST_OF_OBJECTS, NULL_OR_TRUTH, ONE_OF_TWO, SPEC};
 use crate::support::harness::{SchemaRun, all_schema_runs};
 use crate::support::report::Report;
 use std::test::Fail;
 
-// A list of objects of two truth values.
-const LIST_OF_OBJECTS: &str = r#"{"type":"object","properties":{"l":{"type":"array","items":{
-    "type":"object","properties":{"a":{"type":"boolean"},"b":{"type":"boolean"}}
-}}}}"#;
+// A map of truth values.
+const MAP_OF_TRUTHS: &str = r#"{"type":"object","properties":{"m":{
+    "type":"object","additionalProperties":{"type":"boolean"}
+}}}"#;
 
 // A list of objects that is always empty.
 const EMPTY_LIST: &str = r#"{"type":"object","properties":{"l":{
@@ -110,7 +110,7 @@ static ROWS: [SchemaRun<'static>; 32] = [
     SchemaRun {
         name: "the values of a map",
         command: "crdx cover crd.json v1 --pools pools.json",
-        schema: r#"{"type":"object","properties":{"m":{"type":"object","additionalProperties":{"type":"boolean"}}}}"#,
+        schema: MAP_OF_TRUTHS,
         second: r#"{"names":["k"]}"#,
         out: r#"{"m":{}}
 {"m":{"k":false}}
@@ -121,7 +121,7 @@ static ROWS: [SchemaRun<'static>; 32] = [
     SchemaRun {
         name: "nothing is below a null",
         command: "crdx cover crd.json v1",
-        schema: r#"{"type":"object","properties":{"n":{"type":"object","nullable":true,"properties":{"a":{"type":"boolean"}}}}}"#,
+        schema: NULL_OR_TRUTH,
         second: "{}",
         out: r#"{"n":null}
 {"n":{"a":false}}
@@ -153,9 +153,7 @@ static ROWS: [SchemaRun<'static>; 32] = [
     SchemaRun {
         name: "at most one member",
         command: "crdx cover crd.json v1",
-        schema: r#"{"type":"object","properties":{"o":{
-            "type":"object","maxProperties":1,"properties":{"a":{"type":"boolean"},"b":{"type":"boolean"}}
-        }}}"#,
+        schema: AT_MOST_ONE,
         second: "{}",
         out: r#"{"o":{}}
 {"o":{"a":false}}
@@ -270,7 +268,7 @@ static ROWS: [SchemaRun<'static>; 32] = [
     SchemaRun {
         name: "the values of a map",
         command: "crdx cover crd.json v1 --pools pools.json --values",
-        schema: r#"{"type":"object","properties":{"m":{"type":"object","additionalProperties":{"type":"boolean"}}}}"#,
+        schema: MAP_OF_TRUTHS,
         second: r#"{"names":["k"]}"#,
         out: r#"{"m":{}}
 {"m":{"k":false}}

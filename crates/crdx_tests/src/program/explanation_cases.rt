@@ -4,6 +4,11 @@ use crate::support::harness::{Run, SchemaRun, all_runs, all_schema_runs};
 use crate::support::report::Report;
 use std::test::Fail;
 
+// An object with two truth values, all of it required.
+const TWO_REQUIRED: &str = r#"{"type":"object","required":["s"],"properties":{"s":{
+    "type":"object","required":["a","b"],"properties":{"a":{"type":"boolean"},"b":{"type":"boolean"}}
+}}}"#;
+
 static DOCUMENTS: [Run<'static>; 12] = [
     Run {
         name: "another kind",
@@ -437,10 +442,7 @@ static LISTINGS: [SchemaRun<'static>; 10] = [
     SchemaRun {
         name: "a limit below the fewest nodes",
         command: "crdx sample crd.json v1 --limit 3 --why",
-        schema: r#"{"type":"object","required":["s"],"properties":{"s":{
-            "type":"object","required":["a","b"],
-            "properties":{"a":{"type":"boolean"},"b":{"type":"boolean"}}
-        }}}"#,
+        schema: TWO_REQUIRED,
         second: "",
         out: "",
         err: "crdx: end\n    found a least sample of 4 nodes; allowed are 3 (--limit)\n",
@@ -449,10 +451,7 @@ static LISTINGS: [SchemaRun<'static>; 10] = [
     SchemaRun {
         name: "the same without --why",
         command: "crdx sample crd.json v1 --limit 3",
-        schema: r#"{"type":"object","required":["s"],"properties":{"s":{
-            "type":"object","required":["a","b"],
-            "properties":{"a":{"type":"boolean"},"b":{"type":"boolean"}}
-        }}}"#,
+        schema: TWO_REQUIRED,
         second: "",
         out: "",
         err: "crdx: end\n",

@@ -1,6 +1,7 @@
 //! `sample` with fixed values for paths.
 use crate::support::documents::{
-    DEFAULTED, LABELS, MAP_LIST, NULLABLE, OPEN, OPEN_NULLABLE, REQUIRED_LONG_MAP_LIST, SET, SPEC,
+    DEFAULTED, LABELS, LIST_OF_OBJECTS, MAP_LIST, NULLABLE, OPEN, OPEN_NULLABLE,
+    REQUIRED_LONG_MAP_LIST, SET, SPEC,
 };
 use crate::support::harness::{SchemaRun, all_schema_runs};
 use crate::support::report::Report;
@@ -125,9 +126,7 @@ static ROWS: [SchemaRun<'static>; 30] = [
     SchemaRun {
         name: "the items of a list of objects",
         command: "crdx sample crd.json v1 --pools pools.json --limit 5",
-        schema: r#"{"type":"object","properties":{"l":{"type":"array","items":{
-            "type":"object","properties":{"a":{"type":"boolean"},"b":{"type":"boolean"}}
-        }}}}"#,
+        schema: LIST_OF_OBJECTS,
         second: r#"{"fixed":{"/l/[]":[{"b":true},{}]}}"#,
         out: r#"{}
 {"l":[]}

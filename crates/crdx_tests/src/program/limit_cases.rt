@@ -7,15 +7,17 @@ use crate::support::report::Report;
 use std::test::Fail;
 
 const THIRTY_ONE_FALSE: &str = concat!(
-    r#"{"t":["#,
-    r#"{"a":false,"b":false,"c":false},{"a":false,"b":false,"c":false},{"a":false,"b":false,"c":false},{"a":false,"b":false,"c":false},"#,
-    r#"{"a":false,"b":false,"c":false},{"a":false,"b":false,"c":false},{"a":false,"b":false,"c":false},{"a":false,"b":false,"c":false},"#,
-    r#"{"a":false,"b":false,"c":false},{"a":false,"b":false,"c":false},{"a":false,"b":false,"c":false},{"a":false,"b":false,"c":false},"#,
-    r#"{"a":false,"b":false,"c":false},{"a":false,"b":false,"c":false},{"a":false,"b":false,"c":false},{"a":false,"b":false,"c":false},"#,
-    r#"{"a":false,"b":false,"c":false},{"a":false,"b":false,"c":false},{"a":false,"b":false,"c":false},{"a":false,"b":false,"c":false},"#,
-    r#"{"a":false,"b":false,"c":false},{"a":false,"b":false,"c":false},{"a":false,"b":false,"c":false},{"a":false,"b":false,"c":false},"#,
-    r#"{"a":false,"b":false,"c":false},{"a":false,"b":false,"c":false},{"a":false,"b":false,"c":false},{"a":false,"b":false,"c":false},"#,
-    r#"{"a":false,"b":false,"c":false},{"a":false,"b":false,"c":false},{"a":false,"b":false,"c":false}"#,
+    r#"{"t":[{"a":false,"b":false,"c":false}"#,
+    r#",{"a":false,"b":false,"c":false},{"a":false,"b":false,"c":false},{"a":false,"b":false,"c":false}"#,
+    r#",{"a":false,"b":false,"c":false},{"a":false,"b":false,"c":false},{"a":false,"b":false,"c":false}"#,
+    r#",{"a":false,"b":false,"c":false},{"a":false,"b":false,"c":false},{"a":false,"b":false,"c":false}"#,
+    r#",{"a":false,"b":false,"c":false},{"a":false,"b":false,"c":false},{"a":false,"b":false,"c":false}"#,
+    r#",{"a":false,"b":false,"c":false},{"a":false,"b":false,"c":false},{"a":false,"b":false,"c":false}"#,
+    r#",{"a":false,"b":false,"c":false},{"a":false,"b":false,"c":false},{"a":false,"b":false,"c":false}"#,
+    r#",{"a":false,"b":false,"c":false},{"a":false,"b":false,"c":false},{"a":false,"b":false,"c":false}"#,
+    r#",{"a":false,"b":false,"c":false},{"a":false,"b":false,"c":false},{"a":false,"b":false,"c":false}"#,
+    r#",{"a":false,"b":false,"c":false},{"a":false,"b":false,"c":false},{"a":false,"b":false,"c":false}"#,
+    r#",{"a":false,"b":false,"c":false},{"a":false,"b":false,"c":false},{"a":false,"b":false,"c":false}"#,
     "]}\n",
 );
 

@@ -3,6 +3,11 @@ use crate::support::harness::{SchemaRun, all_schema_runs};
 use crate::support::report::Report;
 use std::test::Fail;
 
+/// The pools with the integer of an object.
+const SEVEN_AT_A_PATH: &str =
+    r#"{"any":["a",{}],"integers":[0,1],"names":["a","b"],"paths":{"/spec/a":[7]},"strings":["a"]}
+"#;
+
 /// An object with an integer and a text, and one with a truth value.
 const SCHEMA: &str = r#"{"type":"object","properties":{
     "spec":{"type":"object","properties":{"a":{"type":"integer"},"b":{"type":"string"}}},
@@ -69,8 +74,7 @@ static ROWS: [SchemaRun<'static>; 23] = [
         command: "crdx pools crd.json v1 --from object.json",
         schema: SCHEMA,
         second: "{\n  \"spec\": {\n    \"a\": 7\n  }\n}\n",
-        out: r#"{"any":["a",{}],"integers":[0,1],"names":["a","b"],"paths":{"/spec/a":[7]},"strings":["a"]}
-"#,
+        out: SEVEN_AT_A_PATH,
         err: "",
         status: 0,
     },
@@ -79,8 +83,7 @@ static ROWS: [SchemaRun<'static>; 23] = [
         command: "crdx pools crd.json v1 --from - --from object.json",
         schema: SCHEMA,
         second: r#"{"spec":{"a":7}}"#,
-        out: r#"{"any":["a",{}],"integers":[0,1],"names":["a","b"],"paths":{"/spec/a":[7]},"strings":["a"]}
-"#,
+        out: SEVEN_AT_A_PATH,
         err: "",
         status: 0,
     },

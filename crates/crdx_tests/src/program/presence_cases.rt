@@ -6,6 +6,12 @@ use crate::support::harness::{
 use crate::support::report::Report;
 use std::test::Fail;
 
+// Exactly one of two truth values.
+const ONE_OF_TWO_AT_THE_ROOT: &str = r#"{
+    "type":"object","properties":{"a":{"type":"boolean"},"b":{"type":"boolean"}},
+    "oneOf":[{"required":["a"]},{"required":["b"]}]
+}"#;
+
 // The schemas of a field.
 static FIELDS: [Checked<'static>; 22] = [
     Checked {
@@ -209,10 +215,7 @@ V16 "/properties/x/not/properties/b"
 static ROOTS: [Checked<'static>; 8] = [
     Checked {
         name: "a junctor at the root",
-        schema: r#"{
-            "type":"object","properties":{"a":{"type":"boolean"},"b":{"type":"boolean"}},
-            "oneOf":[{"required":["a"]},{"required":["b"]}]
-        }"#,
+        schema: ONE_OF_TWO_AT_THE_ROOT,
         out: "structural\n",
     },
     Checked {
@@ -387,20 +390,14 @@ F12 "/o/b"
     },
     Validated {
         name: "a junctor at the root",
-        schema: r#"{
-            "type":"object","properties":{"a":{"type":"boolean"},"b":{"type":"boolean"}},
-            "oneOf":[{"required":["a"]},{"required":["b"]}]
-        }"#,
+        schema: ONE_OF_TWO_AT_THE_ROOT,
         object: r#"{"a":true,"b":true}"#,
         out: r#"F14 ""
 "#,
     },
     Validated {
         name: "the envelope and a junctor at the root",
-        schema: r#"{
-            "type":"object","properties":{"a":{"type":"boolean"},"b":{"type":"boolean"}},
-            "oneOf":[{"required":["a"]},{"required":["b"]}]
-        }"#,
+        schema: ONE_OF_TWO_AT_THE_ROOT,
         object: r#"{"apiVersion":"example.com/v1","kind":"Widget","metadata":{"name":"w"},"a":true}"#,
         out: "valid\n",
     },
@@ -530,10 +527,7 @@ static SAMPLES: [SchemaRun<'static>; 17] = [
     SchemaRun {
         name: "a junctor at the root",
         command: "crdx sample crd.json v1 --pools pools.json --limit 3",
-        schema: r#"{
-            "type":"object","properties":{"a":{"type":"boolean"},"b":{"type":"boolean"}},
-            "oneOf":[{"required":["a"]},{"required":["b"]}]
-        }"#,
+        schema: ONE_OF_TWO_AT_THE_ROOT,
         second: "{}",
         out: r#"{"b":false}
 {"b":true}

@@ -1,5 +1,7 @@
 //! `sample` with paths that are always there.
-use crate::support::documents::{DEFAULTED, LABELS, MAP_LIST, ONE_OF_TWO, SET, SPEC};
+use crate::support::documents::{
+    AT_MOST_ONE, DEFAULTED, LABELS, LIST_OF_OBJECTS, MAP_LIST, NULL_OR_TRUTH, ONE_OF_TWO, SET, SPEC,
+};
 use crate::support::harness::{SchemaRun, all_schema_runs};
 use crate::support::report::Report;
 use std::test::Fail;
@@ -7,15 +9,6 @@ use std::test::Fail;
 // A list of truth values.
 const LIST: &str =
     r#"{"type":"object","properties":{"l":{"type":"array","items":{"type":"boolean"}}}}"#;
-
-// A list of objects of two truth values.
-const LIST_OF_OBJECTS: &str = r#"{"type":"object","properties":{"l":{"type":"array","items":{
-    "type":"object","properties":{"a":{"type":"boolean"},"b":{"type":"boolean"}}
-}}}}"#;
-
-// An object of a truth value, or null.
-const NULL_OR_TRUTH: &str =
-    r#"{"type":"object","properties":{"n":{"type":"object","nullable":true,"properties":{"a":{"type":"boolean"}}}}}"#;
 
 static ROWS: [SchemaRun<'static>; 26] = [
     SchemaRun {
@@ -289,9 +282,7 @@ static ROWS: [SchemaRun<'static>; 26] = [
     SchemaRun {
         name: "two fields of an object that has at most one",
         command: "crdx sample crd.json v1 --pools pools.json --limit 9",
-        schema: r#"{"type":"object","properties":{"o":{
-            "type":"object","maxProperties":1,"properties":{"a":{"type":"boolean"},"b":{"type":"boolean"}}
-        }}}"#,
+        schema: AT_MOST_ONE,
         second: r#"{"present":["/o/a","/o/b"]}"#,
         out: r#"{}
 "#,
@@ -301,9 +292,7 @@ static ROWS: [SchemaRun<'static>; 26] = [
     SchemaRun {
         name: "one of two fields of an object that has at most one",
         command: "crdx sample crd.json v1 --pools pools.json --limit 9",
-        schema: r#"{"type":"object","properties":{"o":{
-            "type":"object","maxProperties":1,"properties":{"a":{"type":"boolean"},"b":{"type":"boolean"}}
-        }}}"#,
+        schema: AT_MOST_ONE,
         second: r#"{"present":["/o/b"]}"#,
         out: r#"{}
 {"o":{"b":false}}

@@ -1,4 +1,5 @@
 //! `prune` and `default`: what they print of an object.
+use crate::support::documents::TWO_DEFAULTS;
 use crate::support::harness::{SchemaRun, try_schema_run};
 use crate::support::report::Report;
 use std::alloc::Global;
@@ -49,27 +50,21 @@ static ROWS: [PrintedForms; 15] = [
     },
     PrintedForms {
         name: "a default below a default",
-        schema: r#"{"type":"object","properties":{"spec":{
-            "type":"object","default":{},"properties":{"f":{"type":"integer","default":7}}
-        }}}"#,
+        schema: TWO_DEFAULTS,
         object: "{}",
         pruned: "{}\n",
         completed: "{\"spec\":{\"f\":7}}\n",
     },
     PrintedForms {
         name: "a null in place of an object with a default",
-        schema: r#"{"type":"object","properties":{"spec":{
-            "type":"object","default":{},"properties":{"f":{"type":"integer","default":7}}
-        }}}"#,
+        schema: TWO_DEFAULTS,
         object: r#"{"spec":null}"#,
         pruned: "{\"spec\":null}\n",
         completed: "{\"spec\":{\"f\":7}}\n",
     },
     PrintedForms {
         name: "an empty object with an envelope",
-        schema: r#"{"type":"object","properties":{"spec":{
-            "type":"object","default":{},"properties":{"f":{"type":"integer","default":7}}
-        }}}"#,
+        schema: TWO_DEFAULTS,
         object: r#"{"apiVersion":"x/v1","spec":{}}"#,
         pruned: "{\"apiVersion\":\"x/v1\",\"spec\":{}}\n",
         completed: "{\"apiVersion\":\"x/v1\",\"spec\":{\"f\":7}}\n",

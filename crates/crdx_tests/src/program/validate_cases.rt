@@ -1,7 +1,13 @@
 //! `validate`: all faults of an object, or that it is valid.
+use crate::support::documents::{ONE_BOUND, TRUTHS};
 use crate::support::harness::{Validated, all_validated, all_validated_by};
 use crate::support::report::Report;
 use std::test::Fail;
+
+// A map of objects of an integer.
+const MAP_OF_OBJECTS: &str = r#"{"type":"object","properties":{"m":{
+    "type":"object","additionalProperties":{"type":"object","properties":{"a":{"type":"integer"}}}
+}}}"#;
 
 static VALUES: [Validated<'static>; 11] = [
     Validated {
@@ -17,13 +23,13 @@ F14 "/l/3"
     },
     Validated {
         name: "both branches",
-        schema: r#"{"type":"object","required":["n"],"properties":{"n":{"type":"integer","oneOf":[{"minimum":1},{"maximum":3}]}}}"#,
+        schema: ONE_BOUND,
         object: r#"{"n":2}"#,
         out: "F14 \"/n\"\n",
     },
     Validated {
         name: "no member",
-        schema: r#"{"type":"object","required":["n"],"properties":{"n":{"type":"integer","oneOf":[{"minimum":1},{"maximum":3}]}}}"#,
+        schema: ONE_BOUND,
         object: "{}",
         out: "F12 \"/n\"\n",
     },
@@ -171,10 +177,7 @@ F09 "/l/3"
     },
     Validated {
         name: "too few members",
-        schema: r#"{"type":"object","properties":{"o":{
-            "type":"object","minProperties":2,
-            "properties":{"a":{"type":"boolean"},"b":{"type":"boolean"},"c":{"type":"boolean"}}
-        }}}"#,
+        schema: TRUTHS,
         object: r#"{"o":{"a":true}}"#,
         out: "F10 \"/o\"\n",
     },
@@ -237,9 +240,7 @@ F12 "/m/2/k"
     },
     Validated {
         name: "members that are not declared",
-        schema: r#"{"type":"object","properties":{"m":{
-            "type":"object","additionalProperties":{"type":"object","properties":{"a":{"type":"integer"}}}
-        }}}"#,
+        schema: MAP_OF_OBJECTS,
         object: r#"{"m":{"p":{"a":1,"z":null}},"z":{"a":""}}"#,
         out: "valid\n",
     },
@@ -292,9 +293,7 @@ F12 "/spec/replicas"
     },
     Validated {
         name: "a member that is not declared below a map, and one of the body",
-        schema: r#"{"type":"object","properties":{"m":{
-            "type":"object","additionalProperties":{"type":"object","properties":{"a":{"type":"integer"}}}
-        }}}"#,
+        schema: MAP_OF_OBJECTS,
         object: r#"{"m":{"p":{"a":"","z":null}},"z":{"a":""}}"#,
         out: r#"F01 "/m/p/a"
 F15 "/m/p/z"

@@ -1,4 +1,5 @@
 //! Defaults: where `check` says that one is misplaced (V15), and where that one is bad (V14).
+use crate::support::documents::TWO_DEFAULTS;
 use crate::support::harness::{Checked, all_checked};
 use crate::support::report::Report;
 use std::test::Fail;
@@ -76,9 +77,7 @@ static JUDGED: [Checked<'static>; 16] = [
     },
     Checked {
         name: "a default above another",
-        schema: r#"{"type":"object","properties":{"spec":{
-            "type":"object","default":{},"properties":{"f":{"type":"integer","default":7}}
-        }}}"#,
+        schema: TWO_DEFAULTS,
         out: "structural\n",
     },
     Checked {

@@ -166,3 +166,28 @@ pub const TWO_INTEGER_KEYS: &str = r#"{"type":"object","properties":{"m":{
         "required":["a","c"]
     }
 }}}"#;
+
+/// An object that is there by default, with an integer that has one.
+pub const TWO_DEFAULTS: &str = r#"{"type":"object","properties":{"spec":{
+    "type":"object","default":{},"properties":{"f":{"type":"integer","default":7}}
+}}}"#;
+
+/// A list of objects of two truth values.
+pub const LIST_OF_OBJECTS: &str = r#"{"type":"object","properties":{"l":{"type":"array","items":{
+    "type":"object","properties":{"a":{"type":"boolean"},"b":{"type":"boolean"}}
+}}}}"#;
+
+/// An object with at most one of two truth values.
+pub const AT_MOST_ONE: &str = r#"{"type":"object","properties":{"o":{
+    "type":"object","maxProperties":1,"properties":{"a":{"type":"boolean"},"b":{"type":"boolean"}}
+}}}"#;
+
+/// An integer that keeps exactly one of two bounds.
+pub const ONE_BOUND: &str = r#"{"type":"object","required":["n"],"properties":{"n":{
+    "type":"integer","oneOf":[{"minimum":1},{"maximum":3}]
+}}}"#;
+
+/// An object of a truth value, or null.
+pub const NULL_OR_TRUTH: &str = r#"{"type":"object","properties":{"n":{
+    "type":"object","nullable":true,"properties":{"a":{"type":"boolean"}}
+}}}"#;
