@@ -1,8 +1,9 @@
 //! `sample`: what is listed, and what is said of the inputs that are refused.
 use crate::support::documents::{
-    BROKEN, BROKEN_LINES, LAST_LINES, LONG_MAP_LIST, REQUIRED_LONG_MAP_LIST, TEN_LINES,
-    TWO_INTEGER_KEYS, TWO_TEXTS, WIDGET, ZERO_AND_ONE,
+    BROKEN, BROKEN_LINES, LAST_LINES, LONG_MAP_LIST, REQUIRED_LONG_MAP_LIST, TEN_LINES, TWO_TEXTS,
+    WIDGET, ZERO_AND_ONE,
 };
+use crate::support::given::TWO_KEYED_LISTS;
 use crate::support::harness::{Run, SchemaRun, all_runs, try_schema_run};
 use crate::support::pages::plain_lines;
 use crate::support::report::Report;
@@ -579,12 +580,12 @@ fn whole_lists(rt: HostRuntime) -> Result<(), Fail> {
 }
 
 fn try_74_samples(report: &mut Report, alloc: Global, name: &str) -> Result<(), Fail> {
-    let lines = plain_lines(alloc, (TWO_INTEGER_KEYS, ZERO_AND_ONE, 9))?;
+    let lines = plain_lines(alloc, TWO_KEYED_LISTS)?;
     let command = "crdx sample crd.json v1 --pools pools.json --limit 9";
     let row = WholeList {
         name,
-        schema: TWO_INTEGER_KEYS,
-        pools: ZERO_AND_ONE,
+        schema: TWO_KEYED_LISTS.schema,
+        pools: TWO_KEYED_LISTS.pools,
         out: lines.as_str(),
     };
     try_whole(report, alloc, command, &row)
