@@ -102,8 +102,9 @@ fn all_sums<S: SizeSet>(
     rows: &[SumsRow],
 ) -> Result<(), AllocError> {
     for row in rows {
+        let name = format!(in alloc; "{}, over {} bits", row.name, S::BITS)?;
         let ended = try_sums::<S>(report, alloc, row);
-        report.row(row.name, ended)?;
+        report.row(name.as_str(), ended)?;
     }
     Ok(())
 }
@@ -208,10 +209,15 @@ fn try_next<S: SizeSet>(report: &mut Report, row: &Next) -> Result<(), Fail> {
     Ok(report.is_value("the next member", &next, &row.next)?)
 }
 
-fn all_next<S: SizeSet>(report: &mut Report, rows: &[Next]) -> Result<(), AllocError> {
+fn all_next<S: SizeSet>(
+    report: &mut Report,
+    alloc: Global,
+    rows: &[Next],
+) -> Result<(), AllocError> {
     for row in rows {
+        let name = format!(in alloc; "{}, over {} bits", row.name, S::BITS)?;
         let ended = try_next::<S>(report, row);
-        report.row(row.name, ended)?;
+        report.row(name.as_str(), ended)?;
     }
     Ok(())
 }
@@ -219,8 +225,8 @@ fn all_next<S: SizeSet>(report: &mut Report, rows: &[Next]) -> Result<(), AllocE
 #[test]
 fn next_members(rt: HostRuntime) -> Result<(), Fail> {
     let mut report = Report::new(rt.alloc());
-    all_next::<u64>(&mut report, &NEXT)?;
-    all_next::<u128>(&mut report, &NEXT)?;
-    all_next::<u128>(&mut report, &WIDE_NEXT)?;
+    all_next::<u64>(&mut report, rt.alloc(), &NEXT)?;
+    all_next::<u128>(&mut report, rt.alloc(), &NEXT)?;
+    all_next::<u128>(&mut report, rt.alloc(), &WIDE_NEXT)?;
     report.end(&rt)
 }
