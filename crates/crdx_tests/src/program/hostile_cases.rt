@@ -8,12 +8,12 @@ use std::alloc::Global;
 use std::test::Fail;
 
 /// Tries a run that refuses one of its documents.
-fn try_refused(
+fn try_refused<'a>(
     report: &mut Report,
     alloc: Global,
-    crd: &str,
-    pools: &str,
-    err: &str,
+    crd: &'a str,
+    pools: &'a str,
+    err: &'a str,
 ) -> Result<(), Fail> {
     let run = Run {
         name: "a refusal",

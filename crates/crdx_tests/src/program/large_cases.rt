@@ -149,12 +149,12 @@ static SCHEMAS: [Long; 13] = [
     },
 ];
 
-fn try_judged(
+fn try_judged<'a>(
     report: &mut Report,
     alloc: Global,
-    command: &str,
-    schema: &str,
-    err: &str,
+    command: &'a str,
+    schema: &'a str,
+    err: &'a str,
 ) -> Result<(), Fail> {
     let (out, status) = if err.is_empty() {
         ("structural\n", 0)

@@ -550,11 +550,11 @@ static WHOLE: [WholeList<'static>; 3] = [
     },
 ];
 
-fn try_whole(
+fn try_whole<'a>(
     report: &mut Report,
     alloc: Global,
-    command: &str,
-    row: &WholeList<'_>,
+    command: &'a str,
+    row: &WholeList<'a>,
 ) -> Result<(), Fail> {
     let run = SchemaRun {
         name: row.name,

@@ -282,11 +282,11 @@ pub struct Checked<'a> {
     pub out: &'a str,
 }
 
-fn try_checked(
+fn try_checked<'a>(
     report: &mut Report,
     alloc: Global,
-    command: &str,
-    row: &Checked<'_>,
+    command: &'a str,
+    row: &Checked<'a>,
 ) -> Result<(), Fail> {
     let run = SchemaRun {
         name: row.name,
@@ -301,11 +301,11 @@ fn try_checked(
 }
 
 /// Tries what a command writes of each schema, which is `check` with its options.
-pub fn all_checked_by(
+pub fn all_checked_by<'a>(
     report: &mut Report,
     alloc: Global,
-    command: &str,
-    rows: &[Checked<'_>],
+    command: &'a str,
+    rows: &[Checked<'a>],
 ) -> Result<(), AllocError> {
     for row in rows {
         let ended = try_checked(report, alloc, command, row);
@@ -358,11 +358,11 @@ pub struct Validated<'a> {
     pub out: &'a str,
 }
 
-fn try_validated(
+fn try_validated<'a>(
     report: &mut Report,
     alloc: Global,
-    command: &str,
-    row: &Validated<'_>,
+    command: &'a str,
+    row: &Validated<'a>,
 ) -> Result<(), Fail> {
     let run = SchemaRun {
         name: row.name,
@@ -377,11 +377,11 @@ fn try_validated(
 }
 
 /// Tries what a command writes of each object, which is `validate` with its options.
-pub fn all_validated_by(
+pub fn all_validated_by<'a>(
     report: &mut Report,
     alloc: Global,
-    command: &str,
-    rows: &[Validated<'_>],
+    command: &'a str,
+    rows: &[Validated<'a>],
 ) -> Result<(), AllocError> {
     for row in rows {
         let ended = try_validated(report, alloc, command, row);
