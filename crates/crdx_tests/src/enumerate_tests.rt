@@ -4,4 +4,5 @@ mod page_cases;
 mod reference_cases;
 mod small_plan_cases;
 mod stored_cases;
+mod walk_cases;
 mod wide_cases;

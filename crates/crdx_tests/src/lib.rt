@@ -2,7 +2,9 @@
 //!
 //! | File | What is tested |
 //! |---|---|
-//! | `jtree_tests/tree_cases` | trees: read and written, their order, pointers, the value under a name, the last node |
+//! | `jtree_tests/tree_cases` | trees: read, copied and written |
+//! | `jtree_tests/order_cases`, `pointer_cases` | the order of trees, and the tokens of pointers |
+//! | `jtree_tests/part_cases` | how many nodes a tree has, the value under a name, the last node |
 //! | `jtree_tests/refusal_cases` | why bytes are no document: a number and where it is, a line and a column, a length |
 //! | `jtree_tests/source_cases` | documents in pieces, sources that fail, and readers that are interrupted |
 //! | `jtree_tests/line_cases` | lines of a source: the last one, empty and long ones, and sources that fail |
@@ -15,12 +17,12 @@
 //! | `stored_tests/default_cases` | defaults that are misplaced or bad (V15, V14) |
 //! | `stored_tests/object_cases` | objects that are valid or not, pruned, completed |
 //! | `explain_tests/field_cases` | the fields of a listing, and the field and the node of a path |
-//! | `plan_tests/pools_cases` | documents of pools |
+//! | `plan_tests/pools_cases`, `pool_limit_cases` | documents of pools, and how many entries they may have |
 //! | `plan_tests/size_set_cases` | sets of sizes |
-//! | `plan_tests/plan_cases` | plans: their nodes, sizes, candidates and slots |
-//! | `suggest_tests/document_cases` | the pools document that is suggested for a schema, for objects, and around an object |
+//! | `plan_tests/plan_cases`, `size_cases` | plans: their nodes, slots and limits, and the sizes of what may be there |
+//! | `suggest_tests/document_cases`, `varied_cases` | the pools document that is suggested for a schema and for objects, and around an object |
 //! | `enumerate_tests/lending_cases` | samples lent to a taker, page by page |
-//! | `enumerate_tests/page_cases` | pages, walks and enumerations, with their steps |
+//! | `enumerate_tests/page_cases`, `walk_cases` | pages, enumerations with their steps, and walks |
 //! | `enumerate_tests/reference_cases` | the plain reference, and walks, against lists made by hand |
 //! | `enumerate_tests/small_plan_cases` | 2,124 small plans against the plain reference: their nodes, their pages and what is stored |
 //! | `enumerate_tests/stored_cases` | what is stored, by the plain reference and by `stored`, against values that were judged by hand |

@@ -1,7 +1,7 @@
 //! What plans are made of, and the plans of it.
 use crate::support::documents::{
-    DEFAULTED, FIFTEEN, LABELS, MAP_LIST, NAMES, NULLABLE, ONE_OF_TWO, REPEATED, SET, SPEC, TRUTHS,
-    TWO_INTEGER_KEYS, TWO_TEXTS, ZERO_AND_ONE, ZERO_AND_SEVEN,
+    DEFAULTED, FIFTEEN, LABELS, MAP_LIST, NAMES, NULLABLE, ONE_OF_TWO, OPEN, REPEATED, SET, SPEC,
+    TRUTHS, TWO_INTEGER_KEYS, TWO_TEXTS, ZERO_AND_ONE, ZERO_AND_SEVEN,
 };
 use crate::support::harness::{pools_of, schema_of};
 use plan::Plan;
@@ -97,5 +97,12 @@ pub const LABELLED: Given<'static> = Given {
 pub const NULLABLE_OBJECTS: Given<'static> = Given {
     schema: NULLABLE,
     pools: "{}",
+    limit: 2,
+};
+
+/// A value of four nodes, which is more than a sample may have.
+pub const LARGE_VALUES: Given<'static> = Given {
+    schema: OPEN,
+    pools: r#"{"any":[[1,2,3]]}"#,
     limit: 2,
 };

@@ -101,3 +101,27 @@ pub fn more_of(plan: &Plan<u64>, node: PlanNode, taken: u32) -> Option<u64>
         Sort::Leaf | Sort::Row => None,
     }
 }
+
+/// A node of a plan: the root, the root's first slot, a slot of this one, or its items.
+#[derive(Clone, Copy)]
+pub enum At {
+    Root,
+    First,
+    Slot(u64),
+    Item,
+}
+
+pub fn node_at(plan: &Plan<u64>, at: At, meter: &mut Meter) -> Option<PlanNode>
+    ensures { IfSome result (λ n. n < length (sites_of plan.now.pools plan.now.root)) }
+{
+    let root = plan.root();
+    if let At::Root = at {
+        return Some(root);
+    }
+    let first = slot_of(plan, root, 0, meter)?;
+    match at {
+        At::Root | At::First => Some(first),
+        At::Slot(place) => slot_of(plan, first, place, meter),
+        At::Item => item_of(plan, first, 0, meter),
+    }
+}
