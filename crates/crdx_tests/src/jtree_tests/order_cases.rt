@@ -99,7 +99,7 @@ static ORDERED: [Ordered; 33] = [
         later: r#""aa""#,
     },
     Ordered {
-        name: "a text with another letter",
+        name: "the first letters",
         earlier: r#""aa""#,
         later: r#""b""#,
     },
@@ -129,37 +129,37 @@ static ORDERED: [Ordered; 33] = [
         later: "[1,0]",
     },
     Ordered {
-        name: "more items of fewer nodes",
+        name: "a first item of fewer nodes, of two items",
         earlier: "[[],[]]",
         later: "[[0]]",
     },
     Ordered {
-        name: "the second items",
+        name: "an integer before a list with one",
         earlier: "[0,1]",
         later: "[[1]]",
     },
     Ordered {
-        name: "the later name first",
+        name: "the later name",
         earlier: r#"{"b":false}"#,
         later: r#"{"a":0}"#,
     },
     Ordered {
-        name: "the later name first, with a text",
+        name: "the later name of equal texts",
         earlier: r#"{"k":"x"}"#,
         later: r#"{"j":"x"}"#,
     },
     Ordered {
-        name: "the last names",
+        name: "the later first name",
         earlier: r#"{"b":true,"c":true}"#,
         later: r#"{"a":false,"c":false}"#,
     },
     Ordered {
-        name: "the last names after equal ones",
+        name: "the later name after equal members",
         earlier: r#"{"a":false,"c":true}"#,
         later: r#"{"a":false,"b":false}"#,
     },
     Ordered {
-        name: "equal names",
+        name: "equal names, another value",
         earlier: r#"{"a":0}"#,
         later: r#"{"a":1}"#,
     },
@@ -169,7 +169,7 @@ static ORDERED: [Ordered; 33] = [
         later: r#"{"a":1,"b":0}"#,
     },
     Ordered {
-        name: "equal names, a value of fewer nodes",
+        name: "equal names, an integer before a list",
         earlier: r#"{"a":1,"b":[]}"#,
         later: r#"{"a":[],"b":1}"#,
     },

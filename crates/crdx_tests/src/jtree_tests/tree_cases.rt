@@ -53,7 +53,7 @@ static DOCUMENTS: [Document; 25] = [
         wanted: r#"{"￼":2,"😀":1}"#,
     },
     Document {
-        name: "each kind in a list",
+        name: "values of several kinds in a list",
         document: r#"{"k":[{},[],"",{"x":null}]}"#,
         wanted: r#"{"k":[{},[],"",{"x":null}]}"#,
     },
