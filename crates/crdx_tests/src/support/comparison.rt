@@ -31,11 +31,10 @@ struct Compared<'a> {
     pools: &'a Pools,
 }
 
-/// A node of the plan, with the node of the schema and its path.
+/// A node of the plan, and its path.
 #[derive(Clone, Copy)]
 struct Spot<'a> {
     number: PlanNode,
-    node: &'a Node,
     path: &'a str,
 }
 
@@ -64,13 +63,14 @@ fn try_leaf(
     report: &mut Report,
     of: Compared<'_>,
     at: Spot<'_>,
+    node: &Node,
     meter: &mut Meter,
 ) -> Result<(), Fail>
     requires { at.number < length (sites_of of.plan.now.pools of.plan.now.root) }
 {
     match of.plan.sort(at.number) {
         Sort::Leaf => {
-            let parts = plain_parts(of.alloc, at.node, at.path, of.pools, u64::MAX)?;
+            let parts = plain_parts(of.alloc, node, at.path, of.pools, u64::MAX)?;
             are_candidates(report, of.plan, at.number, &parts, meter)
         }
         Sort::Row | Sort::List => Ok(report.holds("a leaf", false)?),
@@ -223,6 +223,7 @@ fn try_nodes(
     report: &mut Report,
     of: Compared<'_>,
     at: Spot<'_>,
+    node: &Node,
     parts: &[Tree],
     meter: &mut Meter,
 ) -> Result<(), Fail>
@@ -230,11 +231,11 @@ fn try_nodes(
 {
     is_size(report, of.alloc, of.plan.sizes(at.number), parts)?;
     if of.pools.fixed_at(at.path).is_some() {
-        return try_leaf(report, of, at, meter);
+        return try_leaf(report, of, at, node, meter);
     }
-    match &at.node.sort {
-        NodeSort::Scalar(_) | NodeSort::Open => try_leaf(report, of, at, meter),
-        NodeSort::Object(_) | NodeSort::Map(_) => try_row(report, of, at, meter),
+    match &node.sort {
+        NodeSort::Scalar(_) | NodeSort::Open => try_leaf(report, of, at, node, meter),
+        NodeSort::Object(_) | NodeSort::Map(_) => try_row(report, of, at, node, meter),
         NodeSort::List(list) => {
             try_more(report, of, at.number, parts)?;
             let has_items = match parts.last() {
@@ -268,10 +269,9 @@ fn try_items(
     let parts = plain_parts(of.alloc, item, &path, of.pools, limit)?;
     let below = Spot {
         number,
-        node: item,
         path: &path,
     };
-    try_nodes(report, of, below, &parts, meter)
+    try_nodes(report, of, below, item, &parts, meter)
 }
 
 /// What a plan says of the slots of an object or a map: of each of an object, and of the first of a map.
@@ -280,13 +280,14 @@ fn try_row(
     report: &mut Report,
     of: Compared<'_>,
     at: Spot<'_>,
+    node: &Node,
     meter: &mut Meter,
 ) -> Result<(), Fail>
     requires { at.number < length (sites_of of.plan.now.pools of.plan.now.root) }
 {
     let limit = u64::from(of.plan.limit());
-    let slots = plain_slots(of.alloc, at.node, at.path, of.pools, limit)?;
-    match &at.node.sort {
+    let slots = plain_slots(of.alloc, node, at.path, of.pools, limit)?;
+    match &node.sort {
         NodeSort::Object(object) => {
             let ending = Ending {
                 bounds: object.bounds,
@@ -301,10 +302,10 @@ fn try_row(
             let path = path_below(of.alloc, at.path, Step::Value)?;
             let below = Spot {
                 number: at.number,
-                node: node_below(&map.value),
                 path: &path,
             };
-            try_slot(report, of, below, 0, slots.first(), meter)
+            let value = node_below(&map.value);
+            try_slot(report, of, below, value, 0, slots.first(), meter)
         }
         NodeSort::Scalar(_) | NodeSort::Open | NodeSort::List(_) => Ok(()),
     }
@@ -325,20 +326,21 @@ fn try_fields(
         let path = path_below(of.alloc, at.path, Step::Field(field.name.as_str()))?;
         let below = Spot {
             number: at.number,
-            node: &field.node,
             path: &path,
         };
-        try_slot(report, of, below, place, slots.get(place), meter)?;
+        let slot = slots.get(place);
+        try_slot(report, of, below, &field.node, place, slot, meter)?;
     }
     Ok(())
 }
 
-/// What a plan says of a slot. The number is that of the row, the node and the path are those of the slot.
+/// What a plan says of a slot. The number is that of the row, the path that of the slot.
 #[cycle(nodes)]
 fn try_slot(
     report: &mut Report,
     of: Compared<'_>,
     at: Spot<'_>,
+    node: &Node,
     place: usize,
     slot: Option<&Choice>,
     meter: &mut Meter,
@@ -350,7 +352,7 @@ fn try_slot(
     match (found, slot) {
         (Some(number), Some(slot)) => {
             let below = Spot { number, ..at };
-            try_nodes(report, of, below, &slot.values, meter)
+            try_nodes(report, of, below, node, &slot.values, meter)
         }
         _ => Ok(()),
     }
@@ -415,16 +417,16 @@ fn try_made(
         plan,
         pools: &pools,
     };
-    let root = Spot {
-        number: plan.root(),
-        node: schema.root(),
-        path: "",
-    };
-    try_stored(report, of, root.node)?;
-    let samples = plain_parts(alloc, root.node, "", &pools, u64::from(given.limit))?;
+    let root = schema.root();
+    try_stored(report, of, root)?;
+    let samples = plain_parts(alloc, root, "", &pools, u64::from(given.limit))?;
     try_cover(report, alloc, given, &samples)?;
     try_samples(report, of, &samples, meter)?;
-    try_nodes(report, of, root, &samples, meter)
+    let at = Spot {
+        number: plan.root(),
+        path: "",
+    };
+    try_nodes(report, of, at, root, &samples, meter)
 }
 
 /// What the plan of a schema, pools and a node limit says of its nodes, against the plain reference.
