@@ -11,11 +11,13 @@
 //! | `schema_tests/reading_cases` | definitions that are read or refused, and the form of each keyword |
 //! | `schema_tests/limit_cases` | schemas at each limit and past it |
 //! | `schema_tests/marker_cases` | the markers of lists and maps (V10 to V13) |
-//! | `schema_tests/profile_cases` | junctors and the profile (V16, V17) |
+//! | `schema_tests/junctor_cases` | junctors (V16) |
+//! | `schema_tests/profile_cases`, `root_cases` | the profile (V17), below the root and at it |
 //! | `schema_tests/reason_cases` | the reasons of violations, a row for each |
 //! | `schema_tests/node_cases` | the nodes of each sort |
 //! | `stored_tests/default_cases` | defaults that are misplaced or bad (V15, V14) |
-//! | `stored_tests/object_cases` | objects that are valid or not, pruned, completed |
+//! | `stored_tests/object_cases` | objects: their faults, pruned, completed |
+//! | `stored_tests/value_cases` | values of a field that are valid or not, stored or not |
 //! | `explain_tests/field_cases` | the fields of a listing, and the field and the node of a path |
 //! | `plan_tests/pools_cases`, `pool_limit_cases` | documents of pools, and how many entries they may have |
 //! | `plan_tests/size_set_cases` | sets of sizes |
@@ -27,7 +29,8 @@
 //! | `enumerate_tests/small_plan_cases` | 2,124 small plans against the plain reference: their nodes, their pages and what is stored |
 //! | `enumerate_tests/stored_cases` | what is stored, by the plain reference and by `stored`, against values that were judged by hand |
 //! | `enumerate_tests/wide_cases` | plans over words of 128 bits |
-//! | `program/argument_cases` | the arguments, mistakes in them, and help |
+//! | `program/argument_cases` | what the arguments ask for |
+//! | `program/help_cases` | mistakes in the arguments, and help |
 //! | `program/check_cases`, `validate_cases`, `prune_cases`, `sample_cases` | what each command prints |
 //! | `program/all_cases` | `sample --all`: all lines, past 10,000 too, flushes, and sinks that fail |
 //! | `program/line_cases` | `validate`, `prune`, `default` and `leaves` of objects on lines |
@@ -36,10 +39,10 @@
 //! | `program/limit_cases` | `sample` with limits up to 127 |
 //! | `program/path_cases`, `bad_path_cases` | `sample` with values listed for the paths of fields, and paths that are refused |
 //! | `program/fixed_path_cases`, `present_path_cases` | `sample` with fixed values for paths, and with paths that are always there |
-//! | `program/presence_cases` | junctors that ask which fields an object has: judged, validated and listed |
+//! | `program/presence_cases`, `presence_sample_cases` | junctors that ask which fields an object has: judged and validated, and listed |
 //! | `program/explain_cases`, `leaf_cases` | what `explain` and `leaves` print, and what they refuse |
 //! | `program/explanation_cases`, `large_cases` | what `--why` says below a refusal, and what `--large` lets through |
-//! | `program/refusal_cases` | inputs that are refused, and which is judged first |
+//! | `program/refusal_cases`, `sample_refusal_cases` | inputs that are refused, and which is judged first |
 //! | `program/input_cases` | documents in files, reads that fail after each byte, and which inputs a run reads |
 //! | `program/broken_sink_cases` | sinks that fail after each byte |
 //! | `program/resume_cases` | walks that stop after each byte, and the walks that go on there |

@@ -1,3 +1,4 @@
 //! Tests of `stored`.
 mod default_cases;
 mod object_cases;
+mod value_cases;

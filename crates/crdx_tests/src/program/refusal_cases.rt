@@ -1,5 +1,5 @@
 //! `explain`, `validate`, `prune`, `default` and `leaves`: what is said of inputs that are refused, and which of them is judged first.
-use crate::program::argument_cases::{CommandLine, all_helped};
+use crate::program::help_cases::{CommandLine, all_helped};
 use crate::support::documents::{BROKEN, BROKEN_LINES, WIDGET};
 use crate::support::harness::{Run, all_runs, try_run};
 use crate::support::report::Report;

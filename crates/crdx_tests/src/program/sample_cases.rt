@@ -1,6 +1,6 @@
-//! `sample`: what is listed, and what is said of the inputs that are refused.
+//! `sample`: what is listed.
 use crate::support::documents::{
-    BROKEN, BROKEN_LINES, LAST_LINES, LONG_MAP_LIST, REQUIRED_LONG_MAP_LIST, TEN_LINES, TWO_TEXTS,
+    FRACTION_IN_POOLS, LAST_LINES, LONG_MAP_LIST, REQUIRED_LONG_MAP_LIST, TEN_LINES, TWO_TEXTS,
     WIDGET, ZERO_AND_ONE,
 };
 use crate::support::given::TWO_KEYED_LISTS;
@@ -96,12 +96,6 @@ const QUOTED_PROPERTY: &str = r#"{
         }}}]
     }
 }"#;
-
-const FRACTION: &str = r#"{"integers":[1.5]}"#;
-
-const CUT: &str = r#"{"apiVersion":"apiextensions.k8s.io/v1","kind":"CustomRes"#;
-
-const NO_DEFINITION: &str = r#"{"kind":"Widget"}"#;
 
 const REPEATED_TEXTS: &str = r#"{"strings":["b","a","b"]}"#;
 
@@ -259,7 +253,7 @@ static SAMPLES: [Run<'static>; 15] = [
         name: "numbers after a property of texts",
         command: "crdx sample crd.json v1 --pools pools.json",
         crd: TEXT_AND_NUMBER,
-        second: FRACTION,
+        second: FRACTION_IN_POOLS,
         out: "",
         err: "V17 \"/properties/n\"\n",
         status: 1,
@@ -369,136 +363,6 @@ static RESUMES: [Run<'static>; 7] = [
     },
 ];
 
-// Inputs that are refused.
-static REFUSALS: [Run<'static>; 14] = [
-    Run {
-        name: "a definition that is cut, judged before the pools",
-        command: "crdx sample crd.json v1 --pools pools.json",
-        crd: CUT,
-        second: FRACTION,
-        out: "",
-        err: "crdx: crd: J3\n",
-        status: 3,
-    },
-    Run {
-        name: "no definition",
-        command: "crdx sample crd.json v1",
-        crd: NO_DEFINITION,
-        second: ZERO_AND_ONE,
-        out: "",
-        err: "crdx: crd: S1\n",
-        status: 3,
-    },
-    Run {
-        name: "no such version",
-        command: "crdx sample crd.json v2",
-        crd: WIDGET,
-        second: ZERO_AND_ONE,
-        out: "",
-        err: "crdx: crd: S2\n",
-        status: 3,
-    },
-    Run {
-        name: "a definition that cannot be read",
-        command: "crdx sample nowhere.json v1",
-        crd: WIDGET,
-        second: ZERO_AND_ONE,
-        out: "",
-        err: "crdx: crd: read failed\n",
-        status: 4,
-    },
-    Run {
-        name: "pools that cannot be read",
-        command: "crdx sample crd.json v1 --pools nowhere.json",
-        crd: WIDGET,
-        second: ZERO_AND_ONE,
-        out: "",
-        err: "crdx: pools: read failed\n",
-        status: 4,
-    },
-    Run {
-        name: "a schema that breaks rules",
-        command: "crdx sample crd.json v1",
-        crd: BROKEN,
-        second: "",
-        out: "",
-        err: BROKEN_LINES,
-        status: 1,
-    },
-    Run {
-        name: "a fraction in pools",
-        command: "crdx sample crd.json v1 --pools pools.json",
-        crd: WIDGET,
-        second: FRACTION,
-        out: "",
-        err: "crdx: pools: J1\n",
-        status: 3,
-    },
-    Run {
-        name: "an integer past 64 bits",
-        command: "crdx sample crd.json v1 --pools pools.json",
-        crd: WIDGET,
-        second: r#"{"integers":[9223372036854775808]}"#,
-        out: "",
-        err: "crdx: pools: J1\n",
-        status: 3,
-    },
-    Run {
-        name: "a text for a pool, judged before the sample to go on from",
-        command: "crdx sample crd.json v1 --pools pools.json --after {",
-        crd: WIDGET,
-        second: r#"{"integers":"x"}"#,
-        out: "",
-        err: "crdx: pools: P1 \"/integers\"\n",
-        status: 3,
-    },
-    Run {
-        name: "a text among integers",
-        command: "crdx sample crd.json v1 --pools pools.json",
-        crd: WIDGET,
-        second: r#"{"integers":[0,"x"]}"#,
-        out: "",
-        err: "crdx: pools: P1 \"/integers/1\"\n",
-        status: 3,
-    },
-    Run {
-        name: "a pool of numbers",
-        command: "crdx sample crd.json v1 --pools pools.json",
-        crd: WIDGET,
-        second: r#"{"floats":[]}"#,
-        out: "",
-        err: "crdx: pools: P1 \"/floats\"\n",
-        status: 3,
-    },
-    Run {
-        name: "pools that are a list",
-        command: "crdx sample crd.json v1 --pools pools.json",
-        crd: WIDGET,
-        second: "[]",
-        out: "",
-        err: "crdx: pools: P1 \"\"\n",
-        status: 3,
-    },
-    Run {
-        name: "a pool of another name",
-        command: "crdx sample crd.json v1 --pools pools.json",
-        crd: WIDGET,
-        second: r#"{"a\"/~é":[]}"#,
-        out: "",
-        err: "crdx: pools: P1 \"/a\\\"~1~0é\"\n",
-        status: 3,
-    },
-    Run {
-        name: "33 names",
-        command: "crdx sample crd.json v1 --pools pools.json",
-        crd: WIDGET,
-        second: r#"{"names":["","","","","","","","","","","","","","","","","","","","","","","","","","","","","","","","",""]}"#,
-        out: "",
-        err: "crdx: pools: P2\n",
-        status: 3,
-    },
-];
-
 #[test]
 fn samples(rt: HostRuntime) -> Result<(), Fail> {
     let mut report = Report::new(rt.alloc());
@@ -510,13 +374,6 @@ fn samples(rt: HostRuntime) -> Result<(), Fail> {
 fn resumes(rt: HostRuntime) -> Result<(), Fail> {
     let mut report = Report::new(rt.alloc());
     all_runs(&mut report, rt.alloc(), &RESUMES)?;
-    report.end(&rt)
-}
-
-#[test]
-fn refusals(rt: HostRuntime) -> Result<(), Fail> {
-    let mut report = Report::new(rt.alloc());
-    all_runs(&mut report, rt.alloc(), &REFUSALS)?;
     report.end(&rt)
 }
 

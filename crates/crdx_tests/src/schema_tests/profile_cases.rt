@@ -1,210 +1,7 @@
-//! `check` on junctors and the profile (V16 and V17): what breaks a rule, beside what does not.
+//! `check` on what is below the root by the profile (V17): what breaks the rule, beside what does not.
 use crate::support::harness::{Checked, all_checked, all_fields};
 use crate::support::report::Report;
 use std::test::Fail;
-
-static JUNCTORS: [Checked<'static>; 13] = [
-    Checked {
-        name: "junctors of scalars",
-        schema: r#"{"type":"object","properties":{
-            "a":{"type":"integer","allOf":[{}]},"b":{"type":"string","anyOf":[{}]},
-            "c":{"type":"boolean","oneOf":[{}]},"d":{"x-kubernetes-int-or-string":true,"not":{}}
-        }}"#,
-        out: "structural\n",
-    },
-    Checked {
-        name: "allOf of an object",
-        schema: r#"{"type":"object","properties":{"x":{"type":"object","allOf":[{}]}}}"#,
-        out: "structural\n",
-    },
-    Checked {
-        name: "anyOf of a list",
-        schema: r#"{"type":"object","properties":{"x":{"type":"array","items":{"type":"string"},"anyOf":[{}]}}}"#,
-        out: "V16 \"/properties/x\"\n",
-    },
-    Checked {
-        name: "oneOf of a map",
-        schema: r#"{"type":"object","properties":{"x":{"type":"object","additionalProperties":{"type":"string"},"oneOf":[{}]}}}"#,
-        out: "V16 \"/properties/x\"\n",
-    },
-    Checked {
-        name: "not of any value",
-        schema: r#"{"type":"object","properties":{"x":{"x-kubernetes-preserve-unknown-fields":true,"not":{}}}}"#,
-        out: "V16 \"/properties/x\"\n",
-    },
-    Checked {
-        name: "not of the root",
-        schema: r#"{"type":"object","not":{}}"#,
-        out: "structural\n",
-    },
-    Checked {
-        name: "a junctor without a type",
-        schema: r#"{"type":"object","properties":{"x":{"not":{}}}}"#,
-        out: r#"V01 "/properties/x"
-V16 "/properties/x"
-"#,
-    },
-    Checked {
-        name: "a junctor of numbers",
-        schema: r#"{"type":"object","properties":{"x":{"type":"number","anyOf":[{}]}}}"#,
-        out: r#"V16 "/properties/x"
-V17 "/properties/x"
-"#,
-    },
-    Checked {
-        name: "keywords of branches",
-        schema: r#"{"type":"object","properties":{"x":{"type":"string","allOf":[
-            {"enum":[0]},{"minimum":0},{"maximum":0},{"exclusiveMinimum":true},{"exclusiveMaximum":true},
-            {"minLength":0},{"maxLength":0},{"allOf":[{}]},{"anyOf":[{}]},{"oneOf":[{}]},{"not":{}}
-        ]}}}"#,
-        out: "structural\n",
-    },
-    Checked {
-        name: "other keywords of branches",
-        schema: r#"{"type":"object","properties":{"x":{"type":"string","allOf":[
-            {"properties":{}},{"required":[]},{"minProperties":0},{"maxProperties":0},{"minItems":0},
-            {"maxItems":0},{"title":""},{"format":""},{"example":1},{"externalDocs":1},
-            {"uniqueItems":false},{"x-kubernetes-int-or-string":false},
-            {"x-kubernetes-preserve-unknown-fields":false},{"x-kubernetes-list-type":""},
-            {"x-kubernetes-list-map-keys":[]},{"x-kubernetes-map-type":""},{"pattern":""},{"multipleOf":1}
-        ]}}}"#,
-        out: r#"V16 "/properties/x/allOf/0"
-V16 "/properties/x/allOf/1"
-V16 "/properties/x/allOf/2"
-V16 "/properties/x/allOf/3"
-V16 "/properties/x/allOf/4"
-V16 "/properties/x/allOf/5"
-V16 "/properties/x/allOf/6"
-V16 "/properties/x/allOf/7"
-V16 "/properties/x/allOf/8"
-V16 "/properties/x/allOf/9"
-V16 "/properties/x/allOf/10"
-V16 "/properties/x/allOf/11"
-V16 "/properties/x/allOf/12"
-V16 "/properties/x/allOf/13"
-V16 "/properties/x/allOf/14"
-V16 "/properties/x/allOf/15"
-V16 "/properties/x/allOf/16"
-V16 "/properties/x/allOf/17"
-"#,
-    },
-    Checked {
-        name: "keywords of branches that other rules name",
-        schema: r#"{"type":"object","properties":{"x":{"type":"string","allOf":[
-            {"description":""},{"type":"string"},{"nullable":true},{"additionalProperties":{}},{"$ref":""},
-            {"readOnly":true}
-        ]}}}"#,
-        out: r#"V03 "/properties/x/allOf/0"
-V03 "/properties/x/allOf/1"
-V03 "/properties/x/allOf/2"
-V03 "/properties/x/allOf/3"
-V05 "/properties/x/allOf/4"
-V05 "/properties/x/allOf/5"
-"#,
-    },
-    Checked {
-        name: "another keyword in a branch of a branch",
-        schema: r#"{"type":"object","properties":{"x":{"type":"string","anyOf":[{"not":{"title":""}}]}}}"#,
-        out: "V16 \"/properties/x/anyOf/0/not\"\n",
-    },
-    Checked {
-        name: "the enums of branches",
-        schema: r#"{"type":"object","properties":{"x":{"type":"string","anyOf":[
-            {"enum":["a",1,true]},{"enum":[]},{"enum":[1,null]},{"enum":["a",[]]},{"enum":[{},1]}
-        ]}}}"#,
-        out: r#"V16 "/properties/x/anyOf/1"
-V16 "/properties/x/anyOf/2"
-V16 "/properties/x/anyOf/3"
-V16 "/properties/x/anyOf/4"
-"#,
-    },
-];
-
-static ROOTS: [Checked<'static>; 7] = [
-    Checked {
-        name: "a root of integers",
-        schema: r#"{"type":"integer"}"#,
-        out: "V17 \"\"\n",
-    },
-    Checked {
-        name: "a root of lists",
-        schema: r#"{"type":"array","items":{"type":"string"}}"#,
-        out: "V17 \"\"\n",
-    },
-    Checked {
-        name: "a root of integers and texts",
-        schema: r#"{"x-kubernetes-int-or-string":true}"#,
-        out: "V17 \"\"\n",
-    },
-    Checked {
-        name: "a root of any value",
-        schema: r#"{"x-kubernetes-preserve-unknown-fields":true}"#,
-        out: "V17 \"\"\n",
-    },
-    Checked {
-        name: "a root of numbers",
-        schema: r#"{"type":"number"}"#,
-        out: "V17 \"\"\n",
-    },
-    Checked {
-        name: "a root of an empty type",
-        schema: r#"{"type":""}"#,
-        out: "V01 \"\"\n",
-    },
-    Checked {
-        name: "a root of any fields",
-        schema: r#"{"type":"object","x-kubernetes-preserve-unknown-fields":true}"#,
-        out: "structural\n",
-    },
-];
-
-// Keywords of the root.
-static ROOT_KEYWORDS: [Checked<'static>; 8] = [
-    Checked {
-        name: "a root or null",
-        schema: r#"{"type":"object","nullable":true}"#,
-        out: "V17 \"\"\n",
-    },
-    Checked {
-        name: "a root without a type or null",
-        schema: r#"{"nullable":true}"#,
-        out: r#"V01 ""
-V17 ""
-"#,
-    },
-    Checked {
-        name: "a root and no null",
-        schema: r#"{"type":"object","nullable":false}"#,
-        out: "structural\n",
-    },
-    Checked {
-        name: "a root that is a map",
-        schema: r#"{"type":"object","additionalProperties":{"type":"string"}}"#,
-        out: "V17 \"\"\n",
-    },
-    Checked {
-        name: "a root without other fields",
-        schema: r#"{"type":"object","additionalProperties":false}"#,
-        out: r#"V07 ""
-V17 ""
-"#,
-    },
-    Checked {
-        name: "a least number of fields of the root",
-        schema: r#"{"type":"object","minProperties":0}"#,
-        out: "V17 \"\"\n",
-    },
-    Checked {
-        name: "a greatest number of fields of the root",
-        schema: r#"{"type":"object","maxProperties":9}"#,
-        out: "V17 \"\"\n",
-    },
-    Checked {
-        name: "null and a number of fields below the root",
-        schema: r#"{"type":"object","properties":{"x":{"type":"object","nullable":true,"minProperties":0,"maxProperties":9}}}"#,
-        out: "structural\n",
-    },
-];
 
 static TYPES: [Checked<'static>; 5] = [
     Checked {
@@ -538,24 +335,6 @@ V17 "/properties/x"
     },
 ];
 
-static REQUIRED_AT_THE_ROOT: [Checked<'static>; 3] = [
-    Checked {
-        name: "a required field named as one of the envelope",
-        schema: r#"{"type":"object","properties":{"x":{"type":"object","required":["kind"]}}}"#,
-        out: "V17 \"/properties/x\"\n",
-    },
-    Checked {
-        name: "the envelope required",
-        schema: r#"{"type":"object","required":["apiVersion","kind","metadata","kind"]}"#,
-        out: "structural\n",
-    },
-    Checked {
-        name: "a field of the root that is not declared",
-        schema: r#"{"type":"object","required":["kind","spec"]}"#,
-        out: "V17 \"\"\n",
-    },
-];
-
 // Values of enum, and additionalProperties.
 static VALUES: [Checked<'static>; 7] = [
     Checked {
@@ -615,27 +394,6 @@ V17 "/properties/x"
 ];
 
 #[test]
-fn junctors(rt: HostRuntime) -> Result<(), Fail> {
-    let mut report = Report::new(rt.alloc());
-    all_checked(&mut report, rt.alloc(), &JUNCTORS)?;
-    report.end(&rt)
-}
-
-#[test]
-fn roots(rt: HostRuntime) -> Result<(), Fail> {
-    let mut report = Report::new(rt.alloc());
-    all_checked(&mut report, rt.alloc(), &ROOTS)?;
-    report.end(&rt)
-}
-
-#[test]
-fn root_keywords(rt: HostRuntime) -> Result<(), Fail> {
-    let mut report = Report::new(rt.alloc());
-    all_checked(&mut report, rt.alloc(), &ROOT_KEYWORDS)?;
-    report.end(&rt)
-}
-
-#[test]
 fn types(rt: HostRuntime) -> Result<(), Fail> {
     let mut report = Report::new(rt.alloc());
     all_checked(&mut report, rt.alloc(), &TYPES)?;
@@ -660,13 +418,6 @@ fn keywords(rt: HostRuntime) -> Result<(), Fail> {
 fn required(rt: HostRuntime) -> Result<(), Fail> {
     let mut report = Report::new(rt.alloc());
     all_fields(&mut report, rt.alloc(), &REQUIRED)?;
-    report.end(&rt)
-}
-
-#[test]
-fn required_at_the_root(rt: HostRuntime) -> Result<(), Fail> {
-    let mut report = Report::new(rt.alloc());
-    all_checked(&mut report, rt.alloc(), &REQUIRED_AT_THE_ROOT)?;
     report.end(&rt)
 }
 

@@ -191,3 +191,12 @@ pub const ONE_BOUND: &str = r#"{"type":"object","required":["n"],"properties":{"
 pub const NULL_OR_TRUTH: &str = r#"{"type":"object","properties":{"n":{
     "type":"object","nullable":true,"properties":{"a":{"type":"boolean"}}
 }}}"#;
+
+/// Exactly one of two truth values, at the root.
+pub const ONE_OF_TWO_AT_THE_ROOT: &str = r#"{
+    "type":"object","properties":{"a":{"type":"boolean"},"b":{"type":"boolean"}},
+    "oneOf":[{"required":["a"]},{"required":["b"]}]
+}"#;
+
+/// Pools with a number that is no integer.
+pub const FRACTION_IN_POOLS: &str = r#"{"integers":[1.5]}"#;
