@@ -13,8 +13,6 @@ use Rattle.jtree.specs.Internal.Lookups.{bool_cases, option_cases, same_name, ow
 use Rattle.jtree.specs.Internal.Rising.{Among, among_left, among_right}
 use Rattle.schema.specs.Nodes.Node.{Node, Fields, no_fields, field, Validations, validations, Branches, no_branches, branch}
 use Rattle.schema.specs.Nodes.Junctors.{names_in, names_of, most_named}
-use Rattle.schema.specs.Nodes.View.{branches_of}
-use Rattle.schema.specs.declared.node.Validations.{Validations as DeclaredValidations}
 use Rattle.schema.specs.declared.node.Constraints.{Constraints}
 use Rattle.stored.specs.Objects.Fault as fault
 use Rattle.stored.specs.Objects.Tests.{has_all, has_names, has_member, holds_by, all_hold, any_holds, holding, is_absent, meets_presence}
