@@ -1,8 +1,6 @@
 -- What is added to a plan, node by node.
-use Rattle.std.specs.Prelude.{◌≡◌, ℕ, zero, suc, ◌+◌, ◌^◌, ◌<◌, List, map, take, Bool, true, false, Option, Some, None, option_map, ◌||◌, is_some}
-use Rattle.std.specs.Str.{bytes_eq}
-use Rattle.std.proofs.Common.{Result, Ok, Err, IfOk, refl, ap, sym, ◌∙◌, inl, inr, arith, [], ◌∷◌, ◌++◌, length, get_or}
-use Rattle.std.proofs.lemmas.Bool.{cases_Bool}
+use Rattle.std.specs.Prelude.{◌≡◌, ℕ, ◌+◌, ◌^◌, ◌<◌, List, map, take, Bool, false, Option, Some, None, option_map, ◌||◌, is_some}
+use Rattle.std.proofs.Common.{Result, Ok, Err, IfOk, refl, ap, sym, ◌∙◌, arith, [], ◌∷◌, ◌++◌, length, get_or}
 use Rattle.std.proofs.lemmas.List.{get_or_append_left, get_or_push, get_or-append-add, append-nil, append_assoc, length_push, length-append, take_more}
 use Rattle.jtree.specs.View.{data_of}
 use Rattle.schema.specs.Document.Texts.{is_among}
@@ -37,24 +35,6 @@ use Rattle.plan.specs.declared.arena.SlotEntry.{SlotEntry}
 use Rattle.plan.specs.declared.arena.Entry.{Entry}
 use Rattle.plan.proofs.SizeLemmas.{each_push}
 use Rattle.plan.proofs.EntryLemmas.{right_push}
-
--- ---- names
-
-or_true : (b : Bool) → (b || true) ≡ true
-or_true true = refl
-or_true false = refl
-
-pub among_push : (k : List ℕ) (ws : List (List ℕ)) (w : List ℕ) → is_among k ws ≡ false → bytes_eq k w ≡ false → is_among k (ws ++ w ∷ []) ≡ false
-among_push k [] w none other = rw other refl
-among_push k (x ∷ ws) w none other = elim (cases_Bool (bytes_eq k x)) [
-  | inl t ↦ let no = rw t at none in absurd (cc)
-  | inr f ↦ rw f (among_push k ws w (rw f at none) other)
-]
-
-pub among_at : (k : List ℕ) (ws : List (List ℕ)) (i : ℕ) (d : List ℕ) → i < length ws → bytes_eq k (get_or ws i d) ≡ true → is_among k ws ≡ true
-among_at k [] i d l same = absurd (omega arith)
-among_at k (x ∷ ws) zero d l same = rw same refl
-among_at k (x ∷ ws) (suc i) d l same = rw (among_at k ws i d (omega arith) same) (or_true (bytes_eq k x))
 
 -- ---- sites one after the other
 
