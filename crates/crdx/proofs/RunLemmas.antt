@@ -21,7 +21,7 @@ use Rattle.crdx.specs.Output.Walk.{WritesPage}
 use Rattle.crdx.specs.Program.Requested.{limits_of, pool_limits_of, total_of, IsRequested, IsRequestedCrd, IsRequestedSchema, IsRequestedRoot, HasAcceptedSchema, IsCrdRefused, ArePools, AreRootAndPools}
 use Rattle.crdx.specs.Program.Documents.{Documents, file_name, AreAmong}
 use Rattle.crdx.specs.Internal.ExitStatus.{status, cause_of_reading, cause_of_refusal, cause_of_pools, cause_of_walk, IsWritten}
-use Rattle.crdx.specs.Internal.Cause.{IsReadFailure, IsReadCause, IsBrokenCause, IsSchemaCause, IsPoolsCause, IsPlanCause, IsTextCause, IsSamplingCause, IsFieldCause, IsObjectCause, IsDocumentCause, IsInputCause, IsSampleCause, IsWalkCause}
+use Rattle.crdx.specs.Internal.Cause.{IsReadFailure, IsReadCause, IsBrokenCause, IsSchemaCause, IsPoolsCause, IsPlanCause, IsTextCause, IsSamplingCause, IsFieldCause, IsObjectCause, IsDocumentCause, IsInputCause, IsSampleCause, IsSampleResult, IsWalkCause}
 use Rattle.plan.specs.Pools.Pools.{Pools}
 use Rattle.plan.specs.Pools.PoolsFault.{IsPoolsFault}
 use Rattle.plan.specs.Pools.PlanFault.{HasGoodPaths, IsPlanFault}
@@ -284,13 +284,11 @@ module _ (run : Effects) (arguments : SampleArguments) where
 
   -- samples were listed, or it was said why not all of them
   pub result_of_sample : (r : Result Walked Cause) (code : ℕ)
-      → IfOk r (λ walked. (q : Question) × (after : Option Data) × (e : Option Envelope) × IsRequested run.documents arguments q after e × IfSome after (IsSampleOf q)
-      × WritesPage q after (total_of arguments) e walked.lines walked.end run.output_before run.output)
-      → OnOk r (run.failed_writes ≡ run.failed_writes_before) → IfErr r (IsSampleCause run arguments)
-      → OnOk r (code ≡ 0) → IfErr r (λ cause. (code ≡ status cause) ⊎ (code ≡ 5)) → IsRunResult run (Sample arguments) code
-  result_of_sample (Ok walked) code (q, after, e, asked, sample, wrote) unfailed why done said =
-      rw done (answered 0 (lines e wrote.items) (samples arguments q after e wrote.items walked.end asked sample wrote.page) wrote.written unfailed)
-  result_of_sample (Err cause) code listed unfailed why done said = result_of_cause cause code why said
+      → IsSampleResult run arguments r → OnOk r (code ≡ 0) → IfErr r (λ cause. (code ≡ status cause) ⊎ (code ≡ 5)) → IsRunResult run (Sample arguments) code
+  result_of_sample (Ok walked) code is done said =
+      let (q, after, e, asked, sample, wrote) = is.sampled in
+      rw done (answered 0 (lines e wrote.items) (samples arguments q after e wrote.items walked.end asked sample wrote.page) wrote.written is.unfailed)
+  result_of_sample (Err cause) code is done said = result_of_cause cause code is.cause said
 
 pub failed_once : (before now : ℕ) → now ≡ one_more before → HasFailed before now
 failed_once before now is = grind (arith, nat_tests)

@@ -1,5 +1,5 @@
 -- Why a run has no answer, said of the documents at hand; the counts are those of the reads that failed, before and now.
-use Rattle.std.specs.Prelude.{◌≡◌, ◌≢◌, ◌⊎◌, ℕ, List, [], Bool, true, Option, IfSome, map, IsSomeAnd, Ok, Err, string_bytes}
+use Rattle.std.specs.Prelude.{◌≡◌, ◌≢◌, ◌⊎◌, ℕ, List, [], Bool, true, Option, IfSome, map, IsSomeAnd, Result, Ok, Err, IfOk, OnOk, IfErr, string_bytes}
 use Rattle.std.specs.Borrow.{Bor}
 use Rattle.std.specs.Io.KnownBytes.{Keeps}
 use Rattle.jtree.specs.Data.{Data}
@@ -9,6 +9,7 @@ use Rattle.schema.specs.Rules.Breaks.{AreViolations}
 use Rattle.schema.specs.declared.fault.SFault.TheVariants as s
 use Rattle.stored.specs.Schemas.Accepted.{IsBroken}
 use Rattle.crdx.specs.Output.PartialOutput.{IsCutBetweenLines, IsCutByFailure}
+use Rattle.crdx.specs.Output.Walk.{WritesPage}
 use Rattle.jtree.specs.Failures.{HasFailed}
 use Rattle.crdx.specs.Program.Documents.{Documents, Lines, file_name}
 use Rattle.crdx.specs.Internal.ExitStatus.{cause_of_suggestion}
@@ -30,6 +31,7 @@ use Rattle.enumerate.specs.Page.{IsPage, IsSampleOf}
 use Rattle.jtree.specs.Reads.{IsNoDocument}
 use Rattle.crdx.specs.Program.InputFault.{IsOfBytes}
 use Rattle.crdx.specs.declared.walk.line.Envelope.{Envelope}
+use Rattle.crdx.specs.declared.walk.walking.Walked.{Walked}
 use Rattle.crdx.specs.declared.arguments.request.Request.{Request}
 use Rattle.crdx.specs.declared.arguments.request.Request.TheVariants.{ObjectLines, Sample, SuggestPools}
 use Rattle.crdx.specs.declared.arguments.request.CommonArguments.{CommonArguments}
@@ -145,6 +147,13 @@ IsSampleCause run arguments cause =
     (IsInputCause run.documents run.failed_reads_before run.failed_reads (Sample arguments) cause × WritesNothing run)
     ⊎ ((q : Question) × (after : Option Data) × (e : Option Envelope) × IsRequested run.documents arguments q after e
     × IsWalkCause q after (total_of arguments) e run.output_before run.output run.failed_writes_before run.failed_writes cause)
+
+-- what `sample` comes to: the samples that are asked for are written, and nothing failed, or why not
+pub record IsSampleResult (run : Effects) (arguments : SampleArguments) (result : Result Walked Cause) : Type 0 where
+  pub sampled : IfOk result (λ walked. (q : Question) × (after : Option Data) × (e : Option Envelope) × IsRequested run.documents arguments q after e
+      × IfSome after (IsSampleOf q) × WritesPage q after (total_of arguments) e walked.lines walked.end run.output_before run.output)
+  pub unfailed : OnOk result (run.failed_writes ≡ run.failed_writes_before)
+  pub cause : IfErr result (IsSampleCause run arguments)
 
 -- why not all lines of the input that is asked about have an answer
 abbrev pub IsObjectsCause : Effects → ObjectArguments → Cause → Type 0

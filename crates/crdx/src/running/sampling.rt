@@ -1,16 +1,13 @@
 //! What `sample` writes.
-ghost use Rattle.std.specs.Prelude.{◌≡◌, ◌<◌, Option, IfOk, IfErr, OnOk, IfSome, option_map};
-ghost use Rattle.jtree.specs.Data.{Data};
+ghost use Rattle.std.specs.Prelude.{◌≡◌, ◌<◌, IfOk, IfErr, OnOk, IfSome, option_map};
 ghost use Rattle.jtree.specs.View.{data_of};
 ghost use Rattle.plan.specs.Pools.PlanFault.{HasGoodPaths};
-ghost use Rattle.plan.specs.Samples.Question.{Question};
 ghost use Rattle.enumerate.specs.Page.{IsSampleOf};
-ghost use Rattle.crdx.specs.Internal.Cause.{IsInputCause, IsSamplingCause, IsSampleCause, IsWalkCause};
+ghost use Rattle.crdx.specs.Internal.Cause.{IsInputCause, IsSamplingCause, IsSampleResult, IsWalkCause};
 ghost use Rattle.crdx.specs.Output.Walk.{WritesPage};
 ghost use Rattle.crdx.specs.Output.PartialOutput.{IsPartialOutput};
 ghost use Rattle.crdx.specs.Program.Requested.{IsRequested, IsAfter, envelope_for, total_of};
 ghost use Rattle.crdx.specs.declared.arguments.request.Request.TheVariants.{Sample};
-ghost use Rattle.crdx.specs.declared.walk.line.Envelope.{Envelope as EnvelopeData};
 
 use crate::arguments::SampleArguments;
 use crate::inputs::Inputs;
@@ -46,10 +43,7 @@ pub(crate) fn sample<I: Inputs, W: Sink>(
     explanation: &mut Explanation,
     out: &mut W,
 ) -> Result<Walked, Cause>
-    ensures sampled { IfOk result (λ walked. (q : Question) × (after : Option Data) × (e : Option EnvelopeData) × IsRequested (I.has inputs.old) arguments.now q after e
-        × IfSome after (IsSampleOf q) × WritesPage q after (total_of arguments.now) e walked.lines walked.end (W.taken out.old) (W.taken out.new)) }
-    ensures unfailed { OnOk result (W.failures out.new ≡ W.failures out.old) }
-    ensures cause { IfErr result (IsSampleCause (record {
+    ensures { IsSampleResult (record {
       documents = I.has inputs.old;
       lines = I.lines inputs.old;
       failed_reads_before = I.failures inputs.old;
@@ -58,7 +52,7 @@ pub(crate) fn sample<I: Inputs, W: Sink>(
       output = W.taken out.new;
       failed_writes_before = W.failures out.old;
       failed_writes = W.failures out.new;
-    }) arguments.now) }
+    }) arguments.now result }
 {
     if arguments.limit < WORD {
         sample_with::<u64, I, W>(alloc, arguments, inputs, explanation, out)
@@ -76,10 +70,7 @@ fn sample_with<Z: SizeSet, I: Inputs, W: Sink>(
     out: &mut W,
 ) -> Result<Walked, Cause>
     requires { arguments.now.limit < Z.BITS }
-    ensures sampled { IfOk result (λ walked. (q : Question) × (after : Option Data) × (e : Option EnvelopeData) × IsRequested (I.has inputs.old) arguments.now q after e
-        × IfSome after (IsSampleOf q) × WritesPage q after (total_of arguments.now) e walked.lines walked.end (W.taken out.old) (W.taken out.new)) }
-    ensures unfailed { OnOk result (W.failures out.new ≡ W.failures out.old) }
-    ensures cause { IfErr result (IsSampleCause (record {
+    ensures { IsSampleResult (record {
       documents = I.has inputs.old;
       lines = I.lines inputs.old;
       failed_reads_before = I.failures inputs.old;
@@ -88,7 +79,7 @@ fn sample_with<Z: SizeSet, I: Inputs, W: Sink>(
       output = W.taken out.new;
       failed_writes_before = W.failures out.old;
       failed_writes = W.failures out.new;
-    }) arguments.now) }
+    }) arguments.now result }
 {
     let mut sample_inputs = sample_inputs::<Z, I>(alloc, arguments, inputs, explanation)?;
     let walked = write_samples(alloc, arguments, &mut sample_inputs, out);

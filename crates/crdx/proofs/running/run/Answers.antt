@@ -57,8 +57,7 @@ returns-in-Sample g c =
     let arguments = c.in-Sample.arguments in (
       Sample arguments,
       c.in-Sample.ensures,
-      result_of_sample _ arguments c.sample-walked.result c.finish_samples.result c.sample-walked.ensures.sampled c.sample-walked.ensures.unfailed c.sample-walked.ensures.cause c.finish_samples.ensures.done
-          c.finish_samples.ensures.said,
+      result_of_sample _ arguments c.sample-walked.result c.finish_samples.result c.sample-walked.ensures c.finish_samples.ensures.done c.finish_samples.ensures.said,
     )
 
 pub returns-in-Cover : goal.returns-in-Cover
