@@ -122,11 +122,11 @@ fn is_more(
     are_sizes(report, alloc, "what can follow", more, &wanted)
 }
 
-/// A row of the plan, what is asked of it where it ends, its slots, and the fields that its junctors name.
+/// A row of the plan, its slots, and the fields that its junctors name. What is asked of it where it ends is an argument of its own: the
+/// borrow checker does not find what such a struct in a struct borrows.
 #[derive(Clone, Copy)]
 struct Row<'a> {
     number: PlanNode,
-    ending: Ending<'a>,
     slots: &'a [Choice],
     named: &'a [Text],
 }
@@ -146,12 +146,11 @@ fn all_rests(
     report.holds("few named fields", named.len() <= 4)?;
     let row = Row {
         number,
-        ending,
         slots,
         named: &named,
     };
     for place in 0..=slots.len() {
-        rests_at(report, of, row, place, meter)?;
+        rests_at(report, of, row, ending, place, meter)?;
     }
     Ok(())
 }
@@ -161,6 +160,7 @@ fn rests_at(
     report: &mut Report,
     of: Compared<'_>,
     row: Row<'_>,
+    ending: Ending<'_>,
     place: usize,
     meter: &mut Meter,
 ) -> Result<(), Fail>
@@ -173,7 +173,7 @@ fn rests_at(
                 named: row.named,
                 seen,
             };
-            is_rest(report, of, row, place, before, meter)?;
+            is_rest(report, of, row, ending, place, before, meter)?;
         }
     }
     Ok(())
@@ -194,6 +194,7 @@ fn is_rest(
     report: &mut Report,
     of: Compared<'_>,
     row: Row<'_>,
+    ending: Ending<'_>,
     place: usize,
     before: Before<'_>,
     meter: &mut Meter,
@@ -213,7 +214,7 @@ fn is_rest(
         return Ok(report.holds("a place", false)?);
     };
     let limit = u64::from(of.plan.limit());
-    let wanted = plain_rest(of.alloc, after, limit, row.ending, before)?;
+    let wanted = plain_rest(of.alloc, after, limit, ending, before)?;
     are_sizes(report, of.alloc, "the rest", rest, &wanted)
 }
 
