@@ -1,5 +1,4 @@
 //! Tests of `stored`.
-mod bound_cases;
 mod default_cases;
 mod object_cases;
-mod value_cases;
+mod part_cases;

@@ -1,3 +1,2 @@
 //! Tests of `suggest`.
 mod document_cases;
-mod varied_cases;
