@@ -316,7 +316,7 @@ all_against_plain() {
     [ "$(cat "$folder/errors")" = 'crdx: end' ] || stop "million: $(head -n 1 "$folder/errors")"
     one=$(best "${crdx[@]}" --all)
     other=$(best "${plain[@]}")
-    ratio 'million, all of them, against a plain program (at most 4)' "$one" "$other" 4
+    ratio 'million, all of them, against a plain program (at most 3)' "$one" "$other" 3
     one=$(peak "${crdx[@]}" --all)
     other=$(peak "${crdx[@]}" --count 10000)
     echo "million, peak memory (at most 512 KiB more than for 10,000): $one KiB, $other KiB"
@@ -419,7 +419,7 @@ echo '{"integers":[1],"strings":["a"],"names":["k"]}' >"$folder/small-pools"
 for pools in small-pools pools-of-2021-places; do
     within "cover of 2021 places over $pools" 5 65536 cover "$folder/2021-places" v1 --large --pools "$folder/$pools"
 done
-within 'cover of 2021 places over 64 entries a list' 20 65536 cover "$folder/2021-places" v1 --large --pools "$folder/full-pools"
+within 'cover of 2021 places over 64 entries a list' 10 65536 cover "$folder/2021-places" v1 --large --pools "$folder/full-pools"
 
 # objects on lines: samples are valid, so of each nothing is written
 issuer=examples/issuer
