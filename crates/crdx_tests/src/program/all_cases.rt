@@ -84,7 +84,7 @@ const THREE_INTEGERS: &str =
 const TWENTY_THREE: &str =
     r#"{"integers":[0,1,2,3,4,5,6,7,8,9,10,11,12,13,14,15,16,17,18,19,20,21,22]}"#;
 
-/// How often 12,167 lines are flushed at least, where each second block of 64 lines is.
+/// How often 12,167 lines are flushed at least: before each block of 128 lines but the first.
 const LEAST_FLUSHES: u64 = 95;
 
 /// A listing of the 12,167 samples, on a sink with so much room.
