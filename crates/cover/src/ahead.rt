@@ -26,7 +26,7 @@ use std::alloc::{AllocError, Global};
 use stored::Schema;
 
 /// The most samples that are looked at ahead.
-const MOST: u32 = 2_048;
+const MOST: u32 = 512;
 
 /// The first samples of few nodes in which the path of the steps is there.
 #[derive(Drop)]
@@ -97,15 +97,7 @@ fn seen_ahead(
     if tree.is_some() {
         return Ok((schema, tree));
     }
-    let (schema, tree) = seen_from(
-        alloc,
-        schema,
-        pools,
-        limit,
-        aim,
-        front_length(aim),
-        ahead,
-    )?;
+    let (schema, tree) = seen_from(alloc, schema, pools, limit, aim, front_length(aim), ahead)?;
     if tree.is_some() {
         return Ok((schema, tree));
     }
@@ -254,7 +246,7 @@ fn few_samples(
     requires limit { 1 ≤ limit }
     requires paths { HasGoodPaths schema pools }
     ensures schema { IfOk result (λ r. r.0 ≡ schema) }
-    ensures samples { IfOk result (λ r. (few : ℕ) × ((few ≤ limit) × ((end : Bool) × IsPage (record { root = schema; pools = pools; limit = few }) None 2048 (trees_of r.1.items) end))) }
+    ensures samples { IfOk result (λ r. (few : ℕ) × ((few ≤ limit) × ((end : Bool) × IsPage (record { root = schema; pools = pools; limit = few }) None 512 (trees_of r.1.items) end))) }
 {
     match Plan::<u64>::new(alloc, schema, pools, limit.min(FEW)) {
         Ok(plan) => {
@@ -271,7 +263,7 @@ fn few_samples(
 /// The first samples of the plan.
 fn samples_of(alloc: Global, plan: &mut Plan<u64>) -> Result<Vec<Tree>, AllocError>
     ensures same { plan.new ≡ plan.old }
-    ensures samples { IfOk result (λ ts. (end : Bool) × IsPage plan.old None 2048 (trees_of ts.items) end) }
+    ensures samples { IfOk result (λ ts. (end : Bool) × IsPage plan.old None 512 (trees_of ts.items) end) }
 {
     let mut meter = plan.meter();
     match page(alloc, plan, None, MOST, &mut meter) {

@@ -24,5 +24,5 @@ returns-clause-ahead c = λ q is old.
     let s = c.in_ok-schema.ensures.samples in
     subst (All (IsAhead q)) (sym c.in_ok-push.ensures.items)
     (All-push (IsAhead q) c.args.ahead.now.items (record { steps = c.in_ok-steps.steps; samples = c.in_ok-schema.samples }) old
-    (looks_ahead c.paths_have_one_text.ensures c.args.schema c.args.pools.now c.in_ok-narrow.narrow c.args.limit s.0 2048 s.1.1.0 q is front (path_of c.in_ok-steps.steps.items)
+    (looks_ahead c.paths_have_one_text.ensures c.args.schema c.args.pools.now c.in_ok-narrow.narrow c.args.limit s.0 512 s.1.1.0 q is front (path_of c.in_ok-steps.steps.items)
     (map (λ t. data_of t) c.in_ok-schema.samples.items) s.1.0 declared c.in_ok-narrow.ensures c.in_ok-steps.ensures s.1.1.1))
