@@ -234,7 +234,7 @@ impl<'p, Z: SizeSet> Walk<'p, Z> {
         ensures ok { OnOk result (AreChoices (IsChoice self.now.plan.now node size (resume_point after.entry) used.now) (stack_of scratch.new.following.items)) }
         ensures steps { Costs self.now.plan.now scratch.old.meter scratch.new.meter 1 }
     {
-        if used.comes_first() {
+        if after.is_none() && used.comes_first() {
             return self.find_choice(node, size, after, used, scratch);
         }
         scratch.following.clear();

@@ -97,6 +97,7 @@ fn has_under(name: &str, value: &Tree, row: &Tree) -> bool
 }
 
 /// How many of the objects have the value under the name.
+#[inline(always)]
 fn count_agreeing(name: &str, value: &Tree, rows: &Rows<'_>) -> usize
     ensures { result ≡ length (agreeing name.now (data_of value.now) (used_rows rows.now)) }
 {

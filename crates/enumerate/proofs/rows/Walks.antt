@@ -34,7 +34,6 @@ use Rattle.enumerate.proofs.samples.Following.{may_out, may_in}
 use Rattle.enumerate.proofs.rows.Lemmas.{AreFilled, filled_out, filled_in, can_fill, key_here, keys_after, no_key, used_after, used_out}
 use Rattle.enumerate.proofs.rows.Moves.{moved_out, moved_in}
 use Rattle.enumerate.proofs.lists.Lemmas.{some_nodes}
-use Rattle.enumerate.proofs.walks.Least.{fewer_nodes}
 use Rattle.enumerate.proofs.rows.Slots.{keys_at, nothing_after}
 use Rattle.enumerate.proofs.rows.Cuts.{grown_left}
 use Rattle.enumerate.proofs.rows.SlotMoves.{open_here, in_slots_nodes, IsLastOut, filled_here, out_grown, in_grown}
@@ -113,32 +112,6 @@ out_at P (suc place) (s ∷ ss) here (Some v ∷ gs) (one ∷ members) fit first
     not_after : (one : Member) (members : List Member) (k : List ℕ) → (EndsIn k (one ∷ members) → ⊥) → EndsIn k members → ⊥
     not_after one [] k other e = e
     not_after one (two ∷ members) k other e = other e
-
--- a slot that must be filled has the last member before the next one
-pub ends_at : (P : Pools) (place : ℕ) (ss : List Slot) (here : Slot) (gs : List (Option Data)) (members : List Member) → AreFillings P ss gs → drop place ss ≡ here ∷ drop (suc place) ss → here.must ≡ true → members_of members ≡ members_to (suc place) ss gs → EndsIn here.name members
-ends_at P zero [] here gs members fit first must are = absurd (cc)
-ends_at P zero (s ∷ ss) here [] members fit first must are = absurd fit
-ends_at P zero (s ∷ ss) here (None ∷ gs) members fit first must are = let same : s ≡ here = cc in let no = fit.0 in absurd (cc)
-ends_at P zero (s ∷ ss) here (Some v ∷ gs) [] fit first must are = absurd (cc)
-ends_at P zero (s ∷ ss) here (Some v ∷ gs) (one ∷ []) fit first must are = let same : s ≡ here = cc in let name : one.name ≡ s.name = cc in name ∙ ap (λ t. t.name) same
-ends_at P zero (s ∷ ss) here (Some v ∷ gs) (one ∷ two ∷ members) fit first must are = absurd (cc)
-ends_at P (suc place) [] here gs members fit first must are = absurd (cc)
-ends_at P (suc place) (s ∷ ss) here [] members fit first must are = absurd fit
-ends_at P (suc place) (s ∷ ss) here (None ∷ gs) members fit first must are = ends_at P place ss here gs members fit.1 first must are
-ends_at P (suc place) (s ∷ ss) here (Some v ∷ gs) [] fit first must are = absurd (cc)
-ends_at P (suc place) (s ∷ ss) here (Some v ∷ gs) (one ∷ members) fit first must are =
-    let others : members_of members ≡ members_to (suc place) ss gs = cc in
-    after one members here.name (ends_at P place ss here gs members fit.1 first must others)
-  where
-    after : (one : Member) (members : List Member) (k : List ℕ) → EndsIn k members → EndsIn k (one ∷ members)
-    after one [] k e = absurd e
-    after one (two ∷ members) k e = e
-
--- the last member has the name
-pub ends_name : (front : List Member) (one : Member) (k : List ℕ) → EndsIn k (front ++ one ∷ []) → one.name ≡ k
-ends_name [] one k e = e
-ends_name (a ∷ []) one k e = e
-ends_name (a ∷ b ∷ front) one k e = ends_name (b ∷ front) one k e
 
 -- a slot among slots
 among_slots : (place : ℕ) (ss : List Slot) (here : Slot) → drop place ss ≡ here ∷ drop (suc place) ss → Among ss here
@@ -415,10 +388,6 @@ module _ (q : Question) (i : ℕ) (sound : HasSoundParts q.pools (site q i)) (us
       pub known : (r.room ≡ 0 → ⊥) → r.before ≡ so_far gs
       pub can : IsOpen P (slots_from q i place) (asked gs)
 
-    -- the slot that must be filled is not left out
-    pub must_end : (r : Removed) (members : List Member) (gs : List (Option Data)) → IsWalkedTo q i (place + 1) r used members gs → here.must ≡ true → EndsIn here.name members
-    must_end r members gs w must = ends_at P place ss here gs members w.cut.whole.are first_so must (w.cut.front ∙ ap (λ n. members_to n ss gs) next_place)
-
     pub out_walked : (r : Removed) (members : List Member) (gs : List (Option Data)) → AreUsed P ss used → IsWalkedTo q i (place + 1) r used members gs → (EndsIn here.name members → ⊥) → IsLeftOut r members gs
     out_walked r members gs known w other =
         let o = out_at P place ss here gs members w.cut.whole.are first_so (w.cut.front ∙ ap (λ n. members_to n ss gs) next_place) other in
@@ -517,13 +486,16 @@ module _ (q : Question) (i : ℕ) (sound : HasSoundParts q.pools (site q i)) (us
         let moved = h hs off.after (subst (λ e. AreLastAfter q i place e one off.after hs) (sym is) off.ended) in
         walked_parts made d.before front new gs off.cut left (ap (λ (e : Demand). e.before) is) (subst (λ e. AreNextMembers made P (slots_from q i place) e hs (drop e.before.count new)) is moved)
 
-    -- a part that no part comes after: it has no next one, and none of another size
-    pub walked_last : (r : Removed) (front : List Member) (one : Member) (gs : List (Option Data)) (x : Before) → IsRemoved r front one gs → x ≡ so_far gs → ((u : Data) → IsPart P here.site u → IsPast (Some (data_of one.tree)) u → ⊥)
-        → IsWalkedTo q i place (record { room = r.room + node_count (data_of one.tree); before = x }) used front gs
-    walked_last r front one gs x off is none =
+    -- a key that has no later candidate: it has no next one, and no part of another size
+    pub walked_key : (r : Removed) (front : List Member) (one : Member) (gs : List (Option Data)) (x : Before) → IsRemoved r front one gs → x ≡ so_far gs → here.key ≡ true → ((u : Data) → IsPart P here.site u → IsPast (Some (data_of one.tree)) u → ⊥)
+        → IsWalkedTo q i place (record { room = r.room + 1; before = x }) used front gs
+    walked_key r front one gs x off is key none =
+        let law = key_here P here after (subst (AreKeySlots P) first (keys_at q i place sound)) key in
+        let own : node_count (data_of one.tree) ≡ 1 = law.one (data_of one.tree) off.ended.are_filled.value.part in
         let empty : (n : ℕ) → node_count (data_of one.tree) + 1 ≤ n → FitsSlot P here after (asked gs) n → ⊥ = λ n more fits.
-        let part = fits.0.part in
-        none part fits.0.is (fewer_nodes (data_of one.tree) part (omega (arith, more, fits.0.nodes_are)) (omega (arith, fits.0.nodes_are, fits.1.1.1, off.ended.small))) in
+        let size : n ≡ 1 = sym fits.0.nodes_are ∙ law.one fits.0.part fits.0.is in
+        omega (arith, more, size, own) in
         let all = filled_nodes (drop place gs) in
+        let total : all ≡ r.room + 1 = omega (arith, off.room_is, own) in
         let moved = in_grown q i place sound first (asked gs) one off.after (drop place gs) off.ended (parts.Last all) front front (sym (so_many place gs front off.cut.front)) (λ u v past. none u v.part past) (refl, empty, refl) in
-        record { cut = off.cut; room_is = off.room_is; last = moved.0; known = λ some. is }
+        record { cut = off.cut; room_is = total; last = moved.0; known = λ some. is }

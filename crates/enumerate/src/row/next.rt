@@ -23,7 +23,7 @@ use crate::siblings::Rows;
 use crate::sizes::below;
 use crate::walk::{NextParts, NextTree, Scratch, Walk};
 use jtree::{Member, Members, Tree};
-use plan::{Meter, PlanNode, SizeSet, Slot, Sort};
+use plan::{Meter, PlanNode, SizeSet};
 use std::alloc::AllocError;
 
 impl<'p, Z: SizeSet> Walk<'p, Z> {
@@ -112,7 +112,7 @@ impl<'p, Z: SizeSet> Walk<'p, Z> {
         ensures steps { CostsSlot result self.now.plan.now here.now.node removed.old.room scratch.old.meter scratch.new.meter (3 * members_count (members_of members.old.items) + removed.old.room) }
     {
         self.laws_of(here.node);
-        match pop_from(members, &here.slot) {
+        match pop_named(members, here.slot.name) {
             Some(member) => self.next_filled_slot(here, removed, used, member, members, scratch),
             None => self.next_empty_slot(here, removed, used, members, scratch),
         }
@@ -139,11 +139,11 @@ impl<'p, Z: SizeSet> Walk<'p, Z> {
         ensures steps { CostsSlot result self.now.plan.now here.now.node removed.old.room scratch.old.meter scratch.new.meter (3 * node_count (data_of member.tree) + removed.old.room) }
     {
         self.laws_of(here.node);
-        if self.is_last_value(here, &member.tree, &mut scratch.meter) {
+        if self.is_last_key(here, &member.tree, &mut scratch.meter) {
             removed.before = Before::unnamed(members.len() as u32);
-            let Member { name, tree } = member;
+            let Member { name, tree: _ } = member;
             keep_name(&mut scratch.spare, name);
-            return Ok(NextParts::Last(removed.room + size_of(&tree)));
+            return Ok(NextParts::Last(removed.room + 1));
         }
         let prefix = self.prefix_at(
             here.node,
@@ -295,50 +295,23 @@ impl<'p, Z: SizeSet> Walk<'p, Z> {
         self.grow_members(here, &larger, size + 1, members, scratch)
     }
 
-    /// Whether the slot has candidates, none of which comes after this one, and no field is named: then it has no next value, whatever
-    /// is before it.
+    /// Whether the slot is a key without a later candidate, and no field is named: then it has no next value, whatever is before it.
     #[inline(always)]
-    fn is_last_value(&self, here: &RowSlot<'_>, tree: &Tree, meter: &mut Meter) -> bool
+    fn is_last_key(&self, here: &RowSlot<'_>, tree: &Tree, meter: &mut Meter) -> bool
         requires here { IsRowSlot self.now.plan.now here.now }
+        ensures key { result ≡ true → (slot_there self.now.plan.now here.now).key ≡ true }
         ensures plain { result ≡ true → All (λ s. s.bit ≡ None) (slots_from self.now.plan.now here.now.node 0) }
         ensures none { result ≡ true → (u : Data) → IsPart self.now.plan.now.pools (slot_there self.now.plan.now here.now).site u → IsPast (Some (data_of tree.now)) u → ⊥ }
         ensures steps { meter.new ≤ meter.old + 1 }
     {
-        if !self.has_candidates(here) {
+        self.laws_of(here.node);
+        if !here.slot.key {
             return false;
         }
         if self.plan.names_fields(here.node) {
             return false;
         }
         !self.has_later(here.slot.node, tree, meter)
-    }
-
-    /// Whether what can be in the slot are candidates: for a key they are.
-    #[inline(always)]
-    fn has_candidates(&self, here: &RowSlot<'_>) -> bool
-        requires here { IsRowSlot self.now.plan.now here.now }
-        ensures { result ≡ true → sort_of (site self.now.plan.now here.now.slot.node) ≡ sort.Leaf }
-    {
-        self.laws_of(here.node);
-        if here.slot.key {
-            return true;
-        }
-        match self.plan.sort(here.slot.node) {
-            Sort::Leaf => true,
-            _ => false,
-        }
-    }
-}
-
-/// How many nodes the tree has. A scalar has one, which takes no count.
-#[inline(always)]
-fn size_of(tree: &Tree) -> u32
-    requires { node_count (data_of tree.now) < 4294967296 }
-    ensures { result ≡ node_count (data_of tree.now) }
-{
-    match tree {
-        Tree::List(_) | Tree::Object(_) => tree.nodes() as u32,
-        _ => 1,
     }
 }
 
@@ -352,20 +325,6 @@ fn into_members(tree: Tree) -> Option<Vec<Member>>
         Tree::Object(object) => Some(object.members),
         _other => None,
     }
-}
-
-/// Removes the last member, where it is in the slot.
-#[inline(always)]
-fn pop_from(members: &mut Vec<Member>, slot: &Slot<'_>) -> Option<Member>
-    requires must { slot.now.must ≡ true → EndsIn slot.now.name.now members.old.items }
-    ensures some { IfSome result (λ one. (members.old.items ≡ members.new.items ++ one ∷ []) × (one.name ≡ slot.now.name.now)) }
-    ensures none { IfNone result ((members.new.items ≡ members.old.items) × (EndsIn slot.now.name.now members.old.items → ⊥)) }
-    ensures fewer { length members.new.items ≤ length members.old.items }
-{
-    if slot.must {
-        return members.pop();
-    }
-    pop_named(members, slot.name)
 }
 
 /// Removes the last member, where it has the name.

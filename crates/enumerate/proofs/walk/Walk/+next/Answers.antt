@@ -61,9 +61,6 @@ next_members-loop-place-preserved = next_members.loop-place-preserved
 pub next_members-returns : goal.next_members-returns
 next_members-returns = next_members.returns
 
-pub next_at_slot-pop_from-requires : goal.next_at_slot-pop_from-requires
-next_at_slot-pop_from-requires = next_at_slot.pop_from-requires
-
 pub next_at_slot-next_filled_slot-requires : goal.next_at_slot-next_filled_slot-requires
 next_at_slot-next_filled_slot-requires = next_at_slot.next_filled_slot-requires
 
@@ -79,8 +76,8 @@ next_at_slot-returns-in-None-clause-steps = next_at_slot.returns-in-None-clause-
 pub next_filled_slot-overflow_cast-len : goal.next_filled_slot-overflow_cast-len
 next_filled_slot-overflow_cast-len = next_filled_slot.overflow_cast-len
 
-pub next_filled_slot-returns-then-is_last_value-clause-ok : goal.next_filled_slot-returns-then-is_last_value-clause-ok
-next_filled_slot-returns-then-is_last_value-clause-ok = next_filled_slot.returns-then-is_last_value-clause-ok
+pub next_filled_slot-returns-then-is_last_key-clause-ok : goal.next_filled_slot-returns-then-is_last_key-clause-ok
+next_filled_slot-returns-then-is_last_key-clause-ok = next_filled_slot.returns-then-is_last_key-clause-ok
 
 pub next_filled_slot-prefix_at-requires-clause-limit : goal.next_filled_slot-prefix_at-requires-clause-limit
 next_filled_slot-prefix_at-requires-clause-limit = next_filled_slot.prefix_at-requires-clause-limit

@@ -6,18 +6,9 @@ use Rattle.enumerate.specs.Internal.Rows.{slot_in}
 use Rattle.enumerate.specs.Internal.Walks.{IsWalkedTo}
 use Rattle.enumerate.specs.Internal.Prefixes.{EndsIn}
 use Rattle.enumerate.proofs.walks.Costs.{cost_within}
-use Rattle.enumerate.proofs.rows.Walks.{members_pushed, must_end}
+use Rattle.enumerate.proofs.rows.Walks.{members_pushed}
 use Rattle.jtree.specs.View.{data_of, members_of}
 use Rattle.enumerate.proofs.walk.Walk.+next.Goals as goal
-
-pub pop_from-requires : goal.next_at_slot-pop_from-requires
-pop_from-requires g t c = record {
-  must = λ must.
-      let q = c.args.self.now.plan.now in
-      let here = c.args.here.now in
-      let ends = must_end q here.node c.laws_of.ensures.sound (used_rows c.args.used.now) here.place c.requires.here.slot.first c.args.removed.now c.args.members.now.items c.requires.walked.0 c.requires.walked.1 (sym c.requires.here.slot.must ∙ must) in
-      subst (λ k. EndsIn k c.args.members.now.items) (sym c.requires.here.slot.name) ends;
-}
 
 pub next_filled_slot-requires : goal.next_at_slot-next_filled_slot-requires
 next_filled_slot-requires g t c κs within =
@@ -25,7 +16,7 @@ next_filled_slot-requires g t c κs within =
     let here = c.args.here.now in
     let gs = c.requires.walked.0 in
     let one = c.in-Some.member in
-    let front = c.pop_from.new.members.items in
+    let front = c.pop_named.new.members.items in
     let popped = c.in-Some.ensures.some in
     let walked = subst (λ l. IsWalkedTo q here.node (here.place + 1) c.args.removed.now (used_rows c.args.used.now) l gs) popped.0 c.requires.walked.1 in
     let nodes : members_count (members_of c.args.members.now.items) ≡ members_count (members_of front) + node_count (data_of one.tree) = ap (λ l. members_count (members_of l)) popped.0 ∙ members_pushed front one in
@@ -48,7 +39,7 @@ next_empty_slot-requires g t c =
 pub returns-in-Some-clause-steps : goal.next_at_slot-returns-in-Some-clause-steps
 returns-in-Some-clause-steps g t c =
     let one = c.in-Some.member in
-    let front = c.pop_from.new.members.items in
+    let front = c.pop_named.new.members.items in
     let all = members_count (members_of c.args.members.now.items) in
     let room = c.args.removed.now.room in
     let nodes : all ≡ members_count (members_of front) + node_count (data_of one.tree) = ap (λ l. members_count (members_of l)) c.in-Some.ensures.some.0 ∙ members_pushed front one in

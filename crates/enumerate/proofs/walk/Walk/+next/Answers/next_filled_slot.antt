@@ -1,7 +1,6 @@
 use Rattle.std.proofs.Common.{sym, ap, subst, ◌∙◌, arith, ◌≡◌, ◌+◌, ℕ, List, length, drop, Option, [], ◌∷◌, ◌++◌}
 use Rattle.std.proofs.lemmas.List.{length-drop}
 use Rattle.jtree.specs.Data.{Data}
-use Rattle.jtree.specs.Nodes.{node_count}
 use Rattle.jtree.specs.declared.value.Member.{Member}
 use Rattle.enumerate.specs.Internal.Candidates.{stack_of, used_rows}
 use Rattle.plan.specs.Samples.Sizes.{nothing}
@@ -15,7 +14,7 @@ use Rattle.enumerate.specs.Internal.Prefixes.{agreeing_rows}
 use Rattle.enumerate.proofs.walks.Costs.{last_removed, removes_all}
 use Rattle.enumerate.proofs.walk.Walk.+next.Goals.{next_filled_slot-In_ok-prefix, next_filled_slot-After-laws_of}
 use Rattle.enumerate.proofs.prefixes.Lemmas.{before_plain}
-use Rattle.enumerate.proofs.rows.Walks.{fewer_members, asked_is, walked_continue, walked_member, walked_last, IsRemoved, removed, ready, so_many, few_at}
+use Rattle.enumerate.proofs.rows.Walks.{fewer_members, asked_is, walked_continue, walked_member, walked_key, IsRemoved, removed, ready, so_many, few_at}
 use Rattle.enumerate.proofs.samples.Following.{if_both}
 use Rattle.enumerate.proofs.rows.Slots.{one_fewer}
 use Rattle.jtree.specs.View.{data_of, members_of}
@@ -41,19 +40,17 @@ pub overflow_cast-len : goal.next_filled_slot-overflow_cast-len
 overflow_cast-len g t c =
     omega (arith, fewer_members c.args.members.now.items, c.requires.limit, c.laws_of.ensures.limit, c.len.ensures, c.args.members.now.ok.0)
 
-pub returns-then-is_last_value-clause-ok : goal.next_filled_slot-returns-then-is_last_value-clause-ok
-returns-then-is_last_value-clause-ok g t c = (
+pub returns-then-is_last_key-clause-ok : goal.next_filled_slot-returns-then-is_last_key-clause-ok
+returns-then-is_last_key-clause-ok g t c = (
   λ gs w.
       let q = c.args.self.now.plan.now in
       let here = c.args.here.now in
       let members = c.args.members.now.items in
-      let off = off_here g t (goal.at.next_filled_slot-returns-then-is_last_value-clause-ok g t c).After-laws_of gs w in
-      let plain = c.is_last_value.ensures.plain c.if-is_last_value.true in
+      let off = off_here g t (goal.at.next_filled_slot-returns-then-is_last_key-clause-ok g t c).After-laws_of gs w in
+      let plain = c.is_last_key.ensures.plain c.if-is_last_key.true in
       let count : c.len.result ≡ 0 + length members = omega (arith, c.len.ensures, c.args.members.now.ok.0) in
       let is = c.unnamed-removed.ensures ∙ ap (λ n. record { count = n; seen = 0 }) count ∙ sym (before_plain here.place (slots_from q here.node 0) gs nothing members plain off.cut.front) in
-      let room : c.args.removed.now.room + c.size_of.result ≡ c.args.removed.now.room + node_count (data_of c.args.member.tree) = omega (arith, c.size_of.ensures) in
-      subst (λ n. IsWalkedTo q here.node here.place (record { room = n; before = c.unnamed-removed.result }) (used_rows c.args.used.now) members gs) (sym room)
-      (walked_last q here.node c.laws_of.ensures.sound (used_rows c.args.used.now) here.place c.requires.here.slot.first c.args.removed.now members c.args.member gs c.unnamed-removed.result off is (c.is_last_value.ensures.none c.if-is_last_value.true)),
+      walked_key q here.node c.laws_of.ensures.sound (used_rows c.args.used.now) here.place c.requires.here.slot.first c.args.removed.now members c.args.member gs c.unnamed-removed.result off is (c.is_last_key.ensures.key c.if-is_last_key.true) (c.is_last_key.ensures.none c.if-is_last_key.true),
   tt,
 )
 
@@ -111,11 +108,11 @@ returns g t c =
       following = if_both c.next_member.result _ _ _ (λ st h left. walked_continue q here.node sound used here.place first st members new gs (stack_of c.next_member.new.scratch.following.items) off.cut left
           (subst (λ (e : Demand). GrownContinueAt st q here e.used (drop e.before.count new) (stack_of c.next_member.new.scratch.following.items)) is h)) c.next_member.ensures.following c.next_member.ensures.left;
       steps = (
-        λ u wide. omega (arith, c.is_last_value.ensures.steps, one_fewer q here.node here.place first, length-drop here.place (slots_from q here.node 0), c.requires.here.within, c.in_ok-prefix.ensures.steps, c.next_member.ensures.steps.0 u wide),
+        λ u wide. omega (arith, c.is_last_key.ensures.steps, one_fewer q here.node here.place first, length-drop here.place (slots_from q here.node 0), c.requires.here.within, c.in_ok-prefix.ensures.steps, c.next_member.ensures.steps.0 u wide),
         if_both c.next_member.result _ _ _ (λ st h cost.
             let hs = drop here.place gs in
             let ended = subst (λ e. AreLastAfter q here.node here.place e c.args.member off.after hs) (sym is) off.ended in
-            last_removed q here c.requires.here st (data_of c.args.member.tree) a.room c.args.scratch.now.meter c.prefix_at.new.meter c.next_member.new.scratch.meter (omega (arith, c.in_ok-prefix.ensures.steps, c.is_last_value.ensures.steps))
+            last_removed q here c.requires.here st (data_of c.args.member.tree) a.room c.args.scratch.now.meter c.prefix_at.new.meter c.next_member.new.scratch.meter (omega (arith, c.in_ok-prefix.ensures.steps, c.is_last_key.ensures.steps))
             (removes_all st q.pools (slots_at q here) d hs (drop a.before.count new) (h.0 hs off.after ended)) cost) c.next_member.ensures.ok c.next_member.ensures.steps.1,
       );
     }

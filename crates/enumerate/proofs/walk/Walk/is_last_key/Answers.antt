@@ -1,10 +1,10 @@
 use Rattle.std.proofs.Common.{◌≡◌, ◌∙◌, true, sym, ap}
 use Rattle.plan.specs.Samples.Candidates.{sort_of}
 use Rattle.enumerate.proofs.rows.Slots.{key_leaf}
-use Rattle.enumerate.proofs.walk.Walk.has_candidates.Goals as goal
+use Rattle.enumerate.proofs.walk.Walk.is_last_key.Goals as goal
 
-pub returns-then-here : goal.returns-then-here
-returns-then-here g c = λ is.
+pub has_later-requires-clause-leaf : goal.has_later-requires-clause-leaf
+has_later-requires-clause-leaf g c =
     let q = c.args.self.now.plan.now in
     let sound = c.laws_of.ensures.sound in
     let key : c.args.here.now.slot.key ≡ true = cc in
