@@ -109,13 +109,12 @@ impl<'p> Current<'p> {
         ensures current { IfOk result (λ end. end ≡ false → IsCurrent walk.now.plan.now self.new) }
     {
         let mut lent = 0;
-        let mut change = None;
+        self.change = None;
         'samples: while lent < count {
-            taker.take(&self.tree, change)?;
+            taker.take(&self.tree, self.change)?;
             if !self.advance(walk, meter)? {
                 return Ok(true);
             }
-            change = self.change;
             lent += 1;
         }
         Ok(false)

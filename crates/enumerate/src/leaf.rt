@@ -51,6 +51,14 @@ fn is_choice(size: u32, used: &Used<'_>, tree: &Tree) -> bool
     has_size(tree, size) && is_free(used, tree)
 }
 
+/// Whether the tree comes after the place, has the size and is free.
+#[inline(always)]
+fn is_choice_past(after: Option<&Tree>, size: u32, used: &Used<'_>, tree: &Tree) -> bool
+    ensures { IsTrue result ↔ (IsPast (resume_point after.entry) (data_of tree.now) × ((node_count (data_of tree.now) ≡ size) × IsFree used.now (data_of tree.now))) }
+{
+    is_past(after, tree) && is_choice(size, used, tree)
+}
+
 /// Replaces the tree by the last of the choices, in the memory of the tree, where there is one, and answers whether there is. Choices
 /// that have parts are dropped then.
 #[inline(always)]
@@ -226,6 +234,9 @@ impl<'p, Z: SizeSet> Walk<'p, Z> {
         ensures ok { OnOk result (AreChoices (IsChoice self.now.plan.now node size (resume_point after.entry) used.now) (stack_of scratch.new.following.items)) }
         ensures steps { Costs self.now.plan.now scratch.old.meter scratch.new.meter 1 }
     {
+        if after.is_none() && used.comes_first() {
+            return self.find_choice(node, size, after, used, scratch);
+        }
         scratch.following.clear();
         let mut place = self.plan.count(node);
         scratch.following.reserve(place as usize)?;
@@ -239,6 +250,32 @@ impl<'p, Z: SizeSet> Walk<'p, Z> {
             }
             if is_choice(size, used, tree) {
                 scratch.following.push_reserved(tree);
+            }
+        }
+        Ok(())
+    }
+
+    /// The same with the first of them alone, for a key that others come after: no candidate follows in its place.
+    fn find_choice(
+        &self,
+        node: PlanNode,
+        size: u32,
+        after: Option<&Tree>,
+        used: &Used<'_>,
+        scratch: &mut Scratch<'p>,
+    ) -> Result<(), AllocError>
+        requires node { IsNodeOf self.now.plan.now node }
+        requires leaf { sort_of (site self.now.plan.now node) ≡ sort.Leaf }
+        ensures ok { OnOk result (AreChoices (IsChoice self.now.plan.now node size (resume_point after.entry) used.now) (stack_of scratch.new.following.items)) }
+        ensures steps { Costs self.now.plan.now scratch.old.meter scratch.new.meter 1 }
+    {
+        scratch.following.clear();
+        for place in 0..self.plan.count(node) {
+            if let Some(tree) = self.plan.candidate(node, place, &mut scratch.meter) {
+                if is_choice_past(after, size, used, tree) {
+                    scratch.following.push(tree)?;
+                    return Ok(());
+                }
             }
         }
         Ok(())

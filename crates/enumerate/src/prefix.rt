@@ -11,7 +11,7 @@ ghost use Rattle.enumerate.specs.Internal.Prefixes.{members_to, agreeing_rows, I
 ghost use Rattle.enumerate.specs.Internal.Rows.{slots_from, ending_at};
 ghost use Rattle.plan.specs.declared.sort.Sort.TheVariants as sort;
 
-use crate::siblings::{Chosen, Rows, still_chosen, still_used};
+use crate::siblings::{Chosen, Rows, keep_agreeing, still_used};
 use crate::walk::Walk;
 use jtree::{Member, Tree};
 use plan::{Meter, Plan, PlanNode, SizeSet, Slot};
@@ -134,7 +134,10 @@ impl<'a> Prefix<'a> {
             });
         }
         let rows = match self.agreeing {
-            Some(rows) => still_chosen(alloc, slot, value, rows.as_slice())?,
+            Some(mut rows) => {
+                keep_agreeing(slot.name, value, &mut rows);
+                rows
+            }
             None => still_used(alloc, slot, value, used)?,
         };
         Ok(Prefix {

@@ -1,8 +1,7 @@
 //! Which items and keys of a list are used already.
-ghost use Rattle.std.specs.Prelude.{◌≡◌, length, IfOk, ◌↔◌, IsTrue, ◌==◌};
+ghost use Rattle.std.specs.Prelude.{◌≡◌, ◌<◌, length, get_or, not, ◌||◌, IfOk, ◌↔◌, IsTrue, ◌==◌};
 ghost use Rattle.jtree.specs.View.{data_of};
 ghost use Rattle.enumerate.specs.Internal.Candidates.{used_rows, agreeing_if, IsFree, rows_of, has_under, agreeing};
-ghost use Rattle.enumerate.specs.View.{trees_of};
 
 use jtree::{Items, Tree};
 use plan::Slot;
@@ -38,6 +37,22 @@ impl<'a> Rows<'a> {
     {
         self.len() == 0
     }
+
+    /// The object at a place.
+    #[inline(always)]
+    fn row(&self, place: usize) -> &'a Tree
+        requires { place < length (used_rows self.now) }
+        ensures { data_of result.now ≡ get_or (used_rows self.now) place (data_of result.now) }
+    {
+        let row = match self {
+            Rows::Listed(trees) => trees.get(place),
+            Rows::Chosen(some) => some.rows.get(place).copied(),
+        };
+        match row {
+            Some(row) => row,
+            None => unreachable!(),
+        }
+    }
 }
 
 /// Objects that have all keys, and agree on those that were chosen so far.
@@ -59,6 +74,17 @@ pub(crate) enum Used<'a> {
     Key(KeyRows<'a>),
 }
 
+impl Used<'_> {
+    /// Whether it is known that another key comes after the candidate.
+    #[inline(always)]
+    pub(crate) fn comes_first(&self) -> bool {
+        match self {
+            Used::Items(_) => false,
+            Used::Key(key) => key.later > 1,
+        }
+    }
+}
+
 /// Whether the object has the value under the name.
 #[inline(always)]
 fn has_under(name: &str, value: &Tree, row: &Tree) -> bool
@@ -71,37 +97,25 @@ fn has_under(name: &str, value: &Tree, row: &Tree) -> bool
 }
 
 /// How many of the objects have the value under the name.
+#[inline(always)]
 fn count_agreeing(name: &str, value: &Tree, rows: &Rows<'_>) -> usize
     ensures { result ≡ length (agreeing name.now (data_of value.now) (used_rows rows.now)) }
 {
-    match rows {
-        Rows::Listed(trees) => count_listed(name, value, trees),
-        Rows::Chosen(some) => count_chosen(name, value, some.rows),
-    }
-}
-
-fn count_listed(name: &str, value: &Tree, trees: &[Tree]) -> usize
-    ensures { result ≡ length (agreeing name.now (data_of value.now) (trees_of trees.now)) }
-{
-    let mut count = 0;
-    for place in 0..trees.len() {
-        if has_under(name, value, &trees[place]) {
-            count += 1;
-        }
-    }
-    count
-}
-
-fn count_chosen(name: &str, value: &Tree, rows: &[&Tree]) -> usize
-    ensures { result ≡ length (agreeing name.now (data_of value.now) (rows_of rows.now)) }
-{
     let mut count = 0;
     for place in 0..rows.len() {
-        if has_under(name, value, rows[place]) {
+        if has_under(name, value, rows.row(place)) {
             count += 1;
         }
     }
     count
+}
+
+/// Whether the object agrees with a value in the slot: where that is a key, it has it there.
+#[inline(always)]
+fn agrees(slot: &Slot<'_>, value: &Tree, row: &Tree) -> bool
+    ensures { result ≡ (not slot.now.key || has_under slot.now.name.now (data_of value.now) (data_of row.now)) }
+{
+    !slot.key || has_under(slot.name, value, row)
 }
 
 /// The objects that agree so far with a value in the slot: where it is a key, those that have it there.
@@ -114,48 +128,21 @@ pub(crate) fn still_used<'a>(
 ) -> Result<Vec<&'a Tree>, AllocError>
     ensures { IfOk result (λ some. rows_of some.items ≡ agreeing_if slot.now.key slot.now.name.now (data_of value.now) (used_rows used.now)) }
 {
-    match used {
-        Rows::Listed(trees) => still_listed(alloc, slot, value, *trees),
-        Rows::Chosen(some) => still_chosen(alloc, slot, value, some.rows),
-    }
-}
-
-#[inline(always)]
-fn still_listed<'a>(
-    alloc: Global,
-    slot: &Slot<'_>,
-    value: &Tree,
-    trees: &'a [Tree],
-) -> Result<Vec<&'a Tree>, AllocError>
-    ensures { IfOk result (λ some. rows_of some.items ≡ agreeing_if slot.now.key slot.now.name.now (data_of value.now) (trees_of trees.now)) }
-{
     let mut some = Vec::new(alloc);
-    for place in 0..trees.len() {
-        let row = &trees[place];
-        if !slot.key || has_under(slot.name, value, row) {
+    for place in 0..used.len() {
+        let row = used.row(place);
+        if agrees(slot, value, row) {
             some.push(row)?;
         }
     }
     Ok(some)
 }
 
-#[inline(always)]
-pub(crate) fn still_chosen<'a>(
-    alloc: Global,
-    slot: &Slot<'_>,
-    value: &Tree,
-    rows: &[&'a Tree],
-) -> Result<Vec<&'a Tree>, AllocError>
-    ensures { IfOk result (λ some. rows_of some.items ≡ agreeing_if slot.now.key slot.now.name.now (data_of value.now) (rows_of rows.now)) }
+/// Leaves out the objects that have another value under the name, or none.
+pub(crate) fn keep_agreeing(name: &str, value: &Tree, rows: &mut Vec<&Tree>)
+    ensures { rows_of rows.new.items ≡ agreeing name.now (data_of value.now) (rows_of rows.old.items) }
 {
-    let mut some = Vec::new(alloc);
-    for place in 0..rows.len() {
-        let row = rows[place];
-        if !slot.key || has_under(slot.name, value, row) {
-            some.push(row)?;
-        }
-    }
-    Ok(some)
+    rows.retain(|row| has_under(name, value, row));
 }
 
 /// Whether the candidate is free.

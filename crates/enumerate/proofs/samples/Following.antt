@@ -374,6 +374,24 @@ module _ (q : Question) (i : ℕ) (C : Data → Type 0) (part : (u : Data) → C
     turn,
   )
 
+  -- the first one alone
+  pub first_chosen : (x : Data) (place : ℕ) → C x → IsCandidateAt q.pools (site q i) place (Some x) → NoneBefore q i C part place → AreChoices C (x ∷ [])
+  first_chosen x place c candidate none =
+      let vs = candidate.candidates in
+      let here = sym candidate.is in (
+        record {
+          is = c;
+          least = λ u d less. let k = index_here vs candidate.are u d in elim (cases_lt k.0 place) [
+            | inl lt ↦ none vs candidate.are k.0 u lt k.1 d
+            | inr ge ↦ elim (eq-or-lt_of_le ge) [
+              | inl same ↦ not_itself tree_cmp tree_order u x (same_at vs k.0 place u x (sym same) k.1 here) less
+              | inr lt ↦ tree_order.turned u x less (ascends vs candidate.are place k.0 x u lt here k.1)
+            ]
+          ];
+        },
+        tt,
+      )
+
   pub none_at_first : NoneBefore q i C part 0
   none_at_first = λ vs are j u before at c. absurd (omega (arith, before))
 

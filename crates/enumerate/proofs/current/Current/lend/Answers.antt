@@ -9,7 +9,7 @@ use Rattle.enumerate.proofs.current.Current.lend.Goals as goal
 
 pub samples-init : goal.samples-init
 samples-init g c = record {
-  current = c.requires;
+  current = record { sample = c.requires.sample; continue = c.requires.continue };
   lent = lent_nothing c.args.walk.now.plan.now (Some (data_of c.args.self.now.tree)) c.args.count (g.T.Taker.has_taken c.args.taker.now c.args.taker.now) (g.T.Taker.none_taken c.args.taker.now);
   before = tt;
   short = omega arith;
@@ -17,7 +17,7 @@ samples-init g c = record {
 }
 
 pub take-requires : goal.take-requires
-take-requires g c = needed (g.T.Taker.has_taken) c.args.taker.now c.samples.taker (data_of c.samples.self.tree) c.samples.change c.samples.invariant.before
+take-requires g c = needed (g.T.Taker.has_taken) c.args.taker.now c.samples.taker (data_of c.samples.self.tree) c.samples.self.change c.samples.invariant.before
 
 pub returns-in_err-take-clause-part : goal.returns-in_err-take-clause-part
 returns-in_err-take-clause-part g c =
