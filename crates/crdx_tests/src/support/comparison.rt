@@ -1,5 +1,5 @@
 //! What a plan says, and its pages, against the plain reference.
-ghost use Rattle.std.specs.Prelude.{◌≡◌, ◌<◌, ◌≤◌, length};
+ghost use Rattle.std.specs.Prelude.{◌≡◌, ◌<◌, ◌≤◌, length, IfSome};
 ghost use Rattle.plan.specs.Samples.Sites.{site_at, sites_of};
 ghost use Rattle.plan.specs.Samples.Candidates.{sort_of};
 ghost use Rattle.plan.specs.declared.sort.Sort.TheVariants as sort;
@@ -31,13 +31,6 @@ struct Compared<'a> {
     pools: &'a Pools,
 }
 
-/// A node of the plan, and its path.
-#[derive(Clone, Copy)]
-struct Spot<'a> {
-    number: PlanNode,
-    path: &'a str,
-}
-
 fn are_candidates(
     report: &mut Report,
     plan: &Plan<u64>,
@@ -62,16 +55,17 @@ fn are_candidates(
 fn try_leaf(
     report: &mut Report,
     of: Compared<'_>,
-    at: Spot<'_>,
+    number: PlanNode,
     node: &Node,
+    path: &str,
     meter: &mut Meter,
 ) -> Result<(), Fail>
-    requires { at.number < length (sites_of of.plan.now.pools of.plan.now.root) }
+    requires { number < length (sites_of of.plan.now.pools of.plan.now.root) }
 {
-    match of.plan.sort(at.number) {
+    match of.plan.sort(number) {
         Sort::Leaf => {
-            let parts = plain_parts(of.alloc, node, at.path, of.pools, u64::MAX)?;
-            are_candidates(report, of.plan, at.number, &parts, meter)
+            let parts = plain_parts(of.alloc, node, path, of.pools, u64::MAX)?;
+            are_candidates(report, of.plan, number, &parts, meter)
         }
         Sort::Row | Sort::List => Ok(report.holds("a leaf", false)?),
     }
@@ -122,15 +116,6 @@ fn is_more(
     are_sizes(report, alloc, "what can follow", more, &wanted)
 }
 
-/// A row of the plan, its slots, and the fields that its junctors name. What is asked of it where it ends is an argument of its own: the
-/// borrow checker does not find what such a struct in a struct borrows.
-#[derive(Clone, Copy)]
-struct Row<'a> {
-    number: PlanNode,
-    slots: &'a [Choice],
-    named: &'a [Text],
-}
-
 /// What the slots of a row can take from each place on.
 fn all_rests(
     report: &mut Report,
@@ -142,15 +127,9 @@ fn all_rests(
 ) -> Result<(), Fail>
     requires { number < length (sites_of of.plan.now.pools of.plan.now.root) }
 {
-    let named = plain_named(of.alloc, ending)?;
-    report.holds("few named fields", named.len() <= 4)?;
-    let row = Row {
-        number,
-        slots,
-        named: &named,
-    };
     for place in 0..=slots.len() {
-        rests_at(report, of, row, ending, place, meter)?;
+        let (_, after) = slots.split_at(place);
+        rests_at(report, of, number, ending, after, place_of(place), meter)?;
     }
     Ok(())
 }
@@ -159,21 +138,25 @@ fn all_rests(
 fn rests_at(
     report: &mut Report,
     of: Compared<'_>,
-    row: Row<'_>,
+    number: PlanNode,
     ending: Ending<'_>,
-    place: usize,
+    after: &[Choice],
+    place: u64,
     meter: &mut Meter,
 ) -> Result<(), Fail>
-    requires { row.number < length (sites_of of.plan.now.pools of.plan.now.root) }
+    requires { number < length (sites_of of.plan.now.pools of.plan.now.root) }
 {
+    let named = plain_named(of.alloc, ending)?;
+    report.holds("few named fields", named.len() <= 4)?;
     for taken in 0..=place.min(99) as u32 {
-        for seen in 0..choices_of(row.named) {
+        for seen in 0..choices_of(&named) {
             let before = Before {
                 taken: u64::from(taken),
-                named: row.named,
+                named: &named,
                 seen,
             };
-            is_rest(report, of, row, ending, place, before, meter)?;
+            let rest = rest_of(of.plan, number, place, taken, seen, meter);
+            is_rest(report, of, rest, ending, before, after)?;
         }
     }
     Ok(())
@@ -193,24 +176,12 @@ fn choices_of(named: &[Text]) -> u8 {
 fn is_rest(
     report: &mut Report,
     of: Compared<'_>,
-    row: Row<'_>,
+    found: Option<u64>,
     ending: Ending<'_>,
-    place: usize,
     before: Before<'_>,
-    meter: &mut Meter,
-) -> Result<(), Fail>
-    requires { row.number < length (sites_of of.plan.now.pools of.plan.now.root) }
-{
-    let taken = before.taken.min(99) as u32;
-    let found = rest_of(
-        of.plan,
-        row.number,
-        place_of(place),
-        taken,
-        before.seen,
-        meter,
-    );
-    let (Some(rest), Some(after)) = (found, row.slots.get(place..)) else {
+    after: &[Choice],
+) -> Result<(), Fail> {
+    let Some(rest) = found else {
         return Ok(report.holds("a place", false)?);
     };
     let limit = u64::from(of.plan.limit());
@@ -223,56 +194,55 @@ fn is_rest(
 fn try_nodes(
     report: &mut Report,
     of: Compared<'_>,
-    at: Spot<'_>,
+    number: PlanNode,
     node: &Node,
+    path: &str,
     parts: &[Tree],
     meter: &mut Meter,
 ) -> Result<(), Fail>
-    requires { at.number < length (sites_of of.plan.now.pools of.plan.now.root) }
+    requires { number < length (sites_of of.plan.now.pools of.plan.now.root) }
 {
-    is_size(report, of.alloc, of.plan.sizes(at.number), parts)?;
-    if of.pools.fixed_at(at.path).is_some() {
-        return try_leaf(report, of, at, node, meter);
+    is_size(report, of.alloc, of.plan.sizes(number), parts)?;
+    if of.pools.fixed_at(path).is_some() {
+        return try_leaf(report, of, number, node, path, meter);
     }
     match &node.sort {
-        NodeSort::Scalar(_) | NodeSort::Open => try_leaf(report, of, at, node, meter),
-        NodeSort::Object(_) | NodeSort::Map(_) => try_row(report, of, at, node, meter),
+        NodeSort::Scalar(_) | NodeSort::Open => try_leaf(report, of, number, node, path, meter),
+        NodeSort::Object(_) | NodeSort::Map(_) => try_row(report, of, number, node, path, meter),
         NodeSort::List(list) => {
-            try_more(report, of, at.number, parts)?;
+            try_more(report, of, number, parts)?;
+            let below = path_below(of.alloc, path, Step::Item)?;
             let has_items = match parts.last() {
                 Some(part) => part.nodes() > 1,
                 None => false,
             };
-            try_items(report, of, at, node_below(&list.item), has_items, meter)
+            let item = node_below(&list.item);
+            try_items(report, of, number, item, &below, has_items, meter)
         }
     }
 }
 
-/// What a plan says of the first item of a list, where there is one.
+/// What a plan says of the first item of a list, where there is one. The number is that of the list, the path that of its items.
 #[cycle(nodes)]
 fn try_items(
     report: &mut Report,
     of: Compared<'_>,
-    at: Spot<'_>,
+    number: PlanNode,
     item: &Node,
+    path: &str,
     has_items: bool,
     meter: &mut Meter,
 ) -> Result<(), Fail>
-    requires { at.number < length (sites_of of.plan.now.pools of.plan.now.root) }
+    requires { number < length (sites_of of.plan.now.pools of.plan.now.root) }
 {
-    let found = item_of(of.plan, at.number, 0, meter);
+    let found = item_of(of.plan, number, 0, meter);
     report.holds("an item", found.is_some() == has_items)?;
-    let Some(number) = found else {
+    let Some(below) = found else {
         return Ok(());
     };
-    let path = path_below(of.alloc, at.path, Step::Item)?;
     let limit = u64::from(of.plan.limit());
-    let parts = plain_parts(of.alloc, item, &path, of.pools, limit)?;
-    let below = Spot {
-        number,
-        path: &path,
-    };
-    try_nodes(report, of, below, item, &parts, meter)
+    let parts = plain_parts(of.alloc, item, path, of.pools, limit)?;
+    try_nodes(report, of, below, item, path, &parts, meter)
 }
 
 /// What a plan says of the slots of an object or a map: of each of an object, and of the first of a map.
@@ -280,33 +250,31 @@ fn try_items(
 fn try_row(
     report: &mut Report,
     of: Compared<'_>,
-    at: Spot<'_>,
+    number: PlanNode,
     node: &Node,
+    path: &str,
     meter: &mut Meter,
 ) -> Result<(), Fail>
-    requires { at.number < length (sites_of of.plan.now.pools of.plan.now.root) }
+    requires { number < length (sites_of of.plan.now.pools of.plan.now.root) }
 {
     let limit = u64::from(of.plan.limit());
-    let slots = plain_slots(of.alloc, node, at.path, of.pools, limit)?;
+    let slots = plain_slots(of.alloc, node, path, of.pools, limit)?;
     match &node.sort {
         NodeSort::Object(object) => {
             let ending = Ending {
                 bounds: object.bounds,
                 junctors: Some(&object.junctors),
             };
-            all_rests(report, of, at.number, ending, &slots, meter)?;
-            try_fields(report, of, at, &object.fields, &slots, meter)
+            all_rests(report, of, number, ending, &slots, meter)?;
+            try_fields(report, of, number, &object.fields, path, &slots, meter)
         }
         NodeSort::Map(map) => {
-            let ending = map_ending(of.alloc, map.bounds, at.path, of.pools)?;
-            all_rests(report, of, at.number, ending, &slots, meter)?;
-            let path = path_below(of.alloc, at.path, Step::Value)?;
-            let below = Spot {
-                number: at.number,
-                path: &path,
-            };
+            let ending = map_ending(of.alloc, map.bounds, path, of.pools)?;
+            all_rests(report, of, number, ending, &slots, meter)?;
+            let below = path_below(of.alloc, path, Step::Value)?;
+            let found = slot_of(of.plan, number, 0, meter);
             let value = node_below(&map.value);
-            try_slot(report, of, below, value, 0, slots.first(), meter)
+            try_slot(report, of, found, value, &below, slots.first(), meter)
         }
         NodeSort::Scalar(_) | NodeSort::Open | NodeSort::List(_) => Ok(()),
     }
@@ -316,44 +284,40 @@ fn try_row(
 fn try_fields(
     report: &mut Report,
     of: Compared<'_>,
-    at: Spot<'_>,
+    number: PlanNode,
     fields: &Fields,
+    path: &str,
     slots: &[Choice],
     meter: &mut Meter,
 ) -> Result<(), Fail>
-    requires { at.number < length (sites_of of.plan.now.pools of.plan.now.root) }
+    requires { number < length (sites_of of.plan.now.pools of.plan.now.root) }
 {
     for (place, field) in fields.fields.iter().enumerate() {
-        let path = path_below(of.alloc, at.path, Step::Field(field.name.as_str()))?;
-        let below = Spot {
-            number: at.number,
-            path: &path,
-        };
+        let below = path_below(of.alloc, path, Step::Field(field.name.as_str()))?;
+        let found = slot_of(of.plan, number, place_of(place), meter);
         let slot = slots.get(place);
-        try_slot(report, of, below, &field.node, place, slot, meter)?;
+        try_slot(report, of, found, &field.node, &below, slot, meter)?;
     }
     Ok(())
 }
 
-/// What a plan says of a slot. The number is that of the row, the path that of the slot.
+/// What a plan says of a slot, which it has where the plain reference has one.
 #[cycle(nodes)]
 fn try_slot(
     report: &mut Report,
     of: Compared<'_>,
-    at: Spot<'_>,
+    found: Option<PlanNode>,
     node: &Node,
-    place: usize,
+    path: &str,
     slot: Option<&Choice>,
     meter: &mut Meter,
 ) -> Result<(), Fail>
-    requires { at.number < length (sites_of of.plan.now.pools of.plan.now.root) }
+    requires { IfSome found (λ n. n < length (sites_of of.plan.now.pools of.plan.now.root)) }
 {
-    let found = slot_of(of.plan, at.number, place_of(place), meter);
     report.holds("a slot", found.is_some() == slot.is_some())?;
     match (found, slot) {
-        (Some(number), Some(slot)) => {
-            let below = Spot { number, ..at };
-            try_nodes(report, of, below, node, &slot.values, meter)
+        (Some(below), Some(slot)) => {
+            try_nodes(report, of, below, node, path, &slot.values, meter)
         }
         _ => Ok(()),
     }
@@ -425,11 +389,7 @@ fn try_made(
     let samples = plain_parts(alloc, root, "", &pools, u64::from(given.limit))?;
     try_cover(report, alloc, given, &samples)?;
     try_samples(report, of, &samples, meter)?;
-    let at = Spot {
-        number: plan.root(),
-        path: "",
-    };
-    try_nodes(report, of, at, root, &samples, meter)
+    try_nodes(report, of, plan.root(), root, "", &samples, meter)
 }
 
 /// What the plan of a schema, pools and a node limit says of its nodes, against the plain reference.

@@ -1,4 +1,7 @@
 //! What plans are made of, and the plans of it.
+ghost use Rattle.std.specs.Prelude.{IfOk};
+ghost use Rattle.plan.specs.Pools.PlanFault.{HasGoodPaths};
+
 use crate::support::documents::{
     DEFAULTED, FIFTEEN, LABELS, MAP_LIST, NAMES, NULLABLE, ONE_OF_TWO, OPEN, REPEATED, SET, SPEC,
     TRUTHS, TWO_INTEGER_KEYS, TWO_TEXTS, ZERO_AND_ONE, ZERO_AND_SEVEN,
@@ -17,7 +20,9 @@ pub struct Given<'a> {
 }
 
 /// The plan of what is given.
-pub fn made(alloc: Global, given: Given<'_>) -> Result<Plan<u64>, Fail> {
+pub fn made(alloc: Global, given: Given<'_>) -> Result<Plan<u64>, Fail>
+    ensures { IfOk result (λ plan. HasGoodPaths plan.root plan.pools) }
+{
     let schema = schema_of(alloc, given.schema)?;
     let pools = pools_of(alloc, given.pools)?;
     Ok(Plan::new(alloc, schema, pools, given.limit)?)
